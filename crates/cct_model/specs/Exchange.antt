@@ -1,0 +1,81 @@
+-- One exchange on the wire: what the host sends, what a device makes of it, and what the host then hears.
+use Rattle.std.specs.Prelude.{ℕ, ◌==◌, ◌&&◌, nat_le, Bool, true, List, [], ◌∷◌, if◌then◌else◌, Option, Some, None, option_and_then, unwrap_or}
+use Rattle.cct_model.specs.declared.wire.CheckKind.{CheckKind}
+use Rattle.cct_model.specs.declared.device.DeviceSetup.{DeviceSetup}
+use Rattle.cct_model.specs.declared.request.Request.{Request}
+use Rattle.cct_model.specs.declared.request.Reply.{Reply}
+use Rattle.cct_model.specs.Message.{Message, message, spelling}
+use Rattle.cct_model.specs.History.{Met}
+use Rattle.cct_model.specs.Acceptor.{reply_of}
+use Rattle.cct_model.specs.Request.{header_of, data_of, request_of, reply_data, reply_in}
+
+-- The message by which the host, at address 1, asks a request of an address.
+abbrev pub asking : ℕ → Request → Message
+asking addr q = record { to = addr; from = Some 1; header = header_of q; body = data_of q }
+
+-- The piece by which the host asks a request of an address.
+unfoldable pub ask : CheckKind → ℕ → Request → List ℕ
+ask kind addr q = spelling kind (asking addr q)
+
+-- The request that a piece spells, whoever it is for, or none.
+unfoldable pub asked : CheckKind → List ℕ → Option Request
+asked kind piece = option_and_then (λ m. request_of m.header m.body) (message kind piece)
+
+-- What a message asks of the device at an address: nothing where it is for another.
+abbrev pub asked_of : ℕ → Message → Option Request
+asked_of addr m = if m.to == addr then request_of m.header m.body else None
+
+-- What a piece asks of a device: nothing where it is no message under the device's check, or is for another.
+unfoldable pub asks_of : DeviceSetup → List ℕ → Option Request
+asks_of d piece = option_and_then (asked_of d.addr) (message d.kind piece)
+
+-- Whom a device answers: the source of the piece that it heard, and the host where no source is named.
+unfoldable pub asker : CheckKind → List ℕ → ℕ
+asker kind piece = unwrap_or (option_and_then (λ m. m.from) (message kind piece)) 1
+
+-- The message by which a device gives a reply, with header 0.
+abbrev pub replying : ℕ → ℕ → Reply → Message
+replying to addr y = record { to = to; from = Some addr; header = 0; body = reply_data y }
+
+-- The bytes with which a device answers what it was asked, after all that it met; none where it was asked nothing.
+abbrev pub answer_to : DeviceSetup → List Met → ℕ → Option Request → List ℕ
+answer_to d past to None = []
+answer_to d past to (Some q) = spelling d.kind (replying to d.addr (reply_of past q))
+
+-- The bytes with which a device answers a piece.
+abbrev pub answer : DeviceSetup → List Met → List ℕ → List ℕ
+answer d past piece = answer_to d past (asker d.kind piece) (asks_of d piece)
+
+-- What follows the host's own echo in what it heard, or none where that doesn't begin with the echo.
+unfoldable pub after_echo : List ℕ → List ℕ → Option (List ℕ)
+after_echo [] heard = Some heard
+after_echo (s ∷ sent) [] = None
+after_echo (s ∷ sent) (h ∷ heard) = if s == h then after_echo sent heard else None
+
+-- A message names this source, or no source.
+abbrev pub is_from : ℕ → Option ℕ → Bool
+is_from addr None = true
+is_from addr (Some source) = source == addr
+
+-- The reply to a request that a message is: it goes to the host, comes from the asked address, and has header 0 and
+-- the number of data bytes that the request wants.
+abbrev pub reply_from : ℕ → Request → Message → Option Reply
+reply_from addr q m = if (m.to == 1) && is_from addr m.from && (m.header == 0) then reply_in q m.body else None
+
+-- The wanted reply to a request that the host got in an exchange, or none.
+unfoldable pub got : CheckKind → ℕ → Request → List ℕ → List ℕ → Option Reply
+got kind addr q sent heard = option_and_then (λ piece. option_and_then (reply_from addr q) (message kind piece)) (after_echo sent heard)
+
+-- Devices in rising order of address.
+abbrev pub put_by_address : DeviceSetup → List DeviceSetup → List DeviceSetup
+put_by_address d [] = d ∷ []
+put_by_address d (e ∷ es) = if nat_le d.addr e.addr then d ∷ e ∷ es else e ∷ put_by_address d es
+
+abbrev pub by_address : List DeviceSetup → List DeviceSetup
+by_address [] = []
+by_address (d ∷ ds) = put_by_address d (by_address ds)
+
+-- The device of a setup at an address, or none.
+abbrev pub device_at : List DeviceSetup → ℕ → Option DeviceSetup
+device_at [] addr = None
+device_at (d ∷ ds) addr = if d.addr == addr then Some d else device_at ds addr

@@ -1,0 +1,13 @@
+pub mod Message
+pub mod History
+pub mod Acceptor
+pub mod Request
+pub mod Exchange
+pub mod Reading
+pub mod Line
+pub mod Job
+pub mod Transcript
+pub mod Legal
+pub mod Claims
+pub mod Text
+pub mod Script

@@ -1,0 +1,82 @@
+//! Coins, and the credit buffer of a coin acceptor.
+ghost use Rattle.std.specs.Prelude.{◌≡◌, ◌<◌, ◌≤◌, List, [], ◌∷◌, ◌++◌, length};
+
+use arrayvec::ArrayVec;
+use std::marker::Model;
+
+/// A coin that an acceptor took: its coin place, 1 to 16, and the sorter path that it fell by, 1 to 8
+/// (ccTalk Generic Specification 4, part 2, header 229).
+#[derive(Clone, Copy, Debug, Default, PartialEq, Eq)]
+pub struct Coin {
+    pub place: u8,
+    pub path: u8,
+}
+
+/// One event of the credit buffer, as header 229 reports it. Where `a` is 1 to 255, it is a credit of coin place `a`
+/// by sorter path `b`; where `a` is 0, `b` is an error code, and 0 for no event.
+#[derive(Clone, Copy, Debug, Default, PartialEq, Eq)]
+pub struct Pair {
+    pub a: u8,
+    pub b: u8,
+}
+
+/// The answer to header 229: the event counter (0 after a reset, then 1 to 255, and 1 again) and the last five
+/// events, newest first.
+#[derive(Clone, Copy, Debug, Default, PartialEq, Eq)]
+pub struct Credits {
+    pub counter: u8,
+    pub pairs: [Pair; 5],
+}
+
+/// The coins that one record posts, oldest first: five at the most, as many as the credit buffer tells.
+#[derive(Clone, Debug, Default, Drop, PartialEq, Eq)]
+pub struct Coins {
+    coins: ArrayVec<Coin, 5>,
+}
+
+impl Model for Coins {
+    ghost use Rattle.std.specs.Prelude.{◌≤◌, List, length};
+    ghost use Rattle.cct_model.specs.declared.coin.Coin.{Coin};
+
+    ghost Value = { List Coin };
+
+    ghost view = { λ c. c.coins.items };
+
+    ghost invariant = { λ c. length c.coins.items ≤ 5 };
+
+    ghost inverse = { λ xs. record { coins = record { items = xs } } };
+}
+
+impl Coins {
+    /// No coin.
+    pub fn new() -> Self
+        ensures { result ≡ [] }
+    {
+        Coins {
+            coins: ArrayVec::new(),
+        }
+    }
+
+    /// Adds a coin behind the others.
+    pub fn push(&mut self, coin: Coin)
+        requires { length self.old < 5 }
+        ensures { self.new ≡ self.old ++ coin ∷ [] }
+    {
+        self.coins.push(coin);
+    }
+
+    /// Removes every coin.
+    pub fn clear(&mut self)
+        ensures { self.new ≡ [] }
+    {
+        self.coins.clear();
+    }
+
+    /// The coins, oldest first.
+    pub fn as_slice(&self) -> &[Coin]
+        ensures value { result.now ≡ self.now }
+        ensures few { length result.now ≤ 5 }
+    {
+        self.coins.as_slice()
+    }
+}
