@@ -1,5 +1,5 @@
 -- What a script says: its setup, its steps, and the first line that is refused, with its kind (docs/SCRIPT.md).
-use Rattle.std.specs.Prelude.{ℕ, ◌+◌, ◌-◌, ◌*◌, ◌==◌, ◌&&◌, nat_lt, nat_le, Bool, List, [], ◌∷◌, length, if◌then◌else◌, Option, Some, None, option_and_then, codes, bytes_eq}
+use Rattle.std.specs.Prelude.{◌≡◌, ◌≤◌, suc, ℕ, ◌+◌, ◌-◌, ◌*◌, ◌==◌, ◌&&◌, nat_lt, nat_le, Bool, List, [], ◌∷◌, length, if◌then◌else◌, Option, Some, None, option_and_then, codes, bytes_eq}
 use Rattle.std.specs.List.{slice_split}
 use Rattle.cct_model.specs.declared.wire.CheckKind.TheVariants.{Simple}
 use Rattle.cct_model.specs.declared.device.DeviceBody.TheVariants.{Acceptor}
@@ -158,6 +158,19 @@ script_from number stage [] = refused_script number kind.Cut
 script_from number stage (rest ∷ []) = refused_script number (unfinished number rest)
 script_from number stage (line ∷ next ∷ parts) =
     goes_on number (read_line number stage line) (script_from (number + 1) (stage_after stage (read_line number stage line)) (next ∷ parts))
+
+-- A step that a script can say: a coin place is 1 to 16, and the address is that of the acceptor.
+abbrev pub IsInRange : Step → Type 0
+IsInRange (step.Coin addr place) = (addr ≡ the_address) × (1 ≤ place) × (place ≤ 16)
+IsInRange (step.Next addr) = addr ≡ the_address
+IsInRange (step.Command (Round addr)) = addr ≡ the_address
+IsInRange step.End = ⊥
+
+-- How many of these steps are coins.
+abbrev pub coin_steps : List Step → ℕ
+coin_steps [] = 0
+coin_steps (step.Coin addr place ∷ steps) = suc (coin_steps steps)
+coin_steps (_ ∷ steps) = coin_steps steps
 
 -- What the bytes of a script say.
 unfoldable pub script : List ℕ → Script
