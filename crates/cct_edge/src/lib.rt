@@ -2,9 +2,13 @@
 #![tactic(auto)]
 
 mod fault;
+mod memory;
 mod sink;
 mod source;
+mod standard;
 
 pub use fault::Failed;
+pub use memory::{MemSink, MemSource};
 pub use sink::Sink;
 pub use source::Source;
+pub use standard::{StdSink, StdSource};
