@@ -1,0 +1,19 @@
+-- What a count of faults says of an answer.
+use Rattle.std.specs.Prelude.{ℕ, ◌+◌, ◌-◌, ◌^◌, ◌≤◌, min, Result, IsErr}
+
+-- the last value of a count, at which it stands still
+abbrev pub last_count : ℕ
+last_count = 2 ^ 64 - 1
+
+-- a count after one more
+abbrev pub next_count : ℕ → ℕ
+next_count count = min (count + 1) last_count
+
+-- a count rose, or it stands at its last value
+abbrev pub Rose : ℕ → ℕ → Type 0
+Rose before now = min (before + 1) last_count ≤ now
+
+-- a count never falls, and an answer is an error only where the count rose
+pub record HasCause {T E : Type 0} (before now : ℕ) (result : Result T E) : Type 0 where
+  pub later : before ≤ now
+  pub failed : IsErr result → Rose before now

@@ -1,0 +1,23 @@
+// Where bytes go.
+ghost use Rattle.std.specs.Prelude.{ℕ, Option, List, OnOk, OnErr};
+ghost use Rattle.std.specs.Io.KnownBytes.{Appends};
+ghost use Rattle.cct_edge.specs.Bytes.{AppendsFront, TellsAsBefore};
+ghost use Rattle.cct_edge.specs.Faults.{HasCause};
+
+use crate::Failed;
+
+/// Where bytes go, in order.
+pub trait Sink {
+    /// The bytes that have been written, where the object tells them.
+    ghost written: { Self → Option (List ℕ) };
+
+    /// How often the outside has failed: a count that never falls, and may stand still at 2^64 - 1.
+    ghost faults: { Self → ℕ };
+
+    /// Appends the whole piece. A call that fails has appended a front of it, which may be none or all of it.
+    fn put(&mut self, piece: &[u8]) -> Result<(), Failed>
+        ensures ok { OnOk result (Appends (written self.old) (written self.new) piece.now) }
+        ensures err { OnErr result (AppendsFront (written self.old) (written self.new) piece.now) }
+        ensures tells { TellsAsBefore (written self.old) (written self.new) }
+        ensures cause { HasCause (faults self.old) (faults self.new) result };
+}
