@@ -1,0 +1,4 @@
+pub mod Held
+pub mod Splits
+pub mod Numbers
+pub mod Fields

@@ -1,0 +1,6 @@
+//! The bench: plays a script over the machine, and writes the transcript.
+#![tactic(auto)]
+
+mod bytes;
+mod grammar;
+mod reader;
