@@ -4,7 +4,8 @@ use Rattle.std.proofs.Math.Seq.{take-length}
 use Rattle.std.proofs.lemmas.List.Sums.{sum_by_more}
 use Rattle.std.proofs.lemmas.Bool.{ne_eqb}
 use Rattle.std.proofs.lemmas.Bool.Decides.{nat_tests}
-use Rattle.cct_model.specs.declared.wire.CheckKind.TheVariants.{Simple}
+use Rattle.cct_model.specs.declared.wire.CheckKind.{CheckKind}
+use Rattle.cct_model.specs.declared.wire.CheckKind.TheVariants.{Simple, Crc}
 use Rattle.cct_model.specs.Message.{Message, message, closing_byte, length_agrees}
 
 -- the last byte is the one that closes the sum exactly where the whole sum is 0 modulo 256
@@ -35,23 +36,33 @@ second_fails : {X : Type 0} (a b : Bool) (x y : X) → b ≡ false → cond (a &
 second_fails true b x y p = rw p refl
 second_fails false b x y p = refl
 
--- a piece of fewer than five bytes is no message
-pub none_short : (p : List ℕ) → length p < 5 → message Simple p ≡ None
+-- a piece of fewer than five bytes is no message, under either check
+pub none_short : (kind : CheckKind) (p : List ℕ) → length p < 5 → message kind p ≡ None
 unfolding message
-none_short [] _ = refl
-none_short (to ∷ []) _ = refl
-none_short (to ∷ said ∷ []) _ = refl
-none_short (to ∷ said ∷ from ∷ []) _ = refl
-none_short (to ∷ said ∷ from ∷ header ∷ rest) short = first_fails _ _ _ _ (disagrees said rest (λ e. omega arith))
+none_short Simple [] _ = refl
+none_short Simple (to ∷ []) _ = refl
+none_short Simple (to ∷ said ∷ []) _ = refl
+none_short Simple (to ∷ said ∷ from ∷ []) _ = refl
+none_short Simple (to ∷ said ∷ from ∷ header ∷ rest) short = first_fails _ _ _ _ (disagrees said rest (λ e. omega arith))
+none_short Crc [] _ = refl
+none_short Crc (to ∷ []) _ = refl
+none_short Crc (to ∷ said ∷ []) _ = refl
+none_short Crc (to ∷ said ∷ low ∷ []) _ = refl
+none_short Crc (to ∷ said ∷ low ∷ header ∷ rest) short = first_fails _ _ _ _ (disagrees said rest (λ e. omega arith))
 
 -- nor is one whose second byte and five are not its length
-pub none_length : (p : List ℕ) → slice_index p 1 + 5 ≢ length p → message Simple p ≡ None
+pub none_length : (kind : CheckKind) (p : List ℕ) → slice_index p 1 + 5 ≢ length p → message kind p ≡ None
 unfolding message
-none_length [] _ = refl
-none_length (to ∷ []) _ = refl
-none_length (to ∷ said ∷ []) _ = refl
-none_length (to ∷ said ∷ from ∷ []) _ = refl
-none_length (to ∷ said ∷ from ∷ header ∷ rest) differ = first_fails _ _ _ _ (disagrees said rest (λ e. differ (omega arith)))
+none_length Simple [] _ = refl
+none_length Simple (to ∷ []) _ = refl
+none_length Simple (to ∷ said ∷ []) _ = refl
+none_length Simple (to ∷ said ∷ from ∷ []) _ = refl
+none_length Simple (to ∷ said ∷ from ∷ header ∷ rest) differ = first_fails _ _ _ _ (disagrees said rest (λ e. differ (omega arith)))
+none_length Crc [] _ = refl
+none_length Crc (to ∷ []) _ = refl
+none_length Crc (to ∷ said ∷ []) _ = refl
+none_length Crc (to ∷ said ∷ low ∷ []) _ = refl
+none_length Crc (to ∷ said ∷ low ∷ header ∷ rest) differ = first_fails _ _ _ _ (disagrees said rest (λ e. differ (omega arith)))
 
 -- nor is one whose last byte does not close the sum of those before it
 pub none_check : (p : List ℕ) → 5 ≤ length p → slice_index p (length p - 1) < 256 → closing_byte (take (length p - 1) p) ≢ slice_index p (length p - 1) → message Simple p ≡ None

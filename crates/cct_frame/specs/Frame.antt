@@ -9,14 +9,20 @@ use Rattle.cct_frame.specs.declared.reading.FrameFault.TheVariants.{Short, Lengt
 abbrev pub message_of : FrameView → Message
 message_of view = record { to = view.to; from = view.from; header = view.header; body = view.body.now }
 
+-- What is wrong with the check of a piece whose sum is to be 0 modulo 256: the last byte does not close the sum of
+-- those before it.
+abbrev pub sum_fault : List ℕ → Option FrameFault
+sum_fault piece =
+    let want = closing_byte (take (length piece - 1) piece) in
+    let got = slice_index piece (length piece - 1) in
+    if want == got then None else Some (Check want got)
+
 -- What is wrong with a piece under the simple check, by the first test that it fails: it has fewer than five bytes;
--- its second byte and five are not its length; its last byte does not close the sum of those before it.
+-- its second byte and five are not its length; its sum is not closed.
 abbrev pub simple_fault : List ℕ → Option FrameFault
 simple_fault piece =
     let have = length piece in
     let said = slice_index piece 1 in
-    let want = closing_byte (take (have - 1) piece) in
-    let got = slice_index piece (have - 1) in
     if nat_lt have 5 then Some (Short have)
-    else if said + 5 == have then (if want == got then None else Some (Check want got))
+    else if said + 5 == have then sum_fault piece
     else Some (Length said have)

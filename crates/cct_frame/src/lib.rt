@@ -3,8 +3,10 @@
 #![tactic(auto)]
 
 mod check;
+mod laws;
 mod reading;
 mod writing;
 
+pub use laws::{a_message_is_spelled, no_message_begins_another, what_is_spelled_is_read_back};
 pub use reading::{FrameFault, FrameView, read};
 pub use writing::write;

@@ -1,7 +1,7 @@
 //! A message is read where it stands.
-ghost use Rattle.std.specs.Prelude.{◌≡◌, ◌≢◌, ◌+◌, ◌-◌, ◌<◌, ◌≤◌, IfOk, IfErr, OnOk, OnErr, length, slice_index, slice_range};
-ghost use Rattle.cct_model.specs.Message.{message};
-ghost use Rattle.cct_frame.specs.Frame.{message_of, simple_fault};
+ghost use Rattle.std.specs.Prelude.{◌≡◌, ◌≢◌, ◌↔◌, ◌+◌, ◌-◌, ◌<◌, ◌≤◌, IfOk, IfErr, OnOk, OnErr, length, slice_index, slice_range, take};
+ghost use Rattle.cct_model.specs.Message.{closing_byte, message};
+ghost use Rattle.cct_frame.specs.Frame.{message_of, simple_fault, sum_fault};
 
 use crate::check::closing;
 use cct_model::CheckKind;
@@ -39,30 +39,20 @@ const SHORTEST: usize = 5;
 
 /// Reads the one message that a whole piece is. The tests come in the order of [`FrameFault`]'s variants, and the first
 /// that fails is told.
+#[tactic(auto, using(crate::proofs::Places::none_short, crate::proofs::Places::none_length, crate::proofs::Places::none_check, crate::proofs::Places::some_whole))]
 pub fn read<'a>(kind: CheckKind, piece: &'a [u8]) -> Result<FrameView<'a>, FrameFault>
     requires { kind ≡ CheckKind.Simple }
 
     ensures whole { IfOk result (λ view. message kind piece.now ≡ Some (message_of view)) }
     ensures body { IfOk result (λ view. view.body.now ≡ slice_range piece.now 4 (length piece.now - 1)) }
+    ensures in_place { IfOk result (λ view. view.body.ref_ptr ≡ (piece.entry.ref_ptr.0, piece.entry.ref_ptr.1 + 4)) }
     ensures faultless { OnOk result (simple_fault piece.now ≡ None) }
 
     ensures first_fault { IfErr result (λ fault. simple_fault piece.now ≡ Some fault) }
     ensures no_message { OnErr result (message kind piece.now ≡ None) }
-{
-    match kind {
-        CheckKind::Simple => read_simple(piece),
-        CheckKind::Crc => unreachable!(),
-    }
-}
-
-/// Reads a message under the simple check.
-#[tactic(auto, using(crate::proofs::Places::none_short, crate::proofs::Places::none_length, crate::proofs::Places::none_check, crate::proofs::Places::some_whole))]
-fn read_simple<'a>(piece: &'a [u8]) -> Result<FrameView<'a>, FrameFault>
-    ensures whole { IfOk result (λ view. message CheckKind.Simple piece.now ≡ Some (message_of view)) }
-    ensures body { IfOk result (λ view. view.body.now ≡ slice_range piece.now 4 (length piece.now - 1)) }
-    ensures faultless { OnOk result (simple_fault piece.now ≡ None) }
-    ensures first_fault { IfErr result (λ fault. simple_fault piece.now ≡ Some fault) }
-    ensures no_message { OnErr result (message CheckKind.Simple piece.now ≡ None) }
+    ensures short { (result ≡ Err (FrameFault.Short (length piece.now))) ↔ (length piece.now < 5) }
+    ensures wrong_length { (result ≡ Err (FrameFault.Length (slice_index piece.now 1) (length piece.now)))
+        ↔ ((5 ≤ length piece.now) × (slice_index piece.now 1 + 5 ≢ length piece.now)) }
 {
     let have = piece.len();
     if have < SHORTEST {
@@ -72,15 +62,34 @@ fn read_simple<'a>(piece: &'a [u8]) -> Result<FrameView<'a>, FrameFault>
     if said as usize + SHORTEST != have {
         return Err(FrameFault::Length { said, have });
     }
-    let want = closing(&piece[..have - 1]);
-    let got = piece[have - 1];
-    if want != got {
-        return Err(FrameFault::Check { want, got });
-    }
+    let from = match kind {
+        CheckKind::Simple => {
+            if let Some(fault) = sum_fault(piece) {
+                return Err(fault);
+            }
+            Some(piece[2])
+        }
+        CheckKind::Crc => unreachable!(),
+    };
     Ok(FrameView {
         to: piece[0],
-        from: Some(piece[2]),
+        from,
         header: piece[3],
         body: &piece[4..have - 1],
     })
+}
+
+/// Whether the last byte of a piece closes the sum of those before it.
+fn sum_fault(piece: &[u8]) -> Option<FrameFault>
+    requires { 0 < length piece.now }
+    ensures { result ≡ sum_fault piece.now }
+{
+    let last = piece.len() - 1;
+    let want = closing(&piece[..last]);
+    let got = piece[last];
+    if want == got {
+        None
+    } else {
+        Some(FrameFault::Check { want, got })
+    }
 }
