@@ -1,0 +1,12 @@
+//! Frames: messages of the wire, read from the piece that carries them and written into one, without a copy of their
+//! data and without memory of their own.
+#![tactic(auto)]
+
+mod check;
+mod laws;
+mod reading;
+mod writing;
+
+pub use laws::{a_message_is_spelled, no_message_begins_another, what_is_spelled_is_read_back};
+pub use reading::{FrameFault, FrameView, read};
+pub use writing::write;

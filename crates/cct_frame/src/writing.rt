@@ -1,0 +1,43 @@
+//! A message is written into the bytes to be sent.
+ghost use Rattle.std.specs.Prelude.{◌≡◌, ◌≤◌, length};
+ghost use Rattle.cct_model.specs.Message.{spelling};
+
+use crate::check::closing;
+use arrayvec::ArrayVec;
+use cct_model::CheckKind;
+
+/// Writes one message in the place of what `out` holds.
+pub fn write(
+    kind: CheckKind,
+    to: u8,
+    from: u8,
+    header: u8,
+    body: &[u8],
+    out: &mut ArrayVec<u8, 260>,
+)
+    requires simple { kind ≡ CheckKind.Simple }
+    requires fits { length body.now ≤ 255 }
+    ensures { out.new.items ≡ spelling kind (record { to = to; from = Some from; header = header; body = body.now }) }
+{
+    match kind {
+        CheckKind::Simple => write_simple(to, from, header, body, out),
+        CheckKind::Crc => unreachable!(),
+    }
+}
+
+/// Writes a message under the simple check.
+#[tactic(auto, unfolding(cct_model::specs::Message::spelling))]
+fn write_simple(to: u8, from: u8, header: u8, body: &[u8], out: &mut ArrayVec<u8, 260>)
+    requires { length body.now ≤ 255 }
+    ensures { out.new.items
+        ≡ spelling CheckKind.Simple (record { to = to; from = Some from; header = header; body = body.now }) }
+{
+    out.clear();
+    out.push(to);
+    out.push(body.len() as u8);
+    out.push(from);
+    out.push(header);
+    out.try_extend_from_slice(body).unwrap();
+    let check = closing(out.as_slice());
+    out.push(check);
+}
