@@ -2,3 +2,4 @@ pub mod Held
 pub mod Splits
 pub mod Numbers
 pub mod Fields
+pub mod Texts

@@ -146,12 +146,13 @@ fn coin_step(word: &[u8], rest: &[u8]) -> Option<Step>
 {
     let (field, rest) = first_field(rest);
     match rest {
+        Some(_) => None,
         None if word == COIN => {
             let place = place_in(field)?;
             let addr = ADDRESS;
             Some(Step::Coin { addr, place })
         }
-        _ => None,
+        None => None,
     }
 }
 

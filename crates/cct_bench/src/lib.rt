@@ -2,5 +2,7 @@
 #![tactic(auto)]
 
 mod bytes;
+mod entries;
 mod grammar;
 mod reader;
+mod text;
