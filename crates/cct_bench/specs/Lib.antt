@@ -1,3 +1,6 @@
 pub mod Lines
 pub mod Grammar
 pub mod Text
+pub mod Acceptor
+pub mod Device
+pub mod Machine

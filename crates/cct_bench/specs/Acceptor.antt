@@ -1,0 +1,17 @@
+-- The acceptor of the bench, as one that met all this.
+use Rattle.std.specs.Prelude.{◌≡◌, ℕ, List, length, if◌then◌else◌}
+use Rattle.cct_model.specs.History.{Met}
+use Rattle.cct_model.specs.Acceptor.{mask_of, accepts, path_of, events, counter, last_five}
+use Rattle.cct_bench.specs.declared.acceptor.Acceptor.{Acceptor}
+use Rattle.cct_bench.specs.declared.acceptor.Inserted.{Inserted}
+use Rattle.cct_bench.specs.declared.acceptor.Inserted.TheVariants.{Accepted, Inhibited}
+
+-- An acceptor has the mask, the event counter and the credit buffer of one that met all this, newest first.
+pub record ActsAs (acceptor : Acceptor) (past : List Met) : Type 0 where
+  pub mask : acceptor.mask ≡ mask_of past
+  pub counter : acceptor.counter ≡ counter (length (events past))
+  pub pairs : acceptor.pairs ≡ last_five (events past)
+
+-- What becomes of a coin.
+abbrev pub inserted : List Met → ℕ → Inserted
+inserted past place = if accepts past place then Accepted (record { place = place; path = path_of past place }) else Inhibited

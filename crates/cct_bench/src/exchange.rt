@@ -1,0 +1,141 @@
+//! The bytes of an exchange: what the host asks, what the acceptor answers, and what the host reads of it.
+ghost use Rattle.std.specs.Prelude.{◌≡◌, ◌≤◌, ℕ, List, [], ◌∷◌, ◌++◌, length, Some};
+ghost use Rattle.cct_model.specs.declared.wire.CheckKind.TheVariants.{Simple};
+ghost use Rattle.cct_model.specs.History.{Met, heard};
+ghost use Rattle.cct_model.specs.Message.{spelling};
+ghost use Rattle.cct_model.specs.Request.{request_of, reply_in, reply_data};
+ghost use Rattle.cct_model.specs.Exchange.{ask, asked_of, asks_of, answer, replying, got};
+ghost use Rattle.cct_model.specs.Job.{credits_reply};
+ghost use Rattle.cct_model.specs.Script.{the_address};
+ghost use Rattle.cct_frame.specs.Frame.{message_of};
+ghost use Rattle.cct_bench.specs.Acceptor.{ActsAs};
+ghost use Rattle.cct_bench.specs.Device.{the_acceptor};
+
+use crate::acceptor::Acceptor;
+use arrayvec::ArrayVec;
+use cct_frame::{FrameView, read, write};
+use cct_model::{CheckKind, Credits, Pair, Reply, Request};
+
+/// The address of the host.
+const HOST: u8 = 1;
+
+/// The address of the one acceptor.
+const ADDRESS: u8 = 2;
+
+/// The header of a reply.
+const REPLY: u8 = 0;
+
+/// The header that reads the credit buffer.
+const READ_CREDITS: u8 = 229;
+
+/// The header that sets the inhibit mask.
+const SET_MASK: u8 = 231;
+
+/// Writes the request for the acceptor's credits.
+#[tactic(auto, unfolding(cct_model::specs::Exchange::ask))]
+pub fn ask_credits(out: &mut ArrayVec<u8, 260>)
+    ensures { out.new.items ≡ ask CheckKind.Simple the_address Request.ReadCredits }
+{
+    write(CheckKind::Simple, ADDRESS, HOST, READ_CREDITS, &[], out);
+}
+
+/// The acceptor hears a piece, acts on it, and writes its answer; it is silent to what it doesn't know.
+pub fn answer(acceptor: &mut Acceptor, piece: &[u8], out: &mut ArrayVec<u8, 260>)
+    ensures acts { (past : List Met) → ActsAs acceptor.old past
+        → ActsAs acceptor.new (heard (asks_of the_acceptor piece.now) ∷ past) }
+    ensures answer { (past : List Met) → ActsAs acceptor.old past → out.new.items ≡ answer the_acceptor past piece.now }
+{
+    out.clear();
+    let Ok(view) = read(CheckKind::Simple, piece) else {
+        return;
+    };
+    if let Some(request) = request_of(&view) {
+        let reply = acceptor.reply(request);
+        write_reply(view.from.unwrap_or(HOST), &reply, out);
+    }
+}
+
+/// What a message asks of the acceptor, where it is for its address.
+#[tactic(auto, unfolding(cct_model::specs::Request::request_of))]
+fn request_of(view: &FrameView) -> Option<Request>
+    ensures { result ≡ asked_of the_address (message_of view.now) }
+{
+    if view.to != ADDRESS {
+        return None;
+    }
+    match view.body {
+        [] if view.header == READ_CREDITS => Some(Request::ReadCredits),
+        [low, high] if view.header == SET_MASK => Some(Request::SetMask {
+            mask: u16::from_le_bytes([*low, *high]),
+        }),
+        _ => None,
+    }
+}
+
+/// Writes the acceptor's reply.
+fn write_reply(to: u8, reply: &Reply, out: &mut ArrayVec<u8, 260>)
+    ensures { out.new.items ≡ spelling CheckKind.Simple (replying to the_address reply.now) }
+{
+    match reply {
+        Reply::Ack => write(CheckKind::Simple, to, ADDRESS, REPLY, &[], out),
+        Reply::Credits(credits) => {
+            let body = credit_bytes(credits);
+            write(CheckKind::Simple, to, ADDRESS, REPLY, &body, out);
+        }
+    }
+}
+
+/// The data bytes of a reply with credits.
+#[tactic(auto, unfolding(cct_model::specs::Request::reply_data))]
+fn credit_bytes(credits: &Credits) -> [u8; 11]
+    ensures { result ≡ reply_data (Reply.Credits credits.now) }
+{
+    let [first, second, third, fourth, fifth] = credits.pairs;
+    [
+        credits.counter,
+        first.a,
+        first.b,
+        second.a,
+        second.b,
+        third.a,
+        third.b,
+        fourth.a,
+        fourth.b,
+        fifth.a,
+        fifth.b,
+    ]
+}
+
+/// The credits that the host reads in what it heard after its request, or none where it isn't the wanted reply.
+pub fn credits_heard(sent: &[u8], piece: &[u8]) -> Option<Credits>
+    ensures { result ≡ credits_reply (got CheckKind.Simple the_address Request.ReadCredits sent.now piece.now) }
+{
+    if !piece.starts_with(sent) {
+        return None;
+    }
+    let view = read(CheckKind::Simple, &piece[sent.len()..]).ok()?;
+    if view.to != HOST || view.from != Some(ADDRESS) || view.header != REPLY {
+        return None;
+    }
+    credits_in(view.body)
+}
+
+/// The credits that the data bytes of a reply are.
+#[tactic(auto, unfolding(cct_model::specs::Request::reply_in))]
+fn credits_in(body: &[u8]) -> Option<Credits>
+    ensures { result ≡ credits_reply (reply_in Request.ReadCredits body.now) }
+{
+    match body {
+        [counter, a1, b1, a2, b2, a3, b3, a4, b4, a5, b5] => Some(Credits {
+            counter: *counter,
+            pairs: [
+                Pair { a: *a1, b: *b1 },
+                Pair { a: *a2, b: *b2 },
+                Pair { a: *a3, b: *b3 },
+                Pair { a: *a4, b: *b4 },
+                Pair { a: *a5, b: *b5 },
+            ],
+        }),
+        _ => None,
+    }
+}
