@@ -6,7 +6,7 @@ use thiserror::Error;
 
 /// The world outside failed in this call. A failure isn't final: the next call may succeed.
 #[derive(Debug, Drop, Error)]
-#[error("the outside failed")]
+#[error("the source or the sink failed")]
 pub struct Failed;
 
 // Counts one more fault, and gives the error that tells it.

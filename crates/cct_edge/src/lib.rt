@@ -12,3 +12,6 @@ pub use memory::{MemSink, MemSource};
 pub use sink::Sink;
 pub use source::Source;
 pub use standard::{StdSink, StdSource};
+
+#[cfg(test)]
+mod tests;

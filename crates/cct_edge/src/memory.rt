@@ -64,7 +64,13 @@ impl Model for MemSource {
 
     ghost Value = { MemoryInput };
 
-    ghost view = { λ s. record { left = drop s.taken s.bytes.items; most = s.most; fails = s.calls.fails.items; calls = s.calls.made; faults = s.calls.faults } };
+    ghost view = { λ s. record {
+      left = drop s.taken s.bytes.items;
+      most = s.most;
+      fails = s.calls.fails.items;
+      calls = s.calls.made;
+      faults = s.calls.faults;
+    } };
 
     ghost invariant = { λ s. (s.taken ≤ vec_len s.bytes) × (1 ≤ s.most) };
 }
@@ -74,7 +80,13 @@ impl MemSource {
     /// fail; the first call is 1.
     pub fn new(bytes: Vec<u8>, most: usize, fails: Vec<u64>) -> MemSource
         requires { 1 ≤ most }
-        ensures { result ≡ record { left = bytes.items; most = most; fails = fails.items; calls = 0; faults = 0 } }
+        ensures { result ≡ record {
+          left = bytes.items;
+          most = most;
+          fails = fails.items;
+          calls = 0;
+          faults = 0;
+        } }
     {
         MemSource {
             bytes,
@@ -100,7 +112,8 @@ impl Source for MemSource {
         ensures fails { IsErr result ↔ FailsNext self.old.fails self.old.calls }
         ensures amount { IfOk result (λ n. n ≡ amount_into (length room.old) self.old) }
         ensures after { IfOk result (λ n. self.new ≡ input_after n self.old) }
-        ensures after_fault { OnErr result ((self.new ≡ input_after_fault self.old) × (room.new ≡ room.old)) }
+        ensures after_fault { OnErr result
+            ((self.new ≡ input_after_fault self.old) × (room.new ≡ room.old)) }
     {
         if self.calls.count() {
             return Err(count_fault(&mut self.calls.faults));
@@ -125,7 +138,13 @@ impl Model for MemSink {
 
     ghost Value = { MemoryOutput };
 
-    ghost view = { λ s. record { written = s.bytes.items; room = s.room; fails = s.calls.fails.items; calls = s.calls.made; faults = s.calls.faults } };
+    ghost view = { λ s. record {
+      written = s.bytes.items;
+      room = s.room;
+      fails = s.calls.fails.items;
+      calls = s.calls.made;
+      faults = s.calls.faults;
+    } };
 
     ghost invariant = { λ s. (vec_len s.bytes ≤ s.room) × (s.room ≤ vec_capacity s.bytes) };
 }
@@ -134,7 +153,13 @@ impl MemSink {
     /// An empty sink for `room` bytes, whose memory it takes at once. A call whose number stands in `fails` fails, and
     /// so does one whose piece passes the room; the first call is 1.
     pub fn new(alloc: Global, room: usize, fails: Vec<u64>) -> Result<MemSink, AllocError>
-        ensures { IfOk result (λ s. s ≡ record { written = []; room = room; fails = fails.items; calls = 0; faults = 0 }) }
+        ensures { IfOk result (λ s. s ≡ record {
+          written = [];
+          room = room;
+          fails = fails.items;
+          calls = 0;
+          faults = 0;
+        }) }
     {
         let bytes = Vec::with_capacity(alloc, room)?;
         Ok(MemSink {
@@ -161,7 +186,8 @@ impl Sink for MemSink {
         ensures cause { HasCause self.old.faults self.new.faults result }
 
         // which calls fail, and what either answer leaves
-        ensures fails { IsErr result ↔ (FailsNext self.old.fails self.old.calls ⊎ PassesRoom self.old piece.now) }
+        ensures fails { IsErr result ↔
+            (FailsNext self.old.fails self.old.calls ⊎ PassesRoom self.old piece.now) }
         ensures after { OnOk result (self.new ≡ output_after piece.now self.old) }
         ensures after_fault { OnErr result (self.new ≡ output_after_fault self.old) }
     {

@@ -1,4 +1,5 @@
-// A source over any reader and a sink over any writer. What the reader and the writer hold isn't told.
+// A source over any reader and a sink over any writer. As a source and a sink they tell nothing of their bytes; their own
+// clauses say what the reader and the writer did, where those are known.
 ghost use Rattle.std.specs.Prelude.{◌≡◌, None, OnOk, OnErr, MatchResult};
 ghost use Rattle.std.specs.Io.{ReadsAtMost};
 ghost use Rattle.std.specs.Io.KnownBytes.{Appends, ReadConsumes};
@@ -10,7 +11,7 @@ use crate::fault::count_fault;
 use crate::{Failed, Sink, Source};
 use std::io::{Read, Write};
 
-/// A source over a reader. It counts each error of the reader as a fault, an interrupted read too.
+/// A source over a reader. Each error of the reader is a failure, an interrupted read too, and counts as one fault.
 #[derive(Drop)]
 pub struct StdSource<R> {
     reader: R,
@@ -34,7 +35,8 @@ impl<R: Read> Source for StdSource<R> {
 
     fn take(&mut self, room: &mut [u8]) -> Result<usize, Failed>
         ensures bound { ReadsAtMost result room.new }
-        ensures bytes { ReadConsumes (R.remaining (reader_of self.old)) (R.remaining (reader_of self.new)) result room.new }
+        ensures bytes { ReadConsumes (R.remaining (reader_of self.old))
+            (R.remaining (reader_of self.new)) result room.new }
         ensures cause { HasCause (reader_faults self.old) (reader_faults self.new) result }
         ensures counted { MatchResult result
             (λ _. reader_faults self.new ≡ reader_faults self.old)
@@ -47,7 +49,8 @@ impl<R: Read> Source for StdSource<R> {
     }
 }
 
-/// A sink over a writer. It counts as a fault each error of the writer, and each write of a piece that takes no byte.
+/// A sink over a writer, which flushes it after each piece. Each error of the writer is a failure and counts as one
+/// fault, and so is each write of a nonempty piece that takes no byte.
 #[derive(Drop)]
 pub struct StdSink<W> {
     writer: W,
@@ -70,8 +73,10 @@ impl<W: Write> Sink for StdSink<W> {
     ghost faults = { writer_faults };
 
     fn put(&mut self, piece: &[u8]) -> Result<(), Failed>
-        ensures ok { OnOk result (Appends (W.contents (writer_of self.old)) (W.contents (writer_of self.new)) piece.now) }
-        ensures err { OnErr result (AppendsFront (W.contents (writer_of self.old)) (W.contents (writer_of self.new)) piece.now) }
+        ensures ok { OnOk result (Appends (W.contents (writer_of self.old))
+            (W.contents (writer_of self.new)) piece.now) }
+        ensures err { OnErr result (AppendsFront (W.contents (writer_of self.old))
+            (W.contents (writer_of self.new)) piece.now) }
         ensures cause { HasCause (writer_faults self.old) (writer_faults self.new) result }
         ensures counted { MatchResult result
             (λ _. writer_faults self.new ≡ writer_faults self.old)
