@@ -3,3 +3,4 @@ pub mod Splits
 pub mod Numbers
 pub mod Fields
 pub mod Texts
+pub mod Hearing

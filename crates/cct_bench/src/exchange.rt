@@ -1,10 +1,10 @@
 //! The bytes of an exchange: what the host asks, what the acceptor answers, and what the host reads of it.
-ghost use Rattle.std.specs.Prelude.{◌≡◌, ◌≤◌, ℕ, List, [], ◌∷◌, ◌++◌, length, Some};
+ghost use Rattle.std.specs.Prelude.{◌≡◌, ◌≤◌, ℕ, List, [], ◌∷◌, ◌++◌, length, None, Some, MatchOption};
 ghost use Rattle.cct_model.specs.declared.wire.CheckKind.TheVariants.{Simple};
 ghost use Rattle.cct_model.specs.History.{Met, heard};
 ghost use Rattle.cct_model.specs.Message.{spelling};
 ghost use Rattle.cct_model.specs.Request.{request_of, reply_in, reply_data};
-ghost use Rattle.cct_model.specs.Exchange.{ask, asked_of, asks_of, answer, replying, got};
+ghost use Rattle.cct_model.specs.Exchange.{ask, asked_of, asks_of, asker, answer, replying, reply_from, got};
 ghost use Rattle.cct_model.specs.Job.{credits_reply};
 ghost use Rattle.cct_model.specs.Script.{the_address};
 ghost use Rattle.cct_frame.specs.Frame.{message_of};
@@ -45,13 +45,27 @@ pub fn answer(acceptor: &mut Acceptor, piece: &[u8], out: &mut ArrayVec<u8, 260>
         → ActsAs acceptor.new (heard (asks_of the_acceptor piece.now) ∷ past) }
     ensures answer { (past : List Met) → ActsAs acceptor.old past → out.new.items ≡ answer the_acceptor past piece.now }
 {
-    out.clear();
-    let Ok(view) = read(CheckKind::Simple, piece) else {
-        return;
-    };
-    if let Some(request) = request_of(&view) {
-        let reply = acceptor.reply(request);
-        write_reply(view.from.unwrap_or(HOST), &reply, out);
+    match request_heard(piece) {
+        None => out.clear(),
+        Some((to, request)) => {
+            let reply = acceptor.reply(request);
+            write_reply(to, &reply, out);
+        }
+    }
+}
+
+/// What a piece asks of the acceptor, and to whom the reply goes.
+#[tactic(auto, unfolding(cct_model::specs::Exchange::asks_of, cct_model::specs::Exchange::asker))]
+fn request_heard(piece: &[u8]) -> Option<(u8, Request)>
+    ensures { MatchOption result (asks_of the_acceptor piece.now ≡ None)
+        (λ heard. (asker CheckKind.Simple piece.now ≡ heard.0) × (asks_of the_acceptor piece.now ≡ Some heard.1)) }
+{
+    match read(CheckKind::Simple, piece) {
+        Err(_) => None,
+        Ok(view) => match request_of(&view) {
+            None => None,
+            Some(request) => Some((view.from.unwrap_or(HOST), request)),
+        },
     }
 }
 
@@ -73,6 +87,7 @@ fn request_of(view: &FrameView) -> Option<Request>
 }
 
 /// Writes the acceptor's reply.
+#[tactic(auto, unfolding(cct_model::specs::Request::reply_data))]
 fn write_reply(to: u8, reply: &Reply, out: &mut ArrayVec<u8, 260>)
     ensures { out.new.items ≡ spelling CheckKind.Simple (replying to the_address reply.now) }
 {
@@ -113,11 +128,23 @@ pub fn credits_heard(sent: &[u8], piece: &[u8]) -> Option<Credits>
     if !piece.starts_with(sent) {
         return None;
     }
-    let view = read(CheckKind::Simple, &piece[sent.len()..]).ok()?;
-    if view.to != HOST || view.from != Some(ADDRESS) || view.header != REPLY {
+    match read(CheckKind::Simple, &piece[sent.len()..]) {
+        Err(_) => None,
+        Ok(view) => credits_from(&view),
+    }
+}
+
+/// The credits that a message is, where it is the acceptor's reply to the host.
+fn credits_from(view: &FrameView) -> Option<Credits>
+    ensures { result ≡ credits_reply (reply_from the_address Request.ReadCredits (message_of view.now)) }
+{
+    if view.to != HOST || view.header != REPLY {
         return None;
     }
-    credits_in(view.body)
+    match view.from {
+        Some(source) if source != ADDRESS => None,
+        _ => credits_in(view.body),
+    }
 }
 
 /// The credits that the data bytes of a reply are.
