@@ -1,12 +1,12 @@
 -- Whether a piece is a message, told by its length, its second byte and its last.
-use Rattle.std.proofs.Common.{◌≡◌, ◌≢◌, ℕ, ◌+◌, ◌-◌, ◌%◌, ◌<◌, ◌≤◌, ◌&&◌, Bool, true, false, eqb, leb, List, [], ◌∷◌, ◌++◌, length, take, slice_index, slice_range, sum, refl, sym, ap, ◌∙◌, Option, Some, None, arith, cond, eq-eqb}
+use Rattle.std.proofs.Common.{◌≡◌, ◌≢◌, ℕ, ◌+◌, ◌-◌, ◌%◌, ◌<◌, ◌≤◌, ◌&&◌, Bool, true, false, List, [], ◌∷◌, length, take, slice_index, slice_range, sum, refl, sym, ap, ◌∙◌, Some, None, arith, cond, eq-eqb}
 use Rattle.std.proofs.Math.Seq.{take-length}
 use Rattle.std.proofs.lemmas.List.Sums.{sum_by_more}
 use Rattle.std.proofs.lemmas.Bool.{ne_eqb}
 use Rattle.std.proofs.lemmas.Bool.Decides.{nat_tests}
 use Rattle.cct_model.specs.declared.wire.CheckKind.{CheckKind}
 use Rattle.cct_model.specs.declared.wire.CheckKind.TheVariants.{Simple, Crc}
-use Rattle.cct_model.specs.Message.{Message, message, closing_byte, length_agrees}
+use Rattle.cct_model.specs.Message.{message, closing_byte, length_agrees}
 
 -- the last byte is the one that closes the sum exactly where the whole sum is 0 modulo 256
 closes : (s last : ℕ) → (256 - s % 256) % 256 ≡ last → (s + last) % 256 ≡ 0

@@ -1,14 +1,14 @@
 -- A message and the piece that spells it stand for one another.
-use Rattle.std.proofs.Common.{◌≡◌, ◌≢◌, ℕ, suc, ◌+◌, ◌-◌, ◌%◌, ◌<◌, ◌≤◌, ◌&&◌, Bool, true, false, eqb, List, [], ◌∷◌, ◌++◌, length, take, slice_index, sum, refl, sym, ap, ◌∙◌, Option, Some, None, IsSome, arith, cond}
+use Rattle.std.proofs.Common.{◌≡◌, ℕ, suc, ◌+◌, ◌-◌, ◌%◌, ◌<◌, ◌≤◌, ◌&&◌, Bool, true, false, eqb, List, [], ◌∷◌, ◌++◌, length, take, slice_index, sum, refl, sym, ap, ◌∙◌, Option, Some, None, IsSome, arith, cond}
 use Rattle.std.specs.List.{All}
-use Rattle.std.proofs.lemmas.Bool.{eqb-true, eqb-false}
+use Rattle.std.proofs.lemmas.Bool.{eqb-true}
 use Rattle.std.proofs.lemmas.Bool.Decides.{nat_tests}
 use Rattle.std.proofs.lemmas.List.{take_all, take_more, length-take-le, get_or_append_left, length-append, nil_from_length}
 use Rattle.std.proofs.lemmas.List.Elements.{All-get_or}
 use Rattle.std.proofs.lemmas.List.Sums.{sum_by_push}
 use Rattle.cct_model.specs.declared.wire.CheckKind.{CheckKind}
 use Rattle.cct_model.specs.declared.wire.CheckKind.TheVariants.{Simple}
-use Rattle.cct_model.specs.Message.{Message, message, spelling, closing_byte, length_agrees}
+use Rattle.cct_model.specs.Message.{Message, message, spelling, length_agrees}
 use Rattle.cct_model.proofs.Messages.{simple_read_back}
 use Rattle.cct_frame.proofs.Places.{none_short, none_length}
 

@@ -53,6 +53,10 @@ pub fn read<'a>(kind: CheckKind, piece: &'a [u8]) -> Result<FrameView<'a>, Frame
     ensures short { (result ≡ Err (FrameFault.Short (length piece.now))) ↔ (length piece.now < 5) }
     ensures wrong_length { (result ≡ Err (FrameFault.Length (slice_index piece.now 1) (length piece.now)))
         ↔ ((5 ≤ length piece.now) × (slice_index piece.now 1 + 5 ≢ length piece.now)) }
+    ensures wrong_check { let want = closing_byte (take (length piece.now - 1) piece.now) in
+        let got = slice_index piece.now (length piece.now - 1) in
+        (result ≡ Err (FrameFault.Check want got))
+        ↔ ((5 ≤ length piece.now) × (slice_index piece.now 1 + 5 ≡ length piece.now) × (want ≢ got)) }
 {
     let have = piece.len();
     if have < SHORTEST {
