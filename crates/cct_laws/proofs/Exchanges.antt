@@ -1,5 +1,5 @@
 -- An exchange with the one device of a machine: what was asked is heard, and what was answered is got.
-use Rattle.std.proofs.Common.{◌≡◌, ℕ, ◌+◌, ◌*◌, ◌≤◌, eqb, true, List, [], ◌∷◌, ◌++◌, length, flat_map, Option, Some, refl, ap, sym, ◌∙◌, arith, eq-eqb, append-nil, length-append, length-take, take}
+use Rattle.std.proofs.Common.{◌≡◌, ℕ, ◌*◌, ◌≤◌, List, [], ◌∷◌, ◌++◌, length, flat_map, Some, refl, ap, ◌∙◌, arith, eq-eqb, append-nil, length-append, length-take}
 use Rattle.cct_model.specs.declared.wire.CheckKind.TheVariants.{Simple}
 use Rattle.cct_model.specs.declared.device.DeviceSetup.{DeviceSetup}
 use Rattle.cct_model.specs.declared.coin.Pair.{Pair}
@@ -11,7 +11,7 @@ use Rattle.cct_model.specs.declared.entry.Entry.{Entry}
 use Rattle.cct_model.specs.History.{Met}
 use Rattle.cct_model.specs.Message.{message, spelling}
 use Rattle.cct_model.specs.Request.{header_of, data_of, request_of, reply_data, reply_in, pair_bytes, credits_in}
-use Rattle.cct_model.specs.Acceptor.{reply_of, credits_of, events, last_five, no_event}
+use Rattle.cct_model.specs.Acceptor.{reply_of, events, last_five, no_event}
 use Rattle.cct_model.specs.Exchange.{ask, asking, asked, asks_of, asker, replying, after_echo, got}
 use Rattle.cct_model.specs.Transcript.{met, answers, heard_after, got_by}
 use Rattle.cct_model.proofs.Messages.{simple_read_back}

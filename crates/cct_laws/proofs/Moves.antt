@@ -1,19 +1,15 @@
 -- How each line keeps what holds of an acceptor.
-use Rattle.std.proofs.Common.{◌≡◌, ℕ, ◌+◌, ◌-◌, ◌<◌, ◌≤◌, cond, eqb, true, false, Bool, List, [], ◌∷◌, ◌++◌, length, take, refl, ap, sym, ◌∙◌, subst, Option, Some, None, suc, arith, length-append, eqb-true, ne_eqb, append_assoc}
+use Rattle.std.proofs.Common.{◌≡◌, ℕ, ◌+◌, ◌≤◌, cond, eqb, true, false, Bool, List, [], ◌∷◌, length, refl, ap, sym, ◌∙◌, subst, suc, arith, ne_eqb}
 use Rattle.std.proofs.lemmas.List.{nil_from_length}
 use Rattle.cct_model.specs.declared.coin.Pair.{Pair}
 use Rattle.cct_model.specs.declared.coin.Credits.{Credits}
-use Rattle.cct_model.specs.declared.request.Request.TheVariants.{ReadCredits}
-use Rattle.cct_model.specs.declared.request.Reply.TheVariants as reply
-use Rattle.cct_model.specs.declared.record.Record.{Record}
-use Rattle.cct_model.specs.declared.record.Record.TheVariants as record_of
 use Rattle.cct_model.specs.declared.command.Command.{Command}
 use Rattle.cct_model.specs.declared.entry.End.TheVariants.{Clean, Posted}
-use Rattle.cct_model.specs.Line.{Line, accepted, inhibited, exchange, put, taken, ended}
+use Rattle.cct_model.specs.Line.{Line, accepted, inhibited, put, taken, ended}
 use Rattle.cct_model.specs.Job.{Job, free, works, job, recorded, address_of}
-use Rattle.cct_model.specs.Reading.{coins_among, posted_of, distance}
-use Rattle.cct_model.specs.Acceptor.{counter, last_five}
-use Rattle.cct_model.specs.Claims.{coins, arrivals, reading, mark, part, base, Near, AreNewest, OrderAt, CoverAt, InOrder, Covers, Pace, PaceAt, AllPast}
+use Rattle.cct_model.specs.Reading.{coins_among, distance}
+use Rattle.cct_model.specs.Acceptor.{counter}
+use Rattle.cct_model.specs.Claims.{coins, arrivals, reading, mark, part, base, Near, OrderAt, CoverAt, PaceAt}
 use Rattle.cct_laws.specs.Law.{AnsweredAt}
 use Rattle.cct_laws.proofs.Counters.{counter_same}
 use Rattle.cct_laws.proofs.World.{Known, Settled, Sound, Held, credits_at, read_line, new_by, record_put, new_and_old, new_near, new_few, part_new, mark_most, put_in_order, put_covers}
@@ -150,8 +146,8 @@ pub keeps_taken : (command : Command) (addr : ℕ) (events : List Pair) (lines :
 keeps_taken command addr events lines there keeps = record {
   sound =
       sound_line events lines (taken command) (record { coins_stay = refl; arrivals_stay = refl })
-        (settled_line events lines (taken command) (record { recorded_stays = refl; mark_stays = refl; base_stays = refl }) keeps.sound.settled)
-        tt (λ _. tt) tt keeps.sound;
+      (settled_line events lines (taken command) (record { recorded_stays = refl; mark_stays = refl; base_stays = refl }) keeps.sound.settled)
+      tt (λ _. tt) tt keeps.sound;
   stands = (there, begins);
 }
 
@@ -159,8 +155,8 @@ keeps_taken command addr events lines there keeps = record {
 sound_read : (events : List Pair) (lines : List Line) (credits : Credits) → Sound events lines → Sound events (read_line credits ∷ lines)
 sound_read events lines credits sound =
     sound_line events lines (read_line credits) (record { coins_stay = refl; arrivals_stay = refl })
-      (settled_line events lines (read_line credits) (record { recorded_stays = refl; mark_stays = refl; base_stays = refl }) sound.settled)
-      tt (λ _. tt) refl sound
+    (settled_line events lines (read_line credits) (record { recorded_stays = refl; mark_stays = refl; base_stays = refl }) sound.settled)
+    tt (λ _. tt) refl sound
 
 -- a reading that shows new events, which the job then holds
 pub keeps_read : (command : Command) (addr : ℕ) (events : List Pair) (lines : List Line) → job lines ≡ works command [] → address_of command ≡ addr → eqb (new_by lines (credits_at events)) 0 ≡ false →
@@ -168,7 +164,7 @@ pub keeps_read : (command : Command) (addr : ℕ) (events : List Pair) (lines : 
 keeps_read command addr events lines at_work there some keeps =
     let sound = sound_read events lines (credits_at events) keeps.sound in
     let held : Held events (read_line (credits_at events) ∷ lines) (credits_at events) =
-        record { later = []; read = events; split = refl; known = keeps.sound.known; settled = sound.settled; credits_are = refl } in
+    record { later = []; read = events; split = refl; known = keeps.sound.known; settled = sound.settled; credits_are = refl } in
     record { sound = sound; stands = rw at_work (there, holds (credits_at events) held some) }
 
 -- where a reading shows no event, none is new
@@ -194,8 +190,8 @@ clean_settled events lines settled none known =
 sound_clean : (events : List Pair) (lines : List Line) → new_by lines (credits_at events) ≡ 0 → Known events (reading lines) → Sound events lines → Sound events (ended Clean ∷ lines)
 sound_clean events lines none known sound =
     sound_line events lines (ended Clean) (record { coins_stay = refl; arrivals_stay = refl })
-      (clean_settled events lines sound.settled none known)
-      (mark_most events lines sound.settled known) (clean_covers events lines sound.settled none known) tt sound
+    (clean_settled events lines sound.settled none known)
+    (mark_most events lines sound.settled known) (clean_covers events lines sound.settled none known) tt sound
 
 -- a reading that shows none ends the job clean
 pub keeps_clean : (addr : ℕ) (events : List Pair) (lines : List Line) → new_by lines (credits_at events) ≡ 0 →
@@ -219,16 +215,16 @@ sound_put : (addr : ℕ) (events : List Pair) (lines : List Line) (credits : Cre
 sound_put addr events lines credits held sound =
     let back = sym held.credits_are in
     sound_line events lines (put (record_put addr lines credits)) (record { coins_stay = refl; arrivals_stay = refl })
-      (put_settled addr events lines credits held)
-      (subst (λ c. OrderAt lines (put (record_put addr lines c))) back (put_in_order addr held.read lines held.settled held.known))
-      (λ near. subst (λ c. CoverAt lines (put (record_put addr lines c))) back (put_covers addr held.read lines held.settled held.known near))
-      tt sound
+    (put_settled addr events lines credits held)
+    (subst (λ c. OrderAt lines (put (record_put addr lines c))) back (put_in_order addr held.read lines held.settled held.known))
+    (λ near. subst (λ c. CoverAt lines (put (record_put addr lines c))) back (put_covers addr held.read lines held.settled held.known near))
+    tt sound
 
 sound_posted : (events : List Pair) (lines : List Line) → Sound events lines → Sound events (ended Posted ∷ lines)
 sound_posted events lines sound =
     sound_line events lines (ended Posted) (record { coins_stay = refl; arrivals_stay = refl })
-      (settled_line events lines (ended Posted) (record { recorded_stays = refl; mark_stays = refl; base_stays = refl }) sound.settled)
-      tt (λ _. tt) tt sound
+    (settled_line events lines (ended Posted) (record { recorded_stays = refl; mark_stays = refl; base_stays = refl }) sound.settled)
+    tt (λ _. tt) tt sound
 
 -- a held reading is put, which ends the job
 pub keeps_put : (addr : ℕ) (events : List Pair) (lines : List Line) (credits : Credits) → Held events lines credits →

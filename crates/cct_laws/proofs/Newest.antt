@@ -1,5 +1,5 @@
 -- The coins of the newest events, and what a credit buffer tells of them.
-use Rattle.std.proofs.Common.{◌≡◌, ℕ, ◌+◌, ◌-◌, ◌<◌, ◌≤◌, min, cond, eqb, true, false, Bool, List, [], ◌∷◌, ◌++◌, length, take, drop, reverse, refl, ap, sym, ◌∙◌, arith, take-append-drop, take-take, length-append, length-drop, length-take, append_assoc, take_at, replicate}
+use Rattle.std.proofs.Common.{◌≡◌, ℕ, ◌+◌, ◌-◌, ◌≤◌, min, cond, eqb, true, false, Bool, List, [], ◌∷◌, ◌++◌, length, take, drop, reverse, refl, ap, sym, ◌∙◌, arith, take-append-drop, take-take, length-append, length-drop, append_assoc, take_at, replicate}
 use Rattle.std.proofs.lemmas.List.{reverse-reverse, length-reverse, take-append-le}
 use Rattle.cct_model.specs.declared.coin.Pair.{Pair}
 use Rattle.cct_model.specs.declared.coin.Coin.{Coin}
@@ -42,11 +42,12 @@ buffer_newest new old n most =
 pub posted_newest : (new old : List Pair) (n : ℕ) → n ≤ length new → AreNewest (posted_of n (last_five (new ++ old))) (coins_among new)
 posted_newest new old n most =
     let newest = take (min n 5) new in
-    let rest = drop (min n 5) new in
-    (coins_among rest,
+    let rest = drop (min n 5) new in (
+      coins_among rest,
       ap coins_among (sym (take-append-drop (min n 5) new))
-      ∙ coins_among-append newest rest
-      ∙ ap (λ cs. cs ++ coins_among rest) (sym (reverse-reverse (coins_among newest)) ∙ ap (λ ps. reverse (reverse (coins_among ps))) (sym (buffer_newest new old n most))))
+          ∙ coins_among-append newest rest
+          ∙ ap (λ cs. cs ++ coins_among rest) (sym (reverse-reverse (coins_among newest)) ∙ ap (λ ps. reverse (reverse (coins_among ps))) (sym (buffer_newest new old n most))),
+    )
 
 -- no more of the coins that came since are left unposted than events were overrun
 pub posted_most : (new old : List Pair) (n : ℕ) → n ≡ length new → length (coins_among new) ≤ (n - 5) + length (posted_of n (last_five (new ++ old)))
@@ -54,7 +55,7 @@ posted_most new old n all =
     let newest = take (min n 5) new in
     let rest = drop (min n 5) new in
     let parts : length (coins_among new) ≡ length (coins_among newest) + length (coins_among rest) =
-        ap length (ap coins_among (sym (take-append-drop (min n 5) new)) ∙ coins_among-append newest rest) ∙ length-append (coins_among newest) (coins_among rest) in
+    ap length (ap coins_among (sym (take-append-drop (min n 5) new)) ∙ coins_among-append newest rest) ∙ length-append (coins_among newest) (coins_among rest) in
     let posted : length (posted_of n (last_five (new ++ old))) ≡ length (coins_among newest) =
-        length-reverse _ ∙ ap (λ ps. length (coins_among ps)) (buffer_newest new old n (omega arith)) in
+    length-reverse _ ∙ ap (λ ps. length (coins_among ps)) (buffer_newest new old n (omega arith)) in
     omega (arith, length-coins_among rest, length-drop (min n 5) new)

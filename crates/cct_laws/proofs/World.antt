@@ -1,21 +1,19 @@
 -- What holds of an acceptor's events beside the lines of its address, and how each line keeps it.
-use Rattle.std.proofs.Common.{◌≡◌, ℕ, ◌+◌, ◌-◌, ◌<◌, ◌≤◌, cond, eqb, true, false, Bool, List, [], ◌∷◌, ◌++◌, length, take, refl, ap, sym, ◌∙◌, subst, Option, Some, None, suc, arith, length-append, eqb-true, ne_eqb, append_assoc}
+use Rattle.std.proofs.Common.{◌≡◌, ℕ, ◌+◌, ◌-◌, ◌<◌, ◌≤◌, List, ◌++◌, length, ap, sym, ◌∙◌, subst, Some, arith, length-append}
 use Rattle.cct_model.specs.declared.coin.Pair.{Pair}
 use Rattle.cct_model.specs.declared.coin.Credits.{Credits}
 use Rattle.cct_model.specs.declared.request.Request.TheVariants.{ReadCredits}
 use Rattle.cct_model.specs.declared.request.Reply.TheVariants as reply
 use Rattle.cct_model.specs.declared.record.Record.{Record}
 use Rattle.cct_model.specs.declared.record.Record.TheVariants as record_of
-use Rattle.cct_model.specs.declared.command.Command.{Command}
-use Rattle.cct_model.specs.declared.entry.End.TheVariants.{Clean, Posted}
-use Rattle.cct_model.specs.Line.{Line, accepted, inhibited, exchange, put, taken, ended}
-use Rattle.cct_model.specs.Job.{Job, free, works, job, recorded, address_of}
+use Rattle.cct_model.specs.Line.{Line, exchange, put}
+use Rattle.cct_model.specs.Job.{recorded}
 use Rattle.cct_model.specs.Reading.{coins_among, posted_of, distance}
 use Rattle.cct_model.specs.Acceptor.{counter, last_five}
 use Rattle.cct_model.specs.Claims.{coins, arrivals, reading, mark, part, base, Near, AreNewest, OrderAt, CoverAt, InOrder, Covers, Pace, AllPast}
 use Rattle.cct_laws.specs.Law.{AnsweredAt}
-use Rattle.cct_laws.proofs.Counters.{distance_most, distance_near, counter_same, counter_zero}
-use Rattle.cct_laws.proofs.Newest.{coins_among-append, length-coins_among, take_front, posted_newest, posted_most}
+use Rattle.cct_laws.proofs.Counters.{distance_most, distance_near}
+use Rattle.cct_laws.proofs.Newest.{coins_among-append, take_front, posted_newest, posted_most}
 
 -- the lines tell the coins among the events, and how many events there are
 pub record Known (events : List Pair) (lines : List Line) : Type 0 where
@@ -97,11 +95,12 @@ record_put addr lines credits = record_of.Reading addr credits.counter (new_by l
 -- a put reading's posts are the newest coins of its part
 pub put_in_order : (addr : ℕ) (events : List Pair) (lines : List Line) → Settled events lines → Known events (reading lines) → OrderAt lines (put (record_put addr lines (credits_at events)))
 put_in_order addr events lines settled known =
-    let n = new_by lines (credits_at events) in
-    (mark_most events lines settled known,
+    let n = new_by lines (credits_at events) in (
+      mark_most events lines settled known,
       rw (part_new events lines settled known)
-        (subst (λ es. AreNewest (posted_of n (last_five es)) (coins_among settled.new)) (sym settled.split)
-          (posted_newest settled.new settled.old n (new_most events lines settled))))
+          (subst (λ es. AreNewest (posted_of n (last_five es)) (coins_among settled.new)) (sym settled.split)
+          (posted_newest settled.new settled.old n (new_most events lines settled))),
+    )
 
 -- under the pace it leaves no more coins unposted than it reports lost
 pub put_covers : (addr : ℕ) (events : List Pair) (lines : List Line) → Settled events lines → Known events (reading lines) → Near lines → CoverAt lines (put (record_put addr lines (credits_at events)))
@@ -109,6 +108,5 @@ put_covers addr events lines settled known near =
     let n = new_by lines (credits_at events) in
     let all = new_near events lines settled (new_few events lines settled known near) in
     rw (part_new events lines settled known)
-      (subst (λ es. length (coins_among settled.new) ≤ (n - 5) + length (posted_of n (last_five es))) (sym settled.split)
-        (posted_most settled.new settled.old n all))
-
+    (subst (λ es. length (coins_among settled.new) ≤ (n - 5) + length (posted_of n (last_five es))) (sym settled.split)
+    (posted_most settled.new settled.old n all))
