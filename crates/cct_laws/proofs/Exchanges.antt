@@ -1,0 +1,107 @@
+-- An exchange with the one device of a machine: what was asked is heard, and what was answered is got.
+use Rattle.std.proofs.Common.{◌≡◌, ℕ, ◌*◌, ◌≤◌, List, [], ◌∷◌, ◌++◌, length, flat_map, Some, refl, ap, ◌∙◌, arith, eq-eqb, append-nil, length-append, length-take}
+use Rattle.cct_model.specs.declared.wire.CheckKind.TheVariants.{Simple}
+use Rattle.cct_model.specs.declared.device.DeviceSetup.{DeviceSetup}
+use Rattle.cct_model.specs.declared.coin.Pair.{Pair}
+use Rattle.cct_model.specs.declared.request.Request.{Request}
+use Rattle.cct_model.specs.declared.request.Request.TheVariants.{ReadCredits}
+use Rattle.cct_model.specs.declared.request.Reply.{Reply}
+use Rattle.cct_model.specs.declared.request.Reply.TheVariants as reply
+use Rattle.cct_model.specs.declared.entry.Entry.{Entry}
+use Rattle.cct_model.specs.History.{Met}
+use Rattle.cct_model.specs.Message.{message, spelling}
+use Rattle.cct_model.specs.Request.{header_of, data_of, request_of, reply_data, reply_in, pair_bytes, credits_in}
+use Rattle.cct_model.specs.Acceptor.{reply_of, events, last_five, no_event}
+use Rattle.cct_model.specs.Exchange.{ask, asking, asked, asks_of, asker, replying, after_echo, got}
+use Rattle.cct_model.specs.Transcript.{met, answers, heard_after, got_by}
+use Rattle.cct_model.proofs.Messages.{simple_read_back}
+use Rattle.cct_laws.specs.Law.{machine_of}
+
+-- the host's own echo is taken off
+pub echo_off : (sent rest : List ℕ) → after_echo sent (sent ++ rest) ≡ Some rest
+unfolding after_echo
+echo_off [] rest = refl
+echo_off (byte ∷ sent) rest = rw (eq-eqb byte byte refl) (echo_off sent rest)
+
+-- a request whose header and data are read as itself
+pub record IsSpelled (q : Request) : Type 0 where
+  pub short : length (data_of q) ≤ 255
+  pub read_back : request_of (header_of q) (data_of q) ≡ Some q
+
+-- a reply whose data, in the form that a request wants, are read as itself
+pub record IsWanted (q : Request) (y : Reply) : Type 0 where
+  pub short : length (reply_data y) ≤ 255
+  pub read_back : reply_in q (reply_data y) ≡ Some y
+
+-- the host's piece is its message
+pub message_asked : (addr : ℕ) (q : Request) → IsSpelled q → message Simple (ask Simple addr q) ≡ Some (asking addr q)
+unfolding ask
+message_asked addr q spelled = simple_read_back addr 1 (header_of q) (data_of q) spelled.short
+
+pub asked_back : (addr : ℕ) (q : Request) → IsSpelled q → asked Simple (ask Simple addr q) ≡ Some q
+unfolding asked
+asked_back addr q spelled = rw (message_asked addr q spelled) spelled.read_back
+
+asker_back : (addr : ℕ) (q : Request) → IsSpelled q → asker Simple (ask Simple addr q) ≡ 1
+unfolding asker
+asker_back addr q spelled = rw (message_asked addr q spelled) refl
+
+-- the asked device hears what it is asked
+pub asks_back : (d : DeviceSetup) (q : Request) → d.kind ≡ Simple → IsSpelled q → asks_of d (ask Simple d.addr q) ≡ Some q
+unfolding asks_of
+asks_back d q simple spelled = rw (simple, message_asked d.addr q spelled, eq-eqb d.addr d.addr refl) spelled.read_back
+
+-- the one device of a machine gives its reply
+pub answers_spelled : (d : DeviceSetup) (past : List Entry) (q : Request) → d.kind ≡ Simple → IsSpelled q →
+    answers (machine_of d) past (ask Simple d.addr q) ≡ spelling Simple (replying 1 d.addr (reply_of (met d past) q))
+answers_spelled d past q simple spelled =
+    rw (asks_back d q simple spelled, simple, asker_back d.addr q spelled) (append-nil _)
+
+-- the reply of the asked address is got
+pub got_back : (addr : ℕ) (q : Request) (y : Reply) (sent : List ℕ) → IsWanted q y → got Simple addr q sent (sent ++ spelling Simple (replying 1 addr y)) ≡ Some y
+unfolding got
+got_back addr q y sent wanted =
+    rw (echo_off sent _, simple_read_back 1 addr 0 (reply_data y) wanted.short, eq-eqb addr addr refl) wanted.read_back
+
+got_by_back : (d : DeviceSetup) (q : Request) (y : Reply) → d.kind ≡ Simple → IsSpelled q → IsWanted q y →
+    got_by d (ask Simple d.addr q) (ask Simple d.addr q ++ spelling Simple (replying 1 d.addr y)) ≡ Some y
+unfolding got_by
+got_by_back d q y simple spelled wanted = rw (simple, asked_back d.addr q spelled) (got_back d.addr q y _ wanted)
+
+-- an exchange gets the device's reply
+pub exchanged : (d : DeviceSetup) (past : List Entry) (q : Request) → d.kind ≡ Simple → IsSpelled q → IsWanted q (reply_of (met d past) q) →
+    got_by d (ask Simple d.addr q) (heard_after (machine_of d) past (ask Simple d.addr q)) ≡ Some (reply_of (met d past) q)
+unfolding heard_after
+exchanged d past q simple spelled wanted =
+    ap (λ heard. got_by d (ask Simple d.addr q) (ask Simple d.addr q ++ heard)) (answers_spelled d past q simple spelled)
+    ∙ got_by_back d q _ simple spelled wanted
+
+-- two bytes for each event
+length-pair_bytes : (pairs : List Pair) → length (flat_map pair_bytes pairs) ≡ 2 * length pairs
+length-pair_bytes [] = refl
+length-pair_bytes (pair ∷ pairs) = omega (arith, length-pair_bytes pairs)
+
+credits_back : (n : ℕ) (pairs : List Pair) → length pairs ≡ 5 → credits_in (n ∷ flat_map pair_bytes pairs) ≡ Some (reply.Credits (record { counter = n; pairs = pairs }))
+credits_back n (a ∷ b ∷ c ∷ d ∷ e ∷ []) five = refl
+credits_back n [] five = absurd (omega arith)
+credits_back n (a ∷ []) five = absurd (omega arith)
+credits_back n (a ∷ b ∷ []) five = absurd (omega arith)
+credits_back n (a ∷ b ∷ c ∷ []) five = absurd (omega arith)
+credits_back n (a ∷ b ∷ c ∷ d ∷ []) five = absurd (omega arith)
+credits_back n (a ∷ b ∷ c ∷ d ∷ e ∷ f ∷ rest) five = absurd (omega arith)
+
+length-last_five : (events : List Pair) → length (last_five events) ≡ 5
+length-last_five events =
+    let blank : List Pair = no_event ∷ no_event ∷ no_event ∷ no_event ∷ no_event ∷ [] in
+    length-take 5 (events ++ blank) ∙ omega (arith, length-append events blank)
+
+pub credits_spelled : IsSpelled ReadCredits
+unfolding request_of
+credits_spelled = record { short = omega arith; read_back = refl }
+
+pub credits_wanted : (past : List Met) → IsWanted ReadCredits (reply_of past ReadCredits)
+unfolding reply_data reply_in
+credits_wanted past = record {
+  short = omega (arith, length-pair_bytes (last_five (events past)), length-last_five (events past));
+  read_back = credits_back _ _ (length-last_five (events past));
+}

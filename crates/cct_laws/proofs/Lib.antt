@@ -1,0 +1,12 @@
+pub mod Counters
+pub mod Newest
+pub mod Judged
+pub mod Exchanges
+pub mod Machine
+pub mod World
+pub mod Moves
+pub mod Rows
+pub mod Steps
+pub mod Whole
+pub mod Paces
+pub mod Scripts

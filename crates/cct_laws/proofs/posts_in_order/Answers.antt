@@ -1,0 +1,5 @@
+use Rattle.cct_laws.proofs.Whole.{legal_in_order}
+use Rattle.cct_laws.proofs.posts_in_order.Goals as goal
+
+pub returns : goal.returns
+returns c = legal_in_order
