@@ -4,3 +4,4 @@ pub mod Numbers
 pub mod Fields
 pub mod Texts
 pub mod Hearing
+pub mod Rows

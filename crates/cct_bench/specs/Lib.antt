@@ -2,5 +2,4 @@ pub mod Lines
 pub mod Grammar
 pub mod Text
 pub mod Acceptor
-pub mod Device
 pub mod Machine

@@ -9,7 +9,7 @@ ghost use Rattle.cct_model.specs.Job.{credits_reply};
 ghost use Rattle.cct_model.specs.Script.{the_address};
 ghost use Rattle.cct_frame.specs.Frame.{message_of};
 ghost use Rattle.cct_bench.specs.Acceptor.{ActsAs};
-ghost use Rattle.cct_bench.specs.Device.{the_acceptor};
+ghost use Rattle.cct_laws.specs.Law.{the_acceptor};
 
 use crate::acceptor::Acceptor;
 use arrayvec::ArrayVec;
