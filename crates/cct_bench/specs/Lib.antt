@@ -3,3 +3,5 @@ pub mod Grammar
 pub mod Text
 pub mod Acceptor
 pub mod Machine
+pub mod Status
+pub mod Run

@@ -8,6 +8,10 @@ mod exchange;
 mod grammar;
 mod judging;
 mod machine;
+mod outcome;
+mod play;
 mod reader;
 mod report;
 mod text;
+
+pub use outcome::Status;

@@ -1,5 +1,5 @@
 //! The lines of a script, taken from its source in whatever pieces it gives them.
-ghost use Rattle.std.specs.Prelude.{◌≡◌, ℕ, ◌+◌, ◌<◌, ◌≤◌, List, [], ◌∷◌, ◌++◌, ◌-◌, length, take, drop, position, slice_range, IfOk, OnErr, Ok, Err};
+ghost use Rattle.std.specs.Prelude.{◌≡◌, ℕ, ◌+◌, ◌<◌, ◌≤◌, List, [], ◌∷◌, ◌++◌, ◌-◌, length, take, drop, position, slice_range, IfOk, OnErr, None, Ok, Err};
 ghost use Rattle.std.specs.Io.KnownBytes.{Consumes, Keeps, IsAtEnd};
 ghost use Rattle.cct_edge.specs.Bytes.{TellsAsBefore};
 ghost use Rattle.cct_edge.specs.Faults.{HasCause};
@@ -92,6 +92,7 @@ impl Lines {
     pub fn seek<S: Source>(&mut self, source: &mut S) -> Result<Held, Failed>
         ensures fills { Fills self.old self.new (S.left source.old) (S.left source.new) }
         ensures finds { IfOk result (λ found. Finds found self.new (S.left source.new)) }
+        ensures partial { OnErr result (position is_line_feed self.new ≡ None) }
         ensures tells { TellsAsBefore (S.left source.old) (S.left source.new) }
         ensures cause { HasCause (S.faults source.old) (S.faults source.new) result }
     {

@@ -11,6 +11,7 @@ use std::marker::Model;
 const ROOM: usize = 3000;
 
 /// One line of text, in a buffer that is made once and serves every line.
+#[derive(Drop)]
 pub struct TextLine {
     bytes: [u8; ROOM],
     len: usize,

@@ -1,0 +1,13 @@
+-- The exit statuses.
+use Rattle.std.specs.Prelude.{ℕ}
+use Rattle.cct_bench.specs.declared.outcome.Status.{Status}
+use Rattle.cct_bench.specs.declared.outcome.Status.TheVariants.{Done, ScriptRefused, WordsRefused, ReadFault, WriteFault, OutOfMemory}
+
+-- The exit status of the program, by how it ended.
+abbrev pub code_of : Status → ℕ
+code_of Done = 0
+code_of ScriptRefused = 1
+code_of WordsRefused = 2
+code_of ReadFault = 3
+code_of WriteFault = 4
+code_of OutOfMemory = 8

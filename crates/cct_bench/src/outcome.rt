@@ -1,0 +1,36 @@
+//! How a run of the program ends.
+ghost use Rattle.std.specs.Prelude.{◌≡◌};
+ghost use Rattle.cct_bench.specs.Status.{code_of};
+
+/// How the program ended, with its exit status and the last line that it wrote.
+#[derive(Clone, Copy, Debug, PartialEq, Eq)]
+pub enum Status {
+    /// 0: the script was read to its end. No last line.
+    Done,
+    /// 1: a line of the script was refused: `refused LINE KIND`.
+    ScriptRefused,
+    /// 2: the words of the command line aren't in the grammar: `words`.
+    WordsRefused,
+    /// 3: reading the script failed: `readfault`.
+    ReadFault,
+    /// 4: writing the transcript failed. What was written is a front of it.
+    WriteFault,
+    /// 8: there was no memory for the run. Nothing was written.
+    OutOfMemory,
+}
+
+impl Status {
+    /// The exit status of the program.
+    pub fn code(self) -> u8
+        ensures { result ≡ code_of self }
+    {
+        match self {
+            Status::Done => 0,
+            Status::ScriptRefused => 1,
+            Status::WordsRefused => 2,
+            Status::ReadFault => 3,
+            Status::WriteFault => 4,
+            Status::OutOfMemory => 8,
+        }
+    }
+}
