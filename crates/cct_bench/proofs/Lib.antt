@@ -5,3 +5,6 @@ pub mod Fields
 pub mod Texts
 pub mod Hearing
 pub mod Rows
+pub mod Continuing
+pub mod Written
+pub mod Going

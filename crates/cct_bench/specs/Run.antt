@@ -1,5 +1,5 @@
 -- What a run of the bench leaves: what it took, played and wrote, by its status.
-use Rattle.std.specs.Prelude.{◌≡◌, ℕ, ◌+◌, ◌≤◌, ◌⊎◌, List, [], ◌∷◌, ◌++◌, length, map, position, Option, Some, None, IfSome, Result, Ok, Err, codes, String, string_bytes}
+use Rattle.std.specs.Prelude.{◌≡◌, ℕ, ◌+◌, ◌≤◌, ◌⊎◌, List, [], ◌∷◌, ◌++◌, length, map, position, Option, Some, None, IfSome, Result, Ok, Err, MatchResult, codes, String, string_bytes}
 use Rattle.std.specs.List.{slice_split}
 use Rattle.std.specs.Io.KnownBytes.{Appends, Consumes}
 use Rattle.cct_edge.specs.declared.fault.Failed.{Failed}
@@ -15,6 +15,9 @@ use Rattle.cct_model.specs.Text.{text}
 use Rattle.cct_laws.specs.Law.{the_acceptor, lines_in}
 use Rattle.cct_bench.specs.declared.outcome.Status.{Status}
 use Rattle.cct_bench.specs.declared.outcome.Status.TheVariants as status
+use Rattle.cct_edge.specs.Bytes.{AppendsFront}
+use Rattle.cct_bench.specs.declared.machine.Machine.{Machine}
+use Rattle.cct_bench.specs.Machine.{Plays}
 use Rattle.cct_bench.specs.declared.play.Ending.{Ending}
 use Rattle.cct_bench.specs.declared.play.Ending.TheVariants as ending
 
@@ -119,3 +122,8 @@ pub record Played (bytes : List ℕ) (how : Result Ending Failed) (left old new 
   pub steps_are : (script bytes).steps ≡ played ++ unplayed
   pub legal : Legal (script bytes).setup played transcript
   pub stops : Stops how bytes taken played unplayed transcript old new
+
+-- A step was played, and its entries were written, or a front of them where the sink failed.
+abbrev pub PlaysOn : Machine → Machine → Step → Result (Unit {0}) Failed → Option (List ℕ) → Option (List ℕ) → Type 0
+PlaysOn before after s result old new =
+    (report : List Entry) × Plays before after s report × MatchResult result (λ _. Appends old new (text report)) (λ _. AppendsFront old new (text report))

@@ -10,7 +10,7 @@ ghost use Rattle.cct_model.specs.Text.{text};
 ghost use Rattle.cct_bench.specs.Grammar.{stage_of, read_of};
 ghost use Rattle.cct_bench.specs.Lines.{Fills};
 ghost use Rattle.cct_bench.specs.Machine.{StandsFor, Plays};
-ghost use Rattle.cct_bench.specs.Run.{ReadsOn, IsCounted, Played, Ran};
+ghost use Rattle.cct_bench.specs.Run.{ReadsOn, IsCounted, PlaysOn, Played, Ran};
 
 use crate::entries::put_entry;
 use crate::grammar::{Expected, Reading, read_line, read_rest};
@@ -63,7 +63,8 @@ fn read_next<S: Source>(
             lines.advance(len + 1);
             Ok(reading)
         }
-        Held::Long | Held::Ended => Ok(Reading::Refuses(read_rest(number, lines.held()))),
+        Held::Long => Ok(Reading::Refuses(read_rest(number, lines.held()))),
+        Held::Ended => Ok(Reading::Refuses(read_rest(number, lines.held()))),
     }
 }
 
@@ -78,4 +79,68 @@ fn write_entries<K: Sink>(out: &mut K, line: &mut TextLine, entries: &[Entry]) -
         put_entry(out, line, entry)?;
     }
     Ok(())
+}
+
+impl Desk {
+    /// The buffers, with nothing in them, and a machine on which nothing has happened.
+    pub fn new() -> Self
+        ensures lines { result.lines ≡ [] }
+        ensures machine { StandsFor result.machine [] }
+    {
+        Desk {
+            lines: Lines::new(),
+            machine: Machine::new(),
+            report: Report::new(),
+            line: TextLine::new(),
+        }
+    }
+
+    /// Plays one step, and writes its entries.
+    fn play<K: Sink>(&mut self, step: &Step, out: &mut K) -> Result<(), Failed>
+        requires { IsInRange step.now }
+        ensures plays { PlaysOn self.old.machine self.new.machine step.now result (K.written out.old) (K.written out.new) }
+        ensures lines { self.new.lines ≡ self.old.lines }
+        ensures tells { TellsAsBefore (K.written out.old) (K.written out.new) }
+        ensures cause { HasCause (K.faults out.old) (K.faults out.new) result }
+    {
+        self.machine.step(step, &mut self.report);
+        write_entries(out, &mut self.line, self.report.as_slice())
+    }
+
+    /// Plays the steps of a script, each before the next line is read.
+    fn play_script<S: Source, K: Sink>(
+        &mut self,
+        script: &mut S,
+        out: &mut K,
+    ) -> Result<Ending, Failed>
+        requires lines { self.old.lines ≡ [] }
+        requires machine { StandsFor self.old.machine [] }
+        ensures played { IfSome (S.left script.old)
+            (λ bytes. Played bytes result (S.left script.new) (K.written out.old) (K.written out.new)) }
+        ensures unread { result ≡ Ok Ending.Unread → Rose (S.faults script.old) (S.faults script.new) }
+        ensures broke { IsErr result → Rose (K.faults out.old) (K.faults out.new) }
+        ensures source { TellsAsBefore (S.left script.old) (S.left script.new) }
+        ensures sink { TellsAsBefore (K.written out.old) (K.written out.new) }
+        ensures source_later { S.faults script.old ≤ S.faults script.new }
+        ensures sink_later { K.faults out.old ≤ K.faults out.new }
+    {
+        let mut number = 1;
+        let mut expected = Expected::Acceptor;
+        loop {
+            let reading = match read_next(&mut self.lines, number, expected, script) {
+                Ok(reading) => reading,
+                Err(_) => return Ok(Ending::Unread),
+            };
+            match reading {
+                Reading::Opens(next) => expected = next,
+                Reading::Plays(step, next) => match self.play(&step, out) {
+                    Ok(()) => expected = next,
+                    Err(failed) => return Err(failed),
+                },
+                Reading::Ends => return Ok(Ending::Done),
+                Reading::Refuses(kind) => return Ok(Ending::Refused { number, kind }),
+            }
+            number += 1;
+        }
+    }
 }
