@@ -1,5 +1,5 @@
 -- How a script goes on after the bytes that the reader of lines found.
-use Rattle.std.proofs.Common.{◌≡◌, ℕ, ◌+◌, ◌<◌, ◌≤◌, ◌&&◌, Bool, true, false, cond, ltb, List, [], ◌∷◌, ◌++◌, length, take, drop, Option, None, Some, refl, ap, sym, ◌∙◌, subst, arith}
+use Rattle.std.proofs.Common.{◌≡◌, ℕ, ◌+◌, ◌<◌, ◌≤◌, Bool, true, false, cond, ltb, List, [], ◌∷◌, ◌++◌, length, take, drop, Option, None, Some, refl, ap, sym, ◌∙◌, subst, arith}
 use Rattle.std.specs.Prelude.{IfSome}
 use Rattle.std.specs.List.{slice_split, position}
 use Rattle.std.specs.Io.KnownBytes.{IsAtEnd}
@@ -8,7 +8,7 @@ use Rattle.std.proofs.lemmas.Bool.Decides.{nat_tests}
 use Rattle.std.proofs.lemmas.List.{append-nil, length-append}
 use Rattle.cct_model.specs.declared.entry.LineKind.{LineKind}
 use Rattle.cct_model.specs.declared.entry.LineKind.TheVariants as kind
-use Rattle.cct_model.specs.Script.{is_line_feed, Stage, Read, opens, plays, ends, refuses, read_form, read_line, unfinished, most_lines, stage_after, goes_on, script_from, refused_script}
+use Rattle.cct_model.specs.Script.{is_line_feed, Stage, Read, opens, plays, ends, refuses, read_line, unfinished, most_lines, stage_after, goes_on, script_from, refused_script}
 use Rattle.cct_bench.specs.Run.{Gives, IsCounted}
 use Rattle.cct_bench.proofs.Splits.{Begins, split_at, split_none, split_some, split_front_none}
 
@@ -28,8 +28,8 @@ line_goes number stage held more len read found read_is =
     let rest = slice_split is_line_feed (drop (len + 1) held ++ more) in
     ap (script_from number stage) (split_at is_line_feed held more len 0 found)
     ∙ (
-      whole_line number stage (take len held) rest (split_some is_line_feed (drop (len + 1) held ++ more))
-      ∙ sym (ap (λ r. goes_on number r (script_from (number + 1) (stage_after stage r) rest)) read_is)
+    whole_line number stage (take len held) rest (split_some is_line_feed (drop (len + 1) held ++ more))
+    ∙ sym (ap (λ r. goes_on number r (script_from (number + 1) (stage_after stage r) rest)) read_is)
     )
 
 -- what holds of whatever follows holds of what follows
@@ -44,7 +44,7 @@ gives_line number stage held len (plays s next) left found read_is = λ more. li
 gives_line number stage held len ends left found read_is = λ more. line_goes number stage held more len ends found read_is
 gives_line number stage held len (refuses why) left found read_is =
     whatever (λ more. script_from number stage (slice_split is_line_feed (held ++ more)) ≡ refused_script number why) left
-      (λ more. line_goes number stage held more len (refuses why) found read_is)
+    (λ more. line_goes number stage held more len (refuses why) found read_is)
 
 -- a line that goes on is one of those that a script may have
 counted_below : (number : ℕ) (read : Read) → number ≤ 1048576 → IsCounted number read
@@ -83,15 +83,15 @@ long_goes number stage held more none full =
     let first = split_front_none is_line_feed held more none in
     ap (script_from number stage) first.2
     ∙ (
-      long_parts number stage (held ++ first.0) first.1 (ltb most_lines number) refl (omega (arith, length-append held first.0))
-      ∙ ap (refused_script number) (sym (unfinished_long number held (ltb most_lines number) refl (omega arith)))
+    long_parts number stage (held ++ first.0) first.1 (ltb most_lines number) refl (omega (arith, length-append held first.0))
+    ∙ ap (refused_script number) (sym (unfinished_long number held (ltb most_lines number) refl (omega arith)))
     )
 
 pub gives_long : (number : ℕ) (stage : Stage) (held rest : List ℕ) (why : LineKind) (left : Option (List ℕ)) → position is_line_feed held ≡ None → length held ≡ 1201 →
     why ≡ unfinished number held → Gives number stage held (refuses why) rest left
 gives_long number stage held rest why left none full why_is =
     whatever (λ more. script_from number stage (slice_split is_line_feed (held ++ more)) ≡ refused_script number why) left
-      (λ more. long_goes number stage held more none full ∙ ap (refused_script number) (sym why_is))
+    (λ more. long_goes number stage held more none full ∙ ap (refused_script number) (sym why_is))
 
 -- a script that ends here
 pub ended_goes : (number : ℕ) (stage : Stage) (held : List ℕ) → position is_line_feed held ≡ None →
@@ -104,6 +104,6 @@ gives_ended number stage held rest why None none end why_is = tt
 gives_ended number stage held rest why (Some more) none end why_is =
     ap (λ xs. script_from number stage (slice_split is_line_feed (held ++ xs))) end
     ∙ (
-      ap (λ xs. script_from number stage (slice_split is_line_feed xs)) (append-nil held)
-      ∙ (ended_goes number stage held none ∙ ap (refused_script number) (sym why_is))
+    ap (λ xs. script_from number stage (slice_split is_line_feed xs)) (append-nil held)
+    ∙ (ended_goes number stage held none ∙ ap (refused_script number) (sym why_is))
     )

@@ -1,5 +1,5 @@
 -- The fields of a line.
-use Rattle.std.proofs.Common.{◌≡◌, ℕ, List, ◌∷◌, None, refl, ap, ◌∙◌}
+use Rattle.std.proofs.Common.{◌≡◌, ℕ, List, ◌∷◌, None, ap}
 use Rattle.std.specs.List.{slice_split}
 use Rattle.cct_model.specs.Script.{is_space, step_in}
 use Rattle.cct_bench.proofs.Splits.{split_some}

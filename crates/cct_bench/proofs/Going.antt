@@ -1,28 +1,27 @@
 -- What a run keeps from line to line, and what it leaves where it stops.
-use Rattle.std.proofs.Common.{◌≡◌, ℕ, ◌+◌, ◌≤◌, List, [], ◌∷◌, ◌++◌, reverse, Option, None, Some, Result, Ok, Err, refl, ap, sym, ◌∙◌, subst, append_assoc, inl, arith}
-use Rattle.std.specs.Prelude.{IfSome, OnOk, OnErr, MatchResult}
+use Rattle.std.proofs.Common.{◌≡◌, ℕ, ◌+◌, ◌≤◌, List, [], ◌∷◌, ◌++◌, reverse, Option, None, Some, Ok, Err, refl, ap, sym, ◌∙◌, subst, append_assoc, arith}
+use Rattle.std.specs.Prelude.{IfSome}
 use Rattle.std.specs.List.{slice_split, position, AllByRecursion}
 use Rattle.std.specs.Io.KnownBytes.{Appends, Consumes}
 use Rattle.std.proofs.lemmas.List.{append-nil}
 use Rattle.std.proofs.lemmas.List.Concat.{flat_map-append}
 use Rattle.cct_edge.specs.declared.fault.Failed.{Failed}
-use Rattle.cct_edge.specs.Bytes.{AppendsFront, TellsAsBefore}
-use Rattle.cct_edge.proofs.Chains.{Consumes-nil, Consumes-trans, Appends-nil, Appends-trans, Appends-then_front}
+use Rattle.cct_edge.specs.Bytes.{TellsAsBefore}
+use Rattle.cct_edge.proofs.Chains.{Consumes-nil, Consumes-trans, Appends-nil, Appends-trans}
 use Rattle.cct_model.specs.declared.device.Setup.{Setup}
 use Rattle.cct_model.specs.declared.command.Step.{Step}
 use Rattle.cct_model.specs.declared.entry.Entry.{Entry}
 use Rattle.cct_model.specs.declared.entry.LineKind.{LineKind}
 use Rattle.cct_model.specs.Legal.{Entries, Legal, LegalFrom}
-use Rattle.cct_model.specs.Script.{is_line_feed, Stage, at_device, Read, opens, plays, ends, refuses, Script, script, script_from, one_acceptor, ended_script, refused_script, unfinished, IsInRange}
+use Rattle.cct_model.specs.Script.{is_line_feed, Stage, at_device, opens, plays, ends, refuses, Script, script, script_from, one_acceptor, ended_script, refused_script, unfinished, IsInRange}
 use Rattle.cct_model.specs.Text.{line_of, text}
 use Rattle.cct_model.specs.Transcript.{onto}
 use Rattle.cct_laws.proofs.Scripts.{setup_of_script, said}
 use Rattle.cct_bench.specs.declared.machine.Machine.{Machine}
-use Rattle.cct_bench.specs.declared.play.Ending.{Ending}
 use Rattle.cct_bench.specs.declared.play.Ending.TheVariants as ending
 use Rattle.cct_bench.specs.Lines.{Fills}
 use Rattle.cct_bench.specs.Machine.{StandsFor}
-use Rattle.cct_bench.specs.Run.{ReadsOn, PlaysOn, Played, BreaksOff}
+use Rattle.cct_bench.specs.Run.{ReadsOn, PlaysOn, Played}
 use Rattle.cct_bench.proofs.Continuing.{ended_goes}
 
 -- a script says these steps, and then what the rest says
@@ -60,11 +59,11 @@ also_goes : (taken came held more : List ℕ) (number : ℕ) (stage : Stage) (pl
     script_from number stage (slice_split is_line_feed ((held ++ came) ++ more)) ≡ next → AlsoSays (script ((taken ++ came) ++ more)) played next
 also_goes taken came held more number stage played next h e =
     subst (λ bytes. AlsoSays (script bytes) played next) (sym (append_assoc taken came more))
-      (
-        subst (AlsoSays (script (taken ++ (came ++ more))) played)
-          (ap (λ bytes. script_from number stage (slice_split is_line_feed bytes)) (sym (append_assoc held came more)) ∙ e)
-          h
-      )
+    (
+    subst (AlsoSays (script (taken ++ (came ++ more))) played)
+    (ap (λ bytes. script_from number stage (slice_split is_line_feed bytes)) (sym (append_assoc held came more)) ∙ e)
+    h
+    )
 
 pub going_opens : (left0 left left1 : Option (List ℕ)) (held rest : List ℕ) (number : ℕ) (stage next : Stage) (machine : Machine) (old now : Option (List ℕ)) →
     Going left0 left held number stage machine old now → ReadsOn number stage held (opens next) rest left left1 → Going left0 left1 rest (number + 1) next machine old now
@@ -138,7 +137,7 @@ played_done (Some bytes) left left1 held rest number stage machine old now g r =
     let taken = g.taken ++ r.0 in
     let t = told_by bytes left1 taken (Consumes-trans (Some bytes) left left1 g.taken r.0 g.consumed r.1) in
     let says : AlsoSays (script bytes) g.played ended_script =
-      subst (λ b. AlsoSays (script b) g.played ended_script) (sym t.2) (also_goes g.taken r.0 held t.0 number stage g.played ended_script (g.says (r.0 ++ t.0)) (r.2 t.0)) in
+    subst (λ b. AlsoSays (script b) g.played ended_script) (sym t.2) (also_goes g.taken r.0 held t.0 number stage g.played ended_script (g.says (r.0 ++ t.0)) (r.2 t.0)) in
     record {
       taken = taken;
       rest = t.0;
@@ -164,7 +163,7 @@ played_refused (Some bytes) left left1 held rest number why stage machine old no
     let t = told_by bytes left1 taken (Consumes-trans (Some bytes) left left1 g.taken r.0 g.consumed r.1) in
     let goes = of_some (λ more. script_from number stage (slice_split is_line_feed ((held ++ r.0) ++ more)) ≡ refused_script number why) left1 t.0 t.1 r.2 in
     let says : AlsoSays (script bytes) g.played (refused_script number why) =
-      subst (λ b. AlsoSays (script b) g.played (refused_script number why)) (sym t.2) (also_goes g.taken r.0 held t.0 number stage g.played (refused_script number why) (g.says (r.0 ++ t.0)) goes) in
+    subst (λ b. AlsoSays (script b) g.played (refused_script number why)) (sym t.2) (also_goes g.taken r.0 held t.0 number stage g.played (refused_script number why) (g.says (r.0 ++ t.0)) goes) in
     record {
       taken = taken;
       rest = t.0;
@@ -184,7 +183,7 @@ unread_steps : (taken came held : List ℕ) (number : ℕ) (stage : Stage) (play
     position is_line_feed (held ++ came) ≡ None → (script (taken ++ came)).steps ≡ played
 unread_steps taken came held number stage played h none =
     let e : script_from number stage (slice_split is_line_feed ((held ++ came) ++ [])) ≡ refused_script number (unfinished number (held ++ came)) =
-      ap (λ bytes. script_from number stage (slice_split is_line_feed bytes)) (append-nil (held ++ came)) ∙ ended_goes number stage (held ++ came) none in
+    ap (λ bytes. script_from number stage (slice_split is_line_feed bytes)) (append-nil (held ++ came)) ∙ ended_goes number stage (held ++ came) none in
     let says = also_goes taken came held [] number stage played (refused_script number (unfinished number (held ++ came))) h e in
     ap (λ bytes. (script bytes).steps) (sym (append-nil (taken ++ came))) ∙ (says.steps ∙ append-nil played)
 
@@ -197,7 +196,7 @@ played_unread (Some bytes) left left1 held rest number stage machine old now g f
     let t = told_by bytes left1 taken (Consumes-trans (Some bytes) left left1 g.taken f.0 g.consumed f.2) in
     let after = script_from number stage (slice_split is_line_feed ((held ++ f.0) ++ t.0)) in
     let says : AlsoSays (script bytes) g.played after =
-      subst (λ b. AlsoSays (script b) g.played after) (sym t.2) (also_goes g.taken f.0 held t.0 number stage g.played after (g.says (f.0 ++ t.0)) refl) in
+    subst (λ b. AlsoSays (script b) g.played after) (sym t.2) (also_goes g.taken f.0 held t.0 number stage g.played after (g.says (f.0 ++ t.0)) refl) in
     record {
       taken = taken;
       rest = t.0;
@@ -209,7 +208,7 @@ played_unread (Some bytes) left left1 held rest number stage machine old now g f
       steps_are = says.steps;
       legal = legal_of bytes g.played g.transcript g.legal;
       stops =
-        ((unread_steps g.taken f.0 held number stage g.played (g.says (f.0 ++ [])) (subst (λ b. position is_line_feed b ≡ None) f.1 none), refl), g.wrote);
+          ((unread_steps g.taken f.0 held number stage g.played (g.says (f.0 ++ [])) (subst (λ b. position is_line_feed b ≡ None) f.1 none), refl), g.wrote);
     }
 
 breaks_text : (transcript report : List Entry) (front rest : List ℕ) → text report ≡ front ++ rest → text ((transcript ++ report) ++ []) ≡ (text transcript ++ front) ++ rest
@@ -226,8 +225,8 @@ played_broke (Some bytes) left left1 held rest number stage next before after s 
     let t = told_by bytes left1 taken (Consumes-trans (Some bytes) left left1 g.taken r.0 g.consumed r.1) in
     let on = script_from (number + 1) next (slice_split is_line_feed (rest ++ t.0)) in
     let says : AlsoSays (script bytes) (g.played ++ s ∷ []) on =
-      subst (λ b. AlsoSays (script b) (g.played ++ s ∷ []) on) (sym t.2)
-        (also_plays _ on g.played s (also_goes g.taken r.0 held t.0 number stage g.played _ (g.says (r.0 ++ t.0)) (r.2 t.0))) in
+    subst (λ b. AlsoSays (script b) (g.played ++ s ∷ []) on) (sym t.2)
+    (also_plays _ on g.played s (also_goes g.taken r.0 held t.0 number stage g.played _ (g.says (r.0 ++ t.0)) (r.2 t.0))) in
     let goes = p.1 (onto [] g.transcript) g.stands in
     record {
       taken = taken;

@@ -3,12 +3,10 @@ use Rattle.std.proofs.Common.{◌≡◌, ℕ, Bool, true, false, ◌&&◌, cond,
 use Rattle.std.specs.Prelude.{option_and_then, nat_eq}
 use Rattle.std.specs.List.{starts_with}
 use Rattle.cct_model.specs.declared.wire.CheckKind.{CheckKind}
-use Rattle.cct_model.specs.declared.device.DeviceSetup.{DeviceSetup}
 use Rattle.cct_model.specs.declared.request.Request.{Request}
-use Rattle.cct_model.specs.declared.request.Reply.{Reply}
 use Rattle.cct_model.specs.History.{Met, heard}
-use Rattle.cct_model.specs.Message.{Message, message}
-use Rattle.cct_model.specs.Exchange.{after_echo, got, reply_from, answer_to}
+use Rattle.cct_model.specs.Message.{message}
+use Rattle.cct_model.specs.Exchange.{after_echo, got, reply_from}
 use Rattle.cct_bench.specs.declared.acceptor.Acceptor.{Acceptor}
 use Rattle.cct_bench.specs.Acceptor.{ActsAs}
 

@@ -8,3 +8,5 @@ pub mod Rows
 pub mod Continuing
 pub mod Written
 pub mod Going
+pub mod Closing
+pub mod Words

@@ -5,23 +5,20 @@ use Rattle.std.proofs.lemmas.List.{append-nil}
 use Rattle.cct_model.specs.declared.wire.CheckKind.TheVariants.{Simple}
 use Rattle.cct_model.specs.declared.coin.Credits.{Credits}
 use Rattle.cct_model.specs.declared.request.Request.TheVariants.{ReadCredits}
-use Rattle.cct_model.specs.declared.request.Reply.{Reply}
 use Rattle.cct_model.specs.declared.request.Reply.TheVariants as reply
 use Rattle.cct_model.specs.declared.record.Record.{Record}
 use Rattle.cct_model.specs.declared.record.Judged.{Judged}
 use Rattle.cct_model.specs.declared.record.Judged.TheVariants.{Nothing, Reading, Broken}
 use Rattle.cct_model.specs.declared.command.Command.{Command}
 use Rattle.cct_model.specs.declared.command.Command.TheVariants.{Round}
-use Rattle.cct_model.specs.declared.entry.End.{End}
 use Rattle.cct_model.specs.declared.entry.End.TheVariants.{Clean}
 use Rattle.cct_model.specs.declared.entry.Entry.{Entry}
 use Rattle.cct_model.specs.declared.entry.Entry.TheVariants as entry
 use Rattle.cct_model.specs.Reading.{judge}
-use Rattle.cct_model.specs.Request.{reply_in}
 use Rattle.cct_model.specs.Exchange.{ask, asked, asks_of, got, answer}
 use Rattle.cct_model.specs.Acceptor.{credits_of}
 use Rattle.cct_model.specs.History.{heard}
-use Rattle.cct_model.specs.Line.{Line, exchange, put, ended}
+use Rattle.cct_model.specs.Line.{Line, exchange, put}
 use Rattle.cct_model.specs.Job as model
 use Rattle.cct_model.specs.Transcript.{met, lines_of, heard_after, got_by, owner, at}
 use Rattle.cct_model.specs.Legal.{NextEntries, RowEntries, with_end}
@@ -64,8 +61,8 @@ put_entries past e model.free h = absurd h
 put_entries past e (model.works command since) h =
     let recorded = model.recorded (lines_of the_acceptor past) in
     subst (λ row. RowEntries one_acceptor the_acceptor past command since row (entry.Ended the_address (model.end_of_put e) ∷ entry.Put e ∷ []))
-      (sym (row_of_put command (model.done since) (model.judged_in command since recorded) h.0 h.1 ∙ h.2))
-      refl
+    (sym (row_of_put command (model.done since) (model.judged_in command since recorded) h.0 h.1 ∙ h.2))
+    refl
 
 owner_of_put : (e : Record) (j : model.Job) (recorded : ℕ) → IsJob (Some (Put e)) j recorded → owner e ≡ the_address
 owner_of_put e model.free recorded h = absurd h
@@ -91,12 +88,11 @@ pub put_goes : (acceptor : Acceptor) (e : Record) (recorded new : ℕ) (past rep
     NextEntries one_acceptor the_acceptor past (model.job (lines_of the_acceptor past)) (reverse report) × Stands acceptor None new (reverse report ++ past)
 put_goes acceptor e recorded new past report h n r =
     subst
-      (λ entries. NextEntries one_acceptor the_acceptor past (model.job (lines_of the_acceptor past)) (reverse entries) × Stands acceptor None new (reverse entries ++ past))
-      (sym r)
-      (
-        put_entries past e (model.job (lines_of the_acceptor past)) h.works,
-        subst (λ count. Stands acceptor None count (entry.Ended the_address (model.end_of_put e) ∷ entry.Put e ∷ past)) (sym n) (put_leaves acceptor e recorded past h),
-      )
+    (λ entries. NextEntries one_acceptor the_acceptor past (model.job (lines_of the_acceptor past)) (reverse entries) × Stands acceptor None new (reverse entries ++ past))
+    (sym r) (
+      put_entries past e (model.job (lines_of the_acceptor past)) h.works,
+      subst (λ count. Stands acceptor None count (entry.Ended the_address (model.end_of_put e) ∷ entry.Put e ∷ past)) (sym n) (put_leaves acceptor e recorded past h),
+    )
 
 -- the line of an exchange that read credits
 abbrev pub reads : Credits → Line
@@ -147,10 +143,10 @@ ask_entries past report line credits judged job model.free l m h a = absurd a
 ask_entries past report line credits judged job (model.works command since) l m h a =
     let recorded = model.recorded (lines_of the_acceptor past) in
     let end_is : model.end_of command (exchange (asked Simple request) (got_by the_acceptor request (heard_of past))) since recorded ≡ model.end_of_reading judged =
-      ap (λ k. model.end_of command k since recorded) l ∙ ap model.end_of_reading (judged_in_is command recorded credits judged a.0 m) in
+    ap (λ k. model.end_of command k since recorded) l ∙ ap model.end_of_reading (judged_in_is command recorded credits judged a.0 m) in
     subst (λ row. RowEntries one_acceptor the_acceptor past command since row (reverse report))
-      (sym (row_of_ask command (model.done since) (model.judged_in command since recorded) a.0 a.1))
-      (judged_news (wire_of past) judged report job h ∙ sym (ap (with_end the_address (wire_of past)) end_is))
+    (sym (row_of_ask command (model.done since) (model.judged_in command since recorded) a.0 a.1))
+    (judged_news (wire_of past) judged report job h ∙ sym (ap (with_end the_address (wire_of past)) end_is))
 
 -- the job that has a record to put
 job_to_put : (line : Line) (credits : Credits) (recorded : ℕ) (judged : Judged) (e : Record) (j : model.Job) → line ≡ reads credits →
@@ -159,7 +155,7 @@ job_to_put : (line : Line) (credits : Credits) (recorded : ℕ) (judged : Judged
 job_to_put line credits recorded judged e model.free l m p a = absurd a
 job_to_put line credits recorded judged e (model.works command since) l m p a =
     subst (λ k. IsJob (Some (Put e)) (model.works command (k ∷ since)) recorded) (sym l)
-      (a.0, ap suc a.1, ap model.put_row (judged_in_is command recorded credits judged a.0 m) ∙ p)
+    (a.0, ap suc a.1, ap model.put_row (judged_in_is command recorded credits judged a.0 m) ∙ p)
 
 -- what an exchange leaves
 ask_leaves : (old acceptor : Acceptor) (recorded : ℕ) (past report : List Entry) (credits : Credits) (judged : Judged) (job : Option Job) →
@@ -170,17 +166,17 @@ ask_leaves : (old acceptor : Acceptor) (recorded : ℕ) (past report : List Entr
 ask_leaves old acceptor recorded past report credits Nothing job s acts l m h =
     let clean : Stands acceptor None recorded (entry.Ended the_address Clean ∷ wire_of past ∷ past) = record { acts = acts; works = tt; counts = s.counts } in
     subst (λ entries. Stands acceptor job recorded (reverse entries ++ past)) (sym h.0)
-      (subst (λ k. Stands acceptor k recorded (entry.Ended the_address Clean ∷ wire_of past ∷ past)) (sym h.1) clean)
+    (subst (λ k. Stands acceptor k recorded (entry.Ended the_address Clean ∷ wire_of past ∷ past)) (sym h.1) clean)
 ask_leaves old acceptor recorded past report credits (Reading e) job s acts l m h =
     let held : Stands acceptor (Some (Put e)) recorded (wire_of past ∷ past) =
-      record { acts = acts; works = job_to_put _ credits _ (Reading e) e (model.job (lines_of the_acceptor past)) l m refl s.works; counts = s.counts } in
+    record { acts = acts; works = job_to_put _ credits _ (Reading e) e (model.job (lines_of the_acceptor past)) l m refl s.works; counts = s.counts } in
     subst (λ entries. Stands acceptor job recorded (reverse entries ++ past)) (sym h.0)
-      (subst (λ k. Stands acceptor k recorded (wire_of past ∷ past)) (sym h.1) held)
+    (subst (λ k. Stands acceptor k recorded (wire_of past ∷ past)) (sym h.1) held)
 ask_leaves old acceptor recorded past report credits (Broken e) job s acts l m h =
     let held : Stands acceptor (Some (Put e)) recorded (wire_of past ∷ past) =
-      record { acts = acts; works = job_to_put _ credits _ (Broken e) e (model.job (lines_of the_acceptor past)) l m refl s.works; counts = s.counts } in
+    record { acts = acts; works = job_to_put _ credits _ (Broken e) e (model.job (lines_of the_acceptor past)) l m refl s.works; counts = s.counts } in
     subst (λ entries. Stands acceptor job recorded (reverse entries ++ past)) (sym h.0)
-      (subst (λ k. Stands acceptor k recorded (wire_of past ∷ past)) (sym h.1) held)
+    (subst (λ k. Stands acceptor k recorded (wire_of past ∷ past)) (sym h.1) held)
 
 -- a round asks for the credits
 pub ask_goes : (old acceptor : Acceptor) (recorded : ℕ) (past report : List Entry) (credits : Credits) (job : Option Job) →
@@ -191,8 +187,7 @@ ask_goes old acceptor recorded past report credits job s acts k h =
     let lines = lines_of the_acceptor past in
     let l : exchange (asked Simple request) (got_by the_acceptor request (heard_of past)) ≡ reads credits = line_of_wire past ∙ ap reads (sym k) in
     let judged = model.judged_by the_address (model.recorded lines) (Some credits) in
-    let j : JudgedAs judged (wire_of past ∷ []) report job = subst (λ n. Judges n credits (wire_of past ∷ []) report job) s.counts h in
-    (
+    let j : JudgedAs judged (wire_of past ∷ []) report job = subst (λ n. Judges n credits (wire_of past ∷ []) report job) s.counts h in (
       ask_entries past report (reads credits) credits judged job (model.job lines) l refl j s.works,
       ask_leaves old acceptor recorded past report credits judged job s acts l refl j,
     )
@@ -203,8 +198,8 @@ pub read_credits : (past : List Entry) (sent s piece p : List ℕ) (credits : Op
 read_credits past sent s piece p credits was_sent was_heard s_is p_is e =
     e
     ∙ (
-      ap₂ (λ x y. model.credits_reply (got Simple the_address ReadCredits x y)) (s_is ∙ was_sent) (p_is ∙ (was_heard ∙ ap (heard_after one_acceptor past) was_sent))
-      ∙ ap model.credits_reply (got_credits past)
+    ap₂ (λ x y. model.credits_reply (got Simple the_address ReadCredits x y)) (s_is ∙ was_sent) (p_is ∙ (was_heard ∙ ap (heard_after one_acceptor past) was_sent))
+    ∙ ap model.credits_reply (got_credits past)
     )
 
 pub some_is : (x y : Credits) (credits : Option Credits) → credits ≡ Some x → credits ≡ Some y → x ≡ y
@@ -226,9 +221,9 @@ pub asked_goes : (old acceptor new : Acceptor) (recorded middle last : ℕ) (pas
     NextEntries one_acceptor the_acceptor past (model.job (lines_of the_acceptor past)) (reverse report) × Stands new job last (reverse report ++ past)
 asked_goes old acceptor new recorded middle last past wires report sent credits job s was_sent acts n m l w k h =
     let acts_now : ActsAs new (heard (asks_of the_acceptor request) ∷ met the_acceptor past) =
-      subst (λ a. ActsAs a (heard (asks_of the_acceptor request) ∷ met the_acceptor past)) (sym n)
-        (subst (λ piece. ActsAs acceptor (heard (asks_of the_acceptor piece) ∷ met the_acceptor past)) was_sent acts) in
+    subst (λ a. ActsAs a (heard (asks_of the_acceptor request) ∷ met the_acceptor past)) (sym n)
+    (subst (λ piece. ActsAs acceptor (heard (asks_of the_acceptor piece) ∷ met the_acceptor past)) was_sent acts) in
     let judged : Judges recorded credits (wire_of past ∷ []) report job =
-      subst (λ count. Judges count credits (wire_of past ∷ []) report job) m (subst (λ before. Judges middle credits before report job) w h) in
+    subst (λ count. Judges count credits (wire_of past ∷ []) report job) m (subst (λ before. Judges middle credits before report job) w h) in
     let goes = ask_goes old new recorded past report credits job s acts_now k judged in
     (goes.0, subst (λ count. Stands new job count (reverse report ++ past)) (sym (l ∙ m)) goes.1)

@@ -1,6 +1,6 @@
 -- What is written of a transcript, entry by entry.
-use Rattle.std.proofs.Common.{◌≡◌, ℕ, ◌+◌, ◌<◌, List, [], ◌∷◌, ◌++◌, length, get_or, take, drop, Option, Result, Ok, Err, refl, ap, sym, ◌∙◌, subst, append_assoc}
-use Rattle.std.specs.Prelude.{OnOk, OnErr, MatchResult, flat_map}
+use Rattle.std.proofs.Common.{◌≡◌, ℕ, ◌+◌, ◌<◌, List, ◌∷◌, ◌++◌, length, get_or, take, drop, Option, Result, Ok, Err, ap, sym, ◌∙◌, subst, append_assoc}
+use Rattle.std.specs.Prelude.{OnOk, OnErr, MatchResult}
 use Rattle.std.specs.Io.KnownBytes.{Appends}
 use Rattle.std.proofs.lemmas.List.{take-append-drop, drop_more}
 use Rattle.std.proofs.lemmas.List.Concat.{flat_map-append}
@@ -22,11 +22,11 @@ text_cut : (entries : List Entry) (i : ℕ) (e : Entry) → i < length entries �
 text_cut entries i e inside at =
     ap text (sym (take-append-drop i entries) ∙ ap (λ ys. take i entries ++ ys) (drop_more entries i e inside))
     ∙ (
-      flat_map-append line_of (take i entries) (get_or entries i e ∷ drop (i + 1) entries)
-      ∙ (
-        ap (λ x. text (take i entries) ++ (line_of x ++ text (drop (i + 1) entries))) (sym at)
-        ∙ sym (append_assoc (text (take i entries)) (line_of e) (text (drop (i + 1) entries)))
-      )
+    flat_map-append line_of (take i entries) (get_or entries i e ∷ drop (i + 1) entries)
+    ∙ (
+    ap (λ x. text (take i entries) ++ (line_of x ++ text (drop (i + 1) entries))) (sym at)
+    ∙ sym (append_assoc (text (take i entries)) (line_of e) (text (drop (i + 1) entries)))
+    )
     )
 
 -- the entries before were written, and then a front of this one
@@ -34,7 +34,7 @@ pub entries_front : (old middle new : Option (List ℕ)) (entries : List Entry) 
     Appends old middle (text (take i entries)) → AppendsFront middle new (line_of e) → AppendsFront old new (text entries)
 entries_front old middle new entries i e inside at before here =
     subst (AppendsFront old new) (sym (text_cut entries i e inside at))
-      (front_more old new (text (take i entries) ++ line_of e) (text (drop (i + 1) entries)) (Appends-then_front old middle new (text (take i entries)) (line_of e) before here))
+    (front_more old new (text (take i entries) ++ line_of e) (text (drop (i + 1) entries)) (Appends-then_front old middle new (text (take i entries)) (line_of e) before here))
 
 pub match_both : {T E : Type 0} (r : Result T E) (P Q : Type 0) → OnOk r P → OnErr r Q → MatchResult r (λ _. P) (λ _. Q)
 match_both (Ok x) P Q p q = p

@@ -1,5 +1,5 @@
 -- What a run of the bench leaves: what it took, played and wrote, by its status.
-use Rattle.std.specs.Prelude.{◌≡◌, ℕ, ◌+◌, ◌≤◌, ◌⊎◌, List, [], ◌∷◌, ◌++◌, length, map, position, Option, Some, None, IfSome, Result, Ok, Err, MatchResult, codes, String, string_bytes}
+use Rattle.std.specs.Prelude.{◌≡◌, ℕ, ◌+◌, ◌≤◌, ◌⊎◌, List, [], ◌∷◌, ◌++◌, length, map, Option, Some, None, IfSome, Result, Ok, Err, MatchResult, codes, String, string_bytes}
 use Rattle.std.specs.List.{slice_split}
 use Rattle.std.specs.Io.KnownBytes.{Appends, Consumes}
 use Rattle.cct_edge.specs.declared.fault.Failed.{Failed}
@@ -10,7 +10,7 @@ use Rattle.cct_model.specs.declared.entry.Entry.{Entry}
 use Rattle.cct_model.specs.declared.entry.Entry.TheVariants as entry
 use Rattle.cct_model.specs.Claims.{InOrder, Covers}
 use Rattle.cct_model.specs.Legal.{Legal}
-use Rattle.cct_model.specs.Script.{is_line_feed, Stage, Read, opens, plays, ends, refuses, stage_after, goes_on, script_from, refused_script, Refusal, Script, script}
+use Rattle.cct_model.specs.Script.{is_line_feed, Stage, Read, opens, plays, ends, refuses, stage_after, goes_on, script_from, refused_script, Refusal, script}
 use Rattle.cct_model.specs.Text.{text}
 use Rattle.cct_laws.specs.Law.{the_acceptor, lines_in}
 use Rattle.cct_bench.specs.declared.outcome.Status.{Status}
@@ -80,7 +80,7 @@ abbrev pub Gives : ℕ → Stage → List ℕ → Read → List ℕ → Option (
 Gives number stage held (refuses why) rest left = IfSome left (λ more. script_from number stage (slice_split is_line_feed (held ++ more)) ≡ refused_script number why)
 Gives number stage held read rest left =
     (more : List ℕ) → script_from number stage (slice_split is_line_feed (held ++ more))
-      ≡ goes_on number read (script_from (number + 1) (stage_after stage read) (slice_split is_line_feed (rest ++ more)))
+    ≡ goes_on number read (script_from (number + 1) (stage_after stage read) (slice_split is_line_feed (rest ++ more)))
 
 -- The next line of a script was read: more bytes came behind those held, and what it is goes on with the script.
 abbrev pub ReadsOn : ℕ → Stage → List ℕ → Read → List ℕ → Option (List ℕ) → Option (List ℕ) → Type 0
@@ -127,3 +127,12 @@ pub record Played (bytes : List ℕ) (how : Result Ending Failed) (left old new 
 abbrev pub PlaysOn : Machine → Machine → Step → Result (Unit {0}) Failed → Option (List ℕ) → Option (List ℕ) → Type 0
 PlaysOn before after s result old new =
     (report : List Entry) × Plays before after s report × MatchResult result (λ _. Appends old new (text report)) (λ _. AppendsFront old new (text report))
+
+-- A last line was written, and the run ends with its status; or, where the sink failed, a front of the line.
+abbrev pub ClosedBy : Status → Status → List ℕ → Option (List ℕ) → Option (List ℕ) → Type 0
+ClosedBy result wanted line old new = ((result ≡ wanted) × Appends old new line) ⊎ ((result ≡ status.WriteFault) × AppendsFront old new line)
+
+-- With no fault a run is done, or a line of the script is refused, exactly as the script says; or there was no memory.
+abbrev pub Completes : Option Refusal → Status → Type 0
+Completes None result = (result ≡ status.Done) ⊎ (result ≡ status.OutOfMemory)
+Completes (Some line) result = (result ≡ status.ScriptRefused) ⊎ (result ≡ status.OutOfMemory)

@@ -81,7 +81,11 @@ impl Acceptor {
         ensures counter { self.new.counter ≡ (if self.old.counter == 255 then 1 else self.old.counter + 1) }
         ensures pairs { self.new.pairs ≡ event ∷ take 4 self.old.pairs }
     {
-        self.counter = if self.counter == u8::MAX { 1 } else { self.counter + 1 };
+        self.counter = if self.counter == u8::MAX {
+            1
+        } else {
+            self.counter + 1
+        };
         let [first, second, third, fourth, _] = self.pairs;
         self.pairs = [event, first, second, third, fourth];
     }

@@ -20,11 +20,17 @@ const MOST_COINS: u8 = 200;
 const ADDRESS: u8 = 2;
 
 const ACCEPTOR_LINE: &[u8] = b"acceptor 2 simple 1 0";
+
 const BEGIN_LINE: &[u8] = b"begin";
+
 const ADDRESS_FIELD: &[u8] = b"2";
+
 const COIN: &[u8] = b"coin";
+
 const ROUND: &[u8] = b"round";
+
 const NEXT: &[u8] = b"next";
+
 const END: &[u8] = b"end";
 
 /// Which line a script wants next.

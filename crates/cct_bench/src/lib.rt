@@ -1,6 +1,19 @@
 //! The bench: plays a script over the machine, and writes the transcript.
 #![tactic(auto)]
 
+ghost use Rattle.std.specs.Prelude.{◌≡◌, ◌↔◌, [], ◌∷◌, IsTrue, IfSome};
+ghost use Rattle.cct_edge.specs.Faults.{Rose};
+ghost use Rattle.cct_model.specs.declared.entry.Entry.TheVariants.{Words};
+ghost use Rattle.cct_model.specs.Script.{script as script_in};
+ghost use Rattle.cct_model.specs.Text.{line_of};
+ghost use Rattle.cct_bench.specs.Run.{IsRun, Ran, ClosedBy, Completes};
+
+use cct_edge::{Sink, Source};
+use cct_model::Entry;
+use play::{Desk, close};
+use std::alloc::Global;
+use text::TextLine;
+
 mod acceptor;
 mod bytes;
 mod entries;
@@ -15,3 +28,53 @@ mod report;
 mod text;
 
 pub use outcome::Status;
+
+/// Runs the program: by the words of the command line, without its name, plays a script and writes the transcript
+/// (`docs/SCRIPT.md`, `docs/TRANSCRIPT.md`). The words are `run`; any other list is refused.
+///
+/// The script is taken from its source a line at a time, and each step's entries are written before the next line is
+/// read. All buffers are of fixed size, and are taken at once before the first byte of the script.
+pub fn bench<S: Source, K: Sink>(
+    alloc: Global,
+    words: &[String],
+    script: &mut S,
+    out: &mut K,
+) -> Status
+    // With the word `run`: what was taken, played and written, and that its posts are in order and cover the coins.
+    ensures ran { IsRun words.now → IfSome (S.left script.old)
+        (λ bytes. Ran bytes result (S.left script.new) (K.written out.old) (K.written out.new)) }
+
+    // Other words are refused, and no byte of the script is taken.
+    ensures words { (IsRun words.now → ⊥) →
+        ClosedBy result Status.WordsRefused (line_of Words) (K.written out.old) (K.written out.new) × (script.new ≡ script.old) }
+
+    // Each status has its cause.
+    ensures read_cause { result ≡ Status.ReadFault → Rose (S.faults script.old) (S.faults script.new) }
+    ensures write_cause { result ≡ Status.WriteFault → Rose (K.faults out.old) (K.faults out.new) }
+    ensures words_cause { result ≡ Status.WordsRefused → IsRun words.now → ⊥ }
+    ensures memory_cause { result ≡ Status.OutOfMemory → (script.new ≡ script.old) × (out.new ≡ out.old) }
+
+    // With no fault the script alone decides, but for want of memory.
+    ensures complete { IsRun words.now → IfSome (S.left script.old) (λ bytes.
+        (Rose (S.faults script.old) (S.faults script.new) → ⊥) → (Rose (K.faults out.old) (K.faults out.new) → ⊥)
+        → Completes (script_in bytes).refused result) }
+{
+    if !is_run(words) {
+        let mut line = TextLine::new();
+        return close(out, &mut line, &Entry::Words, Status::WordsRefused);
+    }
+    match Box::new(alloc, Desk::new()) {
+        Ok(mut desk) => desk.run(script, out),
+        Err(_) => Status::OutOfMemory,
+    }
+}
+
+/// Whether the words are the one command that there is.
+fn is_run(words: &[String]) -> bool
+    ensures { IsTrue result ↔ IsRun words.now }
+{
+    match words {
+        [word] => word.as_str() == "run",
+        _ => false,
+    }
+}

@@ -1,16 +1,16 @@
 //! A run: the script is read a line at a time, and each step is played and its entries are written before the next line
 //! is read.
-ghost use Rattle.std.specs.Prelude.{◌≡◌, ℕ, ◌+◌, ◌≤◌, List, [], ◌++◌, length, None, position, IfSome, IfOk, OnOk, OnErr, IsErr, IsErrOf, Ok};
+ghost use Rattle.std.specs.Prelude.{◌≡◌, ◌≢◌, ◌⊎◌, ℕ, ◌+◌, ◌≤◌, List, [], ◌++◌, length, None, position, IfSome, IfOk, OnOk, OnErr, IsErr, IsErrOf, Ok};
 ghost use Rattle.std.specs.Io.KnownBytes.{Appends};
 ghost use Rattle.cct_edge.specs.Bytes.{AppendsFront, TellsAsBefore};
 ghost use Rattle.cct_edge.specs.Faults.{HasCause, Rose};
 ghost use Rattle.cct_model.specs.declared.entry.Entry.{Entry};
 ghost use Rattle.cct_model.specs.Script.{is_line_feed, IsInRange};
-ghost use Rattle.cct_model.specs.Text.{text};
+ghost use Rattle.cct_model.specs.Text.{line_of, text};
 ghost use Rattle.cct_bench.specs.Grammar.{stage_of, read_of};
 ghost use Rattle.cct_bench.specs.Lines.{Fills};
 ghost use Rattle.cct_bench.specs.Machine.{StandsFor, Plays};
-ghost use Rattle.cct_bench.specs.Run.{ReadsOn, IsCounted, PlaysOn, Played, Ran};
+ghost use Rattle.cct_bench.specs.Run.{ReadsOn, IsCounted, PlaysOn, Played, Ran, ClosedBy};
 
 use crate::entries::put_entry;
 use crate::grammar::{Expected, Reading, read_line, read_rest};
@@ -142,5 +142,40 @@ impl Desk {
             }
             number += 1;
         }
+    }
+
+    /// Plays a script, and writes the last line of the run where its status has one.
+    pub fn run<S: Source, K: Sink>(&mut self, script: &mut S, out: &mut K) -> Status
+        requires lines { self.old.lines ≡ [] }
+        requires machine { StandsFor self.old.machine [] }
+        ensures ran { IfSome (S.left script.old)
+            (λ bytes. Ran bytes result (S.left script.new) (K.written out.old) (K.written out.new)) }
+        ensures read_cause { result ≡ Status.ReadFault → Rose (S.faults script.old) (S.faults script.new) }
+        ensures write_cause { result ≡ Status.WriteFault → Rose (K.faults out.old) (K.faults out.new) }
+        ensures other { (result ≢ Status.WordsRefused) × (result ≢ Status.OutOfMemory) }
+    {
+        match self.play_script(script, out) {
+            Err(_) => Status::WriteFault,
+            Ok(Ending::Done) => Status::Done,
+            Ok(Ending::Refused { number, kind }) => {
+                let entry = Entry::Line { number, kind };
+                close(out, &mut self.line, &entry, Status::ScriptRefused)
+            }
+            Ok(Ending::Unread) => {
+                close(out, &mut self.line, &Entry::ReadFault, Status::ReadFault)
+            }
+        }
+    }
+}
+
+/// Writes a last line, and gives the status that it tells, or that of a fault in writing.
+pub fn close<K: Sink>(out: &mut K, line: &mut TextLine, entry: &Entry, status: Status) -> Status
+    ensures closed { ClosedBy result status (line_of entry.now) (K.written out.old) (K.written out.new) }
+    ensures cause { result ≡ status ⊎ Rose (K.faults out.old) (K.faults out.new) }
+    ensures later { K.faults out.old ≤ K.faults out.new }
+{
+    match put_entry(out, line, entry) {
+        Ok(()) => status,
+        Err(_) => Status::WriteFault,
     }
 }

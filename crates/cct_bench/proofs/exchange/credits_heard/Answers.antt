@@ -1,4 +1,4 @@
-use Rattle.std.proofs.Common.{◌-◌, length, drop, sym, ap, ◌∙◌}
+use Rattle.std.proofs.Common.{length, sym, ap, ◌∙◌}
 use Rattle.std.specs.Prelude.{option_and_then}
 use Rattle.std.proofs.lemmas.List.{take_rest}
 use Rattle.cct_model.specs.declared.wire.CheckKind.TheVariants.{Simple}
@@ -21,13 +21,13 @@ returns-in-Err c =
     let sent = c.args.sent.now in
     let piece = c.args.piece.now in
     sym
-      (
-        ap credits_reply
-          (
-            got_behind Simple the_address ReadCredits sent piece (sym c.starts_with.ensures.value ∙ c.if-not-starts_with.false)
-            ∙ ap (option_and_then (reply_from the_address ReadCredits)) (ap (message Simple) (sym (take_rest piece (length sent))) ∙ c.in-Err.ensures.no_message)
-          )
-      )
+    (
+    ap credits_reply
+    (
+    got_behind Simple the_address ReadCredits sent piece (sym c.starts_with.ensures.value ∙ c.if-not-starts_with.false)
+    ∙ ap (option_and_then (reply_from the_address ReadCredits)) (ap (message Simple) (sym (take_rest piece (length sent))) ∙ c.in-Err.ensures.no_message)
+    )
+    )
 
 pub returns-in-Ok : goal.returns-in-Ok
 returns-in-Ok c =
@@ -35,10 +35,10 @@ returns-in-Ok c =
     let piece = c.args.piece.now in
     c.credits_from.ensures
     ∙ sym
-      (
-        ap credits_reply
-          (
-            got_behind Simple the_address ReadCredits sent piece (sym c.starts_with.ensures.value ∙ c.if-not-starts_with.false)
-            ∙ ap (option_and_then (reply_from the_address ReadCredits)) (ap (message Simple) (sym (take_rest piece (length sent))) ∙ c.in-Ok.ensures.whole)
-          )
-      )
+    (
+    ap credits_reply
+    (
+    got_behind Simple the_address ReadCredits sent piece (sym c.starts_with.ensures.value ∙ c.if-not-starts_with.false)
+    ∙ ap (option_and_then (reply_from the_address ReadCredits)) (ap (message Simple) (sym (take_rest piece (length sent))) ∙ c.in-Ok.ensures.whole)
+    )
+    )

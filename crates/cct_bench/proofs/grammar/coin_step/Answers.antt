@@ -9,7 +9,7 @@ returns-in-Some c =
     let word = c.args.word.now in
     let field = c.first_field.result.0.now in
     sym
-      (
-        ap (λ fields. step_in (word ∷ (50 ∷ []) ∷ fields)) (c.first_field.ensures ∙ ap (λ rest. field ∷ fields_behind rest) c.in-Some.is)
-        ∙ many_fields word (50 ∷ []) field c.in-Some.field-0.now
-      )
+    (
+    ap (λ fields. step_in (word ∷ (50 ∷ []) ∷ fields)) (c.first_field.ensures ∙ ap (λ rest. field ∷ fields_behind rest) c.in-Some.is)
+    ∙ many_fields word (50 ∷ []) field c.in-Some.field-0.now
+    )

@@ -8,7 +8,7 @@ pub returns-in_err-put_entry-clause-err : goal.returns-in_err-put_entry-clause-e
 returns-in_err-put_entry-clause-err g c =
     let written = g.K.Sink.written in
     on_err c.from_residual.result (AppendsFront (written c.args.out.now) (written c.put_entry.new.out) (text c.args.entries.now))
-      (
-        entries_front (written c.args.out.now) (written c.loop-entry.out) (written c.put_entry.new.out) c.args.entries.now c.loop-entry.entry-index c.entry-item.result
-          (omega arith) c.entry-item.is c.loop-entry.invariant.0 c.in_err-put_entry.ensures.err
-      )
+    (
+    entries_front (written c.args.out.now) (written c.loop-entry.out) (written c.put_entry.new.out) c.args.entries.now c.loop-entry.entry-index c.entry-item.result
+    (omega arith) c.entry-item.is c.loop-entry.invariant.0 c.in_err-put_entry.ensures.err
+    )

@@ -10,11 +10,10 @@ pub returns-clause-plays : goal.returns-clause-plays
 returns-clause-plays g c =
     let old = g.K.Sink.written c.args.out.now in
     let new = g.K.Sink.written c.write_entries.new.out in
-    let report = c.step.new.report in
-    (
+    let report = c.step.new.report in (
       report,
       c.step.ensures,
       match_both c.write_entries.result (Appends old new (text report)) (AppendsFront old new (text report))
-        (subst (λ entries. OnOk c.write_entries.result (Appends old new (text entries))) c.as_slice.ensures c.write_entries.ensures.ok)
-        (subst (λ entries. OnErr c.write_entries.result (AppendsFront old new (text entries))) c.as_slice.ensures c.write_entries.ensures.err),
+          (subst (λ entries. OnOk c.write_entries.result (Appends old new (text entries))) c.as_slice.ensures c.write_entries.ensures.ok)
+          (subst (λ entries. OnErr c.write_entries.result (AppendsFront old new (text entries))) c.as_slice.ensures c.write_entries.ensures.err),
     )
