@@ -1,0 +1,27 @@
+//! The program: plays the script on standard input by the words of the command line, writes the transcript to standard
+//! output, and ends with the status as exit status. It prints nothing itself.
+#![tactic(auto)]
+
+use cct_bench::{Status, bench};
+use cct_edge::{StdSink, StdSource};
+use std::process::ExitCode;
+use std::rt::Env;
+use std::{env, io};
+
+fn main(rt: HostRuntime) -> ExitCode {
+    let status = match words(&rt) {
+        Ok(words) => {
+            let mut script = StdSource::new(rt.reader());
+            let mut out = StdSink::new(io::writer(&rt));
+            bench(rt.alloc(), words.as_slice(), &mut script, &mut out)
+        }
+        Err(_) => Status::OutOfMemory,
+    };
+    ExitCode::from(status.code())
+}
+
+/// The words of the command line, without the program's name.
+fn words(rt: &(impl Env + AllocGlobal)) -> io::Result<Vec<String>> {
+    let words = env::args(rt)?;
+    Ok(words.skip(1).collect(rt.alloc())?)
+}
