@@ -28,8 +28,7 @@ fn play(
     most: usize,
     takes: &[u64],
     puts: &[u64],
-) -> Result<(Status, Vec<u8>), Fail>
-{
+) -> Result<(Status, Vec<u8>), Fail> {
     let words = vec![in alloc; String::from_str(alloc, "run")?]?;
     let mut source = MemSource::new(script.to_vec(alloc)?, most.max(1), takes.to_vec(alloc)?);
     let mut sink = MemSink::new(alloc, 65536, puts.to_vec(alloc)?)?;
