@@ -1,0 +1,16 @@
+//! One exchange of the host with whatever is at the other end of the wire.
+ghost use Rattle.std.specs.Prelude.{◌≤◌, ℕ, List, length};
+
+use arrayvec::ArrayVec;
+
+/// The wire with whatever is at its other end.
+pub trait Link {
+    /// What an exchange may do: the link before it, the piece sent, the piece heard, the link after it.
+    ghost gives: { Self → List ℕ → List ℕ → Self → Type 0 };
+
+    /// Sends a piece, and puts all that the host then hears, its own echo first, in the place of what `heard` holds.
+    /// An exchange can't fail: where nothing is heard, `heard` is empty.
+    fn exchange(&mut self, sent: &[u8], heard: &mut ArrayVec<u8, 520>)
+        requires { length sent.now ≤ 260 }
+        ensures { gives self.old sent.now heard.new.items self.new };
+}
