@@ -15,6 +15,7 @@ use crate::acceptor::Acceptor;
 use arrayvec::ArrayVec;
 use cct_frame::{FrameView, read, write};
 use cct_model::{CheckKind, Credits, Pair, Reply, Request};
+use cct_wire::{Heard, hear};
 
 /// The address of the host.
 const HOST: u8 = 1;
@@ -125,12 +126,11 @@ fn credit_bytes(credits: &Credits) -> [u8; 11]
 pub fn credits_heard(sent: &[u8], piece: &[u8]) -> Option<Credits>
     ensures { result ≡ credits_reply (got CheckKind.Simple the_address Request.ReadCredits sent.now piece.now) }
 {
-    if !piece.starts_with(sent) {
-        return None;
-    }
-    match read(CheckKind::Simple, &piece[sent.len()..]) {
-        Err(_) => None,
-        Ok(view) => credits_from(&view),
+    match hear(CheckKind::Simple, sent, piece) {
+        Heard::EchoBad { .. } => None,
+        Heard::Silence => None,
+        Heard::Broken(_) => None,
+        Heard::Message(view) => credits_from(&view),
     }
 }
 
