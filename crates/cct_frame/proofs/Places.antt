@@ -22,13 +22,13 @@ sum_split p some =
     let whole : take (length p - 1 + 1) p ≡ p = grind (arith, take-length {A = ℕ} p) in
     ap sum (sym whole) ∙ sum_by_more (λ x. x) p (length p - 1) 0 (omega arith)
 
-agrees : (said : ℕ) (rest : List ℕ) → said ≤ 255 → length rest ≡ said + 1 → length_agrees said rest ≡ true
+pub agrees : (said : ℕ) (rest : List ℕ) → said ≤ 255 → length rest ≡ said + 1 → length_agrees said rest ≡ true
 agrees said rest small e = grind (arith, nat_tests)
 
 disagrees : (said : ℕ) (rest : List ℕ) → length rest ≢ said + 1 → length_agrees said rest ≡ false
 disagrees said rest differ = grind (arith, nat_tests)
 
-both : {X : Type 0} (a b : Bool) (x y : X) → a ≡ true → b ≡ true → cond (a && b) x y ≡ x
+pub both : {X : Type 0} (a b : Bool) (x y : X) → a ≡ true → b ≡ true → cond (a && b) x y ≡ x
 both a b x y p q = rw (p, q) refl
 
 first_fails : {X : Type 0} (a b : Bool) (x y : X) → a ≡ false → cond (a && b) x y ≡ y
