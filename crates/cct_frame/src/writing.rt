@@ -1,12 +1,12 @@
 //! A message is written into the bytes to be sent.
-ghost use Rattle.std.specs.Prelude.{◌≡◌, ◌≤◌, length};
+ghost use Rattle.std.specs.Prelude.{◌≡◌, ◌≤◌, Option, ℕ, length};
 ghost use Rattle.cct_model.specs.Message.{spelling};
 
-use crate::check::closing;
+use crate::check::{closing, crc_of};
 use arrayvec::ArrayVec;
 use cct_model::CheckKind;
 
-/// Writes one message in the place of what `out` holds.
+/// Writes one message in the place of what `out` holds. Under the CRC a message has no source, and `from` isn't used.
 pub fn write(
     kind: CheckKind,
     to: u8,
@@ -15,13 +15,12 @@ pub fn write(
     body: &[u8],
     out: &mut ArrayVec<u8, 260>,
 )
-    requires simple { kind ≡ CheckKind.Simple }
-    requires fits { length body.now ≤ 255 }
+    requires { length body.now ≤ 255 }
     ensures { out.new.items ≡ spelling kind (record { to = to; from = Some from; header = header; body = body.now }) }
 {
     match kind {
         CheckKind::Simple => write_simple(to, from, header, body, out),
-        CheckKind::Crc => unreachable!(),
+        CheckKind::Crc => write_crc(to, header, body, out),
     }
 }
 
@@ -40,4 +39,22 @@ fn write_simple(to: u8, from: u8, header: u8, body: &[u8], out: &mut ArrayVec<u8
     out.try_extend_from_slice(body).unwrap();
     let check = closing(out.as_slice());
     out.push(check);
+}
+
+/// Writes a message under the CRC.
+#[tactic(auto, unfolding(cct_model::specs::Message::spelling))]
+fn write_crc(to: u8, header: u8, body: &[u8], out: &mut ArrayVec<u8, 260>)
+    requires { length body.now ≤ 255 }
+    ensures { (from : Option ℕ) → out.new.items
+        ≡ spelling CheckKind.Crc (record { to = to; from = from; header = header; body = body.now }) }
+{
+    let said = body.len() as u8;
+    let [low, high] = crc_of(&[to, said, header], body).to_le_bytes();
+    out.clear();
+    out.push(to);
+    out.push(said);
+    out.push(low);
+    out.push(header);
+    out.try_extend_from_slice(body).unwrap();
+    out.push(high);
 }

@@ -1,5 +1,5 @@
 use Rattle.std.proofs.Common.{◌≡◌, ◌%◌, sum, take}
-use Rattle.cct_frame.proofs.check.simple_sum.Given as goal
+use Rattle.cct_check.proofs.sum.simple_sum.Given as goal
 
 abbrev pub invariant-loop-byte : goal.invariant-loop-byte
 invariant-loop-byte l = l.total ≡ sum (take l.byte-index l.bytes) % 256
