@@ -4,19 +4,15 @@ use Rattle.cct_model.specs.declared.wire.CheckKind.{CheckKind}
 use Rattle.cct_model.specs.Message.{Message, message}
 use Rattle.cct_model.specs.Exchange.{after_echo}
 use Rattle.cct_frame.specs.declared.reading.FrameFault.{FrameFault}
-use Rattle.cct_frame.specs.Frame.{message_of, simple_fault}
+use Rattle.cct_frame.specs.Frame.{message_of, fault_in}
 use Rattle.cct_wire.specs.declared.hearing.Heard.{Heard}
 use Rattle.cct_wire.specs.declared.hearing.Heard.TheVariants as answer
 use Rattle.cct_wire.specs.Echo.{echo_place}
 
--- The first thing that is wrong with a piece under a check, or none.
-abbrev pub fault_of : CheckKind → List ℕ → Option FrameFault
-fault_of kind piece = simple_fault piece
-
 -- The first thing that is wrong with what follows an echo, or none: where no byte follows, there is nothing to be wrong.
 abbrev pub fault_in_rest : CheckKind → List ℕ → Option FrameFault
 fault_in_rest kind [] = None
-fault_in_rest kind (byte ∷ rest) = fault_of kind (byte ∷ rest)
+fault_in_rest kind (byte ∷ rest) = fault_in kind (byte ∷ rest)
 
 -- The message that follows the whole echo of what was sent, or none.
 abbrev pub message_after : CheckKind → List ℕ → List ℕ → Option Message

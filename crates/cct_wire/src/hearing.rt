@@ -24,8 +24,6 @@ pub enum Heard<'a> {
 
 /// Takes the echo of what was sent off what was heard, and reads what follows it under a check.
 pub fn hear<'a>(kind: CheckKind, sent: &[u8], heard: &'a [u8]) -> Heard<'a>
-    requires { kind ≡ CheckKind.Simple }
-
     ensures tells { Tells kind sent.now heard.now result }
 
     ensures bad_echo { (result ≡ Heard.EchoBad (echo_place sent.now heard.now))

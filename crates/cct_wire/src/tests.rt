@@ -41,6 +41,20 @@ fn hears_what_follows_the_echo(rt: HostRuntime) {
 }
 
 #[test]
+fn hears_a_reply_under_the_crc(rt: HostRuntime) {
+    // The CRC of 02 00 fe is 0x60b1, and that of 01 00 00 is 0x3730.
+    let poll: &[u8] = &[0x02, 0x00, 0xb1, 0xfe, 0x60];
+    let heard: &[u8] = &[0x02, 0x00, 0xb1, 0xfe, 0x60, 0x01, 0x00, 0x30, 0x00, 0x37];
+    let reply = Heard::Message(FrameView {
+        to: 1,
+        from: None,
+        header: 0,
+        body: &[],
+    });
+    assert_eq!(rt; hear(CheckKind::Crc, poll, heard), reply);
+}
+
+#[test]
 fn bare_bytes_follow_the_echo_of_an_address_poll(rt: HostRuntime) {
     let poll: &[u8] = &[0x00, 0x00, 0x01, 0xfd, 0x02];
     let answers: &[u8] = &[0x02, 0x09];
