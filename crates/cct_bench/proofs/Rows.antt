@@ -29,6 +29,7 @@ use Rattle.cct_bench.specs.declared.acceptor.Acceptor.{Acceptor}
 use Rattle.cct_bench.specs.declared.machine.Job.{Job}
 use Rattle.cct_bench.specs.declared.machine.Job.TheVariants.{Ask, Put}
 use Rattle.cct_bench.specs.Acceptor.{ActsAs}
+use Rattle.cct_bench.specs.Report.{wire_entries}
 use Rattle.cct_bench.specs.Machine.{IsJob, Stands, JudgedAs, Judges}
 
 -- the one device's answer is all that follows the echo
@@ -208,11 +209,15 @@ some_is x y credits a b = let e : Some x ≡ Some y = sym a ∙ b in cc
 pub never_none : (y : Credits) (credits : Option Credits) → credits ≡ None → credits ≡ Some y → ⊥
 never_none y credits a b = let e : None ≡ Some y = sym a ∙ b in cc
 
--- the entry of an exchange
-pub wires_are : (past before wires : List Entry) (sent piece : List ℕ) → before ≡ [] → sent ≡ request → piece ≡ heard_after one_acceptor past sent →
-    wires ≡ before ++ entry.Wire the_address sent piece ∷ [] → wires ≡ wire_of past ∷ []
-wires_are past before wires sent piece none was_sent was_heard e =
-    e ∙ ap₂ (λ front wire. front ++ wire ∷ []) none (ap₂ (entry.Wire the_address) was_sent (was_heard ∙ ap (heard_after one_acceptor past) was_sent))
+cons_nil : (x : Entry) (xs : List Entry) → x ∷ xs ≡ [] → ⊥
+cons_nil x xs e = cc
+
+-- the entries of a report that had none and made an exchange
+pub wires_are : (past others : List Entry) (asked : Option ℕ) (s h sent piece : List ℕ) → wire_entries asked s h ++ others ≡ [] → sent ≡ request →
+    piece ≡ heard_after one_acceptor past sent → entry.Wire the_address sent piece ∷ others ≡ wire_of past ∷ []
+wires_are past others (Some addr) s h sent piece none was_sent was_heard = absurd (cons_nil (entry.Wire addr s h) others none)
+wires_are past others None s h sent piece none was_sent was_heard =
+    ap₂ ◌∷◌ (ap₂ (entry.Wire the_address) was_sent (was_heard ∙ ap (heard_after one_acceptor past) was_sent)) none
 
 -- a round asks for the credits, told by what its calls made
 pub asked_goes : (old acceptor new : Acceptor) (recorded middle last : ℕ) (past wires report : List Entry) (sent : List ℕ) (credits : Credits) (job : Option Job) →

@@ -36,6 +36,21 @@ entries_front old middle new entries i e inside at before here =
     subst (AppendsFront old new) (sym (text_cut entries i e inside at))
     (front_more old new (text (take i entries) ++ line_of e) (text (drop (i + 1) entries)) (Appends-then_front old middle new (text (take i entries)) (line_of e) before here))
 
+-- a front of what came first is a front of both
+pub first_front : (old new : Option (List ℕ)) (a b : List Entry) → AppendsFront old new (text a) → AppendsFront old new (text (a ++ b))
+first_front old new a b h = subst (AppendsFront old new) (sym (flat_map-append line_of a b)) (front_more old new (text a) (text b) h)
+
+-- what came first was written, and then a front of what follows
+pub second_front : (old middle new : Option (List ℕ)) (a b c : List Entry) → c ≡ b → Appends old middle (text a) → AppendsFront middle new (text c) →
+    AppendsFront old new (text (a ++ b))
+second_front old middle new a b c e before here =
+    subst (AppendsFront old new) (sym (flat_map-append line_of a b))
+    (Appends-then_front old middle new (text a) (text b) before (subst (λ ys. AppendsFront middle new (text ys)) e here))
+
+pub err_goes : {T E : Type 0} (r : Result T E) (P Q : Type 0) → (P → Q) → OnErr r P → OnErr r Q
+err_goes (Ok x) P Q f h = tt
+err_goes (Err e) P Q f h = f h
+
 pub match_both : {T E : Type 0} (r : Result T E) (P Q : Type 0) → OnOk r P → OnErr r Q → MatchResult r (λ _. P) (λ _. Q)
 match_both (Ok x) P Q p q = p
 match_both (Err e) P Q p q = q

@@ -3,12 +3,13 @@ ghost use Rattle.std.specs.Prelude.{◌≡◌, ℕ, ◌+◌, ◌*◌, ◌<◌, �
 ghost use Rattle.std.specs.Io.KnownBytes.{Appends};
 ghost use Rattle.cct_edge.specs.Bytes.{AppendsFront, TellsAsBefore};
 ghost use Rattle.cct_edge.specs.Faults.{HasCause};
+ghost use Rattle.cct_model.specs.declared.entry.Entry.TheVariants.{Wire};
 ghost use Rattle.cct_model.specs.Text.{piece_field, mask_field, coin_text, coins_field, record_fields, command_fields, reason_fields, end_fields, kind_field, fields_of, line_of};
 ghost use Rattle.cct_bench.specs.Text.{behind, joined};
 
 use crate::text::TextLine;
 use cct_edge::{Failed, Sink};
-use cct_model::{Coin, Command, CommandNo, End, Entry, LineKind, Record};
+use cct_model::{Coin, Command, CommandNo, End, Entry, LineKind, Piece, Record, Sent};
 
 /// Writes the line of an entry by one put. The line buffer is used for it, whatever it holds.
 pub fn put_entry<K: Sink>(out: &mut K, line: &mut TextLine, entry: &Entry) -> Result<(), Failed>
@@ -21,6 +22,23 @@ pub fn put_entry<K: Sink>(out: &mut K, line: &mut TextLine, entry: &Entry) -> Re
     out.put(line.as_slice())
 }
 
+/// Writes the line of an exchange by one put, as `put_entry` does.
+pub fn put_wire<K: Sink>(
+    out: &mut K,
+    line: &mut TextLine,
+    addr: u8,
+    sent: &Sent,
+    heard: &Piece,
+) -> Result<(), Failed>
+    ensures ok { OnOk result (Appends (K.written out.old) (K.written out.new) (line_of (Wire addr sent.now heard.now))) }
+    ensures err { OnErr result (AppendsFront (K.written out.old) (K.written out.new) (line_of (Wire addr sent.now heard.now))) }
+    ensures tells { TellsAsBefore (K.written out.old) (K.written out.new) }
+    ensures cause { HasCause (K.faults out.old) (K.faults out.new) result }
+{
+    write_wire_line(line, addr, sent, heard);
+    out.put(line.as_slice())
+}
+
 /// Makes the line buffer the line of an entry.
 #[tactic(auto, using(crate::proofs::Texts::joined_is), unfolding(cct_model::specs::Text::line_of))]
 fn write_line(line: &mut TextLine, entry: &Entry)
@@ -28,6 +46,16 @@ fn write_line(line: &mut TextLine, entry: &Entry)
 {
     line.clear();
     write_fields(line, entry);
+    line.push(b"\n");
+}
+
+/// Makes the line buffer the line of an exchange.
+#[tactic(auto, using(crate::proofs::Texts::joined_is), unfolding(cct_model::specs::Text::line_of))]
+fn write_wire_line(line: &mut TextLine, addr: u8, sent: &Sent, heard: &Piece)
+    ensures { line.new ≡ line_of (Wire addr sent.now heard.now) }
+{
+    line.clear();
+    write_wire(line, addr, sent, heard);
     line.push(b"\n");
 }
 
@@ -62,12 +90,7 @@ fn write_fields(line: &mut TextLine, entry: &Entry)
             line.push(b"idle");
             write_number(line, u32::from(*addr));
         }
-        Entry::Wire { addr, sent, heard } => {
-            line.push(b"wire");
-            write_number(line, u32::from(*addr));
-            write_piece(line, sent.as_slice());
-            write_piece(line, heard.as_slice());
-        }
+        Entry::Wire { addr, sent, heard } => write_wire(line, *addr, sent, heard),
         Entry::Put(entry) => {
             line.push(b"put");
             write_record(line, entry);
@@ -85,6 +108,18 @@ fn write_fields(line: &mut TextLine, entry: &Entry)
         Entry::Words => line.push(b"words"),
         Entry::ReadFault => line.push(b"readfault"),
     }
+}
+
+/// Writes the fields of an exchange.
+fn write_wire(line: &mut TextLine, addr: u8, sent: &Sent, heard: &Piece)
+    requires { line.old ≡ [] }
+    ensures text { line.new ≡ joined 32 (fields_of (Wire addr sent.now heard.now)) }
+    ensures room { length line.new < 3000 }
+{
+    line.push(b"wire");
+    write_number(line, u32::from(addr));
+    write_piece(line, sent.as_slice());
+    write_piece(line, heard.as_slice());
 }
 
 /// Writes a number as the next field.

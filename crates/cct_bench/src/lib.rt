@@ -78,3 +78,6 @@ fn is_run(words: &[String]) -> bool
         _ => false,
     }
 }
+
+#[cfg(test)]
+mod tests;

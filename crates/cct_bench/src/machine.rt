@@ -10,6 +10,7 @@ ghost use Rattle.cct_model.specs.Script.{the_address, one_acceptor, IsInRange};
 ghost use Rattle.cct_model.specs.Transcript.{met, heard_after};
 ghost use Rattle.cct_laws.specs.Law.{the_acceptor};
 ghost use Rattle.cct_bench.specs.Acceptor.{ActsAs};
+ghost use Rattle.cct_bench.specs.Report.{entries_of};
 ghost use Rattle.cct_bench.specs.Machine.{Stands, StandsFor, Goes, Plays, Advances, Judges, coin_entry_of};
 
 use crate::acceptor::{Acceptor, Inserted};
@@ -59,7 +60,7 @@ impl Machine {
     /// Plays one step. The report is replaced by its entries.
     pub fn step(&mut self, step: &Step, report: &mut Report)
         requires { IsInRange step.now }
-        ensures { Plays self.old self.new step.now report.new }
+        ensures { Plays self.old self.new step.now (entries_of report.new) }
     {
         report.clear();
         match step {
@@ -74,8 +75,8 @@ impl Machine {
     fn coin(&mut self, place: u8, report: &mut Report)
         requires low { 1 ≤ place }
         requires high { place ≤ 16 }
-        requires report { report.old ≡ [] }
-        ensures { Plays self.old self.new (Step.Coin the_address place) report.new }
+        requires report { entries_of report.old ≡ [] }
+        ensures { Plays self.old self.new (Step.Coin the_address place) (entries_of report.new) }
     {
         let inserted = self.acceptor.insert(place);
         report.push(coin_entry(inserted, place));
@@ -84,8 +85,8 @@ impl Machine {
     /// The operator gives the host a command.
     fn command(&mut self, command: Command, report: &mut Report)
         requires address { IsInRange (Step.Command command) }
-        requires report { report.old ≡ [] }
-        ensures { Plays self.old self.new (Step.Command command) report.new }
+        requires report { entries_of report.old ≡ [] }
+        ensures { Plays self.old self.new (Step.Command command) (entries_of report.new) }
     {
         match self.job {
             None => {
@@ -101,8 +102,8 @@ impl Machine {
 
     /// The job makes one attempt of one row.
     fn next(&mut self, report: &mut Report)
-        requires { report.old ≡ [] }
-        ensures { Plays self.old self.new (Step.Next the_address) report.new }
+        requires { entries_of report.old ≡ [] }
+        ensures { Plays self.old self.new (Step.Next the_address) (entries_of report.new) }
     {
         match self.job.take() {
             None => report.push(Entry::Idle { addr: ADDRESS }),
@@ -114,27 +115,20 @@ impl Machine {
     /// The round asks for the credits, and judges what it gets.
     fn ask(&mut self, report: &mut Report)
         requires job { self.old.job ≡ None }
-        requires report { report.old ≡ [] }
-        ensures { Advances self.old Job.Ask self.new report.new }
+        requires report { entries_of report.old ≡ [] }
+        ensures { Advances self.old Job.Ask self.new (entries_of report.new) }
     {
-        let (mut sent, mut piece) = report.pieces();
-        self.exchange(&mut sent, &mut piece);
-        let credits = credits_heard(sent.as_slice(), piece.as_slice());
-        report.push(Entry::Wire {
-            addr: ADDRESS,
-            sent,
-            heard: piece,
-        });
-        match credits {
+        self.exchange(&mut report.sent, &mut report.heard);
+        report.asked = Some(ADDRESS);
+        match credits_heard(report.sent.as_slice(), report.heard.as_slice()) {
             None => self.job = Some(Job::Ask),
             Some(credits) => self.judge(&credits, report),
         }
     }
 
-    /// The host sends its request, the acceptor answers it, and the host hears both.
+    /// The host sends its request, the acceptor answers it, and the host hears both. The pieces are those of this exchange
+    /// alone, whatever they held.
     fn exchange(&mut self, sent: &mut Sent, piece: &mut Piece)
-        requires sent { sent.old ≡ [] }
-        requires piece { piece.old ≡ [] }
         ensures sent { sent.new ≡ ask Simple the_address ReadCredits }
         ensures heard { (past : List Entry) → ActsAs self.old.acceptor (met the_acceptor past)
             → (piece.new ≡ heard_after one_acceptor past sent.new)
@@ -142,7 +136,9 @@ impl Machine {
         ensures same { (self.new.job ≡ self.old.job) × (self.new.recorded ≡ self.old.recorded) }
     {
         ask_credits(&mut self.frame);
+        sent.clear();
         sent.extend_from_slice(self.frame.as_slice());
+        piece.clear();
         piece.extend_from_slice(sent.as_slice());
         answer(&mut self.acceptor, sent.as_slice(), &mut self.frame);
         piece.extend_from_slice(self.frame.as_slice());
@@ -151,8 +147,8 @@ impl Machine {
     /// What the credits mean beside the recorded counter: the round ends clean, or has a record to put.
     fn judge(&mut self, credits: &Credits, report: &mut Report)
         requires job { self.old.job ≡ None }
-        requires report { length report.old ≤ 1 }
-        ensures judged { Judges self.old.recorded credits.now report.old report.new self.new.job }
+        requires report { length (entries_of report.old) ≤ 1 }
+        ensures judged { Judges self.old.recorded credits.now (entries_of report.old) (entries_of report.new) self.new.job }
         ensures same { (self.new.acceptor ≡ self.old.acceptor) × (self.new.recorded ≡ self.old.recorded) }
     {
         match judge(ADDRESS, OPEN_MASK, self.recorded, credits, OPEN_MASK) {
@@ -168,8 +164,8 @@ impl Machine {
     /// The round puts its record, and ends.
     fn put(&mut self, entry: Record, report: &mut Report)
         requires job { self.old.job ≡ None }
-        requires report { report.old ≡ [] }
-        ensures { Advances self.old (Job.Put entry) self.new report.new }
+        requires report { entries_of report.old ≡ [] }
+        ensures { Advances self.old (Job.Put entry) self.new (entries_of report.new) }
     {
         self.recorded = recorded_by(&entry, self.recorded);
         let end = end_of_put(&entry);

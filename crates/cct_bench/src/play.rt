@@ -10,9 +10,10 @@ ghost use Rattle.cct_model.specs.Text.{line_of, text};
 ghost use Rattle.cct_bench.specs.Grammar.{stage_of, read_of};
 ghost use Rattle.cct_bench.specs.Lines.{Fills};
 ghost use Rattle.cct_bench.specs.Machine.{StandsFor, Plays};
+ghost use Rattle.cct_bench.specs.Report.{exchange_of, entries_of};
 ghost use Rattle.cct_bench.specs.Run.{ReadsOn, IsCounted, PlaysOn, Played, Ran, ClosedBy};
 
-use crate::entries::put_entry;
+use crate::entries::{put_entry, put_wire};
 use crate::grammar::{Expected, Reading, read_line, read_rest};
 use crate::machine::Machine;
 use crate::outcome::Status;
@@ -81,6 +82,30 @@ fn write_entries<K: Sink>(out: &mut K, line: &mut TextLine, entries: &[Entry]) -
     Ok(())
 }
 
+/// Writes the line of a report's exchange, where it has one.
+fn write_exchange<K: Sink>(out: &mut K, line: &mut TextLine, report: &Report) -> Result<(), Failed>
+    ensures ok { OnOk result (Appends (K.written out.old) (K.written out.new) (text (exchange_of report.now))) }
+    ensures err { OnErr result (AppendsFront (K.written out.old) (K.written out.new) (text (exchange_of report.now))) }
+    ensures tells { TellsAsBefore (K.written out.old) (K.written out.new) }
+    ensures cause { HasCause (K.faults out.old) (K.faults out.new) result }
+{
+    match report.asked {
+        Some(addr) => put_wire(out, line, addr, &report.sent, &report.heard),
+        None => Ok(()),
+    }
+}
+
+/// Writes the lines of a report, in the order of its entries.
+fn write_report<K: Sink>(out: &mut K, line: &mut TextLine, report: &Report) -> Result<(), Failed>
+    ensures ok { OnOk result (Appends (K.written out.old) (K.written out.new) (text (entries_of report.now))) }
+    ensures err { OnErr result (AppendsFront (K.written out.old) (K.written out.new) (text (entries_of report.now))) }
+    ensures tells { TellsAsBefore (K.written out.old) (K.written out.new) }
+    ensures cause { HasCause (K.faults out.old) (K.faults out.new) result }
+{
+    write_exchange(out, line, report)?;
+    write_entries(out, line, report.others.as_slice())
+}
+
 impl Desk {
     /// The buffers, with nothing in them, and a machine on which nothing has happened.
     pub fn new() -> Self
@@ -104,7 +129,7 @@ impl Desk {
         ensures cause { HasCause (K.faults out.old) (K.faults out.new) result }
     {
         self.machine.step(step, &mut self.report);
-        write_entries(out, &mut self.line, self.report.as_slice())
+        write_report(out, &mut self.line, &self.report)
     }
 
     /// Plays the steps of a script, each before the next line is read.

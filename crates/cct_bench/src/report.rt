@@ -1,77 +1,50 @@
 //! The entries of one step.
 ghost use Rattle.std.specs.Prelude.{◌≡◌, ◌+◌, ◌<◌, ◌≤◌, List, [], ◌∷◌, ◌++◌, length};
+ghost use Rattle.cct_bench.specs.Report.{entries_of};
 
 use arrayvec::ArrayVec;
 use cct_model::{Entry, Piece, Sent};
-use std::marker::Model;
 
-/// The entries that one step gives, oldest first: eight at the most. The two pieces of an exchange are taken back from
-/// an entry when the report is cleared, so that one pair of them serves a whole run.
+/// The entries that one step gives, oldest first: eight at the most. An exchange on the wire is the first of them; its
+/// pieces stand apart from the others, so that one pair of them serves a whole run, and none is copied.
 #[derive(Drop)]
 pub struct Report {
-    entries: ArrayVec<Entry, 8>,
-    spare: Option<(Sent, Piece)>,
-}
-
-impl Model for Report {
-    ghost use Rattle.std.specs.Prelude.{List};
-    ghost use Rattle.cct_model.specs.declared.entry.Entry.{Entry};
-
-    ghost Value = { List Entry };
-
-    ghost view = { λ r. r.entries.items };
+    /// The address of the exchange, where the step made one.
+    pub asked: Option<u8>,
+    /// What the host sent in the last exchange.
+    pub sent: Sent,
+    /// What the host heard in the last exchange.
+    pub heard: Piece,
+    /// The entries behind the exchange.
+    pub others: ArrayVec<Entry, 7>,
 }
 
 impl Report {
     /// No entry.
     pub fn new() -> Self
-        ensures { result ≡ [] }
+        ensures { entries_of result ≡ [] }
     {
         Report {
-            entries: ArrayVec::new(),
-            spare: Some((Sent::new(), Piece::new())),
+            asked: None,
+            sent: Sent::new(),
+            heard: Piece::new(),
+            others: ArrayVec::new(),
         }
-    }
-
-    /// The entries, oldest first.
-    pub fn as_slice(&self) -> &[Entry]
-        ensures { result.now ≡ self.now }
-    {
-        self.entries.as_slice()
     }
 
     /// Adds an entry behind the others.
     pub fn push(&mut self, entry: Entry)
-        requires { length self.old < 8 }
-        ensures { self.new ≡ self.old ++ entry ∷ [] }
+        requires { length (entries_of self.old) < 7 }
+        ensures { entries_of self.new ≡ entries_of self.old ++ entry ∷ [] }
     {
-        self.entries.push(entry);
+        self.others.push(entry);
     }
 
     /// Removes every entry.
     pub fn clear(&mut self)
-        ensures { self.new ≡ [] }
+        ensures { entries_of self.new ≡ [] }
     {
-        while let Some(entry) = self.entries.pop() {
-            if let Entry::Wire { sent, heard, .. } = entry {
-                self.spare = Some((sent, heard));
-            }
-        }
-    }
-
-    /// The pair of pieces for an exchange, both empty.
-    pub fn pieces(&mut self) -> (Sent, Piece)
-        ensures same { self.new ≡ self.old }
-        ensures sent { result.0 ≡ [] }
-        ensures heard { result.1 ≡ [] }
-    {
-        match self.spare.take() {
-            Some((mut sent, mut heard)) => {
-                sent.clear();
-                heard.clear();
-                (sent, heard)
-            }
-            None => (Sent::new(), Piece::new()),
-        }
+        self.asked = None;
+        self.others.clear();
     }
 }

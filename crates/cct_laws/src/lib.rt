@@ -2,8 +2,8 @@
 //! parameters, whose body is empty.
 //!
 //! A crate above cites the lemmas behind them: `legal_in_order`, `legal_covers` and `legal_answered` of
-//! `proofs/Whole.antt`, `legal_keeps_pace` of `proofs/Paces.antt`, and those of `proofs/Scripts.antt`, of which
-//! `played_holds` joins all of them for the front of a script.
+//! `proofs/Whole.antt`, `legal_keeps_pace` of `proofs/Paces.antt`, those of `proofs/Scripts.antt`, of which
+//! `played_holds` joins all of them for the front of a script, and those of `proofs/Exchanges.antt` on one exchange.
 #![tactic(auto)]
 
 ghost use Rattle.std.specs.Prelude.{ℕ, ◌≡◌, ◌<◌, ◌≤◌, List, ◌++◌};

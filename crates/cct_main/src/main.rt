@@ -4,6 +4,7 @@
 
 use cct_bench::{Status, bench};
 use cct_edge::{StdSink, StdSource};
+use std::io::ErrorKind;
 use std::process::ExitCode;
 use std::rt::Env;
 use std::{env, io};
@@ -20,8 +21,12 @@ fn main(rt: HostRuntime) -> ExitCode {
     ExitCode::from(status.code())
 }
 
-/// The words of the command line, without the program's name.
+/// The words of the command line, without the program's name. A word that isn't UTF-8 can't be one of the grammar, and
+/// there are then no words.
 fn words(rt: &(impl Env + AllocGlobal)) -> io::Result<Vec<String>> {
-    let words = env::args(rt)?;
-    Ok(words.skip(1).collect(rt.alloc())?)
+    match env::args(rt) {
+        Ok(words) => Ok(words.skip(1).collect(rt.alloc())?),
+        Err(error) if error.kind() == ErrorKind::InvalidData => Ok(Vec::new(rt.alloc())),
+        Err(error) => Err(error),
+    }
 }
