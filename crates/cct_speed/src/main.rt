@@ -1,0 +1,104 @@
+//! A benchmark for people: goes over frames in memory so many times, and prints the sum of the answers.
+//!
+//! Its three words are what each pass does (`none`, `crc16`, `simple` or `crc`), the number of data bytes of a frame, and
+//! the number of passes. Other words end it with exit status 2.
+#![tactic(auto)]
+
+ghost use Rattle.std.specs.Prelude.{◌≤◌, length};
+
+use arrayvec::ArrayVec;
+use cct_check::crc16;
+use cct_frame::{read, write};
+use cct_model::CheckKind;
+use std::process::ExitCode;
+use std::rt::Env;
+use std::{env, io};
+
+/// How many passes over frames with so many data bytes, and what each does.
+#[derive(Clone, Copy)]
+struct Task {
+    work: Work,
+    data: u8,
+    passes: u32,
+}
+
+/// What a pass does with its frame.
+#[derive(Clone, Copy)]
+enum Work {
+    /// Takes its length alone.
+    Nothing,
+    /// Takes the CRC of all its bytes.
+    Crc16,
+    /// Reads the message that it is under this check.
+    Read(CheckKind),
+}
+
+/// The data bytes of the longest frame. A shorter one has a front of them.
+static DATA: [u8; 255] = [0x55; 255];
+
+fn main(rt: HostRuntime) -> io::Result<ExitCode> {
+    let Some(task) = asked(&rt) else {
+        return Ok(ExitCode::from(2));
+    };
+    println!(rt; "{}", run(task))?;
+    Ok(ExitCode::SUCCESS)
+}
+
+/// The task that the words of the command line tell.
+fn asked(rt: &(impl Env + AllocGlobal)) -> Option<Task> {
+    let words: Vec<String> = env::args(rt).ok()?.skip(1).collect(rt.alloc()).ok()?;
+    let [work, data, passes] = words.as_slice() else {
+        return None;
+    };
+    let work = match work.as_str() {
+        "none" => Work::Nothing,
+        "crc16" => Work::Crc16,
+        "simple" => Work::Read(CheckKind::Simple),
+        "crc" => Work::Read(CheckKind::Crc),
+        _ => return None,
+    };
+    Some(Task {
+        work,
+        data: data.parse().ok()?,
+        passes: passes.parse().ok()?,
+    })
+}
+
+/// The sum of the answers of all passes. The sum so far tells which of two frames is the next, so no pass can be left
+/// out or taken for another.
+fn run(task: Task) -> u64 {
+    let body = &DATA[..task.data as usize];
+    let first = frame(task.work, 2, body);
+    let second = frame(task.work, 3, body);
+    let frames = [first.as_slice(), second.as_slice()];
+    let mut sum: u64 = 0;
+    for _ in 0..task.passes {
+        sum = sum.wrapping_add(answer(task.work, frames[sum as usize % 2]));
+    }
+    sum
+}
+
+/// A message from an address to the host, under the check that the work reads.
+fn frame(work: Work, from: u8, body: &[u8]) -> ArrayVec<u8, 260>
+    requires { length body.now ≤ 255 }
+{
+    let kind = match work {
+        Work::Read(kind) => kind,
+        Work::Nothing | Work::Crc16 => CheckKind::Simple,
+    };
+    let mut out = ArrayVec::new();
+    write(kind, 1, from, 0, body, &mut out);
+    out
+}
+
+/// The length of a frame, its CRC, or the header and the number of data bytes of the message that it is, added up.
+fn answer(work: Work, frame: &[u8]) -> u64 {
+    match work {
+        Work::Nothing => frame.len() as u64,
+        Work::Crc16 => crc16(frame) as u64,
+        Work::Read(kind) => match read(kind, frame) {
+            Ok(view) => view.header as u64 + view.body.len() as u64,
+            Err(_) => 0,
+        },
+    }
+}
