@@ -14,6 +14,6 @@ crc_bit register bit = if register / 32768 == bit then register * 2 % 65536 else
 unfoldable pub crc : List ℕ → ℕ
 crc bytes = fold crc_bit 0 (flat_map bits_of bytes)
 
--- The register after the bits of one byte more.
+-- The register after it has taken the bits of one byte more.
 unfoldable pub crc_after : ℕ → ℕ → ℕ
 crc_after register byte = fold crc_bit register (bits_of byte)

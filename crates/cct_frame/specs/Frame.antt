@@ -11,6 +11,11 @@ use Rattle.cct_frame.specs.declared.reading.FrameFault.TheVariants.{Short, Lengt
 abbrev pub message_of : FrameView → Message
 message_of view = record { to = view.to; from = view.from; header = view.header; body = view.body.now }
 
+-- The source that a piece names: its third byte under the simple check, and nobody under the CRC.
+abbrev pub source_in : CheckKind → List ℕ → Option ℕ
+source_in Simple piece = Some (slice_index piece 2)
+source_in Crc piece = None
+
 -- The message that arrives when a message is sent under a check: the CRC leaves no room for a source.
 abbrev pub carried : CheckKind → Message → Message
 carried Simple m = m
@@ -53,8 +58,3 @@ fault_in kind piece =
     if nat_lt have 5 then Some (Short have)
     else if said + 5 == have then check_fault kind piece
     else Some (Length said have)
-
--- The source that a piece names: its third byte under the simple check, and nobody under the CRC.
-abbrev pub source_in : CheckKind → List ℕ → Option ℕ
-source_in Simple piece = Some (slice_index piece 2)
-source_in Crc piece = None
