@@ -30,7 +30,7 @@ impl CreditRing {
     ///
     /// Fails only where there is no memory for them.
     pub fn new(alloc: Global) -> Result<CreditRing, AllocError>
-        ensures { IfOk result (λ ring. Holds ring []) }
+        ensures empty { IfOk result (λ ring. Holds ring []) }
     {
         let newest = HeapCircularBuffer::with_capacity(alloc, ROOM)?;
         Ok(CreditRing { counter: 0, newest })
@@ -39,7 +39,7 @@ impl CreditRing {
     /// Puts in an event: the counter rises, from 255 to 1, and of six events the oldest is forgotten. This can't be
     /// refused, and takes no memory.
     pub fn push(&mut self, pair: Pair)
-        ensures { (pushed : List Pair) → Holds self.old pushed → Holds self.new (pair ∷ pushed) }
+        ensures one_more { (pushed : List Pair) → Holds self.old pushed → Holds self.new (pair ∷ pushed) }
     {
         self.counter = self.counter.checked_add(1).unwrap_or(1);
         self.newest.push_front(pair);
@@ -47,7 +47,7 @@ impl CreditRing {
 
     /// Forgets every event, as a reset does: the counter is 0 again. The memory is kept.
     pub fn clear(&mut self)
-        ensures { Holds self.new [] }
+        ensures empty { Holds self.new [] }
     {
         self.counter = 0;
         self.newest.clear();
@@ -56,7 +56,8 @@ impl CreditRing {
     /// What header 229 reads: the event counter, which is 0 before the first event, then 1 to 255, and 1 again; and
     /// the last five events, newest first, filled up with (0, 0).
     pub fn reading(&self) -> Credits
-        ensures { (pushed : List Pair) → Holds self.now pushed → result ≡ record { counter = counter (length pushed); pairs = last_five pushed } }
+        ensures credits { (pushed : List Pair) → Holds self.now pushed →
+            result ≡ record { counter = counter (length pushed); pairs = last_five pushed } }
     {
         Credits {
             counter: self.counter,
@@ -72,7 +73,7 @@ impl CreditRing {
 
     /// The event at a place, 0 for the newest, or no event.
     fn event(&self, place: usize) -> Pair
-        ensures { result ≡ unwrap_or (slice_get self.now.newest.items place) no_event }
+        ensures event { result ≡ unwrap_or (slice_get self.now.newest.items place) no_event }
     {
         self.newest.get(place).copied().unwrap_or(NO_EVENT)
     }
