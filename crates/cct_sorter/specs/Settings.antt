@@ -1,0 +1,64 @@
+-- The inhibits and the sorter paths of a coin acceptor, read off all settings since its last reset, newest first
+-- (ccTalk Generic Specification 4, part 2).
+use Rattle.std.specs.Prelude.{ℕ, ◌-◌, ◌/◌, ◌%◌, ◌^◌, ◌==◌, nat_le, Bool, true, ◌&&◌, List, [], ◌∷◌, if◌then◌else◌, Option, Some, None, unwrap_or}
+
+-- A setting was asked for: an inhibit mask, a byte of the master inhibit, the sorter path of a coin place, or the
+-- default path; a path may be one that is refused.
+pub data Setting : Type 0 where
+  mask_set : (mask : ℕ) → Setting
+  master_set : (value : ℕ) → Setting
+  path_set : (place path : ℕ) → Setting
+  default_set : (path : ℕ) → Setting
+
+-- Coin places are 1 to 16.
+abbrev pub is_place : ℕ → Bool
+is_place place = nat_le 1 place && nat_le place 16
+
+-- Sorter paths are 1 to 8.
+abbrev pub is_path : ℕ → Bool
+is_path path = nat_le 1 path && nat_le path 8
+
+-- The inhibit mask is the one that was last set, and 0 before any.
+abbrev pub mask_of : List Setting → ℕ
+mask_of [] = 0
+mask_of (mask_set mask ∷ past) = mask
+mask_of (master_set value ∷ past) = mask_of past
+mask_of (path_set place path ∷ past) = mask_of past
+mask_of (default_set path ∷ past) = mask_of past
+
+-- The acceptor is in normal operation where bit 0 of the last byte of the master inhibit is 1, or none was set.
+abbrev pub is_normal : List Setting → Bool
+is_normal [] = true
+is_normal (master_set value ∷ past) = value % 2 == 1
+is_normal (mask_set mask ∷ past) = is_normal past
+is_normal (path_set place path ∷ past) = is_normal past
+is_normal (default_set path ∷ past) = is_normal past
+
+-- The default path is the last one in range that was set, and 1 before any.
+abbrev pub default_of : List Setting → ℕ
+default_of [] = 1
+default_of (default_set path ∷ past) = if is_path path then path else default_of past
+default_of (mask_set mask ∷ past) = default_of past
+default_of (master_set value ∷ past) = default_of past
+default_of (path_set place path ∷ past) = default_of past
+
+-- The path that was last set for a coin place, place and path being in range, or none.
+abbrev pub own_path_of : List Setting → ℕ → Option ℕ
+own_path_of [] place = None
+own_path_of (path_set other path ∷ past) place =
+    if is_place other && is_path path && (other == place) then Some path else own_path_of past place
+own_path_of (mask_set mask ∷ past) place = own_path_of past place
+own_path_of (master_set value ∷ past) place = own_path_of past place
+own_path_of (default_set path ∷ past) place = own_path_of past place
+
+-- A coin of a place falls by the path that was set for its place, and by the default path where none was.
+abbrev pub path_of : List Setting → ℕ → ℕ
+path_of past place = unwrap_or (own_path_of past place) (default_of past)
+
+-- A mask has a coin place where its bit is 1; bit 0 is place 1.
+unfoldable pub has_place : ℕ → ℕ → Bool
+has_place mask place = mask / 2 ^ (place - 1) % 2 == 1
+
+-- A coin of a place is accepted where the mask has its place and the acceptor is in normal operation.
+abbrev pub accepts : List Setting → ℕ → Bool
+accepts past place = has_place (mask_of past) place && is_normal past
