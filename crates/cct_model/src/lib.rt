@@ -16,4 +16,4 @@ pub use device::{DeviceBody, DeviceSetup, Devices, Setup};
 pub use entry::{End, Entry, LineKind};
 pub use record::{Judged, Record};
 pub use request::{Reply, Request};
-pub use wire::{CheckKind, Piece, Sent};
+pub use wire::{Bytes, CheckKind, Piece, Sent};

@@ -13,97 +13,43 @@ pub enum CheckKind {
     Crc,
 }
 
-/// A message as the host sends it: 260 bytes at the most, since a message has up to 255 data bytes.
+/// A run of bytes on the wire, `MOST` at the most.
 #[derive(Clone, Debug, Default, Drop, PartialEq, Eq)]
-pub struct Sent {
-    bytes: ArrayVec<u8, 260>,
+pub struct Bytes<const MOST: usize> {
+    bytes: ArrayVec<u8, MOST>,
 }
 
-impl Model for Sent {
-    ghost use Rattle.std.specs.Prelude.{◌≤◌, List, ℕ, length};
-
-    ghost Value = { List ℕ };
-
-    ghost view = { λ p. p.bytes.items };
-
-    ghost invariant = { λ p. length p.bytes.items ≤ 260 };
-
-    ghost inverse = { λ xs. record { bytes = record { items = xs } } };
-}
-
-impl Sent {
-    /// No byte.
-    pub fn new() -> Self
-        ensures { result ≡ [] }
-    {
-        Sent {
-            bytes: ArrayVec::new(),
-        }
-    }
-
-    /// Adds a byte at the end.
-    pub fn push(&mut self, byte: u8)
-        requires { length self.old < 260 }
-        ensures { self.new ≡ self.old ++ byte ∷ [] }
-    {
-        self.bytes.push(byte);
-    }
-
-    /// Adds bytes at the end.
-    pub fn extend_from_slice(&mut self, bytes: &[u8])
-        requires { length self.old + length bytes.now ≤ 260 }
-        ensures { self.new ≡ self.old ++ bytes.now }
-    {
-        self.bytes.try_extend_from_slice(bytes).unwrap();
-    }
-
-    /// Removes every byte.
-    pub fn clear(&mut self)
-        ensures { self.new ≡ [] }
-    {
-        self.bytes.clear();
-    }
-
-    /// The bytes in their order.
-    pub fn as_slice(&self) -> &[u8]
-        ensures value { result.now ≡ self.now }
-        ensures fits { length result.now ≤ 260 }
-    {
-        self.bytes.as_slice()
-    }
-}
+/// A message as the host sends it: 260 bytes at the most, since a message has up to 255 data bytes.
+pub type Sent = Bytes<260>;
 
 /// Any run of bytes between two gaps of the wire: 520 at the most, an echo and what follows it.
-#[derive(Clone, Debug, Default, Drop, PartialEq, Eq)]
-pub struct Piece {
-    bytes: ArrayVec<u8, 520>,
-}
+pub type Piece = Bytes<520>;
 
-impl Model for Piece {
+impl<const MOST: usize> Model for Bytes<MOST> {
     ghost use Rattle.std.specs.Prelude.{◌≤◌, List, ℕ, length};
 
     ghost Value = { List ℕ };
 
     ghost view = { λ p. p.bytes.items };
 
-    ghost invariant = { λ p. length p.bytes.items ≤ 520 };
+    ghost invariant = { λ p. length p.bytes.items ≤ MOST };
 
     ghost inverse = { λ xs. record { bytes = record { items = xs } } };
 }
 
-impl Piece {
+impl<const MOST: usize> Bytes<MOST> {
     /// No byte.
     pub fn new() -> Self
         ensures { result ≡ [] }
     {
-        Piece {
+        Bytes {
             bytes: ArrayVec::new(),
         }
     }
 
     /// Adds a byte at the end.
     pub fn push(&mut self, byte: u8)
-        requires { length self.old < 520 }
+        requires { length self.old < MOST }
         ensures { self.new ≡ self.old ++ byte ∷ [] }
     {
         self.bytes.push(byte);
@@ -111,7 +57,7 @@ impl Piece {
 
     /// Adds bytes at the end.
     pub fn extend_from_slice(&mut self, bytes: &[u8])
-        requires { length self.old + length bytes.now ≤ 520 }
+        requires { length self.old + length bytes.now ≤ MOST }
         ensures { self.new ≡ self.old ++ bytes.now }
     {
         self.bytes.try_extend_from_slice(bytes).unwrap();
@@ -127,7 +73,7 @@ impl Piece {
     /// The bytes in their order.
     pub fn as_slice(&self) -> &[u8]
         ensures value { result.now ≡ self.now }
-        ensures fits { length result.now ≤ 520 }
+        ensures fits { length result.now ≤ MOST }
     {
         self.bytes.as_slice()
     }
