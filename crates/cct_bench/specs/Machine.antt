@@ -37,6 +37,7 @@ pub record Stands (acceptor : Acceptor) (job : Option Job) (recorded : ℕ) (pas
   pub works : IsJob job (model.job (lines_of the_acceptor past)) (model.recorded (lines_of the_acceptor past))
   pub counts : recorded ≡ model.recorded (lines_of the_acceptor past)
 
+-- A machine is as these entries, newest first, leave it.
 abbrev pub StandsFor : Machine → List Entry → Type 0
 StandsFor machine past = Stands machine.acceptor machine.job machine.recorded past
 
@@ -63,5 +64,6 @@ JudgedAs judged.Nothing old new job = (new ≡ old ++ entry.Ended the_address Cl
 JudgedAs (judged.Reading e) old new job = (new ≡ old) × (job ≡ Some (Put e))
 JudgedAs (judged.Broken e) old new job = (new ≡ old) × (job ≡ Some (Put e))
 
+-- The same of what the credits mean beside the recorded event counter.
 abbrev pub Judges : ℕ → Credits → List Entry → List Entry → Option Job → Type 0
 Judges recorded credits old new job = JudgedAs (model.judged_by the_address recorded (Some credits)) old new job

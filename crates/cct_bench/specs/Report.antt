@@ -9,6 +9,7 @@ abbrev pub wire_entries : Option ℕ → List ℕ → List ℕ → List Entry
 wire_entries (Some addr) sent heard = entry.Wire addr sent heard ∷ []
 wire_entries None sent heard = []
 
+-- The entry of the exchange of a report, where it has one.
 abbrev pub exchange_of : Report → List Entry
 exchange_of r = wire_entries r.asked r.sent r.heard
 

@@ -93,12 +93,13 @@ IsCounted number (plays s next) = number ≤ 1048576
 IsCounted number ends = Unit {0}
 IsCounted number (refuses why) = Unit {0}
 
--- The status of an ending, and its last line.
+-- The status of an ending.
 abbrev pub status_of : Ending → Status
 status_of ending.Done = status.Done
 status_of (ending.Refused number kind) = status.ScriptRefused
 status_of ending.Unread = status.ReadFault
 
+-- The last line of an ending, if it has one.
 abbrev pub tail_of : Ending → List Entry
 tail_of ending.Done = []
 tail_of (ending.Refused number kind) = entry.Line number kind ∷ []

@@ -79,6 +79,7 @@ abbrev pub base_by : Record → List Line → ℕ → ℕ
 base_by (record_of.Reading addr counter lost posted) past before = arrivals (reading past)
 base_by (record_of.Broken addr seen counter posted) past before = before
 
+-- The same after all these lines: 0 before any recorded reading.
 abbrev pub base : List Line → ℕ
 base [] = 0
 base (put entry ∷ past) = base_by entry past (base past)
@@ -88,6 +89,7 @@ base (_ ∷ past) = base past
 abbrev pub Near : List Line → Type 0
 Near past = arrivals (reading past) < base past + 255
 
+-- An item, a record put or a clean end, is near.
 abbrev pub PaceAt : List Line → Line → Type 0
 PaceAt past (put entry) = Near past
 PaceAt past (ended Clean) = Near past

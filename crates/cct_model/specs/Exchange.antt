@@ -71,6 +71,7 @@ abbrev pub put_by_address : DeviceSetup → List DeviceSetup → List DeviceSetu
 put_by_address d [] = d ∷ []
 put_by_address d (e ∷ es) = if nat_le d.addr e.addr then d ∷ e ∷ es else e ∷ put_by_address d es
 
+-- All devices of a list in rising order of address.
 abbrev pub by_address : List DeviceSetup → List DeviceSetup
 by_address [] = []
 by_address (d ∷ ds) = put_by_address d (by_address ds)

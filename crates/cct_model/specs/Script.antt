@@ -10,12 +10,15 @@ use Rattle.cct_model.specs.declared.command.Step.TheVariants as step
 use Rattle.cct_model.specs.declared.entry.LineKind.{LineKind}
 use Rattle.cct_model.specs.declared.entry.LineKind.TheVariants as kind
 
+-- The byte is a space.
 abbrev pub is_space : ℕ → Bool
 is_space byte = byte == 32
 
+-- The byte is a line feed.
 abbrev pub is_line_feed : ℕ → Bool
 is_line_feed byte = byte == 10
 
+-- The byte is a decimal digit.
 abbrev pub is_digit : ℕ → Bool
 is_digit byte = nat_le 48 byte && nat_le byte 57
 
@@ -81,6 +84,8 @@ pub data Read : Type 0 where
 abbrev pub most_coins : ℕ
 most_coins = 200
 
+-- A step is played, and the line `end` ends the script; a line that spells no step, and a coin line past the most,
+-- are refused.
 abbrev pub read_step : ℕ → Option Step → Read
 read_step coin_lines None = refuses kind.Form
 read_step coin_lines (Some step.End) = ends
@@ -95,10 +100,11 @@ read_form at_device line = if bytes_eq line (codes "acceptor 2 simple 1 0") then
 read_form at_begin line = if bytes_eq line (codes "begin") then opens (at_steps 0) else refuses kind.Form
 read_form (at_steps coin_lines) line = read_step coin_lines (step_in (slice_split is_space line))
 
--- The most lines of a script, and the most bytes of a line.
+-- The most lines of a script.
 unfoldable pub most_lines : ℕ
 most_lines = 1048576
 
+-- The most bytes of a line, without its line feed.
 abbrev pub most_bytes : ℕ
 most_bytes = 1200
 
@@ -127,9 +133,11 @@ pub record Script : Type 0 where
   pub steps : List Step
   pub refused : Option Refusal
 
+-- A script that says no more steps: its end was read.
 abbrev pub ended_script : Script
 ended_script = record { setup = one_acceptor; steps = []; refused = None }
 
+-- A script that says no more steps: this line is refused.
 abbrev pub refused_script : ℕ → LineKind → Script
 refused_script number why = record { setup = one_acceptor; steps = []; refused = Some (record { number = number; why = why }) }
 

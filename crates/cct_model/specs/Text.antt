@@ -38,21 +38,26 @@ abbrev pub coins_field : List Coin → List ℕ
 coins_field [] = hyphen
 coins_field (coin ∷ coins) = join_with_byte 44 (map coin_text (coin ∷ coins))
 
+-- The fields of a record.
 abbrev pub record_fields : Record → List (List ℕ)
 record_fields (record_of.Reading addr counter lost posted) = codes "reading" ∷ decimal addr ∷ decimal counter ∷ decimal lost ∷ coins_field posted ∷ []
 record_fields (record_of.Broken addr seen counter posted) = codes "broken" ∷ decimal addr ∷ mask_field seen ∷ decimal counter ∷ coins_field posted ∷ []
 
+-- The fields of a command.
 abbrev pub command_fields : Command → List (List ℕ)
 command_fields (Round addr) = codes "round" ∷ decimal addr ∷ []
 
+-- The field of the reason why a command is refused.
 abbrev pub reason_fields : CommandNo → List (List ℕ)
 reason_fields Busy = codes "busy" ∷ []
 
+-- The fields of a job's end.
 abbrev pub end_fields : ℕ → End → List (List ℕ)
 end_fields addr Clean = codes "clean" ∷ decimal addr ∷ []
 end_fields addr Posted = codes "posted" ∷ decimal addr ∷ []
 end_fields addr Broke = codes "broke" ∷ decimal addr ∷ []
 
+-- The field of a refused line's kind.
 abbrev pub kind_field : LineKind → List ℕ
 kind_field kind.Lines = codes "lines"
 kind_field kind.Long = codes "long"
