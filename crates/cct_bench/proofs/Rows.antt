@@ -1,11 +1,13 @@
 -- The rows of a round, and what they leave.
 use Rattle.std.proofs.Common.{◌≡◌, ℕ, suc, Bool, true, false, cond, List, [], ◌∷◌, ◌++◌, reverse, Option, None, Some, refl, ap, ap₂, sym, ◌∙◌, subst}
-use Rattle.std.specs.Prelude.{option_and_then}
+use Rattle.std.specs.Prelude.{option_and_then, unwrap_or}
 use Rattle.std.proofs.lemmas.List.{append-nil}
 use Rattle.cct_model.specs.declared.wire.CheckKind.TheVariants.{Simple}
 use Rattle.cct_model.specs.declared.coin.Credits.{Credits}
 use Rattle.cct_model.specs.declared.request.Request.TheVariants.{ReadCredits}
-use Rattle.cct_model.specs.declared.request.Reply.TheVariants as reply
+use Rattle.cct_model.specs.declared.request.ReplyForm.TheVariants as form
+use Rattle.cct_model.specs.Request.{form_of}
+use Rattle.cct_model.specs.Reply as reply
 use Rattle.cct_model.specs.declared.record.Record.{Record}
 use Rattle.cct_model.specs.declared.record.Judged.{Judged}
 use Rattle.cct_model.specs.declared.record.Judged.TheVariants.{Nothing, Reading, Broken}
@@ -22,9 +24,8 @@ use Rattle.cct_model.specs.Line.{Line, exchange, put}
 use Rattle.cct_model.specs.Job as model
 use Rattle.cct_model.specs.Transcript.{met, lines_of, heard_after, got_by, owner, at}
 use Rattle.cct_model.specs.Legal.{NextEntries, RowEntries, with_end}
-use Rattle.cct_model.specs.Script.{the_address, one_acceptor}
-use Rattle.cct_laws.specs.Law.{the_acceptor}
-use Rattle.cct_laws.proofs.Exchanges.{asked_back, exchanged, credits_spelled, credits_wanted}
+use Rattle.cct_model.specs.Script.{the_address, the_acceptor, one_acceptor}
+use Rattle.cct_laws.proofs.Exchanges.{asked_back, asks_back, credits_spelled, credits_form, credits_exchanged}
 use Rattle.cct_bench.specs.declared.acceptor.Acceptor.{Acceptor}
 use Rattle.cct_bench.specs.declared.machine.Job.{Job}
 use Rattle.cct_bench.specs.declared.machine.Job.TheVariants.{Ask, Put}
@@ -33,9 +34,9 @@ use Rattle.cct_bench.specs.Report.{wire_entries}
 use Rattle.cct_bench.specs.Machine.{IsJob, Stands, JudgedAs, Judges}
 
 -- the one device's answer is all that follows the echo
-pub heard_from_one : (past : List Entry) (sent : List ℕ) → heard_after one_acceptor past sent ≡ sent ++ answer the_acceptor (met the_acceptor past) sent
+pub heard_from_one : (past : List Entry) (sent : List ℕ) → heard_after one_acceptor past sent ≡ sent ++ unwrap_or (answer the_acceptor (met the_acceptor past) sent) []
 unfolding heard_after
-heard_from_one past sent = ap (λ answers. sent ++ answers) (append-nil (answer the_acceptor (met the_acceptor past) sent))
+heard_from_one past sent = ap (λ answers. sent ++ answers) (append-nil (unwrap_or (answer the_acceptor (met the_acceptor past) sent) []))
 
 -- a judged record belongs to the address that was judged
 owner_chosen : (b c : Bool) (r s e : Record) (addr : ℕ) → owner r ≡ addr → owner s ≡ addr →
@@ -97,7 +98,7 @@ put_goes acceptor e recorded new past report h n r =
 
 -- the line of an exchange that read credits
 abbrev pub reads : Credits → Line
-reads credits = exchange (Some ReadCredits) (Some (reply.Credits credits))
+reads credits = exchange (Some ReadCredits) (Some (reply.credits credits))
 
 -- the request for the credits, and what is heard after it
 abbrev pub request : List ℕ
@@ -116,14 +117,19 @@ credits_at past = credits_of (met the_acceptor past)
 -- the line of the exchange
 line_of_wire : (past : List Entry) → exchange (asked Simple request) (got_by the_acceptor request (heard_of past)) ≡ reads (credits_at past)
 line_of_wire past =
-    ap₂ exchange (asked_back the_address ReadCredits credits_spelled) (exchanged the_acceptor past ReadCredits refl credits_spelled (credits_wanted (met the_acceptor past)))
+    ap₂ exchange (asked_back the_address ReadCredits credits_spelled) (credits_exchanged the_acceptor past refl tt)
 
 -- what the host gets of it
-pub got_credits : (past : List Entry) → got Simple the_address ReadCredits request (heard_of past) ≡ Some (reply.Credits (credits_at past))
+pub got_credits : (past : List Entry) → got Simple the_address form.Credits request (heard_of past) ≡ Some (reply.credits (credits_at past))
 unfolding got_by
 got_credits past =
-    sym (ap (option_and_then (λ q. got Simple the_address q request (heard_of past))) (asked_back the_address ReadCredits credits_spelled))
-    ∙ exchanged the_acceptor past ReadCredits refl credits_spelled (credits_wanted (met the_acceptor past))
+    let wanted : option_and_then form_of (asked Simple request) ≡ Some form.Credits = ap (option_and_then form_of) (asked_back the_address ReadCredits credits_spelled) ∙ credits_form in
+    sym (ap (option_and_then (λ f. got Simple the_address f request (heard_of past))) wanted)
+    ∙ credits_exchanged the_acceptor past refl tt
+
+-- and what it asks of the acceptor
+pub asks_credits : asks_of the_acceptor request ≡ Some ReadCredits
+asks_credits = asks_back the_acceptor ReadCredits refl credits_spelled
 
 -- the entries of the exchange, by what the credits mean
 judged_news : (wire : Entry) (judged : Judged) (report : List Entry) (job : Option Job) → JudgedAs judged (wire ∷ []) report job →
@@ -195,11 +201,11 @@ ask_goes old acceptor recorded past report credits job s acts k h =
 
 -- the credits that the host reads in an exchange
 pub read_credits : (past : List Entry) (sent s piece p : List ℕ) (credits : Option Credits) → sent ≡ request → piece ≡ heard_after one_acceptor past sent → s ≡ sent → p ≡ piece →
-    credits ≡ model.credits_reply (got Simple the_address ReadCredits s p) → credits ≡ Some (credits_at past)
+    credits ≡ model.credits_reply (got Simple the_address form.Credits s p) → credits ≡ Some (credits_at past)
 read_credits past sent s piece p credits was_sent was_heard s_is p_is e =
     e
     ∙ (
-    ap₂ (λ x y. model.credits_reply (got Simple the_address ReadCredits x y)) (s_is ∙ was_sent) (p_is ∙ (was_heard ∙ ap (heard_after one_acceptor past) was_sent))
+    ap₂ (λ x y. model.credits_reply (got Simple the_address form.Credits x y)) (s_is ∙ was_sent) (p_is ∙ (was_heard ∙ ap (heard_after one_acceptor past) was_sent))
     ∙ ap model.credits_reply (got_credits past)
     )
 

@@ -12,9 +12,8 @@ use Rattle.cct_model.specs.declared.entry.Entry.{Entry}
 use Rattle.cct_model.specs.Job as model
 use Rattle.cct_model.specs.Transcript.{met, lines_of}
 use Rattle.cct_model.specs.Legal.{Entries}
-use Rattle.cct_model.specs.Script.{the_address, one_acceptor}
+use Rattle.cct_model.specs.Script.{the_address, the_acceptor, one_acceptor}
 use Rattle.cct_bench.specs.Acceptor.{ActsAs}
-use Rattle.cct_laws.specs.Law.{the_acceptor}
 use Rattle.cct_bench.specs.declared.acceptor.Acceptor.{Acceptor}
 use Rattle.cct_bench.specs.declared.acceptor.Inserted.{Inserted}
 use Rattle.cct_bench.specs.declared.acceptor.Inserted.TheVariants as inserted

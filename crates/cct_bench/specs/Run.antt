@@ -10,9 +10,9 @@ use Rattle.cct_model.specs.declared.entry.Entry.{Entry}
 use Rattle.cct_model.specs.declared.entry.Entry.TheVariants as entry
 use Rattle.cct_model.specs.Claims.{InOrder, Covers}
 use Rattle.cct_model.specs.Legal.{Legal}
-use Rattle.cct_model.specs.Script.{is_line_feed, Stage, Read, opens, plays, ends, refuses, stage_after, goes_on, script_from, refused_script, Refusal, script}
+use Rattle.cct_model.specs.Script.{is_line_feed, Stage, Read, opens, plays, ends, refuses, stage_after, goes_on, script_from, refused_script, Refusal, script, the_acceptor}
 use Rattle.cct_model.specs.Text.{text}
-use Rattle.cct_laws.specs.Law.{the_acceptor, lines_in}
+use Rattle.cct_laws.specs.Law.{lines_in}
 use Rattle.cct_bench.specs.declared.outcome.Status.{Status}
 use Rattle.cct_bench.specs.declared.outcome.Status.TheVariants as status
 use Rattle.cct_edge.specs.Bytes.{AppendsFront}

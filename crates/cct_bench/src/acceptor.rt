@@ -1,10 +1,12 @@
 //! The coin acceptor of the bench (ccTalk Generic Specification 4, part 2).
 ghost use Rattle.std.specs.Prelude.{◌≡◌, ℕ, ◌+◌, ◌≤◌, ◌==◌, List, [], ◌∷◌, take, length, if◌then◌else◌, Some, option_and_then};
+ghost use Rattle.cct_model.specs.declared.request.Request.TheVariants.{SetMask};
 ghost use Rattle.cct_model.specs.History.{Met, coin, heard};
-ghost use Rattle.cct_model.specs.Acceptor.{has_place, reply_of};
+ghost use Rattle.cct_model.specs.Setting.{has_place};
+ghost use Rattle.cct_model.specs.Acceptor.{credits_of};
 ghost use Rattle.cct_bench.specs.Acceptor.{ActsAs, inserted};
 
-use cct_model::{Coin, Credits, Pair, Reply, Request};
+use cct_model::{Coin, Credits, Pair};
 
 /// The sorter path by which every coin falls.
 const PATH: u8 = 1;
@@ -33,7 +35,7 @@ pub enum Inserted {
 impl Acceptor {
     /// An acceptor that has heard nothing but that every coin place is accepted.
     pub fn new() -> Self
-        ensures { ActsAs result (heard (Some (Request.SetMask OPEN_MASK)) ∷ []) }
+        ensures { ActsAs result (heard (Some (SetMask OPEN_MASK)) ∷ []) }
     {
         Acceptor {
             mask: OPEN_MASK,
@@ -58,20 +60,13 @@ impl Acceptor {
         }
     }
 
-    /// A request is heard, and acted on.
-    pub fn reply(&mut self, request: Request) -> Reply
-        ensures acts { (past : List Met) → ActsAs self.old past → ActsAs self.new (heard (Some request) ∷ past) }
-        ensures answer { (past : List Met) → ActsAs self.old past → result ≡ reply_of past request }
+    /// What header 229 reads: the event counter and the last five events.
+    pub fn credits(&self) -> Credits
+        ensures { (past : List Met) → ActsAs self.now past → result ≡ credits_of past }
     {
-        match request {
-            Request::ReadCredits => Reply::Credits(Credits {
-                counter: self.counter,
-                pairs: self.pairs,
-            }),
-            Request::SetMask { mask } => {
-                self.mask = mask;
-                Reply::Ack
-            }
+        Credits {
+            counter: self.counter,
+            pairs: self.pairs,
         }
     }
 

@@ -1,20 +1,22 @@
 //! The bytes of an exchange: what the host asks, what the acceptor answers, and what the host reads of it.
-ghost use Rattle.std.specs.Prelude.{◌≡◌, ◌≤◌, ℕ, List, [], ◌∷◌, ◌++◌, length, None, Some, MatchOption};
+ghost use Rattle.std.specs.Prelude.{◌≡◌, ◌≢◌, ◌↔◌, ◌≤◌, ℕ, true, List, [], ◌∷◌, ◌++◌, length, None, Some};
 ghost use Rattle.cct_model.specs.declared.wire.CheckKind.TheVariants.{Simple};
 ghost use Rattle.cct_model.specs.History.{Met, heard};
 ghost use Rattle.cct_model.specs.Message.{spelling};
-ghost use Rattle.cct_model.specs.Request.{request_of, reply_in, reply_data};
+ghost use Rattle.cct_model.specs.declared.request.Request.TheVariants.{ReadCredits};
+ghost use Rattle.cct_model.specs.declared.request.ReplyForm.TheVariants as form;
+ghost use Rattle.cct_model.specs.Reply as reply;
+ghost use Rattle.cct_model.specs.Reply.{reply_in, reply_data};
 ghost use Rattle.cct_model.specs.Exchange.{ask, asked_of, asks_of, asker, answer, replying, reply_from, got};
 ghost use Rattle.cct_model.specs.Job.{credits_reply};
-ghost use Rattle.cct_model.specs.Script.{the_address};
+ghost use Rattle.cct_model.specs.Script.{the_address, the_acceptor};
 ghost use Rattle.cct_frame.specs.Frame.{message_of};
 ghost use Rattle.cct_bench.specs.Acceptor.{ActsAs};
-ghost use Rattle.cct_laws.specs.Law.{the_acceptor};
 
 use crate::acceptor::Acceptor;
 use arrayvec::ArrayVec;
 use cct_frame::{FrameView, read, write};
-use cct_model::{CheckKind, Credits, Pair, Reply, Request};
+use cct_model::{CheckKind, Credits, Pair};
 use cct_wire::{Heard, hear};
 
 /// The address of the host.
@@ -29,82 +31,66 @@ const REPLY: u8 = 0;
 /// The header that reads the credit buffer.
 const READ_CREDITS: u8 = 229;
 
-/// The header that sets the inhibit mask.
-const SET_MASK: u8 = 231;
-
 /// Writes the request for the acceptor's credits.
-#[tactic(auto, unfolding(cct_model::specs::Exchange::ask))]
+#[tactic(auto, unfolding(cct_model::specs::Exchange::ask, cct_model::specs::Request::data_of))]
 pub fn ask_credits(out: &mut ArrayVec<u8, 260>)
-    ensures { out.new.items ≡ ask CheckKind.Simple the_address Request.ReadCredits }
+    ensures { out.new.items ≡ ask CheckKind.Simple the_address ReadCredits }
 {
     write(CheckKind::Simple, ADDRESS, HOST, READ_CREDITS, &[], out);
 }
 
-/// The acceptor hears a piece, acts on it, and writes its answer; it is silent to what it doesn't know.
-pub fn answer(acceptor: &mut Acceptor, piece: &[u8], out: &mut ArrayVec<u8, 260>)
-    ensures acts { (past : List Met) → ActsAs acceptor.old past
-        → ActsAs acceptor.new (heard (asks_of the_acceptor piece.now) ∷ past) }
-    ensures answer { (past : List Met) → ActsAs acceptor.old past → out.new.items ≡ answer the_acceptor past piece.now }
+/// The acceptor hears a piece, and writes its credits where the piece asks for them; else it is silent.
+#[tactic(auto, using(crate::proofs::Hearing::answers_credits, crate::proofs::Hearing::hears_credits))]
+pub fn answer(acceptor: &Acceptor, piece: &[u8], out: &mut ArrayVec<u8, 260>)
+    ensures asked { (past : List Met) → ActsAs acceptor.now past → asks_of the_acceptor piece.now ≡ Some ReadCredits
+        → (answer the_acceptor past piece.now ≡ Some out.new.items)
+        × ActsAs acceptor.now (heard (asks_of the_acceptor piece.now) ∷ past) }
+    ensures not_asked { asks_of the_acceptor piece.now ≢ Some ReadCredits → out.new.items ≡ [] }
 {
-    match request_heard(piece) {
+    match credits_asker(piece) {
         None => out.clear(),
-        Some((to, request)) => {
-            let reply = acceptor.reply(request);
-            write_reply(to, &reply, out);
-        }
+        Some(to) => write_credits(to, &acceptor.credits(), out),
     }
 }
 
-/// What a piece asks of the acceptor, and to whom the reply goes.
+/// To whom the reply goes, where a piece asks the acceptor for its credits.
 #[tactic(auto, unfolding(cct_model::specs::Exchange::asks_of, cct_model::specs::Exchange::asker))]
-fn request_heard(piece: &[u8]) -> Option<(u8, Request)>
-    ensures { MatchOption result (asks_of the_acceptor piece.now ≡ None)
-        (λ heard. (asker CheckKind.Simple piece.now ≡ heard.0) × (asks_of the_acceptor piece.now ≡ Some heard.1)) }
+fn credits_asker(piece: &[u8]) -> Option<u8>
+    ensures asked { asks_of the_acceptor piece.now ≡ Some ReadCredits → result ≡ Some (asker CheckKind.Simple piece.now) }
+    ensures not_asked { asks_of the_acceptor piece.now ≢ Some ReadCredits → result ≡ None }
 {
     match read(CheckKind::Simple, piece) {
         Err(_) => None,
-        Ok(view) => match request_of(&view) {
-            None => None,
-            Some(request) => Some((view.from.unwrap_or(HOST), request)),
-        },
-    }
-}
-
-/// What a message asks of the acceptor, where it is for its address.
-#[tactic(auto, unfolding(cct_model::specs::Request::request_of))]
-fn request_of(view: &FrameView) -> Option<Request>
-    ensures { result ≡ asked_of the_address (message_of view.now) }
-{
-    if view.to != ADDRESS {
-        return None;
-    }
-    match view.body {
-        [] if view.header == READ_CREDITS => Some(Request::ReadCredits),
-        [low, high] if view.header == SET_MASK => Some(Request::SetMask {
-            mask: u16::from_le_bytes([*low, *high]),
-        }),
-        _ => None,
-    }
-}
-
-/// Writes the acceptor's reply.
-#[tactic(auto, unfolding(cct_model::specs::Request::reply_data))]
-fn write_reply(to: u8, reply: &Reply, out: &mut ArrayVec<u8, 260>)
-    ensures { out.new.items ≡ spelling CheckKind.Simple (replying to the_address reply.now) }
-{
-    match reply {
-        Reply::Ack => write(CheckKind::Simple, to, ADDRESS, REPLY, &[], out),
-        Reply::Credits(credits) => {
-            let body = credit_bytes(credits);
-            write(CheckKind::Simple, to, ADDRESS, REPLY, &body, out);
+        Ok(view) => {
+            if asks_credits(&view) {
+                Some(view.from.unwrap_or(HOST))
+            } else {
+                None
+            }
         }
     }
 }
 
+/// Whether a message asks the acceptor for its credits.
+fn asks_credits(view: &FrameView) -> bool
+    ensures { (result ≡ true) ↔ (asked_of the_address (message_of view.now) ≡ Some ReadCredits) }
+{
+    view.to == ADDRESS && view.header == READ_CREDITS && view.body.is_empty()
+}
+
+/// Writes the acceptor's reply with its credits.
+#[tactic(auto, unfolding(cct_model::specs::Reply::reply_data))]
+fn write_credits(to: u8, credits: &Credits, out: &mut ArrayVec<u8, 260>)
+    ensures { out.new.items ≡ spelling CheckKind.Simple (replying to the_address (reply.credits credits.now)) }
+{
+    let body = credit_bytes(credits);
+    write(CheckKind::Simple, to, ADDRESS, REPLY, &body, out);
+}
+
 /// The data bytes of a reply with credits.
-#[tactic(auto, unfolding(cct_model::specs::Request::reply_data))]
+#[tactic(auto, unfolding(cct_model::specs::Reply::reply_data))]
 fn credit_bytes(credits: &Credits) -> [u8; 11]
-    ensures { result ≡ reply_data (Reply.Credits credits.now) }
+    ensures { result ≡ reply_data (reply.credits credits.now) }
 {
     let [first, second, third, fourth, fifth] = credits.pairs;
     [
@@ -124,7 +110,7 @@ fn credit_bytes(credits: &Credits) -> [u8; 11]
 
 /// The credits that the host reads in what it heard after its request, or none where it isn't the wanted reply.
 pub fn credits_heard(sent: &[u8], piece: &[u8]) -> Option<Credits>
-    ensures { result ≡ credits_reply (got CheckKind.Simple the_address Request.ReadCredits sent.now piece.now) }
+    ensures { result ≡ credits_reply (got CheckKind.Simple the_address form.Credits sent.now piece.now) }
 {
     match hear(CheckKind::Simple, sent, piece) {
         Heard::EchoBad { .. } => None,
@@ -136,7 +122,7 @@ pub fn credits_heard(sent: &[u8], piece: &[u8]) -> Option<Credits>
 
 /// The credits that a message is, where it is the acceptor's reply to the host.
 fn credits_from(view: &FrameView) -> Option<Credits>
-    ensures { result ≡ credits_reply (reply_from the_address Request.ReadCredits (message_of view.now)) }
+    ensures { result ≡ credits_reply (reply_from form.Credits the_address (message_of view.now)) }
 {
     if view.to != HOST || view.header != REPLY {
         return None;
@@ -148,9 +134,9 @@ fn credits_from(view: &FrameView) -> Option<Credits>
 }
 
 /// The credits that the data bytes of a reply are.
-#[tactic(auto, unfolding(cct_model::specs::Request::reply_in))]
+#[tactic(auto, unfolding(cct_model::specs::Reply::reply_in))]
 fn credits_in(body: &[u8]) -> Option<Credits>
-    ensures { result ≡ credits_reply (reply_in Request.ReadCredits body.now) }
+    ensures { result ≡ credits_reply (reply_in form.Credits body.now) }
 {
     match body {
         [counter, a1, b1, a2, b2, a3, b3, a4, b4, a5, b5] => Some(Credits {

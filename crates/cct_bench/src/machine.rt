@@ -6,9 +6,8 @@ ghost use Rattle.cct_model.specs.declared.wire.CheckKind.TheVariants.{Simple};
 ghost use Rattle.cct_model.specs.History.{heard};
 ghost use Rattle.cct_model.specs.Exchange.{ask, asks_of};
 ghost use Rattle.cct_model.specs.Job.{recorded_by, end_of_put};
-ghost use Rattle.cct_model.specs.Script.{the_address, one_acceptor, IsInRange};
+ghost use Rattle.cct_model.specs.Script.{the_address, the_acceptor, one_acceptor, IsInRange};
 ghost use Rattle.cct_model.specs.Transcript.{met, heard_after};
-ghost use Rattle.cct_laws.specs.Law.{the_acceptor};
 ghost use Rattle.cct_bench.specs.Acceptor.{ActsAs};
 ghost use Rattle.cct_bench.specs.Report.{entries_of};
 ghost use Rattle.cct_bench.specs.Machine.{Stands, StandsFor, Goes, Plays, Advances, Judges, coin_entry_of};
@@ -140,7 +139,7 @@ impl Machine {
         sent.extend_from_slice(self.frame.as_slice());
         piece.clear();
         piece.extend_from_slice(sent.as_slice());
-        answer(&mut self.acceptor, sent.as_slice(), &mut self.frame);
+        answer(&self.acceptor, sent.as_slice(), &mut self.frame);
         piece.extend_from_slice(self.frame.as_slice());
     }
 

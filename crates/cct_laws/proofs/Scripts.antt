@@ -11,8 +11,8 @@ use Rattle.cct_model.specs.declared.entry.LineKind.{LineKind}
 use Rattle.cct_model.specs.declared.entry.LineKind.TheVariants as kind
 use Rattle.cct_model.specs.Claims.{InOrder, Covers}
 use Rattle.cct_model.specs.Legal.{Legal}
-use Rattle.cct_model.specs.Script.{Stage, at_device, at_begin, at_steps, Read, opens, plays, ends, refuses, Script, IsInRange, coin_steps, most_coins, one_acceptor, the_address, number_in, within, is_space, is_line_feed, most_lines, most_bytes, place_in, plain_step, step_in, read_step, read_form, read_line, stage_after, goes_on, script_from, script}
-use Rattle.cct_laws.specs.Law.{machine_of, HasPlace, lines_in, the_acceptor}
+use Rattle.cct_model.specs.Script.{Stage, at_device, at_begin, at_steps, Read, opens, plays, ends, refuses, Script, IsInRange, coin_steps, most_coins, one_acceptor, the_acceptor, the_address, number_in, within, is_space, is_line_feed, most_lines, most_bytes, place_in, plain_step, step_in, read_step, read_form, read_line, stage_after, goes_on, script_from, script}
+use Rattle.cct_laws.specs.Law.{machine_of, HasPlace, lines_in}
 use Rattle.cct_laws.proofs.Whole.{legal_in_order, legal_covers}
 use Rattle.cct_laws.proofs.Paces.{legal_keeps_pace}
 
@@ -170,6 +170,6 @@ played_holds bytes played rest transcript fronts legal =
     let places : All HasPlace played = All-weaker IsInRange HasPlace has_place played (played_in_range bytes played rest fronts) in
     let plays_one : Legal (machine_of the_acceptor) played transcript = subst (λ setup. Legal setup played transcript) (setup_of_script bytes) legal in
     let few : coin_steps played < 255 = omega (arith, played_few bytes played rest fronts) in (
-      legal_in_order the_acceptor played transcript refl places plays_one,
-      legal_covers the_acceptor played transcript refl places plays_one (legal_keeps_pace the_acceptor played transcript plays_one few),
+      legal_in_order the_acceptor played transcript refl tt places plays_one,
+      legal_covers the_acceptor played transcript refl tt places plays_one (legal_keeps_pace the_acceptor played transcript plays_one few),
     )

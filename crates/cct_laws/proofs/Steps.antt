@@ -9,6 +9,7 @@ use Rattle.cct_model.specs.declared.entry.Entry.{Entry}
 use Rattle.cct_model.specs.declared.entry.Entry.TheVariants as entry
 use Rattle.cct_model.specs.History.{coin}
 use Rattle.cct_model.specs.Acceptor.{accepts, path_of, events}
+use Rattle.cct_model.specs.Device.{IsAcceptor}
 use Rattle.cct_model.specs.Job.{Job, free, works, job, address_of}
 use Rattle.cct_model.specs.Legal.{coin_entry, command_entry, refusal, NextEntries, Entries}
 use Rattle.cct_model.specs.Transcript.{met, lines_of}
@@ -43,21 +44,21 @@ step_command d past command free here keeps = rw (eq-eqb (address_of command) d.
 step_command d past command (works other since) here keeps = keeps
 
 -- a next
-step_next : (d : DeviceSetup) (past news : List Entry) (at_work : Job) → d.kind ≡ Simple → job (lines_of d past) ≡ at_work → NextEntries (machine_of d) d past at_work news → KeepsAt d past → KeepsAt d (news ++ past)
-step_next d past news free simple is_job told keeps = rw told keeps
-step_next d past news (works command since) simple is_job told keeps =
+step_next : (d : DeviceSetup) (past news : List Entry) (at_work : Job) → d.kind ≡ Simple → IsAcceptor d.body → job (lines_of d past) ≡ at_work → NextEntries (machine_of d) d past at_work news → KeepsAt d past → KeepsAt d (news ++ past)
+step_next d past news free simple accepting is_job told keeps = rw told keeps
+step_next d past news (works command since) simple accepting is_job told keeps =
     let stands : Stands d.addr (events (met d past)) (lines_of d past) (works command since) = rw is_job at keeps.stands in
-    step_row d past news command since simple is_job stands.0 stands.1 told keeps
+    step_row d past news command since simple accepting is_job stands.0 stands.1 told keeps
 
 -- every step
-pub keeps_step : (d : DeviceSetup) (past news : List Entry) (s : Step) → d.kind ≡ Simple → HasPlace s → Entries (machine_of d) past s news → KeepsAt d past → KeepsAt d (news ++ past)
-keeps_step d past news (step.Coin addr place) simple has_place told keeps =
+pub keeps_step : (d : DeviceSetup) (past news : List Entry) (s : Step) → d.kind ≡ Simple → IsAcceptor d.body → HasPlace s → Entries (machine_of d) past s news → KeepsAt d past → KeepsAt d (news ++ past)
+keeps_step d past news (step.Coin addr place) simple accepting has_place told keeps =
     let here = only d addr (λ e. news ≡ coin_entry e past place ∷ []) told in
     rw here.1 (step_coin d past place has_place keeps)
-keeps_step d past news (step.Command command) simple has_place told keeps =
+keeps_step d past news (step.Command command) simple accepting has_place told keeps =
     let here = only d (address_of command) (λ e. news ≡ command_entry command (refusal (job (lines_of e past))) ∷ []) told in
     rw here.1 (step_command d past command (job (lines_of d past)) here.0 keeps)
-keeps_step d past news (step.Next addr) simple has_place told keeps =
+keeps_step d past news (step.Next addr) simple accepting has_place told keeps =
     let here = only d addr (λ e. NextEntries (machine_of d) e past (job (lines_of e past)) news) told in
-    step_next d past news (job (lines_of d past)) simple refl here.1 keeps
-keeps_step d past news step.End simple has_place told keeps = absurd told
+    step_next d past news (job (lines_of d past)) simple accepting refl here.1 keeps
+keeps_step d past news step.End simple accepting has_place told keeps = absurd told

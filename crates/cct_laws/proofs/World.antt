@@ -3,7 +3,7 @@ use Rattle.std.proofs.Common.{◌≡◌, ℕ, ◌+◌, ◌-◌, ◌<◌, ◌≤�
 use Rattle.cct_model.specs.declared.coin.Pair.{Pair}
 use Rattle.cct_model.specs.declared.coin.Credits.{Credits}
 use Rattle.cct_model.specs.declared.request.Request.TheVariants.{ReadCredits}
-use Rattle.cct_model.specs.declared.request.Reply.TheVariants as reply
+use Rattle.cct_model.specs.Reply as reply
 use Rattle.cct_model.specs.declared.record.Record.{Record}
 use Rattle.cct_model.specs.declared.record.Record.TheVariants as record_of
 use Rattle.cct_model.specs.Line.{Line, exchange, put}
@@ -52,7 +52,7 @@ pub record Held (events : List Pair) (lines : List Line) (credits : Credits) : T
 
 -- the line by which credits were read
 abbrev pub read_line : Credits → Line
-read_line credits = exchange (Some ReadCredits) (Some (reply.Credits credits))
+read_line credits = exchange (Some ReadCredits) (Some (reply.credits credits))
 
 -- how many events are judged to be new
 abbrev pub new_by : List Line → Credits → ℕ

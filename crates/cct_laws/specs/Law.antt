@@ -1,15 +1,12 @@
 -- What the laws speak of beside the definitions of the machine.
 use Rattle.std.specs.Prelude.{◌≤◌, List, [], ◌∷◌, ⊤}
 use Rattle.std.specs.Option.{IsSome}
-use Rattle.cct_model.specs.declared.wire.CheckKind.TheVariants.{Simple}
-use Rattle.cct_model.specs.declared.device.DeviceBody.TheVariants.{Acceptor}
 use Rattle.cct_model.specs.declared.device.DeviceSetup.{DeviceSetup}
 use Rattle.cct_model.specs.declared.device.Setup.{Setup}
 use Rattle.cct_model.specs.declared.command.Step.{Step}
 use Rattle.cct_model.specs.declared.command.Step.TheVariants as step
 use Rattle.cct_model.specs.declared.entry.Entry.{Entry}
 use Rattle.cct_model.specs.Line.{Line, exchange}
-use Rattle.cct_model.specs.Script.{the_address}
 use Rattle.cct_model.specs.Transcript.{lines_of, onto}
 
 -- A machine of one device.
@@ -29,7 +26,3 @@ HasPlace s = ⊤
 abbrev pub AnsweredAt : List Line → Line → Type 0
 AnsweredAt past (exchange asked got) = IsSome got
 AnsweredAt past line = ⊤
-
--- The acceptor of every script.
-abbrev pub the_acceptor : DeviceSetup
-the_acceptor = record { addr = the_address; kind = Simple; serial = 1; body = Acceptor 0 }

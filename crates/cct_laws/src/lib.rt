@@ -12,6 +12,7 @@ ghost use Rattle.cct_model.specs.declared.wire.CheckKind.TheVariants.{Simple};
 ghost use Rattle.cct_model.specs.declared.device.DeviceSetup.{DeviceSetup};
 ghost use Rattle.cct_model.specs.declared.command.Step.{Step};
 ghost use Rattle.cct_model.specs.declared.entry.Entry.{Entry};
+ghost use Rattle.cct_model.specs.Device.{IsAcceptor};
 ghost use Rattle.cct_model.specs.Legal.{Legal};
 ghost use Rattle.cct_model.specs.Claims.{AllPast, InOrder, Covers, Pace};
 ghost use Rattle.cct_model.specs.Script.{IsInRange, coin_steps, most_coins, one_acceptor, script};
@@ -22,17 +23,17 @@ ghost use Rattle.cct_laws.specs.Law.{machine_of, lines_in, HasPlace, AnsweredAt}
 /// where the part of the record or the clean end before it ended.
 pub fn posts_in_order()
     ensures { (d : DeviceSetup) (steps : List Step) (transcript : List Entry)
-        → d.kind ≡ Simple → All HasPlace steps → Legal (machine_of d) steps transcript
+        → d.kind ≡ Simple → IsAcceptor d.body → All HasPlace steps → Legal (machine_of d) steps transcript
         → InOrder (lines_in d transcript) }
 {}
 
-/// No coin that came before a completed reading is lost in silence, where fewer than 255 coins come between the last
-/// recorded reading and the reading of each record or clean end: a record reports as lost at least the coins of its
-/// part that it doesn't post, and a clean end has no coin in its part. The record of a broken reading tells by itself
-/// that coins may be lost.
+/// No coin that came before a completed reading is lost in silence in such a transcript, where fewer than 255 coins
+/// come between the last recorded reading and the reading of each record or clean end: a record reports as lost at
+/// least the coins of its part that it doesn't post, and a clean end has no coin in its part. The record of a broken
+/// reading tells by itself that coins may be lost.
 pub fn none_lost_in_silence()
     ensures { (d : DeviceSetup) (steps : List Step) (transcript : List Entry)
-        → d.kind ≡ Simple → All HasPlace steps → Legal (machine_of d) steps transcript
+        → d.kind ≡ Simple → IsAcceptor d.body → All HasPlace steps → Legal (machine_of d) steps transcript
         → Pace (lines_in d transcript) → Covers (lines_in d transcript) }
 {}
 
@@ -46,7 +47,7 @@ pub fn few_coins_keep_pace()
 /// In such a transcript every exchange gets its wanted reply, since nothing yet disturbs the wire.
 pub fn rounds_are_answered()
     ensures { (d : DeviceSetup) (steps : List Step) (transcript : List Entry)
-        → d.kind ≡ Simple → All HasPlace steps → Legal (machine_of d) steps transcript
+        → d.kind ≡ Simple → IsAcceptor d.body → All HasPlace steps → Legal (machine_of d) steps transcript
         → AllPast AnsweredAt (lines_in d transcript) }
 {}
 

@@ -1,2 +1,3 @@
 pub mod Messages
 mod Vectors
+pub mod Requests

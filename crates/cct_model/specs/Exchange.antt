@@ -1,13 +1,16 @@
 -- One exchange on the wire: what the host sends, what a device makes of it, and what the host then hears.
 use Rattle.std.specs.Prelude.{ℕ, ◌==◌, ◌&&◌, nat_le, Bool, true, List, [], ◌∷◌, if◌then◌else◌, Option, Some, None, option_and_then, unwrap_or}
+use Rattle.std.specs.Option.{option_or, option_map}
 use Rattle.cct_model.specs.declared.wire.CheckKind.{CheckKind}
 use Rattle.cct_model.specs.declared.device.DeviceSetup.{DeviceSetup}
 use Rattle.cct_model.specs.declared.request.Request.{Request}
-use Rattle.cct_model.specs.declared.request.Reply.{Reply}
+use Rattle.cct_model.specs.declared.request.Request.TheVariants.{AddressPoll}
+use Rattle.cct_model.specs.declared.request.ReplyForm.{ReplyForm}
 use Rattle.cct_model.specs.Message.{Message, message, spelling}
+use Rattle.cct_model.specs.Request.{header_of, data_of, request_of}
+use Rattle.cct_model.specs.Reply.{Reply, reply_header, reply_data, reply_in}
 use Rattle.cct_model.specs.History.{Met}
-use Rattle.cct_model.specs.Acceptor.{reply_of}
-use Rattle.cct_model.specs.Request.{header_of, data_of, request_of, reply_data, reply_in}
+use Rattle.cct_model.specs.Device.{reply_of}
 
 -- The message by which the host, at address 1, asks a request of an address.
 abbrev pub asking : ℕ → Request → Message
@@ -21,9 +24,22 @@ ask kind addr q = spelling kind (asking addr q)
 unfoldable pub asked : CheckKind → List ℕ → Option Request
 asked kind piece = option_and_then (λ m. request_of m.header m.body) (message kind piece)
 
+-- What a request to all devices asks of each: the address poll alone is known there.
+abbrev pub to_all : Option Request → Option Request
+to_all (Some AddressPoll) = Some AddressPoll
+to_all asked = None
+
+-- What a request to one device asks of it: an address poll asks nothing there.
+abbrev pub to_one : Option Request → Option Request
+to_one (Some AddressPoll) = None
+to_one asked = asked
+
 -- What a message asks of the device at an address: nothing where it is for another.
 abbrev pub asked_of : ℕ → Message → Option Request
-asked_of addr m = if m.to == addr then request_of m.header m.body else None
+asked_of addr m =
+    if m.to == addr then to_one (request_of m.header m.body)
+    else if m.to == 0 then to_all (request_of m.header m.body)
+    else None
 
 -- What a piece asks of a device: nothing where it is no message under the device's check, or is for another.
 unfoldable pub asks_of : DeviceSetup → List ℕ → Option Request
@@ -33,17 +49,28 @@ asks_of d piece = option_and_then (asked_of d.addr) (message d.kind piece)
 unfoldable pub asker : CheckKind → List ℕ → ℕ
 asker kind piece = unwrap_or (option_and_then (λ m. m.from) (message kind piece)) 1
 
--- The message by which a device gives a reply, with header 0.
+-- The message by which a device gives a reply.
 abbrev pub replying : ℕ → ℕ → Reply → Message
-replying to addr y = record { to = to; from = Some addr; header = 0; body = reply_data y }
+replying to addr y = record { to = to; from = Some addr; header = reply_header y; body = reply_data y }
 
--- The bytes with which a device answers what it was asked, after all that it met; none where it was asked nothing.
-abbrev pub answer_to : DeviceSetup → List Met → ℕ → Option Request → List ℕ
-answer_to d past to None = []
-answer_to d past to (Some q) = spelling d.kind (replying to d.addr (reply_of past q))
+-- The bytes with which a device gives a reply, under its check.
+abbrev pub reply_bytes : DeviceSetup → ℕ → Reply → List ℕ
+reply_bytes d to y = spelling d.kind (replying to d.addr y)
 
--- The bytes with which a device answers a piece.
-abbrev pub answer : DeviceSetup → List Met → List ℕ → List ℕ
+-- The bytes without a check with which a device at an address answers a request, or none: an address poll alone is
+-- answered so, by the address.
+abbrev pub bare_answer : ℕ → Request → Option (List ℕ)
+bare_answer addr AddressPoll = Some (addr ∷ [])
+bare_answer addr q = None
+
+-- The bytes with which a device answers what it was asked, after all that it met, or none: it is silent where it was
+-- asked nothing, or nothing that it knows.
+abbrev pub answer_to : DeviceSetup → List Met → ℕ → Option Request → Option (List ℕ)
+answer_to d past to None = None
+answer_to d past to (Some q) = option_or (option_map (reply_bytes d to) (reply_of d past q)) (bare_answer d.addr q)
+
+-- The bytes with which a device that met all this answers a piece, or none where it is silent.
+abbrev pub answer : DeviceSetup → List Met → List ℕ → Option (List ℕ)
 answer d past piece = answer_to d past (asker d.kind piece) (asks_of d piece)
 
 -- What follows the host's own echo in what it heard, or none where that doesn't begin with the echo.
@@ -57,14 +84,18 @@ abbrev pub is_from : ℕ → Option ℕ → Bool
 is_from addr None = true
 is_from addr (Some source) = source == addr
 
--- The reply to a request that a message is: it goes to the host, comes from the asked address, and has header 0 and
--- the number of data bytes that the request wants.
-abbrev pub reply_from : ℕ → Request → Message → Option Reply
-reply_from addr q m = if (m.to == 1) && is_from addr m.from && (m.header == 0) then reply_in q m.body else None
+-- A message is for the host at address 1, and comes from this address or from nobody named.
+abbrev pub is_for_host : ℕ → Message → Bool
+is_for_host addr m = (m.to == 1) && is_from addr m.from
 
--- The wanted reply to a request that the host got in an exchange, or none.
-unfoldable pub got : CheckKind → ℕ → Request → List ℕ → List ℕ → Option Reply
-got kind addr q sent heard = option_and_then (λ piece. option_and_then (reply_from addr q) (message kind piece)) (after_echo sent heard)
+-- The reply that a message is: it goes to the host, comes from the asked address, and has header 0 and the number of
+-- data bytes of the wanted form.
+abbrev pub reply_from : ReplyForm → ℕ → Message → Option Reply
+reply_from form addr m = if is_for_host addr m && (m.header == 0) then reply_in form m.body else None
+
+-- The wanted reply that the host got in an exchange with an address, or none.
+unfoldable pub got : CheckKind → ℕ → ReplyForm → List ℕ → List ℕ → Option Reply
+got kind addr form sent heard = option_and_then (λ piece. option_and_then (reply_from form addr) (message kind piece)) (after_echo sent heard)
 
 -- Devices in rising order of address.
 abbrev pub put_by_address : DeviceSetup → List DeviceSetup → List DeviceSetup

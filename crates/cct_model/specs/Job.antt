@@ -1,10 +1,9 @@
 -- The job at an address, read off its lines: which command began it, and which of its rows are done.
 use Rattle.std.specs.Prelude.{ℕ, suc, zero, List, [], ◌∷◌, Option, Some, None}
+use Rattle.std.specs.Option.{option_or}
 use Rattle.cct_model.specs.declared.coin.Credits.{Credits}
 use Rattle.cct_model.specs.declared.request.Request.{Request}
 use Rattle.cct_model.specs.declared.request.Request.TheVariants.{ReadCredits}
-use Rattle.cct_model.specs.declared.request.Reply.{Reply}
-use Rattle.cct_model.specs.declared.request.Reply.TheVariants as reply
 use Rattle.cct_model.specs.declared.record.Record.{Record}
 use Rattle.cct_model.specs.declared.record.Record.TheVariants as record_of
 use Rattle.cct_model.specs.declared.record.Judged.{Judged}
@@ -13,6 +12,8 @@ use Rattle.cct_model.specs.declared.command.Command.{Command}
 use Rattle.cct_model.specs.declared.command.Command.TheVariants.{Round}
 use Rattle.cct_model.specs.declared.entry.End.{End}
 use Rattle.cct_model.specs.declared.entry.End.TheVariants.{Clean, Posted, Broke}
+use Rattle.cct_model.specs.Reply.{Reply}
+use Rattle.cct_model.specs.Reply as reply
 use Rattle.cct_model.specs.Line.{Line, accepted, inhibited, exchange, put, taken, ended}
 use Rattle.cct_model.specs.Reading.{judge}
 
@@ -50,7 +51,7 @@ done (_ ∷ since) = done since
 
 -- The credits that a reply is, or none.
 abbrev pub credits_reply : Option Reply → Option Credits
-credits_reply (Some (reply.Credits credits)) = Some credits
+credits_reply (Some (reply.credits credits)) = Some credits
 credits_reply _ = None
 
 -- The credits that a line read, or none where it is no answered header 229.
@@ -58,15 +59,10 @@ abbrev pub credits_line : Line → Option Credits
 credits_line (exchange (Some ReadCredits) got) = credits_reply got
 credits_line _ = None
 
--- The first of two that is there.
-abbrev pub first_some : {A : Type 0} → Option A → Option A → Option A
-first_some (Some x) other = Some x
-first_some None other = other
-
 -- The credits that were last read.
 abbrev pub credits_read : List Line → Option Credits
 credits_read [] = None
-credits_read (line ∷ past) = first_some (credits_line line) (credits_read past)
+credits_read (line ∷ past) = option_or (credits_line line) (credits_read past)
 
 -- The event counter that a record leaves recorded.
 abbrev pub recorded_by : Record → ℕ → ℕ

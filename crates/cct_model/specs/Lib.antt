@@ -1,7 +1,10 @@
 pub mod Message
-pub mod History
-pub mod Acceptor
 pub mod Request
+pub mod Reply
+pub mod History
+pub mod Setting
+pub mod Acceptor
+pub mod Device
 pub mod Exchange
 pub mod Reading
 pub mod Line

@@ -2,10 +2,10 @@
 use Rattle.std.specs.Prelude.{ℕ, Option}
 use Rattle.cct_model.specs.declared.coin.Coin.{Coin}
 use Rattle.cct_model.specs.declared.request.Request.{Request}
-use Rattle.cct_model.specs.declared.request.Reply.{Reply}
 use Rattle.cct_model.specs.declared.record.Record.{Record}
 use Rattle.cct_model.specs.declared.command.Command.{Command}
 use Rattle.cct_model.specs.declared.entry.End.{End}
+use Rattle.cct_model.specs.Reply.{Reply}
 
 -- A coin was accepted or inhibited, an exchange was made, a record was put, a command was taken, or a job ended.
 pub data Line : Type 0 where

@@ -1,8 +1,11 @@
 -- What a script says: its setup, its steps, and the first line that is refused, with its kind (docs/SCRIPT.md).
-use Rattle.std.specs.Prelude.{◌≡◌, ◌≤◌, suc, ℕ, ◌+◌, ◌-◌, ◌*◌, ◌==◌, ◌&&◌, nat_lt, nat_le, Bool, List, [], ◌∷◌, length, if◌then◌else◌, Option, Some, None, option_and_then, codes, bytes_eq}
+use Rattle.std.specs.Prelude.{◌≡◌, ◌≤◌, suc, ℕ, ◌+◌, ◌-◌, ◌*◌, ◌==◌, ◌&&◌, nat_lt, nat_le, Bool, List, [], ◌∷◌, length, if◌then◌else◌, Option, Some, None, option_and_then, codes, bytes_eq, replicate}
 use Rattle.std.specs.List.{slice_split}
 use Rattle.cct_model.specs.declared.wire.CheckKind.TheVariants.{Simple}
+use Rattle.cct_model.specs.declared.device.DeviceBody.{DeviceBody}
 use Rattle.cct_model.specs.declared.device.DeviceBody.TheVariants.{Acceptor}
+use Rattle.cct_model.specs.declared.device.DeviceSetup.{DeviceSetup}
+use Rattle.cct_model.specs.declared.device.Texts.{Texts}
 use Rattle.cct_model.specs.declared.device.Setup.{Setup}
 use Rattle.cct_model.specs.declared.command.Command.TheVariants.{Round}
 use Rattle.cct_model.specs.declared.command.Step.{Step}
@@ -45,10 +48,22 @@ place_in field = option_and_then (within 1 16) (number_in field)
 abbrev pub the_address : ℕ
 the_address = 2
 
--- The setup of every script: one coin acceptor at address 2, with the simple check, serial number 1, and an accept
--- counter that starts at 0.
+-- The texts of a device of which a script says none.
+abbrev pub plain_texts : Texts
+plain_texts = record { maker = codes "BENCH"; product = codes "CCT"; software = codes "1"; build = codes "1" }
+
+-- A coin acceptor of which a script says no more: its places have no values, and dots identify their coins.
+abbrev pub plain_acceptor : ℕ → DeviceBody
+plain_acceptor accepts = Acceptor accepts (replicate 16 0) (replicate 16 (codes "......"))
+
+-- The one acceptor of every script: its address, the simple check, serial number 1, and an accept counter that starts
+-- at 0.
+abbrev pub the_acceptor : DeviceSetup
+the_acceptor = record { addr = the_address; kind = Simple; serial = 1; texts = plain_texts; body = plain_acceptor 0 }
+
+-- The setup of every script.
 abbrev pub one_acceptor : Setup
-one_acceptor = record { devices = record { addr = the_address; kind = Simple; serial = 1; body = Acceptor 0 } ∷ [] }
+one_acceptor = record { devices = the_acceptor ∷ [] }
 
 -- The step that a word and an address spell.
 abbrev pub plain_step : List ℕ → Option Step

@@ -1,14 +1,15 @@
 -- A transcript, newest entry first: what it says that each device met, and the lines of each device's address.
-use Rattle.std.specs.Prelude.{ℕ, ◌==◌, List, [], ◌∷◌, ◌++◌, flat_map, if◌then◌else◌, Option, Some, option_and_then}
+use Rattle.std.specs.Prelude.{ℕ, ◌==◌, List, [], ◌∷◌, ◌++◌, flat_map, if◌then◌else◌, Option, Some, option_and_then, unwrap_or}
 use Rattle.cct_model.specs.declared.device.DeviceSetup.{DeviceSetup}
 use Rattle.cct_model.specs.declared.device.Setup.{Setup}
 use Rattle.cct_model.specs.declared.request.Request.TheVariants.{SetMask}
-use Rattle.cct_model.specs.declared.request.Reply.{Reply}
 use Rattle.cct_model.specs.declared.record.Record.{Record}
 use Rattle.cct_model.specs.declared.record.Record.TheVariants as record_of
 use Rattle.cct_model.specs.declared.entry.Entry.{Entry}
 use Rattle.cct_model.specs.declared.entry.Entry.TheVariants as entry
 use Rattle.cct_model.specs.History.{Met, coin, heard}
+use Rattle.cct_model.specs.Request.{form_of}
+use Rattle.cct_model.specs.Reply.{Reply}
 use Rattle.cct_model.specs.Exchange.{asked, asks_of, answer, got, by_address}
 use Rattle.cct_model.specs.Line.{Line, accepted, inhibited, exchange, put, taken, ended}
 use Rattle.cct_model.specs.Job.{address_of, open_mask}
@@ -31,7 +32,7 @@ met d (e ∷ past) = meets d e ++ met d past
 
 -- The bytes with which the devices of a setup answer a piece, in rising order of address.
 abbrev pub answers : Setup → List Entry → List ℕ → List ℕ
-answers setup past piece = flat_map (λ d. answer d (met d past) piece) (by_address setup.devices)
+answers setup past piece = flat_map (λ d. unwrap_or (answer d (met d past) piece) []) (by_address setup.devices)
 
 -- What the host hears after it sent a piece: its own echo, and the answers.
 unfoldable pub heard_after : Setup → List Entry → List ℕ → List ℕ
@@ -39,7 +40,7 @@ heard_after setup past sent = sent ++ answers setup past sent
 
 -- The reply that a device's exchange got: the wanted one to the request that was sent.
 unfoldable pub got_by : DeviceSetup → List ℕ → List ℕ → Option Reply
-got_by d sent piece = option_and_then (λ q. got d.kind d.addr q sent piece) (asked d.kind sent)
+got_by d sent piece = option_and_then (λ form. got d.kind d.addr form sent piece) (option_and_then form_of (asked d.kind sent))
 
 -- The address that a record belongs to.
 abbrev pub owner : Record → ℕ

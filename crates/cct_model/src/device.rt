@@ -1,33 +1,53 @@
 //! The devices of a machine, as the setup lines of a script give them.
 ghost use Rattle.std.specs.Prelude.{◌≡◌, ◌<◌, ◌≤◌, List, [], ◌∷◌, ◌++◌, length};
 
-use crate::CheckKind;
+use crate::{CheckKind, Name};
 use arrayvec::ArrayVec;
 use std::marker::Model;
+
+/// The texts by which a device names itself: 1 to 24 printing characters each.
+#[derive(Clone, Debug, Default, Drop, PartialEq, Eq)]
+pub struct Texts {
+    pub maker: Name,
+    pub product: Name,
+    pub software: Name,
+    pub build: Name,
+}
 
 /// What kind of device it is, with what its kind needs.
 #[derive(Clone, Copy, Debug, PartialEq, Eq)]
 pub enum DeviceBody {
-    /// A coin acceptor, whose accept counter starts at `accepts`, below 2^24.
-    Acceptor { accepts: u32 },
+    /// A coin acceptor. Its accept counter starts at `accepts`, below 2^24. For each coin place, place 1 first, it has
+    /// the value of its coin, 1 to 1,000,000 or 0 for none, and the six characters that identify it.
+    Acceptor {
+        accepts: u32,
+        values: [u32; 16],
+        ids: [[u8; 6]; 16],
+    },
+    /// A hopper. It has paid `life` coins before, modulo 2^24, and each of its coins has this value, 1 to 1,000,000.
+    Hopper {
+        life: u32,
+        value: u32,
+    },
 }
 
 impl Default for DeviceBody {
-    ghost use Rattle.cct_model.specs.declared.device.DeviceBody.TheVariants.{Acceptor};
+    ghost use Rattle.cct_model.specs.declared.device.DeviceBody.TheVariants.{Hopper};
 
-    ghost is_default = { λ body. body ≡ Acceptor 0 };
+    ghost is_default = { λ body. body ≡ Hopper 0 0 };
 
     fn default() -> Self {
-        DeviceBody::Acceptor { accepts: 0 }
+        DeviceBody::Hopper { life: 0, value: 0 }
     }
 }
 
-/// One device of a setup: its address, 2 to 255, its check, and its serial number, below 2^24.
-#[derive(Clone, Copy, Debug, Default, PartialEq, Eq)]
+/// One device of a setup: its address, 2 to 255, its check, its serial number, below 2^24, and its texts.
+#[derive(Clone, Debug, Default, Drop, PartialEq, Eq)]
 pub struct DeviceSetup {
     pub addr: u8,
     pub kind: CheckKind,
     pub serial: u32,
+    pub texts: Texts,
     pub body: DeviceBody,
 }
 

@@ -12,8 +12,8 @@ mod wire;
 
 pub use coin::{Coin, Coins, Credits, Pair};
 pub use command::{Command, CommandNo, Step};
-pub use device::{DeviceBody, DeviceSetup, Devices, Setup};
+pub use device::{DeviceBody, DeviceSetup, Devices, Setup, Texts};
 pub use entry::{End, Entry, LineKind};
 pub use record::{Judged, Record};
-pub use request::{Reply, Request};
-pub use wire::{Bytes, CheckKind, Piece, Sent};
+pub use request::{Reply, ReplyForm, Request};
+pub use wire::{Bytes, CheckKind, Name, Piece, Sent};

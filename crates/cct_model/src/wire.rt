@@ -13,7 +13,7 @@ pub enum CheckKind {
     Crc,
 }
 
-/// A run of bytes on the wire, `MOST` at the most.
+/// A run of bytes, `MOST` at the most.
 #[derive(Clone, Debug, Default, Drop, PartialEq, Eq)]
 pub struct Bytes<const MOST: usize> {
     bytes: ArrayVec<u8, MOST>,
@@ -24,6 +24,9 @@ pub type Sent = Bytes<260>;
 
 /// Any run of bytes between two gaps of the wire: 520 at the most, an echo and what follows it.
 pub type Piece = Bytes<520>;
+
+/// A text by which a device names itself: 24 bytes at the most.
+pub type Name = Bytes<24>;
 
 impl<const MOST: usize> Model for Bytes<MOST> {
     ghost use Rattle.std.specs.Prelude.{◌≤◌, List, ℕ, length};

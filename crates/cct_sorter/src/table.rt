@@ -1,7 +1,7 @@
 //! The table of coins (ccTalk Generic Specification 4, part 2): headers 231 and 230 set and tell the inhibit mask, 228
 //! and 227 the master inhibit, 210 and 209 the sorter path of a coin place, 189 and 188 the default path.
 ghost use Rattle.std.specs.Prelude.{◌≡◌, ◌≤◌, ◌↔◌, ◌&&◌, List, [], ◌∷◌, IsErrOf, IsOk, IsTrue, OnErr, not};
-ghost use Rattle.cct_sorter.specs.Settings.{Setting, mask_set, master_set, path_set, default_set, is_place, is_path, mask_of, is_normal, default_of, path_of, has_place, accepts};
+ghost use Rattle.cct_model.specs.Setting.{Setting, mask_set, master_set, path_set, default_set, is_place, is_path, mask_in, is_normal_in, default_in, path_in, has_place, accepts_in};
 ghost use Rattle.cct_sorter.specs.Table.{Holds};
 
 use thiserror::Error;
@@ -49,7 +49,7 @@ impl CoinTable {
     pub fn accepts(&self, place: u8) -> bool
         requires low { 1 ≤ place }
         requires high { place ≤ 16 }
-        ensures { (past : List Setting) → Holds self.now past → result ≡ accepts past place }
+        ensures { (past : List Setting) → Holds self.now past → result ≡ accepts_in past place }
     {
         has_place(self.mask, place) && self.normal
     }
@@ -58,28 +58,28 @@ impl CoinTable {
     pub fn path_of(&self, place: u8) -> u8
         requires low { 1 ≤ place }
         requires high { place ≤ 16 }
-        ensures { (past : List Setting) → Holds self.now past → result ≡ path_of past place }
+        ensures { (past : List Setting) → Holds self.now past → result ≡ path_in past place }
     {
         self.paths[place as usize - 1].unwrap_or(self.default_path)
     }
 
     /// The inhibit mask, as header 230 reads it: bit 0 is place 1, and 1 accepts.
     pub fn mask(&self) -> u16
-        ensures { (past : List Setting) → Holds self.now past → result ≡ mask_of past }
+        ensures { (past : List Setting) → Holds self.now past → result ≡ mask_in past }
     {
         self.mask
     }
 
     /// Whether operation is normal, which is bit 0 of what header 227 reads; else every coin is inhibited.
     pub fn master(&self) -> bool
-        ensures { (past : List Setting) → Holds self.now past → result ≡ is_normal past }
+        ensures { (past : List Setting) → Holds self.now past → result ≡ is_normal_in past }
     {
         self.normal
     }
 
     /// The path, 1 to 8, of the coin places for which none was set (header 188).
     pub fn default_path(&self) -> u8
-        ensures { (past : List Setting) → Holds self.now past → result ≡ default_of past }
+        ensures { (past : List Setting) → Holds self.now past → result ≡ default_in past }
     {
         self.default_path
     }

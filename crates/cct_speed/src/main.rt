@@ -1,15 +1,20 @@
 //! A benchmark for people: goes over frames in memory so many times, and prints the sum of the answers.
 //!
 //! Its three words are what each pass does (`none`, `crc16`, `simple` or `crc`), the number of data bytes of a frame, and
-//! the number of passes. Other words end it with exit status 2.
+//! the number of passes. With `credits` in the place of the first, a pass is an acceptor that hears the request for its
+//! credits and answers it; the number of data bytes is then not used. Other words end it with exit status 2, and want of
+//! memory ends it with 3.
 #![tactic(auto)]
 
 ghost use Rattle.std.specs.Prelude.{◌≤◌, length};
+ghost use Rattle.cct_model.specs.Device.{IsAcceptor, IsSound, IsSoundBody, IsWord};
 
 use arrayvec::ArrayVec;
+use cct_acceptor::Acceptor;
 use cct_check::crc16;
 use cct_frame::{read, write};
-use cct_model::CheckKind;
+use cct_model::{CheckKind, DeviceBody, DeviceSetup, Name, Texts};
+use std::alloc::{AllocError, Global};
 use std::process::ExitCode;
 use std::rt::Env;
 use std::{env, io};
@@ -31,6 +36,8 @@ enum Work {
     Crc16,
     /// Reads the message that it is under this check.
     Read(CheckKind),
+    /// An acceptor hears the request for its credits, and answers.
+    Credits,
 }
 
 /// The data bytes of the longest frame. A shorter one has a front of them.
@@ -40,7 +47,10 @@ fn main(rt: HostRuntime) -> io::Result<ExitCode> {
     let Some(task) = asked(&rt) else {
         return Ok(ExitCode::from(2));
     };
-    println!(rt; "{}", run(task))?;
+    let Ok(sum) = run(rt.alloc(), task) else {
+        return Ok(ExitCode::from(3));
+    };
+    println!(rt; "{sum}")?;
     Ok(ExitCode::SUCCESS)
 }
 
@@ -55,6 +65,7 @@ fn asked(rt: &(impl Env + AllocGlobal)) -> Option<Task> {
         "crc16" => Work::Crc16,
         "simple" => Work::Read(CheckKind::Simple),
         "crc" => Work::Read(CheckKind::Crc),
+        "credits" => Work::Credits,
         _ => return None,
     };
     Some(Task {
@@ -64,9 +75,81 @@ fn asked(rt: &(impl Env + AllocGlobal)) -> Option<Task> {
     })
 }
 
-/// The sum of the answers of all passes. The sum so far tells which of two frames is the next, so no pass can be left
+/// The sum of the answers of all passes.
+fn run(alloc: Global, task: Task) -> Result<u64, AllocError> {
+    match task.work {
+        Work::Credits => exchanges(alloc, task.passes),
+        _ => Ok(readings(task)),
+    }
+}
+
+/// The lengths of all answers of an acceptor to requests for its credits, added up. Which of two askers is the next is
+/// told by the sum so far.
+fn exchanges(alloc: Global, passes: u32) -> Result<u64, AllocError> {
+    let setup = acceptor();
+    let mut acceptor = Acceptor::new(alloc, &setup)?;
+    let first = request(1);
+    let second = request(3);
+    let frames = [first.as_slice(), second.as_slice()];
+    let mut answer = ArrayVec::new();
+    let mut sum: u64 = 0;
+    for _ in 0..passes {
+        acceptor.hear(frames[sum as usize % 2], &mut answer);
+        sum = sum.wrapping_add(answer.len() as u64);
+    }
+    Ok(sum)
+}
+
+/// The request of an address for the credits of device 2.
+fn request(from: u8) -> ArrayVec<u8, 260> {
+    let mut out = ArrayVec::new();
+    write(CheckKind::Simple, 2, from, 229, &[], &mut out);
+    out
+}
+
+/// A coin acceptor at address 2.
+fn acceptor() -> DeviceSetup
+    ensures sound { IsSound result }
+    ensures acceptor { IsAcceptor result.body }
+{
+    DeviceSetup {
+        addr: 2,
+        kind: CheckKind::Simple,
+        serial: 1,
+        texts: Texts {
+            maker: name(),
+            product: name(),
+            software: name(),
+            build: name(),
+        },
+        body: body(),
+    }
+}
+
+/// Sixteen like coins.
+fn body() -> DeviceBody
+    ensures sound { IsSoundBody result }
+    ensures acceptor { IsAcceptor result }
+{
+    DeviceBody::Acceptor {
+        accepts: 0,
+        values: [50; 16],
+        ids: [[b'5'; 6]; 16],
+    }
+}
+
+/// A text of one character.
+fn name() -> Name
+    ensures { IsWord result }
+{
+    let mut name = Name::new();
+    name.push(b'1');
+    name
+}
+
+/// The sum of the answers of all passes over frames. The sum so far tells which of two frames is the next, so no pass can be left
 /// out or taken for another.
-fn run(task: Task) -> u64 {
+fn readings(task: Task) -> u64 {
     let body = &DATA[..task.data as usize];
     let first = frame(task.work, 2, body);
     let second = frame(task.work, 3, body);
@@ -84,7 +167,7 @@ fn frame(work: Work, from: u8, body: &[u8]) -> ArrayVec<u8, 260>
 {
     let kind = match work {
         Work::Read(kind) => kind,
-        Work::Nothing | Work::Crc16 => CheckKind::Simple,
+        Work::Nothing | Work::Crc16 | Work::Credits => CheckKind::Simple,
     };
     let mut out = ArrayVec::new();
     write(kind, 1, from, 0, body, &mut out);
@@ -94,7 +177,7 @@ fn frame(work: Work, from: u8, body: &[u8]) -> ArrayVec<u8, 260>
 /// The length of a frame, its CRC, or the header and the number of data bytes of the message that it is, added up.
 fn answer(work: Work, frame: &[u8]) -> u64 {
     match work {
-        Work::Nothing => frame.len() as u64,
+        Work::Nothing | Work::Credits => frame.len() as u64,
         Work::Crc16 => crc16(frame) as u64,
         Work::Read(kind) => match read(kind, frame) {
             Ok(view) => view.header as u64 + view.body.len() as u64,

@@ -1,0 +1,51 @@
+-- A coin acceptor that stands for all that it met (ccTalk Generic Specification 4, part 2).
+use Rattle.std.specs.Prelude.{◌≡◌, ℕ, Bool, true, false, List, [], if◌then◌else◌}
+use Rattle.cct_model.specs.declared.device.DeviceBody.{DeviceBody}
+use Rattle.cct_model.specs.declared.device.DeviceBody.TheVariants as body
+use Rattle.cct_model.specs.declared.device.DeviceSetup.{DeviceSetup}
+use Rattle.cct_model.specs.declared.request.Request.{Request}
+use Rattle.cct_model.specs.declared.request.Request.TheVariants.{ResetDevice, SetMask, SetMaster, SetPath, SetDefault}
+use Rattle.cct_model.specs.Acceptor.{accept_count, accepts, events, path_of, settings}
+use Rattle.cct_model.specs.Device.{IsAcceptor}
+use Rattle.cct_model.specs.History.{Met}
+use Rattle.cct_ident.specs.Identity.{setup_of}
+use Rattle.cct_ring.specs.Ring as ring
+use Rattle.cct_sorter.specs.Table as sorter
+use Rattle.cct_acceptor.specs.declared.acceptor.Acceptor.{Acceptor}
+use Rattle.cct_acceptor.specs.declared.acceptor.Inserted.{Inserted}
+use Rattle.cct_acceptor.specs.declared.acceptor.Inserted.TheVariants.{Accepted, Inhibited}
+
+-- The number at which the accept counter of an acceptor starts.
+abbrev pub start_of : DeviceBody → ℕ
+start_of (body.Acceptor start values ids) = start
+start_of (body.Hopper life value) = 0
+
+-- The identifications of the coins of an acceptor, that of place 1 first.
+abbrev pub ids_of : DeviceBody → List (List ℕ)
+ids_of (body.Acceptor start values ids) = ids
+ids_of (body.Hopper life value) = []
+
+-- An acceptor stands for one of this setup that met all this, newest first: its settings, its events and its accept
+-- counter are what that made them.
+pub record StandsFor (acceptor : Acceptor) (d : DeviceSetup) (past : List Met) : Type 0 where
+  pub kind : IsAcceptor d.body
+  pub setup : acceptor.setup.now ≡ d
+  pub identity : setup_of acceptor.identity ≡ d
+  pub ids : acceptor.ids.now ≡ ids_of d.body
+  pub table : sorter.Holds acceptor.table (settings past)
+  pub ring : ring.Holds acceptor.ring (events past)
+  pub accepts : acceptor.accepts ≡ accept_count (start_of d.body) past
+
+-- What becomes of a coin of a place that falls into an acceptor that met all this: it is accepted and falls by the path
+-- of its place, or it is inhibited and given back.
+abbrev pub inserted : List Met → ℕ → Inserted
+inserted past place = if accepts past place then Accepted (record { place = place; path = path_of past place }) else Inhibited
+
+-- Whether a request changes what an acceptor holds: it resets the device or sets something.
+abbrev pub is_change : Request → Bool
+is_change ResetDevice = true
+is_change (SetMask mask) = true
+is_change (SetMaster value) = true
+is_change (SetPath place path) = true
+is_change (SetDefault path) = true
+is_change q = false

@@ -1,0 +1,303 @@
+//! The coin acceptor as a device (ccTalk Generic Specification 4, part 2).
+ghost use Rattle.std.specs.Prelude.{◌≡◌, ◌<◌, ◌≤◌, ◌^◌, List, [], ◌∷◌, false, true, if◌then◌else◌, Some, IfOk, IfSome, MatchOption};
+ghost use Rattle.std.specs.Option.{option_map};
+ghost use Rattle.cct_model.specs.declared.device.DeviceSetup.{DeviceSetup};
+ghost use Rattle.cct_model.specs.Device.{IsAcceptor, IsSound, reply_of};
+ghost use Rattle.cct_model.specs.Acceptor.{acceptor_reply, id_at, path_of};
+ghost use Rattle.cct_model.specs.Exchange.{answer, answer_to, asks_of};
+ghost use Rattle.cct_model.specs.History.{Met, alien, coin, heard, reset};
+ghost use Rattle.cct_model.specs.Reply.{IsSayable, ack, coin_id, nak, path, reply_shown, text};
+ghost use Rattle.cct_model.specs.Setting.{is_place};
+ghost use Rattle.cct_ident.specs.Identity.{setup_of, text_of};
+
+use crate::hearing::{Asked, listen};
+use arrayvec::ArrayVec;
+use cct_ident::{IdentText, Identity};
+use cct_model::{Coin, DeviceBody, DeviceSetup, Pair, Reply, Request};
+use cct_msg::encode_reply;
+use cct_ring::CreditRing;
+use cct_sorter::CoinTable;
+use std::alloc::{AllocError, Global};
+
+/// The highest coin place; the lowest is 1.
+const PLACES: u8 = 16;
+
+/// The accept counter has three bytes, and starts again at 0 behind its last number.
+const COUNTS: u32 = 1 << 24;
+
+/// The error event of a piece that is no coin.
+const ALIEN: Pair = Pair { a: 0, b: 1 };
+
+/// The error event of an inhibited coin.
+const INHIBITED: Pair = Pair { a: 0, b: 2 };
+
+/// The release and the revision of the standard that the acceptor follows.
+const REVISION: Reply<'static> = Reply::Revision {
+    release: 1,
+    major: 4,
+    minor: 0,
+};
+
+/// What became of a coin that fell in.
+#[derive(Clone, Copy, Debug, PartialEq, Eq)]
+pub enum Inserted {
+    /// It was taken, by the sorter path of its place.
+    Accepted(Coin),
+    /// It was given back: its place is inhibited, or every coin is.
+    Inhibited,
+}
+
+/// A coin acceptor of a setup. Its contracts tell it by all that it met, newest first.
+#[derive(Drop)]
+pub struct Acceptor<'s> {
+    setup: &'s DeviceSetup,
+    identity: Identity<'s>,
+    /// The identifications of its coins, that of place 1 first.
+    ids: &'s [[u8; 6]; 16],
+    table: CoinTable,
+    ring: CreditRing,
+    /// How many coins were accepted, modulo [`COUNTS`].
+    accepts: u32,
+    ghost counts: { accepts < 2 ^ 24 },
+    ghost serial: { (setup_of identity).serial < 2 ^ 24 },
+}
+
+impl<'s> Acceptor<'s> {
+    ghost use Rattle.cct_acceptor.specs.Acceptor.{StandsFor, ids_of, inserted, is_change, start_of};
+
+    /// An acceptor as after a reset, with its accept counter where the setup starts it. This takes all memory that it
+    /// ever has.
+    ///
+    /// Fails only where there is no memory for it.
+    pub fn new(alloc: Global, setup: &'s DeviceSetup) -> Result<Acceptor<'s>, AllocError>
+        requires sound { IsSound setup.now }
+        requires acceptor { IsAcceptor setup.now.body }
+        ensures fresh { IfOk result (λ acceptor. StandsFor acceptor setup.now []) }
+    {
+        match &setup.body {
+            DeviceBody::Acceptor { accepts, ids, .. } => Ok(Acceptor {
+                setup,
+                identity: Identity::new(setup),
+                ids,
+                table: CoinTable::new(),
+                ring: CreditRing::new(alloc)?,
+                accepts: *accepts,
+            }),
+            DeviceBody::Hopper { .. } => unreachable!(),
+        }
+    }
+
+    /// A coin of a place, 1 to 16, falls in. It is an event either way.
+    pub fn insert(&mut self, place: u8) -> Inserted
+        requires low { 1 ≤ place }
+        requires high { place ≤ 16 }
+        ensures stands { (d : DeviceSetup) (past : List Met) → StandsFor self.old d past
+            → StandsFor self.new d (coin place ∷ past) }
+        ensures answer { (d : DeviceSetup) (past : List Met) → StandsFor self.old d past
+            → result ≡ inserted past place }
+    {
+        if !self.table.accepts(place) {
+            self.ring.push(INHIBITED);
+            return Inserted::Inhibited;
+        }
+        let path = self.table.path_of(place);
+        self.ring.push(Pair { a: place, b: path });
+        self.accepts = (self.accepts + 1) % COUNTS;
+        Inserted::Accepted(Coin { place, path })
+    }
+
+    /// A piece that is no coin falls in, and is given back: an event too.
+    pub fn alien(&mut self)
+        ensures { (d : DeviceSetup) (past : List Met) → StandsFor self.old d past
+            → StandsFor self.new d (alien ∷ past) }
+    {
+        self.ring.push(ALIEN);
+    }
+
+    /// The acceptor starts again as after power-up: it forgets its settings and its events. The accept counter goes on.
+    pub fn reset(&mut self)
+        ensures { (d : DeviceSetup) (past : List Met) → StandsFor self.old d past
+            → StandsFor self.new d (reset ∷ past) }
+    {
+        self.table.reset();
+        self.ring.clear();
+    }
+
+    /// Hears a piece, acts on what it asks, and answers: true with the answer in `out`, or false with nothing there
+    /// where the acceptor is silent. It is silent to a piece that is no message under its check, to another address, to
+    /// a request that no acceptor knows, and to every broadcast but the address poll, which asks nothing at its own
+    /// address.
+    pub fn hear(&mut self, piece: &[u8], out: &mut ArrayVec<u8, 260>) -> bool
+        ensures stands { (d : DeviceSetup) (past : List Met) → StandsFor self.old d past
+            → StandsFor self.new d (heard (asks_of d piece.now) ∷ past) }
+        ensures answer { (d : DeviceSetup) (past : List Met) → StandsFor self.old d past
+            → MatchOption (answer d past piece.now) ((result ≡ false) × (out.new.items ≡ []))
+            (λ bytes. (result ≡ true) × (out.new.items ≡ bytes)) }
+    {
+        out.clear();
+        match listen(self.setup, piece) {
+            None => false,
+            Some(Asked { request, asker }) => self.answer(request, asker, out),
+        }
+    }
+
+    /// Acts on a request of this acceptor, and answers the asker.
+    #[tactic(auto, unfolding(cct_model::specs::Device::reply_of, cct_model::specs::Device::common_reply, cct_model::specs::Acceptor::acceptor_reply), using(crate::proofs::Replies::own_is))]
+    fn answer(&mut self, request: Request, asker: u8, out: &mut ArrayVec<u8, 260>) -> bool
+        requires { out.old.items ≡ [] }
+        ensures stands { (d : DeviceSetup) (past : List Met) → StandsFor self.old d past
+            → StandsFor self.new d (heard (Some request) ∷ past) }
+        ensures answer { (d : DeviceSetup) (past : List Met) → StandsFor self.old d past
+            → MatchOption (answer_to d past asker (Some request)) ((result ≡ false) × (out.new.items ≡ []))
+            (λ bytes. (result ≡ true) × (out.new.items ≡ bytes)) }
+    {
+        if let Request::AddressPoll = request {
+            out.push(self.setup.addr);
+            return true;
+        }
+        match self.act(request) {
+            None => false,
+            Some(reply) => {
+                encode_reply(self.setup.kind, asker, self.setup.addr, &reply, out);
+                true
+            }
+        }
+    }
+
+    /// Acts on a request, and gives the reply, or none where no acceptor knows the request.
+    #[tactic(auto, unfolding(cct_model::specs::Device::reply_of, cct_model::specs::Device::common_reply, cct_model::specs::Acceptor::acceptor_reply), using(crate::proofs::Replies::own_is))]
+    fn act(&mut self, request: Request) -> Option<Reply<'s>>
+        ensures stands { (d : DeviceSetup) (past : List Met) → StandsFor self.old d past
+            → StandsFor self.new d (heard (Some request) ∷ past) }
+        ensures answer { (d : DeviceSetup) (past : List Met) → StandsFor self.old d past
+            → option_map reply_shown result ≡ reply_of d past request }
+        ensures sayable { IfSome result (λ y. IsSayable (reply_shown y)) }
+    {
+        match request {
+            Request::ResetDevice => {
+                self.reset();
+                Some(Reply::Ack)
+            }
+            Request::SetMask { mask } => {
+                self.table.set_mask(mask);
+                Some(Reply::Ack)
+            }
+            Request::SetMaster { value } => {
+                self.table.set_master(value);
+                Some(Reply::Ack)
+            }
+            Request::SetPath { place, path } => {
+                Some(acknowledgement(self.table.set_path(place, path).is_ok()))
+            }
+            Request::SetDefault { path } => {
+                Some(acknowledgement(self.table.set_default(path).is_ok()))
+            }
+            _ => self.tell(request),
+        }
+    }
+
+    /// The reply to a request that changes nothing.
+    #[tactic(auto, unfolding(cct_model::specs::Device::reply_of, cct_model::specs::Device::common_reply), using(crate::proofs::Replies::own_is))]
+    fn tell(&self, request: Request) -> Option<Reply<'s>>
+        ensures answer { (d : DeviceSetup) (past : List Met) → StandsFor self.now d past → is_change request ≡ false
+            → option_map reply_shown result ≡ reply_of d past request }
+        ensures sayable { IfSome result (λ y. IsSayable (reply_shown y)) }
+    {
+        match request {
+            Request::SimplePoll => Some(Reply::Ack),
+            Request::MakerId => Some(self.text(IdentText::Maker)),
+            Request::Category => Some(self.text(IdentText::Category)),
+            Request::ProductCode => Some(self.text(IdentText::Product)),
+            Request::SerialNumber => Some(Reply::Serial {
+                serial: self.identity.serial(),
+            }),
+            Request::SoftwareRevision => Some(self.text(IdentText::Software)),
+            Request::BuildCode => Some(self.text(IdentText::Build)),
+            Request::CommsRevision => Some(REVISION),
+            _ => self.tell_coins(request),
+        }
+    }
+
+    /// The reply to a request for the acceptor's coins that changes nothing.
+    #[tactic(auto, unfolding(cct_model::specs::Acceptor::acceptor_reply))]
+    fn tell_coins(&self, request: Request) -> Option<Reply<'s>>
+        ensures answer { (d : DeviceSetup) (past : List Met) → StandsFor self.now d past → is_change request ≡ false
+            → option_map reply_shown result ≡ acceptor_reply (start_of d.body) (ids_of d.body) past request }
+        ensures sayable { IfSome result (λ y. IsSayable (reply_shown y)) }
+    {
+        match request {
+            Request::GetMask => Some(Reply::Mask {
+                mask: self.table.mask(),
+            }),
+            Request::GetMaster => Some(Reply::Master {
+                value: u8::from(self.table.master()),
+            }),
+            Request::ReadCredits => Some(Reply::Credits(self.ring.reading())),
+            Request::GetPath { place } => Some(self.path(place)),
+            Request::GetDefault => Some(Reply::Path {
+                path: self.table.default_path(),
+            }),
+            Request::CoinId { place } => Some(self.coin_id(place)),
+            Request::AcceptCount => Some(Reply::Accepts {
+                count: self.accepts,
+            }),
+            _ => None,
+        }
+    }
+
+    /// A text by which the acceptor names itself.
+    fn text(&self, which: IdentText) -> Reply<'s>
+        ensures answer { (d : DeviceSetup) (past : List Met) → StandsFor self.now d past
+            → reply_shown result ≡ text (text_of d which) }
+        ensures sayable { IsSayable (reply_shown result) }
+    {
+        Reply::Text {
+            text: self.identity.text(which),
+        }
+    }
+
+    /// The sorter path of a coin place, or a refusal where there is no such place.
+    fn path(&self, place: u8) -> Reply<'s>
+        ensures answer { (d : DeviceSetup) (past : List Met) → StandsFor self.now d past
+            → reply_shown result ≡ (if is_place place then path (path_of past place) else nak) }
+        ensures sayable { IsSayable (reply_shown result) }
+    {
+        if is_place(place) {
+            Reply::Path {
+                path: self.table.path_of(place),
+            }
+        } else {
+            Reply::Nak
+        }
+    }
+
+    /// The identification of the coin of a place, or a refusal where there is no such place.
+    #[tactic(auto, using(crate::proofs::Replies::id_read))]
+    fn coin_id(&self, place: u8) -> Reply<'s>
+        ensures answer { (d : DeviceSetup) (past : List Met) → StandsFor self.now d past
+            → reply_shown result ≡ (if is_place place then coin_id (id_at (ids_of d.body) place) else nak) }
+        ensures sayable { IsSayable (reply_shown result) }
+    {
+        if is_place(place) {
+            Reply::CoinId {
+                id: self.ids[place as usize - 1],
+            }
+        } else {
+            Reply::Nak
+        }
+    }
+}
+
+/// Whether a coin place is one of an acceptor's.
+fn is_place(place: u8) -> bool
+    ensures { result ≡ is_place place }
+{
+    1 <= place && place <= PLACES
+}
+
+/// The reply to a setting: it was taken, or refused.
+fn acknowledgement(taken: bool) -> Reply<'static>
+    ensures { reply_shown result ≡ (if taken then ack else nak) }
+{
+    if taken { Reply::Ack } else { Reply::Nak }
+}

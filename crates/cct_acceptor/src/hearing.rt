@@ -1,0 +1,73 @@
+//! What a piece that a device hears asks of it.
+ghost use Rattle.std.specs.Prelude.{◌≡◌, None, Some, MatchOption};
+ghost use Rattle.cct_frame.specs.Frame.{message_of};
+ghost use Rattle.cct_model.specs.Exchange.{asked_of, asker, asks_of, to_all, to_one};
+
+use cct_frame::{FrameView, read};
+use cct_model::{DeviceSetup, Request};
+use cct_msg::read_request;
+
+/// The address of the host, which is answered where a piece names no source.
+const HOST: u8 = 1;
+
+/// The address of all devices.
+const ALL: u8 = 0;
+
+/// What a device is asked, and whom it answers.
+#[derive(Clone, Copy, Debug, PartialEq, Eq)]
+pub(crate) struct Asked {
+    pub(crate) request: Request,
+    pub(crate) asker: u8,
+}
+
+/// What a piece asks of the device of a setup, or nothing where it is no message under the device's check, or none that
+/// asks something of it.
+#[tactic(auto, unfolding(cct_model::specs::Exchange::asks_of, cct_model::specs::Exchange::asker))]
+pub(crate) fn listen(setup: &DeviceSetup, piece: &[u8]) -> Option<Asked>
+    ensures { MatchOption result (asks_of setup.now piece.now ≡ None)
+        (λ asked. (asks_of setup.now piece.now ≡ Some asked.request) × (asker setup.now.kind piece.now ≡ asked.asker)) }
+{
+    match read(setup.kind, piece) {
+        Err(_) => None,
+        Ok(view) => match request_in(setup.addr, &view) {
+            None => None,
+            Some(request) => Some(Asked {
+                request,
+                asker: view.from.unwrap_or(HOST),
+            }),
+        },
+    }
+}
+
+/// What a message asks of the device at an address.
+fn request_in(address: u8, view: &FrameView<'_>) -> Option<Request>
+    ensures { result ≡ asked_of address (message_of view.now) }
+{
+    if view.to == address {
+        to_one(read_request(view))
+    } else if view.to == ALL {
+        to_all(read_request(view))
+    } else {
+        None
+    }
+}
+
+/// What a request to one device asks of it: an address poll asks nothing there.
+fn to_one(request: Option<Request>) -> Option<Request>
+    ensures { result ≡ to_one request }
+{
+    match request {
+        Some(Request::AddressPoll) => None,
+        other => other,
+    }
+}
+
+/// What a request to all devices asks of each: the address poll alone is known there.
+fn to_all(request: Option<Request>) -> Option<Request>
+    ensures { result ≡ to_all request }
+{
+    match request {
+        Some(Request::AddressPoll) => Some(Request::AddressPoll),
+        _ => None,
+    }
+}

@@ -1,0 +1,315 @@
+//! Worked exchanges of an acceptor at address 2, whose accept counter starts at its highest number.
+ghost use Rattle.cct_model.specs.Device.{IsAcceptor, IsPrinting, IsSound, IsSoundBody, IsWord};
+
+use super::*;
+use arrayvec::ArrayVec;
+use cct_model::{CheckKind, Coin, DeviceBody, DeviceSetup, Name, Texts};
+use std::test::*;
+
+/// A text of three times this character.
+fn name(character: u8) -> Name
+    requires { IsPrinting character }
+    ensures { IsWord result }
+{
+    let mut name = Name::new();
+    name.extend_from_slice(&[character; 3]);
+    name
+}
+
+/// The values and identifications of sixteen like coins.
+fn body() -> DeviceBody
+    ensures sound { IsSoundBody result }
+    ensures acceptor { IsAcceptor result }
+{
+    DeviceBody::Acceptor {
+        accepts: 0x00ff_ffff,
+        values: [50; 16],
+        ids: [[b'5'; 6]; 16],
+    }
+}
+
+/// The setup of the acceptor, under a check.
+fn setup(kind: CheckKind) -> DeviceSetup
+    ensures sound { IsSound result }
+    ensures acceptor { IsAcceptor result.body }
+{
+    DeviceSetup {
+        addr: 2,
+        kind,
+        serial: 0x0003_0201,
+        texts: Texts {
+            maker: name(b'M'),
+            product: name(b'P'),
+            software: name(b'S'),
+            build: name(b'B'),
+        },
+        body: body(),
+    }
+}
+
+/// Pieces that are heard one after the other under the simple check, each with its answer, or none.
+const SIMPLE: [(&[u8], &[u8]); 64] = [
+    // Whom a device answers: not a broadcast but the address poll, no address poll at its own address, no other address.
+    (b"\x02\x00\x01\xfe\xff", b"\x01\x00\x02\x00\xfd"),
+    (b"\x00\x00\x01\xfe\x01", &[]),
+    (b"\x02\x00\x01\xfd\x00", &[]),
+    (b"\x00\x00\x01\xfd\x02", b"\x02"),
+    (b"\x03\x00\x01\xfe\xfe", &[]),
+    // What every device tells of itself.
+    (b"\x02\x00\x01\xf6\x07", b"\x01\x03\x02\x00\x4d\x4d\x4d\x13"),
+    (
+        b"\x02\x00\x01\xf5\x08",
+        b"\x01\x0d\x02\x00\x43\x6f\x69\x6e\x20\x41\x63\x63\x65\x70\x74\x6f\x72\x16",
+    ),
+    (b"\x02\x00\x01\xf4\x09", b"\x01\x03\x02\x00\x50\x50\x50\x0a"),
+    (b"\x02\x00\x01\xf2\x0b", b"\x01\x03\x02\x00\x01\x02\x03\xf4"),
+    (b"\x02\x00\x01\xf1\x0c", b"\x01\x03\x02\x00\x53\x53\x53\x01"),
+    (b"\x02\x00\x01\xc0\x3d", b"\x01\x03\x02\x00\x42\x42\x42\x34"),
+    (b"\x02\x00\x01\x04\xf9", b"\x01\x03\x02\x00\x01\x04\x00\xf5"),
+    // No event yet.
+    (
+        b"\x02\x00\x01\xe5\x18",
+        b"\x01\x0b\x02\x00\x00\x00\x00\x00\x00\x00\x00\x00\x00\x00\x00\xf2",
+    ),
+    // The inhibit mask, and the master inhibit.
+    (b"\x02\x02\x01\xe7\x05\x80\x8f", b"\x01\x00\x02\x00\xfd"),
+    (b"\x02\x00\x01\xe6\x17", b"\x01\x02\x02\x00\x05\x80\x76"),
+    (b"\x02\x01\x01\xe4\xfe\x1a", b"\x01\x00\x02\x00\xfd"),
+    (b"\x02\x00\x01\xe3\x1a", b"\x01\x01\x02\x00\x00\xfc"),
+    // Sorter paths: those of places 1 to 16, and 1 to 8.
+    (b"\x02\x02\x01\xd2\x10\x08\x11", b"\x01\x00\x02\x00\xfd"),
+    (b"\x02\x02\x01\xd2\x11\x01\x17", b"\x01\x00\x02\x05\xf8"),
+    (b"\x02\x02\x01\xd2\x10\x09\x10", b"\x01\x00\x02\x05\xf8"),
+    (b"\x02\x01\x01\xd1\x10\x1b", b"\x01\x01\x02\x00\x08\xf4"),
+    (b"\x02\x01\x01\xd1\x00\x2b", b"\x01\x00\x02\x05\xf8"),
+    (b"\x02\x01\x01\xd1\x11\x1a", b"\x01\x00\x02\x05\xf8"),
+    // The default path, also of a place without a path of its own.
+    (b"\x02\x01\x01\xbd\x02\x3d", b"\x01\x00\x02\x00\xfd"),
+    (b"\x02\x01\x01\xbd\x00\x3f", b"\x01\x00\x02\x05\xf8"),
+    (b"\x02\x00\x01\xbc\x41", b"\x01\x01\x02\x00\x02\xfa"),
+    (b"\x02\x01\x01\xd1\x01\x2a", b"\x01\x01\x02\x00\x02\xfa"),
+    // The identification of a coin, and the accept counter.
+    (
+        b"\x02\x01\x01\xb8\x10\x34",
+        b"\x01\x06\x02\x00\x35\x35\x35\x35\x35\x35\xb9",
+    ),
+    (b"\x02\x01\x01\xb8\x11\x33", b"\x01\x00\x02\x05\xf8"),
+    (b"\x02\x00\x01\xe1\x1c", b"\x01\x03\x02\x00\xff\xff\xff\xfd"),
+    // A reset to all asks nothing. One to the acceptor clears all but the accept counter.
+    (b"\x00\x00\x01\x01\xfe", &[]),
+    (b"\x02\x00\x01\xe6\x17", b"\x01\x02\x02\x00\x05\x80\x76"),
+    (b"\x02\x00\x01\x01\xfc", b"\x01\x00\x02\x00\xfd"),
+    (b"\x02\x00\x01\xe6\x17", b"\x01\x02\x02\x00\x00\x00\xfb"),
+    (b"\x02\x00\x01\xe3\x1a", b"\x01\x01\x02\x00\x01\xfb"),
+    (b"\x02\x01\x01\xd1\x10\x1b", b"\x01\x01\x02\x00\x01\xfb"),
+    (b"\x02\x00\x01\xbc\x41", b"\x01\x01\x02\x00\x01\xfb"),
+    (b"\x02\x00\x01\xe1\x1c", b"\x01\x03\x02\x00\xff\xff\xff\xfd"),
+    // Requests to a hopper.
+    (b"\x02\x00\x01\xa0\x5d", &[]),
+    (b"\x02\x03\x01\xa1\x01\x02\x03\x53", &[]),
+    (b"\x02\x00\x01\xa3\x5a", &[]),
+    (b"\x02\x01\x01\xa4\xa5\xb3", &[]),
+    (b"\x02\x00\x01\xa6\x57", &[]),
+    (b"\x02\x04\x01\xa7\x01\x02\x03\x01\x4b", &[]),
+    (
+        b"\x02\x09\x01\xa7\x00\x00\x00\x00\x00\x00\x00\x00\x00\x4d",
+        &[],
+    ),
+    (b"\x02\x00\x01\xa8\x55", &[]),
+    (b"\x02\x00\x01\xac\x51", &[]),
+    // Headers that aren't known, and wrong numbers of data bytes.
+    (b"\x02\x00\x01\x00\xfd", &[]),
+    (b"\x02\x00\x01\xff\xfe", &[]),
+    (b"\x02\x01\x01\xfe\x00\xfe", &[]),
+    (b"\x02\x01\x01\xe7\xff\x16", &[]),
+    (b"\x02\x03\x01\xe7\xff\xff\xff\x16", &[]),
+    (b"\x02\x00\x01\xe4\x19", &[]),
+    (b"\x02\x01\x01\xe5\x00\x17", &[]),
+    (b"\x02\x01\x01\xd2\x01\x29", &[]),
+    (b"\x02\x00\x01\xd1\x2c", &[]),
+    (b"\x02\x00\x01\xbd\x40", &[]),
+    (b"\x02\x00\x01\xb8\x45", &[]),
+    (b"\x02\x01\x01\x01\x00\xfb", &[]),
+    // A damaged piece, one cut off, an empty one, and one under the other check.
+    (b"\x02\x00\x01\xfe\xfe", &[]),
+    (b"\x02\x00\x01\xfe", &[]),
+    (&[], &[]),
+    (b"\x02\x00\xb1\xfe\x60", &[]),
+    // The answer goes to the source of the request.
+    (b"\x02\x00\x05\xfe\xfb", b"\x05\x00\x02\x00\xf9"),
+];
+
+/// The same under the CRC.
+const CRC: [(&[u8], &[u8]); 64] = [
+    // Whom a device answers: not a broadcast but the address poll, no address poll at its own address, no other address.
+    (b"\x02\x00\xb1\xfe\x60", b"\x01\x00\x30\x00\x37"),
+    (b"\x00\x00\xd1\xfe\x0e", &[]),
+    (b"\x02\x00\xd2\xfd\x50", &[]),
+    (b"\x00\x00\xb2\xfd\x3e", b"\x02"),
+    (b"\x03\x00\x81\xfe\x57", &[]),
+    // What every device tells of itself.
+    (b"\x02\x00\xb9\xf6\xe1", b"\x01\x03\x77\x00\x4d\x4d\x4d\x16"),
+    (
+        b"\x02\x00\xda\xf5\xd1",
+        b"\x01\x0d\xba\x00\x43\x6f\x69\x6e\x20\x41\x63\x63\x65\x70\x74\x6f\x72\xbc",
+    ),
+    (b"\x02\x00\xfb\xf4\xc1", b"\x01\x03\xf6\x00\x50\x50\x50\xa1"),
+    (b"\x02\x00\x3d\xf2\xa1", b"\x01\x03\x43\x00\x01\x02\x03\xca"),
+    (b"\x02\x00\x5e\xf1\x91", b"\x01\x03\x96\x00\x53\x53\x53\x9d"),
+    (b"\x02\x00\x2c\xc0\xb7", b"\x01\x03\x97\x00\x42\x42\x42\xdb"),
+    (b"\x02\x00\xe4\x04\x2e", b"\x01\x03\x86\x00\x01\x04\x00\x50"),
+    // No event yet.
+    (
+        b"\x02\x00\xeb\xe5\xc3",
+        b"\x01\x0b\x9e\x00\x00\x00\x00\x00\x00\x00\x00\x00\x00\x00\x00\xbf",
+    ),
+    // The inhibit mask, and the master inhibit.
+    (b"\x02\x02\x37\xe7\x05\x80\xe2", b"\x01\x00\x30\x00\x37"),
+    (b"\x02\x00\x88\xe6\xf3", b"\x01\x02\x44\x00\x05\x80\x29"),
+    (b"\x02\x01\xff\xe4\xfe\x08", b"\x01\x00\x30\x00\x37"),
+    (b"\x02\x00\x2d\xe3\xa3", b"\x01\x01\x84\x00\x00\x41"),
+    // Sorter paths: those of places 1 to 16, and 1 to 8.
+    (b"\x02\x02\x64\xd2\x10\x08\x20", b"\x01\x00\x30\x00\x37"),
+    (b"\x02\x02\x7c\xd2\x11\x01\x82", b"\x01\x00\x95\x05\x67"),
+    (b"\x02\x02\x45\xd2\x10\x09\x30", b"\x01\x00\x95\x05\x67"),
+    (b"\x02\x01\x7f\xd1\x10\xee", b"\x01\x01\x8c\x00\x08\xc0"),
+    (b"\x02\x01\x4e\xd1\x00\xfc", b"\x01\x00\x95\x05\x67"),
+    (b"\x02\x01\x5e\xd1\x11\xfe", b"\x01\x00\x95\x05\x67"),
+    // The default path, also of a place without a path of its own.
+    (b"\x02\x01\x4b\xbd\x02\x92", b"\x01\x00\x30\x00\x37"),
+    (b"\x02\x01\x09\xbd\x00\xb2", b"\x01\x00\x95\x05\x67"),
+    (b"\x02\x00\x37\xbc\x08", b"\x01\x01\xc6\x00\x02\x61"),
+    (b"\x02\x01\x6f\xd1\x01\xec", b"\x01\x01\xc6\x00\x02\x61"),
+    // The identification of a coin, and the accept counter.
+    (
+        b"\x02\x01\xcd\xb8\x10\x5f",
+        b"\x01\x06\xb3\x00\x35\x35\x35\x35\x35\x35\x0a",
+    ),
+    (b"\x02\x01\xec\xb8\x11\x4f", b"\x01\x00\x95\x05\x67"),
+    (b"\x02\x00\x6f\xe1\x83", b"\x01\x03\x1e\x00\xff\xff\xff\x79"),
+    // A reset to all asks nothing. One to the acceptor clears all but the accept counter.
+    (b"\x00\x00\x21\x01\x10", &[]),
+    (b"\x02\x00\x88\xe6\xf3", b"\x01\x02\x44\x00\x05\x80\x29"),
+    (b"\x02\x00\x41\x01\x7e", b"\x01\x00\x30\x00\x37"),
+    (b"\x02\x00\x88\xe6\xf3", b"\x01\x02\x39\x00\x00\x00\x47"),
+    (b"\x02\x00\x2d\xe3\xa3", b"\x01\x01\xa5\x00\x01\x51"),
+    (b"\x02\x01\x7f\xd1\x10\xee", b"\x01\x01\xa5\x00\x01\x51"),
+    (b"\x02\x00\x37\xbc\x08", b"\x01\x01\xa5\x00\x01\x51"),
+    (b"\x02\x00\x6f\xe1\x83", b"\x01\x03\x1e\x00\xff\xff\xff\x79"),
+    // Requests to a hopper.
+    (b"\x02\x00\x8a\xa0\xdb", &[]),
+    (b"\x02\x03\x61\xa1\x01\x02\x03\x98", &[]),
+    (b"\x02\x00\xe9\xa3\xeb", &[]),
+    (b"\x02\x01\xad\xa4\xa5\xee", &[]),
+    (b"\x02\x00\x4c\xa6\xbb", &[]),
+    (b"\x02\x04\x54\xa7\x01\x02\x03\x01\x76", &[]),
+    (
+        b"\x02\x09\xee\xa7\x00\x00\x00\x00\x00\x00\x00\x00\x00\xbd",
+        &[],
+    ),
+    (b"\x02\x00\x82\xa8\x5a", &[]),
+    (b"\x02\x00\x06\xac\x1a", &[]),
+    // Headers that aren't known, and wrong numbers of data bytes.
+    (b"\x02\x00\x60\x00\x6e", &[]),
+    (b"\x02\x00\x90\xff\x70", &[]),
+    (b"\x02\x01\x96\xfe\x00\xea", &[]),
+    (b"\x02\x01\x8d\xe7\xff\x4d", &[]),
+    (b"\x02\x03\x39\xe7\xff\xff\xff\x62", &[]),
+    (b"\x02\x00\xca\xe4\xd3", &[]),
+    (b"\x02\x01\x1f\xe5\x00\x35", &[]),
+    (b"\x02\x01\x3c\xd2\x01\xb9", &[]),
+    (b"\x02\x00\x3c\xd1\xb5", &[]),
+    (b"\x02\x00\x16\xbd\x18", &[]),
+    (b"\x02\x00\xb3\xb8\x48", &[]),
+    (b"\x02\x01\x69\x01\x00\xe9", &[]),
+    // A damaged piece, one cut off, an empty one, and one under the other check.
+    (b"\x02\x00\xb1\xfe\x61", &[]),
+    (b"\x02\x00\xb1\xfe", &[]),
+    (&[], &[]),
+    (b"\x02\x00\x01\xfe\xff", &[]),
+    // Under the CRC the answer goes to the host.
+    (b"\x02\x00\xb1\xfe\x60", b"\x01\x00\x30\x00\x37"),
+];
+
+#[test]
+fn answers_every_request_and_is_silent_to_the_rest(rt: HostRuntime) -> Result<(), Fail> {
+    let mut out = ArrayVec::new();
+    for (kind, exchanges) in [(CheckKind::Simple, SIMPLE), (CheckKind::Crc, CRC)] {
+        let setup = setup(kind);
+        let mut acceptor = Acceptor::new(rt.alloc(), &setup)?;
+        for (piece, answer) in exchanges {
+            assert_eq!(rt; acceptor.hear(piece, &mut out), !answer.is_empty());
+            assert_eq!(rt; out.as_slice(), answer);
+        }
+    }
+    Ok(())
+}
+
+#[test]
+fn coins_are_taken_by_the_settings(rt: HostRuntime) -> Result<(), Fail> {
+    let setup = setup(CheckKind::Simple);
+    let mut acceptor = Acceptor::new(rt.alloc(), &setup)?;
+    let mut out = ArrayVec::new();
+
+    // Every place is accepted, and falls by the default path.
+    assert!(rt; acceptor.hear(b"\x02\x02\x01\xe7\xff\xff\x16", &mut out));
+    assert_eq!(rt; out.as_slice(), b"\x01\x00\x02\x00\xfd".as_slice());
+    assert_eq!(rt;
+        acceptor.insert(5),
+        Inserted::Accepted(Coin { place: 5, path: 1 })
+    );
+
+    // Place 5 has path 3.
+    assert!(rt; acceptor.hear(b"\x02\x02\x01\xd2\x05\x03\x21", &mut out));
+    assert_eq!(rt; out.as_slice(), b"\x01\x00\x02\x00\xfd".as_slice());
+    assert_eq!(rt;
+        acceptor.insert(5),
+        Inserted::Accepted(Coin { place: 5, path: 3 })
+    );
+
+    // Two events, the newest first. The accept counter has gone past its end.
+    assert!(rt; acceptor.hear(b"\x02\x00\x01\xe5\x18", &mut out));
+    assert_eq!(rt;
+        out.as_slice(),
+        b"\x01\x0b\x02\x00\x02\x05\x03\x05\x01\x00\x00\x00\x00\x00\x00\xe2".as_slice()
+    );
+    assert!(rt; acceptor.hear(b"\x02\x00\x01\xe1\x1c", &mut out));
+    assert_eq!(rt;
+        out.as_slice(),
+        b"\x01\x03\x02\x00\x01\x00\x00\xf9".as_slice()
+    );
+    Ok(())
+}
+
+#[test]
+fn a_reset_leaves_the_accept_counter_alone(rt: HostRuntime) -> Result<(), Fail> {
+    let setup = setup(CheckKind::Simple);
+    let mut acceptor = Acceptor::new(rt.alloc(), &setup)?;
+    let mut out = ArrayVec::new();
+
+    assert!(rt; acceptor.hear(b"\x02\x02\x01\xe7\x10\x00\x04", &mut out));
+    assert_eq!(rt; out.as_slice(), b"\x01\x00\x02\x00\xfd".as_slice());
+    assert_eq!(rt;
+        acceptor.insert(5),
+        Inserted::Accepted(Coin { place: 5, path: 1 })
+    );
+    acceptor.reset();
+    assert_eq!(rt; acceptor.insert(5), Inserted::Inhibited);
+    assert!(rt; acceptor.hear(b"\x02\x00\x01\xe5\x18", &mut out));
+    assert_eq!(rt;
+        out.as_slice(),
+        b"\x01\x0b\x02\x00\x01\x00\x02\x00\x00\x00\x00\x00\x00\x00\x00\xef".as_slice()
+    );
+    acceptor.alien();
+    assert!(rt; acceptor.hear(b"\x02\x00\x01\xe5\x18", &mut out));
+    assert_eq!(rt;
+        out.as_slice(),
+        b"\x01\x0b\x02\x00\x02\x00\x01\x00\x02\x00\x00\x00\x00\x00\x00\xed".as_slice()
+    );
+    assert!(rt; acceptor.hear(b"\x02\x00\x01\xe1\x1c", &mut out));
+    assert_eq!(rt;
+        out.as_slice(),
+        b"\x01\x03\x02\x00\x00\x00\x00\xfa".as_slice()
+    );
+    Ok(())
+}
