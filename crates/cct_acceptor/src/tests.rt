@@ -43,6 +43,7 @@ fn setup(kind: CheckKind) -> DeviceSetup
             software: name(b'S'),
             build: name(b'B'),
         },
+        named: true,
         body: body(),
     }
 }

@@ -1,7 +1,7 @@
 -- What a run keeps from line to line, and what it leaves where it stops.
 use Rattle.std.proofs.Common.{◌≡◌, ℕ, ◌+◌, ◌≤◌, List, [], ◌∷◌, ◌++◌, reverse, Option, None, Some, Ok, Err, refl, ap, sym, ◌∙◌, subst, append_assoc, arith}
 use Rattle.std.specs.Prelude.{IfSome}
-use Rattle.std.specs.List.{slice_split, position, AllByRecursion}
+use Rattle.std.specs.List.{slice_split, position}
 use Rattle.std.specs.Io.KnownBytes.{Appends, Consumes}
 use Rattle.std.proofs.lemmas.List.{append-nil}
 use Rattle.std.proofs.lemmas.List.Concat.{flat_map-append}
@@ -13,67 +13,74 @@ use Rattle.cct_model.specs.declared.command.Step.{Step}
 use Rattle.cct_model.specs.declared.entry.Entry.{Entry}
 use Rattle.cct_model.specs.declared.entry.LineKind.{LineKind}
 use Rattle.cct_model.specs.Legal.{Entries, Legal, LegalFrom}
-use Rattle.cct_model.specs.Script.{is_line_feed, Stage, at_device, opens, plays, ends, refuses, Script, script, script_from, one_acceptor, ended_script, refused_script, unfinished, IsInRange}
+use Rattle.cct_model.specs.Script.{is_line_feed, Stage, at_setup, at_steps, at_end, no_devices, setup_at, opens, plays, Script, script, closed_script, unfinished}
 use Rattle.cct_model.specs.Text.{line_of, text}
 use Rattle.cct_model.specs.Transcript.{onto}
-use Rattle.cct_laws.proofs.Scripts.{setup_of_script, said}
-use Rattle.cct_bench.specs.declared.machine.Machine.{Machine}
+use Rattle.cct_laws.specs.Law.{IsSetupOfToday}
+use Rattle.cct_laws.proofs.Scripts.{setup_of_today}
+use Rattle.cct_bench.specs.declared.lines.Stop.{Stop}
+use Rattle.cct_bench.specs.declared.lines.Stop.TheVariants as stop
 use Rattle.cct_bench.specs.declared.play.Ending.TheVariants as ending
-use Rattle.cct_bench.specs.Lines.{Fills}
-use Rattle.cct_bench.specs.Machine.{StandsFor}
-use Rattle.cct_bench.specs.Run.{ReadsOn, PlaysOn, Played}
-use Rattle.cct_bench.proofs.Continuing.{ended_goes}
+use Rattle.cct_bench.specs.Lines.{said_from, GoesOn, IsClosed, StopsAt, Came}
+use Rattle.cct_bench.specs.Going.{AlsoSays, Going, IsNothing}
+use Rattle.cct_bench.specs.Playing.{PlaysOn}
+use Rattle.cct_bench.specs.Run.{Played, ending_at}
+use Rattle.cct_bench.proofs.Continuing.{ended}
+use Rattle.cct_bench.proofs.Staying.{IsDone, setup_stays}
 
--- a script says these steps, and then what the rest says
-pub record AlsoSays (whole : Script) (played : List Step) (rest : Script) : Type 0 where
-  pub steps : whole.steps ≡ played ++ rest.steps
-  pub refused : whole.refused ≡ rest.refused
-
--- what was taken and played so far; whatever follows, the script says these steps and what the lines from here on say
-pub record Going (left0 left : Option (List ℕ)) (held : List ℕ) (number : ℕ) (stage : Stage) (machine : Machine) (old now : Option (List ℕ)) : Type 0 where
-  pub taken : List ℕ
-  pub played : List Step
-  pub transcript : List Entry
-  pub consumed : Consumes left0 left taken
-  pub says : (more : List ℕ) → AlsoSays (script (taken ++ more)) played (script_from number stage (slice_split is_line_feed (held ++ more)))
-  pub legal : Legal one_acceptor played transcript
-  pub stands : StandsFor machine (onto [] transcript)
-  pub wrote : Appends old now (text transcript)
-
-pub going_begin : (left : Option (List ℕ)) (machine : Machine) (written : Option (List ℕ)) → StandsFor machine [] → Going left left [] 1 at_device machine written written
+pub going_begin : (left written : Option (List ℕ)) → Going left left [] 1 (at_setup no_devices) IsNothing written written
 unfolding script
-going_begin left machine written stands = record {
+going_begin left written = record {
   taken = [];
   played = [];
   transcript = [];
   consumed = Consumes-nil left;
-  says = λ more. record { steps = refl; refused = refl };
-  legal = refl;
-  stands = stands;
+  says = λ more. record { setup = refl; steps = refl; refused = refl };
+  legal = λ more. refl;
+  stands = refl;
   wrote = Appends-nil written;
+}
+
+-- a machine that stands for the past takes the place of another
+pub going_stands : (left0 left : Option (List ℕ)) (held : List ℕ) (number : ℕ) (stage : Stage) (Before After : List Entry → Type 0) (old now : Option (List ℕ)) →
+    ((past : List Entry) → Before past → After past) → Going left0 left held number stage Before old now → Going left0 left held number stage After old now
+going_stands left0 left held number stage Before After old now goes g = record {
+  taken = g.taken;
+  played = g.played;
+  transcript = g.transcript;
+  consumed = g.consumed;
+  says = g.says;
+  legal = g.legal;
+  stands = goes (onto [] g.transcript) g.stands;
+  wrote = g.wrote;
 }
 
 -- more bytes came, and the line that they make goes on as this
 also_goes : (taken came held more : List ℕ) (number : ℕ) (stage : Stage) (played : List Step) (next : Script) →
-    AlsoSays (script (taken ++ (came ++ more))) played (script_from number stage (slice_split is_line_feed (held ++ (came ++ more)))) →
-    script_from number stage (slice_split is_line_feed ((held ++ came) ++ more)) ≡ next → AlsoSays (script ((taken ++ came) ++ more)) played next
+    AlsoSays (script (taken ++ (came ++ more))) played (said_from number stage (held ++ (came ++ more))) →
+    said_from number stage ((held ++ came) ++ more) ≡ next → AlsoSays (script ((taken ++ came) ++ more)) played next
 also_goes taken came held more number stage played next h e =
     subst (λ bytes. AlsoSays (script bytes) played next) (sym (append_assoc taken came more))
     (
     subst (AlsoSays (script (taken ++ (came ++ more))) played)
-    (ap (λ bytes. script_from number stage (slice_split is_line_feed bytes)) (sym (append_assoc held came more)) ∙ e)
+    (ap (said_from number stage) (sym (append_assoc held came more)) ∙ e)
     h
     )
 
-pub going_opens : (left0 left left1 : Option (List ℕ)) (held rest : List ℕ) (number : ℕ) (stage next : Stage) (machine : Machine) (old now : Option (List ℕ)) →
-    Going left0 left held number stage machine old now → ReadsOn number stage held (opens next) rest left left1 → Going left0 left1 rest (number + 1) next machine old now
-going_opens left0 left left1 held rest number stage next machine old now g r = record {
+legal_came : (taken came more : List ℕ) (played : List Step) (transcript : List Entry) → Legal (script (taken ++ (came ++ more))).setup played transcript →
+    Legal (script ((taken ++ came) ++ more)).setup played transcript
+legal_came taken came more played transcript h = subst (λ bytes. Legal (script bytes).setup played transcript) (sym (append_assoc taken came more)) h
+
+pub going_opens : (left0 left left1 : Option (List ℕ)) (held rest : List ℕ) (number : ℕ) (stage next : Stage) (Stands : List Entry → Type 0) (old now : Option (List ℕ)) →
+    Going left0 left held number stage Stands old now → Came held left left1 (λ bytes. GoesOn number stage bytes (opens next) rest) →
+    Going left0 left1 rest (number + 1) next Stands old now
+going_opens left0 left left1 held rest number stage next Stands old now g r = record {
   taken = g.taken ++ r.0;
   played = g.played;
   transcript = g.transcript;
   consumed = Consumes-trans left0 left left1 g.taken r.0 g.consumed r.1;
   says = λ more. also_goes g.taken r.0 held more number stage g.played _ (g.says (r.0 ++ more)) (r.2 more);
-  legal = g.legal;
+  legal = λ more. legal_came g.taken r.0 more g.played g.transcript (g.legal (r.0 ++ more));
   stands = g.stands;
   wrote = g.wrote;
 }
@@ -103,21 +110,40 @@ legal_more setup played transcript report s h e =
     subst (LegalFrom setup [] (played ++ s ∷ [])) (sym (transcript_on transcript report)) (legal_from setup [] played (onto [] transcript) s (reverse report) h e)
 
 also_plays : (whole rest : Script) (played : List Step) (s : Step) → AlsoSays whole played (record { setup = rest.setup; steps = s ∷ rest.steps; refused = rest.refused }) → AlsoSays whole (played ++ s ∷ []) rest
-also_plays whole rest played s h = record { steps = h.steps ∙ sym (append_assoc played (s ∷ []) rest.steps); refused = h.refused }
+also_plays whole rest played s h = record { setup = h.setup; steps = h.steps ∙ sym (append_assoc played (s ∷ []) rest.steps); refused = h.refused }
 
-pub going_plays : (left0 left left1 : Option (List ℕ)) (held rest : List ℕ) (number : ℕ) (stage next : Stage) (before after : Machine) (s : Step) (old now now1 : Option (List ℕ)) →
-    Going left0 left held number stage before old now → ReadsOn number stage held (plays s next) rest left left1 → PlaysOn before after s (Ok tt) now now1 →
-    Going left0 left1 rest (number + 1) next after old now1
-going_plays left0 left left1 held rest number stage next before after s old now now1 g r p =
+-- a step that was read is one that the script says next
+step_says : (taken came held more rest : List ℕ) (number : ℕ) (stage next : Stage) (played : List Step) (s : Step) →
+    AlsoSays (script (taken ++ (came ++ more))) played (said_from number stage (held ++ (came ++ more))) →
+    GoesOn number stage (held ++ came) (plays s next) rest → AlsoSays (script ((taken ++ came) ++ more)) (played ++ s ∷ []) (said_from (number + 1) next (rest ++ more))
+step_says taken came held more rest number stage next played s h r =
+    also_plays _ (said_from (number + 1) next (rest ++ more)) played s (also_goes taken came held more number stage played _ h (r more))
+
+-- the script has the setup of its steps, and goes on by legal entries
+step_legal : (taken came held more rest : List ℕ) (number : ℕ) (stage next : Stage) (setup : Setup) (played : List Step) (transcript report : List Entry) (s : Step) →
+    AlsoSays (script (taken ++ (came ++ more))) played (said_from number stage (held ++ (came ++ more))) → GoesOn number stage (held ++ came) (plays s next) rest → IsDone setup next →
+    Legal (script (taken ++ (came ++ more))).setup played transcript → Entries setup (onto [] transcript) s (reverse report) →
+    Legal (script ((taken ++ came) ++ more)).setup (played ++ s ∷ []) (transcript ++ report)
+step_legal taken came held more rest number stage next setup played transcript report s h r done legal entries =
+    let says = step_says taken came held more rest number stage next played s h r in
+    let same : setup ≡ (script ((taken ++ came) ++ more)).setup =
+    sym (says.setup ∙ setup_stays (number + 1) setup next (slice_split is_line_feed (rest ++ more)) done) in
+    legal_more (script ((taken ++ came) ++ more)).setup played transcript report s (legal_came taken came more played transcript legal)
+    (subst (λ by. Entries by (onto [] transcript) s (reverse report)) same entries)
+
+pub going_plays : (left0 left left1 : Option (List ℕ)) (held rest : List ℕ) (number : ℕ) (stage next : Stage) (setup : Setup) (Before After : List Entry → Type 0) (s : Step) (old now now1 : Option (List ℕ)) →
+    IsDone setup next → Going left0 left held number stage Before old now → Came held left left1 (λ bytes. GoesOn number stage bytes (plays s next) rest) →
+    PlaysOn Before After setup s (Ok tt) now now1 → Going left0 left1 rest (number + 1) next After old now1
+going_plays left0 left left1 held rest number stage next setup Before After s old now now1 done g r p =
     let goes = p.1 (onto [] g.transcript) g.stands in
     record {
       taken = g.taken ++ r.0;
       played = g.played ++ s ∷ [];
       transcript = g.transcript ++ p.0;
       consumed = Consumes-trans left0 left left1 g.taken r.0 g.consumed r.1;
-      says = λ more. also_plays _ _ g.played s (also_goes g.taken r.0 held more number stage g.played _ (g.says (r.0 ++ more)) (r.2 more));
-      legal = legal_more one_acceptor g.played g.transcript p.0 s g.legal goes.0;
-      stands = subst (StandsFor after) (sym (transcript_on g.transcript p.0)) goes.1;
+      says = λ more. step_says g.taken r.0 held more rest number stage next g.played s (g.says (r.0 ++ more)) r.2;
+      legal = λ more. step_legal g.taken r.0 held more rest number stage next setup g.played g.transcript p.0 s (g.says (r.0 ++ more)) r.2 done (g.legal (r.0 ++ more)) goes.0;
+      stands = subst After (sym (transcript_on g.transcript p.0)) goes.1;
       wrote = subst (Appends old now1) (sym (flat_map-append line_of g.transcript p.0)) (Appends-trans old now now1 (text g.transcript) (text p.0) g.wrote p.2);
     }
 
@@ -126,46 +152,31 @@ told_by : (bytes : List ℕ) (left : Option (List ℕ)) (taken : List ℕ) → C
 told_by bytes None taken h = absurd h
 told_by bytes (Some rest) taken h = (rest, refl, h)
 
-legal_of : (bytes : List ℕ) (played : List Step) (transcript : List Entry) → Legal one_acceptor played transcript → Legal (script bytes).setup played transcript
-legal_of bytes played transcript h = subst (λ setup. Legal setup played transcript) (sym (setup_of_script bytes)) h
-
-pub played_done : (left0 left left1 : Option (List ℕ)) (held rest : List ℕ) (number : ℕ) (stage : Stage) (machine : Machine) (old now : Option (List ℕ)) →
-    Going left0 left held number stage machine old now → ReadsOn number stage held ends rest left left1 →
-    IfSome left0 (λ bytes. Played bytes (Ok ending.Done) left1 old now)
-played_done None left left1 held rest number stage machine old now g r = tt
-played_done (Some bytes) left left1 held rest number stage machine old now g r =
-    let taken = g.taken ++ r.0 in
-    let t = told_by bytes left1 taken (Consumes-trans (Some bytes) left left1 g.taken r.0 g.consumed r.1) in
-    let says : AlsoSays (script bytes) g.played ended_script =
-    subst (λ b. AlsoSays (script b) g.played ended_script) (sym t.2) (also_goes g.taken r.0 held t.0 number stage g.played ended_script (g.says (r.0 ++ t.0)) (r.2 t.0)) in
-    record {
-      taken = taken;
-      rest = t.0;
-      played = g.played;
-      unplayed = [];
-      transcript = g.transcript;
-      took = t.2;
-      left_is = t.1;
-      steps_are = says.steps;
-      legal = legal_of bytes g.played g.transcript g.legal;
-      stops = ((refl, says.refused, refl), g.wrote);
-    }
-
 of_some : (P : List ℕ → Type 0) (left : Option (List ℕ)) (rest : List ℕ) → left ≡ Some rest → IfSome left P → P rest
 of_some P left rest e h = subst (λ known. IfSome known P) e h
 
-pub played_refused : (left0 left left1 : Option (List ℕ)) (held rest : List ℕ) (number : ℕ) (why : LineKind) (stage : Stage) (machine : Machine) (old now : Option (List ℕ)) →
-    Going left0 left held number stage machine old now → ReadsOn number stage held (refuses why) rest left left1 →
-    IfSome left0 (λ bytes. Played bytes (Ok (ending.Refused number why)) left1 old now)
-played_refused None left left1 held rest number why stage machine old now g r = tt
-played_refused (Some bytes) left left1 held rest number why stage machine old now g r =
-    let taken = g.taken ++ r.0 in
-    let t = told_by bytes left1 taken (Consumes-trans (Some bytes) left left1 g.taken r.0 g.consumed r.1) in
-    let goes = of_some (λ more. script_from number stage (slice_split is_line_feed ((held ++ r.0) ++ more)) ≡ refused_script number why) left1 t.0 t.1 r.2 in
-    let says : AlsoSays (script bytes) g.played (refused_script number why) =
-    subst (λ b. AlsoSays (script b) g.played (refused_script number why)) (sym t.2) (also_goes g.taken r.0 held t.0 number stage g.played (refused_script number why) (g.says (r.0 ++ t.0)) goes) in
+-- a script that says no more
+closed_says : (bytes taken came held rest : List ℕ) (number : ℕ) (stage : Stage) (why : Option LineKind) (left : Option (List ℕ)) (played : List Step) →
+    left ≡ Some rest → bytes ≡ (taken ++ came) ++ rest → AlsoSays (script (taken ++ (came ++ rest))) played (said_from number stage (held ++ (came ++ rest))) →
+    IsClosed number stage why left (held ++ came) → AlsoSays (script bytes) played (closed_script number (setup_at stage) why)
+closed_says bytes taken came held rest number stage why left played left_is took h closed =
+    let closes = of_some (λ more. said_from number stage ((held ++ came) ++ more) ≡ closed_script number (setup_at stage) why) left rest left_is closed in
+    subst (λ b. AlsoSays (script b) played (closed_script number (setup_at stage) why)) (sym took) (also_goes taken came held rest number stage played _ h closes)
+
+legal_of : (bytes taken came rest : List ℕ) (played : List Step) (transcript : List Entry) → bytes ≡ (taken ++ came) ++ rest →
+    Legal (script (taken ++ (came ++ rest))).setup played transcript → Legal (script bytes).setup played transcript
+legal_of bytes taken came rest played transcript took h =
+    subst (λ b. Legal (script b).setup played transcript) (sym took) (legal_came taken came rest played transcript h)
+
+pub played_done : (left0 left left1 : Option (List ℕ)) (held : List ℕ) (number : ℕ) (setup : Setup) (Stands : List Entry → Type 0) (old now : Option (List ℕ)) →
+    Going left0 left held number (at_end setup) Stands old now → Came held left left1 (IsClosed number (at_end setup) None left1) →
+    IfSome left0 (λ bytes. Played bytes ending.Done left1 old now)
+played_done None left left1 held number setup Stands old now g r = tt
+played_done (Some bytes) left left1 held number setup Stands old now g r =
+    let t = told_by bytes left1 (g.taken ++ r.0) (Consumes-trans (Some bytes) left left1 g.taken r.0 g.consumed r.1) in
+    let says = closed_says bytes g.taken r.0 held t.0 number (at_end setup) None left1 g.played t.1 t.2 (g.says (r.0 ++ t.0)) r.2 in
     record {
-      taken = taken;
+      taken = g.taken ++ r.0;
       rest = t.0;
       played = g.played;
       unplayed = [];
@@ -173,32 +184,52 @@ played_refused (Some bytes) left left1 held rest number why stage machine old no
       took = t.2;
       left_is = t.1;
       steps_are = says.steps;
-      legal = legal_of bytes g.played g.transcript g.legal;
+      legal = legal_of bytes g.taken r.0 t.0 g.played g.transcript t.2 (g.legal (r.0 ++ t.0));
+      stops = ((refl, says.refused, refl), g.wrote);
+    }
+
+played_refused : (left0 left left1 : Option (List ℕ)) (held : List ℕ) (number : ℕ) (why : LineKind) (stage : Stage) (Stands : List Entry → Type 0) (old now : Option (List ℕ)) →
+    Going left0 left held number stage Stands old now → Came held left left1 (IsClosed number stage (Some why) left1) →
+    IfSome left0 (λ bytes. Played bytes (ending.Refused number why) left1 old now)
+played_refused None left left1 held number why stage Stands old now g r = tt
+played_refused (Some bytes) left left1 held number why stage Stands old now g r =
+    let t = told_by bytes left1 (g.taken ++ r.0) (Consumes-trans (Some bytes) left left1 g.taken r.0 g.consumed r.1) in
+    let says = closed_says bytes g.taken r.0 held t.0 number stage (Some why) left1 g.played t.1 t.2 (g.says (r.0 ++ t.0)) r.2 in
+    record {
+      taken = g.taken ++ r.0;
+      rest = t.0;
+      played = g.played;
+      unplayed = [];
+      transcript = g.transcript;
+      took = t.2;
+      left_is = t.1;
+      steps_are = says.steps;
+      legal = legal_of bytes g.taken r.0 t.0 g.played g.transcript t.2 (g.legal (r.0 ++ t.0));
       stops = ((record { number = number; why = why }, refl, says.refused, refl), g.wrote);
     }
 
 -- a line without its end plays no step
 unread_steps : (taken came held : List ℕ) (number : ℕ) (stage : Stage) (played : List Step) →
-    AlsoSays (script (taken ++ (came ++ []))) played (script_from number stage (slice_split is_line_feed (held ++ (came ++ [])))) →
+    AlsoSays (script (taken ++ (came ++ []))) played (said_from number stage (held ++ (came ++ []))) →
     position is_line_feed (held ++ came) ≡ None → (script (taken ++ came)).steps ≡ played
 unread_steps taken came held number stage played h none =
-    let e : script_from number stage (slice_split is_line_feed ((held ++ came) ++ [])) ≡ refused_script number (unfinished number (held ++ came)) =
-    ap (λ bytes. script_from number stage (slice_split is_line_feed bytes)) (append-nil (held ++ came)) ∙ ended_goes number stage (held ++ came) none in
-    let says = also_goes taken came held [] number stage played (refused_script number (unfinished number (held ++ came))) h e in
+    let next = closed_script number (setup_at stage) (unfinished number stage (held ++ came)) in
+    let e : said_from number stage ((held ++ came) ++ []) ≡ next =
+    ap (said_from number stage) (append-nil (held ++ came)) ∙ ended number stage (held ++ came) none in
+    let says = also_goes taken came held [] number stage played next h e in
     ap (λ bytes. (script bytes).steps) (sym (append-nil (taken ++ came))) ∙ (says.steps ∙ append-nil played)
 
-pub played_unread : (left0 left left1 : Option (List ℕ)) (held rest : List ℕ) (number : ℕ) (stage : Stage) (machine : Machine) (old now : Option (List ℕ)) →
-    Going left0 left held number stage machine old now → Fills held rest left left1 → position is_line_feed rest ≡ None →
-    IfSome left0 (λ bytes. Played bytes (Ok ending.Unread) left1 old now)
-played_unread None left left1 held rest number stage machine old now g f none = tt
-played_unread (Some bytes) left left1 held rest number stage machine old now g f none =
-    let taken = g.taken ++ f.0 in
-    let t = told_by bytes left1 taken (Consumes-trans (Some bytes) left left1 g.taken f.0 g.consumed f.2) in
-    let after = script_from number stage (slice_split is_line_feed ((held ++ f.0) ++ t.0)) in
+played_unread : (left0 left left1 : Option (List ℕ)) (held : List ℕ) (number : ℕ) (stage : Stage) (Stands : List Entry → Type 0) (old now : Option (List ℕ)) →
+    Going left0 left held number stage Stands old now → Came held left left1 (λ bytes. position is_line_feed bytes ≡ None) →
+    IfSome left0 (λ bytes. Played bytes ending.Unread left1 old now)
+played_unread None left left1 held number stage Stands old now g r = tt
+played_unread (Some bytes) left left1 held number stage Stands old now g r =
+    let t = told_by bytes left1 (g.taken ++ r.0) (Consumes-trans (Some bytes) left left1 g.taken r.0 g.consumed r.1) in
+    let after = said_from number stage ((held ++ r.0) ++ t.0) in
     let says : AlsoSays (script bytes) g.played after =
-    subst (λ b. AlsoSays (script b) g.played after) (sym t.2) (also_goes g.taken f.0 held t.0 number stage g.played after (g.says (f.0 ++ t.0)) refl) in
+    subst (λ b. AlsoSays (script b) g.played after) (sym t.2) (also_goes g.taken r.0 held t.0 number stage g.played after (g.says (r.0 ++ t.0)) refl) in
     record {
-      taken = taken;
+      taken = g.taken ++ r.0;
       rest = t.0;
       played = g.played;
       unplayed = after.steps;
@@ -206,30 +237,35 @@ played_unread (Some bytes) left left1 held rest number stage machine old now g f
       took = t.2;
       left_is = t.1;
       steps_are = says.steps;
-      legal = legal_of bytes g.played g.transcript g.legal;
-      stops =
-          ((unread_steps g.taken f.0 held number stage g.played (g.says (f.0 ++ [])) (subst (λ b. position is_line_feed b ≡ None) f.1 none), refl), g.wrote);
+      legal = legal_of bytes g.taken r.0 t.0 g.played g.transcript t.2 (g.legal (r.0 ++ t.0));
+      stops = ((unread_steps g.taken r.0 held number stage g.played (g.says (r.0 ++ [])) r.2, refl), g.wrote);
     }
+
+-- a script that is read no further
+pub played_stopped : (left0 left left1 : Option (List ℕ)) (held : List ℕ) (number : ℕ) (stage : Stage) (why : Stop) (Stands : List Entry → Type 0) (old now : Option (List ℕ)) →
+    Going left0 left held number stage Stands old now → Came held left left1 (StopsAt number stage why left1) →
+    IfSome left0 (λ bytes. Played bytes (ending_at number why) left1 old now)
+played_stopped left0 left left1 held number stage stop.Unread Stands old now g r = played_unread left0 left left1 held number stage Stands old now g r
+played_stopped left0 left left1 held number stage (stop.Refused why) Stands old now g r = played_refused left0 left left1 held number why stage Stands old now g r
 
 breaks_text : (transcript report : List Entry) (front rest : List ℕ) → text report ≡ front ++ rest → text ((transcript ++ report) ++ []) ≡ (text transcript ++ front) ++ rest
 breaks_text transcript report front rest e =
     ap text (append-nil (transcript ++ report))
     ∙ (flat_map-append line_of transcript report ∙ (ap (λ t. text transcript ++ t) e ∙ sym (append_assoc (text transcript) front rest)))
 
-pub played_broke : (left0 left left1 : Option (List ℕ)) (held rest : List ℕ) (number : ℕ) (stage next : Stage) (before after : Machine) (s : Step) (failed : Failed) (old now now1 : Option (List ℕ)) →
-    Going left0 left held number stage before old now → ReadsOn number stage held (plays s next) rest left left1 → PlaysOn before after s (Err failed) now now1 →
-    IfSome left0 (λ bytes. Played bytes (Err failed) left1 old now1)
-played_broke None left left1 held rest number stage next before after s failed old now now1 g r p = tt
-played_broke (Some bytes) left left1 held rest number stage next before after s failed old now now1 g r p =
-    let taken = g.taken ++ r.0 in
-    let t = told_by bytes left1 taken (Consumes-trans (Some bytes) left left1 g.taken r.0 g.consumed r.1) in
-    let on = script_from (number + 1) next (slice_split is_line_feed (rest ++ t.0)) in
+-- the sink failed within the entries of a step
+pub played_broke : (left0 left left1 : Option (List ℕ)) (held rest : List ℕ) (number : ℕ) (stage next : Stage) (setup : Setup) (Before After : List Entry → Type 0) (s : Step) (failed : Failed) (old now now1 : Option (List ℕ)) →
+    IsDone setup next → Going left0 left held number stage Before old now → Came held left left1 (λ bytes. GoesOn number stage bytes (plays s next) rest) →
+    PlaysOn Before After setup s (Err failed) now now1 → IfSome left0 (λ bytes. Played bytes ending.Unwritten left1 old now1)
+played_broke None left left1 held rest number stage next setup Before After s failed old now now1 done g r p = tt
+played_broke (Some bytes) left left1 held rest number stage next setup Before After s failed old now now1 done g r p =
+    let t = told_by bytes left1 (g.taken ++ r.0) (Consumes-trans (Some bytes) left left1 g.taken r.0 g.consumed r.1) in
+    let on = said_from (number + 1) next (rest ++ t.0) in
     let says : AlsoSays (script bytes) (g.played ++ s ∷ []) on =
-    subst (λ b. AlsoSays (script b) (g.played ++ s ∷ []) on) (sym t.2)
-    (also_plays _ on g.played s (also_goes g.taken r.0 held t.0 number stage g.played _ (g.says (r.0 ++ t.0)) (r.2 t.0))) in
+    subst (λ b. AlsoSays (script b) (g.played ++ s ∷ []) on) (sym t.2) (step_says g.taken r.0 held t.0 rest number stage next g.played s (g.says (r.0 ++ t.0)) r.2) in
     let goes = p.1 (onto [] g.transcript) g.stands in
     record {
-      taken = taken;
+      taken = g.taken ++ r.0;
       rest = t.0;
       played = g.played ++ s ∷ [];
       unplayed = on.steps;
@@ -237,7 +273,9 @@ played_broke (Some bytes) left left1 held rest number stage next before after s 
       took = t.2;
       left_is = t.1;
       steps_are = says.steps;
-      legal = legal_of bytes (g.played ++ s ∷ []) (g.transcript ++ p.0) (legal_more one_acceptor g.played g.transcript p.0 s g.legal goes.0);
+      legal =
+          subst (λ b. Legal (script b).setup (g.played ++ s ∷ []) (g.transcript ++ p.0)) (sym t.2)
+          (step_legal g.taken r.0 held t.0 rest number stage next setup g.played g.transcript p.0 s (g.says (r.0 ++ t.0)) r.2 done (g.legal (r.0 ++ t.0)) goes.0);
       stops = record {
         before = g.played;
         last = s ∷ [];
@@ -246,29 +284,50 @@ played_broke (Some bytes) left left1 held rest number stage next before after s 
         rest = p.2.1;
         steps_are = refl;
         one_step = omega arith;
-        legal = legal_of bytes g.played g.transcript g.legal;
+        legal = legal_of bytes g.taken r.0 t.0 g.played g.transcript t.2 (g.legal (r.0 ++ t.0));
         text_is = breaks_text g.transcript p.0 p.2.0 p.2.1 p.2.2;
         wrote = Appends-trans old now now1 (text g.transcript) p.2.0 g.wrote p.2.3;
       };
     }
 
--- a step that a script plays is in range
-in_range_at : (xs : List Step) (s : Step) (ys : List Step) → AllByRecursion IsInRange (xs ++ s ∷ ys) → IsInRange s
-in_range_at [] s ys all = all.0
-in_range_at (x ∷ xs) s ys all = in_range_at xs s ys all.1
+-- the setup that was read is one of today
+pub going_setup : (left0 left : Option (List ℕ)) (held : List ℕ) (number coin_lines : ℕ) (setup : Setup) (Stands : List Entry → Type 0) (old now : Option (List ℕ)) →
+    Going left0 left held number (at_steps setup coin_lines) Stands old now → IsSetupOfToday setup
+going_setup left0 left held number coin_lines setup Stands old now g =
+    subst IsSetupOfToday ((g.says []).setup ∙ setup_stays number setup (at_steps setup coin_lines) (slice_split is_line_feed (held ++ [])) refl) (setup_of_today (g.taken ++ []))
 
-pub going_in_range : (left0 left left1 : Option (List ℕ)) (held rest : List ℕ) (number : ℕ) (stage next : Stage) (machine : Machine) (s : Step) (old now : Option (List ℕ)) →
-    Going left0 left held number stage machine old now → ReadsOn number stage held (plays s next) rest left left1 → IsInRange s
-going_in_range left0 left left1 held rest number stage next machine s old now g r =
-    let on = script_from (number + 1) next (slice_split is_line_feed (rest ++ [])) in
-    let says = also_goes g.taken r.0 held [] number stage g.played _ (g.says (r.0 ++ [])) (r.2 []) in
-    in_range_at g.played s on.steps (subst (AllByRecursion IsInRange) says.steps (said ((g.taken ++ r.0) ++ [])).in_range)
+-- there was no memory before the first step
+pub played_none : (left0 left : Option (List ℕ)) (held : List ℕ) (number : ℕ) (stage : Stage) (old : Option (List ℕ)) → Going left0 left held number stage IsNothing old old →
+    IfSome left0 (λ bytes. Played bytes ending.NoMemory left old old)
+played_none None left held number stage old g = tt
+played_none (Some bytes) left held number stage old g =
+    let t = told_by bytes left g.taken g.consumed in
+    record {
+      taken = g.taken;
+      rest = t.0;
+      played = [];
+      unplayed = (script bytes).steps;
+      transcript = [];
+      took = t.2;
+      left_is = t.1;
+      steps_are = refl;
+      legal = refl;
+      stops = (refl, Appends-nil old);
+    }
 
--- what the loop over the lines keeps
-pub record Runs (left0 left : Option (List ℕ)) (faults0 faults : ℕ) (held : List ℕ) (number : ℕ) (stage : Stage) (machine : Machine) (old now : Option (List ℕ)) (failed0 failed : ℕ) : Type 0 where
-  pub going : Going left0 left held number stage machine old now
+-- what the loop over the setup lines keeps
+pub record Opens (left0 left : Option (List ℕ)) (faults0 faults : ℕ) (held : List ℕ) (number : ℕ) (setup : Setup) : Type 0 where
+  pub going : (written : Option (List ℕ)) → Going left0 left held number (at_setup setup) IsNothing written written
+  pub source : TellsAsBefore left0 left
+  pub source_later : faults0 ≤ faults
+  pub counted : number ≤ 1048577
+
+-- what the loop over the steps keeps: from what was so at its start comes what is so now
+pub record Runs (Start Now : Option (List ℕ) → Type 0) (left0 left : Option (List ℕ)) (faults0 faults : ℕ) (old now : Option (List ℕ)) (failed0 failed : ℕ) (number coin_lines : ℕ) : Type 0 where
+  pub going : (first : Option (List ℕ)) → Start first → Now first
   pub source : TellsAsBefore left0 left
   pub sink : TellsAsBefore old now
   pub source_later : faults0 ≤ faults
   pub sink_later : failed0 ≤ failed
   pub counted : number ≤ 1048577
+  pub few : coin_lines ≤ 200

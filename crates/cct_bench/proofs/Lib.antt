@@ -1,11 +1,7 @@
-pub mod Held
-pub mod Splits
-pub mod Numbers
-pub mod Fields
-pub mod Texts
-pub mod Hearing
-pub mod Rows
 pub mod Continuing
+pub mod Fields
+pub mod Reading
+pub mod Staying
 pub mod Written
 pub mod Going
 pub mod Closing

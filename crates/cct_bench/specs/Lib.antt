@@ -1,8 +1,6 @@
-pub mod Lines
-pub mod Grammar
-pub mod Text
-pub mod Acceptor
-pub mod Machine
-pub mod Report
 pub mod Status
+pub mod Lines
+pub mod Setup
+pub mod Going
+pub mod Playing
 pub mod Run

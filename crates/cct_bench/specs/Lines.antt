@@ -1,17 +1,37 @@
--- What the reader of lines holds, and what it found.
-use Rattle.std.specs.Prelude.{◌≡◌, ℕ, ◌<◌, List, ◌++◌, length, position, Option, Some, None}
-use Rattle.std.specs.Io.KnownBytes.{Consumes, IsAtEnd}
-use Rattle.cct_model.specs.Script.{is_line_feed}
-use Rattle.cct_bench.specs.declared.reader.Held.{Held}
-use Rattle.cct_bench.specs.declared.reader.Held.TheVariants.{Line, Long, Ended}
+-- How the lines of a script go on, and where they stop.
+use Rattle.std.specs.Prelude.{◌≡◌, ℕ, ◌+◌, ◌≤◌, List, ◌++◌, Option, Some, None, IfSome}
+use Rattle.std.specs.List.{slice_split, position}
+use Rattle.std.specs.Io.KnownBytes.{Consumes}
+use Rattle.cct_model.specs.declared.entry.LineKind.{LineKind}
+use Rattle.cct_model.specs.Script.{is_line_feed, Stage, setup_at, Read, stage_after, goes_on, Script, script_from, closed_script}
+use Rattle.cct_bench.specs.declared.lines.Stop.{Stop}
+use Rattle.cct_bench.specs.declared.lines.Stop.TheVariants as stop
 
--- New bytes came behind those held, and they are what the source gave.
-abbrev pub Fills : List ℕ → List ℕ → Option (List ℕ) → Option (List ℕ) → Type 0
-Fills old new left_before left = (more : List ℕ) × (new ≡ old ++ more) × Consumes left_before left more
+-- What the lines from this number on say.
+abbrev pub said_from : ℕ → Stage → List ℕ → Script
+said_from number stage bytes = script_from number stage (slice_split is_line_feed bytes)
 
--- What was found in the bytes held: a line of so many bytes before the first line feed; a line too long to hold; or
--- the end of the input, behind bytes that are no whole line.
-abbrev pub Finds : Held → List ℕ → Option (List ℕ) → Type 0
-Finds (Line len) held left = position is_line_feed held ≡ Some len
-Finds Long held left = (position is_line_feed held ≡ None) × (length held ≡ 1201)
-Finds Ended held left = (position is_line_feed held ≡ None) × (length held < 1201) × IsAtEnd left
+-- A whole line stands before the first line feed, it has so many bytes, and a script may have a line of this number and
+-- of this length.
+pub record FindsLine (number : ℕ) (held : List ℕ) (len : ℕ) : Type 0 where
+  pub at : position is_line_feed held ≡ Some len
+  pub few : number ≤ 1048576
+  pub short : len ≤ 1200
+
+-- The first line of these bytes is this to the script, and the bytes behind it are the rest, whatever follows.
+abbrev pub GoesOn : ℕ → Stage → List ℕ → Read → List ℕ → Type 0
+GoesOn number stage held read rest =
+    (more : List ℕ) → said_from number stage (held ++ more) ≡ goes_on number stage read (said_from (number + 1) (stage_after stage read) (rest ++ more))
+
+-- The script says no more from here on, with these bytes and those to come: it has ended, or a line is refused.
+abbrev pub IsClosed : ℕ → Stage → Option LineKind → Option (List ℕ) → List ℕ → Type 0
+IsClosed number stage why left held = IfSome left (λ more. said_from number stage (held ++ more) ≡ closed_script number (setup_at stage) why)
+
+-- Why these bytes are read no further: no line is whole yet, or the first line is refused.
+abbrev pub StopsAt : ℕ → Stage → Stop → Option (List ℕ) → List ℕ → Type 0
+StopsAt number stage stop.Unread left held = position is_line_feed held ≡ None
+StopsAt number stage (stop.Refused why) left held = IsClosed number stage (Some why) left held
+
+-- More bytes came from the source behind those held, and then this holds of all of them.
+abbrev pub Came : List ℕ → Option (List ℕ) → Option (List ℕ) → (List ℕ → Type 0) → Type 0
+Came held left_before left P = (came : List ℕ) × Consumes left_before left came × P (held ++ came)

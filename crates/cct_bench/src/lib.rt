@@ -10,22 +10,15 @@ ghost use Rattle.cct_bench.specs.Run.{IsRun, Ran, ClosedBy, Completes};
 
 use cct_edge::{Sink, Source};
 use cct_model::Entry;
-use play::{Desk, close};
+use cct_text::TextLine;
+use play::{Bench, close};
 use std::alloc::Global;
-use text::TextLine;
 
-mod acceptor;
-mod bytes;
-mod entries;
-mod exchange;
-mod grammar;
-mod judging;
-mod machine;
+mod lines;
+mod opening;
 mod outcome;
 mod play;
-mod reader;
-mod report;
-mod text;
+mod steps;
 
 pub use outcome::Status;
 
@@ -33,14 +26,16 @@ pub use outcome::Status;
 /// (`docs/SCRIPT.md`, `docs/TRANSCRIPT.md`). The words are `run`; any other list is refused.
 ///
 /// The script is taken from its source a line at a time, and each step's entries are written before the next line is
-/// read. All buffers are of fixed size, and are taken at once before the first byte of the script.
+/// read. All buffers are of fixed size, and are taken at once before the first byte of the script; the machine is built
+/// behind the line `begin`, before anything is written.
 pub fn bench<S: Source, K: Sink>(
     alloc: Global,
     words: &[String],
     script: &mut S,
     out: &mut K,
 ) -> Status
-    // With the word `run`: what was taken, played and written, and that its posts are in order and cover the coins.
+    // With the word `run`: what was taken, played and written, and that over an honest wire the posts of
+    // each device are in order and cover its coins.
     ensures ran { IsRun words.now → IfSome (S.left script.old)
         (λ bytes. Ran bytes result (S.left script.new) (K.written out.old) (K.written out.new)) }
 
@@ -52,7 +47,7 @@ pub fn bench<S: Source, K: Sink>(
     ensures read_cause { result ≡ Status.ReadFault → Rose (S.faults script.old) (S.faults script.new) }
     ensures write_cause { result ≡ Status.WriteFault → Rose (K.faults out.old) (K.faults out.new) }
     ensures words_cause { result ≡ Status.WordsRefused → IsRun words.now → ⊥ }
-    ensures memory_cause { result ≡ Status.OutOfMemory → (script.new ≡ script.old) × (out.new ≡ out.old) }
+    ensures memory_cause { result ≡ Status.OutOfMemory → out.new ≡ out.old }
 
     // With no fault the script alone decides, but for want of memory.
     ensures complete { IsRun words.now → IfSome (S.left script.old) (λ bytes.
@@ -63,8 +58,8 @@ pub fn bench<S: Source, K: Sink>(
         let mut line = TextLine::new();
         return close(out, &mut line, &Entry::Words, Status::WordsRefused);
     }
-    match Box::new(alloc, Desk::new()) {
-        Ok(mut desk) => desk.run(script, out),
+    match Box::new(alloc, Bench::new()) {
+        Ok(mut bench) => bench.run(alloc, script, out),
         Err(_) => Status::OutOfMemory,
     }
 }

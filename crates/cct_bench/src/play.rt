@@ -1,36 +1,30 @@
 //! A run: the script is read a line at a time, and each step is played and its entries are written before the next line
 //! is read.
-ghost use Rattle.std.specs.Prelude.{◌≡◌, ◌≢◌, ◌⊎◌, ℕ, ◌+◌, ◌≤◌, List, [], ◌++◌, length, None, position, IfSome, IfOk, OnOk, OnErr, IsErr, IsErrOf, Ok};
+ghost use Rattle.std.specs.Prelude.{◌≡◌, ◌≢◌, ◌⊎◌, ℕ, ◌+◌, ◌≤◌, List, [], ◌++◌, Option, IfSome, IfOk, IfErr, OnOk, OnErr, IsTrue, Err};
 ghost use Rattle.std.specs.Io.KnownBytes.{Appends};
 ghost use Rattle.cct_edge.specs.Bytes.{AppendsFront, TellsAsBefore};
 ghost use Rattle.cct_edge.specs.Faults.{HasCause, Rose};
 ghost use Rattle.cct_model.specs.declared.entry.Entry.{Entry};
-ghost use Rattle.cct_model.specs.Script.{is_line_feed, IsInRange};
+ghost use Rattle.cct_model.specs.Legal.{is_played};
+ghost use Rattle.cct_model.specs.declared.device.Setup.{Setup};
+ghost use Rattle.cct_model.specs.Script.{no_devices, at_steps, at_end, is_known, IsInRange};
 ghost use Rattle.cct_model.specs.Text.{line_of, text};
-ghost use Rattle.cct_bench.specs.Grammar.{stage_of, read_of};
-ghost use Rattle.cct_bench.specs.Lines.{Fills};
-ghost use Rattle.cct_bench.specs.Machine.{StandsFor, Plays};
-ghost use Rattle.cct_bench.specs.Report.{exchange_of, entries_of};
-ghost use Rattle.cct_bench.specs.Run.{ReadsOn, IsCounted, PlaysOn, Played, Ran, ClosedBy};
+ghost use Rattle.cct_world.specs.Report.{exchange_of, entries_of};
+ghost use Rattle.cct_world.specs.World.{StandsFor, setup_of};
+ghost use Rattle.cct_bench.specs.Going.{Going, IsNothing, IsAnything};
+ghost use Rattle.cct_bench.specs.Playing.{PlaysOn};
+ghost use Rattle.cct_bench.specs.Run.{Played, Ran, ClosedBy, ending_at};
 
-use crate::entries::{put_entry, put_wire};
-use crate::grammar::{Expected, Reading, read_line, read_rest};
-use crate::machine::Machine;
+use crate::lines::{Stop, read_end};
+use crate::opening::{Opened, read_opening};
 use crate::outcome::Status;
-use crate::reader::{Held, Lines};
-use crate::report::Report;
-use crate::text::TextLine;
+use crate::steps::{coins_after, read_step};
 use cct_edge::{Failed, Sink, Source};
-use cct_model::{Entry, LineKind, Step};
-
-/// The fixed buffers of a run, which are taken before its first step.
-#[derive(Drop)]
-pub struct Desk {
-    lines: Lines,
-    machine: Machine,
-    report: Report,
-    line: TextLine,
-}
+use cct_model::{Devices, Entry, LineKind, Setup, Step};
+use cct_script::LineBuffer;
+use cct_text::{TextLine, write_entry, write_wire};
+use cct_world::{Report, World};
+use std::alloc::Global;
 
 /// How the steps of a script came to their end.
 #[derive(Clone, Copy, Debug, PartialEq, Eq)]
@@ -41,31 +35,19 @@ pub enum Ending {
     Refused { number: u32, kind: LineKind },
     /// At a fault in reading.
     Unread,
+    /// At a fault in writing.
+    Unwritten,
+    /// There was no memory for the machine.
+    NoMemory,
 }
 
-/// Reads the next line of a script, whose number and place in the grammar are given.
-fn read_next<S: Source>(
-    lines: &mut Lines,
-    number: u32,
-    expected: Expected,
-    script: &mut S,
-) -> Result<Reading, Failed>
-    ensures reads { IfOk result (λ reading.
-        ReadsOn number (stage_of expected) lines.old (read_of reading) lines.new (S.left script.old) (S.left script.new)) }
-    ensures counted { IfOk result (λ reading. IsCounted number (read_of reading)) }
-    ensures fills { OnErr result (Fills lines.old lines.new (S.left script.old) (S.left script.new)) }
-    ensures partial { OnErr result (position is_line_feed lines.new ≡ None) }
-    ensures tells { TellsAsBefore (S.left script.old) (S.left script.new) }
-    ensures cause { HasCause (S.faults script.old) (S.faults script.new) result }
+/// How a run ends where its script is read no further at a line of this number.
+fn ending_at(number: u32, why: Stop) -> Ending
+    ensures { result ≡ ending_at number why }
 {
-    match lines.seek(script)? {
-        Held::Line(len) => {
-            let reading = read_line(number, expected, &lines.held()[..len]);
-            lines.advance(len + 1);
-            Ok(reading)
-        }
-        Held::Long => Ok(Reading::Refuses(read_rest(number, lines.held()))),
-        Held::Ended => Ok(Reading::Refuses(read_rest(number, lines.held()))),
+    match why {
+        Stop::Unread => Ending::Unread,
+        Stop::Refused(kind) => Ending::Refused { number, kind },
     }
 }
 
@@ -77,7 +59,7 @@ fn write_entries<K: Sink>(out: &mut K, line: &mut TextLine, entries: &[Entry]) -
     ensures cause { HasCause (K.faults out.old) (K.faults out.new) result }
 {
     for entry in entries {
-        put_entry(out, line, entry)?;
+        write_entry(out, line, entry)?;
     }
     Ok(())
 }
@@ -90,7 +72,13 @@ fn write_exchange<K: Sink>(out: &mut K, line: &mut TextLine, report: &Report) ->
     ensures cause { HasCause (K.faults out.old) (K.faults out.new) result }
 {
     match report.asked {
-        Some(addr) => put_wire(out, line, addr, &report.sent, &report.heard),
+        Some(addr) => write_wire(
+            out,
+            line,
+            addr,
+            report.sent.as_slice(),
+            report.heard.as_slice(),
+        ),
         None => Ok(()),
     }
 }
@@ -106,89 +94,196 @@ fn write_report<K: Sink>(out: &mut K, line: &mut TextLine, report: &Report) -> R
     write_entries(out, line, report.others.as_slice())
 }
 
-impl Desk {
-    /// The buffers, with nothing in them, and a machine on which nothing has happened.
-    pub fn new() -> Self
-        ensures lines { result.lines ≡ [] }
-        ensures machine { StandsFor result.machine [] }
-    {
-        Desk {
-            lines: Lines::new(),
-            machine: Machine::new(),
-            report: Report::new(),
-            line: TextLine::new(),
+/// Reads the setup of a script, and gives the number of the line behind it; or tells how the run ends.
+fn read_setup<S: Source>(
+    lines: &mut LineBuffer,
+    setup: &mut Setup,
+    script: &mut S,
+) -> Result<u32, Ending>
+    requires lines { lines.old ≡ [] }
+    requires setup { setup.old ≡ no_devices }
+    ensures opened { (written : Option (List ℕ)) → IfOk result (λ number.
+        Going (S.left script.old) (S.left script.new) lines.new number (at_steps setup.new 0) IsNothing written written) }
+    ensures counted { IfOk result (λ number. number ≤ 1048577) }
+    ensures ended { (written : Option (List ℕ)) → IfErr result (λ how.
+        IfSome (S.left script.old) (λ bytes. Played bytes how (S.left script.new) written written)) }
+    ensures unread { result ≡ Err Ending.Unread → Rose (S.faults script.old) (S.faults script.new) }
+    ensures other { (result ≢ Err Ending.Unwritten) × (result ≢ Err Ending.NoMemory) }
+    ensures tells { TellsAsBefore (S.left script.old) (S.left script.new) }
+    ensures later { S.faults script.old ≤ S.faults script.new }
+{
+    let mut number = 1;
+    loop {
+        match read_opening(lines, setup, number, script) {
+            Ok(Opened::Added) => number += 1,
+            Ok(Opened::Begun) => return Ok(number + 1),
+            Err(why) => return Err(ending_at(number, why)),
         }
     }
+}
 
+/// The buffers of a run that each of its lines uses.
+#[derive(Drop)]
+struct Desk {
+    lines: LineBuffer,
+    report: Report,
+    line: TextLine,
+}
+
+impl Desk {
     /// Plays one step, and writes its entries.
-    fn play<K: Sink>(&mut self, step: &Step, out: &mut K) -> Result<(), Failed>
-        requires { IsInRange step.now }
-        ensures plays { PlaysOn self.old.machine self.new.machine step.now result (K.written out.old) (K.written out.new) }
+    fn play<K: Sink>(
+        &mut self,
+        world: &mut World<'_>,
+        step: &Step,
+        out: &mut K,
+    ) -> Result<(), Failed>
+        requires known { IsTrue (is_known (setup_of world.old) step.now) }
+        requires in_range { IsInRange step.now }
+        requires played { IsTrue (is_played step.now) }
+        ensures plays { PlaysOn (StandsFor world.old) (StandsFor world.new) (setup_of world.old) step.now result
+            (K.written out.old) (K.written out.new) }
+        ensures setup { setup_of world.new ≡ setup_of world.old }
         ensures lines { self.new.lines ≡ self.old.lines }
         ensures tells { TellsAsBefore (K.written out.old) (K.written out.new) }
         ensures cause { HasCause (K.faults out.old) (K.faults out.new) result }
     {
-        self.machine.step(step, &mut self.report);
+        world.step(step, &mut self.report);
         write_report(out, &mut self.line, &self.report)
     }
 
-    /// Plays the steps of a script, each before the next line is read.
-    fn play_script<S: Source, K: Sink>(
+    /// Plays the steps of a script, from the line of this number on, each before the next line is read.
+    fn play_steps<S: Source, K: Sink>(
         &mut self,
+        world: &mut World<'_>,
+        first: u32,
         script: &mut S,
         out: &mut K,
-    ) -> Result<Ending, Failed>
-        requires lines { self.old.lines ≡ [] }
-        requires machine { StandsFor self.old.machine [] }
-        ensures played { IfSome (S.left script.old)
-            (λ bytes. Played bytes result (S.left script.new) (K.written out.old) (K.written out.new)) }
-        ensures unread { result ≡ Ok Ending.Unread → Rose (S.faults script.old) (S.faults script.new) }
-        ensures broke { IsErr result → Rose (K.faults out.old) (K.faults out.new) }
+    ) -> Ending
+        requires { first ≤ 1048577 }
+        ensures played { (left0 : Option (List ℕ))
+            → Going left0 (S.left script.old) self.old.lines first (at_steps (setup_of world.old) 0) (StandsFor world.old) (K.written out.old) (K.written out.old)
+            → IfSome left0 (λ bytes. Played bytes result (S.left script.new) (K.written out.old) (K.written out.new)) }
+        ensures unread { result ≡ Ending.Unread → Rose (S.faults script.old) (S.faults script.new) }
+        ensures unwritten { result ≡ Ending.Unwritten → Rose (K.faults out.old) (K.faults out.new) }
+        ensures memory { result ≢ Ending.NoMemory }
         ensures source { TellsAsBefore (S.left script.old) (S.left script.new) }
         ensures sink { TellsAsBefore (K.written out.old) (K.written out.new) }
         ensures source_later { S.faults script.old ≤ S.faults script.new }
         ensures sink_later { K.faults out.old ≤ K.faults out.new }
     {
-        let mut number = 1;
-        let mut expected = Expected::Acceptor;
+        let mut number = first;
+        let mut coin_lines = 0;
         loop {
-            let reading = match read_next(&mut self.lines, number, expected, script) {
-                Ok(reading) => reading,
-                Err(_) => return Ok(Ending::Unread),
+            let step = match read_step(&mut self.lines, world, number, coin_lines, script) {
+                Ok(Some(step)) => step,
+                Ok(None) => return self.finish(number + 1, script),
+                Err(why) => return ending_at(number, why),
             };
-            match reading {
-                Reading::Opens(next) => expected = next,
-                Reading::Plays(step, next) => match self.play(&step, out) {
-                    Ok(()) => expected = next,
-                    Err(failed) => return Err(failed),
-                },
-                Reading::Ends => return Ok(Ending::Done),
-                Reading::Refuses(kind) => return Ok(Ending::Refused { number, kind }),
+            coin_lines = coins_after(&step, coin_lines);
+            match self.play(world, &step, out) {
+                Ok(()) => number += 1,
+                Err(Failed) => return Ending::Unwritten,
             }
-            number += 1;
+        }
+    }
+
+    /// Ends the steps of a script behind its line `end`: the next line has this number.
+    fn finish<S: Source>(&mut self, number: u32, script: &mut S) -> Ending
+        ensures ended { (left0 old now : Option (List ℕ)) (setup : Setup)
+            → Going left0 (S.left script.old) self.old.lines number (at_end setup) IsAnything old now
+            → IfSome left0 (λ bytes. Played bytes result (S.left script.new) old now) }
+        ensures unread { result ≡ Ending.Unread → Rose (S.faults script.old) (S.faults script.new) }
+        ensures other { (result ≢ Ending.Unwritten) × (result ≢ Ending.NoMemory) }
+        ensures tells { TellsAsBefore (S.left script.old) (S.left script.new) }
+        ensures later { S.faults script.old ≤ S.faults script.new }
+    {
+        match read_end(&mut self.lines, number, script) {
+            Ok(()) => Ending::Done,
+            Err(why) => ending_at(number, why),
+        }
+    }
+}
+
+/// All that a run has but its machine: the setup of its script, and its buffers.
+#[derive(Drop)]
+pub struct Bench {
+    setup: Setup,
+    desk: Desk,
+}
+
+impl Bench {
+    /// No device, and empty buffers.
+    pub fn new() -> Self
+        ensures lines { result.desk.lines ≡ [] }
+        ensures setup { result.setup ≡ no_devices }
+    {
+        Bench {
+            setup: Setup {
+                devices: Devices::new(),
+            },
+            desk: Desk {
+                lines: LineBuffer::new(),
+                report: Report::new(),
+                line: TextLine::new(),
+            },
+        }
+    }
+
+    /// Reads the setup of a script, builds its machine, and plays its steps.
+    fn play_script<S: Source, K: Sink>(
+        &mut self,
+        alloc: Global,
+        script: &mut S,
+        out: &mut K,
+    ) -> Ending
+        requires lines { self.old.desk.lines ≡ [] }
+        requires setup { self.old.setup ≡ no_devices }
+        ensures played { IfSome (S.left script.old)
+            (λ bytes. Played bytes result (S.left script.new) (K.written out.old) (K.written out.new)) }
+        ensures unread { result ≡ Ending.Unread → Rose (S.faults script.old) (S.faults script.new) }
+        ensures unwritten { result ≡ Ending.Unwritten → Rose (K.faults out.old) (K.faults out.new) }
+        ensures memory { result ≡ Ending.NoMemory → out.new ≡ out.old }
+        ensures source_later { S.faults script.old ≤ S.faults script.new }
+        ensures sink_later { K.faults out.old ≤ K.faults out.new }
+    {
+        let first = match read_setup(&mut self.desk.lines, &mut self.setup, script) {
+            Ok(first) => first,
+            Err(how) => return how,
+        };
+        match World::build(alloc, &self.setup) {
+            Ok(mut world) => self.desk.play_steps(&mut world, first, script, out),
+            Err(_) => Ending::NoMemory,
         }
     }
 
     /// Plays a script, and writes the last line of the run where its status has one.
-    pub fn run<S: Source, K: Sink>(&mut self, script: &mut S, out: &mut K) -> Status
-        requires lines { self.old.lines ≡ [] }
-        requires machine { StandsFor self.old.machine [] }
+    pub fn run<S: Source, K: Sink>(&mut self, alloc: Global, script: &mut S, out: &mut K) -> Status
+        requires lines { self.old.desk.lines ≡ [] }
+        requires setup { self.old.setup ≡ no_devices }
         ensures ran { IfSome (S.left script.old)
             (λ bytes. Ran bytes result (S.left script.new) (K.written out.old) (K.written out.new)) }
         ensures read_cause { result ≡ Status.ReadFault → Rose (S.faults script.old) (S.faults script.new) }
         ensures write_cause { result ≡ Status.WriteFault → Rose (K.faults out.old) (K.faults out.new) }
-        ensures other { (result ≢ Status.WordsRefused) × (result ≢ Status.OutOfMemory) }
+        ensures memory_cause { result ≡ Status.OutOfMemory → out.new ≡ out.old }
+        ensures other { result ≢ Status.WordsRefused }
     {
-        match self.play_script(script, out) {
-            Err(_) => Status::WriteFault,
-            Ok(Ending::Done) => Status::Done,
-            Ok(Ending::Refused { number, kind }) => {
+        match self.play_script(alloc, script, out) {
+            Ending::Done => Status::Done,
+            Ending::Refused { number, kind } => {
                 let entry = Entry::Line { number, kind };
-                close(out, &mut self.line, &entry, Status::ScriptRefused)
+                close(out, &mut self.desk.line, &entry, Status::ScriptRefused)
             }
-            Ok(Ending::Unread) => {
-                close(out, &mut self.line, &Entry::ReadFault, Status::ReadFault)
+            Ending::Unread => {
+                close(
+                    out,
+                    &mut self.desk.line,
+                    &Entry::ReadFault,
+                    Status::ReadFault,
+                )
             }
+            Ending::Unwritten => Status::WriteFault,
+            Ending::NoMemory => Status::OutOfMemory,
         }
     }
 }
@@ -199,7 +294,7 @@ pub fn close<K: Sink>(out: &mut K, line: &mut TextLine, entry: &Entry, status: S
     ensures cause { result ≡ status ⊎ Rose (K.faults out.old) (K.faults out.new) }
     ensures later { K.faults out.old ≤ K.faults out.new }
 {
-    match put_entry(out, line, entry) {
+    match write_entry(out, line, entry) {
         Ok(()) => status,
         Err(_) => Status::WriteFault,
     }

@@ -4,15 +4,19 @@ use cct_edge::{MemSink, MemSource};
 use std::alloc::Global;
 use std::test::Fail;
 
-/// A coin is posted by a round, a second command finds the round busy, and the next round is clean.
-const ONE_COIN: &[u8] =
-    b"acceptor 2 simple 1 0\nbegin\ncoin 2 5\nround 2\nnext 2\nnext 2\nround 2\nround 2\nnext 2\nnext 2\nend\n";
+/// Two acceptors, one under each check: coins, rounds, a path, each wire fault, a scan, refused commands, and a job that
+/// gets no answer.
+const TWO_DEVICES: &[u8] =
+    b"acceptor 2 simple 1 0\nacceptor 4 crc 7 0\nvalue 2 5 100 XX100A\ntexts 4 ACME X1 1 2\nbegin\ncoin 2 5\ncoin 4 9\nround 2\nround 4\nnext 2\nnext 4\nnext 4\nround 2\nnext 2\npath 2 5 3\nnext 2\nnext 2\ncoin 2 5\nround 2\nfault devices 020001e519\nnext 2\nfault whole -\nnext 2\nnext 2\nnext 2\nscan\nnext 0\nnext 0\nnext 0\nnext 0\nnext 0\nround 4\nnext 4\nident 9\nnext 9\npath 4 0 2\nfault host 00\nnext 4\nfault host 00\nnext 4\nfault host 00\nnext 4\nend\n";
 
-const ONE_COIN_PLAYED: &[u8] =
-    b"accepted 2 5 1\nok round 2\nwire 2 020001e518 020001e518010b02000105010000000000000000eb\nput reading 2 1 0 5/1\nposted 2\nok round 2\nno round 2 busy\nwire 2 020001e518 020001e518010b02000105010000000000000000eb\nclean 2\nidle 2\n";
+const TWO_DEVICES_PLAYED: &[u8] =
+    b"accepted 2 5 1\naccepted 4 9 1\nok round 2\nok round 4\nwire 2 020001e518 020001e518010b02000105010000000000000000eb\nwire 4 04004be571 04004be571010bfa000109010000000000000000a9\nput reading 4 1 0 9/1\nposted 4\nno round 2 busy\nput reading 2 1 0 5/1\nposted 2\nok path 2 5 3\nwire 2 020201d2050321 020201d205032101000200fd\nwire 2 020101d10526 020101d105260101020003f9\npathset 2 5 3\naccepted 2 5 3\nok round 2\nfault devices 020001e519\nwire 2 020001e518 020001e518\nfault whole -\nwire 2 020001e518 -\nwire 2 020001e518 020001e518010b02000205030501000000000000e2\nput reading 2 2 0 5/3\nposted 2\nok scan\nwire 0 000001fd02 000001fd0202\nwire 0 0000b2fd3e 0000b2fd3e04\nwire 0 020001feff 020001feff01000200fd\nwire 0 040001fefd 040001fefd\nwire 0 040011fed2 040011fed20100300037\nlisted 2/simple,4/crc\nok round 4\nwire 4 04004be571 04004be571010bfa000109010000000000000000a9\nclean 4\nno ident 9 nodevice\nidle 9\nok path 4 0 2\nfault host 00\nwire 4 0401d2bd02b5 0401d2bd02b500\nfault host 00\nwire 4 0401d2bd02b5 0401d2bd02b500\nfault host 00\nwire 4 0401d2bd02b5 0401d2bd02b500\nnoanswer 4\n";
 
 /// How many transcript lines the lines of that script give, one after the other.
-const ONE_COIN_LINES: [usize; 11] = [0, 0, 1, 1, 1, 2, 1, 1, 2, 1, 0];
+const TWO_DEVICES_LINES: [usize; 43] = [
+    0, 0, 0, 0, 0, 1, 1, 1, 1, 1, 1, 2, 1, 2, 1, 1, 2, 1, 1, 1, 1, 1, 1, 1, 2, 1, 1, 1, 1, 1, 2, 1,
+    2, 1, 1, 1, 1, 1, 1, 1, 1, 2, 0,
+];
 
 /// Six coins come between two readings, and the buffer holds five.
 const SIX_COINS: &[u8] =
@@ -20,6 +24,13 @@ const SIX_COINS: &[u8] =
 
 const SIX_COINS_PLAYED: &[u8] =
     b"accepted 2 1 1\naccepted 2 2 1\naccepted 2 3 1\naccepted 2 4 1\naccepted 2 5 1\naccepted 2 6 1\nok round 2\nwire 2 020001e518 020001e518010b02000606010501040103010201d3\nput reading 2 6 1 2/1,3/1,4/1,5/1,6/1\nposted 2\n";
+
+/// A device tells all of itself: ten requests, and one for each coin place.
+const IDENT: &[u8] =
+    b"acceptor 2 simple 1 0\nvalue 2 1 100 XX100A\nvalue 2 2 100 XX100A\nvalue 2 3 100 XX100A\nvalue 2 4 100 XX100A\nvalue 2 5 100 XX100A\nvalue 2 6 100 XX100A\nvalue 2 7 100 XX100A\nvalue 2 8 100 XX100A\nvalue 2 9 100 XX100A\nvalue 2 10 100 XX100A\nvalue 2 11 100 XX100A\nvalue 2 12 100 XX100A\nvalue 2 13 100 XX100A\nvalue 2 14 100 XX100A\nvalue 2 15 100 XX100A\nvalue 2 16 100 XX100A\nbegin\nident 2\nnext 2\nnext 2\nnext 2\nnext 2\nnext 2\nnext 2\nnext 2\nnext 2\nnext 2\nnext 2\nnext 2\nnext 2\nnext 2\nnext 2\nnext 2\nnext 2\nnext 2\nnext 2\nnext 2\nnext 2\nnext 2\nnext 2\nnext 2\nnext 2\nnext 2\nnext 2\nend\n";
+
+const IDENT_PLAYED: &[u8] =
+    b"ok ident 2\nwire 2 020001f607 020001f6070105020042454e434898\nwire 2 020001f508 020001f508010d0200436f696e204163636570746f7216\nwire 2 020001f409 020001f4090103020043435420\nwire 2 020001f20b 020001f20b01030200010000f9\nwire 2 020001f10c 020001f10c0101020031cb\nwire 2 020001c03d 020001c03d0101020031cb\nwire 2 02000104f9 02000104f901030200010400f5\nwire 2 020001e31a 020001e31a0101020001fb\nwire 2 020001bc41 020001bc410101020001fb\nwire 2 020001e11c 020001e11c01030200000000fa\nwire 2 020101b80143 020101b801430106020058583130304175\nwire 2 020101b80242 020101b802420106020058583130304175\nwire 2 020101b80341 020101b803410106020058583130304175\nwire 2 020101b80440 020101b804400106020058583130304175\nwire 2 020101b8053f 020101b8053f0106020058583130304175\nwire 2 020101b8063e 020101b8063e0106020058583130304175\nwire 2 020101b8073d 020101b8073d0106020058583130304175\nwire 2 020101b8083c 020101b8083c0106020058583130304175\nwire 2 020101b8093b 020101b8093b0106020058583130304175\nwire 2 020101b80a3a 020101b80a3a0106020058583130304175\nwire 2 020101b80b39 020101b80b390106020058583130304175\nwire 2 020101b80c38 020101b80c380106020058583130304175\nwire 2 020101b80d37 020101b80d370106020058583130304175\nwire 2 020101b80e36 020101b80e360106020058583130304175\nwire 2 020101b80f35 020101b80f350106020058583130304175\nwire 2 020101b81034 020101b810340106020058583130304175\ntold 2\n";
 
 /// Plays a script that is given at most so many bytes a take, with the takes and puts of these numbers failing.
 fn play(
@@ -39,39 +50,16 @@ fn play(
 #[test]
 fn plays_worked_runs(rt: HostRuntime) -> Result<(), Fail> {
     let alloc = rt.alloc();
-    let long = vec![in alloc; b'x'; 1201]?;
-    let runs: [(&[u8], Status, &[u8]); 10] = [
-        (ONE_COIN, Status::Done, ONE_COIN_PLAYED),
-        (SIX_COINS, Status::Done, SIX_COINS_PLAYED),
-        (b"", Status::ScriptRefused, b"refused 1 cut\n"),
-        (b"\n", Status::ScriptRefused, b"refused 1 form\n"),
-        (b"begin\n", Status::ScriptRefused, b"refused 1 form\n"),
-        (long.as_slice(), Status::ScriptRefused, b"refused 1 long\n"),
-        (
-            b"acceptor 2 simple 1 0\nbegin\ncoin 2 17\n",
-            Status::ScriptRefused,
-            b"refused 3 form\n",
-        ),
-        (
-            b"acceptor 2 simple 1 0\nbegin\ncoin 2 05\n",
-            Status::ScriptRefused,
-            b"refused 3 form\n",
-        ),
-        (
-            b"acceptor 2 simple 1 0\nbegin\nnext 2\ncoin 2",
-            Status::ScriptRefused,
-            b"idle 2\nrefused 4 cut\n",
-        ),
-        (
-            b"acceptor 2 simple 1 0\nbegin\nend\nmore",
-            Status::Done,
-            b"",
-        ),
+    let runs: [(&[u8], &[u8]); 4] = [
+        (TWO_DEVICES, TWO_DEVICES_PLAYED),
+        (SIX_COINS, SIX_COINS_PLAYED),
+        (IDENT, IDENT_PLAYED),
+        (b"begin\nend\n", b""),
     ];
-    for (script, wanted, text) in runs {
-        for most in [1usize, 2, 7, 4096] {
+    for (script, text) in runs {
+        for most in [1usize, 7, 4096] {
             let (status, written) = play(alloc, script, most, &[], &[])?;
-            assert_eq!(rt; status, wanted, "{script:?} by {most}");
+            assert_eq!(rt; status, Status::Done, "{script:?} by {most}");
             assert_eq!(rt; written.as_slice(), text, "{script:?} by {most}");
         }
     }
@@ -79,16 +67,79 @@ fn plays_worked_runs(rt: HostRuntime) -> Result<(), Fail> {
 }
 
 #[test]
-fn refuses_a_coin_too_many(rt: HostRuntime) -> Result<(), Fail> {
+fn refuses_lines(rt: HostRuntime) -> Result<(), Fail> {
     let alloc = rt.alloc();
-    let mut script = b"acceptor 2 simple 1 0\nbegin\n".to_vec(alloc)?;
-    let mut text = Vec::new(alloc);
-    for _ in 0..200 {
-        script.extend_from_slice(b"coin 2 1\n")?;
-        text.extend_from_slice(b"accepted 2 1 1\n")?;
+    let long = vec![in alloc; b'x'; 1201]?;
+    let scripts: [(&[u8], &[u8]); 20] = [
+        (b"", b"refused 1 cut\n"),
+        (b"begin", b"refused 1 cut\n"),
+        (b"begin\n", b"refused 2 cut\n"),
+        (b"\n", b"refused 1 word\n"),
+        (long.as_slice(), b"refused 1 long\n"),
+        (b"coin 2 5\n", b"refused 1 word\n"),
+        (b"hopper 3 simple 1 0 10\n", b"refused 1 word\n"),
+        (b"acceptor 1 simple 1 0\n", b"refused 1 form\n"),
+        (b"begin \n", b"refused 1 form\n"),
+        (b"value 2 1 5 XX005A\n", b"refused 1 device\n"),
+        (
+            b"acceptor 2 simple 1 0\nacceptor 2 crc 1 0\n",
+            b"refused 2 device\n",
+        ),
+        (
+            b"acceptor 2 simple 1 0\nvalue 2 1 5 XX005A\nvalue 2 1 5 XX005A\n",
+            b"refused 3 again\n",
+        ),
+        (
+            b"acceptor 2 simple 1 0\ntexts 2 A B C D\ntexts 2 A B C D\n",
+            b"refused 3 again\n",
+        ),
+        (b"begin\nreset 2\n", b"refused 2 word\n"),
+        (b"begin\ncoin 2 5\n", b"refused 2 device\n"),
+        (b"begin\ncoin 2 05\n", b"refused 2 form\n"),
+        (b"begin\nnext 2\nnext 2", b"idle 2\nrefused 3 cut\n"),
+        (
+            b"begin\nround 2\nbegin\n",
+            b"no round 2 nodevice\nrefused 3 word\n",
+        ),
+        (b"begin\nend\n\n", b"refused 3 trailing\n"),
+        (b"begin\nend\nmore", b"refused 3 trailing\n"),
+    ];
+    for (script, text) in scripts {
+        for most in [1usize, 4096] {
+            let (status, written) = play(alloc, script, most, &[], &[])?;
+            assert_eq!(rt; status, Status::ScriptRefused, "{script:?} by {most}");
+            assert_eq!(rt; written.as_slice(), text, "{script:?} by {most}");
+        }
     }
-    script.extend_from_slice(b"coin 2 1\nend\n")?;
-    text.extend_from_slice(b"refused 203 form\n")?;
+    Ok(())
+}
+
+#[test]
+fn refuses_a_coin_and_a_device_too_many(rt: HostRuntime) -> Result<(), Fail> {
+    let alloc = rt.alloc();
+    let mut script = Vec::new(alloc);
+    let mut text = Vec::new(alloc);
+    for number in 2..18u8 {
+        let check = if number.is_multiple_of(2) {
+            "simple"
+        } else {
+            "crc"
+        };
+        let line = format!(in alloc; "acceptor {number} {check} 1 0\n")?;
+        script.extend_from_slice(line.as_bytes())?;
+    }
+    let mut crowded = script.to_vec(alloc)?;
+    crowded.extend_from_slice(b"acceptor 18 simple 1 0\n")?;
+    let (status, written) = play(alloc, crowded.as_slice(), 4096, &[], &[])?;
+    assert_eq!(rt; status, Status::ScriptRefused);
+    assert_eq!(rt; written.as_slice(), b"refused 17 device\n".as_slice());
+    script.extend_from_slice(b"begin\n")?;
+    for _ in 0..200 {
+        script.extend_from_slice(b"coin 17 1\n")?;
+        text.extend_from_slice(b"accepted 17 1 1\n")?;
+    }
+    script.extend_from_slice(b"coin 17 1\nend\n")?;
+    text.extend_from_slice(b"refused 218 form\n")?;
     let (status, written) = play(alloc, script.as_slice(), 4096, &[], &[])?;
     assert_eq!(rt; status, Status::ScriptRefused);
     assert_eq!(rt; written.as_slice(), text.as_slice());
@@ -103,36 +154,12 @@ fn refuses_other_words(rt: HostRuntime) -> Result<(), Fail> {
         for text in texts {
             words.push(String::from_str(alloc, text)?)?;
         }
-        let mut source = MemSource::new(ONE_COIN.to_vec(alloc)?, 4096, Vec::new(alloc));
+        let mut source = MemSource::new(SIX_COINS.to_vec(alloc)?, 4096, Vec::new(alloc));
         let mut sink = MemSink::new(alloc, 4096, Vec::new(alloc))?;
         let status = bench(alloc, words.as_slice(), &mut source, &mut sink);
         assert_eq!(rt; status, Status::WordsRefused);
         assert_eq!(rt; sink.bytes(), b"words\n".as_slice());
     }
-    Ok(())
-}
-
-#[test]
-fn stops_at_faults(rt: HostRuntime) -> Result<(), Fail> {
-    let alloc = rt.alloc();
-    // The third put is that of the third line.
-    let (status, written) = play(alloc, ONE_COIN, 4096, &[], &[3])?;
-    assert_eq!(rt; status, Status::WriteFault);
-    assert_eq!(rt;
-        written.as_slice(),
-        b"accepted 2 5 1\nok round 2\n".as_slice()
-    );
-    // The first take ends within `round 2`.
-    let (status, written) = play(alloc, ONE_COIN, 40, &[2], &[])?;
-    assert_eq!(rt; status, Status::ReadFault);
-    assert_eq!(rt;
-        written.as_slice(),
-        b"accepted 2 5 1\nreadfault\n".as_slice()
-    );
-    // Both fail: the last line can't be written.
-    let (status, written) = play(alloc, ONE_COIN, 40, &[2], &[2])?;
-    assert_eq!(rt; status, Status::WriteFault);
-    assert_eq!(rt; written.as_slice(), b"accepted 2 5 1\n".as_slice());
     Ok(())
 }
 
@@ -152,18 +179,64 @@ fn first_lines(alloc: Global, text: &[u8], count: usize) -> Result<Vec<u8>, Fail
     Ok(front)
 }
 
+/// What the whole lines of a front of the script of two devices give.
+fn lines_played(alloc: Global, front: &[u8]) -> Result<Vec<u8>, Fail> {
+    let whole = front.iter().filter(|byte| **byte == b'\n').count();
+    let mut lines = 0;
+    for count in TWO_DEVICES_LINES.iter().take(whole) {
+        lines = count.saturating_add(lines);
+    }
+    first_lines(alloc, TWO_DEVICES_PLAYED, lines)
+}
+
+#[test]
+fn stops_at_each_fault_of_the_sink(rt: HostRuntime) -> Result<(), Fail> {
+    let alloc = rt.alloc();
+    let count = TWO_DEVICES_PLAYED
+        .iter()
+        .filter(|byte| **byte == b'\n')
+        .count();
+    for put in 1..count {
+        let (status, written) = play(alloc, TWO_DEVICES, 4096, &[], &[put as u64])?;
+        let text = first_lines(alloc, TWO_DEVICES_PLAYED, put.saturating_sub(1))?;
+        assert_eq!(rt; status, Status::WriteFault, "put {put}");
+        assert_eq!(rt; written.as_slice(), text.as_slice(), "put {put}");
+    }
+    Ok(())
+}
+
+#[test]
+fn stops_at_each_fault_of_the_source(rt: HostRuntime) -> Result<(), Fail> {
+    let alloc = rt.alloc();
+    // The last take gives nothing: it tells the end of the script.
+    for taken in 0..=TWO_DEVICES.len() {
+        let (status, written) = play(
+            alloc,
+            TWO_DEVICES,
+            1,
+            &[taken.saturating_add(1) as u64],
+            &[],
+        )?;
+        let mut text = lines_played(alloc, &TWO_DEVICES[..taken])?;
+        text.extend_from_slice(b"readfault\n")?;
+        assert_eq!(rt; status, Status::ReadFault, "behind {taken}");
+        assert_eq!(rt; written.as_slice(), text.as_slice(), "behind {taken}");
+    }
+    Ok(())
+}
+
 #[test]
 fn refuses_a_script_cut_anywhere(rt: HostRuntime) -> Result<(), Fail> {
     let alloc = rt.alloc();
-    for len in 0..ONE_COIN.len() {
-        let script = &ONE_COIN[..len];
-        let whole = script.iter().filter(|byte| **byte == b'\n').count();
-        let mut lines = 0;
-        for count in ONE_COIN_LINES.iter().take(whole) {
-            lines = count.saturating_add(lines);
-        }
-        let mut text = first_lines(alloc, ONE_COIN_PLAYED, lines)?;
-        let last = format!(in alloc; "refused {} cut\n", whole.saturating_add(1))?;
+    for len in 0..TWO_DEVICES.len() {
+        let script = &TWO_DEVICES[..len];
+        let number = script
+            .iter()
+            .filter(|byte| **byte == b'\n')
+            .count()
+            .saturating_add(1);
+        let mut text = lines_played(alloc, script)?;
+        let last = format!(in alloc; "refused {number} cut\n")?;
         text.extend_from_slice(last.as_bytes())?;
         let (status, written) = play(alloc, script, 4096, &[], &[])?;
         assert_eq!(rt; status, Status::ScriptRefused, "cut at {len}");

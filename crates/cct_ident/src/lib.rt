@@ -29,6 +29,7 @@ mod tests {
                 software: name(b"1.4"),
                 build: name(b"B07"),
             },
+            named: true,
             body,
         }
     }

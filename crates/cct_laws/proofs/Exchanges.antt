@@ -1,26 +1,43 @@
--- An exchange with the one device of a machine: what was asked is heard, and what was answered is got.
-use Rattle.std.proofs.Common.{◌≡◌, ℕ, ◌*◌, ◌≤◌, List, [], ◌∷◌, ◌++◌, length, flat_map, Some, refl, ap, ◌∙◌, arith, eq-eqb, append-nil, length-append, length-take}
-use Rattle.cct_model.specs.declared.wire.CheckKind.TheVariants.{Simple}
-use Rattle.cct_model.specs.declared.device.DeviceBody.{DeviceBody}
-use Rattle.cct_model.specs.declared.device.DeviceBody.TheVariants.{Acceptor, Hopper}
+-- An exchange with a device of a setup: what is asked is heard by it alone, and what it replies is got, or nothing.
+use Rattle.std.proofs.Common.{◌≡◌, ◌≢◌, ℕ, ◌==◌, ◌≤◌, nat_le, cond, true, false, Bool, List, [], ◌∷◌, ◌++◌, length, slice_index, flat_map, refl, ap, sym, ◌∙◌, Option, Some, None, option_and_then, unwrap_or, ◌⊎◌, inl, inr, arith, eq-eqb, eqb-true, append-nil}
+use Rattle.cct_model.specs.declared.wire.CheckKind.{CheckKind}
+use Rattle.cct_model.specs.declared.wire.CheckKind.TheVariants.{Simple, Crc}
 use Rattle.cct_model.specs.declared.device.DeviceSetup.{DeviceSetup}
-use Rattle.cct_model.specs.declared.coin.Pair.{Pair}
+use Rattle.cct_model.specs.declared.device.Setup.{Setup}
 use Rattle.cct_model.specs.declared.request.Request.{Request}
-use Rattle.cct_model.specs.declared.request.Request.TheVariants.{ReadCredits}
 use Rattle.cct_model.specs.declared.request.ReplyForm.{ReplyForm}
-use Rattle.cct_model.specs.declared.request.ReplyForm.TheVariants as form
+use Rattle.cct_model.specs.declared.command.WireFault.{WireFault}
+use Rattle.cct_model.specs.declared.command.WireFault.TheVariants as fault
 use Rattle.cct_model.specs.declared.entry.Entry.{Entry}
-use Rattle.cct_model.specs.History.{Met}
 use Rattle.cct_model.specs.Message.{message, spelling}
-use Rattle.cct_model.specs.Request.{header_of, data_of, request_of, requests_with, form_of}
-use Rattle.cct_model.specs.Reply.{Reply, reply_header, reply_data, reply_in, pair_bytes, credits_in}
-use Rattle.cct_model.specs.Reply as reply
-use Rattle.cct_model.specs.Acceptor.{acceptor_reply, credits_of, events, last_five, no_event}
-use Rattle.cct_model.specs.Device.{IsAcceptor, common_reply, own_reply, reply_of}
-use Rattle.cct_model.specs.Exchange.{ask, asking, asked, asks_of, asker, answer, replying, after_echo, got, to_one}
-use Rattle.cct_model.specs.Transcript.{met, answers, heard_after, got_by}
-use Rattle.cct_model.proofs.Messages.{simple_read_back}
-use Rattle.cct_laws.specs.Law.{machine_of}
+use Rattle.cct_model.specs.Request.{header_of, data_of, request_of, form_of}
+use Rattle.cct_model.specs.Reply.{Reply, IsSayable}
+use Rattle.cct_model.specs.History.{Met}
+use Rattle.cct_model.specs.Device.{IsSound, reply_of}
+use Rattle.cct_model.specs.Setup.{AreDistinct, IsSoundSetup}
+use Rattle.cct_model.specs.Exchange.{ask, asking, asks_of, asked_of, asker, answer, replying, after_echo, got, to_one, reply_from, put_by_address, by_address, device_at}
+use Rattle.cct_model.specs.Transcript.{pending, met, answers, heard_by_devices, heard_by_host, heard_after, got_by}
+use Rattle.cct_model.proofs.Requests.{request_back, request_short}
+use Rattle.cct_frame.specs.Frame.{carried}
+use Rattle.cct_frame.proofs.Spellings.{written_back}
+use Rattle.cct_msg.specs.Forms.{FitsItsBytes, IsWhole, form_shown}
+use Rattle.cct_msg.proofs.Exchanges.{asked_back, reply_heard}
+use Rattle.cct_laws.specs.Honest.{IsNoMessage, IsAddressPoll, IsHonestFault}
+use Rattle.cct_laws.specs.Law.{IsOf}
+use Rattle.cct_laws.proofs.Pieces.{ask_to, asks_nothing, none_under, damaged_asks}
+use Rattle.cct_laws.proofs.Setups.{found_in, same_some}
+
+-- a request with the reply of a device that met all this
+pub record Replied (d : DeviceSetup) (past : List Met) (q : Request) : Type 0 where
+  pub y : Reply
+  pub form : ReplyForm
+  pub replied : reply_of d past q ≡ Some y
+  pub wants : form_of q ≡ Some form
+  pub shown : form_shown y ≡ Some form
+  pub whole : IsWhole y
+  pub sayable : IsSayable y
+  pub fits : FitsItsBytes q
+  pub to_its_device : to_one (Some q) ≡ Some q
 
 -- the host's own echo is taken off
 pub echo_off : (sent rest : List ℕ) → after_echo sent (sent ++ rest) ≡ Some rest
@@ -28,114 +45,211 @@ unfolding after_echo
 echo_off [] rest = refl
 echo_off (byte ∷ sent) rest = rw (eq-eqb byte byte refl) (echo_off sent rest)
 
--- a request whose header and data are read as itself, also by the device that it is sent to
-pub record IsSpelled (q : Request) : Type 0 where
-  pub short : length (data_of q) ≤ 255
-  pub read_back : request_of (header_of q) (data_of q) ≡ Some q
-  pub to_its_device : to_one (Some q) ≡ Some q
+echo_by : (same : Bool) (s h : ℕ) (sent heard rest : List ℕ) → (s == h) ≡ same → (after_echo sent heard ≡ Some rest → heard ≡ sent ++ rest) → cond same (after_echo sent heard) None ≡ Some rest → h ∷ heard ≡ s ∷ sent ++ rest
+echo_by true s h sent heard rest test later e =
+    let first : h ≡ s = sym (eqb-true s h test) in
+    let others : heard ≡ sent ++ rest = later e in
+    cc
+echo_by false s h sent heard rest test later e = absurd cc
 
--- a reply with header 0 whose data, in a form, are read as itself
-pub record IsWanted (wanted : ReplyForm) (y : Reply) : Type 0 where
-  pub header : reply_header y ≡ 0
-  pub short : length (reply_data y) ≤ 255
-  pub read_back : reply_in wanted (reply_data y) ≡ Some y
+-- where it is found, the rest stands behind it
+pub echo_known : (sent heard rest : List ℕ) → after_echo sent heard ≡ Some rest → heard ≡ sent ++ rest
+unfolding after_echo
+echo_known [] heard rest e = same_some heard rest e
+echo_known (s ∷ sent) [] rest e = absurd cc
+echo_known (s ∷ sent) (h ∷ heard) rest e = echo_by (s == h) s h sent heard rest refl (echo_known sent heard rest) e
 
 -- the host's piece is its message
-pub message_asked : (addr : ℕ) (q : Request) → IsSpelled q → message Simple (ask Simple addr q) ≡ Some (asking addr q)
+message_asked : (kind : CheckKind) (addr : ℕ) (q : Request) → message kind (ask kind addr q) ≡ Some (carried kind (asking addr q))
 unfolding ask
-message_asked addr q spelled = simple_read_back addr 1 (header_of q) (data_of q) spelled.short
+message_asked kind addr q =
+    let few = request_short q in
+    let short : length (data_of q) ≤ 255 = omega arith in
+    written_back kind (asking addr q) short refl
 
-pub asked_back : (addr : ℕ) (q : Request) → IsSpelled q → asked Simple (ask Simple addr q) ≡ Some q
-unfolding asked
-asked_back addr q spelled = rw (message_asked addr q spelled) spelled.read_back
-
-asker_back : (addr : ℕ) (q : Request) → IsSpelled q → asker Simple (ask Simple addr q) ≡ 1
-unfolding asker
-asker_back addr q spelled = rw (message_asked addr q spelled) refl
+asked_carried : (kind : CheckKind) (addr : ℕ) (q : Request) → asked_of addr (carried kind (asking addr q)) ≡ to_one (request_of (header_of q) (data_of q))
+asked_carried Simple addr q = rw (eq-eqb addr addr refl) refl
+asked_carried Crc addr q = rw (eq-eqb addr addr refl) refl
 
 -- the asked device hears what it is asked
-pub asks_back : (d : DeviceSetup) (q : Request) → d.kind ≡ Simple → IsSpelled q → asks_of d (ask Simple d.addr q) ≡ Some q
+pub asks_back : (d : DeviceSetup) (q : Request) → FitsItsBytes q → to_one (Some q) ≡ Some q → asks_of d (ask d.kind d.addr q) ≡ Some q
 unfolding asks_of
-asks_back d q simple spelled =
-    rw (simple, message_asked d.addr q spelled, eq-eqb d.addr d.addr refl) (ap to_one spelled.read_back ∙ spelled.to_its_device)
+asks_back d q fits to_it =
+    ap (option_and_then (asked_of d.addr)) (message_asked d.kind d.addr q) ∙ asked_carried d.kind d.addr q ∙ ap to_one (request_back q fits) ∙ to_it
+
+asker_carried : (kind : CheckKind) (addr : ℕ) (q : Request) → unwrap_or (option_and_then (λ m. m.from) (Some (carried kind (asking addr q)))) 1 ≡ 1
+asker_carried Simple addr q = refl
+asker_carried Crc addr q = refl
+
+asker_back : (kind : CheckKind) (addr : ℕ) (q : Request) → asker kind (ask kind addr q) ≡ 1
+unfolding asker
+asker_back kind addr q = ap (λ found. unwrap_or (option_and_then (λ m. m.from) found) 1) (message_asked kind addr q) ∙ asker_carried kind addr q
 
 -- and answers with its reply
-pub answer_spelled : (d : DeviceSetup) (past : List Met) (q : Request) (y : Reply) → d.kind ≡ Simple → IsSpelled q → reply_of d past q ≡ Some y →
-    answer d past (ask Simple d.addr q) ≡ Some (spelling Simple (replying 1 d.addr y))
-answer_spelled d past q y simple spelled replied = rw (asks_back d q simple spelled, replied, simple, asker_back d.addr q spelled) refl
+answer_back : (d : DeviceSetup) (past : List Met) (q : Request) (is : Replied d past q) → answer d past (ask d.kind d.addr q) ≡ Some (spelling d.kind (replying 1 d.addr is.y))
+answer_back d past q is = rw (asks_back d q is.fits is.to_its_device, is.replied, asker_back d.kind d.addr q) refl
 
--- the one device of a machine gives its reply
-pub answers_spelled : (d : DeviceSetup) (past : List Entry) (q : Request) (y : Reply) → d.kind ≡ Simple → IsSpelled q → reply_of d (met d past) q ≡ Some y →
-    answers (machine_of d) past (ask Simple d.addr q) ≡ spelling Simple (replying 1 d.addr y)
-answers_spelled d past q y simple spelled replied = rw (answer_spelled d (met d past) q y simple spelled replied) (append-nil _)
+-- what one device of several gives, where the others give nothing
+skips_by : (f : DeviceSetup → List ℕ) (e x : DeviceSetup) (devices put : List DeviceSetup) (first : Bool) → f e ≡ [] → flat_map f put ≡ flat_map f devices → flat_map f (cond first (e ∷ x ∷ devices) (x ∷ put)) ≡ flat_map f (x ∷ devices)
+skips_by f e x devices put true none later = rw none refl
+skips_by f e x devices put false none later = ap (λ rest. f x ++ rest) later
+
+put_skips : (f : DeviceSetup → List ℕ) (e : DeviceSetup) (devices : List DeviceSetup) → f e ≡ [] → flat_map f (put_by_address e devices) ≡ flat_map f devices
+put_skips f e [] none = rw none refl
+put_skips f e (x ∷ devices) none = skips_by f e x devices (put_by_address e devices) (nat_le e.addr x.addr) none (put_skips f e devices none)
+
+front_empty : (xs ys : List ℕ) → xs ++ ys ≡ [] → (xs ≡ []) × (ys ≡ [])
+front_empty [] ys e = (refl, e)
+front_empty (x ∷ xs) ys e = absurd cc
+
+alone_by : (f : DeviceSetup → List ℕ) (e x : DeviceSetup) (devices put : List DeviceSetup) (first : Bool) → f x ++ flat_map f devices ≡ [] → (flat_map f devices ≡ [] → flat_map f put ≡ f e) → flat_map f (cond first (e ∷ x ∷ devices) (x ∷ put)) ≡ f e
+alone_by f e x devices put true none later = ap (λ rest. f e ++ rest) none ∙ append-nil (f e)
+alone_by f e x devices put false none later =
+    let parts = front_empty (f x) (flat_map f devices) none in
+    ap (λ front. front ++ flat_map f put) parts.0 ∙ later parts.1
+
+put_alone : (f : DeviceSetup → List ℕ) (e : DeviceSetup) (devices : List DeviceSetup) → flat_map f devices ≡ [] → flat_map f (put_by_address e devices) ≡ f e
+put_alone f e [] none = append-nil (f e)
+put_alone f e (x ∷ devices) none = alone_by f e x devices (put_by_address e devices) (nat_le e.addr x.addr) none (put_alone f e devices)
+
+-- a device at another address
+there_by : (here : Bool) (e : DeviceSetup) (rest : Option DeviceSetup) → cond here (Some e) rest ≡ None → (here ≡ false) × (rest ≡ None)
+there_by true e rest none = absurd cc
+there_by false e rest none = (refl, none)
+
+differs : (m n : ℕ) → (m == n) ≡ false → m ≢ n
+differs m n test = λ e. clash (sym test ∙ eq-eqb m n e)
+  where
+    clash : false ≡ true → ⊥
+    clash e = cc
+
+nobody_gives : (f : DeviceSetup → List ℕ) (addr : ℕ) (devices : List DeviceSetup) → ((e : DeviceSetup) → e.addr ≢ addr → f e ≡ []) → device_at devices addr ≡ None → flat_map f (by_address devices) ≡ []
+nobody_gives f addr [] silent none = refl
+nobody_gives f addr (e ∷ devices) silent none =
+    let there = there_by (e.addr == addr) e (device_at devices addr) none in
+    put_skips f e (by_address devices) (silent e (differs e.addr addr there.0)) ∙ nobody_gives f addr devices silent there.1
+
+one_by : (f : DeviceSetup → List ℕ) (addr : ℕ) (e d : DeviceSetup) (devices : List DeviceSetup) (here : Bool) → (e.addr == addr) ≡ here → ((e : DeviceSetup) → e.addr ≢ addr → f e ≡ []) →
+    device_at devices e.addr ≡ None → (device_at devices addr ≡ Some d → flat_map f (by_address devices) ≡ f d) → cond here (Some e) (device_at devices addr) ≡ Some d →
+    flat_map f (put_by_address e (by_address devices)) ≡ f d
+one_by f addr e d devices true test silent alone later found =
+    let no_more : device_at devices addr ≡ None = ap (device_at devices) (sym (eqb-true e.addr addr test)) ∙ alone in
+    put_alone f e (by_address devices) (nobody_gives f addr devices silent no_more) ∙ ap f (same_some e d found)
+one_by f addr e d devices false test silent alone later found = put_skips f e (by_address devices) (silent e (differs e.addr addr test)) ∙ later found
+
+one_gives : (f : DeviceSetup → List ℕ) (addr : ℕ) (d : DeviceSetup) (devices : List DeviceSetup) → ((e : DeviceSetup) → e.addr ≢ addr → f e ≡ []) → AreDistinct devices → device_at devices addr ≡ Some d →
+    flat_map f (by_address devices) ≡ f d
+one_gives f addr d [] silent distinct found = absurd cc
+one_gives f addr d (e ∷ devices) silent distinct found =
+    one_by f addr e d devices (e.addr == addr) refl silent distinct.0 (one_gives f addr d devices silent distinct.1) found
+
+-- a device at another address is silent
+silent_to : (d : DeviceSetup) (past : List Met) (piece : List ℕ) → asks_of d piece ≡ None → unwrap_or (answer d past piece) [] ≡ []
+silent_to d past piece none = rw none refl
+
+-- the asked device alone answers
+pub answers_back : (setup : Setup) (d : DeviceSetup) (past : List Entry) (q : Request) (is : Replied d (met d past) q) → IsSoundSetup setup → IsOf setup d →
+    answers setup past (ask d.kind d.addr q) ≡ spelling d.kind (replying 1 d.addr is.y)
+answers_back setup d past q is sound own =
+    let sent = ask d.kind d.addr q in
+    let to_it : slice_index sent 0 ≡ d.addr = ask_to d.kind d.addr q in
+    let low = (found_in IsSound setup.devices d.addr d sound.devices own).0.low in
+    let some : d.addr ≢ 0 = omega (arith, low) in
+    let silent : (e : DeviceSetup) → e.addr ≢ d.addr → unwrap_or (answer e (met e past) sent) [] ≡ [] =
+    λ e other. silent_to e (met e past) sent (asks_nothing e sent (λ same. other (sym same ∙ to_it)) (λ zero. some (sym to_it ∙ zero))) in
+    one_gives (λ e. unwrap_or (answer e (met e past) sent) []) d.addr d setup.devices silent sound.distinct own
+    ∙ ap (λ found. unwrap_or found []) (answer_back d (met d past) q is)
 
 -- the reply of the asked address is got
-pub got_back : (addr : ℕ) (f : ReplyForm) (y : Reply) (sent : List ℕ) → IsWanted f y → got Simple addr f sent (sent ++ spelling Simple (replying 1 addr y)) ≡ Some y
+got_back : (d : DeviceSetup) (past : List Met) (q : Request) (sent : List ℕ) (is : Replied d past q) → got d.kind d.addr is.form sent (sent ++ spelling d.kind (replying 1 d.addr is.y)) ≡ Some is.y
 unfolding got
-got_back addr f y sent wanted =
-    rw (echo_off sent _, simple_read_back 1 addr (reply_header y) (reply_data y) wanted.short, eq-eqb addr addr refl, wanted.header) wanted.read_back
+got_back d past q sent is = rw (echo_off sent (spelling d.kind (replying 1 d.addr is.y))) (reply_heard d.kind is.form d.addr is.y is.shown is.whole is.sayable)
 
-got_by_back : (d : DeviceSetup) (q : Request) (f : ReplyForm) (y : Reply) → d.kind ≡ Simple → IsSpelled q → form_of q ≡ Some f → IsWanted f y →
-    got_by d (ask Simple d.addr q) (ask Simple d.addr q ++ spelling Simple (replying 1 d.addr y)) ≡ Some y
+got_by_back : (d : DeviceSetup) (past : List Met) (q : Request) (is : Replied d past q) →
+    got_by d (ask d.kind d.addr q) (ask d.kind d.addr q ++ spelling d.kind (replying 1 d.addr is.y)) ≡ Some is.y
 unfolding got_by
-got_by_back d q f y simple spelled wants wanted = rw (simple, asked_back d.addr q spelled, wants) (got_back d.addr f y _ wanted)
+got_by_back d past q is = rw (asked_back d.kind d.addr q is.fits, is.wants) (got_back d past q (ask d.kind d.addr q) is)
 
--- an exchange gets the device's reply
-pub exchanged : (d : DeviceSetup) (past : List Entry) (q : Request) (f : ReplyForm) (y : Reply) → d.kind ≡ Simple → IsSpelled q → form_of q ≡ Some f →
-    reply_of d (met d past) q ≡ Some y → IsWanted f y →
-    got_by d (ask Simple d.addr q) (heard_after (machine_of d) past (ask Simple d.addr q)) ≡ Some y
+-- nothing is got where no message stands behind the echo
+none_got : (found : Option ReplyForm) (g : ReplyForm → Option Reply) → ((form : ReplyForm) → g form ≡ None) → option_and_then g found ≡ None
+none_got None g none = refl
+none_got (Some form) g none = none form
+
+none_after : (kind : CheckKind) (addr : ℕ) (form : ReplyForm) (after : Option (List ℕ)) → ((rest : List ℕ) → after ≡ Some rest → message kind rest ≡ None) →
+    option_and_then (λ piece. option_and_then (reply_from form addr) (message kind piece)) after ≡ None
+none_after kind addr form None none = refl
+none_after kind addr form (Some rest) none = rw (none rest refl) refl
+
+got_none : (kind : CheckKind) (addr : ℕ) (form : ReplyForm) (sent heard : List ℕ) → ((rest : List ℕ) → after_echo sent heard ≡ Some rest → message kind rest ≡ None) → got kind addr form sent heard ≡ None
+unfolding got
+got_none kind addr form sent heard none = none_after kind addr form (after_echo sent heard) none
+
+nothing_got : (d : DeviceSetup) (sent heard : List ℕ) → ((rest : List ℕ) → after_echo sent heard ≡ Some rest → message d.kind rest ≡ None) → got_by d sent heard ≡ None
+unfolding got_by
+nothing_got d sent heard none = none_got _ _ (λ form. got_none d.kind d.addr form sent heard none)
+
+none_behind : (d : DeviceSetup) (sent piece : List ℕ) → message d.kind piece ≡ None → got_by d sent (sent ++ piece) ≡ None
+none_behind d sent piece none =
+    nothing_got d sent (sent ++ piece) (λ rest found. ap (message d.kind) (same_some rest piece (sym found ∙ echo_off sent piece)) ∙ none)
+
+-- no device answers a damaged piece
+all_silent : (f : DeviceSetup → List ℕ) (devices : List DeviceSetup) → ((e : DeviceSetup) → f e ≡ []) → flat_map f devices ≡ []
+all_silent f [] silent = refl
+all_silent f (e ∷ devices) silent = rw (silent e) (all_silent f devices silent)
+
+damaged_answers : (setup : Setup) (past : List Entry) (piece : List ℕ) → IsNoMessage piece → answers setup past piece ≡ []
+damaged_answers setup past piece none = all_silent _ (by_address setup.devices) (λ e. silent_to e (met e past) piece (damaged_asks e piece none))
+
+empty_message : (kind : CheckKind) → message kind [] ≡ None
+unfolding message
+empty_message Simple = refl
+empty_message Crc = refl
+
+-- what the host hears under a fault
+abbrev pub heard_under : Setup → List Entry → WireFault → List ℕ → List ℕ
+heard_under setup past f sent = heard_by_host f sent (answers setup past (heard_by_devices f sent))
+
+pub heard_is : (setup : Setup) (past : List Entry) (sent : List ℕ) → heard_after setup past sent ≡ heard_under setup past (pending past) sent
 unfolding heard_after
-exchanged d past q f y simple spelled wants replied wanted =
-    ap (λ heard. got_by d (ask Simple d.addr q) (ask Simple d.addr q ++ heard)) (answers_spelled d past q y simple spelled replied)
-    ∙ got_by_back d q f y simple spelled wants wanted
+heard_is setup past sent = refl
 
--- two bytes for each event
-length-pair_bytes : (pairs : List Pair) → length (flat_map pair_bytes pairs) ≡ 2 * length pairs
-length-pair_bytes [] = refl
-length-pair_bytes (pair ∷ pairs) = omega (arith, length-pair_bytes pairs)
+-- what is got: nothing, or this reply
+abbrev pub GotAtMost : Option Reply → Reply → Type 0
+GotAtMost got y = (got ≡ None) ⊎ (got ≡ Some y)
 
-credits_back : (n : ℕ) (pairs : List Pair) → length pairs ≡ 5 → credits_in (n ∷ flat_map pair_bytes pairs) ≡ Some (reply.credits (record { counter = n; pairs = pairs }))
-credits_back n (a ∷ b ∷ c ∷ d ∷ e ∷ []) five = refl
-credits_back n [] five = absurd (omega arith)
-credits_back n (a ∷ []) five = absurd (omega arith)
-credits_back n (a ∷ b ∷ []) five = absurd (omega arith)
-credits_back n (a ∷ b ∷ c ∷ []) five = absurd (omega arith)
-credits_back n (a ∷ b ∷ c ∷ d ∷ []) five = absurd (omega arith)
-credits_back n (a ∷ b ∷ c ∷ d ∷ e ∷ f ∷ rest) five = absurd (omega arith)
+-- without a fault the device's reply is got
+clear_got : (setup : Setup) (d : DeviceSetup) (past : List Entry) (q : Request) (is : Replied d (met d past) q) → IsSoundSetup setup → IsOf setup d →
+    got_by d (ask d.kind d.addr q) (heard_under setup past fault.Clear (ask d.kind d.addr q)) ≡ Some is.y
+clear_got setup d past q is sound own =
+    ap (λ heard. got_by d (ask d.kind d.addr q) (ask d.kind d.addr q ++ heard)) (answers_back setup d past q is sound own) ∙ got_by_back d (met d past) q is
 
-length-last_five : (events : List Pair) → length (last_five events) ≡ 5
-length-last_five events =
-    let blank : List Pair = no_event ∷ no_event ∷ no_event ∷ no_event ∷ no_event ∷ [] in
-    length-take 5 (events ++ blank) ∙ omega (arith, length-append events blank)
+-- and with an honest one no other than the device's reply
+got_under : (setup : Setup) (d : DeviceSetup) (past : List Entry) (q : Request) (is : Replied d (met d past) q) (f : WireFault) → IsSoundSetup setup → IsOf setup d →
+    IsHonestFault f (ask d.kind d.addr q) → (IsAddressPoll (ask d.kind d.addr q) → ⊥) → GotAtMost (got_by d (ask d.kind d.addr q) (heard_under setup past f (ask d.kind d.addr q))) is.y
+got_under setup d past q is fault.Clear sound own honest no_poll = inr (clear_got setup d past q is sound own)
+got_under setup d past q is (fault.DevicesHear piece) sound own honest no_poll =
+    let sent = ask d.kind d.addr q in
+    inl (ap (λ heard. got_by d sent (sent ++ heard)) (damaged_answers setup past piece honest) ∙ none_behind d sent [] (empty_message d.kind))
+got_under setup d past q is (fault.HostHears piece) sound own honest no_poll =
+    inl (none_behind d (ask d.kind d.addr q) piece (none_under d.kind piece (honest no_poll)))
+got_under setup d past q is (fault.WholeHeard piece) sound own honest no_poll =
+    let sent = ask d.kind d.addr q in
+    inl (nothing_got d sent piece (λ rest found. none_under d.kind rest ((honest no_poll).1 rest (echo_known sent piece rest found))))
 
--- the request for the credits, the form that it wants, and the reply that an acceptor gives
-pub credits_spelled : IsSpelled ReadCredits
-unfolding data_of request_of requests_with
-credits_spelled = record { short = omega arith; read_back = refl; to_its_device = refl }
+-- a request to a device is no address poll
+pub no_poll : (setup : Setup) (d : DeviceSetup) (q : Request) → IsSoundSetup setup → IsOf setup d → IsAddressPoll (ask d.kind d.addr q) → ⊥
+no_poll setup d q sound own poll =
+    let low = (found_in IsSound setup.devices d.addr d sound.devices own).0.low in
+    let zero : d.addr ≡ 0 = sym (ask_to d.kind d.addr q) ∙ ap (λ piece. slice_index piece 0) poll.1 ∙ ask_to poll.0 0 _ in
+    omega (arith, low, zero)
 
-pub credits_form : form_of ReadCredits ≡ Some form.Credits
-unfolding form_of
-credits_form = refl
+pub honest_got : (setup : Setup) (d : DeviceSetup) (past : List Entry) (q : Request) (is : Replied d (met d past) q) → IsSoundSetup setup → IsOf setup d → IsHonestFault (pending past) (ask d.kind d.addr q) →
+    GotAtMost (got_by d (ask d.kind d.addr q) (heard_after setup past (ask d.kind d.addr q))) is.y
+unfolding heard_after
+honest_got setup d past q is sound own honest = got_under setup d past q is (pending past) sound own honest (no_poll setup d q sound own)
 
-own_credits : (body : DeviceBody) (past : List Met) → IsAcceptor body → own_reply body past ReadCredits ≡ Some (reply.credits (credits_of past))
-unfolding acceptor_reply
-own_credits (Acceptor accepts values ids) past accepting = refl
-own_credits (Hopper life value) past accepting = absurd accepting
-
-pub credits_replied : (d : DeviceSetup) (past : List Met) → IsAcceptor d.body → reply_of d past ReadCredits ≡ Some (reply.credits (credits_of past))
-unfolding reply_of common_reply
-credits_replied d past accepting = own_credits d.body past accepting
-
-pub credits_wanted : (past : List Met) → IsWanted form.Credits (reply.credits (credits_of past))
-unfolding reply_data reply_in
-credits_wanted past = record {
-  header = refl;
-  short = omega (arith, length-pair_bytes (last_five (events past)), length-last_five (events past));
-  read_back = credits_back _ _ (length-last_five (events past));
-}
-
--- an exchange with an acceptor reads its credits
-pub credits_exchanged : (d : DeviceSetup) (past : List Entry) → d.kind ≡ Simple → IsAcceptor d.body →
-    got_by d (ask Simple d.addr ReadCredits) (heard_after (machine_of d) past (ask Simple d.addr ReadCredits)) ≡ Some (reply.credits (credits_of (met d past)))
-credits_exchanged d past simple accepting =
-    exchanged d past ReadCredits form.Credits _ simple credits_spelled credits_form (credits_replied d (met d past) accepting) (credits_wanted (met d past))
+pub undisturbed_got : (setup : Setup) (d : DeviceSetup) (past : List Entry) (q : Request) (is : Replied d (met d past) q) → IsSoundSetup setup → IsOf setup d → pending past ≡ fault.Clear →
+    got_by d (ask d.kind d.addr q) (heard_after setup past (ask d.kind d.addr q)) ≡ Some is.y
+undisturbed_got setup d past q is sound own clear =
+    let sent = ask d.kind d.addr q in
+    ap (got_by d sent) (heard_is setup past sent ∙ ap (λ f. heard_under setup past f sent) clear) ∙ clear_got setup d past q is sound own

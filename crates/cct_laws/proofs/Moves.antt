@@ -1,43 +1,64 @@
 -- How each line keeps what holds of an acceptor.
-use Rattle.std.proofs.Common.{◌≡◌, ℕ, ◌+◌, ◌≤◌, cond, eqb, true, false, Bool, List, [], ◌∷◌, length, refl, ap, sym, ◌∙◌, subst, suc, arith, ne_eqb}
+use Rattle.std.proofs.Common.{◌≡◌, ℕ, zero, ◌+◌, ◌≤◌, eqb, false, List, [], ◌∷◌, length, refl, ap, sym, ◌∙◌, subst, suc, Option, Some, None, arith, ne_eqb}
+use Rattle.std.specs.Prelude.{⊤}
 use Rattle.std.proofs.lemmas.List.{nil_from_length}
 use Rattle.cct_model.specs.declared.coin.Pair.{Pair}
+use Rattle.cct_model.specs.declared.coin.Coin.{Coin}
 use Rattle.cct_model.specs.declared.coin.Credits.{Credits}
+use Rattle.cct_model.specs.declared.request.Request.{Request}
+use Rattle.cct_model.specs.declared.request.Request.TheVariants.{ReadCredits}
 use Rattle.cct_model.specs.declared.command.Command.{Command}
+use Rattle.cct_model.specs.declared.command.Command.TheVariants as command
+use Rattle.cct_model.specs.declared.entry.End.{End}
 use Rattle.cct_model.specs.declared.entry.End.TheVariants.{Clean, Posted}
-use Rattle.cct_model.specs.Line.{Line, accepted, inhibited, put, taken, ended}
-use Rattle.cct_model.specs.Job.{Job, free, works, job, recorded, address_of}
+use Rattle.cct_model.specs.Reply.{Reply}
+use Rattle.cct_model.specs.Line.{Line, accepted, inhibited, alien, exchange, put, taken, ended}
+use Rattle.cct_model.specs.Job.{Job, free, works, job, with_line, done, recorded, credits_read}
 use Rattle.cct_model.specs.Reading.{coins_among, distance}
 use Rattle.cct_model.specs.Acceptor.{counter}
-use Rattle.cct_model.specs.Claims.{coins, arrivals, reading, mark, part, base, Near, OrderAt, CoverAt, PaceAt}
-use Rattle.cct_laws.specs.Law.{AnsweredAt}
+use Rattle.cct_model.specs.Claims.{coins, reading, mark, part, OrderAt, CoverAt, arrivals, base, Near, PaceAt}
 use Rattle.cct_laws.proofs.Counters.{counter_same}
 use Rattle.cct_laws.proofs.World.{Known, Settled, Sound, Held, credits_at, read_line, new_by, record_put, new_and_old, new_near, new_few, part_new, mark_most, put_in_order, put_covers}
 
--- a job before its reading, or with a reading that isn't put yet
-pub data Stand (events : List Pair) (lines : List Line) : List Line → Type 0 where
-  begins : Stand events lines []
-  holds : (credits : Credits) → Held events lines credits → eqb (new_by lines credits) 0 ≡ false → Stand events lines (read_line credits ∷ [])
+-- a round before its reading, or with a reading that isn't put yet
+pub data Stand (events : List Pair) (lines since : List Line) : Type 0 where
+  begins : credits_read since ≡ None → done since ≡ zero → Stand events lines since
+  holds : (credits : Credits) → credits_read since ≡ Some credits → done since ≡ suc zero → Held events lines credits → eqb (new_by lines credits) 0 ≡ false → Stand events lines since
 
-abbrev pub Stands : ℕ → List Pair → List Line → Job → Type 0
-Stands addr events lines free = Unit
-Stands addr events lines (works command since) = (address_of command ≡ addr) × Stand events lines since
+-- what a job has to have: a round stands so, and other jobs read no credits
+abbrev pub StandFor : Command → List Pair → List Line → List Line → Type 0
+StandFor (command.Round addr) events lines since = Stand events lines since
+StandFor c events lines since = ⊤
+
+abbrev pub Stands : List Pair → List Line → Job → Type 0
+Stands events lines free = ⊤
+Stands events lines (works c since) = StandFor c events lines since
 
 -- what holds after every step
-pub record Keeps (addr : ℕ) (events : List Pair) (lines : List Line) : Type 0 where
+pub record Keeps (events : List Pair) (lines : List Line) : Type 0 where
   pub sound : Sound events lines
-  pub stands : Stands addr events lines (job lines)
-
--- a line that is no coin
-pub record IsNoCoin (lines : List Line) (line : Line) : Type 0 where
-  pub coins_stay : coins (line ∷ lines) ≡ coins lines
-  pub arrivals_stay : arrivals (line ∷ lines) ≡ arrivals lines
+  pub stands : Stands events lines (job lines)
 
 -- a line that is no item
 pub record IsNoItem (lines : List Line) (line : Line) : Type 0 where
   pub recorded_stays : recorded (line ∷ lines) ≡ recorded lines
   pub mark_stays : mark (line ∷ lines) ≡ mark lines
   pub base_stays : base (line ∷ lines) ≡ base lines
+  pub orders : OrderAt lines line
+  pub covers : CoverAt lines line
+
+-- a line that is no piece
+pub record IsNoPiece (lines : List Line) (line : Line) : Type 0 where
+  pub coins_stay : coins (line ∷ lines) ≡ coins lines
+  pub arrivals_stay : arrivals (line ∷ lines) ≡ arrivals lines
+
+-- a line of a piece that fell in, and its event
+pub record Arrives (pair : Pair) (line : Line) : Type 0 where
+  pub grows : (events : List Pair) (lines : List Line) → coins lines ≡ coins_among events → coins (line ∷ lines) ≡ coins_among (pair ∷ events)
+  pub counts : (lines : List Line) → arrivals (line ∷ lines) ≡ suc (arrivals lines)
+  pub no_item : (lines : List Line) → IsNoItem lines line
+  pub reading_stays : (lines : List Line) → reading (line ∷ lines) ≡ reading lines
+  pub job_stays : (lines : List Line) → job (line ∷ lines) ≡ job lines
 
 pub settled_line : (events : List Pair) (lines : List Line) (line : Line) → IsNoItem lines line → Settled events lines → Settled events (line ∷ lines)
 settled_line events lines line no_item settled = record {
@@ -60,112 +81,161 @@ settled_event pair events lines settled = record {
   based = settled.based;
 }
 
--- what a line has to show that is no coin
-pub sound_line : (events : List Pair) (lines : List Line) (line : Line) → IsNoCoin lines line → Settled events (line ∷ lines) →
-    OrderAt lines line → (PaceAt lines line → CoverAt lines line) → AnsweredAt lines line → Sound events lines → Sound events (line ∷ lines)
-sound_line events lines line no_coin settled order cover answer sound = record {
-  known = record { coins_are = no_coin.coins_stay ∙ sound.known.coins_are; arrivals_are = no_coin.arrivals_stay ∙ sound.known.arrivals_are };
+-- what a line has to show that is no piece
+pub sound_line : (events : List Pair) (lines : List Line) (line : Line) → IsNoPiece lines line → Settled events (line ∷ lines) →
+    OrderAt lines line → (PaceAt lines line → CoverAt lines line) → Sound events lines → Sound events (line ∷ lines)
+sound_line events lines line no_piece settled order cover sound = record {
+  known = record { coins_are = no_piece.coins_stay ∙ sound.known.coins_are; arrivals_are = no_piece.arrivals_stay ∙ sound.known.arrivals_are };
   settled = settled;
   in_order = (order, sound.in_order);
   covers = λ pace. (cover pace.0, sound.covers pace.1);
-  answered = (answer, sound.answered);
 }
 
--- a line of a coin, accepted or not, and its event
-abbrev pub coin_line : Bool → ℕ → ℕ → Line
-coin_line accepts place path = cond accepts (accepted (record { place = place; path = path })) (inhibited place)
+-- a line that is neither
+pub quiet_line : (events : List Pair) (lines : List Line) (line : Line) → IsNoPiece lines line → IsNoItem lines line → Sound events lines → Sound events (line ∷ lines)
+quiet_line events lines line no_piece no_item sound =
+    sound_line events lines line no_piece (settled_line events lines line no_item sound.settled) no_item.orders (λ _. no_item.covers) sound
 
-abbrev pub coin_pair : Bool → ℕ → ℕ → Pair
-coin_pair accepts place path = cond accepts (record { a = place; b = path }) (record { a = 0; b = 2 })
+-- a piece
 
-no_item_coin : (accepts : Bool) (place path : ℕ) (lines : List Line) → IsNoItem lines (coin_line accepts place path)
-no_item_coin true place path lines = record { recorded_stays = refl; mark_stays = refl; base_stays = refl }
-no_item_coin false place path lines = record { recorded_stays = refl; mark_stays = refl; base_stays = refl }
-
-known_coin : (accepts : Bool) (place path : ℕ) (events : List Pair) (lines : List Line) → 1 ≤ place → Known events lines → Known (coin_pair accepts place path ∷ events) (coin_line accepts place path ∷ lines)
-known_coin true place path events lines has_place known = record {
-  coins_are = rw (ne_eqb place 0 (omega arith)) (ap (λ cs. record { place = place; path = path } ∷ cs) known.coins_are);
-  arrivals_are = ap suc known.arrivals_are;
+sound_piece : (pair : Pair) (line : Line) (events : List Pair) (lines : List Line) → Arrives pair line → Sound events lines → Sound (pair ∷ events) (line ∷ lines)
+sound_piece pair line events lines is sound = record {
+  known = record { coins_are = is.grows events lines sound.known.coins_are; arrivals_are = is.counts lines ∙ ap suc sound.known.arrivals_are };
+  settled = settled_line (pair ∷ events) lines line (is.no_item lines) (settled_event pair events lines sound.settled);
+  in_order = ((is.no_item lines).orders, sound.in_order);
+  covers = λ pace. ((is.no_item lines).covers, sound.covers pace.1);
 }
-known_coin false place path events lines has_place known = record { coins_are = known.coins_are; arrivals_are = ap suc known.arrivals_are }
 
--- a coin is no item
-claims_coin : (accepts : Bool) (place path : ℕ) (lines : List Line) → OrderAt lines (coin_line accepts place path) × CoverAt lines (coin_line accepts place path) × AnsweredAt lines (coin_line accepts place path)
-claims_coin true place path lines = (tt, tt, tt)
-claims_coin false place path lines = (tt, tt, tt)
-
-sound_coin : (accepts : Bool) (place path : ℕ) (events : List Pair) (lines : List Line) → 1 ≤ place → Sound events lines → Sound (coin_pair accepts place path ∷ events) (coin_line accepts place path ∷ lines)
-sound_coin accepts place path events lines has_place sound =
-    let claims = claims_coin accepts place path lines in
-    record {
-      known = known_coin accepts place path events lines has_place sound.known;
-      settled = settled_line _ lines _ (no_item_coin accepts place path lines) (settled_event _ events lines sound.settled);
-      in_order = (claims.0, sound.in_order);
-      covers = λ pace. (claims.1, sound.covers pace.1);
-      answered = (claims.2, sound.answered);
-    }
-
-reading_coin : (accepts : Bool) (place path : ℕ) (lines : List Line) → reading (coin_line accepts place path ∷ lines) ≡ reading lines
-reading_coin true place path lines = refl
-reading_coin false place path lines = refl
-
--- a held reading stays held while coins come
-held_coin : (accepts : Bool) (place path : ℕ) (events : List Pair) (lines : List Line) (credits : Credits) → Held events lines credits → Held (coin_pair accepts place path ∷ events) (coin_line accepts place path ∷ lines) credits
-held_coin accepts place path events lines credits held = record {
-  later = coin_pair accepts place path ∷ held.later;
+-- a held reading stays held while pieces come
+held_piece : (pair : Pair) (line : Line) (events : List Pair) (lines : List Line) (credits : Credits) → Arrives pair line → Held events lines credits → Held (pair ∷ events) (line ∷ lines) credits
+held_piece pair line events lines credits is held = record {
+  later = pair ∷ held.later;
   read = held.read;
-  split = ap (λ es. coin_pair accepts place path ∷ es) held.split;
-  known = subst (Known held.read) (sym (reading_coin accepts place path lines)) held.known;
-  settled = settled_line held.read lines _ (no_item_coin accepts place path lines) held.settled;
+  split = ap (λ es. pair ∷ es) held.split;
+  known = subst (Known held.read) (sym (is.reading_stays lines)) held.known;
+  settled = settled_line held.read lines line (is.no_item lines) held.settled;
   credits_are = held.credits_are;
 }
 
-stand_coin : (accepts : Bool) (place path : ℕ) (events : List Pair) (lines since : List Line) → Stand events lines since → Stand (coin_pair accepts place path ∷ events) (coin_line accepts place path ∷ lines) since
-stand_coin accepts place path events lines since begins = begins
-stand_coin accepts place path events lines since (holds credits held some) =
-    holds credits (held_coin accepts place path events lines credits held) (rw (no_item_coin accepts place path lines).recorded_stays some)
+stand_piece : (pair : Pair) (line : Line) (events : List Pair) (lines since : List Line) → Arrives pair line → Stand events lines since → Stand (pair ∷ events) (line ∷ lines) since
+stand_piece pair line events lines since is (begins none zero_done) = begins none zero_done
+stand_piece pair line events lines since is (holds credits read one_done held some) =
+    holds credits read one_done (held_piece pair line events lines credits is held) (rw (is.no_item lines).recorded_stays some)
 
-stands_coin : (accepts : Bool) (place path addr : ℕ) (events : List Pair) (lines : List Line) (at_work : Job) → Stands addr events lines at_work → Stands addr (coin_pair accepts place path ∷ events) (coin_line accepts place path ∷ lines) at_work
-stands_coin accepts place path addr events lines free stands = tt
-stands_coin accepts place path addr events lines (works command since) stands = (stands.0, stand_coin accepts place path events lines since stands.1)
+stand_for_piece : (c : Command) (pair : Pair) (line : Line) (events : List Pair) (lines since : List Line) → Arrives pair line → StandFor c events lines since → StandFor c (pair ∷ events) (line ∷ lines) since
+stand_for_piece (command.Round addr) pair line events lines since is stand = stand_piece pair line events lines since is stand
+stand_for_piece c pair line events lines since is stand = tt
 
-job_coin : (accepts : Bool) (place path : ℕ) (lines : List Line) → job lines ≡ job (coin_line accepts place path ∷ lines)
-job_coin true place path lines = refl
-job_coin false place path lines = refl
+stands_piece : (pair : Pair) (line : Line) (events : List Pair) (lines : List Line) (at_work : Job) → Arrives pair line → Stands events lines at_work → Stands (pair ∷ events) (line ∷ lines) at_work
+stands_piece pair line events lines free is stands = tt
+stands_piece pair line events lines (works c since) is stands = stand_for_piece c pair line events lines since is stands
 
--- a coin
-pub keeps_coin : (accepts : Bool) (place path addr : ℕ) (events : List Pair) (lines : List Line) → 1 ≤ place → Keeps addr events lines → Keeps addr (coin_pair accepts place path ∷ events) (coin_line accepts place path ∷ lines)
-keeps_coin accepts place path addr events lines has_place keeps = record {
-  sound = sound_coin accepts place path events lines has_place keeps.sound;
-  stands = subst (Stands addr (coin_pair accepts place path ∷ events) (coin_line accepts place path ∷ lines)) (job_coin accepts place path lines)
-      (stands_coin accepts place path addr events lines (job lines) keeps.stands);
+pub keeps_piece : (pair : Pair) (line : Line) (events : List Pair) (lines : List Line) → Arrives pair line → Keeps events lines → Keeps (pair ∷ events) (line ∷ lines)
+keeps_piece pair line events lines is keeps = record {
+  sound = sound_piece pair line events lines is keeps.sound;
+  stands = subst (Stands (pair ∷ events) (line ∷ lines)) (sym (is.job_stays lines)) (stands_piece pair line events lines (job lines) is keeps.stands);
+}
+
+-- the three kinds of pieces
+pub arrives_accepted : (coin : Coin) → 1 ≤ coin.place → Arrives (record { a = coin.place; b = coin.path }) (accepted coin)
+arrives_accepted coin has_place = record {
+  grows = λ events lines known. rw (ne_eqb coin.place 0 (omega arith)) (ap (λ cs. coin ∷ cs) known);
+  counts = λ lines. refl;
+  no_item = λ lines. record { recorded_stays = refl; mark_stays = refl; base_stays = refl; orders = tt; covers = tt };
+  reading_stays = λ lines. refl;
+  job_stays = λ lines. refl;
+}
+
+pub arrives_inhibited : (place : ℕ) → Arrives (record { a = 0; b = 2 }) (inhibited place)
+arrives_inhibited place = record {
+  grows = λ events lines known. known;
+  counts = λ lines. refl;
+  no_item = λ lines. record { recorded_stays = refl; mark_stays = refl; base_stays = refl; orders = tt; covers = tt };
+  reading_stays = λ lines. refl;
+  job_stays = λ lines. refl;
+}
+
+pub arrives_alien : Arrives (record { a = 0; b = 1 }) alien
+arrives_alien = record {
+  grows = λ events lines known. known;
+  counts = λ lines. refl;
+  no_item = λ lines. record { recorded_stays = refl; mark_stays = refl; base_stays = refl; orders = tt; covers = tt };
+  reading_stays = λ lines. refl;
+  job_stays = λ lines. refl;
 }
 
 -- a command is taken
-pub keeps_taken : (command : Command) (addr : ℕ) (events : List Pair) (lines : List Line) → address_of command ≡ addr → Keeps addr events lines → Keeps addr events (taken command ∷ lines)
-keeps_taken command addr events lines there keeps = record {
-  sound =
-      sound_line events lines (taken command) (record { coins_stay = refl; arrivals_stay = refl })
-      (settled_line events lines (taken command) (record { recorded_stays = refl; mark_stays = refl; base_stays = refl }) keeps.sound.settled)
-      tt (λ _. tt) tt keeps.sound;
-  stands = (there, begins);
+
+no_item_taken : (c : Command) (lines : List Line) → IsNoItem lines (taken c)
+no_item_taken c lines = record { recorded_stays = refl; mark_stays = refl; base_stays = refl; orders = tt; covers = tt }
+
+pub begun_stand : (c : Command) (events : List Pair) (lines : List Line) → StandFor c events lines []
+begun_stand (command.Round addr) events lines = begins refl refl
+begun_stand c events lines = tt
+
+pub keeps_taken : (c : Command) (events : List Pair) (lines : List Line) → job (taken c ∷ lines) ≡ works c [] → Keeps events lines → Keeps events (taken c ∷ lines)
+keeps_taken c events lines begun keeps = record {
+  sound = quiet_line events lines (taken c) (record { coins_stay = refl; arrivals_stay = refl }) (no_item_taken c lines) keeps.sound;
+  stands = subst (Stands events (taken c ∷ lines)) (sym begun) (begun_stand c events (taken c ∷ lines));
 }
+
+-- an exchange that reads no credits
+
+no_item_exchange : (asked : Option Request) (got : Option Reply) (lines : List Line) → IsNoItem lines (exchange asked got)
+no_item_exchange asked got lines = record { recorded_stays = refl; mark_stays = refl; base_stays = refl; orders = tt; covers = tt }
+
+sound_exchange : (events : List Pair) (lines : List Line) (asked : Option Request) (got : Option Reply) → Sound events lines → Sound events (exchange asked got ∷ lines)
+sound_exchange events lines asked got sound =
+    quiet_line events lines (exchange asked got) (record { coins_stay = refl; arrivals_stay = refl }) (no_item_exchange asked got lines) sound
+
+-- a job of a round isn't answered
+pub keeps_unheard : (addr : ℕ) (events : List Pair) (lines since : List Line) → job lines ≡ works (command.Round addr) since → credits_read since ≡ None → done since ≡ zero →
+    Keeps events lines → Keeps events (exchange (Some ReadCredits) None ∷ lines)
+keeps_unheard addr events lines since is_job none zero_done keeps = record {
+  sound = sound_exchange events lines (Some ReadCredits) None keeps.sound;
+  stands =
+      subst (λ j. Stands events (exchange (Some ReadCredits) None ∷ lines) (with_line (exchange (Some ReadCredits) None) j)) (sym is_job)
+      (begins none zero_done);
+}
+
+-- a job that is no round makes an exchange
+pub keeps_other : (c : Command) (events : List Pair) (lines since : List Line) (asked : Option Request) (got : Option Reply) → job lines ≡ works c since → ((es : List Pair) (ls ss : List Line) → StandFor c es ls ss) →
+    Keeps events lines → Keeps events (exchange asked got ∷ lines)
+keeps_other c events lines since asked got is_job loose keeps = record {
+  sound = sound_exchange events lines asked got keeps.sound;
+  stands =
+      subst (λ j. Stands events (exchange asked got ∷ lines) (with_line (exchange asked got) j)) (sym is_job)
+      (loose events (exchange asked got ∷ lines) (exchange asked got ∷ since));
+}
+
+-- an end but a clean one
+abbrev pub IsOtherEnd : End → Type 0
+IsOtherEnd Clean = ⊥
+IsOtherEnd end = ⊤
+
+quiet_end : (events : List Pair) (lines : List Line) (end : End) → IsOtherEnd end → Sound events lines → Sound events (ended end ∷ lines)
+quiet_end events lines Clean other sound = absurd other
+quiet_end events lines end other sound =
+    quiet_line events lines (ended end) (record { coins_stay = refl; arrivals_stay = refl })
+    (record { recorded_stays = refl; mark_stays = refl; base_stays = refl; orders = tt; covers = tt }) sound
+
+pub keeps_ended : (events : List Pair) (lines : List Line) (end : End) → IsOtherEnd end → Keeps events lines → Keeps events (ended end ∷ lines)
+keeps_ended events lines end other keeps = record { sound = quiet_end events lines end other keeps.sound; stands = tt }
 
 -- an answered reading of the credits
 sound_read : (events : List Pair) (lines : List Line) (credits : Credits) → Sound events lines → Sound events (read_line credits ∷ lines)
-sound_read events lines credits sound =
-    sound_line events lines (read_line credits) (record { coins_stay = refl; arrivals_stay = refl })
-    (settled_line events lines (read_line credits) (record { recorded_stays = refl; mark_stays = refl; base_stays = refl }) sound.settled)
-    tt (λ _. tt) refl sound
+sound_read events lines credits sound = sound_exchange events lines _ _ sound
 
 -- a reading that shows new events, which the job then holds
-pub keeps_read : (command : Command) (addr : ℕ) (events : List Pair) (lines : List Line) → job lines ≡ works command [] → address_of command ≡ addr → eqb (new_by lines (credits_at events)) 0 ≡ false →
-    Keeps addr events lines → Keeps addr events (read_line (credits_at events) ∷ lines)
-keeps_read command addr events lines at_work there some keeps =
+pub keeps_read : (addr : ℕ) (events : List Pair) (lines since : List Line) → job lines ≡ works (command.Round addr) since → done since ≡ zero → eqb (new_by lines (credits_at events)) 0 ≡ false →
+    Keeps events lines → Keeps events (read_line (credits_at events) ∷ lines)
+keeps_read addr events lines since is_job zero_done some keeps =
+    let line = read_line (credits_at events) in
     let sound = sound_read events lines (credits_at events) keeps.sound in
-    let held : Held events (read_line (credits_at events) ∷ lines) (credits_at events) =
+    let held : Held events (line ∷ lines) (credits_at events) =
     record { later = []; read = events; split = refl; known = keeps.sound.known; settled = sound.settled; credits_are = refl } in
-    record { sound = sound; stands = rw at_work (there, holds (credits_at events) held some) }
+    let stand : Stand events (line ∷ lines) (line ∷ since) = holds (credits_at events) refl (ap suc zero_done) held some in
+    record { sound = sound; stands = subst (λ j. Stands events (line ∷ lines) (with_line line j)) (sym is_job) stand }
 
 -- where a reading shows no event, none is new
 clean_covers : (events : List Pair) (lines : List Line) (settled : Settled events lines) → new_by lines (credits_at events) ≡ 0 → Known events (reading lines) → Near lines → part lines ≡ []
@@ -191,12 +261,11 @@ sound_clean : (events : List Pair) (lines : List Line) → new_by lines (credits
 sound_clean events lines none known sound =
     sound_line events lines (ended Clean) (record { coins_stay = refl; arrivals_stay = refl })
     (clean_settled events lines sound.settled none known)
-    (mark_most events lines sound.settled known) (clean_covers events lines sound.settled none known) tt sound
+    (mark_most events lines sound.settled known) (clean_covers events lines sound.settled none known) sound
 
 -- a reading that shows none ends the job clean
-pub keeps_clean : (addr : ℕ) (events : List Pair) (lines : List Line) → new_by lines (credits_at events) ≡ 0 →
-    Keeps addr events lines → Keeps addr events (ended Clean ∷ read_line (credits_at events) ∷ lines)
-keeps_clean addr events lines none keeps =
+pub keeps_clean : (events : List Pair) (lines : List Line) → new_by lines (credits_at events) ≡ 0 → Keeps events lines → Keeps events (ended Clean ∷ read_line (credits_at events) ∷ lines)
+keeps_clean events lines none keeps =
     let sound = sound_read events lines (credits_at events) keeps.sound in
     record { sound = sound_clean events (read_line (credits_at events) ∷ lines) none keeps.sound.known sound; stands = tt }
 
@@ -218,16 +287,9 @@ sound_put addr events lines credits held sound =
     (put_settled addr events lines credits held)
     (subst (λ c. OrderAt lines (put (record_put addr lines c))) back (put_in_order addr held.read lines held.settled held.known))
     (λ near. subst (λ c. CoverAt lines (put (record_put addr lines c))) back (put_covers addr held.read lines held.settled held.known near))
-    tt sound
-
-sound_posted : (events : List Pair) (lines : List Line) → Sound events lines → Sound events (ended Posted ∷ lines)
-sound_posted events lines sound =
-    sound_line events lines (ended Posted) (record { coins_stay = refl; arrivals_stay = refl })
-    (settled_line events lines (ended Posted) (record { recorded_stays = refl; mark_stays = refl; base_stays = refl }) sound.settled)
-    tt (λ _. tt) tt sound
+    sound
 
 -- a held reading is put, which ends the job
-pub keeps_put : (addr : ℕ) (events : List Pair) (lines : List Line) (credits : Credits) → Held events lines credits →
-    Keeps addr events lines → Keeps addr events (ended Posted ∷ put (record_put addr lines credits) ∷ lines)
+pub keeps_put : (addr : ℕ) (events : List Pair) (lines : List Line) (credits : Credits) → Held events lines credits → Keeps events lines → Keeps events (ended Posted ∷ put (record_put addr lines credits) ∷ lines)
 keeps_put addr events lines credits held keeps =
-    record { sound = sound_posted events _ (sound_put addr events lines credits held keeps.sound); stands = tt }
+    record { sound = quiet_end events _ Posted tt (sound_put addr events lines credits held keeps.sound); stands = tt }

@@ -1,116 +1,97 @@
--- How each row of a job keeps what holds of the one acceptor of a machine.
-use Rattle.std.proofs.Common.{◌≡◌, ℕ, cond, eqb, true, false, Bool, List, [], ◌∷◌, ◌++◌, length, refl, ap, ap₂, sym, ◌∙◌, subst, subst₂, Some, eqb-true, eq-eqb}
-use Rattle.cct_model.specs.declared.wire.CheckKind.TheVariants.{Simple}
+-- What a job at a device sends and puts: no job resets a device, a record is of the job's address, and a job that is no
+-- round puts nothing.
+use Rattle.std.proofs.Common.{◌≡◌, ℕ, zero, suc, ◌==◌, cond, true, false, Bool, List, [], ◌∷◌, refl, Option, Some, None, slice_get}
+use Rattle.std.specs.Prelude.{⊤}
+use Rattle.cct_model.specs.declared.device.DeviceBody.{DeviceBody}
+use Rattle.cct_model.specs.declared.device.DeviceBody.TheVariants.{Acceptor, Hopper}
 use Rattle.cct_model.specs.declared.device.DeviceSetup.{DeviceSetup}
-use Rattle.cct_model.specs.declared.coin.Pair.{Pair}
+use Rattle.cct_model.specs.declared.coin.Coin.{Coin}
 use Rattle.cct_model.specs.declared.coin.Credits.{Credits}
-use Rattle.cct_model.specs.declared.request.Request.TheVariants.{ReadCredits}
+use Rattle.cct_model.specs.declared.request.Request.{Request}
+use Rattle.cct_model.specs.declared.record.Record.TheVariants as record_of
 use Rattle.cct_model.specs.declared.record.Judged.{Judged}
-use Rattle.cct_model.specs.declared.record.Judged.TheVariants.{Nothing, Reading}
+use Rattle.cct_model.specs.declared.record.Judged.TheVariants.{Nothing, Reading, Broken}
 use Rattle.cct_model.specs.declared.command.Command.{Command}
-use Rattle.cct_model.specs.declared.command.Command.TheVariants.{Round}
-use Rattle.cct_model.specs.declared.entry.End.{End}
-use Rattle.cct_model.specs.declared.entry.End.TheVariants.{Clean, Posted}
+use Rattle.cct_model.specs.declared.command.Command.TheVariants as command
 use Rattle.cct_model.specs.declared.entry.Entry.{Entry}
-use Rattle.cct_model.specs.declared.entry.Entry.TheVariants as entry
-use Rattle.cct_model.specs.History.{heard}
-use Rattle.cct_model.specs.Device.{IsAcceptor}
-use Rattle.cct_model.specs.Line.{Line, exchange, put, ended}
-use Rattle.cct_model.specs.Acceptor.{counter, events}
-use Rattle.cct_model.specs.Exchange.{ask, asked, asks_of}
+use Rattle.cct_model.specs.Request.{header_of}
+use Rattle.cct_model.specs.Line.{Line}
 use Rattle.cct_model.specs.Reading.{judge}
-use Rattle.cct_model.specs.Job.{works, job, row, recorded, open_mask, address_of, end_of, end_of_reading, put_row}
-use Rattle.cct_model.specs.Legal.{with_end, RowEntries}
-use Rattle.cct_model.specs.Transcript.{met, lines_of, heard_after, got_by}
-use Rattle.cct_laws.specs.Law.{machine_of}
-use Rattle.cct_laws.proofs.Counters.{counter_zero}
-use Rattle.cct_laws.proofs.Judged.{judge_goes_on, reading_put}
-use Rattle.cct_laws.proofs.Exchanges.{asked_back, asks_back, credits_spelled, credits_exchanged}
-use Rattle.cct_laws.proofs.World.{Settled, Held, credits_at, read_line, new_by, record_put, new_and_old}
-use Rattle.cct_laws.proofs.Moves.{Keeps, Stand, begins, holds, keeps_read, keeps_clean, keeps_put}
+use Rattle.cct_model.specs.Job.{Row, sends, puts, no_row, row, row_at, put_row, send_row, ident_requests, judged_by, judged_in, credits_read, done, address_of}
+use Rattle.cct_model.specs.Transcript.{owner}
 
--- what holds of the one acceptor after a past
-abbrev pub KeepsAt : DeviceSetup → List Entry → Type 0
-KeepsAt d past = Keeps d.addr (events (met d past)) (lines_of d past)
+-- a request is no reset
+abbrev pub IsMildRequest : Request → Type 0
+IsMildRequest q = (header_of q == 1) ≡ false
 
--- the counter read is 0 only where the recorded one is
-goes_on : (events : List Pair) (lines : List Line) (settled : Settled events lines) → counter (length events) ≡ 0 → recorded lines ≡ 0
-goes_on events lines settled first =
-    settled.counted ∙ counter_zero (length settled.new) (length settled.old) (ap counter (sym (new_and_old events lines settled)) ∙ first)
+-- a row resets no device, and puts only records of an address
+abbrev pub IsMild : ℕ → Row → Type 0
+IsMild addr (sends q) = IsMildRequest q
+IsMild addr (puts r) = (past : List Entry) → owner past r ≡ addr
+IsMild addr no_row = ⊤
 
--- what a reading of an acceptor means
-judged_at : (addr : ℕ) (events : List Pair) (lines : List Line) → Settled events lines →
-    judge addr open_mask (recorded lines) (credits_at events) open_mask ≡ cond (eqb (new_by lines (credits_at events)) 0) Nothing (reading_put addr (new_by lines (credits_at events)) (credits_at events))
-judged_at addr events lines settled = judge_goes_on addr open_mask (recorded lines) (credits_at events) (goes_on events lines settled)
+-- a row puts nothing, and a fact holds of the request that it sends
+abbrev pub IfSends : (Request → Type 0) → Row → Type 0
+IfSends P (sends q) = P q
+IfSends P (puts r) = ⊥
+IfSends P no_row = ⊤
 
--- the line of the exchange that reads the credits
-wire_line : (d : DeviceSetup) (past : List Entry) → d.kind ≡ Simple → IsAcceptor d.body →
-    exchange (asked d.kind (ask d.kind d.addr ReadCredits)) (got_by d (ask d.kind d.addr ReadCredits) (heard_after (machine_of d) past (ask d.kind d.addr ReadCredits))) ≡ read_line (credits_at (events (met d past)))
-wire_line d past simple accepting =
-    subst (λ k. exchange (asked k (ask k d.addr ReadCredits)) (got_by d (ask k d.addr ReadCredits) (heard_after (machine_of d) past (ask k d.addr ReadCredits))) ≡ read_line (credits_at (events (met d past)))) (sym simple)
-    (ap₂ exchange (asked_back d.addr ReadCredits credits_spelled) (credits_exchanged d past simple accepting))
+-- a fact of each request of a list
+abbrev pub Each : (Request → Type 0) → List Request → Type 0
+Each P [] = ⊤
+Each P (q ∷ qs) = P q × Each P qs
 
--- what is asked in it resets nothing
-asks_credits : (d : DeviceSetup) → d.kind ≡ Simple → asks_of d (ask d.kind d.addr ReadCredits) ≡ Some ReadCredits
-asks_credits d simple = subst (λ k. asks_of d (ask k d.addr ReadCredits) ≡ Some ReadCredits) (sym simple) (asks_back d ReadCredits simple credits_spelled)
+pub each_row : (P : Request → Type 0) (qs : List Request) (i : ℕ) → Each P qs → IfSends P (send_row (slice_get qs i))
+each_row P [] i each = tt
+each_row P (q ∷ qs) zero each = each.0
+each_row P (q ∷ qs) (suc i) each = each_row P qs i each.1
 
-events_wire : (d : DeviceSetup) (past : List Entry) (sent : List ℕ) → asks_of d sent ≡ Some ReadCredits → events (heard (asks_of d sent) ∷ met d past) ≡ events (met d past)
-events_wire d past sent asks = ap (λ q. events (heard q ∷ met d past)) asks
+ident_mild : (body : DeviceBody) → Each IsMildRequest (ident_requests body)
+ident_mild (Acceptor accepts values ids) =
+    (refl, (refl, (refl, (refl, (refl, (refl, (refl, (refl, (refl, (refl, (refl, (refl, (refl, (refl, (refl, (refl, (refl, (refl, (refl, (refl, (refl, (refl, (refl, (refl, (refl, (refl, tt))))))))))))))))))))))))))
+ident_mild (Hopper life value) = (refl, (refl, (refl, (refl, (refl, (refl, (refl, (refl, tt))))))))
 
--- the lines of an entry of a device's own address
-lines_wire : (d : DeviceSetup) (past : List Entry) (sent piece : List ℕ) (line : Line) → exchange (asked d.kind sent) (got_by d sent piece) ≡ line →
-    lines_of d (entry.Wire d.addr sent piece ∷ past) ≡ line ∷ lines_of d past
-lines_wire d past sent piece line is_line = rw (eq-eqb d.addr d.addr refl) (ap (λ l. l ∷ lines_of d past) is_line)
+-- the two requests of a path, by whether the place is 0
+set_by : (P : Request → Type 0) (first second : Request) (b : Bool) → P first → P second → P (cond b first second)
+set_by P first second true p q = p
+set_by P first second false p q = q
 
-lines_ended : (d : DeviceSetup) (past : List Entry) (end : End) → lines_of d (entry.Ended d.addr end ∷ past) ≡ ended end ∷ lines_of d past
-lines_ended d past end = rw (eq-eqb d.addr d.addr refl) refl
+-- a command begins no round
+abbrev pub IsNoRound : Command → Type 0
+IsNoRound (command.Round addr) = ⊥
+IsNoRound c = ⊤
 
-lines_put : (d : DeviceSetup) (past : List Entry) (credits : Credits) (addr : ℕ) → addr ≡ d.addr →
-    lines_of d (entry.Put (record_put addr (lines_of d past) credits) ∷ past) ≡ put (record_put d.addr (lines_of d past) credits) ∷ lines_of d past
-lines_put d past credits addr here = rw (here, eq-eqb d.addr d.addr refl) refl
+-- a job that is no round sends what is mild, and puts nothing
+pub other_row : (body : DeviceBody) (c : Command) (rows : ℕ) (judged : Judged) → IsNoRound c → IfSends IsMildRequest (row_at body c rows judged)
+other_row body (command.Round addr) rows judged other = absurd other
+other_row body (command.Ident addr) rows judged other = each_row IsMildRequest (ident_requests body) rows (ident_mild body)
+other_row body (command.Path addr place path) zero judged other = set_by IsMildRequest _ _ (place == 0) refl refl
+other_row body (command.Path addr place path) (suc zero) judged other = set_by IsMildRequest _ _ (place == 0) refl refl
+other_row body (command.Path addr place path) (suc (suc rows)) judged other = tt
+other_row body c rows judged other = tt
 
--- the reading of the credits, by whether it shows new events
-read_by : (d : DeviceSetup) (past : List Entry) (command : Command) (sent piece : List ℕ) (none : Bool) → asks_of d sent ≡ Some ReadCredits →
-    exchange (asked d.kind sent) (got_by d sent piece) ≡ read_line (credits_at (events (met d past))) →
-    job (lines_of d past) ≡ works command [] → address_of command ≡ d.addr →
-    eqb (new_by (lines_of d past) (credits_at (events (met d past)))) 0 ≡ none → KeepsAt d past →
-    KeepsAt d (with_end d.addr (entry.Wire d.addr sent piece) (end_of_reading (cond none Nothing (reading_put (address_of command) (new_by (lines_of d past) (credits_at (events (met d past)))) (credits_at (events (met d past)))))) ++ past)
-read_by d past command sent piece true asks is_line is_job here none keeps =
-    subst₂ (Keeps d.addr) (sym (events_wire d past sent asks)) (sym (lines_ended d (entry.Wire d.addr sent piece ∷ past) Clean ∙ ap (λ ls. ended Clean ∷ ls) (lines_wire d past sent piece _ is_line)))
-    (keeps_clean d.addr _ (lines_of d past) (eqb-true _ _ none) keeps)
-read_by d past command sent piece false asks is_line is_job here some keeps =
-    subst₂ (Keeps d.addr) (sym (events_wire d past sent asks)) (sym (lines_wire d past sent piece _ is_line))
-    (keeps_read command d.addr _ (lines_of d past) is_job here some keeps)
+mild_if : (addr : ℕ) (r : Row) → IfSends IsMildRequest r → IsMild addr r
+mild_if addr (sends q) mild = mild
+mild_if addr (puts r) mild = absurd mild
+mild_if addr no_row mild = tt
 
-step_read : (d : DeviceSetup) (past news : List Entry) (addr : ℕ) → d.kind ≡ Simple → IsAcceptor d.body → job (lines_of d past) ≡ works (Round addr) [] → addr ≡ d.addr →
-    RowEntries (machine_of d) d past (Round addr) [] (row (Round addr) [] (recorded (lines_of d past))) news → KeepsAt d past → KeepsAt d (news ++ past)
-step_read d past news addr simple accepting is_job here told keeps =
-    let sent = ask d.kind d.addr ReadCredits in
-    let piece = heard_after (machine_of d) past sent in
-    let is_line = wire_line d past simple accepting in
-    let end_is = ap (λ l. end_of (Round addr) l [] (recorded (lines_of d past))) is_line ∙ ap end_of_reading (judged_at addr (events (met d past)) (lines_of d past) keeps.sound.settled) in
-    subst (λ ns. KeepsAt d (ns ++ past)) (sym (told ∙ ap (with_end d.addr (entry.Wire d.addr sent piece)) end_is))
-    (read_by d past (Round addr) sent piece _ (asks_credits d simple) is_line is_job here refl keeps)
+judged_mild : (addr seen read lost : ℕ) (ps qs : List Coin) (breaks none : Bool) →
+    IsMild addr (put_row (cond breaks (Broken (record_of.Broken addr seen read ps)) (cond none Nothing (Reading (record_of.Reading addr read lost qs)))))
+judged_mild addr seen read lost ps qs true none = λ past. refl
+judged_mild addr seen read lost ps qs false true = tt
+judged_mild addr seen read lost ps qs false false = λ past. refl
 
--- a reading that is held is put
-judged_held : (addr : ℕ) (events : List Pair) (lines : List Line) (credits : Credits) → Held events lines credits → eqb (new_by lines credits) 0 ≡ false →
-    judge addr open_mask (recorded lines) credits open_mask ≡ Reading (record_put addr lines credits)
-judged_held addr events lines credits held some =
-    judge_goes_on addr open_mask (recorded lines) credits (λ first. goes_on held.read lines held.settled (sym (ap (λ c. c.counter) held.credits_are) ∙ first))
-    ∙ rw some refl
+judge_mild : (addr counter : ℕ) (credits : Option Credits) → IsMild addr (put_row (judged_by addr counter credits))
+unfolding judge
+judge_mild addr counter None = tt
+judge_mild addr counter (Some credits) = judged_mild addr _ _ _ _ _ _ _
 
-step_put : (d : DeviceSetup) (past news : List Entry) (addr : ℕ) (credits : Credits) → addr ≡ d.addr →
-    Held (events (met d past)) (lines_of d past) credits → eqb (new_by (lines_of d past) credits) 0 ≡ false →
-    RowEntries (machine_of d) d past (Round addr) (read_line credits ∷ []) (row (Round addr) (read_line credits ∷ []) (recorded (lines_of d past))) news → KeepsAt d past → KeepsAt d (news ++ past)
-step_put d past news addr credits here held some told keeps =
-    let rows = λ (j : Judged). RowEntries (machine_of d) d past (Round addr) (read_line credits ∷ []) (put_row j) news in
-    let news_are : news ≡ entry.Ended d.addr Posted ∷ entry.Put (record_put addr (lines_of d past) credits) ∷ [] = subst rows (judged_held addr _ (lines_of d past) credits held some) told in
-    let lines_are = lines_ended d (entry.Put (record_put addr (lines_of d past) credits) ∷ past) Posted ∙ ap (λ ls. ended Posted ∷ ls) (lines_put d past credits addr here) in
-    subst (λ ns. KeepsAt d (ns ++ past)) (sym news_are)
-    (subst (Keeps d.addr (events (met d past))) (sym lines_are) (keeps_put d.addr _ (lines_of d past) credits held keeps))
+round_mild : (body : DeviceBody) (addr rows : ℕ) (judged : Judged) → IsMild addr (put_row judged) → IsMild addr (row_at body (command.Round addr) rows judged)
+round_mild body addr zero judged mild = refl
+round_mild body addr (suc zero) judged mild = mild
+round_mild body addr (suc (suc rows)) judged mild = tt
 
--- a row of a job
-pub step_row : (d : DeviceSetup) (past news : List Entry) (command : Command) (since : List Line) → d.kind ≡ Simple → IsAcceptor d.body → job (lines_of d past) ≡ works command since → address_of command ≡ d.addr →
-    Stand (events (met d past)) (lines_of d past) since → RowEntries (machine_of d) d past command since (row command since (recorded (lines_of d past))) news → KeepsAt d past → KeepsAt d (news ++ past)
-step_row d past news (Round addr) since simple accepting is_job here begins told keeps = step_read d past news addr simple accepting is_job here told keeps
-step_row d past news (Round addr) since simple accepting is_job here (holds credits held some) told keeps = step_put d past news addr credits here held some told keeps
+-- the row of any job is mild
+pub row_mild : (d : DeviceSetup) (c : Command) (since : List Line) (counter : ℕ) → IsMild (address_of c) (row d c since counter)
+row_mild d (command.Round addr) since counter = round_mild d.body addr (done since) (judged_in (command.Round addr) since counter) (judge_mild addr counter (credits_read since))
+row_mild d c since counter = mild_if (address_of c) (row d c since counter) (other_row d.body c (done since) (judged_in c since counter) tt)

@@ -1,175 +1,199 @@
--- What every script says is in range: its setup, its steps, and how many coins it has.
-use Rattle.std.proofs.Common.{◌≡◌, ℕ, ◌+◌, ◌-◌, ◌<◌, ◌≤◌, cond, leb, ltb, ◌&&◌, true, false, Bool, List, [], ◌∷◌, ◌++◌, length, le_refl, codes, bytes_eq, refl, subst, Option, Some, None, option_and_then, All, arith, leb-true, ltb-true}
-use Rattle.std.proofs.lemmas.Bool.{and_parts}
-use Rattle.std.proofs.lemmas.List.Elements.{All-from_recursion, All-weaker}
+-- What every script says is in range: its setup, its steps, and how many pieces they are.
+use Rattle.std.proofs.Common.{◌≡◌, ℕ, ◌+◌, ◌-◌, ◌<◌, ◌≤◌, nat_lt, Bool, true, false, cond, List, [], ◌∷◌, ◌++◌, length, refl, sym, subst, Result, Ok, Err, All, le_refl, append-nil, arith}
+use Rattle.std.specs.Prelude.{⊤}
 use Rattle.std.specs.List.{AllByRecursion, slice_split}
-use Rattle.cct_model.specs.declared.command.Command.TheVariants.{Round}
+use Rattle.std.proofs.lemmas.Bool.Decides.{nat_tests}
+use Rattle.std.proofs.lemmas.List.Elements.{All-from_recursion, All-weaker, All-nil}
+use Rattle.cct_model.specs.declared.device.DeviceSetup.{DeviceSetup}
+use Rattle.cct_model.specs.declared.device.Setup.{Setup}
+use Rattle.cct_model.specs.declared.device.SetupLine.{SetupLine}
+use Rattle.cct_model.specs.declared.device.SetupLine.TheVariants as says
 use Rattle.cct_model.specs.declared.command.Step.{Step}
 use Rattle.cct_model.specs.declared.command.Step.TheVariants as step
 use Rattle.cct_model.specs.declared.entry.Entry.{Entry}
 use Rattle.cct_model.specs.declared.entry.LineKind.{LineKind}
 use Rattle.cct_model.specs.declared.entry.LineKind.TheVariants as kind
 use Rattle.cct_model.specs.Claims.{InOrder, Covers}
-use Rattle.cct_model.specs.Legal.{Legal}
-use Rattle.cct_model.specs.Script.{Stage, at_device, at_begin, at_steps, Read, opens, plays, ends, refuses, Script, IsInRange, coin_steps, most_coins, one_acceptor, the_acceptor, the_address, number_in, within, is_space, is_line_feed, most_lines, most_bytes, place_in, plain_step, step_in, read_step, read_form, read_line, stage_after, goes_on, script_from, script}
-use Rattle.cct_laws.specs.Law.{machine_of, HasPlace, lines_in}
+use Rattle.cct_model.specs.Device.{IsSound, IsAcceptor}
+use Rattle.cct_model.specs.Grammar.{setup_line, step_line, added}
+use Rattle.cct_model.specs.Legal.{Legal, is_played}
+use Rattle.cct_model.specs.Script.{Stage, at_setup, at_steps, at_end, setup_at, Read, opens, plays, refuses, opened, read_setup_line, most_coins, coins_after, is_known, read_known, read_step_line, read_form, most_lines, most_bytes, is_over, read_line, Script, stage_after, goes_on, script_from, no_devices, script, word_of, is_setup_word, is_step_word, is_line_feed, IsInRange}
+use Rattle.cct_model.proofs.Added.{AreAll, KeepsEach, added_keeps}
+use Rattle.cct_model.specs.Text.{text}
+use Rattle.cct_text.proofs.Whole.{text_is_one}
+use Rattle.cct_laws.specs.Honest.{Honest}
+use Rattle.cct_laws.specs.Law.{IsOf, HasAllIds, HasBytes, IsNoReset, AreOfToday, IsSetupOfToday, lines_in}
+use Rattle.cct_laws.specs.Pace.{pieces_after, piece_steps}
+use Rattle.cct_laws.proofs.Setups.{found_in}
+use Rattle.cct_laws.proofs.Said.{Fit, IsFitLine, IfSaid, IsToday, setup_said, step_said}
 use Rattle.cct_laws.proofs.Whole.{legal_in_order, legal_covers}
 use Rattle.cct_laws.proofs.Paces.{legal_keeps_pace}
+use Rattle.cct_laws.proofs.Texts.{legal_written}
 
--- how many coin lines are left
-abbrev pub room : Stage → ℕ
-room at_device = most_coins
-room at_begin = most_coins
-room (at_steps coin_lines) = most_coins - coin_lines
+-- a step that a script can have
+abbrev IsPlain : Step → Type 0
+IsPlain s = IsInRange s × IsNoReset s × (is_played s ≡ true) × HasBytes s
 
--- a step that a line spells is in range, but for the end
-abbrev pub IsSpelt : Option Step → Type 0
-IsSpelt None = Unit
-IsSpelt (Some (step.Coin addr place)) = IsInRange (step.Coin addr place)
-IsSpelt (Some (step.Next addr)) = IsInRange (step.Next addr)
-IsSpelt (Some (step.Command command)) = IsInRange (step.Command command)
-IsSpelt (Some step.End) = Unit
+-- how many pieces the lines that are left may say
+abbrev room : Stage → ℕ
+room (at_setup setup) = most_coins
+room (at_steps setup coin_lines) = most_coins - coin_lines
+room (at_end setup) = 0
 
--- a line plays a step in range, and leaves no more room than there was
-abbrev pub IsRead : Stage → Read → Type 0
-IsRead stage (opens next) = room next ≤ room stage
-IsRead stage (plays s next) = IsInRange s × (coin_steps (s ∷ []) + room next ≤ room stage)
-IsRead stage ends = Unit
-IsRead stage (refuses why) = Unit
+-- a line keeps the setup, plays a step that a script can have, and leaves no more room than there was
+abbrev IsRead : Stage → Read → Type 0
+IsRead stage (opens next) = AreAll Fit (setup_at next) × (room next ≤ room stage)
+IsRead stage (plays s next) = IsPlain s × AreAll Fit (setup_at next) × (pieces_after s 0 + room next ≤ room stage)
+IsRead stage (refuses why) = ⊤
 
 -- what the lines from a stage on say
-pub record IsSaid (left : ℕ) (said : Script) : Type 0 where
-  pub setup_is : said.setup ≡ one_acceptor
-  pub in_range : AllByRecursion IsInRange said.steps
-  pub few : coin_steps said.steps ≤ left
+pub record IsAllSaid (left : ℕ) (said : Script) : Type 0 where
+  pub fits : AreAll Fit said.setup
+  pub plain : AllByRecursion IsPlain said.steps
+  pub few : piece_steps said.steps ≤ left
 
-spelt_if : (b : Bool) (x y : Option Step) → IsSpelt x → IsSpelt y → IsSpelt (cond b x y)
-spelt_if true x y known other = known
-spelt_if false x y known other = other
+-- a setup line
+opened_read : (setup : Setup) (line : SetupLine) (r : Result Setup LineKind) → added setup line ≡ r → KeepsEach Fit line → AreAll Fit setup → IsRead (at_setup setup) (opened r)
+opened_read setup line (Ok new) was keeps all = (added_keeps Fit setup new line keeps all was, le_refl most_coins)
+opened_read setup line (Err why) was keeps all = tt
 
-spelt_plain : (word : List ℕ) → IsSpelt (plain_step word)
-spelt_plain word =
-    spelt_if (bytes_eq word (codes "round")) (Some (step.Command (Round the_address))) _ refl
-    (spelt_if (bytes_eq word (codes "next")) (Some (step.Next the_address)) None refl tt)
+setup_read : (setup : Setup) (r : Result SetupLine LineKind) → IfSaid IsFitLine r → AreAll Fit setup → IsRead (at_setup setup) (read_setup_line setup r)
+setup_read setup (Err why) fit all = tt
+setup_read setup (Ok says.Begin) fit all = (all, omega arith)
+setup_read setup (Ok (says.Acceptor d)) fit all = opened_read setup (says.Acceptor d) _ refl fit all
+setup_read setup (Ok (says.Hopper d)) fit all = absurd fit
+setup_read setup (Ok (says.Value addr place value id)) fit all = opened_read setup (says.Value addr place value id) _ refl fit all
+setup_read setup (Ok (says.Named addr texts)) fit all = opened_read setup (says.Named addr texts) _ refl fit all
 
-spelt_within : (b : Bool) (place : ℕ) → (b ≡ true → (1 ≤ place) × (place ≤ 16)) → IsSpelt (option_and_then (λ p. Some (step.Coin the_address p)) (cond b (Some place) None))
-spelt_within true place known = (refl, (known refl).0, (known refl).1)
-spelt_within false place known = tt
+-- a step line
+not_over : (n : ℕ) → nat_lt most_coins n ≡ false → n ≤ 200
+not_over n test = grind (arith, nat_tests)
 
-spelt_number : (number : Option ℕ) → IsSpelt (option_and_then (λ p. Some (step.Coin the_address p)) (option_and_then (within 1 16) number))
-spelt_number None = tt
-spelt_number (Some n) = spelt_within (leb 1 n && leb n 16) n (λ both. let parts = and_parts _ _ both in (leb-true 1 n parts.0, leb-true n 16 parts.1))
+known_read : (over known : Bool) (setup : Setup) (coin_lines : ℕ) (s : Step) → nat_lt most_coins (coins_after s coin_lines) ≡ over → AreAll Fit setup → IsPlain s →
+    (coins_after s coin_lines ≤ 200 → pieces_after s 0 + (200 - coins_after s coin_lines) ≤ 200 - coin_lines) →
+    IsRead (at_steps setup coin_lines) (cond over (refuses kind.Form) (cond known (plays s (at_steps setup (coins_after s coin_lines))) (refuses kind.Device)))
+known_read true known setup coin_lines s test all plain leaves = tt
+known_read false true setup coin_lines s test all plain leaves = (plain, all, leaves (not_over (coins_after s coin_lines) test))
+known_read false false setup coin_lines s test all plain leaves = tt
 
--- a spelt step is in range
-step_spelt : (fields : List (List ℕ)) → IsSpelt (step_in fields)
-unfolding step_in place_in
-step_spelt [] = tt
-step_spelt (word ∷ []) = spelt_if (bytes_eq word (codes "end")) (Some step.End) None tt tt
-step_spelt (word ∷ addr ∷ []) = spelt_if (bytes_eq addr (codes "2")) (plain_step word) None (spelt_plain word) tt
-step_spelt (word ∷ addr ∷ field ∷ []) =
-    spelt_if (bytes_eq word (codes "coin") && bytes_eq addr (codes "2")) (option_and_then (λ p. Some (step.Coin the_address p)) (option_and_then (within 1 16) (number_in field))) None
-    (spelt_number (number_in field)) tt
-step_spelt (word ∷ addr ∷ field ∷ more ∷ rest) = tt
+step_known : (setup : Setup) (coin_lines : ℕ) (s : Step) → AreAll Fit setup → IsPlain s → (coins_after s coin_lines ≤ 200 → pieces_after s 0 + (200 - coins_after s coin_lines) ≤ 200 - coin_lines) →
+    IsRead (at_steps setup coin_lines) (read_known setup coin_lines s)
+step_known setup coin_lines s all plain leaves = known_read (nat_lt most_coins (coins_after s coin_lines)) (is_known setup s) setup coin_lines s refl all plain leaves
 
-coin_read : (b : Bool) (coin_lines addr place : ℕ) → ltb coin_lines most_coins ≡ b → IsInRange (step.Coin addr place) →
-    IsRead (at_steps coin_lines) (cond b (plays (step.Coin addr place) (at_steps (coin_lines + 1))) (refuses kind.Form))
-coin_read true coin_lines addr place test known = (known, omega (arith, ltb-true coin_lines 200 test))
-coin_read false coin_lines addr place test known = tt
+step_read : (setup : Setup) (coin_lines : ℕ) (r : Result Step LineKind) → IfSaid IsToday r → AreAll Fit setup → IsRead (at_steps setup coin_lines) (read_step_line setup coin_lines r)
+step_read setup coin_lines (Err why) today all = tt
+step_read setup coin_lines (Ok step.End) today all = (all, omega arith)
+step_read setup coin_lines (Ok (step.Coin addr place)) today all = step_known setup coin_lines (step.Coin addr place) all (today, tt, refl, tt) (λ most. omega (arith, most))
+step_read setup coin_lines (Ok (step.Next addr)) today all = step_known setup coin_lines (step.Next addr) all (tt, tt, refl, today) (λ most. omega arith)
+step_read setup coin_lines (Ok (step.Fault f)) today all = step_known setup coin_lines (step.Fault f) all (today.0, tt, refl, today.1) (λ most. omega arith)
+step_read setup coin_lines (Ok (step.Command c)) today all = step_known setup coin_lines (step.Command c) all (today.1, tt, today.0, today.2) (λ most. omega arith)
+step_read setup coin_lines (Ok s) today all = absurd today
 
-step_read : (coin_lines : ℕ) (spelt : Option Step) → IsSpelt spelt → IsRead (at_steps coin_lines) (read_step coin_lines spelt)
-step_read coin_lines None known = tt
-step_read coin_lines (Some step.End) known = tt
-step_read coin_lines (Some (step.Coin addr place)) known = coin_read _ coin_lines addr place refl known
-step_read coin_lines (Some (step.Next addr)) known = (known, omega arith)
-step_read coin_lines (Some (step.Command command)) known = (known, omega arith)
+-- a line
+read_if : (stage : Stage) (b : Bool) (r : Read) → (b ≡ true → IsRead stage r) → IsRead stage (cond b r (refuses kind.Word))
+read_if stage true r holds = holds refl
+read_if stage false r holds = tt
 
-opens_if : (b : Bool) (stage next : Stage) → room next ≤ room stage → IsRead stage (cond b (opens next) (refuses kind.Form))
-opens_if true stage next most = most
-opens_if false stage next most = tt
-
-form_read : (stage : Stage) (line : List ℕ) → IsRead stage (read_form stage line)
+form_read : (stage : Stage) (line : List ℕ) → AreAll Fit (setup_at stage) → IsRead stage (read_form stage line)
 unfolding read_form
-form_read at_device line = opens_if (bytes_eq line (codes "acceptor 2 simple 1 0")) at_device at_begin (le_refl _)
-form_read at_begin line = opens_if (bytes_eq line (codes "begin")) at_begin (at_steps 0) (le_refl _)
-form_read (at_steps coin_lines) line = step_read coin_lines (step_in (slice_split is_space line)) (step_spelt (slice_split is_space line))
+form_read (at_setup setup) line all = read_if (at_setup setup) (is_setup_word (word_of line)) _ (λ played. setup_read setup (setup_line line) (setup_said line played) all)
+form_read (at_steps setup coin_lines) line all = read_if (at_steps setup coin_lines) (is_step_word (word_of line)) _ (λ played. step_read setup coin_lines (step_line line) (step_said line played) all)
+form_read (at_end setup) line all = tt
 
 refused_if : (b : Bool) (stage : Stage) (why : LineKind) (r : Read) → IsRead stage r → IsRead stage (cond b (refuses why) r)
 refused_if true stage why r known = tt
 refused_if false stage why r known = known
 
-line_read : (number : ℕ) (stage : Stage) (line : List ℕ) → IsRead stage (read_line number stage line)
-line_read number stage line =
-    refused_if (ltb most_lines number) stage kind.Lines _ (refused_if (ltb most_bytes (length line)) stage kind.Long _ (form_read stage line))
+line_read : (number : ℕ) (stage : Stage) (line : List ℕ) → AreAll Fit (setup_at stage) → IsRead stage (read_line number stage line)
+line_read number stage line all =
+    refused_if (is_over stage) stage kind.Trailing _
+    (refused_if (nat_lt most_lines number) stage kind.Lines _ (refused_if (nat_lt most_bytes (length line)) stage kind.Long _ (form_read stage line all)))
 
-coins_more : (s : Step) (steps : List Step) → coin_steps (s ∷ steps) ≡ coin_steps (s ∷ []) + coin_steps steps
-coins_more (step.Coin addr place) steps = omega arith
-coins_more (step.Next addr) steps = omega arith
-coins_more (step.Command command) steps = omega arith
-coins_more step.End steps = omega arith
+-- the setup after it
+after_fits : (stage : Stage) (r : Read) → IsRead stage r → AreAll Fit (setup_at stage) → AreAll Fit (setup_at (stage_after stage r))
+after_fits stage (opens next) known all = known.0
+after_fits stage (plays s next) known all = known.1
+after_fits stage (refuses why) known all = all
+
+pieces_more : (s : Step) (steps : List Step) → piece_steps (s ∷ steps) ≡ pieces_after s 0 + piece_steps steps
+pieces_more (step.Coin addr place) steps = omega arith
+pieces_more (step.Alien addr) steps = omega arith
+pieces_more s steps = omega arith
 
 -- a line, and what the lines after it say
-said_on : (number : ℕ) (stage : Stage) (r : Read) (rest : Script) → IsRead stage r → IsSaid (room (stage_after stage r)) rest → IsSaid (room stage) (goes_on number r rest)
-said_on number stage (opens next) rest known said = record { setup_is = said.setup_is; in_range = said.in_range; few = omega (arith, said.few, known) }
-said_on number stage (plays s next) rest known said = record { setup_is = said.setup_is; in_range = (known.0, said.in_range); few = omega (arith, said.few, known.1, coins_more s rest.steps) }
-said_on number stage ends rest known said = record { setup_is = refl; in_range = tt; few = omega arith }
-said_on number stage (refuses why) rest known said = record { setup_is = refl; in_range = tt; few = omega arith }
+said_on : (number : ℕ) (stage : Stage) (r : Read) (rest : Script) → IsRead stage r → AreAll Fit (setup_at stage) → IsAllSaid (room (stage_after stage r)) rest → IsAllSaid (room stage) (goes_on number stage r rest)
+said_on number stage (opens next) rest known all said = record { fits = said.fits; plain = said.plain; few = omega (arith, said.few, known.1) }
+said_on number stage (plays s next) rest known all said = record { fits = said.fits; plain = (known.0, said.plain); few = omega (arith, said.few, known.2, pieces_more s rest.steps) }
+said_on number stage (refuses why) rest known all said = record { fits = all; plain = tt; few = omega arith }
 
-said_from : (number : ℕ) (stage : Stage) (parts : List (List ℕ)) → IsSaid (room stage) (script_from number stage parts)
-said_from number stage [] = record { setup_is = refl; in_range = tt; few = omega arith }
-said_from number stage (rest ∷ []) = record { setup_is = refl; in_range = tt; few = omega arith }
-said_from number stage (line ∷ next ∷ parts) =
-    said_on number stage (read_line number stage line) _ (line_read number stage line)
-    (said_from (number + 1) (stage_after stage (read_line number stage line)) (next ∷ parts))
+said_from : (number : ℕ) (stage : Stage) (parts : List (List ℕ)) → AreAll Fit (setup_at stage) → IsAllSaid (room stage) (script_from number stage parts)
+said_from number stage [] all = record { fits = all; plain = tt; few = omega arith }
+said_from number stage (rest ∷ []) all = record { fits = all; plain = tt; few = omega arith }
+said_from number stage (line ∷ next ∷ parts) all =
+    let r = read_line number stage line in
+    let known : IsRead stage r = line_read number stage line all in
+    said_on number stage r _ known all (said_from (number + 1) (stage_after stage r) (next ∷ parts) (after_fits stage r known all))
 
 -- what bytes say
-pub said : (bytes : List ℕ) → IsSaid most_coins (script bytes)
+said : (bytes : List ℕ) → IsAllSaid most_coins (script bytes)
 unfolding script
-said bytes = said_from 1 at_device (slice_split is_line_feed bytes)
+said bytes = said_from 1 (at_setup no_devices) (slice_split is_line_feed bytes) (record { each = All-nil Fit; distinct = tt })
 
--- a front of steps in range is in range
-front_in_range : (played rest : List Step) → AllByRecursion IsInRange (played ++ rest) → AllByRecursion IsInRange played
-front_in_range [] rest all = tt
-front_in_range (s ∷ played) rest all = (all.0, front_in_range played rest all.1)
+-- a front of the steps
+front_plain : (played rest : List Step) → AllByRecursion IsPlain (played ++ rest) → AllByRecursion IsPlain played
+front_plain [] rest all = tt
+front_plain (s ∷ played) rest all = (all.0, front_plain played rest all.1)
 
-front_few : (played rest : List Step) → coin_steps played ≤ coin_steps (played ++ rest)
+front_few : (played rest : List Step) → piece_steps played ≤ piece_steps (played ++ rest)
 front_few [] rest = omega arith
-front_few (s ∷ played) rest = omega (arith, coins_more s played, coins_more s (played ++ rest), front_few played rest)
-
--- a step in range has a place where it is a coin
-has_place : (s : Step) → IsInRange s → HasPlace s
-has_place (step.Coin addr place) known = known.1
-has_place (step.Next addr) known = tt
-has_place (step.Command command) known = tt
-has_place step.End known = tt
+front_few (s ∷ played) rest = omega (arith, pieces_more s played, pieces_more s (played ++ rest), front_few played rest)
 
 -- the setup of a script
-pub setup_of_script : (bytes : List ℕ) → (script bytes).setup ≡ one_acceptor
-setup_of_script bytes = (said bytes).setup_is
+pub setup_of_today : (bytes : List ℕ) → IsSetupOfToday (script bytes).setup
+setup_of_today bytes =
+    let all = (said bytes).fits in
+    record {
+      sound = record { devices = All-weaker Fit IsSound (λ d fit. fit.sound) (script bytes).setup.devices all.each; distinct = all.distinct };
+      acceptors = All-weaker Fit (λ d. IsAcceptor d.body) (λ d fit. fit.accepting) (script bytes).setup.devices all.each;
+      ids = All-weaker Fit (λ d. HasAllIds d.body) (λ d fit. fit.whole) (script bytes).setup.devices all.each;
+    }
 
--- a front of a script is in range
-pub played_in_range : (bytes : List ℕ) (played rest : List Step) → (script bytes).steps ≡ played ++ rest → All IsInRange played
-played_in_range bytes played rest fronts =
-    All-from_recursion IsInRange played (front_in_range played rest (subst (AllByRecursion IsInRange) fronts (said bytes).in_range))
+-- a front of the steps of a script
+pub front_of_today : (bytes : List ℕ) (played rest : List Step) → (script bytes).steps ≡ played ++ rest → AreOfToday played
+front_of_today bytes played rest fronts =
+    let plain : All IsPlain played = All-from_recursion IsPlain played (front_plain played rest (subst (AllByRecursion IsPlain) fronts (said bytes).plain)) in
+    let few : piece_steps (played ++ rest) ≤ most_coins = subst (λ steps. piece_steps steps ≤ most_coins) fronts (said bytes).few in
+    record {
+      in_range = All-weaker IsPlain IsInRange (λ s is. is.0) played plain;
+      played = All-weaker IsPlain (λ s. is_played s ≡ true) (λ s is. is.2) played plain;
+      no_reset = All-weaker IsPlain IsNoReset (λ s is. is.1) played plain;
+      bytes = All-weaker IsPlain HasBytes (λ s is. is.3) played plain;
+      few = omega (arith, few, front_few played rest);
+    }
 
-pub played_few : (bytes : List ℕ) (played rest : List Step) → (script bytes).steps ≡ played ++ rest → coin_steps played ≤ most_coins
-played_few bytes played rest fronts =
-    let few : coin_steps (played ++ rest) ≤ most_coins = subst (λ steps. coin_steps steps ≤ most_coins) fronts (said bytes).few in
-    omega (arith, few, front_few played rest)
+-- and all of them
+pub steps_of_today : (bytes : List ℕ) → AreOfToday (script bytes).steps
+steps_of_today bytes = front_of_today bytes (script bytes).steps [] (sym (append-nil (script bytes).steps))
 
--- the same of the whole script
-pub script_in_range : (bytes : List ℕ) → All IsInRange (script bytes).steps
-script_in_range bytes = All-from_recursion IsInRange (script bytes).steps (said bytes).in_range
-
-pub script_few : (bytes : List ℕ) → coin_steps (script bytes).steps ≤ most_coins
-script_few bytes = (said bytes).few
-
--- a script that was played up to a step posts in order and loses none in silence
-pub played_holds : (bytes : List ℕ) (played rest : List Step) (transcript : List Entry) → (script bytes).steps ≡ played ++ rest → Legal (script bytes).setup played transcript →
-    InOrder (lines_in the_acceptor transcript) × Covers (lines_in the_acceptor transcript)
-played_holds bytes played rest transcript fronts legal =
-    let places : All HasPlace played = All-weaker IsInRange HasPlace has_place played (played_in_range bytes played rest fronts) in
-    let plays_one : Legal (machine_of the_acceptor) played transcript = subst (λ setup. Legal setup played transcript) (setup_of_script bytes) legal in
-    let few : coin_steps played < 255 = omega (arith, played_few bytes played rest fronts) in (
-      legal_in_order the_acceptor played transcript refl tt places plays_one,
-      legal_covers the_acceptor played transcript refl tt places plays_one (legal_keeps_pace the_acceptor played transcript plays_one few),
+-- a script that was played up to a step posts in order, and loses none in silence
+pub played_holds : (bytes : List ℕ) (played rest : List Step) (transcript : List Entry) (d : DeviceSetup) → (script bytes).steps ≡ played ++ rest →
+    Legal (script bytes).setup played transcript → Honest transcript → IsOf (script bytes).setup d → InOrder (lines_in d transcript) × Covers (lines_in d transcript)
+played_holds bytes played rest transcript d fronts legal honest own =
+    let setup = (script bytes).setup in
+    let of_setup = setup_of_today bytes in
+    let of_steps = front_of_today bytes played rest fronts in
+    let accepting = (found_in (λ e. IsAcceptor e.body) setup.devices d.addr d of_setup.acceptors own).0 in
+    let few : piece_steps played < 255 = omega (arith, of_steps.few) in (
+      legal_in_order setup played transcript d of_setup.sound own accepting of_steps.in_range of_steps.no_reset legal honest,
+      legal_covers setup played transcript d of_setup.sound own accepting of_steps.in_range of_steps.no_reset legal honest (legal_keeps_pace setup played transcript d legal few),
     )
+
+-- the texts of two scripts that were played up to a step tell their transcripts
+pub played_texts : (bytes other : List ℕ) (played rest others others_rest : List Step) (first second : List Entry) → (script bytes).steps ≡ played ++ rest → (script other).steps ≡ others ++ others_rest →
+    Legal (script bytes).setup played first → Legal (script other).setup others second → text first ≡ text second → first ≡ second
+played_texts bytes other played rest others others_rest first second fronts other_fronts legal other_legal same =
+    let steps = front_of_today bytes played rest fronts in
+    let other_steps = front_of_today other others others_rest other_fronts in
+    text_is_one first second
+    (legal_written (script bytes).setup played first (setup_of_today bytes).sound steps.in_range steps.bytes legal)
+    (legal_written (script other).setup others second (setup_of_today other).sound other_steps.in_range other_steps.bytes other_legal) same

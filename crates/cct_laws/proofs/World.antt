@@ -10,8 +10,7 @@ use Rattle.cct_model.specs.Line.{Line, exchange, put}
 use Rattle.cct_model.specs.Job.{recorded}
 use Rattle.cct_model.specs.Reading.{coins_among, posted_of, distance}
 use Rattle.cct_model.specs.Acceptor.{counter, last_five}
-use Rattle.cct_model.specs.Claims.{coins, arrivals, reading, mark, part, base, Near, AreNewest, OrderAt, CoverAt, InOrder, Covers, Pace, AllPast}
-use Rattle.cct_laws.specs.Law.{AnsweredAt}
+use Rattle.cct_model.specs.Claims.{coins, reading, mark, part, AreNewest, OrderAt, CoverAt, InOrder, Covers, arrivals, base, Near, Pace}
 use Rattle.cct_laws.proofs.Counters.{distance_most, distance_near}
 use Rattle.cct_laws.proofs.Newest.{coins_among-append, take_front, posted_newest, posted_most}
 
@@ -35,7 +34,6 @@ pub record Sound (events : List Pair) (lines : List Line) : Type 0 where
   pub settled : Settled events lines
   pub in_order : InOrder lines
   pub covers : Pace lines → Covers lines
-  pub answered : AllPast AnsweredAt lines
 
 -- what is read of these events
 abbrev pub credits_at : List Pair → Credits

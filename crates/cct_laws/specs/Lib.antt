@@ -1,1 +1,4 @@
+pub mod Honest
+pub mod Pace
 pub mod Law
+pub mod Tries

@@ -1,63 +1,135 @@
-//! Laws of all legal transcripts, over the definitions of `cct_model` alone: each is the clause of a function without
-//! parameters, whose body is empty.
+//! Laws of all legal transcripts of a setup of several devices under both checks, over the definitions of `cct_model`:
+//! each is the clause of a function without parameters, whose body is empty.
 //!
-//! A crate above cites the lemmas behind them: `legal_in_order`, `legal_covers` and `legal_answered` of
-//! `proofs/Whole.antt`, `legal_keeps_pace` of `proofs/Paces.antt`, those of `proofs/Scripts.antt`, of which
-//! `played_holds` joins all of them for the front of a script, and those of `proofs/Exchanges.antt` on one exchange.
+//! A crate above cites the lemmas behind them: `undisturbed_answered` and `honest_answered` of `proofs/Asked.antt`;
+//! `legal_in_order` and `legal_covers` of `proofs/Whole.antt`; `legal_keeps_pace` of `proofs/Paces.antt`; `legal_tries` and
+//! `legal_few_tries` of `proofs/Tries.antt`; `legal_scans` and `legal_few_polls` of `proofs/Scans.antt`; `setup_of_today`,
+//! `steps_of_today` and `front_of_today` of `proofs/Scripts.antt`, and there `played_holds`, which joins them for the
+//! front of a script; `legal_written` and `legal_text` of `proofs/Texts.antt`,
+//! and `played_texts` of `proofs/Scripts.antt`.
 #![tactic(auto)]
 
-ghost use Rattle.std.specs.Prelude.{ℕ, ◌≡◌, ◌<◌, ◌≤◌, List, ◌++◌};
+ghost use Rattle.std.specs.Prelude.{ℕ, ◌≡◌, ◌<◌, ◌⊎◌, List, [], ◌++◌};
 ghost use Rattle.std.specs.List.{All};
-ghost use Rattle.cct_model.specs.declared.wire.CheckKind.TheVariants.{Simple};
 ghost use Rattle.cct_model.specs.declared.device.DeviceSetup.{DeviceSetup};
+ghost use Rattle.cct_model.specs.declared.device.Setup.{Setup};
+ghost use Rattle.cct_model.specs.declared.request.Request.{Request};
+ghost use Rattle.cct_model.specs.declared.record.Judged.{Judged};
+ghost use Rattle.cct_model.specs.declared.command.Command.{Command};
 ghost use Rattle.cct_model.specs.declared.command.Step.{Step};
+ghost use Rattle.cct_model.specs.declared.command.WireFault.TheVariants.{Clear};
 ghost use Rattle.cct_model.specs.declared.entry.Entry.{Entry};
-ghost use Rattle.cct_model.specs.Device.{IsAcceptor};
-ghost use Rattle.cct_model.specs.Legal.{Legal};
 ghost use Rattle.cct_model.specs.Claims.{AllPast, InOrder, Covers, Pace};
-ghost use Rattle.cct_model.specs.Script.{IsInRange, coin_steps, most_coins, one_acceptor, script};
-ghost use Rattle.cct_laws.specs.Law.{machine_of, lines_in, HasPlace, AnsweredAt};
+ghost use Rattle.cct_model.specs.Device.{IsAcceptor};
+ghost use Rattle.cct_model.specs.Exchange.{ask};
+ghost use Rattle.cct_model.specs.Job.{job, row_at, sends};
+ghost use Rattle.cct_model.specs.Legal.{Legal};
+ghost use Rattle.cct_model.specs.Script.{IsCommand, IsInRange, script};
+ghost use Rattle.cct_model.specs.Setup.{IsSoundSetup};
+ghost use Rattle.cct_model.specs.Text.{text};
+ghost use Rattle.cct_model.specs.Transcript.{pending, scan_lines, onto};
+ghost use Rattle.cct_laws.specs.Honest.{Honest, IsHonestFault};
+ghost use Rattle.cct_laws.specs.Law.{IsOf, HasAllIds, HasNoReset, HasBytes, IsAnswered, IsUnanswered, AreOfToday, IsSetupOfToday, lines_in};
+ghost use Rattle.cct_laws.specs.Pace.{piece_steps};
+ghost use Rattle.cct_laws.specs.Tries.{TriesAt, ScanTriesAt, HasFewTries, failed_in};
 
-/// Posts are accepted coins in their order, none twice: in every legal transcript of a machine of one acceptor under
-/// the simple check, whose coins have coin places, each record's posts are the newest coins of its part, which begins
-/// where the part of the record or the clean end before it ended.
+/// Where no fault is set for the next exchange, a job at an acceptor of a sound setup gets an answer to each request that
+/// it sends: the acceptor replies, and the host gets just that reply, in the form that the request wants. The other
+/// devices of the setup may be of any kind, and of either check. Nothing is said of the devices that a scan polls.
+pub fn an_undisturbed_exchange_is_answered()
+    ensures { (setup : Setup) (past : List Entry) (d : DeviceSetup) (command : Command) (rows : ℕ) (judged : Judged) (q : Request)
+        → IsSoundSetup setup → IsOf setup d → IsAcceptor d.body → HasAllIds d.body → IsCommand command
+        → pending past ≡ Clear → row_at d.body command rows judged ≡ sends q
+        → IsAnswered setup d past q }
+{}
+
+/// Where an honest fault is set for the next exchange, such a job gets the acceptor's own reply to what it asks, or
+/// nothing: damage never makes another reply of it. An honest fault is one whose piece fails its check.
+pub fn an_honest_exchange_gets_the_reply_or_nothing()
+    ensures { (setup : Setup) (past : List Entry) (d : DeviceSetup) (command : Command) (rows : ℕ) (judged : Judged) (q : Request)
+        → IsSoundSetup setup → IsOf setup d → IsAcceptor d.body → HasAllIds d.body → IsCommand command
+        → IsHonestFault (pending past) (ask d.kind d.addr q) → row_at d.body command rows judged ≡ sends q
+        → IsUnanswered setup d past q ⊎ IsAnswered setup d past q }
+{}
+
+/// Posts are accepted coins in their order, none twice: in every legal transcript over an honest wire, for every acceptor
+/// of the setup, each record's posts are the newest coins of its part, which begins where the part of the record or the
+/// clean end before it ended. It holds whatever is asked besides, and however exchanges fail, where no step resets a
+/// device. It doesn't say that a coin is ever posted: that takes a round that ends.
 pub fn posts_in_order()
-    ensures { (d : DeviceSetup) (steps : List Step) (transcript : List Entry)
-        → d.kind ≡ Simple → IsAcceptor d.body → All HasPlace steps → Legal (machine_of d) steps transcript
+    ensures { (setup : Setup) (steps : List Step) (transcript : List Entry) (d : DeviceSetup)
+        → IsSoundSetup setup → IsOf setup d → IsAcceptor d.body → All IsInRange steps → HasNoReset steps
+        → Legal setup steps transcript → Honest transcript
         → InOrder (lines_in d transcript) }
 {}
 
-/// No coin that came before a completed reading is lost in silence in such a transcript, where fewer than 255 coins
-/// come between the last recorded reading and the reading of each record or clean end: a record reports as lost at
-/// least the coins of its part that it doesn't post, and a clean end has no coin in its part. The record of a broken
-/// reading tells by itself that coins may be lost.
+/// No coin that came before a completed reading is lost in silence in such a transcript, where fewer than 255 pieces,
+/// coins or not, come between the last recorded reading and the reading of each record or clean end: a record reports as
+/// lost at least the coins of its part that it doesn't post, and a clean end has no coin in its part. It doesn't say
+/// which coins were lost, nor that as many coins were lost as are reported.
 pub fn none_lost_in_silence()
-    ensures { (d : DeviceSetup) (steps : List Step) (transcript : List Entry)
-        → d.kind ≡ Simple → IsAcceptor d.body → All HasPlace steps → Legal (machine_of d) steps transcript
+    ensures { (setup : Setup) (steps : List Step) (transcript : List Entry) (d : DeviceSetup)
+        → IsSoundSetup setup → IsOf setup d → IsAcceptor d.body → All IsInRange steps → HasNoReset steps
+        → Legal setup steps transcript → Honest transcript
         → Pace (lines_in d transcript) → Covers (lines_in d transcript) }
 {}
 
-/// Steps of fewer than 255 coins keep that pace.
+/// Steps by which fewer than 255 pieces fall in, coins or not, keep the pace of every device, whatever the setup is and
+/// whatever the wire does.
 pub fn few_coins_keep_pace()
-    ensures { (d : DeviceSetup) (steps : List Step) (transcript : List Entry)
-        → Legal (machine_of d) steps transcript → coin_steps steps < 255
+    ensures { (setup : Setup) (steps : List Step) (transcript : List Entry) (d : DeviceSetup)
+        → Legal setup steps transcript → piece_steps steps < 255
         → Pace (lines_in d transcript) }
 {}
 
-/// In such a transcript every exchange gets its wanted reply, since nothing yet disturbs the wire.
-pub fn rounds_are_answered()
-    ensures { (d : DeviceSetup) (steps : List Step) (transcript : List Entry)
-        → d.kind ≡ Simple → IsAcceptor d.body → All HasPlace steps → Legal (machine_of d) steps transcript
-        → AllPast AnsweredAt (lines_in d transcript) }
+/// A job at a device ends for want of an answer exactly after the third failed try in succession of one of its rows: in
+/// every legal transcript that end stands behind three failed tries, any other line of the address behind fewer, and a
+/// job that goes on has fewer than three. It holds whatever the wire does.
+pub fn third_failed_try_ends_a_job()
+    ensures exact { (setup : Setup) (steps : List Step) (transcript : List Entry) (d : DeviceSetup)
+        → IsSoundSetup setup → IsOf setup d → Legal setup steps transcript
+        → AllPast TriesAt (lines_in d transcript) }
+    ensures goes_on { (setup : Setup) (steps : List Step) (transcript : List Entry) (d : DeviceSetup)
+        → IsSoundSetup setup → IsOf setup d → Legal setup steps transcript
+        → failed_in (job (lines_in d transcript)) < 3 }
 {}
 
-/// Whatever bytes a script has, its setup is the one acceptor, its steps are in range and at most 200 of them are
-/// coins; and so it is with every front of its steps.
+/// A scan, which is a job at no device, ends for want of an answer exactly after the third failed try in succession of an
+/// address poll under one of the checks; a try of it fails where the host's own echo is damaged.
+pub fn third_failed_try_ends_a_scan()
+    ensures exact { (setup : Setup) (steps : List Step) (transcript : List Entry)
+        → IsSoundSetup setup → Legal setup steps transcript → AllPast ScanTriesAt (scan_lines (onto [] transcript)) }
+    ensures goes_on { (setup : Setup) (steps : List Step) (transcript : List Entry)
+        → IsSoundSetup setup → Legal setup steps transcript → HasFewTries (job (scan_lines (onto [] transcript))) }
+{}
+
+/// Whatever bytes a script has, its setup is one of today, and so are its steps and every front of them: the laws above
+/// hold of them, also where a line of the script is refused.
 pub fn scripts_are_in_range()
-    ensures setup { (bytes : List ℕ) → (script bytes).setup ≡ one_acceptor }
-    ensures in_range { (bytes : List ℕ) → All IsInRange (script bytes).steps }
-    ensures few_coins { (bytes : List ℕ) → coin_steps (script bytes).steps ≤ most_coins }
-    ensures front_in_range { (bytes : List ℕ) (played rest : List Step) → (script bytes).steps ≡ played ++ rest → All IsInRange played }
-    ensures front_of_few_coins { (bytes : List ℕ) (played rest : List Step)
-        → (script bytes).steps ≡ played ++ rest → coin_steps played ≤ most_coins }
+    ensures setup { (bytes : List ℕ) → IsSetupOfToday (script bytes).setup }
+    ensures steps { (bytes : List ℕ) → AreOfToday (script bytes).steps }
+    ensures fronts { (bytes : List ℕ) (played rest : List Step) → (script bytes).steps ≡ played ++ rest → AreOfToday played }
+{}
+
+/// A script that was played up to any of its steps, over an honest wire, posts in order at each device of its setup, and
+/// loses none in silence. The pace needs no premise: a script has 200 coin lines at the most.
+pub fn played_scripts_keep_the_laws()
+    ensures { (bytes : List ℕ) (played rest : List Step) (transcript : List Entry) (d : DeviceSetup)
+        → (script bytes).steps ≡ played ++ rest → Legal (script bytes).setup played transcript → Honest transcript
+        → IsOf (script bytes).setup d
+        → InOrder (lines_in d transcript) × Covers (lines_in d transcript) }
+{}
+
+/// A text tells its legal transcript: two legal transcripts of one setup with the same text are the same. The setup is
+/// sound, and the steps are in range and say bytes. Nothing is asked of the wire, nor of the kinds of the devices, and a
+/// step may reset a device. Of scripts it holds without a premise, whatever bytes they have, played up to any of their
+/// steps, and their setups may differ. It doesn't say that a text tells its steps: other steps may have the same entries.
+pub fn a_text_tells_its_transcript()
+    ensures steps { (setup : Setup) (steps others : List Step) (first second : List Entry)
+        → IsSoundSetup setup → All IsInRange steps → All HasBytes steps → All IsInRange others → All HasBytes others
+        → Legal setup steps first → Legal setup others second → text first ≡ text second → first ≡ second }
+    ensures scripts { (bytes other : List ℕ) (played rest others others_rest : List Step) (first second : List Entry)
+        → (script bytes).steps ≡ played ++ rest → (script other).steps ≡ others ++ others_rest
+        → Legal (script bytes).setup played first → Legal (script other).setup others second
+        → text first ≡ text second → first ≡ second }
 {}

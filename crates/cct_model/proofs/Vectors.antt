@@ -3,6 +3,7 @@
 use Rattle.std.proofs.Common.{◌≡◌, [], ◌∷◌, Some, None, codes, refl}
 use Rattle.cct_model.specs.declared.wire.CheckKind.TheVariants.{Simple, Crc}
 use Rattle.cct_model.specs.Message.{crc, message, spelling}
+use Rattle.cct_model.specs.declared.device.DeviceSetup.{DeviceSetup}
 use Rattle.cct_model.specs.declared.request.Request.TheVariants.{SetMask, SetPath}
 use Rattle.cct_model.specs.Request.{request_of, requests_with}
 use Rattle.cct_model.specs.Reply.{reply_data}
@@ -12,7 +13,7 @@ use Rattle.cct_model.specs.Acceptor.{coin_event, credits_of, last_five, accept_c
 use Rattle.cct_model.specs.Device.{common_reply, reply_of}
 use Rattle.cct_model.specs.Exchange.{answer, asker, asks_of}
 use Rattle.cct_model.specs.Reading.{distance}
-use Rattle.cct_model.specs.Script.{the_acceptor}
+use Rattle.cct_model.specs.Grammar.{plain_acceptor, plain_device}
 
 crc_of_digits : crc (codes "123456789") ≡ 12739
 unfolding crc
@@ -50,6 +51,10 @@ none_between = refl
 after_a_reset : distance 7 0 ≡ 0
 unfolding distance
 after_a_reset = refl
+
+-- the acceptor at address 2 of which a script says no more
+abbrev the_acceptor : DeviceSetup
+the_acceptor = plain_device 2 Simple 1 (plain_acceptor 0)
 
 -- an acceptor answers a poll, and a fresh one the request for its credits, for its product code, and for a path of a
 -- place that it doesn't have

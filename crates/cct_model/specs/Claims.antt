@@ -6,7 +6,7 @@ use Rattle.cct_model.specs.declared.coin.Credits.{Credits}
 use Rattle.cct_model.specs.declared.record.Record.{Record}
 use Rattle.cct_model.specs.declared.record.Record.TheVariants as record_of
 use Rattle.cct_model.specs.declared.entry.End.TheVariants.{Clean}
-use Rattle.cct_model.specs.Line.{Line, accepted, inhibited, put, ended}
+use Rattle.cct_model.specs.Line.{Line, accepted, inhibited, alien, put, ended}
 use Rattle.cct_model.specs.Job.{credits_line}
 
 -- The coins that were accepted, newest first.
@@ -15,11 +15,12 @@ coins [] = []
 coins (accepted coin ∷ past) = coin ∷ coins past
 coins (_ ∷ past) = coins past
 
--- How many coins came, accepted or not.
+-- How many pieces came: coins, accepted or not, and pieces that are no coin.
 abbrev pub arrivals : List Line → ℕ
 arrivals [] = 0
 arrivals (accepted coin ∷ past) = suc (arrivals past)
 arrivals (inhibited place ∷ past) = suc (arrivals past)
+arrivals (alien ∷ past) = suc (arrivals past)
 arrivals (_ ∷ past) = arrivals past
 
 -- All that came before, where this line is the reading, else what came before an earlier one.
@@ -56,6 +57,7 @@ AreNewest posted newest = (older : List Coin) × (newest ≡ reverse posted ++ o
 abbrev pub PostsOf : List Line → Record → Type 0
 PostsOf past (record_of.Reading addr counter lost posted) = AreNewest posted (part past)
 PostsOf past (record_of.Broken addr seen counter posted) = AreNewest posted (part past)
+PostsOf past r = ⊤
 
 -- An item tells no fewer coins than the item before it, and its posts are the newest coins of its part.
 abbrev pub OrderAt : List Line → Line → Type 0
@@ -66,7 +68,7 @@ OrderAt past _ = ⊤
 -- A reading leaves no more coins of its part unposted than it reports lost; a break reports that some may be lost.
 abbrev pub UnpostedOf : List Line → Record → Type 0
 UnpostedOf past (record_of.Reading addr counter lost posted) = length (part past) ≤ lost + length posted
-UnpostedOf past (record_of.Broken addr seen counter posted) = ⊤
+UnpostedOf past r = ⊤
 
 -- No coin of an item's part is lost in silence, and a clean end has no coin in its part.
 abbrev pub CoverAt : List Line → Line → Type 0
@@ -74,10 +76,10 @@ CoverAt past (put entry) = UnpostedOf past entry
 CoverAt past (ended Clean) = part past ≡ []
 CoverAt past _ = ⊤
 
--- How many coins had come at the reading of the last recorded reading.
+-- How many pieces had come at the reading of the last recorded reading.
 abbrev pub base_by : Record → List Line → ℕ → ℕ
 base_by (record_of.Reading addr counter lost posted) past before = arrivals (reading past)
-base_by (record_of.Broken addr seen counter posted) past before = before
+base_by r past before = before
 
 -- The same after all these lines: 0 before any recorded reading.
 abbrev pub base : List Line → ℕ
@@ -85,7 +87,7 @@ base [] = 0
 base (put entry ∷ past) = base_by entry past (base past)
 base (_ ∷ past) = base past
 
--- Fewer than 255 coins came between the last recorded reading and the reading of this item.
+-- Fewer than 255 pieces came between the last recorded reading and the reading of this item.
 abbrev pub Near : List Line → Type 0
 Near past = arrivals (reading past) < base past + 255
 
@@ -108,6 +110,6 @@ InOrder lines = AllPast OrderAt lines
 abbrev pub Covers : List Line → Type 0
 Covers lines = AllPast CoverAt lines
 
--- No 255 coins come without a recorded reading, which is as many as the event counter can tell apart.
+-- No 255 pieces come without a recorded reading: the event counter counts each, and tells no more than 254 apart.
 abbrev pub Pace : List Line → Type 0
 Pace lines = AllPast PaceAt lines

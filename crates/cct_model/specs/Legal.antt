@@ -1,10 +1,16 @@
 -- A legal transcript: the entries of a script's steps, one step after the other, and none besides.
-use Rattle.std.specs.Prelude.{◌≡◌, ℕ, List, [], ◌∷◌, ◌++◌, if◌then◌else◌, Option, Some, None}
+use Rattle.std.specs.Prelude.{◌≡◌, ℕ, ◌==◌, not, Bool, true, false, List, [], ◌∷◌, ◌++◌, if◌then◌else◌, Option, Some, None, MatchBool}
+use Rattle.cct_model.specs.declared.wire.CheckKind.{CheckKind}
+use Rattle.cct_model.specs.declared.device.DeviceBody.{DeviceBody}
+use Rattle.cct_model.specs.declared.device.DeviceBody.TheVariants.{Acceptor, Hopper}
 use Rattle.cct_model.specs.declared.device.DeviceSetup.{DeviceSetup}
 use Rattle.cct_model.specs.declared.device.Setup.{Setup}
 use Rattle.cct_model.specs.declared.command.Command.{Command}
+use Rattle.cct_model.specs.declared.command.Command.TheVariants as command
 use Rattle.cct_model.specs.declared.command.CommandNo.{CommandNo}
-use Rattle.cct_model.specs.declared.command.CommandNo.TheVariants.{Busy}
+use Rattle.cct_model.specs.declared.command.CommandNo.TheVariants.{NoDevice, WrongKind, Busy}
+use Rattle.cct_model.specs.declared.command.WireFault.{WireFault}
+use Rattle.cct_model.specs.declared.command.WireFault.TheVariants as fault
 use Rattle.cct_model.specs.declared.command.Step.{Step}
 use Rattle.cct_model.specs.declared.command.Step.TheVariants as step
 use Rattle.cct_model.specs.declared.entry.End.{End}
@@ -14,7 +20,23 @@ use Rattle.cct_model.specs.Acceptor.{accepts, path_of}
 use Rattle.cct_model.specs.Exchange.{ask, asked, device_at}
 use Rattle.cct_model.specs.Line.{Line, exchange, put}
 use Rattle.cct_model.specs.Job.{Job, free, works, job, Row, sends, puts, no_row, row, recorded, end_of, address_of}
-use Rattle.cct_model.specs.Transcript.{met, lines_of, heard_after, got_by, onto}
+use Rattle.cct_model.specs.Scan.{scan_row, end_of_scan, poll_of}
+use Rattle.cct_model.specs.Transcript.{met, lines_of, scan_lines, scan_line, heard_after, got_by, onto}
+
+-- Whether a device is a coin acceptor.
+abbrev pub is_acceptor : DeviceBody → Bool
+is_acceptor (Acceptor accepts values ids) = true
+is_acceptor (Hopper life value) = false
+
+-- Whether the device at an address is a coin acceptor.
+abbrev pub acceptor_there : Option DeviceSetup → Bool
+acceptor_there (Some d) = is_acceptor d.body
+acceptor_there None = false
+
+-- Whether the device at an address is a hopper.
+abbrev pub hopper_there : Option DeviceSetup → Bool
+hopper_there (Some d) = not (is_acceptor d.body)
+hopper_there None = false
 
 -- The entry of a coin: accepted with its path where the acceptor accepts its place, else inhibited.
 abbrev pub coin_entry : DeviceSetup → List Entry → ℕ → Entry
@@ -23,49 +45,115 @@ coin_entry d past place =
     then entry.Accepted d.addr (record { place = place; path = path_of (met d past) place })
     else entry.Inhibited d.addr place
 
--- Why a command to a device is refused, by the job at its address: a job is there already.
-abbrev pub refusal : Job → Option CommandNo
-refusal free = None
-refusal (works command since) = Some Busy
+-- The test of a command that a job is at its address.
+abbrev pub busy : Job → Option CommandNo
+busy free = None
+busy (works c since) = Some Busy
+
+-- The tests of a command to a device: there is none at the address, and then further ones.
+abbrev pub at_device : Option DeviceSetup → (DeviceSetup → Option CommandNo) → Option CommandNo
+at_device None further = Some NoDevice
+at_device (Some d) further = further d
+
+-- The tests of a command to a coin acceptor: there is no device at the address, or it is of another kind, and then
+-- further ones.
+abbrev pub at_acceptor : Option DeviceSetup → (DeviceSetup → Option CommandNo) → Option CommandNo
+at_acceptor found further = at_device found (λ d. if is_acceptor d.body then further d else Some WrongKind)
+
+-- The first reason that holds for which a command is refused, or none.
+abbrev pub refusal : Setup → List Entry → Command → Option CommandNo
+refusal setup past (command.Round addr) = at_acceptor (device_at setup.devices addr) (λ d. busy (job (lines_of d past)))
+refusal setup past (command.Path addr place path) = at_acceptor (device_at setup.devices addr) (λ d. busy (job (lines_of d past)))
+refusal setup past (command.Ident addr) = at_device (device_at setup.devices addr) (λ d. busy (job (lines_of d past)))
+refusal setup past command.Scan = busy (job (scan_lines past))
+refusal setup past c = None
 
 -- The entry of a command: taken, or refused with its reason.
 abbrev pub command_entry : Command → Option CommandNo → Entry
-command_entry command None = entry.Taken command
-command_entry command (Some why) = entry.No command why
+command_entry c None = entry.Taken c
+command_entry c (Some why) = entry.No c why
 
 -- An entry of a job, and the job's end where the entry brings it, newest first.
 abbrev pub with_end : ℕ → Entry → Option End → List Entry
 with_end addr e None = e ∷ []
 with_end addr e (Some end) = entry.Ended addr end ∷ e ∷ []
 
--- The entries of one attempt of a job's row, newest first: one exchange, or one put, and its end.
+-- The entries of one attempt of a row of a job at a device, newest first: one exchange, or one put, and its end.
 abbrev pub RowEntries : Setup → DeviceSetup → List Entry → Command → List Line → Row → List Entry → Type 0
-RowEntries setup d past command since (sends q) news =
+RowEntries setup d past c since (sends q) news =
     let sent = ask d.kind d.addr q in
     let piece = heard_after setup past sent in
-    news ≡ with_end d.addr (entry.Wire d.addr sent piece) (end_of command (exchange (asked d.kind sent) (got_by d sent piece)) since (recorded (lines_of d past)))
-RowEntries setup d past command since (puts r) news =
-    news ≡ with_end d.addr (entry.Put r) (end_of command (put r) since (recorded (lines_of d past)))
-RowEntries setup d past command since no_row news = ⊥
+    news ≡ with_end d.addr (entry.Wire d.addr sent piece) (end_of d c (exchange (asked d.kind sent) (got_by d sent piece)) since (recorded (lines_of d past)))
+RowEntries setup d past c since (puts r) news =
+    news ≡ with_end d.addr (entry.Put r) (end_of d c (put r) since (recorded (lines_of d past)))
+RowEntries setup d past c since no_row news = ⊥
 
--- The entries of a `next`, newest first: idle with no job, else those of its row.
+-- The entries of a `next` at a device, newest first: idle with no job, else those of its row.
 abbrev pub NextEntries : Setup → DeviceSetup → List Entry → Job → List Entry → Type 0
 NextEntries setup d past free news = news ≡ entry.Idle d.addr ∷ []
-NextEntries setup d past (works command since) news =
-    RowEntries setup d past command since (row command since (recorded (lines_of d past))) news
+NextEntries setup d past (works c since) news =
+    RowEntries setup d past c since (row d c since (recorded (lines_of d past))) news
+
+-- The entries of one poll of a scan, newest first, and its end.
+abbrev pub PollEntries : Setup → List Entry → List Line → Option (CheckKind × ℕ) → List Entry → Type 0
+PollEntries setup past since None news = ⊥
+PollEntries setup past since (Some (check, addr)) news =
+    let sent = ask check addr (poll_of addr) in
+    let piece = heard_after setup past sent in
+    news ≡ with_end 0 (entry.Wire 0 sent piece) (end_of_scan (scan_line sent piece ∷ since))
+
+-- The entries of a `next` at address 0, newest first: idle with no scan, else those of its next poll.
+abbrev pub ScanEntries : Setup → List Entry → Job → List Entry → Type 0
+ScanEntries setup past free news = news ≡ entry.Idle 0 ∷ []
+ScanEntries setup past (works c since) news = PollEntries setup past since (scan_row since) news
+
+-- The entries of a `next` at an address without a device, newest first: a scan is at address 0 alone.
+abbrev pub BareNext : Setup → List Entry → ℕ → List Entry → Type 0
+BareNext setup past addr news =
+    MatchBool (addr == 0) (ScanEntries setup past (job (scan_lines past)) news) (news ≡ entry.Idle addr ∷ [])
 
 -- A fact of the device at an address; there has to be one.
 abbrev pub OfDevice : Option DeviceSetup → (DeviceSetup → Type 0) → Type 0
 OfDevice None P = ⊥
 OfDevice (Some d) P = P d
 
--- The entries of a step after all that came before, newest first.
+-- A fact of the acceptor at an address; there has to be one.
+abbrev pub OfAcceptor : Option DeviceSetup → (DeviceSetup → Type 0) → Type 0
+OfAcceptor found P = OfDevice found (λ d. MatchBool (is_acceptor d.body) (P d) ⊥)
+
+-- A fact of the device at an address where there is one, else another.
+abbrev pub OfNext : Option DeviceSetup → (DeviceSetup → Type 0) → Type 0 → Type 0
+OfNext None P Q = Q
+OfNext (Some d) P Q = P d
+
+-- A command that is played today.
+abbrev pub is_played_command : Command → Bool
+is_played_command (command.Round addr) = true
+is_played_command command.Scan = true
+is_played_command (command.Ident addr) = true
+is_played_command (command.Path addr place path) = true
+is_played_command c = false
+
+-- The entries of a step after all that came before, newest first. Other steps and commands are not played yet.
 abbrev pub Entries : Setup → List Entry → Step → List Entry → Type 0
-Entries setup past (step.Coin addr place) news = OfDevice (device_at setup.devices addr) (λ d. news ≡ coin_entry d past place ∷ [])
-Entries setup past (step.Command command) news =
-    OfDevice (device_at setup.devices (address_of command)) (λ d. news ≡ command_entry command (refusal (job (lines_of d past))) ∷ [])
-Entries setup past (step.Next addr) news = OfDevice (device_at setup.devices addr) (λ d. NextEntries setup d past (job (lines_of d past)) news)
-Entries setup past step.End news = ⊥
+Entries setup past (step.Coin addr place) news = OfAcceptor (device_at setup.devices addr) (λ d. news ≡ coin_entry d past place ∷ [])
+Entries setup past (step.Alien addr) news = OfAcceptor (device_at setup.devices addr) (λ d. news ≡ entry.Alien addr ∷ [])
+Entries setup past (step.Reset addr) news = OfDevice (device_at setup.devices addr) (λ d. news ≡ entry.Reset addr ∷ [])
+Entries setup past (step.Fault f) news = news ≡ entry.Fault f ∷ []
+Entries setup past (step.Command c) news = MatchBool (is_played_command c) (news ≡ command_entry c (refusal setup past c) ∷ []) ⊥
+Entries setup past (step.Next addr) news =
+    OfNext (device_at setup.devices addr) (λ d. NextEntries setup d past (job (lines_of d past)) news) (BareNext setup past addr news)
+Entries setup past s news = ⊥
+
+-- A step that is played today.
+abbrev pub is_played : Step → Bool
+is_played (step.Coin addr place) = true
+is_played (step.Alien addr) = true
+is_played (step.Reset addr) = true
+is_played (step.Fault f) = true
+is_played (step.Next addr) = true
+is_played (step.Command c) = is_played_command c
+is_played s = false
 
 -- A past goes on by the entries of these steps, and ends as this one.
 abbrev pub LegalFrom : Setup → List Entry → List Step → List Entry → Type 0

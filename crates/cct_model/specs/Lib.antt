@@ -6,11 +6,15 @@ pub mod Setting
 pub mod Acceptor
 pub mod Device
 pub mod Exchange
+pub mod Setup
 pub mod Reading
 pub mod Line
 pub mod Job
+pub mod Scan
 pub mod Transcript
 pub mod Legal
 pub mod Claims
+pub mod DeviceSet
 pub mod Text
+pub mod Grammar
 pub mod Script

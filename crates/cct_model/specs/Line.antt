@@ -1,17 +1,26 @@
--- The lines of one address, newest first, without bytes: an exchange is what was asked and what was got.
-use Rattle.std.specs.Prelude.{ℕ, Option}
+-- The lines of one address, newest first, without bytes but those of a scan: an exchange is what was asked and what was
+-- got.
+use Rattle.std.specs.Prelude.{ℕ, List, Option}
 use Rattle.cct_model.specs.declared.coin.Coin.{Coin}
+use Rattle.cct_model.specs.declared.wire.CheckKind.{CheckKind}
 use Rattle.cct_model.specs.declared.request.Request.{Request}
 use Rattle.cct_model.specs.declared.record.Record.{Record}
 use Rattle.cct_model.specs.declared.command.Command.{Command}
 use Rattle.cct_model.specs.declared.entry.End.{End}
 use Rattle.cct_model.specs.Reply.{Reply}
 
--- A coin was accepted or inhibited, an exchange was made, a record was put, a command was taken, or a job ended.
+-- A coin was accepted or inhibited, a piece that is no coin came, a coin fell out, the device was reset; an exchange was
+-- made; a scan polled an address under a check, and this followed a good echo; a record was put; a command was taken; a
+-- job ended; the host lost its power.
 pub data Line : Type 0 where
   accepted : (coin : Coin) → Line
   inhibited : (place : ℕ) → Line
+  alien : Line
+  fell : Line
+  reset : Line
   exchange : (asked : Option Request) (got : Option Reply) → Line
+  scanned : (check : CheckKind) (addr : ℕ) (rest : Option (List ℕ)) → Line
   put : (entry : Record) → Line
   taken : (command : Command) → Line
   ended : (end : End) → Line
+  crashed : Line

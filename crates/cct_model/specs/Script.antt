@@ -1,119 +1,109 @@
 -- What a script says: its setup, its steps, and the first line that is refused, with its kind (docs/SCRIPT.md).
-use Rattle.std.specs.Prelude.{◌≡◌, ◌≤◌, suc, ℕ, ◌+◌, ◌-◌, ◌*◌, ◌==◌, ◌&&◌, nat_lt, nat_le, Bool, List, [], ◌∷◌, length, if◌then◌else◌, Option, Some, None, option_and_then, codes, bytes_eq, replicate}
-use Rattle.std.specs.List.{slice_split}
-use Rattle.cct_model.specs.declared.wire.CheckKind.TheVariants.{Simple}
-use Rattle.cct_model.specs.declared.device.DeviceBody.{DeviceBody}
-use Rattle.cct_model.specs.declared.device.DeviceBody.TheVariants.{Acceptor}
+use Rattle.std.specs.Prelude.{◌≤◌, suc, ℕ, ◌+◌, ◌==◌, ◌||◌, ◌&&◌, nat_lt, Bool, true, false, List, [], ◌∷◌, length, if◌then◌else◌, Option, Some, None, is_some, Result, Ok, Err, codes, bytes_eq, ⊤}
+use Rattle.std.specs.List.{slice_split, before_first}
 use Rattle.cct_model.specs.declared.device.DeviceSetup.{DeviceSetup}
-use Rattle.cct_model.specs.declared.device.Texts.{Texts}
 use Rattle.cct_model.specs.declared.device.Setup.{Setup}
-use Rattle.cct_model.specs.declared.command.Command.TheVariants.{Round}
+use Rattle.cct_model.specs.declared.device.SetupLine.{SetupLine}
+use Rattle.cct_model.specs.declared.device.SetupLine.TheVariants as says
+use Rattle.cct_model.specs.declared.command.Command.{Command}
+use Rattle.cct_model.specs.declared.command.Command.TheVariants as command
+use Rattle.cct_model.specs.declared.command.CrashAt.{CrashAt}
+use Rattle.cct_model.specs.declared.command.WireFault.{WireFault}
+use Rattle.cct_model.specs.declared.command.WireFault.TheVariants as fault
 use Rattle.cct_model.specs.declared.command.Step.{Step}
 use Rattle.cct_model.specs.declared.command.Step.TheVariants as step
 use Rattle.cct_model.specs.declared.entry.LineKind.{LineKind}
 use Rattle.cct_model.specs.declared.entry.LineKind.TheVariants as kind
-
--- The byte is a space.
-abbrev pub is_space : ℕ → Bool
-is_space byte = byte == 32
+use Rattle.cct_model.specs.Exchange.{device_at}
+use Rattle.cct_model.specs.Grammar.{is_space, setup_line, step_line, added}
+use Rattle.cct_model.specs.Legal.{acceptor_there, hopper_there}
 
 -- The byte is a line feed.
 abbrev pub is_line_feed : ℕ → Bool
 is_line_feed byte = byte == 10
 
--- The byte is a decimal digit.
-abbrev pub is_digit : ℕ → Bool
-is_digit byte = nat_le 48 byte && nat_le byte 57
+-- The first field of a line.
+abbrev pub word_of : List ℕ → List ℕ
+word_of line = before_first is_space line
 
--- The number that digits go on to spell, or none where a byte is no digit.
-abbrev pub digits_from : ℕ → List ℕ → Option ℕ
-digits_from n [] = Some n
-digits_from n (byte ∷ bytes) = if is_digit byte then digits_from (10 * n + (byte - 48)) bytes else None
+-- The setup words that are played today.
+abbrev pub is_setup_word : List ℕ → Bool
+is_setup_word word =
+    bytes_eq word (codes "acceptor") || bytes_eq word (codes "value") || bytes_eq word (codes "texts") || bytes_eq word (codes "begin")
 
--- The number that a field spells in decimal, without sign and without leading zeros.
-abbrev pub number_in : List ℕ → Option ℕ
-number_in [] = None
-number_in (byte ∷ []) = digits_from 0 (byte ∷ [])
-number_in (byte ∷ next ∷ bytes) = if byte == 48 then None else digits_from 0 (byte ∷ next ∷ bytes)
+-- The step words that are played today.
+abbrev pub is_step_word : List ℕ → Bool
+is_step_word word =
+    bytes_eq word (codes "coin") || bytes_eq word (codes "next") || bytes_eq word (codes "fault") || bytes_eq word (codes "round")
+    || bytes_eq word (codes "scan") || bytes_eq word (codes "ident") || bytes_eq word (codes "path") || bytes_eq word (codes "end")
 
--- A number within a range.
-abbrev pub within : ℕ → ℕ → ℕ → Option ℕ
-within least most n = if nat_le least n && nat_le n most then Some n else None
-
--- The coin place that a field spells: 1 to 16.
-unfoldable pub place_in : List ℕ → Option ℕ
-place_in field = option_and_then (within 1 16) (number_in field)
-
--- The address of the one acceptor.
-abbrev pub the_address : ℕ
-the_address = 2
-
--- The texts of a device of which a script says none.
-abbrev pub plain_texts : Texts
-plain_texts = record { maker = codes "BENCH"; product = codes "CCT"; software = codes "1"; build = codes "1" }
-
--- A coin acceptor of which a script says no more: its places have no values, and dots identify their coins.
-abbrev pub plain_acceptor : ℕ → DeviceBody
-plain_acceptor accepts = Acceptor accepts (replicate 16 0) (replicate 16 (codes "......"))
-
--- The one acceptor of every script: its address, the simple check, serial number 1, and an accept counter that starts
--- at 0.
-abbrev pub the_acceptor : DeviceSetup
-the_acceptor = record { addr = the_address; kind = Simple; serial = 1; texts = plain_texts; body = plain_acceptor 0 }
-
--- The setup of every script.
-abbrev pub one_acceptor : Setup
-one_acceptor = record { devices = the_acceptor ∷ [] }
-
--- The step that a word and an address spell.
-abbrev pub plain_step : List ℕ → Option Step
-plain_step word =
-    if bytes_eq word (codes "round") then Some (step.Command (Round the_address))
-    else if bytes_eq word (codes "next") then Some (step.Next the_address)
-    else None
-
--- The step that a line spells by its fields, or none where it is none of the grammar.
-unfoldable pub step_in : List (List ℕ) → Option Step
-step_in (word ∷ []) = if bytes_eq word (codes "end") then Some step.End else None
-step_in (word ∷ addr ∷ []) = if bytes_eq addr (codes "2") then plain_step word else None
-step_in (word ∷ addr ∷ field ∷ []) =
-    if bytes_eq word (codes "coin") && bytes_eq addr (codes "2")
-    then option_and_then (λ place. Some (step.Coin the_address place)) (place_in field)
-    else None
-step_in fields = None
-
--- Which line a script wants next: that of its acceptor, `begin`, or a step, after so many coin lines.
+-- Which line a script wants next: one of its setup, a step, after so many coin lines, or none.
 pub data Stage : Type 0 where
-  at_device : Stage
-  at_begin : Stage
-  at_steps : (coin_lines : ℕ) → Stage
+  at_setup : (setup : Setup) → Stage
+  at_steps : (setup : Setup) (coin_lines : ℕ) → Stage
+  at_end : (setup : Setup) → Stage
 
--- What a line is to a script: it goes on, plays a step, ends it, or is refused.
+-- The setup that a stage has.
+abbrev pub setup_at : Stage → Setup
+setup_at (at_setup setup) = setup
+setup_at (at_steps setup coin_lines) = setup
+setup_at (at_end setup) = setup
+
+-- What a line is to a script: it goes on, plays a step, or is refused.
 pub data Read : Type 0 where
   opens : (next : Stage) → Read
   plays : (s : Step) (next : Stage) → Read
-  ends : Read
   refuses : (why : LineKind) → Read
+
+-- A setup after a line that adds to it, or why the line is refused.
+abbrev pub opened : Result Setup LineKind → Read
+opened (Ok setup) = opens (at_setup setup)
+opened (Err why) = refuses why
+
+-- What a setup line is to a script: `begin` ends the setup, and another adds to it.
+abbrev pub read_setup_line : Setup → Result SetupLine LineKind → Read
+read_setup_line setup (Err why) = refuses why
+read_setup_line setup (Ok says.Begin) = opens (at_steps setup 0)
+read_setup_line setup (Ok line) = opened (added setup line)
 
 -- The most coin lines of a script.
 abbrev pub most_coins : ℕ
 most_coins = 200
 
--- A step is played, and the line `end` ends the script; a line that spells no step, and a coin line past the most,
--- are refused.
-abbrev pub read_step : ℕ → Option Step → Read
-read_step coin_lines None = refuses kind.Form
-read_step coin_lines (Some step.End) = ends
-read_step coin_lines (Some (step.Coin addr place)) =
-    if nat_lt coin_lines most_coins then plays (step.Coin addr place) (at_steps (coin_lines + 1)) else refuses kind.Form
-read_step coin_lines (Some (step.Next addr)) = plays (step.Next addr) (at_steps coin_lines)
-read_step coin_lines (Some (step.Command command)) = plays (step.Command command) (at_steps coin_lines)
+-- So many coin lines after a step.
+abbrev pub coins_after : Step → ℕ → ℕ
+coins_after (step.Coin addr place) coin_lines = suc coin_lines
+coins_after s coin_lines = coin_lines
 
--- A whole line, by its form alone.
+-- A step names a device that the setup has, and of the kind that it needs.
+abbrev pub is_known : Setup → Step → Bool
+is_known setup (step.Coin addr place) = acceptor_there (device_at setup.devices addr)
+is_known setup (step.Alien addr) = acceptor_there (device_at setup.devices addr)
+is_known setup (step.Fall addr) = hopper_there (device_at setup.devices addr)
+is_known setup (step.Jam addr) = hopper_there (device_at setup.devices addr)
+is_known setup (step.Reset addr) = is_some (device_at setup.devices addr)
+is_known setup s = true
+
+-- A step of a script: a coin line past the most is in no form, and a step that names a device that isn't there is
+-- refused.
+abbrev pub read_known : Setup → ℕ → Step → Read
+read_known setup coin_lines s =
+    if nat_lt most_coins (coins_after s coin_lines) then refuses kind.Form
+    else if is_known setup s then plays s (at_steps setup (coins_after s coin_lines))
+    else refuses kind.Device
+
+-- What a step line is to a script: `end` ends it.
+abbrev pub read_step_line : Setup → ℕ → Result Step LineKind → Read
+read_step_line setup coin_lines (Err why) = refuses why
+read_step_line setup coin_lines (Ok step.End) = opens (at_end setup)
+read_step_line setup coin_lines (Ok s) = read_known setup coin_lines s
+
+-- A whole line, by its word and its form; a word that isn't played today is no word.
 unfoldable pub read_form : Stage → List ℕ → Read
-read_form at_device line = if bytes_eq line (codes "acceptor 2 simple 1 0") then opens at_begin else refuses kind.Form
-read_form at_begin line = if bytes_eq line (codes "begin") then opens (at_steps 0) else refuses kind.Form
-read_form (at_steps coin_lines) line = read_step coin_lines (step_in (slice_split is_space line))
+read_form (at_setup setup) line = if is_setup_word (word_of line) then read_setup_line setup (setup_line line) else refuses kind.Word
+read_form (at_steps setup coin_lines) line =
+    if is_step_word (word_of line) then read_step_line setup coin_lines (step_line line) else refuses kind.Word
+read_form (at_end setup) line = refuses kind.Trailing
 
 -- The most lines of a script.
 unfoldable pub most_lines : ℕ
@@ -123,19 +113,27 @@ most_lines = 1048576
 abbrev pub most_bytes : ℕ
 most_bytes = 1200
 
--- A whole line with its number: too many lines first, then too long a line, then its form.
+-- The script has ended.
+abbrev pub is_over : Stage → Bool
+is_over (at_end setup) = true
+is_over stage = false
+
+-- A whole line with its number: a line behind the end first, then too many lines, then too long a line, then its form.
 abbrev pub read_line : ℕ → Stage → List ℕ → Read
 read_line number stage line =
-    if nat_lt most_lines number then refuses kind.Lines
+    if is_over stage then refuses kind.Trailing
+    else if nat_lt most_lines number then refuses kind.Lines
     else if nat_lt most_bytes (length line) then refuses kind.Long
     else read_form stage line
 
--- Why an unfinished line is refused: a byte too many lines, a byte too long, else the input ends within it.
-abbrev pub unfinished : ℕ → List ℕ → LineKind
-unfinished number rest =
-    if nat_lt most_lines number && nat_lt 0 (length rest) then kind.Lines
-    else if nat_lt most_bytes (length rest) then kind.Long
-    else kind.Cut
+-- Why an unfinished line is refused, if it is: a byte behind the end; a byte too many lines; a byte too long; else the
+-- input ends within it. Nothing behind the end is no line.
+abbrev pub unfinished : ℕ → Stage → List ℕ → Option LineKind
+unfinished number stage rest =
+    if is_over stage then (if nat_lt 0 (length rest) then Some kind.Trailing else None)
+    else if nat_lt most_lines number && nat_lt 0 (length rest) then Some kind.Lines
+    else if nat_lt most_bytes (length rest) then Some kind.Long
+    else Some kind.Cut
 
 -- A refused line: its number, from 1, and its kind.
 pub record Refusal : Type 0 where
@@ -148,13 +146,14 @@ pub record Script : Type 0 where
   pub steps : List Step
   pub refused : Option Refusal
 
--- A script that says no more steps: its end was read.
-abbrev pub ended_script : Script
-ended_script = record { setup = one_acceptor; steps = []; refused = None }
+-- A line that is refused, with its number.
+abbrev pub refusal_at : ℕ → Option LineKind → Option Refusal
+refusal_at number (Some why) = Some (record { number = number; why = why })
+refusal_at number None = None
 
--- A script that says no more steps: this line is refused.
-abbrev pub refused_script : ℕ → LineKind → Script
-refused_script number why = record { setup = one_acceptor; steps = []; refused = Some (record { number = number; why = why }) }
+-- A script that says no more steps: its end was read, or a line is refused.
+abbrev pub closed_script : ℕ → Setup → Option LineKind → Script
+closed_script number setup why = record { setup = setup; steps = []; refused = refusal_at number why }
 
 -- A script that begins with these steps.
 abbrev pub with_steps : List Step → Script → Script
@@ -165,36 +164,59 @@ with_steps (s ∷ steps) rest = record { setup = rest.setup; steps = s ∷ (with
 abbrev pub stage_after : Stage → Read → Stage
 stage_after stage (opens next) = next
 stage_after stage (plays s next) = next
-stage_after stage ends = stage
 stage_after stage (refuses why) = stage
 
 -- A line, and what the lines after it say.
-abbrev pub goes_on : ℕ → Read → Script → Script
-goes_on number (opens next) rest = rest
-goes_on number (plays s next) rest = with_steps (s ∷ []) rest
-goes_on number ends rest = ended_script
-goes_on number (refuses why) rest = refused_script number why
+abbrev pub goes_on : ℕ → Stage → Read → Script → Script
+goes_on number stage (opens next) rest = rest
+goes_on number stage (plays s next) rest = with_steps (s ∷ []) rest
+goes_on number stage (refuses why) rest = closed_script number (setup_at stage) (Some why)
 
 -- What the lines from this number on say: whole lines, and last the bytes behind the last line feed.
 abbrev pub script_from : ℕ → Stage → List (List ℕ) → Script
-script_from number stage [] = refused_script number kind.Cut
-script_from number stage (rest ∷ []) = refused_script number (unfinished number rest)
+script_from number stage [] = closed_script number (setup_at stage) (unfinished number stage [])
+script_from number stage (rest ∷ []) = closed_script number (setup_at stage) (unfinished number stage rest)
 script_from number stage (line ∷ next ∷ parts) =
-    goes_on number (read_line number stage line) (script_from (number + 1) (stage_after stage (read_line number stage line)) (next ∷ parts))
+    goes_on number stage (read_line number stage line)
+    (script_from (number + 1) (stage_after stage (read_line number stage line)) (next ∷ parts))
 
--- A step that a script can say: a coin place is 1 to 16, and the address is that of the acceptor.
+-- The setup before any setup line.
+abbrev pub no_devices : Setup
+no_devices = record { devices = [] }
+
+-- What the bytes of a script say.
+unfoldable pub script : List ℕ → Script
+script bytes = script_from 1 (at_setup no_devices) (slice_split is_line_feed bytes)
+
+-- A command that a line can spell: its numbers are in their ranges.
+abbrev pub IsCommand : Command → Type 0
+IsCommand (command.Start addr mask) = 1 ≤ mask
+IsCommand (command.Pay addr id count) = (1 ≤ id) × (1 ≤ count)
+IsCommand (command.Path addr place path) = (place ≤ 16) × (1 ≤ path) × (path ≤ 8)
+IsCommand (command.Vend id price) = (1 ≤ id) × (1 ≤ price) × (price ≤ 1000000000)
+IsCommand c = ⊤
+
+-- A wire fault that a line can spell: its piece isn't too long.
+abbrev pub IsFault : WireFault → Type 0
+IsFault fault.Clear = ⊥
+IsFault (fault.DevicesHear piece) = length piece ≤ 260
+IsFault (fault.HostHears piece) = length piece ≤ 260
+IsFault (fault.WholeHeard piece) = length piece ≤ 520
+
+-- The place of a crash that a line can spell.
+abbrev pub IsCrash : Option CrashAt → Type 0
+IsCrash None = ⊤
+IsCrash (Some at) = at.calls ≤ 4
+
+-- A step that a line can spell: its numbers are in their ranges.
 abbrev pub IsInRange : Step → Type 0
-IsInRange (step.Coin addr place) = (addr ≡ the_address) × (1 ≤ place) × (place ≤ 16)
-IsInRange (step.Next addr) = addr ≡ the_address
-IsInRange (step.Command (Round addr)) = addr ≡ the_address
-IsInRange step.End = ⊥
+IsInRange (step.Coin addr place) = (1 ≤ place) × (place ≤ 16)
+IsInRange (step.Fault f) = IsFault f
+IsInRange (step.Command c) = IsCommand c
+IsInRange (step.Crash at choice) = IsCrash at
+IsInRange s = ⊤
 
 -- How many of these steps are coins.
 abbrev pub coin_steps : List Step → ℕ
 coin_steps [] = 0
-coin_steps (step.Coin addr place ∷ steps) = suc (coin_steps steps)
-coin_steps (_ ∷ steps) = coin_steps steps
-
--- What the bytes of a script say.
-unfoldable pub script : List ℕ → Script
-script bytes = script_from 1 at_device (slice_split is_line_feed bytes)
+coin_steps (s ∷ steps) = coins_after s (coin_steps steps)

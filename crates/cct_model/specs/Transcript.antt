@@ -1,66 +1,153 @@
--- A transcript, newest entry first: what it says that each device met, and the lines of each device's address.
-use Rattle.std.specs.Prelude.{ℕ, ◌==◌, List, [], ◌∷◌, ◌++◌, flat_map, if◌then◌else◌, Option, Some, option_and_then, unwrap_or}
+-- A transcript, newest entry first: the wire's pending fault, what each device met, and the lines of each address.
+use Rattle.std.specs.Prelude.{ℕ, ◌==◌, List, [], ◌∷◌, ◌++◌, flat_map, if◌then◌else◌, Option, Some, None, option_and_then, unwrap_or, slice_index, bytes_eq}
+use Rattle.cct_model.specs.declared.wire.CheckKind.TheVariants.{Simple, Crc}
+use Rattle.cct_model.specs.declared.device.DeviceBody.{DeviceBody}
+use Rattle.cct_model.specs.declared.device.DeviceBody.TheVariants.{Acceptor, Hopper}
 use Rattle.cct_model.specs.declared.device.DeviceSetup.{DeviceSetup}
 use Rattle.cct_model.specs.declared.device.Setup.{Setup}
 use Rattle.cct_model.specs.declared.request.Request.TheVariants.{SetMask}
+use Rattle.cct_model.specs.declared.command.WireFault.{WireFault}
+use Rattle.cct_model.specs.declared.command.WireFault.TheVariants as fault
 use Rattle.cct_model.specs.declared.record.Record.{Record}
 use Rattle.cct_model.specs.declared.record.Record.TheVariants as record_of
 use Rattle.cct_model.specs.declared.entry.Entry.{Entry}
 use Rattle.cct_model.specs.declared.entry.Entry.TheVariants as entry
-use Rattle.cct_model.specs.History.{Met, coin, heard}
 use Rattle.cct_model.specs.Request.{form_of}
 use Rattle.cct_model.specs.Reply.{Reply}
-use Rattle.cct_model.specs.Exchange.{asked, asks_of, answer, got, by_address}
-use Rattle.cct_model.specs.Line.{Line, accepted, inhibited, exchange, put, taken, ended}
+use Rattle.cct_model.specs.History.{Met, coin, alien, fall, jam, reset, heard}
+use Rattle.cct_model.specs.Exchange.{ask, asked, asks_of, answer, after_echo, got, by_address}
+use Rattle.cct_model.specs.Line.{Line}
+use Rattle.cct_model.specs.Line as line
 use Rattle.cct_model.specs.Job.{address_of, open_mask}
+use Rattle.cct_model.specs.Scan.{poll_of}
 
 -- What stands at an address, where that is the device's.
 abbrev pub at : {A : Type 0} → ℕ → DeviceSetup → A → List A
 at addr d x = if addr == d.addr then x ∷ [] else []
 
--- What an entry says that a device met: its own coins, and each piece that the host sent, whoever it was for.
-abbrev pub meets : DeviceSetup → Entry → List Met
-meets d (entry.Accepted addr c) = at addr d (coin c.place)
-meets d (entry.Inhibited addr place) = at addr d (coin place)
-meets d (entry.Wire addr sent piece) = heard (asks_of d sent) ∷ []
-meets d _ = []
+-- The fault that is set for the next exchange: the last one since the last exchange, or none.
+abbrev pub pending : List Entry → WireFault
+pending [] = fault.Clear
+pending (entry.Fault f ∷ past) = f
+pending (entry.Wire addr sent piece ∷ past) = fault.Clear
+pending (e ∷ past) = pending past
 
--- All that a device met. It begins with the piece that accepts every coin place.
+-- The piece that the devices hear, where the host sends one.
+abbrev pub heard_by_devices : WireFault → List ℕ → List ℕ
+heard_by_devices (fault.DevicesHear piece) sent = piece
+heard_by_devices f sent = sent
+
+-- What the host hears, where it sent a piece and the devices answer: its own echo, and the answers behind it.
+abbrev pub heard_by_host : WireFault → List ℕ → List ℕ → List ℕ
+heard_by_host (fault.HostHears piece) sent answered = sent ++ piece
+heard_by_host (fault.WholeHeard piece) sent answered = piece
+heard_by_host f sent answered = sent ++ answered
+
+-- What an entry says that a device met: what fell into it or out of it, its resets, and each piece that the devices
+-- heard, whoever it was for.
+abbrev pub meets : DeviceSetup → List Entry → Entry → List Met
+meets d past (entry.Accepted addr c) = at addr d (coin c.place)
+meets d past (entry.Inhibited addr place) = at addr d (coin place)
+meets d past (entry.Alien addr) = at addr d alien
+meets d past (entry.Fell addr) = at addr d fall
+meets d past (entry.NoFall addr) = at addr d fall
+meets d past (entry.Jammed addr) = at addr d jam
+meets d past (entry.NoJam addr) = at addr d jam
+meets d past (entry.Reset addr) = at addr d reset
+meets d past (entry.Wire addr sent piece) = heard (asks_of d (heard_by_devices (pending past) sent)) ∷ []
+meets d past e = []
+
+-- What a device met before a script: an acceptor heard a piece that accepts every coin place.
+abbrev pub opening : DeviceBody → List Met
+opening (Acceptor accepts values ids) = heard (Some (SetMask open_mask)) ∷ []
+opening (Hopper life value) = []
+
+-- All that a device met.
 abbrev pub met : DeviceSetup → List Entry → List Met
-met d [] = heard (Some (SetMask open_mask)) ∷ []
-met d (e ∷ past) = meets d e ++ met d past
+met d [] = opening d.body
+met d (e ∷ past) = meets d past e ++ met d past
 
 -- The bytes with which the devices of a setup answer a piece, in rising order of address.
 abbrev pub answers : Setup → List Entry → List ℕ → List ℕ
 answers setup past piece = flat_map (λ d. unwrap_or (answer d (met d past) piece) []) (by_address setup.devices)
 
--- What the host hears after it sent a piece: its own echo, and the answers.
+-- What the host hears after it sent a piece.
 unfoldable pub heard_after : Setup → List Entry → List ℕ → List ℕ
-heard_after setup past sent = sent ++ answers setup past sent
+heard_after setup past sent =
+    heard_by_host (pending past) sent (answers setup past (heard_by_devices (pending past) sent))
 
 -- The reply that a device's exchange got: the wanted one to the request that was sent.
 unfoldable pub got_by : DeviceSetup → List ℕ → List ℕ → Option Reply
 got_by d sent piece = option_and_then (λ form. got d.kind d.addr form sent piece) (option_and_then form_of (asked d.kind sent))
 
--- The address that a record belongs to.
-abbrev pub owner : Record → ℕ
-owner (record_of.Reading addr counter lost posted) = addr
-owner (record_of.Broken addr seen counter posted) = addr
+-- The address of the order that a record opens with this id, or the one before it; none where it opens no such order.
+abbrev pub opened_by : ℕ → Record → ℕ → ℕ
+opened_by id (record_of.Opened opened addr count life) before = if opened == id then addr else before
+opened_by id r before = before
+
+-- The address at which an order was opened last with an id, 0 where none was.
+abbrev pub opened_at : ℕ → List Entry → ℕ
+opened_at id [] = 0
+opened_at id (entry.Put r ∷ past) = opened_by id r (opened_at id past)
+opened_at id (entry.Kept r ∷ past) = opened_by id r (opened_at id past)
+opened_at id (e ∷ past) = opened_at id past
+
+-- The address that a record belongs to: that of the order that it closes, and 1 for a sale.
+abbrev pub owner : List Entry → Record → ℕ
+owner past (record_of.Epoch addr mask) = addr
+owner past (record_of.Reading addr counter lost posted) = addr
+owner past (record_of.Broken addr seen counter posted) = addr
+owner past (record_of.EpochEnd addr) = addr
+owner past (record_of.Opened id addr count life) = addr
+owner past (record_of.Closed id paid unpaid) = opened_at id past
+owner past (record_of.Odd id before after) = opened_at id past
+owner past (record_of.Sold id price) = 1
 
 -- The line of a device's address that an entry is, or none.
-abbrev pub own : DeviceSetup → Entry → List Line
-own d (entry.Accepted addr c) = at addr d (accepted c)
-own d (entry.Inhibited addr place) = at addr d (inhibited place)
-own d (entry.Taken command) = at (address_of command) d (taken command)
-own d (entry.Wire addr sent piece) = at addr d (exchange (asked d.kind sent) (got_by d sent piece))
-own d (entry.Put r) = at (owner r) d (put r)
-own d (entry.Ended addr end) = at addr d (ended end)
-own d _ = []
+abbrev pub own : DeviceSetup → List Entry → Entry → List Line
+own d past (entry.Accepted addr c) = at addr d (line.accepted c)
+own d past (entry.Inhibited addr place) = at addr d (line.inhibited place)
+own d past (entry.Alien addr) = at addr d line.alien
+own d past (entry.Fell addr) = at addr d line.fell
+own d past (entry.Reset addr) = at addr d line.reset
+own d past (entry.Taken command) = at (address_of command) d (line.taken command)
+own d past (entry.Wire addr sent piece) = at addr d (line.exchange (asked d.kind sent) (got_by d sent piece))
+own d past (entry.Put r) = at (owner past r) d (line.put r)
+own d past (entry.Kept r) = at (owner past r) d (line.put r)
+own d past (entry.Ended addr end) = at addr d (line.ended end)
+own d past (entry.Crash records) = line.crashed ∷ []
+own d past e = []
 
 -- The lines of a device's address.
 abbrev pub lines_of : DeviceSetup → List Entry → List Line
 lines_of d [] = []
-lines_of d (e ∷ past) = own d e ++ lines_of d past
+lines_of d (e ∷ past) = own d past e ++ lines_of d past
+
+-- What stands at address 0, where scans are.
+abbrev pub at_scan : {A : Type 0} → ℕ → A → List A
+at_scan addr x = if addr == 0 then x ∷ [] else []
+
+-- The line of a scan that an exchange is: it polled the address that the piece sent is for, under the check of the two
+-- whose poll that piece is.
+unfoldable pub scan_line : List ℕ → List ℕ → Line
+scan_line sent piece =
+    let addr = slice_index sent 0 in
+    if bytes_eq sent (ask Simple addr (poll_of addr))
+    then line.scanned Simple addr (after_echo sent piece)
+    else line.scanned Crc addr (after_echo sent piece)
+
+-- The line of address 0 that an entry is, or none.
+abbrev pub scan_own : Entry → List Line
+scan_own (entry.Taken command) = at_scan (address_of command) (line.taken command)
+scan_own (entry.Wire addr sent piece) = at_scan addr (scan_line sent piece)
+scan_own (entry.Ended addr end) = at_scan addr (line.ended end)
+scan_own (entry.Crash records) = line.crashed ∷ []
+scan_own e = []
+
+-- The lines of address 0.
+abbrev pub scan_lines : List Entry → List Line
+scan_lines [] = []
+scan_lines (e ∷ past) = scan_own e ++ scan_lines past
 
 -- Entries that were written in this order go onto a past, the last of them newest.
 abbrev pub onto : List Entry → List Entry → List Entry

@@ -1,8 +1,9 @@
 //! The devices of a machine, as the setup lines of a script give them.
-ghost use Rattle.std.specs.Prelude.{◌≡◌, ◌<◌, ◌≤◌, List, [], ◌∷◌, ◌++◌, length};
+ghost use Rattle.std.specs.Prelude.{◌≡◌, ◌<◌, ◌≤◌, ◌==◌, List, [], ◌∷◌, ◌++◌, length, map, if◌then◌else◌};
 
 use crate::{CheckKind, Name};
 use arrayvec::ArrayVec;
+use std::alloc::AllocError;
 use std::marker::Model;
 
 /// The texts by which a device names itself: 1 to 24 printing characters each.
@@ -41,20 +42,26 @@ impl Default for DeviceBody {
     }
 }
 
-/// One device of a setup: its address, 2 to 255, its check, its serial number, below 2^24, and its texts.
+/// One device of a setup: its address, 2 to 255, its check, its serial number, below 2^24, and its texts, which a script
+/// says by a line of their own or not at all.
 #[derive(Clone, Debug, Default, Drop, PartialEq, Eq)]
 pub struct DeviceSetup {
     pub addr: u8,
     pub kind: CheckKind,
     pub serial: u32,
     pub texts: Texts,
+    /// Whether a line of the script said the texts.
+    pub named: bool,
     pub body: DeviceBody,
 }
+
+/// The most devices of a setup.
+pub const DEVICES: usize = 16;
 
 /// The devices of a setup, in the order of the script.
 #[derive(Clone, Debug, Default, Drop, PartialEq, Eq)]
 pub struct Devices {
-    devices: ArrayVec<DeviceSetup, 16>,
+    devices: ArrayVec<DeviceSetup, DEVICES>,
 }
 
 impl Model for Devices {
@@ -88,6 +95,13 @@ impl Devices {
         self.devices.push(device);
     }
 
+    /// Puts a device in the place of the one at its address.
+    pub fn replace(&mut self, device: &DeviceSetup)
+        ensures { self.new ≡ map (λ d. if d.addr == device.now.addr then device.now else d) self.old }
+    {
+        replace_in(self.devices.as_mut_slice(), device);
+    }
+
     /// Removes every device.
     pub fn clear(&mut self)
         ensures { self.new ≡ [] }
@@ -104,8 +118,50 @@ impl Devices {
     }
 }
 
+/// Puts a device in the place of each at its address.
+fn replace_in(devices: &mut [DeviceSetup], device: &DeviceSetup)
+    ensures { devices.new ≡ map (λ d. if d.addr == device.now.addr then device.now else d) devices.old }
+{
+    for place in devices.iter_mut() {
+        if place.addr == device.addr {
+            *place = copy_of(device);
+        }
+    }
+}
+
+/// The same device once more.
+fn copy_of(device: &DeviceSetup) -> DeviceSetup
+    ensures { result ≡ device.now }
+{
+    let copy: Result<DeviceSetup, AllocError> = device.clone();
+    copy.unwrap()
+}
+
 /// The machine that a script plays on.
 #[derive(Clone, Debug, Default, Drop, PartialEq, Eq)]
 pub struct Setup {
     pub devices: Devices,
+}
+
+/// What a setup line of a script says.
+#[derive(Debug, Drop)]
+pub enum SetupLine {
+    /// There is this coin acceptor.
+    Acceptor(DeviceSetup),
+    /// There is this hopper.
+    Hopper(DeviceSetup),
+    /// The coin of a place, 1 to 16, of acceptor `addr` has this value, 1 to 1,000,000, and this identification.
+    Value {
+        addr: u8,
+        place: u8,
+        value: u32,
+        id: [u8; 6],
+    },
+    /// Device `addr` has these texts.
+    Named {
+        addr: u8,
+        texts: Texts,
+    },
+    /// The setup is done.
+    Begin,
 }

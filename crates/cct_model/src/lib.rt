@@ -5,15 +5,17 @@
 mod coin;
 mod command;
 mod device;
+mod device_set;
 mod entry;
 mod record;
 mod request;
 mod wire;
 
 pub use coin::{Coin, Coins, Credits, Pair};
-pub use command::{Command, CommandNo, Step};
-pub use device::{DeviceBody, DeviceSetup, Devices, Setup, Texts};
-pub use entry::{End, Entry, LineKind};
-pub use record::{Judged, Record};
+pub use command::{Command, CommandNo, CrashAt, Step, WireFault};
+pub use device::{DEVICES, DeviceBody, DeviceSetup, Devices, Setup, SetupLine, Texts};
+pub use device_set::DeviceSet;
+pub use entry::{End, Entry, LineKind, Listed, SumOf, Totals};
+pub use record::{EpochState, Judged, OpenOrder, Record};
 pub use request::{Reply, ReplyForm, Request};
 pub use wire::{Bytes, CheckKind, Name, Piece, Sent};

@@ -1,10 +1,15 @@
-//! The records of the host's journal.
+//! The records of the host's journal, and what the host keeps of them.
 
 use crate::Coins;
 
 /// A record of the host's journal. A record is the post: the coins in it are those that the machine counts.
-#[derive(Debug, Drop)]
+#[derive(Clone, Debug, Drop)]
 pub enum Record {
+    /// An epoch begins at acceptor `addr`: it is to accept the coin places of this inhibit mask.
+    Epoch {
+        addr: u8,
+        mask: u16,
+    },
     /// A reading of acceptor `addr`: the event counter that was read, how many events were overrun and so are lost,
     /// and the coins that are posted, oldest first.
     Reading {
@@ -14,12 +19,40 @@ pub enum Record {
         posted: Coins,
     },
     /// A reading that shows that acceptor `addr` was reset or isn't set as it was: the inhibit mask and the event
-    /// counter that were read, and the coins that are posted, oldest first.
+    /// counter that were read, and the coins that are posted, oldest first. It ends the epoch.
     Broken {
         addr: u8,
         mask_seen: u16,
         counter: u8,
         posted: Coins,
+    },
+    /// The epoch of acceptor `addr` ends.
+    EpochEnd {
+        addr: u8,
+    },
+    /// An order is opened: hopper `addr`, whose life count was read, is to pay so many coins.
+    Opened {
+        id: u32,
+        addr: u8,
+        count: u8,
+        life: u32,
+    },
+    /// An order is closed: so many of its coins were paid, and so many were not.
+    Closed {
+        id: u32,
+        paid: u8,
+        unpaid: u8,
+    },
+    /// An order is closed whose life counts tell more coins than were ordered.
+    Odd {
+        id: u32,
+        life_before: u32,
+        life_after: u32,
+    },
+    /// Something was sold.
+    Sold {
+        id: u32,
+        price: u32,
     },
 }
 
@@ -32,4 +65,24 @@ pub enum Judged {
     Reading(Record),
     /// Put this record, a `Broken`.
     Broken(Record),
+}
+
+/// What is recorded of an acceptor.
+#[derive(Clone, Copy, Debug, Default, PartialEq, Eq)]
+pub enum EpochState {
+    /// No epoch runs.
+    #[default]
+    Idle,
+    /// An epoch runs with this inhibit mask; the event counter is that of the last reading recorded in it, or 0.
+    Running { mask: u16, counter: u8 },
+}
+
+/// An order that is open: its id, its hopper, how many coins it is for, and the life count of the hopper, below 2^24,
+/// that was read before.
+#[derive(Clone, Copy, Debug, Default, PartialEq, Eq)]
+pub struct OpenOrder {
+    pub id: u32,
+    pub addr: u8,
+    pub count: u8,
+    pub life: u32,
 }

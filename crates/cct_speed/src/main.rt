@@ -122,6 +122,7 @@ fn acceptor() -> DeviceSetup
             software: name(),
             build: name(),
         },
+        named: true,
         body: body(),
     }
 }

@@ -1,5 +1,5 @@
-use Rattle.cct_laws.proofs.Scripts.{setup_of_script, script_in_range, script_few, played_in_range, played_few}
+use Rattle.cct_laws.proofs.Scripts.{setup_of_today, steps_of_today, front_of_today}
 use Rattle.cct_laws.proofs.scripts_are_in_range.Goals as goal
 
 pub returns : goal.returns
-returns c = record { setup = setup_of_script; in_range = script_in_range; few_coins = script_few; front_in_range = played_in_range; front_of_few_coins = played_few }
+returns c = record { setup = setup_of_today; steps = steps_of_today; fronts = front_of_today }

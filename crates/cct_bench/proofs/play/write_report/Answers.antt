@@ -1,4 +1,4 @@
-use Rattle.cct_bench.specs.Report.{exchange_of, entries_of}
+use Rattle.cct_world.specs.Report.{exchange_of, entries_of}
 use Rattle.cct_edge.specs.Bytes.{AppendsFront}
 use Rattle.cct_model.specs.Text.{text}
 use Rattle.cct_bench.proofs.Written.{on_err, err_goes, first_front, second_front}

@@ -1,4 +1,4 @@
-use Rattle.cct_bench.specs.Report.{entries_of}
+use Rattle.cct_world.specs.Report.{entries_of}
 use Rattle.std.specs.Io.KnownBytes.{Appends}
 use Rattle.cct_edge.specs.Bytes.{AppendsFront}
 use Rattle.cct_model.specs.Text.{text}
@@ -11,6 +11,6 @@ returns-clause-plays g c =
     let new = g.K.Sink.written c.write_report.new.out in
     let report = entries_of c.step.new.report in (
       report,
-      c.step.ensures,
+      c.step.ensures.plays,
       match_both c.write_report.result (Appends old new (text report)) (AppendsFront old new (text report)) c.write_report.ensures.ok c.write_report.ensures.err,
     )

@@ -1,9 +1,0 @@
-use Rattle.std.proofs.Common.{◌-◌, length}
-use Rattle.cct_bench.proofs.Held.{Seeks}
-use Rattle.cct_bench.proofs.reader.Lines.seek.Given as goal
-
-abbrev pub invariant-loop-at : goal.invariant-loop-at
-invariant-loop-at g l = Seeks g.S.Source.left g.S.Source.faults l.fn.self l.self l.fn.source l.source
-
-abbrev pub decreases-loop-at : goal.decreases-loop-at
-decreases-loop-at g l = 1201 - length l.self

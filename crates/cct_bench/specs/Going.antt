@@ -1,0 +1,36 @@
+-- What a run keeps from line to line.
+use Rattle.std.specs.Prelude.{◌≡◌, ℕ, List, [], ◌++◌, Option, ⊤}
+use Rattle.std.specs.Io.KnownBytes.{Appends, Consumes}
+use Rattle.cct_model.specs.declared.command.Step.{Step}
+use Rattle.cct_model.specs.declared.entry.Entry.{Entry}
+use Rattle.cct_model.specs.Legal.{Legal}
+use Rattle.cct_model.specs.Script.{Stage, Script, script}
+use Rattle.cct_model.specs.Text.{text}
+use Rattle.cct_model.specs.Transcript.{onto}
+use Rattle.cct_bench.specs.Lines.{said_from}
+
+-- A script says these steps, and then what the rest says.
+pub record AlsoSays (whole : Script) (played : List Step) (rest : Script) : Type 0 where
+  pub setup : whole.setup ≡ rest.setup
+  pub steps : whole.steps ≡ played ++ rest.steps
+  pub refused : whole.refused ≡ rest.refused
+
+-- What was taken and played so far: whatever follows, the script says these steps and what the lines from here on say,
+-- and the entries are those of these steps.
+pub record Going (left0 left : Option (List ℕ)) (held : List ℕ) (number : ℕ) (stage : Stage) (Stands : List Entry → Type 0) (old now : Option (List ℕ)) : Type 0 where
+  pub taken : List ℕ
+  pub played : List Step
+  pub transcript : List Entry
+  pub consumed : Consumes left0 left taken
+  pub says : (more : List ℕ) → AlsoSays (script (taken ++ more)) played (said_from number stage (held ++ more))
+  pub legal : (more : List ℕ) → Legal (script (taken ++ more)).setup played transcript
+  pub stands : Stands (onto [] transcript)
+  pub wrote : Appends old now (text transcript)
+
+-- Nothing was played.
+abbrev pub IsNothing : List Entry → Type 0
+IsNothing past = past ≡ []
+
+-- Whatever was played.
+abbrev pub IsAnything : List Entry → Type 0
+IsAnything past = ⊤

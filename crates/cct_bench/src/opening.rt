@@ -1,0 +1,89 @@
+//! The setup of a script, line by line.
+ghost use Rattle.std.specs.Prelude.{◌≡◌, ℕ, ◌≤◌, ◌+◌, Err, Ok, IfOk, MatchResult};
+ghost use Rattle.std.specs.Result.{IfErr};
+ghost use Rattle.cct_edge.specs.Bytes.{TellsAsBefore};
+ghost use Rattle.cct_edge.specs.Faults.{Rose};
+ghost use Rattle.cct_model.specs.Script.{at_setup, opens, refuses, is_setup_word, read_form};
+ghost use Rattle.cct_bench.specs.Lines.{GoesOn, StopsAt, Came};
+ghost use Rattle.cct_bench.specs.Setup.{stage_of, opened_by};
+
+use crate::lines::{Stop, next_line, word_of};
+use cct_edge::Source;
+use cct_model::{LineKind, Setup, SetupLine};
+use cct_script::{LineBuffer, add, read_setup_line};
+
+/// What a setup line does to the setup.
+#[derive(Clone, Copy, Debug, PartialEq, Eq)]
+pub enum Opened {
+    /// It adds to it.
+    Added,
+    /// The setup is done, and the steps begin.
+    Begun,
+}
+
+/// Whether a word is one of the setup words that are played today.
+fn is_setup_word(word: &[u8]) -> bool
+    ensures { result ≡ is_setup_word word.now }
+{
+    word == b"acceptor".as_slice()
+        || word == b"value".as_slice()
+        || word == b"texts".as_slice()
+        || word == b"begin".as_slice()
+}
+
+fn opened_by(line: &SetupLine) -> Opened
+    ensures { result ≡ opened_by line.now }
+{
+    match line {
+        SetupLine::Begin => Opened::Begun,
+        _ => Opened::Added,
+    }
+}
+
+/// Takes one whole setup line into the setup.
+fn take_setup_line(setup: &mut Setup, line: &[u8]) -> Result<Opened, LineKind>
+    ensures reads { MatchResult result
+        (λ opened. read_form (at_setup setup.old) line.now ≡ opens (stage_of opened setup.new))
+        (λ why. read_form (at_setup setup.old) line.now ≡ refuses why) }
+{
+    if !is_setup_word(word_of(line)) {
+        return Err(LineKind::Word);
+    }
+    let said = match read_setup_line(line) {
+        Ok(said) => said,
+        Err(why) => return Err(why),
+    };
+    match add(setup, &said) {
+        Ok(()) => Ok(opened_by(&said)),
+        Err(why) => Err(why),
+    }
+}
+
+/// Reads the next setup line of a script into the setup.
+pub fn read_opening<S: Source>(
+    lines: &mut LineBuffer,
+    setup: &mut Setup,
+    number: u32,
+    script: &mut S,
+) -> Result<Opened, Stop>
+    ensures reads { IfOk result (λ opened. Came lines.old (S.left script.old) (S.left script.new)
+        (λ held. GoesOn number (at_setup setup.old) held (opens (stage_of opened setup.new)) lines.new)) }
+    ensures stops { IfErr result (λ why.
+        Came lines.old (S.left script.old) (S.left script.new) (StopsAt number (at_setup setup.old) why (S.left script.new))) }
+    ensures counted { IfOk result (λ opened. number ≤ 1048576) }
+    ensures tells { TellsAsBefore (S.left script.old) (S.left script.new) }
+    ensures later { S.faults script.old ≤ S.faults script.new }
+    ensures cause { result ≡ Err Stop.Unread → Rose (S.faults script.old) (S.faults script.new) }
+{
+    let len = match next_line(lines, number, script) {
+        Ok(len) => len,
+        Err(why) => return Err(why),
+    };
+    match take_setup_line(setup, &lines.held()[..len]) {
+        Ok(opened) => {
+            lines.advance(len + 1);
+            Ok(opened)
+        }
+        Err(kind) => Err(Stop::Refused(kind)),
+    }
+}

@@ -1,0 +1,6 @@
+pub mod Buses
+pub mod Hears
+pub mod Lives
+pub mod Orders
+pub mod Places
+pub mod Said

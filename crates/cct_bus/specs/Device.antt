@@ -1,0 +1,22 @@
+-- A device on the wire, and what it met.
+use Rattle.std.specs.Prelude.{List, map}
+use Rattle.cct_model.specs.declared.device.DeviceSetup.{DeviceSetup}
+use Rattle.cct_model.specs.History.{Met}
+use Rattle.cct_acceptor.specs.Acceptor as acceptor
+use Rattle.cct_bus.specs.declared.device.Device.{Device}
+
+-- The setup of a device on the wire.
+abbrev pub setup_in : Device → DeviceSetup
+setup_in device = device.setup.now
+
+-- The setups of devices on the wire, in their order.
+abbrev pub setups_in : List Device → List DeviceSetup
+setups_in devices = map setup_in devices
+
+-- A device on the wire stands for one of its setup that met all this, newest first.
+abbrev pub Lived : Device → List Met → Type 0
+Lived device past = acceptor.StandsFor device.acceptor (setup_in device) past
+
+-- A device on the wire met what a history tells of its setup.
+abbrev pub Stands : (DeviceSetup → List Met) → Device → Type 0
+Stands history device = Lived device (history (setup_in device))

@@ -1,0 +1,4 @@
+pub mod Bus
+pub mod Device
+pub mod Fault
+pub mod Room

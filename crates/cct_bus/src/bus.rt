@@ -1,0 +1,251 @@
+//! The bus: devices on one wire, and the host's end of it.
+ghost use Rattle.std.specs.Prelude.{◌≡◌, ◌==◌, nat_le, ◌+◌, ◌<◌, ◌≤◌, ℕ, List, ◌∷◌, [], ◌++◌, take, IfOk, IfSome, IsTrue, Option, map, is_some, length, Some, unwrap_or};
+ghost use Rattle.std.specs.List.{All, flat_map, position};
+ghost use Rattle.std.specs.Option.{option_map};
+ghost use Rattle.cct_model.specs.declared.device.DeviceSetup.{DeviceSetup};
+ghost use Rattle.cct_model.specs.declared.command.WireFault.TheVariants.{HostHears};
+ghost use Rattle.cct_model.specs.declared.entry.Entry.{Entry};
+ghost use Rattle.cct_model.specs.declared.entry.Entry.TheVariants as entry;
+ghost use Rattle.cct_model.specs.Device.{IsAcceptor, IsSound};
+ghost use Rattle.cct_model.specs.Exchange.{by_address, device_at};
+ghost use Rattle.cct_model.specs.Legal.{OfAcceptor, OfDevice, acceptor_there, coin_entry, hopper_there};
+ghost use Rattle.cct_model.specs.Setup.{IsSoundSetup};
+ghost use Rattle.cct_model.specs.Transcript.{heard_by_devices, heard_by_host, met, opening};
+ghost use Rattle.cct_acceptor.specs.Acceptor.{inserted};
+ghost use Rattle.cct_bus.specs.Device.{Stands, setup_in, setups_in};
+ghost use Rattle.cct_bus.specs.Fault.{IsShort};
+ghost use Rattle.cct_bus.specs.Room.{most_answered};
+
+use crate::device::Device;
+use crate::hearing::all_hear;
+use arrayvec::ArrayVec;
+use cct_acceptor::Inserted;
+use cct_model::{DeviceBody, DeviceSetup, Setup, WireFault};
+use cct_wire::Link;
+use std::alloc::{AllocError, Global};
+use std::mem;
+
+/// Up to 16 devices on one wire (ccTalk Generic Specification 4, part 1). Its contracts tell it by the transcript of all
+/// that happened on it, newest entry first.
+#[derive(Drop)]
+pub struct Bus<'s> {
+    setup: &'s Setup,
+    /// The devices in rising order of address.
+    devices: Vec<Device<'s>>,
+    /// What is wrong in the next exchange.
+    fault: WireFault,
+    /// The room for one answer.
+    frame: ArrayVec<u8, 260>,
+    ghost order: { setups_in devices.items ≡ by_address setup.now.devices },
+    ghost room: { (piece : List ℕ) → most_answered piece setup.now.devices ≤ 260 },
+    ghost short: { (piece : List ℕ) → fault ≡ HostHears piece → length piece ≤ 260 },
+}
+
+impl<'s> Bus<'s> {
+    ghost use Rattle.cct_bus.specs.Bus.{StandsFor, setup_of};
+
+    /// A bus with the devices of a setup, on which nothing has happened: each acceptor accepts every coin place. This
+    /// takes all memory that the bus ever has.
+    ///
+    /// Fails only where there is no memory for it.
+    pub fn new(alloc: Global, setup: &'s Setup) -> Result<Bus<'s>, AllocError>
+        requires sound { IsSoundSetup setup.now }
+        requires acceptors { All (λ d. IsAcceptor d.body) setup.now.devices }
+        ensures setup { IfOk result (λ bus. setup_of bus ≡ setup.now) }
+        ensures fresh { IfOk result (λ bus. StandsFor bus []) }
+    {
+        let devices = devices_of(alloc, setup.devices.as_slice())?;
+        Ok(Bus {
+            setup,
+            devices,
+            fault: WireFault::Clear,
+            frame: ArrayVec::new(),
+        })
+    }
+
+    /// Whether a coin acceptor stands at an address.
+    pub fn is_acceptor(&self, addr: u8) -> bool
+        ensures { result ≡ acceptor_there (device_at (setup_of self.now).devices addr) }
+    {
+        match setup_at(self.setup, addr) {
+            Some(device) => matches!(device.body, DeviceBody::Acceptor { .. }),
+            None => false,
+        }
+    }
+
+    /// Whether a hopper stands at an address.
+    pub fn is_hopper(&self, addr: u8) -> bool
+        ensures { result ≡ hopper_there (device_at (setup_of self.now).devices addr) }
+    {
+        match setup_at(self.setup, addr) {
+            Some(device) => matches!(device.body, DeviceBody::Hopper { .. }),
+            None => false,
+        }
+    }
+
+    /// Whether a device stands at an address.
+    pub fn has_device(&self, addr: u8) -> bool
+        ensures { result ≡ is_some (device_at (setup_of self.now).devices addr) }
+    {
+        setup_at(self.setup, addr).is_some()
+    }
+
+    /// A coin of a place, 1 to 16, falls into the acceptor at an address.
+    #[tactic(auto, using(crate::proofs::Buses::acceptor_is_some))]
+    pub fn coin(&mut self, addr: u8, place: u8) -> Inserted
+        requires there { IsTrue (acceptor_there (device_at (setup_of self.old).devices addr)) }
+        requires low { 1 ≤ place }
+        requires high { place ≤ 16 }
+        ensures setup { setup_of self.new ≡ setup_of self.old }
+        ensures stands { (past : List Entry) → StandsFor self.old past
+            → OfAcceptor (device_at (setup_of self.old).devices addr) (λ d. (result ≡ inserted (met d past) place)
+            × StandsFor self.new (coin_entry d past place ∷ past)) }
+    {
+        let index = self.index_of(addr);
+        self.devices[index].coin(place)
+    }
+
+    /// A piece that is no coin falls into the acceptor at an address.
+    #[tactic(auto, using(crate::proofs::Buses::acceptor_is_some))]
+    pub fn alien(&mut self, addr: u8)
+        requires there { IsTrue (acceptor_there (device_at (setup_of self.old).devices addr)) }
+        ensures setup { setup_of self.new ≡ setup_of self.old }
+        ensures stands { (past : List Entry) → StandsFor self.old past → StandsFor self.new (entry.Alien addr ∷ past) }
+    {
+        let index = self.index_of(addr);
+        self.devices[index].alien();
+    }
+
+    /// The device at an address starts again as after power-up.
+    pub fn reset(&mut self, addr: u8)
+        requires there { IsTrue (is_some (device_at (setup_of self.old).devices addr)) }
+        ensures setup { setup_of self.new ≡ setup_of self.old }
+        ensures stands { (past : List Entry) → StandsFor self.old past → StandsFor self.new (entry.Reset addr ∷ past) }
+    {
+        let index = self.index_of(addr);
+        self.devices[index].reset();
+    }
+
+    /// Sets what is wrong in the next exchange, in the place of what was set before.
+    pub fn set_fault(&mut self, fault: WireFault)
+        requires short { IsShort fault }
+        ensures setup { setup_of self.new ≡ setup_of self.old }
+        ensures stands { (past : List Entry) → StandsFor self.old past → StandsFor self.new (entry.Fault fault ∷ past) }
+    {
+        self.fault = fault;
+    }
+
+    /// The index of the device at an address.
+    fn index_of(&self, addr: u8) -> usize
+        requires { IsTrue (is_some (device_at (setup_of self.now).devices addr)) }
+        ensures first { position (λ device. (setup_in device).addr == addr) self.now.devices.items ≡ Some result }
+        ensures within { result < length self.now.devices.items }
+    {
+        place_of(&self.devices, addr).unwrap()
+    }
+}
+
+impl Link for Bus<'_> {
+    ghost use Rattle.cct_bus.specs.Bus.{Exchanges};
+
+    ghost gives = { Exchanges };
+
+    /// Every device hears what is sent, or what the fault that is set has reach it, and acts on it. The host hears its
+    /// echo and the answers in rising order of address, or what the fault makes of that. The fault is then used up.
+    fn exchange(&mut self, sent: &[u8], heard: &mut ArrayVec<u8, 520>) {
+        let fault = mem::replace(&mut self.fault, WireFault::Clear);
+        heard.clear();
+        heard.try_extend_from_slice(sent).unwrap();
+        let piece = heard_by_devices(&fault, sent);
+        all_hear(&mut self.devices, piece, &mut self.frame, heard);
+        heard_by_host(&fault, sent, heard);
+    }
+}
+
+/// The devices of setups, in rising order of address. Each is put where it belongs among those that come after it.
+fn devices_of<'s>(alloc: Global, setups: &'s [DeviceSetup]) -> Result<Vec<Device<'s>>, AllocError>
+    requires sound { All IsSound setups.now }
+    requires acceptors { All (λ d. IsAcceptor d.body) setups.now }
+    ensures order { IfOk result (λ devices. setups_in devices.items ≡ by_address setups.now) }
+    ensures fresh { IfOk result (λ devices. All (Stands (λ d. opening d.body)) devices.items) }
+{
+    match setups {
+        [] => Ok(Vec::new(alloc)),
+        [first, rest @ ..] => {
+            let mut devices = devices_of(alloc, rest)?;
+            let device = Device::new(alloc, first)?;
+            let place = rank_of(&devices, first.addr);
+            devices.insert(place, device)?;
+            Ok(devices)
+        }
+    }
+}
+
+/// How many devices stand before the first whose address isn't below this one.
+fn rank_of(devices: &[Device<'_>], addr: u8) -> usize
+    ensures rank { result ≡ unwrap_or (position (λ device. nat_le addr (setup_in device).addr) devices.now) (length devices.now) }
+    ensures within { result ≤ length devices.now }
+{
+    place_not_below(devices, addr).unwrap_or(devices.len())
+}
+
+/// The index of the first device whose address isn't below this one, or none.
+fn place_not_below(devices: &[Device<'_>], addr: u8) -> Option<usize>
+    ensures first { result ≡ position (λ device. nat_le addr (setup_in device).addr) devices.now }
+    ensures within { IfSome result (λ place. place < length devices.now) }
+{
+    devices.iter().position(|device| addr <= device.setup.addr)
+}
+
+/// The index of the device at an address, or none.
+fn place_of(devices: &[Device<'_>], addr: u8) -> Option<usize>
+    ensures first { result ≡ position (λ device. (setup_in device).addr == addr) devices.now }
+    ensures within { IfSome result (λ place. place < length devices.now) }
+{
+    devices.iter().position(|device| device.setup.addr == addr)
+}
+
+/// The setup of the device at an address, or none.
+fn setup_at(setup: &Setup, addr: u8) -> Option<&DeviceSetup>
+    ensures { option_map (λ d. d.now) result ≡ device_at setup.now.devices addr }
+{
+    for device in setup.devices.as_slice() {
+        if device.addr == addr {
+            return Some(device);
+        }
+    }
+    None
+}
+
+/// What the devices hear where the host sends a piece.
+fn heard_by_devices<'a>(fault: &'a WireFault, sent: &'a [u8]) -> &'a [u8]
+    ensures { result.now ≡ heard_by_devices fault.now sent.now }
+{
+    match fault {
+        WireFault::DevicesHear(piece) => piece.as_slice(),
+        WireFault::Clear | WireFault::HostHears(_) | WireFault::WholeHeard(_) => sent,
+    }
+}
+
+/// Makes of its echo and the answers behind it what the host hears.
+fn heard_by_host(fault: &WireFault, sent: &[u8], heard: &mut ArrayVec<u8, 520>)
+    requires echo { length sent.now ≤ 260 }
+    requires short { (piece : List ℕ) → fault.now ≡ HostHears piece → length piece ≤ 260 }
+    ensures { (answered : List ℕ) → heard.old.items ≡ sent.now ++ answered
+        → heard.new.items ≡ heard_by_host fault.now sent.now answered }
+{
+    match fault {
+        WireFault::Clear | WireFault::DevicesHear(_) => {}
+        WireFault::HostHears(piece) => put_from(sent.len(), piece.as_slice(), heard),
+        WireFault::WholeHeard(piece) => put_from(0, piece.as_slice(), heard),
+    }
+}
+
+/// Puts a piece in the place of what stands from an index on.
+fn put_from(index: usize, piece: &[u8], heard: &mut ArrayVec<u8, 520>)
+    requires { index + length piece.now ≤ 520 }
+    ensures { heard.new.items ≡ take index heard.old.items ++ piece.now }
+{
+    heard.truncate(index);
+    heard.try_extend_from_slice(piece).unwrap();
+}

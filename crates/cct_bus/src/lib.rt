@@ -1,0 +1,11 @@
+//! The wire: up to 16 devices on one bus, and what goes wrong on it.
+#![tactic(auto)]
+
+mod bus;
+mod device;
+mod hearing;
+
+pub use bus::Bus;
+
+#[cfg(test)]
+mod tests;

@@ -1,0 +1,7 @@
+pub mod Heard
+pub mod Questions
+pub mod Rows
+pub mod Sets
+pub mod Scans
+pub mod Starts
+pub mod Tries

@@ -1,0 +1,34 @@
+use Rattle.std.proofs.Common.{subst}
+use Rattle.cct_jobs.specs.declared.job.Job.{Job}
+use Rattle.cct_jobs.specs.Jobs.{Needs, need_of}
+use Rattle.cct_jobs.specs.Scans.{NeedsScan}
+use Rattle.cct_jobs.proofs.Starts.{need_known, scan_need}
+use Rattle.cct_jobs.proofs.job.Job.needs.Goals as goal
+
+pub returns-in-RoundAsks-clause-row : goal.returns-in-RoundAsks-clause-row
+returns-in-RoundAsks-clause-row c = λ d command since counter at.
+    subst (λ (job : Job). Needs (need_of job) d command since counter) c.in-RoundAsks.is (need_known d c.args.self.now command since counter at)
+
+pub returns-in-PathSets-clause-row : goal.returns-in-PathSets-clause-row
+returns-in-PathSets-clause-row c = λ d command since counter at.
+    subst (λ (job : Job). Needs (need_of job) d command since counter) c.in-PathSets.is (need_known d c.args.self.now command since counter at)
+
+pub returns-in-PathReads-clause-row : goal.returns-in-PathReads-clause-row
+returns-in-PathReads-clause-row c = λ d command since counter at.
+    subst (λ (job : Job). Needs (need_of job) d command since counter) c.in-PathReads.is (need_known d c.args.self.now command since counter at)
+
+pub returns-in-ScanCallsSimple-clause-scan : goal.returns-in-ScanCallsSimple-clause-scan
+returns-in-ScanCallsSimple-clause-scan c = λ since at.
+    subst (λ (job : Job). NeedsScan (need_of job) since) c.in-ScanCallsSimple.is (scan_need c.args.self.now since at)
+
+pub returns-in-ScanCallsCrc-clause-scan : goal.returns-in-ScanCallsCrc-clause-scan
+returns-in-ScanCallsCrc-clause-scan c = λ since at.
+    subst (λ (job : Job). NeedsScan (need_of job) since) c.in-ScanCallsCrc.is (scan_need c.args.self.now since at)
+
+pub returns-in-ScanPollsSimple-clause-scan : goal.returns-in-ScanPollsSimple-clause-scan
+returns-in-ScanPollsSimple-clause-scan c = λ since at.
+    subst (λ (job : Job). NeedsScan (need_of job) since) c.in-ScanPollsSimple.is (scan_need c.args.self.now since at)
+
+pub returns-in-ScanPollsCrc-clause-scan : goal.returns-in-ScanPollsCrc-clause-scan
+returns-in-ScanPollsCrc-clause-scan c = λ since at.
+    subst (λ (job : Job). NeedsScan (need_of job) since) c.in-ScanPollsCrc.is (scan_need c.args.self.now since at)

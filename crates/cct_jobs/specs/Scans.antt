@@ -1,0 +1,76 @@
+-- The lines of a scan, newest first, that a job stands for.
+use Rattle.std.specs.Prelude.{◌≡◌, ◌<◌, nat_le, ℕ, true, false, List, [], Some}
+use Rattle.std.specs.List.{list_any}
+use Rattle.cct_model.specs.declared.wire.CheckKind.{CheckKind}
+use Rattle.cct_model.specs.declared.wire.CheckKind.TheVariants.{Simple, Crc}
+use Rattle.cct_model.specs.declared.device_set.DeviceSet.{DeviceSet}
+use Rattle.cct_model.specs.declared.entry.Listed.{Listed}
+use Rattle.cct_model.specs.DeviceSet.{has}
+use Rattle.cct_model.specs.Line.{Line}
+use Rattle.cct_model.specs.Scan.{echoes, end_of_scan, found, is_due, noted, poll_after, polls, scan_row, scan_tries}
+use Rattle.cct_jobs.specs.declared.job.Need.{Need}
+use Rattle.cct_jobs.specs.declared.job.Need.TheVariants as need
+use Rattle.cct_jobs.specs.declared.job.Job.{Job}
+use Rattle.cct_jobs.specs.declared.job.Job.TheVariants.{RoundAsks, RoundPuts, IdentAsks, PathSets, PathReads, ScanCallsSimple, ScanCallsCrc, ScanPollsSimple, ScanPollsCrc, Done}
+
+-- No device was polled.
+pub record Unpolled (since : List Line) : Type 0 where
+  pub unpolled : (addr : ℕ) → nat_le 2 addr ≡ true → list_any (polls addr) since ≡ false
+  pub unfound : (check : CheckKind) (addr : ℕ) → found check since addr ≡ false
+
+-- A scan that calls all devices under the simple check: no call had a good echo.
+pub record CallsSimple (failed : ℕ) (since : List Line) : Type 0 where
+  pub no_simple : list_any (echoes Simple 0) since ≡ false
+  pub no_crc : list_any (echoes Crc 0) since ≡ false
+  pub nothing : noted since ≡ []
+  pub fresh : Unpolled since
+  pub counted : failed ≡ scan_tries Simple since
+  pub few : failed < 3
+
+-- A set has the addresses that are due.
+abbrev pub HasDue : DeviceSet → List Line → Type 0
+HasDue due since = (addr : ℕ) → addr < 256 → has due addr ≡ is_due since addr
+
+-- A scan that calls all devices under the CRC: the call under the simple check had a good echo.
+pub record CallsCrc (failed : ℕ) (due : DeviceSet) (since : List Line) : Type 0 where
+  pub simple : list_any (echoes Simple 0) since ≡ true
+  pub no_crc : list_any (echoes Crc 0) since ≡ false
+  pub due_is : HasDue due since
+  pub fresh : Unpolled since
+  pub counted : failed ≡ scan_tries Crc since
+  pub few : failed < 3
+
+-- A scan that called all devices under both checks: which addresses are due, and which devices were found.
+pub record Lists (due : DeviceSet) (listed : Listed) (since : List Line) : Type 0 where
+  pub simple : list_any (echoes Simple 0) since ≡ true
+  pub crc : list_any (echoes Crc 0) since ≡ true
+  pub due_is : HasDue due since
+  pub found_simple : (addr : ℕ) → addr < 256 → has listed.simple addr ≡ found Simple since addr
+  pub found_crc : (addr : ℕ) → addr < 256 → has listed.crc addr ≡ found Crc since addr
+  pub quiet_simple : scan_tries Simple since ≡ 0
+  pub quiet_crc : scan_tries Crc since ≡ 0
+
+-- A scan that polls an address under a check.
+pub record Polls (check : CheckKind) (addr : ℕ) (due : DeviceSet) (listed : Listed) (since : List Line) : Type 0 where
+  pub lists : Lists due listed since
+  pub next : poll_after since ≡ Some (check, addr)
+  pub device : nat_le 2 addr ≡ true
+
+-- A job stands for the lines of a scan since its command was taken.
+abbrev pub StandsScan : Job → List Line → Type 0
+StandsScan (ScanCallsSimple failed) since = CallsSimple failed since
+StandsScan (ScanCallsCrc failed due) since = CallsCrc failed due since
+StandsScan (ScanPollsSimple addr due listed) since = Polls Simple addr due listed since
+StandsScan (ScanPollsCrc addr due listed) since = Polls Crc addr due listed since
+StandsScan (Done end) since = end_of_scan since ≡ Some end
+StandsScan (RoundAsks device counter failed) since = ⊥
+StandsScan (RoundPuts entry end) since = ⊥
+StandsScan (IdentAsks device question failed) since = ⊥
+StandsScan (PathSets device place path failed) since = ⊥
+StandsScan (PathReads device place failed) since = ⊥
+
+-- What a scan needs, by its lines: it polls an address, or it ended so.
+abbrev pub NeedsScan : Need → List Line → Type 0
+NeedsScan need.Exchange since = (check : CheckKind) × (addr : ℕ) × (scan_row since ≡ Some (check, addr))
+NeedsScan (need.Put entry) since = ⊥
+NeedsScan (need.Done end) since = end_of_scan since ≡ Some end

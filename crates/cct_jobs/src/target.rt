@@ -1,0 +1,164 @@
+//! The device that a job asks, and what it replies.
+ghost use Rattle.std.specs.Prelude.{◌≡◌, ◌<◌, Some, is_some, IsSome};
+ghost use Rattle.std.specs.Option.{option_map};
+ghost use Rattle.cct_model.specs.Exchange.{device_at, got};
+ghost use Rattle.cct_model.specs.Reply.{reply_shown};
+ghost use Rattle.cct_model.specs.Request.{form_of};
+ghost use Rattle.cct_jobs.specs.Jobs.{after_failed, asks_device, replied, target_of};
+
+use crate::job::Sending;
+use cct_model::{CheckKind, DeviceBody, DeviceSetup, Reply, ReplyForm, Request, Setup};
+use cct_msg::read_reply;
+use cct_wire::{Heard, hear};
+
+/// How often a row is tried in succession.
+const TRIES: u8 = 3;
+
+/// What a job knows of its device: its address, its check, and whether it is a coin acceptor.
+#[derive(Clone, Copy, Debug, PartialEq, Eq)]
+pub struct Target {
+    pub addr: u8,
+    pub kind: CheckKind,
+    pub is_acceptor: bool,
+}
+
+impl Target {
+    /// A request to this device.
+    pub(crate) fn asked(&self, request: Request) -> Sending
+        ensures { result ≡ asks_device self.now request }
+    {
+        Sending {
+            to: self.addr,
+            kind: self.kind,
+            request,
+        }
+    }
+
+    /// The wanted reply to a request to this device, in what was heard after it.
+    pub(crate) fn reply<'h>(
+        &self,
+        request: Request,
+        sent: &[u8],
+        heard: &'h [u8],
+    ) -> Option<Reply<'h>>
+        ensures { option_map reply_shown result ≡ replied self.now.kind self.now.addr request sent.now heard.now }
+    {
+        match form_of(request) {
+            Some(form) => wanted_reply(self.kind, self.addr, form, sent, heard),
+            None => None,
+        }
+    }
+
+    /// Whether the wanted reply to a request to this device is in what was heard after it.
+    pub(crate) fn has_replied(&self, request: Request, sent: &[u8], heard: &[u8]) -> bool
+        ensures { result ≡ is_some (replied self.now.kind self.now.addr request sent.now heard.now) }
+    {
+        match self.reply(request, sent, heard) {
+            Some(_) => true,
+            None => false,
+        }
+    }
+}
+
+/// The reply in the form that is wanted from an address under a check, in what was heard after a request.
+#[tactic(auto, unfolding(cct_model::specs::Exchange::got))]
+pub(crate) fn wanted_reply<'h>(
+    kind: CheckKind,
+    addr: u8,
+    form: ReplyForm,
+    sent: &[u8],
+    heard: &'h [u8],
+) -> Option<Reply<'h>>
+    ensures { option_map reply_shown result ≡ got kind addr form sent.now heard.now }
+{
+    match hear(kind, sent, heard) {
+        Heard::EchoBad { .. } => None,
+        Heard::Silence => None,
+        Heard::Broken(_) => None,
+        Heard::Message(view) => match read_reply(form, addr, &view) {
+            Ok(reply) => Some(reply),
+            Err(_) => None,
+        },
+    }
+}
+
+/// The form of the reply that a request wants, where it wants one of header 0 in a message.
+#[tactic(auto, unfolding(cct_model::specs::Request::form_of))]
+fn form_of(request: Request) -> Option<ReplyForm>
+    ensures { result ≡ form_of request }
+{
+    match request {
+        Request::SimplePoll
+        | Request::ResetDevice
+        | Request::SetMask { .. }
+        | Request::SetMaster { .. }
+        | Request::SetPath { .. }
+        | Request::SetDefault { .. }
+        | Request::Enable { .. }
+        | Request::Dispense { .. } => Some(ReplyForm::Ack),
+        Request::MakerId
+        | Request::Category
+        | Request::ProductCode
+        | Request::SoftwareRevision
+        | Request::BuildCode => Some(ReplyForm::Text),
+        Request::SerialNumber => Some(ReplyForm::Serial),
+        Request::CommsRevision => Some(ReplyForm::Revision),
+        Request::GetMask => Some(ReplyForm::Mask),
+        Request::GetMaster => Some(ReplyForm::Master),
+        Request::ReadCredits => Some(ReplyForm::Credits),
+        Request::GetPath { .. } | Request::GetDefault => Some(ReplyForm::Path),
+        Request::CoinId { .. } => Some(ReplyForm::CoinId),
+        Request::AcceptCount => Some(ReplyForm::Accepts),
+        Request::GetStatus => Some(ReplyForm::Status),
+        Request::GetLife => Some(ReplyForm::Life),
+        Request::StopNow => Some(ReplyForm::Remaining),
+        Request::TestHopper => Some(ReplyForm::Register),
+        Request::AddressPoll | Request::CipherDispense | Request::PumpRng | Request::CipherKey =>
+            None,
+    }
+}
+
+/// The device of a setup at an address.
+pub(crate) fn target_at(setup: &Setup, addr: u8) -> Target
+    requires { IsSome (device_at setup.now.devices addr) }
+    ensures { Some result ≡ option_map target_of (device_at setup.now.devices addr) }
+{
+    target_among(setup.devices.as_slice(), addr).unwrap()
+}
+
+/// The first device of a list at an address.
+fn target_among(devices: &[DeviceSetup], addr: u8) -> Option<Target>
+    ensures { result ≡ option_map target_of (device_at devices.now addr) }
+{
+    for device in devices {
+        if device.addr == addr {
+            return Some(target_of(device));
+        }
+    }
+    None
+}
+
+/// What a job knows of a device.
+fn target_of(device: &DeviceSetup) -> Target
+    ensures { result ≡ target_of device.now }
+{
+    Target {
+        addr: device.addr,
+        kind: device.kind,
+        is_acceptor: match device.body {
+            DeviceBody::Acceptor { .. } => true,
+            DeviceBody::Hopper { .. } => false,
+        },
+    }
+}
+
+/// How many tries of a row failed in succession after one more, or none where that was the last.
+pub(crate) fn after_failed(failed: u8) -> Option<u8>
+    ensures { failed < 3 → result ≡ after_failed failed }
+{
+    if failed < TRIES - 1 {
+        Some(failed + 1)
+    } else {
+        None
+    }
+}

@@ -1,0 +1,233 @@
+-- Pieces of bytes: what is sent, what a device answers, and what is read of what is heard.
+use Rattle.std.proofs.Common.{ℕ, zero, suc, ◌*◌, ◌/◌, ◌%◌, ◌<◌, ◌==◌, ◌&&◌, ◌++◌, rules, Bool, true, false, cond, List, [], ◌∷◌, length, take, fold, slice_index, bit_xor, Option, Some, None, arith}
+use Rattle.std.specs.Prelude.{⊤, unwrap_or, option_and_then, flat_map}
+use Rattle.std.proofs.lemmas.Nat.{xor_of_16}
+use Rattle.hex.specs.Hex.{IsBytes}
+use Rattle.cct_model.specs.declared.wire.CheckKind.{CheckKind}
+use Rattle.cct_model.specs.declared.wire.CheckKind.TheVariants.{Simple, Crc}
+use Rattle.cct_model.specs.declared.coin.Pair.{Pair}
+use Rattle.cct_model.specs.declared.request.Request.{Request}
+use Rattle.cct_model.specs.declared.request.Request.TheVariants.{SetMask, AddressPoll}
+use Rattle.cct_model.specs.declared.request.ReplyForm.{ReplyForm}
+use Rattle.cct_model.specs.declared.request.ReplyForm.TheVariants as form
+use Rattle.cct_model.specs.Message.{Message, bits_of, crc_bit, crc, closing_byte, spelling, message}
+use Rattle.cct_model.specs.Request.{requests_with, open_requests, with_header, request_of}
+use Rattle.cct_model.specs.Reply.{Reply}
+use Rattle.cct_model.specs.Reply as reply
+use Rattle.cct_model.specs.Exchange.{after_echo, is_for_host, reply_from, got, asker, to_all, to_one}
+use Rattle.cct_laws.proofs.Said.{IfThere}
+
+-- each of them is below 256
+abbrev pub Bytes : List ℕ → Type 0
+Bytes [] = ⊤
+Bytes (b ∷ bs) = (b < 256) × Bytes bs
+
+pub bytes_are : (bs : List ℕ) → Bytes bs → (i : ℕ) → slice_index bs i < 256
+bytes_are [] all i = omega arith
+bytes_are (b ∷ bs) all zero = all.0
+bytes_are (b ∷ bs) all (suc i) = bytes_are bs all.1 i
+
+pub are_bytes : (bs : List ℕ) → IsBytes bs → Bytes bs
+are_bytes [] h = tt
+are_bytes (b ∷ bs) h = (h 0, are_bytes bs (λ i. h (suc i)))
+
+pub bytes_more : (xs ys : List ℕ) → Bytes xs → Bytes ys → Bytes (xs ++ ys)
+bytes_more [] ys h k = k
+bytes_more (x ∷ xs) ys h k = (h.0, bytes_more xs ys h.1 k)
+
+pub bytes_taken : (n : ℕ) (xs : List ℕ) → Bytes xs → Bytes (take n xs)
+bytes_taken zero xs h = tt
+bytes_taken (suc n) [] h = tt
+bytes_taken (suc n) (x ∷ xs) h = (h.0, bytes_taken n xs h.1)
+
+-- the register of a CRC has 16 bits
+xored_fits : (t : Bool) (x : ℕ) → x < 65536 → cond t x (bit_xor x 4129) < 65536
+xored_fits true x h = h
+xored_fits false x h = xor_of_16 x 4129 h (omega arith)
+
+fold_fits : (bits : List ℕ) (register : ℕ) → register < 65536 → fold crc_bit register bits < 65536
+fold_fits [] register h = h
+fold_fits (bit ∷ bits) register h = fold_fits bits (crc_bit register bit) (xored_fits (register / 32768 == bit) (register * 2 % 65536) (omega arith))
+
+crc_fits : (bytes : List ℕ) → crc bytes < 65536
+unfolding crc
+crc_fits bytes = fold_fits (flat_map bits_of bytes) 0 (omega arith)
+
+-- a message of bytes, and the piece that spells it
+abbrev pub FitsFrom : Option ℕ → Type 0
+FitsFrom from = unwrap_or from 0 < 256
+
+pub record FitsMessage (m : Message) : Type 0 where
+  pub to : m.to < 256
+  pub from : FitsFrom m.from
+  pub header : m.header < 256
+  pub short : length m.body < 256
+  pub body : Bytes m.body
+
+pub spelled_bytes : (kind : CheckKind) (m : Message) → FitsMessage m → Bytes (spelling kind m)
+unfolding spelling
+spelled_bytes Simple m fits =
+    let front = m.to ∷ length m.body ∷ unwrap_or m.from 0 ∷ m.header ∷ m.body in
+    bytes_more front (closing_byte front ∷ []) (fits.to, (fits.short, (fits.from, (fits.header, fits.body)))) (omega arith, tt)
+spelled_bytes Crc m fits =
+    let check = crc (m.to ∷ length m.body ∷ m.header ∷ m.body) in
+    let small : check < 65536 = crc_fits (m.to ∷ length m.body ∷ m.header ∷ m.body) in
+    (fits.to, (fits.short, (omega arith, (fits.header, bytes_more m.body (check / 256 ∷ []) fits.body (omega (arith, small), tt)))))
+
+-- what follows of what is there
+pub there_then : {A B : Type 0} (P : A → Type 0) (Q : B → Type 0) (f : A → Option B) (found : Option A) → IfThere P found → ((x : A) → P x → IfThere Q (f x)) → IfThere Q (option_and_then f found)
+there_then P Q f None h k = tt
+there_then P Q f (Some x) h k = k x h
+
+there_if : {A : Type 0} (P : A → Type 0) (b : Bool) (x : A) → P x → IfThere P (cond b (Some x) None)
+there_if P true x h = h
+there_if P false x h = tt
+
+there_when : {A : Type 0} (P : A → Type 0) (b : Bool) (found : Option A) → IfThere P found → IfThere P (cond b found None)
+there_when P true found h = h
+there_when P false found h = tt
+
+-- the message that a piece of bytes is
+pub record IsOfBytes (m : Message) : Type 0 where
+  pub from : unwrap_or m.from 1 < 256
+  pub body : Bytes m.body
+
+pub message_bytes : (kind : CheckKind) (piece : List ℕ) → Bytes piece → IfThere IsOfBytes (message kind piece)
+unfolding message
+message_bytes Simple (to ∷ said ∷ from ∷ header ∷ rest) h =
+    there_if IsOfBytes _ (record { to = to; from = Some from; header = header; body = take said rest }) (record { from = h.1.1.0; body = bytes_taken said rest h.1.1.1.1 })
+message_bytes Crc (to ∷ said ∷ low ∷ header ∷ rest) h =
+    there_if IsOfBytes _ (record { to = to; from = None; header = header; body = take said rest }) (record { from = omega arith; body = bytes_taken said rest h.1.1.1.1 })
+message_bytes kind piece h = tt
+
+asker_by : (found : Option Message) → IfThere IsOfBytes found → unwrap_or (option_and_then (λ m. m.from) found) 1 < 256
+asker_by None h = omega arith
+asker_by (Some m) h = h.from
+
+pub asker_fits : (kind : CheckKind) (piece : List ℕ) → Bytes piece → asker kind piece < 256
+unfolding asker
+asker_fits kind piece h = asker_by (message kind piece) (message_bytes kind piece h)
+
+-- a request of bytes sets a mask of 16 bits
+abbrev pub FitsRequest : Request → Type 0
+FitsRequest (SetMask mask) = mask < 65536
+FitsRequest q = ⊤
+
+abbrev Each : List Request → Type 0
+Each [] = ⊤
+Each (q ∷ qs) = FitsRequest q × Each qs
+
+request_in : (header : ℕ) (qs : List Request) → Each qs → IfThere FitsRequest (with_header header qs)
+request_in header [] each = tt
+request_in header (q ∷ qs) each = found_or (header == _) (request_in header qs each.1)
+  where
+    found_or : (b : Bool) → IfThere FitsRequest (with_header header qs) → IfThere FitsRequest (cond b (Some q) (with_header header qs))
+    found_or true later = each.0
+    found_or false later = later
+
+requests_fit : (body : List ℕ) → Bytes body → Each (requests_with body)
+unfolding requests_with
+requests_fit [] h = search rules
+requests_fit (byte ∷ []) h = search rules
+requests_fit (first ∷ second ∷ []) h = (omega (arith, h.0, h.1.0), (tt, tt))
+requests_fit (a ∷ b ∷ c ∷ []) h = tt
+requests_fit (a ∷ b ∷ c ∷ d ∷ []) h = (tt, tt)
+requests_fit (a ∷ b ∷ c ∷ d ∷ e ∷ []) h = tt
+requests_fit (a ∷ b ∷ c ∷ d ∷ e ∷ f ∷ []) h = tt
+requests_fit (a ∷ b ∷ c ∷ d ∷ e ∷ f ∷ g ∷ []) h = tt
+requests_fit (a ∷ b ∷ c ∷ d ∷ e ∷ f ∷ g ∷ i ∷ []) h = tt
+requests_fit (a ∷ b ∷ c ∷ d ∷ e ∷ f ∷ g ∷ i ∷ j ∷ []) h = (tt, tt)
+requests_fit (a ∷ b ∷ c ∷ d ∷ e ∷ f ∷ g ∷ i ∷ j ∷ k ∷ rest) h = tt
+
+pub request_fits : (header : ℕ) (body : List ℕ) → Bytes body → IfThere FitsRequest (request_of header body)
+unfolding request_of
+request_fits header body h = request_in header (open_requests ++ requests_with body) (tt, (tt, requests_fit body h))
+
+-- what a message of bytes asks of a device
+pub to_one_fits : (found : Option Request) → IfThere FitsRequest found → IfThere FitsRequest (to_one found)
+to_one_fits None h = tt
+to_one_fits (Some q) h = one q h
+  where
+    one : (q : Request) → FitsRequest q → IfThere FitsRequest (to_one (Some q))
+    one q h = search rules
+
+pub to_all_fits : (found : Option Request) → IfThere FitsRequest (to_all found)
+to_all_fits (Some AddressPoll) = tt
+to_all_fits found = tt
+
+-- a reply that says bytes
+abbrev pub FitsPairs : List Pair → Type 0
+FitsPairs [] = ⊤
+FitsPairs (pair ∷ pairs) = ((pair.a < 256) × (pair.b < 256)) × FitsPairs pairs
+
+abbrev pub FitsReply : Reply → Type 0
+FitsReply (reply.credits c) = (c.counter < 256) × FitsPairs c.pairs
+FitsReply (reply.path number) = number < 256
+FitsReply y = ⊤
+
+none_fits : (P : Reply → Type 0) (y : Reply) (body : List ℕ) → P y → IfThere P (reply.none_in y body)
+none_fits P y [] h = h
+none_fits P y (b ∷ body) h = tt
+
+one_fits : (P : Reply → Type 0) (make : ℕ → Reply) (body : List ℕ) → Bytes body → ((a : ℕ) → a < 256 → P (make a)) → IfThere P (reply.one_in make body)
+one_fits P make [] h k = tt
+one_fits P make (a ∷ []) h k = k a h.0
+one_fits P make (a ∷ b ∷ body) h k = tt
+
+two_fits : (P : Reply → Type 0) (make : ℕ → ℕ → Reply) (body : List ℕ) → ((a b : ℕ) → P (make a b)) → IfThere P (reply.two_in make body)
+two_fits P make [] k = tt
+two_fits P make (a ∷ []) k = tt
+two_fits P make (a ∷ b ∷ []) k = k a b
+two_fits P make (a ∷ b ∷ c ∷ body) k = tt
+
+three_fits : (P : Reply → Type 0) (make : ℕ → ℕ → ℕ → Reply) (body : List ℕ) → ((a b c : ℕ) → P (make a b c)) → IfThere P (reply.three_in make body)
+three_fits P make [] k = tt
+three_fits P make (a ∷ []) k = tt
+three_fits P make (a ∷ b ∷ []) k = tt
+three_fits P make (a ∷ b ∷ c ∷ []) k = k a b c
+three_fits P make (a ∷ b ∷ c ∷ d ∷ body) k = tt
+
+status_fits : (body : List ℕ) → IfThere FitsReply (reply.status_in body)
+status_fits (a ∷ b ∷ c ∷ d ∷ []) = tt
+status_fits body = tt
+
+id_fits : (body : List ℕ) → IfThere FitsReply (reply.coin_id_in body)
+id_fits (c1 ∷ c2 ∷ c3 ∷ c4 ∷ c5 ∷ c6 ∷ []) = tt
+id_fits body = tt
+
+credits_fit : (body : List ℕ) → Bytes body → IfThere FitsReply (reply.credits_in body)
+credits_fit (n ∷ a1 ∷ b1 ∷ a2 ∷ b2 ∷ a3 ∷ b3 ∷ a4 ∷ b4 ∷ a5 ∷ b5 ∷ []) h =
+    let at = bytes_are (n ∷ a1 ∷ b1 ∷ a2 ∷ b2 ∷ a3 ∷ b3 ∷ a4 ∷ b4 ∷ a5 ∷ b5 ∷ []) h in
+    (at 0, ((at 1, at 2), ((at 3, at 4), ((at 5, at 6), ((at 7, at 8), ((at 9, at 10), tt))))))
+credits_fit body h = tt
+
+reply_in_fits : (f : ReplyForm) (body : List ℕ) → Bytes body → IfThere FitsReply (reply.reply_in f body)
+unfolding reply.reply_in
+reply_in_fits form.Ack body h = none_fits FitsReply reply.ack body tt
+reply_in_fits form.Credits body h = credits_fit body h
+reply_in_fits form.Mask body h = two_fits FitsReply _ body (λ a b. tt)
+reply_in_fits form.Master body h = one_fits FitsReply reply.master body h (λ a k. tt)
+reply_in_fits form.Path body h = one_fits FitsReply reply.path body h (λ a k. k)
+reply_in_fits form.CoinId body h = id_fits body
+reply_in_fits form.Status body h = status_fits body
+reply_in_fits form.Life body h = three_fits FitsReply _ body (λ a b c. tt)
+reply_in_fits form.Remaining body h = one_fits FitsReply reply.remaining body h (λ a k. tt)
+reply_in_fits form.Register body h = one_fits FitsReply reply.register body h (λ a k. tt)
+reply_in_fits form.Text body h = tt
+reply_in_fits form.Serial body h = three_fits FitsReply _ body (λ a b c. tt)
+reply_in_fits form.Revision body h = three_fits FitsReply _ body (λ a b c. tt)
+reply_in_fits form.Accepts body h = three_fits FitsReply _ body (λ a b c. tt)
+
+-- the reply that is got in what is heard
+rest_bytes : (sent heard : List ℕ) → Bytes heard → IfThere Bytes (after_echo sent heard)
+unfolding after_echo
+rest_bytes [] heard h = h
+rest_bytes (s ∷ sent) [] h = tt
+rest_bytes (s ∷ sent) (b ∷ heard) h = there_when Bytes (s == b) (after_echo sent heard) (rest_bytes sent heard h.1)
+
+pub got_fits : (kind : CheckKind) (addr : ℕ) (f : ReplyForm) (sent heard : List ℕ) → Bytes heard → IfThere FitsReply (got kind addr f sent heard)
+unfolding got
+got_fits kind addr f sent heard h =
+    there_then Bytes FitsReply _ (after_echo sent heard) (rest_bytes sent heard h)
+    (λ piece b. there_then IsOfBytes FitsReply (reply_from f addr) (message kind piece) (message_bytes kind piece b)
+    (λ m of_bytes. there_when FitsReply (is_for_host addr m && (m.header == 0)) (reply.reply_in f m.body) (reply_in_fits f m.body of_bytes.body)))

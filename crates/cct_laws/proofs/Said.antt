@@ -1,0 +1,385 @@
+-- What a line says that is played today: a device of a sound setup, or a step in range.
+use Rattle.std.proofs.Common.{◌≡◌, ℕ, ◌-◌, ◌*◌, ◌%◌, ◌^◌, ◌<◌, ◌≤◌, ◌≢◌, ◌==◌, ◌&&◌, nat_le, Bool, true, false, cond, List, [], ◌∷◌, length, get_or, bytes_eq, codes, refl, ap, sym, ◌∙◌, subst, Option, Some, None, option_map, ok_or, Result, Ok, Err, All, lit≤, arith}
+use Rattle.std.specs.Prelude.{⊤}
+use Rattle.std.specs.List.{list_all, slice_set}
+use Rattle.std.specs.Result.{result_ok}
+use Rattle.std.proofs.Math.ListN.{length-set}
+use Rattle.std.proofs.lemmas.Bool.Decides.{nat_tests}
+use Rattle.std.proofs.lemmas.List.Elements.{All-replicate, All-set}
+use Rattle.std.proofs.lemmas.List.Sums.{AllPass-from_list_all}
+use Rattle.hex.specs.Hex.{IsBytes, decode_of, decode_pairs}
+use Rattle.hex.specs.declared.error.FromHexError.{FromHexError}
+use Rattle.hex.proofs.HexLemmas.{decode_pairs-ok}
+use Rattle.cct_model.specs.declared.wire.CheckKind.{CheckKind}
+use Rattle.cct_model.specs.declared.device.DeviceBody.{DeviceBody}
+use Rattle.cct_model.specs.declared.device.DeviceBody.TheVariants.{Acceptor, Hopper}
+use Rattle.cct_model.specs.declared.device.Texts.{Texts}
+use Rattle.cct_model.specs.declared.device.DeviceSetup.{DeviceSetup}
+use Rattle.cct_model.specs.declared.device.SetupLine.{SetupLine}
+use Rattle.cct_model.specs.declared.device.SetupLine.TheVariants as says
+use Rattle.cct_model.specs.declared.command.Command.TheVariants as command
+use Rattle.cct_model.specs.declared.command.Step.{Step}
+use Rattle.cct_model.specs.declared.command.Step.TheVariants as step
+use Rattle.cct_model.specs.declared.entry.LineKind.{LineKind}
+use Rattle.cct_model.specs.declared.entry.LineKind.TheVariants as kind
+use Rattle.cct_model.specs.Device.{IsPrinting, IsWord, IsId, IsSound, IsSoundBody, IsAcceptor}
+use Rattle.cct_model.specs.Grammar.{◌>>=◌, is_space, number_in, within, ranged, three_byte_in, check_in, is_printing, word_in, id_in, bytes_in, piece_in, plain_acceptor, plain_device, acceptor_line, value_line, texts_line, alone, setup_fields, setup_line, address_in, step_at, coin_step, fault_step, path_step, step_fields, step_line, valued}
+use Rattle.cct_model.specs.Job.{address_of}
+use Rattle.cct_model.specs.Legal.{is_played_command}
+use Rattle.cct_model.specs.Script.{word_of, is_setup_word, is_step_word, IsCommand, IsFault}
+use Rattle.cct_model.proofs.Added.{KeepsEach}
+use Rattle.cct_laws.specs.Law.{HasAllIds, HasBytes}
+use Rattle.cct_laws.proofs.Words.{first_part, no_word}
+
+-- a fact of what is there, if it is
+abbrev pub IfThere : {A : Type 0} → (A → Type 0) → Option A → Type 0
+IfThere P None = ⊤
+IfThere P (Some x) = P x
+
+-- and of what a line says, if it isn't refused
+abbrev pub IfSaid : {A : Type 0} → (A → Type 0) → Result A LineKind → Type 0
+IfSaid P (Ok x) = P x
+IfSaid P (Err why) = ⊤
+
+said_or : {A : Type 0} (P : A → Type 0) (found : Option A) (why : LineKind) → IfThere P found → IfSaid P (ok_or found why)
+said_or P None why holds = tt
+said_or P (Some x) why holds = holds
+
+bind : {A B : Type 0} (P : B → Type 0) (found : Option A) (more : A → Option B) → ((x : A) → found ≡ Some x → IfThere P (more x)) → IfThere P (found >>= more)
+bind P None more holds = tt
+bind P (Some x) more holds = holds x refl
+
+word_by : {A : Type 0} (P : A → Type 0) (here : Bool) (x y : Result A LineKind) → (here ≡ true → IfSaid P x) → IfSaid P y → IfSaid P (cond here x y)
+word_by P true x y holds other = holds refl
+word_by P false x y holds other = other
+
+-- numbers within a range
+within_by : (fits : Bool) (least most m n : ℕ) → (nat_le least m && nat_le m most) ≡ fits → cond fits (Some m) None ≡ Some n → (least ≤ n) × (n ≤ most)
+within_by true least most m n test found =
+    let is : m ≡ n = cc in
+    let low : least ≤ m = grind (arith, nat_tests) in
+    let high : m ≤ most = grind (arith, nat_tests) in
+    subst (λ k. (least ≤ k) × (k ≤ most)) is (low, high)
+within_by false least most m n test found = absurd cc
+
+number_within : (least most : ℕ) (number : Option ℕ) (n : ℕ) → (number >>= within least most) ≡ Some n → (least ≤ n) × (n ≤ most)
+number_within least most None n found = absurd cc
+number_within least most (Some m) n found = within_by (nat_le least m && nat_le m most) least most m n refl found
+
+ranged_in : (least most : ℕ) (field : List ℕ) (n : ℕ) → ranged least most field ≡ Some n → (least ≤ n) × (n ≤ most)
+unfolding ranged
+ranged_in least most field n found = number_within least most (number_in field) n found
+
+-- printing characters
+printing_one : (byte : ℕ) → is_printing byte ≡ true → IsPrinting byte
+printing_one byte test = grind (arith, nat_tests)
+
+printing_all : (bytes : List ℕ) → list_all is_printing bytes ≡ true → All IsPrinting bytes
+printing_all bytes test = λ k d inside. printing_one (get_or bytes k d) (AllPass-from_list_all is_printing bytes test k d inside)
+
+three_hold : (a b c : Bool) → (a && b && c) ≡ true → (a ≡ true) × (b ≡ true) × (c ≡ true)
+three_hold true true true all = (refl, refl, refl)
+three_hold true true false all = absurd cc
+three_hold true false c all = absurd cc
+three_hold false b c all = absurd cc
+
+two_hold : (a b : Bool) → (a && b) ≡ true → (a ≡ true) × (b ≡ true)
+two_hold true true all = (refl, refl)
+two_hold true false all = absurd cc
+two_hold false b all = absurd cc
+
+at_least : (n m : ℕ) → nat_le n m ≡ true → n ≤ m
+at_least n m test = grind (arith, nat_tests)
+
+same_number : (n m : ℕ) → (n == m) ≡ true → n ≡ m
+same_number n m test = grind (arith, nat_tests)
+
+word_by_tests : (field : List ℕ) → (nat_le 1 (length field) && nat_le (length field) 24 && list_all is_printing field) ≡ true → IsWord field
+word_by_tests field test =
+    let tests = three_hold _ _ _ test in
+    (at_least 1 (length field) tests.0, at_least (length field) 24 tests.1, printing_all field tests.2)
+
+found_if : (P : List ℕ → Type 0) (fits : Bool) (field text : List ℕ) → (fits ≡ true → P field) → cond fits (Some field) None ≡ Some text → P text
+found_if P true field text holds found =
+    let is : field ≡ text = cc in
+    subst P is (holds refl)
+found_if P false field text holds found = absurd cc
+
+word_found : (field text : List ℕ) → word_in field ≡ Some text → IsWord text
+unfolding word_in
+word_found field text found = found_if IsWord (nat_le 1 (length field) && nat_le (length field) 24 && list_all is_printing field) field text (word_by_tests field) found
+
+id_by_tests : (field : List ℕ) → ((length field == 6) && list_all is_printing field) ≡ true → IsId field
+id_by_tests field test =
+    let tests = two_hold _ _ test in
+    (same_number (length field) 6 tests.0, printing_all field tests.1)
+
+id_found : (field id : List ℕ) → id_in field ≡ Some id → IsId id
+unfolding id_in
+id_found field id found = found_if IsId ((length field == 6) && list_all is_printing field) field id (id_by_tests field) found
+
+-- pieces
+ok_of : (r : Result (List ℕ) FromHexError) (bytes : List ℕ) → result_ok r ≡ Some bytes → r ≡ Ok bytes
+ok_of (Ok x) bytes found =
+    let is : x ≡ bytes = cc in
+    ap Ok is
+ok_of (Err e) bytes found = absurd cc
+
+even_by : (odd : Bool) (r s : Result (List ℕ) FromHexError) (bytes : List ℕ) → r ≢ Ok bytes → cond odd r s ≡ Ok bytes → s ≡ Ok bytes
+even_by true r s bytes never found = absurd (never found)
+even_by false r s bytes never found = found
+
+bytes_decoded : (text bytes : List ℕ) → bytes_in text ≡ Some bytes → IsBytes bytes
+bytes_decoded text bytes found =
+    let pairs : decode_pairs 0 text ≡ Ok bytes = even_by (length text % 2 == 1) _ _ bytes (λ e. cc) (ok_of (decode_of text) bytes found) in
+    (decode_pairs-ok 0 text bytes pairs).2
+
+bytes_short : (text bytes : List ℕ) → bytes_in text ≡ Some bytes → 2 * length bytes ≤ length text
+bytes_short text bytes found =
+    let pairs : decode_pairs 0 text ≡ Ok bytes = even_by (length text % 2 == 1) _ _ bytes (λ e. cc) (ok_of (decode_of text) bytes found) in
+    omega (arith, (decode_pairs-ok 0 text bytes pairs).1)
+
+piece_by : (dash fits : Bool) (most : ℕ) (text piece : List ℕ) → nat_le (length text) (2 * most) ≡ fits → cond dash (Some []) (cond fits (bytes_in text) None) ≡ Some piece → length piece ≤ most
+piece_by true fits most text piece test found =
+    let is : [] ≡ piece = cc in
+    subst (λ p. length p ≤ most) is (omega arith)
+piece_by false true most text piece test found = omega (arith, bytes_short text piece found, at_least (length text) (2 * most) test)
+piece_by false false most text piece test found = absurd cc
+
+piece_short : (most : ℕ) (field piece : List ℕ) → piece_in most field ≡ Some piece → length piece ≤ most
+unfolding piece_in
+piece_short most [] piece found = absurd cc
+piece_short most (byte ∷ bytes) piece found = piece_by (bytes_eq (byte ∷ bytes) (codes "-")) (nat_le (length (byte ∷ bytes)) (2 * most)) most (byte ∷ bytes) piece refl found
+
+-- and has bytes
+none_bytes : IsBytes []
+none_bytes i = omega arith
+
+decoded_by : (dash fits : Bool) (text piece : List ℕ) → cond dash (Some []) (cond fits (bytes_in text) None) ≡ Some piece → IsBytes piece
+decoded_by true fits text piece found =
+    let is : [] ≡ piece = cc in
+    subst IsBytes is none_bytes
+decoded_by false true text piece found = bytes_decoded text piece found
+decoded_by false false text piece found = absurd cc
+
+piece_bytes : (most : ℕ) (field piece : List ℕ) → piece_in most field ≡ Some piece → IsBytes piece
+unfolding piece_in
+piece_bytes most [] piece found = absurd cc
+piece_bytes most (byte ∷ bytes) piece found = decoded_by (bytes_eq (byte ∷ bytes) (codes "-")) (nat_le (length (byte ∷ bytes)) (2 * most)) (byte ∷ bytes) piece found
+
+-- a sound acceptor with all its identifications
+pub record Fit (d : DeviceSetup) : Type 0 where
+  pub sound : IsSound d
+  pub accepting : IsAcceptor d.body
+  pub whole : HasAllIds d.body
+
+-- a setup line that is played today
+abbrev pub IsFitLine : SetupLine → Type 0
+IsFitLine (says.Hopper d) = ⊥
+IsFitLine line = KeepsEach Fit line
+
+plain_sound : (accepts : ℕ) → accepts < 2 ^ 24 → IsSoundBody (plain_acceptor accepts)
+plain_sound accepts few =
+    (few, All-replicate (λ value. value ≤ 1000000) 16 0 (lit≤ tt), All-replicate IsId 16 (codes "......") (refl, printing_all (codes "......") refl))
+
+plain_word : (text : List ℕ) → 1 ≤ length text → length text ≤ 24 → list_all is_printing text ≡ true → IsWord text
+plain_word text some few printing = (some, few, printing_all text printing)
+
+plain_fit : (addr : ℕ) (check : CheckKind) (serial accepts : ℕ) → 2 ≤ addr → addr ≤ 255 → serial < 2 ^ 24 → accepts < 2 ^ 24 → Fit (plain_device addr check serial (plain_acceptor accepts))
+plain_fit addr check serial accepts low high serial_few accepts_few = record {
+  sound = record {
+    low = low;
+    high = high;
+    serial = serial_few;
+    maker = plain_word (codes "BENCH") (lit≤ tt) (lit≤ tt) refl;
+    product = plain_word (codes "CCT") (lit≤ tt) (lit≤ tt) refl;
+    software = plain_word (codes "1") (lit≤ tt) (lit≤ tt) refl;
+    build = plain_word (codes "1") (lit≤ tt) (lit≤ tt) refl;
+    body = plain_sound accepts accepts_few;
+  };
+  accepting = tt;
+  whole = refl;
+}
+
+acceptor_said : (fields : List (List ℕ)) → IfThere IsFitLine (acceptor_line fields)
+acceptor_said (a ∷ c ∷ s ∷ n ∷ []) =
+    bind IsFitLine (ranged 2 255 a) _ (λ addr at.
+    bind IsFitLine (check_in c) _ (λ check under.
+    bind IsFitLine (three_byte_in s) _ (λ serial numbered.
+    bind IsFitLine (three_byte_in n) _ (λ accepts counted.
+    plain_fit addr check serial accepts (ranged_in 2 255 a addr at).0 (ranged_in 2 255 a addr at).1
+    (omega (arith, (ranged_in 0 16777215 s serial numbered).1)) (omega (arith, (ranged_in 0 16777215 n accepts counted).1))))))
+acceptor_said fields = tt
+
+-- a value keeps an acceptor fit
+fit_with : (d : DeviceSetup) (body : DeviceBody) → Fit d → IsSoundBody body → IsAcceptor body → HasAllIds body → Fit (record d { body = body })
+fit_with d body fit sound accepting whole = record {
+  sound = record {
+    low = fit.sound.low;
+    high = fit.sound.high;
+    serial = fit.sound.serial;
+    maker = fit.sound.maker;
+    product = fit.sound.product;
+    software = fit.sound.software;
+    build = fit.sound.build;
+    body = sound;
+  };
+  accepting = accepting;
+  whole = whole;
+}
+
+valued_by : (b : Bool) (d e : DeviceSetup) (body : DeviceBody) → Fit (record d { body = body }) → cond b (Ok (record d { body = body })) (Err kind.Again) ≡ Ok e → Fit e
+valued_by true d e body fit was =
+    let is : record d { body = body } ≡ e = cc in
+    subst Fit is fit
+valued_by false d e body fit was = absurd cc
+
+valued_fit : (d e : DeviceSetup) (place value : ℕ) (id : List ℕ) (body : DeviceBody) → value ≤ 1000000 → IsId id → Fit d → IsSoundBody body → HasAllIds body → valued d place value id body ≡ Ok e → Fit e
+valued_fit d e place value id (Acceptor accepts values ids) few is_id fit sound whole was =
+    let new : DeviceBody = Acceptor accepts (slice_set values (place - 1) value) (slice_set ids (place - 1) id) in
+    valued_by _ d e new
+    (fit_with d new fit (sound.0, All-set (λ worth. worth ≤ 1000000) values (place - 1) value few sound.1, All-set IsId ids (place - 1) id is_id sound.2) tt (length-set ids (place - 1) id ∙ whole)) was
+valued_fit d e place value id (Hopper life worth) few is_id fit sound whole was = absurd cc
+
+value_said : (fields : List (List ℕ)) → IfThere IsFitLine (value_line fields)
+value_said (a ∷ p ∷ v ∷ i ∷ []) =
+    bind IsFitLine (ranged 2 255 a) _ (λ addr at.
+    bind IsFitLine (ranged 1 16 p) _ (λ place placed.
+    bind IsFitLine (ranged 1 1000000 v) _ (λ value worth.
+    bind IsFitLine (id_in i) _ (λ id named.
+    λ d e fit was. valued_fit d e place value id d.body (ranged_in 1 1000000 v value worth).1 (id_found i id named) fit fit.sound.body fit.whole was))))
+value_said fields = tt
+
+named_fit : (b : Bool) (d e : DeviceSetup) (texts : Texts) → IsWord texts.maker → IsWord texts.product → IsWord texts.software → IsWord texts.build → Fit d →
+    cond b (Err kind.Again) (Ok (record d { texts = texts; named = true })) ≡ Ok e → Fit e
+named_fit true d e texts maker product software build fit was = absurd cc
+named_fit false d e texts maker product software build fit was =
+    let is : record d { texts = texts; named = true } ≡ e = cc in
+    let made : Fit (record d { texts = texts; named = true }) = record {
+      sound = record {
+        low = fit.sound.low;
+        high = fit.sound.high;
+        serial = fit.sound.serial;
+        maker = maker;
+        product = product;
+        software = software;
+        build = build;
+        body = fit.sound.body;
+      };
+      accepting = fit.accepting;
+      whole = fit.whole;
+    } in
+    subst Fit is made
+
+texts_said : (fields : List (List ℕ)) → IfThere IsFitLine (texts_line fields)
+texts_said (a ∷ m ∷ p ∷ s ∷ b ∷ []) =
+    bind IsFitLine (ranged 2 255 a) _ (λ addr at.
+    bind IsFitLine (word_in m) _ (λ maker by.
+    bind IsFitLine (word_in p) _ (λ product of.
+    bind IsFitLine (word_in s) _ (λ software with.
+    bind IsFitLine (word_in b) _ (λ build from.
+    λ d e fit was. named_fit d.named d e _ (word_found m maker by) (word_found p product of) (word_found s software with) (word_found b build from) fit was)))))
+texts_said fields = tt
+
+alone_said : {A : Type 0} (P : A → Type 0) (x : A) (fields : List (List ℕ)) → P x → IfThere P (alone x fields)
+alone_said P x [] holds = holds
+alone_said P x (field ∷ fields) holds = tt
+
+setup_fields_said : (word : List ℕ) (fields : List (List ℕ)) → is_setup_word word ≡ true → IfSaid IsFitLine (setup_fields (word ∷ fields))
+setup_fields_said word fields played =
+    word_by IsFitLine (bytes_eq word (codes "acceptor")) _ _ (λ _. said_or IsFitLine (acceptor_line fields) kind.Form (acceptor_said fields))
+    (word_by IsFitLine (bytes_eq word (codes "hopper")) _ _ (λ here. absurd (no_word is_setup_word word (codes "hopper") here refl played))
+    (word_by IsFitLine (bytes_eq word (codes "value")) _ _ (λ _. said_or IsFitLine (value_line fields) kind.Form (value_said fields))
+    (word_by IsFitLine (bytes_eq word (codes "texts")) _ _ (λ _. said_or IsFitLine (texts_line fields) kind.Form (texts_said fields))
+    (word_by IsFitLine (bytes_eq word (codes "begin")) _ _ (λ _. said_or IsFitLine (alone says.Begin fields) kind.Form (alone_said IsFitLine says.Begin fields tt)) tt))))
+
+-- a setup line whose word is played today
+pub setup_said : (line : List ℕ) → is_setup_word (word_of line) ≡ true → IfSaid IsFitLine (setup_line line)
+unfolding setup_line
+setup_said line played =
+    let first = first_part is_space line in
+    subst (λ parts. IfSaid IsFitLine (setup_fields parts)) (sym first.1) (setup_fields_said (word_of line) first.0 played)
+
+-- a step in range that is played today, or the end
+abbrev pub IsToday : Step → Type 0
+IsToday (step.Coin addr place) = (1 ≤ place) × (place ≤ 16)
+IsToday (step.Fault f) = IsFault f × HasBytes (step.Fault f)
+IsToday (step.Next addr) = addr < 256
+IsToday (step.Command c) = (is_played_command c ≡ true) × IsCommand c × (address_of c < 256)
+IsToday step.End = ⊤
+IsToday s = ⊥
+
+small_address : (field : List ℕ) (addr : ℕ) → address_in field ≡ Some addr → addr < 256
+small_address field addr found = omega (arith, (ranged_in 0 255 field addr found).1)
+
+at_said : (make : ℕ → Step) (fields : List (List ℕ)) → ((addr : ℕ) → addr < 256 → IsToday (make addr)) → IfThere IsToday (step_at make fields)
+at_said make [] holds = tt
+at_said make (a ∷ []) holds = made (address_in a) (small_address a)
+  where
+    made : (found : Option ℕ) → ((addr : ℕ) → found ≡ Some addr → addr < 256) → IfThere IsToday (option_map make found)
+    made None small = tt
+    made (Some addr) small = holds addr (small addr refl)
+at_said make (a ∷ b ∷ fields) holds = tt
+
+coin_said : (fields : List (List ℕ)) → IfThere IsToday (coin_step fields)
+coin_said (a ∷ p ∷ []) =
+    bind IsToday (address_in a) _ (λ addr at. bind IsToday (ranged 1 16 p) _ (λ place placed. ranged_in 1 16 p place placed))
+coin_said fields = tt
+
+path_said : (fields : List (List ℕ)) → IfThere IsToday (path_step fields)
+path_said (a ∷ p ∷ q ∷ []) =
+    bind IsToday (address_in a) _ (λ addr at.
+    bind IsToday (ranged 0 16 p) _ (λ place placed.
+    bind IsToday (ranged 1 8 q) _ (λ path sorted.
+    (refl, ((ranged_in 0 16 p place placed).1, (ranged_in 1 8 q path sorted).0, (ranged_in 1 8 q path sorted).1), small_address a addr at))))
+path_said fields = tt
+
+mapped : (make : List ℕ → Step) (found : Option (List ℕ)) → ((piece : List ℕ) → found ≡ Some piece → IsToday (make piece)) → IfThere IsToday (option_map make found)
+mapped make None holds = tt
+mapped make (Some piece) holds = holds piece refl
+
+fault_by : (b : Bool) (x y : Option Step) → IfThere IsToday x → IfThere IsToday y → IfThere IsToday (cond b x y)
+fault_by true x y holds other = holds
+fault_by false x y holds other = other
+
+fault_said : (fields : List (List ℕ)) → IfThere IsToday (fault_step fields)
+fault_said (whom ∷ p ∷ []) =
+    fault_by (bytes_eq whom (codes "devices")) _ _ (mapped _ (piece_in 260 p) (λ piece found. (piece_short 260 p piece found, piece_bytes 260 p piece found)))
+    (fault_by (bytes_eq whom (codes "host")) _ _ (mapped _ (piece_in 260 p) (λ piece found. (piece_short 260 p piece found, piece_bytes 260 p piece found)))
+    (fault_by (bytes_eq whom (codes "whole")) _ _ (mapped _ (piece_in 520 p) (λ piece found. (piece_short 520 p piece found, piece_bytes 520 p piece found))) tt))
+fault_said fields = tt
+
+-- a word that isn't played
+not_today : (word name : List ℕ) (x : Result Step LineKind) → is_step_word name ≡ false → is_step_word word ≡ true → bytes_eq word name ≡ true → IfSaid IsToday x
+not_today word name x never played here = absurd (no_word is_step_word word name here never played)
+
+step_fields_said : (word : List ℕ) (fields : List (List ℕ)) → is_step_word word ≡ true → IfSaid IsToday (step_fields (word ∷ fields))
+step_fields_said word fields played =
+    let at = λ (make : ℕ → Step) (holds : (addr : ℕ) → addr < 256 → IsToday (make addr)). said_or IsToday (step_at make fields) kind.Form (at_said make fields holds) in
+    word_by IsToday (bytes_eq word (codes "coin")) _ _ (λ _. said_or IsToday (coin_step fields) kind.Form (coin_said fields))
+    (word_by IsToday (bytes_eq word (codes "alien")) _ _ (not_today word (codes "alien") _ refl played)
+    (word_by IsToday (bytes_eq word (codes "fall")) _ _ (not_today word (codes "fall") _ refl played)
+    (word_by IsToday (bytes_eq word (codes "jam")) _ _ (not_today word (codes "jam") _ refl played)
+    (word_by IsToday (bytes_eq word (codes "reset")) _ _ (not_today word (codes "reset") _ refl played)
+    (word_by IsToday (bytes_eq word (codes "next")) _ _ (λ _. at step.Next (λ addr small. small))
+    (word_by IsToday (bytes_eq word (codes "fault")) _ _ (λ _. said_or IsToday (fault_step fields) kind.Form (fault_said fields))
+    (word_by IsToday (bytes_eq word (codes "start")) _ _ (not_today word (codes "start") _ refl played)
+    (word_by IsToday (bytes_eq word (codes "round")) _ _ (λ _. at (λ a. step.Command (command.Round a)) (λ addr small. (refl, tt, small)))
+    (word_by IsToday (bytes_eq word (codes "stop")) _ _ (not_today word (codes "stop") _ refl played)
+    (word_by IsToday (bytes_eq word (codes "settle")) _ _ (not_today word (codes "settle") _ refl played)
+    (word_by IsToday (bytes_eq word (codes "halt")) _ _ (not_today word (codes "halt") _ refl played)
+    (word_by IsToday (bytes_eq word (codes "ident")) _ _ (λ _. at (λ a. step.Command (command.Ident a)) (λ addr small. (refl, tt, small)))
+    (word_by IsToday (bytes_eq word (codes "pay")) _ _ (not_today word (codes "pay") _ refl played)
+    (word_by IsToday (bytes_eq word (codes "scan")) _ _ (λ _. said_or IsToday (alone (step.Command command.Scan) fields) kind.Form (alone_said IsToday (step.Command command.Scan) fields (refl, tt, omega arith)))
+    (word_by IsToday (bytes_eq word (codes "path")) _ _ (λ _. said_or IsToday (path_step fields) kind.Form (path_said fields))
+    (word_by IsToday (bytes_eq word (codes "vend")) _ _ (not_today word (codes "vend") _ refl played)
+    (word_by IsToday (bytes_eq word (codes "crash")) _ _ (not_today word (codes "crash") _ refl played)
+    (word_by IsToday (bytes_eq word (codes "balance")) _ _ (not_today word (codes "balance") _ refl played)
+    (word_by IsToday (bytes_eq word (codes "end")) _ _ (λ _. said_or IsToday (alone step.End fields) kind.Form (alone_said IsToday step.End fields tt)) tt)))))))))))))))))))
+
+-- a step line whose word is played today
+pub step_said : (line : List ℕ) → is_step_word (word_of line) ≡ true → IfSaid IsToday (step_line line)
+unfolding step_line
+step_said line played =
+    let first = first_part is_space line in
+    subst (λ parts. IfSaid IsToday (step_fields parts)) (sym first.1) (step_fields_said (word_of line) first.0 played)

@@ -1,0 +1,5 @@
+use Rattle.cct_laws.proofs.Scripts.{played_holds}
+use Rattle.cct_laws.proofs.played_scripts_keep_the_laws.Goals as goal
+
+pub returns : goal.returns
+returns c = played_holds

@@ -1,0 +1,58 @@
+-- A line with another number of fields than its word wants has no form.
+use Rattle.std.proofs.Common.{◌≡◌, ◌≢◌, ℕ, List, [], ◌∷◌, length, None, refl}
+use Rattle.cct_model.specs.Grammar.{acceptor_line, hopper_line, value_line, texts_line, is_space, alone, step_at, coin_step, fault_step, start_step, pay_step, path_step, vend_step, crash_step}
+use Rattle.cct_model.specs.declared.command.Step.{Step}
+use Rattle.std.specs.List.{slice_split}
+use Rattle.cct_script.proofs.Splits.{split_some}
+
+pub no_acceptor : (fields : List (List ℕ)) → length fields ≢ 4 → acceptor_line fields ≡ None
+no_acceptor (a ∷ b ∷ c ∷ d ∷ []) other = absurd (other refl)
+no_acceptor fields other = refl
+
+pub no_hopper : (fields : List (List ℕ)) → length fields ≢ 5 → hopper_line fields ≡ None
+no_hopper (a ∷ b ∷ c ∷ d ∷ e ∷ []) other = absurd (other refl)
+no_hopper fields other = refl
+
+pub no_value : (fields : List (List ℕ)) → length fields ≢ 4 → value_line fields ≡ None
+no_value (a ∷ b ∷ c ∷ d ∷ []) other = absurd (other refl)
+no_value fields other = refl
+
+pub no_texts : (fields : List (List ℕ)) → length fields ≢ 5 → texts_line fields ≡ None
+no_texts (a ∷ b ∷ c ∷ d ∷ e ∷ []) other = absurd (other refl)
+no_texts fields other = refl
+
+pub no_step_at : (make : ℕ → Step) (fields : List (List ℕ)) → length fields ≢ 1 → step_at make fields ≡ None
+no_step_at make (a ∷ []) other = absurd (other refl)
+no_step_at make fields other = refl
+
+pub no_coin : (fields : List (List ℕ)) → length fields ≢ 2 → coin_step fields ≡ None
+no_coin (a ∷ b ∷ []) other = absurd (other refl)
+no_coin fields other = refl
+
+pub no_fault : (fields : List (List ℕ)) → length fields ≢ 2 → fault_step fields ≡ None
+no_fault (a ∷ b ∷ []) other = absurd (other refl)
+no_fault fields other = refl
+
+pub no_start : (fields : List (List ℕ)) → length fields ≢ 2 → start_step fields ≡ None
+no_start (a ∷ b ∷ []) other = absurd (other refl)
+no_start fields other = refl
+
+pub no_pay : (fields : List (List ℕ)) → length fields ≢ 3 → pay_step fields ≡ None
+no_pay (a ∷ b ∷ c ∷ []) other = absurd (other refl)
+no_pay fields other = refl
+
+pub no_path : (fields : List (List ℕ)) → length fields ≢ 3 → path_step fields ≡ None
+no_path (a ∷ b ∷ c ∷ []) other = absurd (other refl)
+no_path fields other = refl
+
+pub no_vend : (fields : List (List ℕ)) → length fields ≢ 2 → vend_step fields ≡ None
+no_vend (a ∷ b ∷ []) other = absurd (other refl)
+no_vend fields other = refl
+
+pub no_crash : (fields : List (List ℕ)) → length fields ≢ 1 → length fields ≢ 3 → crash_step fields ≡ None
+no_crash (a ∷ []) other others = absurd (other refl)
+no_crash (a ∷ b ∷ c ∷ []) other others = absurd (others refl)
+no_crash fields other others = refl
+
+pub not_alone : {X : Type 0} (said : X) (line : List ℕ) → alone said (slice_split is_space line) ≡ None
+not_alone said line = let h = split_some is_space line in rw h.2 refl

@@ -1,0 +1,9 @@
+pub mod Splits
+pub mod Decimals
+pub mod Printing
+pub mod Masks
+pub mod Forms
+pub mod Plain
+pub mod Sound
+pub mod Window
+pub mod Giving

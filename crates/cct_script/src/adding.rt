@@ -1,0 +1,154 @@
+//! What a setup line adds to a setup.
+ghost use Rattle.std.specs.Prelude.{◌≡◌, ◌≤◌, MatchOption, MatchResult};
+ghost use Rattle.cct_model.specs.Exchange.{device_at};
+ghost use Rattle.cct_model.specs.Setup.{IsSetupLine, IsSoundSetup};
+ghost use Rattle.cct_model.specs.Grammar.{add_device, change_device, valued, named, added};
+
+use cct_model::{DEVICES, DeviceBody, DeviceSetup, LineKind, Setup, SetupLine, Texts};
+use std::alloc::AllocError;
+
+/// Adds to a setup what a setup line says, `Begin` nothing. `Device` where the address of a new device is another's,
+/// where it would be the 17th device, where a value is for no acceptor, or where texts are for no device; `Again` where
+/// the coin place has a value, or the device was given texts. Nothing is changed then.
+#[tactic(auto, unfolding(cct_model::specs::Grammar::added))]
+pub fn add(setup: &mut Setup, line: &SetupLine) -> Result<(), LineKind>
+    requires { IsSetupLine line.now }
+    ensures adds { MatchResult result
+        (λ done. added setup.old line.now ≡ Ok setup.new)
+        (λ why. (added setup.old line.now ≡ Err why) × (setup.new ≡ setup.old)) }
+    ensures sound { IsSoundSetup setup.old → IsSoundSetup setup.new }
+{
+    match line {
+        SetupLine::Acceptor(device) => add_device(setup, device),
+        SetupLine::Hopper(device) => add_device(setup, device),
+        SetupLine::Value {
+            addr,
+            place,
+            value,
+            id,
+        } => add_value(setup, *addr, *place, *value, *id),
+        SetupLine::Named { addr, texts } => add_texts(setup, *addr, texts),
+        SetupLine::Begin => Ok(()),
+    }
+}
+
+/// The device at an address.
+fn device_at(devices: &[DeviceSetup], addr: u8) -> Option<&DeviceSetup>
+    ensures { MatchOption result (device_at devices.now addr ≡ None) (λ device. device_at devices.now addr ≡ Some device.now) }
+{
+    for device in devices {
+        if device.addr == addr {
+            return Some(device);
+        }
+    }
+    None
+}
+
+/// The same device once more.
+fn copy_of(device: &DeviceSetup) -> DeviceSetup
+    ensures { result ≡ device.now }
+{
+    let copy: Result<DeviceSetup, AllocError> = device.clone();
+    copy.unwrap()
+}
+
+/// The same texts once more.
+fn texts_of(texts: &Texts) -> Texts
+    ensures { result ≡ texts.now }
+{
+    let copy: Result<Texts, AllocError> = texts.clone();
+    copy.unwrap()
+}
+
+/// Adds a device, where its address is new and there is room.
+fn add_device(setup: &mut Setup, device: &DeviceSetup) -> Result<(), LineKind>
+    ensures { MatchResult result
+        (λ done. add_device setup.old device.now ≡ Ok setup.new)
+        (λ why. (add_device setup.old device.now ≡ Err why) × (setup.new ≡ setup.old)) }
+{
+    let devices = setup.devices.as_slice();
+    if devices.len() >= DEVICES || device_at(devices, device.addr).is_some() {
+        return Err(LineKind::Device);
+    }
+    setup.devices.push(copy_of(device));
+    Ok(())
+}
+
+/// Gives the coin of a place of an acceptor its value and its identification.
+fn add_value(
+    setup: &mut Setup,
+    addr: u8,
+    place: u8,
+    value: u32,
+    id: [u8; 6],
+) -> Result<(), LineKind>
+    requires low { 1 ≤ place }
+    requires high { place ≤ 16 }
+    ensures { let wanted = change_device setup.old (device_at setup.old.devices addr) (λ d. valued d place value id d.body) in
+        MatchResult result
+        (λ done. wanted ≡ Ok setup.new)
+        (λ why. (wanted ≡ Err why) × (setup.new ≡ setup.old)) }
+{
+    match device_at(setup.devices.as_slice(), addr) {
+        None => Err(LineKind::Device),
+        Some(device) => {
+            let mut device = copy_of(device);
+            give_value(&mut device, place, value, id)?;
+            setup.devices.replace(&device);
+            Ok(())
+        }
+    }
+}
+
+/// Gives the coin of a place of this acceptor its value and its identification.
+fn give_value(device: &mut DeviceSetup, place: u8, value: u32, id: [u8; 6]) -> Result<(), LineKind>
+    requires low { 1 ≤ place }
+    requires high { place ≤ 16 }
+    ensures { MatchResult result
+        (λ done. valued device.old place value id device.old.body ≡ Ok device.new)
+        (λ why. valued device.old place value id device.old.body ≡ Err why) }
+{
+    match device.body {
+        DeviceBody::Acceptor {
+            accepts,
+            mut values,
+            mut ids,
+        } => {
+            let at = usize::from(place - 1);
+            if values[at] != 0 {
+                return Err(LineKind::Again);
+            }
+            values[at] = value;
+            ids[at] = id;
+            device.body = DeviceBody::Acceptor {
+                accepts,
+                values,
+                ids,
+            };
+            Ok(())
+        }
+        DeviceBody::Hopper { .. } => Err(LineKind::Device),
+    }
+}
+
+/// Gives a device its texts.
+fn add_texts(setup: &mut Setup, addr: u8, texts: &Texts) -> Result<(), LineKind>
+    ensures { let wanted = change_device setup.old (device_at setup.old.devices addr) (λ d. named d texts.now) in
+        MatchResult result
+        (λ done. wanted ≡ Ok setup.new)
+        (λ why. (wanted ≡ Err why) × (setup.new ≡ setup.old)) }
+{
+    match device_at(setup.devices.as_slice(), addr) {
+        None => Err(LineKind::Device),
+        Some(device) => {
+            if device.named {
+                return Err(LineKind::Again);
+            }
+            let mut device = copy_of(device);
+            device.texts = texts_of(texts);
+            device.named = true;
+            setup.devices.replace(&device);
+            Ok(())
+        }
+    }
+}

@@ -1,0 +1,125 @@
+//! The lines of a script, taken from its source in whatever pieces it gives them.
+ghost use Rattle.std.specs.Prelude.{◌≡◌, ◌≢◌, ℕ, ◌+◌, ◌<◌, ◌≤◌, List, [], ◌∷◌, ◌++◌, ◌-◌, length, take, drop, position, slice_range, IfOk, OnErr, None, Ok, Err};
+ghost use Rattle.std.specs.Io.KnownBytes.{Consumes, Keeps, IsAtEnd};
+ghost use Rattle.cct_edge.specs.Bytes.{TellsAsBefore};
+ghost use Rattle.cct_edge.specs.Faults.{HasCause};
+ghost use Rattle.cct_model.specs.Script.{is_line_feed};
+ghost use Rattle.cct_script.specs.Window.{Fills, Finds, IsShort};
+
+use crate::bytes::place_of;
+use cct_edge::{Failed, Source};
+use std::marker::Model;
+
+/// The most bytes of a line, its line feed among them, and the first byte of one that is too long.
+const ROOM: usize = 1201;
+
+/// What the reader found at the front of the bytes that it holds.
+#[derive(Clone, Copy, Debug, PartialEq, Eq)]
+pub enum Held {
+    /// A whole line of so many bytes, and behind it its line feed.
+    Line(usize),
+    /// A line longer than a line may be.
+    Long,
+    /// The end of the input, and before it bytes without a line feed, or none.
+    Ended,
+}
+
+/// The bytes of a script that were taken and not yet read: one line's worth.
+#[derive(Drop)]
+pub struct LineBuffer {
+    bytes: [u8; ROOM],
+    start: usize,
+    end: usize,
+}
+
+impl Model for LineBuffer {
+    ghost use Rattle.std.specs.Prelude.{◌≤◌, List, ℕ, slice_range};
+
+    ghost Value = { List ℕ };
+
+    ghost view = { λ s. slice_range s.bytes s.start s.end };
+
+    ghost invariant = { λ s. (s.start ≤ s.end) × (s.end ≤ 1201) };
+}
+
+impl LineBuffer {
+    /// No byte is held.
+    pub fn new() -> Self
+        ensures { result ≡ [] }
+    {
+        LineBuffer {
+            bytes: [0; ROOM],
+            start: 0,
+            end: 0,
+        }
+    }
+
+    /// The bytes held.
+    pub fn held(&self) -> &[u8]
+        ensures value { result.now ≡ self.now }
+        ensures fits { length result.now ≤ 1201 }
+    {
+        &self.bytes[self.start..self.end]
+    }
+
+    /// Gives up the first bytes held.
+    pub fn advance(&mut self, count: usize)
+        requires { count ≤ length self.old }
+        ensures { self.new ≡ drop count self.old }
+    {
+        self.start += count;
+    }
+
+    /// Takes more bytes from the source into all the room that is left, and tells how many.
+    pub(crate) fn fill<S: Source>(&mut self, source: &mut S) -> Result<usize, Failed>
+        requires { length self.old < 1201 }
+        ensures fills { Fills self.old self.new (S.left source.old) (S.left source.new) }
+        ensures count { IfOk result (λ n. length self.new ≡ length self.old + n) }
+        ensures end { result ≡ Ok 0 → IsAtEnd (S.left source.new) }
+        ensures err { OnErr result (self.new ≡ self.old) }
+        ensures tells { TellsAsBefore (S.left source.old) (S.left source.new) }
+        ensures cause { HasCause (S.faults source.old) (S.faults source.new) result }
+    {
+        move_to_front(&mut self.bytes, self.start, self.end);
+        self.end -= self.start;
+        self.start = 0;
+        let taken = source.take(&mut self.bytes[self.end..])?;
+        self.end += taken;
+        Ok(taken)
+    }
+
+    /// Takes from the source until a whole line is held, or there is none.
+    #[tactic(auto, using(crate::proofs::Giving::line_within))]
+    pub fn seek<S: Source>(&mut self, source: &mut S) -> Result<Held, Failed>
+        ensures fills { Fills self.old self.new (S.left source.old) (S.left source.new) }
+        ensures finds { IfOk result (λ found. Finds found self.new (S.left source.new)) }
+        ensures short { IfOk result IsShort }
+        ensures partial { OnErr result (position is_line_feed self.new ≡ None) }
+        ensures still { position is_line_feed self.old ≢ None → source.new ≡ source.old }
+        ensures tells { TellsAsBefore (S.left source.old) (S.left source.new) }
+        ensures cause { HasCause (S.faults source.old) (S.faults source.new) result }
+    {
+        loop {
+            let held = self.held();
+            let len = held.len();
+            if let Some(at) = place_of(held, b'\n') {
+                return Ok(Held::Line(at));
+            }
+            if len == ROOM {
+                return Ok(Held::Long);
+            }
+            if self.fill(source)? == 0 {
+                return Ok(Held::Ended);
+            }
+        }
+    }
+}
+
+/// Moves the bytes from `start` up to `end` to the front.
+fn move_to_front(bytes: &mut [u8], start: usize, end: usize)
+    requires ordered { start ≤ end }
+    requires within { end ≤ length bytes.old }
+    ensures { take (end - start) bytes.new ≡ slice_range bytes.old start end }
+{
+    bytes.copy_within(start..end, 0);
+}

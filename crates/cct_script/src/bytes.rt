@@ -1,0 +1,9 @@
+//! Bytes in slices.
+ghost use Rattle.std.specs.Prelude.{◌≡◌, ◌==◌, position};
+
+/// Where a byte first stands.
+pub(crate) fn place_of(bytes: &[u8], wanted: u8) -> Option<usize>
+    ensures { result ≡ position (λ byte. byte == wanted) bytes.now }
+{
+    bytes.iter().position(|byte| *byte == wanted)
+}

@@ -1,0 +1,22 @@
+//! The whole script reader: the lines of a script, taken from its source in whatever pieces it gives them; what each line
+//! says, or why it is refused; and what a setup line adds to a setup (`docs/SCRIPT.md`).
+#![tactic(auto)]
+
+mod adding;
+mod buffer;
+mod bytes;
+mod fields;
+mod lines;
+mod numbers;
+mod setup;
+mod step;
+mod words;
+
+pub use adding::add;
+pub use buffer::{Held, LineBuffer};
+pub use lines::{Line, Lines, LinesNo};
+pub use setup::read_setup_line;
+pub use step::read_step_line;
+
+#[cfg(test)]
+mod tests;

@@ -1,0 +1,61 @@
+//! Numbers in decimal.
+ghost use Rattle.std.specs.Prelude.{◌≡◌, ◌≤◌, ◌^◌, ◌<◌, IfSome, option_and_then};
+ghost use Rattle.cct_model.specs.Grammar.{digits_from, number_in, within, ranged};
+
+/// The number from `least` up to `most` that a field spells in decimal, without sign and without leading zeros.
+#[tactic(auto, unfolding(cct_model::specs::Grammar::ranged))]
+pub(crate) fn ranged(least: u64, most: u64, field: &[u8]) -> Option<u64>
+    ensures reads { result ≡ ranged least most field.now }
+    ensures within { IfSome result (λ number. (least ≤ number) × (number ≤ most)) }
+{
+    let number = number_in(field, most)?;
+    if number < least {
+        return None;
+    }
+    Some(number)
+}
+
+/// The number up to `most` that a field spells in decimal, without sign and without leading zeros.
+fn number_in(field: &[u8], most: u64) -> Option<u64>
+    ensures reads { result ≡ option_and_then (within 0 most) (number_in field.now) }
+{
+    match field {
+        [] => None,
+        [b'0', _, ..] => None,
+        _ => digits_in(field, most),
+    }
+}
+
+/// The number up to `most` that digits spell.
+fn digits_in(digits: &[u8], most: u64) -> Option<u64>
+    ensures { result ≡ option_and_then (within 0 most) (digits_from 0 digits.now) }
+{
+    let most = u128::from(most);
+    let mut number: u128 = 0;
+    for byte in digits {
+        if !byte.is_ascii_digit() {
+            return None;
+        }
+        number = 10 * number + u128::from(*byte - b'0');
+        if number > most {
+            return None;
+        }
+    }
+    Some(number as u64)
+}
+
+/// The number of one byte, from `least` up to `most`, that a field spells.
+pub(crate) fn ranged_u8(least: u8, most: u8, field: &[u8]) -> Option<u8>
+    ensures reads { result ≡ ranged least most field.now }
+    ensures within { IfSome result (λ number. (least ≤ number) × (number ≤ most)) }
+{
+    Some(ranged(u64::from(least), u64::from(most), field)? as u8)
+}
+
+/// The number of four bytes, from `least` up to `most`, that a field spells.
+pub(crate) fn ranged_u32(least: u32, most: u32, field: &[u8]) -> Option<u32>
+    ensures reads { result ≡ ranged least most field.now }
+    ensures within { IfSome result (λ number. (least ≤ number) × (number ≤ most)) }
+{
+    Some(ranged(u64::from(least), u64::from(most), field)? as u32)
+}

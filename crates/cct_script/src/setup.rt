@@ -1,0 +1,175 @@
+//! The setup lines of a script (`docs/SCRIPT.md`).
+ghost use Rattle.std.specs.Prelude.{◌≡◌, ◌≤◌, ◌<◌, ◌^◌, IfOk, IfSome};
+ghost use Rattle.cct_model.specs.Device.{IsSound, IsSoundBody};
+ghost use Rattle.cct_model.specs.Setup.{IsSetupLine};
+ghost use Rattle.cct_model.specs.Grammar.{ranged, three_byte_in, plain_texts, plain_acceptor, plain_device, acceptor_line, hopper_line, value_line, texts_line, setup_line};
+ghost use Rattle.cct_script.specs.Fields.{fields_behind};
+
+use crate::fields::{alone, first_field, five, four};
+use crate::numbers::{ranged_u8, ranged_u32};
+use crate::words::{check_in, id_in, name_of, word_in};
+use cct_model::{CheckKind, DeviceBody, DeviceSetup, LineKind, SetupLine, Texts};
+
+const ACCEPTOR: &[u8] = b"acceptor";
+
+const HOPPER: &[u8] = b"hopper";
+
+const VALUE: &[u8] = b"value";
+
+const TEXTS: &[u8] = b"texts";
+
+const BEGIN: &[u8] = b"begin";
+
+/// The address of a device that a field of a setup line spells, 2 to 255.
+fn address_in(field: &[u8]) -> Option<u8>
+    ensures reads { result ≡ ranged 2 255 field.now }
+    ensures within { IfSome result (λ addr. 2 ≤ addr) }
+{
+    ranged_u8(2, 255, field)
+}
+
+/// The number of three bytes that a field spells.
+fn three_byte_in(field: &[u8]) -> Option<u32>
+    ensures reads { result ≡ three_byte_in field.now }
+    ensures within { IfSome result (λ number. number < 2 ^ 24) }
+{
+    ranged_u32(0, 16_777_215, field)
+}
+
+/// The value of a coin that a field spells, 1 to 1,000,000.
+fn worth_in(field: &[u8]) -> Option<u32>
+    ensures reads { result ≡ ranged 1 1000000 field.now }
+    ensures within { IfSome result (λ value. (1 ≤ value) × (value ≤ 1000000)) }
+{
+    ranged_u32(1, 1_000_000, field)
+}
+
+/// The texts of a device of which a script says none.
+fn plain_texts() -> Texts
+    ensures { result ≡ plain_texts }
+{
+    Texts {
+        maker: name_of(b"BENCH"),
+        product: name_of(b"CCT"),
+        software: name_of(b"1"),
+        build: name_of(b"1"),
+    }
+}
+
+/// A coin acceptor of which a script says no more: its places have no values.
+#[tactic(auto, using(crate::proofs::Plain::plain_acceptor_sound))]
+fn plain_acceptor(accepts: u32) -> DeviceBody
+    ensures says { result ≡ plain_acceptor accepts }
+    ensures sound { accepts < 2 ^ 24 → IsSoundBody result }
+{
+    DeviceBody::Acceptor {
+        accepts,
+        values: [0; 16],
+        ids: [*b"......"; 16],
+    }
+}
+
+/// A device of which a script says no more.
+#[tactic(auto, using(crate::proofs::Plain::plain_device_sound))]
+fn plain_device(addr: u8, kind: CheckKind, serial: u32, body: DeviceBody) -> DeviceSetup
+    ensures says { result ≡ plain_device addr kind serial body }
+    ensures sound { 2 ≤ addr → serial < 2 ^ 24 → IsSoundBody body → IsSound result }
+{
+    DeviceSetup {
+        addr,
+        kind,
+        serial,
+        texts: plain_texts(),
+        named: false,
+        body,
+    }
+}
+
+/// `acceptor A CHECK SERIAL ACCEPTS`
+#[tactic(auto, using(crate::proofs::Forms::no_acceptor))]
+fn acceptor_line(rest: Option<&[u8]>) -> Option<SetupLine>
+    ensures says { result ≡ acceptor_line (fields_behind rest.entry) }
+    ensures sound { IfSome result IsSetupLine }
+{
+    let (addr, check, serial, accepts) = four(rest)?;
+    let addr = address_in(addr)?;
+    let check = check_in(check)?;
+    let serial = three_byte_in(serial)?;
+    let accepts = three_byte_in(accepts)?;
+    let body = plain_acceptor(accepts);
+    Some(SetupLine::Acceptor(plain_device(addr, check, serial, body)))
+}
+
+/// `hopper A CHECK SERIAL LIFE VALUE`
+#[tactic(auto, using(crate::proofs::Forms::no_hopper))]
+fn hopper_line(rest: Option<&[u8]>) -> Option<SetupLine>
+    ensures says { result ≡ hopper_line (fields_behind rest.entry) }
+    ensures sound { IfSome result IsSetupLine }
+{
+    let (addr, check, serial, life, value) = five(rest)?;
+    let addr = address_in(addr)?;
+    let check = check_in(check)?;
+    let serial = three_byte_in(serial)?;
+    let life = three_byte_in(life)?;
+    let value = worth_in(value)?;
+    let body = DeviceBody::Hopper { life, value };
+    Some(SetupLine::Hopper(plain_device(addr, check, serial, body)))
+}
+
+/// `value A PLACE VALUE ID`
+#[tactic(auto, using(crate::proofs::Forms::no_value))]
+fn value_line(rest: Option<&[u8]>) -> Option<SetupLine>
+    ensures says { result ≡ value_line (fields_behind rest.entry) }
+    ensures sound { IfSome result IsSetupLine }
+{
+    let (addr, place, value, id) = four(rest)?;
+    let addr = address_in(addr)?;
+    let place = ranged_u8(1, 16, place)?;
+    let value = worth_in(value)?;
+    let id = id_in(id)?;
+    Some(SetupLine::Value {
+        addr,
+        place,
+        value,
+        id,
+    })
+}
+
+/// `texts A MAKER PRODUCT SOFTWARE BUILD`
+#[tactic(auto, using(crate::proofs::Forms::no_texts))]
+fn texts_line(rest: Option<&[u8]>) -> Option<SetupLine>
+    ensures says { result ≡ texts_line (fields_behind rest.entry) }
+    ensures sound { IfSome result IsSetupLine }
+{
+    let (addr, maker, product, software, build) = five(rest)?;
+    let addr = address_in(addr)?;
+    let maker = word_in(maker)?;
+    let product = word_in(product)?;
+    let software = word_in(software)?;
+    let build = word_in(build)?;
+    let texts = Texts {
+        maker,
+        product,
+        software,
+        build,
+    };
+    Some(SetupLine::Named { addr, texts })
+}
+
+/// What a setup line says, without its line feed. `Word` where the first field is no word of a setup line, else `Form`
+/// where the line isn't in a form of its word.
+#[tactic(auto, unfolding(cct_model::specs::Grammar::setup_line))]
+pub fn read_setup_line(line: &[u8]) -> Result<SetupLine, LineKind>
+    ensures value { result ≡ setup_line line.now }
+    ensures said { IfOk result IsSetupLine }
+{
+    let (word, rest) = first_field(line);
+    match word {
+        _ if word == ACCEPTOR => acceptor_line(rest).ok_or(LineKind::Form),
+        _ if word == HOPPER => hopper_line(rest).ok_or(LineKind::Form),
+        _ if word == VALUE => value_line(rest).ok_or(LineKind::Form),
+        _ if word == TEXTS => texts_line(rest).ok_or(LineKind::Form),
+        _ if word == BEGIN => alone(SetupLine::Begin, rest).ok_or(LineKind::Form),
+        _ => Err(LineKind::Word),
+    }
+}

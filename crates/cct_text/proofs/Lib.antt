@@ -1,0 +1,6 @@
+pub mod Texts
+pub mod Listing
+pub mod Cuts
+pub mod Back
+pub mod Devices
+pub mod Whole

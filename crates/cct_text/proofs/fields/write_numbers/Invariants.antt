@@ -1,0 +1,6 @@
+use Rattle.std.proofs.Common.{◌≡◌, ◌+◌, ◌*◌, ◌≤◌, ◌++◌, length, map, take, decimal}
+use Rattle.cct_text.specs.Joined.{behind}
+use Rattle.cct_text.proofs.fields.write_numbers.Given as goal
+
+abbrev pub invariant-loop-number : goal.invariant-loop-number
+invariant-loop-number l = (l.line ≡ l.initial.line ++ behind 32 (map decimal (take l.number-index l.numbers))) × (length l.line ≤ length l.initial.line + 21 * l.number-index)

@@ -1,0 +1,116 @@
+//! Records of the journal, and the coins in them.
+ghost use Rattle.std.specs.Prelude.{◌≡◌, ℕ, ◌+◌, ◌≤◌, List, [], ◌∷◌, ◌++◌, length, decimal};
+ghost use Rattle.cct_model.specs.declared.record.Record.TheVariants.{Odd};
+ghost use Rattle.cct_model.specs.Text.{coin_text, coins_field, record_fields};
+ghost use Rattle.cct_text.specs.Joined.{behind};
+
+use crate::fields::{write_address, write_mask, write_number, write_numbers, write_pair};
+use crate::text::TextLine;
+use cct_model::{Coin, Record};
+
+/// Writes the fields of a record.
+pub(crate) fn write_record(line: &mut TextLine, entry: &Record)
+    requires { length line.old + 200 ≤ 3000 }
+    ensures text { line.new ≡ line.old ++ behind 32 (record_fields entry.now) }
+    ensures len { length line.new ≤ length line.old + 200 }
+{
+    match entry {
+        Record::Epoch { addr, mask } => write_mask(line, b" epoch", *addr, *mask),
+        Record::Reading {
+            addr,
+            counter,
+            lost,
+            posted,
+        } => {
+            write_pair(line, b" reading", *addr, *counter);
+            write_number(line, u64::from(*lost));
+            write_coins(line, posted.as_slice());
+        }
+        Record::Broken {
+            addr,
+            mask_seen,
+            counter,
+            posted,
+        } => {
+            write_mask(line, b" broken", *addr, *mask_seen);
+            write_number(line, u64::from(*counter));
+            write_coins(line, posted.as_slice());
+        }
+        Record::EpochEnd { addr } => write_address(line, b" epochend", *addr),
+        Record::Opened {
+            id,
+            addr,
+            count,
+            life,
+        } => {
+            write_order(line, b" opened", *id, *addr, *count);
+            write_number(line, u64::from(*life));
+        }
+        Record::Closed { id, paid, unpaid } => write_order(line, b" closed", *id, *paid, *unpaid),
+        Record::Odd {
+            id,
+            life_before,
+            life_after,
+        } => write_lives(line, *id, *life_before, *life_after),
+        Record::Sold { id, price } => {
+            write_numbers(line, b" sold", &[u64::from(*id), u64::from(*price)]);
+        }
+    }
+}
+
+/// Writes a word, and an order's id and two bytes as the fields behind it.
+fn write_order(line: &mut TextLine, word: &[u8], id: u32, first: u8, second: u8)
+    requires { length line.old + length word.now + 63 ≤ 3000 }
+    ensures text { line.new ≡ line.old ++ word.now ++ behind 32 (decimal id ∷ decimal first ∷ decimal second ∷ []) }
+    ensures len { length line.new ≤ length line.old + length word.now + 63 }
+{
+    write_numbers(
+        line,
+        word,
+        &[u64::from(id), u64::from(first), u64::from(second)],
+    );
+}
+
+/// Writes the fields of an order whose life counts don't fit it.
+fn write_lives(line: &mut TextLine, id: u32, before: u32, after: u32)
+    requires { length line.old + 67 ≤ 3000 }
+    ensures text { line.new ≡ line.old ++ behind 32 (record_fields (Odd id before after)) }
+    ensures len { length line.new ≤ length line.old + 67 }
+{
+    write_numbers(
+        line,
+        b" odd",
+        &[u64::from(id), u64::from(before), u64::from(after)],
+    );
+}
+
+/// Writes coins as the next field: joined by commas, or a hyphen where there is none.
+fn write_coins(line: &mut TextLine, coins: &[Coin])
+    requires few { length coins.now ≤ 5 }
+    requires room { length line.old + 40 ≤ 3000 }
+    ensures text { line.new ≡ line.old ++ 32 ∷ coins_field coins.now }
+    ensures len { length line.new ≤ length line.old + 40 }
+{
+    match coins {
+        [] => line.push(b" -"),
+        [first, others @ ..] => {
+            line.push(b" ");
+            write_coin(line, *first);
+            for coin in others {
+                line.push(b",");
+                write_coin(line, *coin);
+            }
+        }
+    }
+}
+
+/// Writes a coin as its place, a slash and its path.
+fn write_coin(line: &mut TextLine, coin: Coin)
+    requires { length line.old + 7 ≤ 3000 }
+    ensures text { line.new ≡ line.old ++ coin_text coin }
+    ensures len { length line.new ≤ length line.old + 7 }
+{
+    line.push_number(coin.place);
+    line.push(b"/");
+    line.push_number(coin.path);
+}

@@ -1,0 +1,12 @@
+pub mod Begins
+pub mod Ends
+pub mod Lines
+pub mod Moves
+pub mod Places
+pub mod Polls
+pub mod Refusals
+pub mod Rows
+pub mod ScanEnds
+pub mod Steps
+pub mod Talks
+pub mod Told
