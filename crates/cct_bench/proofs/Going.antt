@@ -291,10 +291,10 @@ played_broke (Some bytes) left left1 held rest number stage next setup Before Af
     }
 
 -- the setup that was read is one of today
-pub going_setup : (left0 left : Option (List ℕ)) (held : List ℕ) (number coin_lines : ℕ) (setup : Setup) (Stands : List Entry → Type 0) (old now : Option (List ℕ)) →
-    Going left0 left held number (at_steps setup coin_lines) Stands old now → IsSetupOfToday setup
-going_setup left0 left held number coin_lines setup Stands old now g =
-    subst IsSetupOfToday ((g.says []).setup ∙ setup_stays number setup (at_steps setup coin_lines) (slice_split is_line_feed (held ++ [])) refl) (setup_of_today (g.taken ++ []))
+pub going_setup : (left0 left : Option (List ℕ)) (held : List ℕ) (number : ℕ) (setup : Setup) (Stands : List Entry → Type 0) (old now : Option (List ℕ)) →
+    Going left0 left held number (at_steps setup) Stands old now → IsSetupOfToday setup
+going_setup left0 left held number setup Stands old now g =
+    subst IsSetupOfToday ((g.says []).setup ∙ setup_stays number setup (at_steps setup) (slice_split is_line_feed (held ++ [])) refl) (setup_of_today (g.taken ++ []))
 
 -- there was no memory before the first step
 pub played_none : (left0 left : Option (List ℕ)) (held : List ℕ) (number : ℕ) (stage : Stage) (old : Option (List ℕ)) → Going left0 left held number stage IsNothing old old →
@@ -323,11 +323,10 @@ pub record Opens (left0 left : Option (List ℕ)) (faults0 faults : ℕ) (held :
   pub counted : number ≤ 1048577
 
 -- what the loop over the steps keeps: from what was so at its start comes what is so now
-pub record Runs (Start Now : Option (List ℕ) → Type 0) (left0 left : Option (List ℕ)) (faults0 faults : ℕ) (old now : Option (List ℕ)) (failed0 failed : ℕ) (number coin_lines : ℕ) : Type 0 where
+pub record Runs (Start Now : Option (List ℕ) → Type 0) (left0 left : Option (List ℕ)) (faults0 faults : ℕ) (old now : Option (List ℕ)) (failed0 failed : ℕ) (number : ℕ) : Type 0 where
   pub going : (first : Option (List ℕ)) → Start first → Now first
   pub source : TellsAsBefore left0 left
   pub sink : TellsAsBefore old now
   pub source_later : faults0 ≤ faults
   pub sink_later : failed0 ≤ failed
   pub counted : number ≤ 1048577
-  pub few : coin_lines ≤ 200

@@ -1,5 +1,5 @@
 -- What a whole line is to a script, by its word, its form and what it adds.
-use Rattle.std.proofs.Common.{◌≡◌, ℕ, true, false, List, Option, Some, None, Result, Ok, Err, refl, ap, sym, ◌∙◌, subst}
+use Rattle.std.proofs.Common.{◌≡◌, ℕ, true, false, List, Some, Result, Ok, Err, refl, ap, ◌∙◌, subst}
 use Rattle.std.specs.Prelude.{IfSome, IfOk, MatchResult, IsTrue}
 use Rattle.cct_model.specs.declared.device.Setup.{Setup}
 use Rattle.cct_model.specs.declared.device.SetupLine.{SetupLine}
@@ -12,7 +12,9 @@ use Rattle.cct_model.specs.Script.{word_of, is_setup_word, is_step_word, at_setu
 use Rattle.cct_model.specs.Legal.{is_played}
 use Rattle.cct_model.specs.declared.command.Step.TheVariants as step
 use Rattle.cct_bench.specs.Setup.{stage_of, opened_by}
-use Rattle.cct_bench.specs.Playing.{read_as, IsFound, CanPlay}
+use Rattle.cct_bench.specs.declared.steps.Said.{Said}
+use Rattle.cct_bench.specs.declared.steps.Said.TheVariants as said
+use Rattle.cct_bench.specs.Playing.{read_as, step_of, IsFound, CanPlay}
 use Rattle.cct_laws.proofs.Said.{IfSaid, IsToday, step_said}
 
 -- a word that is no setup word of today
@@ -37,7 +39,7 @@ added_opens setup new (says.Acceptor d) e = ap opened e
 added_opens setup new (says.Hopper d) e = ap opened e
 added_opens setup new (says.Value addr place value id) e = ap opened e
 added_opens setup new (says.Named addr texts) e = ap opened e
-added_opens setup new says.Begin e = let same : setup ≡ new = cc e in ap (λ s. opens (at_steps s 0)) same
+added_opens setup new says.Begin e = let same : setup ≡ new = cc e in ap (λ s. opens (at_steps s)) same
 
 added_refuses : (setup : Setup) (said : SetupLine) (why : LineKind) → added setup said ≡ Err why → read_setup_line setup (Ok said) ≡ refuses why
 unfolding added
@@ -56,42 +58,43 @@ pub setup_adds_not : (setup : Setup) (line : List ℕ) (said : SetupLine) (why :
 setup_adds_not setup line said why today e not_added = setup_form setup line today ∙ (ap (read_setup_line setup) e ∙ added_refuses setup said why not_added)
 
 -- a word that is no step word of today
-pub other_step_word : (setup : Setup) (coin_lines : ℕ) (line : List ℕ) → is_step_word (word_of line) ≡ false → read_form (at_steps setup coin_lines) line ≡ refuses kind.Word
+pub other_step_word : (setup : Setup) (line : List ℕ) → is_step_word (word_of line) ≡ false → read_form (at_steps setup) line ≡ refuses kind.Word
 unfolding read_form
-other_step_word setup coin_lines line later = rw later refl
+other_step_word setup line later = rw later refl
 
 -- a step line is what it says
-pub step_form : (setup : Setup) (coin_lines : ℕ) (line : List ℕ) (read : Read) → is_step_word (word_of line) ≡ true → read_step_line setup coin_lines (step_line line) ≡ read →
-    read_form (at_steps setup coin_lines) line ≡ read
+pub step_form : (setup : Setup) (line : List ℕ) (read : Read) → is_step_word (word_of line) ≡ true → read_step_line setup (step_line line) ≡ read →
+    read_form (at_steps setup) line ≡ read
 unfolding read_form
-step_form setup coin_lines line read today e = rw today e
+step_form setup line read today e = rw today e
 
 -- a step of today that is read, and is no end
-of_today : (setup : Setup) (coin_lines : ℕ) (s : Step) → read_step_line setup coin_lines (Ok s) ≡ read_as setup coin_lines (Some s) → IsToday s → IsInRange s × IsTrue (is_played s)
-of_today setup coin_lines (step.Coin addr place) e today = (today, refl)
-of_today setup coin_lines (step.Fault f) e today = (today.0, refl)
-of_today setup coin_lines (step.Next addr) e today = (tt, refl)
-of_today setup coin_lines (step.Command c) e today = (today.1, today.0)
-of_today setup coin_lines step.End e today = cc e
-of_today setup coin_lines s e today = absurd today
+of_today : (setup : Setup) (s : Step) → read_step_line setup (Ok s) ≡ read_as setup (Some s) → IsToday s → IsInRange s × IsTrue (is_played s)
+of_today setup (step.Coin addr place) e today = (today, refl)
+of_today setup (step.Alien addr) e today = (tt, refl)
+of_today setup (step.Reset addr) e today = (tt, refl)
+of_today setup (step.Fault f) e today = (today.0, refl)
+of_today setup (step.Next addr) e today = (tt, refl)
+of_today setup (step.Command c) e today = (today.1, today.0)
+of_today setup step.End e today = cc e
+of_today setup s e today = absurd today
 
-pub can_play : (setup : Setup) (coin_lines : ℕ) (line : List ℕ) (said : Step) (found : Option Step) → is_step_word (word_of line) ≡ true → step_line line ≡ Ok said →
-    read_step_line setup coin_lines (Ok said) ≡ read_as setup coin_lines found → IsFound setup coin_lines said found → IfSome found (CanPlay setup coin_lines)
-can_play setup coin_lines line said None today e reads found = tt
-can_play setup coin_lines line said (Some s) today e reads found =
-    let is_today : IsToday said = subst (IfSaid IsToday) e (step_said line today) in
-    let plays = of_today setup coin_lines s (ap (λ x. read_step_line setup coin_lines (Ok x)) found.0 ∙ reads) (subst IsToday (sym found.0) is_today) in
-    record { in_range = plays.0; known = found.1; played = plays.1; few = found.2 }
+can_play : (setup : Setup) (line : List ℕ) (s : Step) (r : Said) → is_step_word (word_of line) ≡ true → step_line line ≡ Ok s →
+    read_step_line setup (Ok s) ≡ read_as setup (step_of r s) → IsFound setup s r → IfSome (step_of r s) (CanPlay setup)
+can_play setup line s said.End today e reads found = tt
+can_play setup line s said.Step today e reads found =
+    let plays = of_today setup s reads (subst (IfSaid IsToday) e (step_said line today)) in
+    record { in_range = plays.0; known = found; played = plays.1 }
 
--- the same of what is found, or why it is not
-pub step_reads : (setup : Setup) (coin_lines : ℕ) (line : List ℕ) (said : Step) (r : Result (Option Step) LineKind) → is_step_word (word_of line) ≡ true → step_line line ≡ Ok said →
-    MatchResult r (λ found. read_step_line setup coin_lines (Ok said) ≡ read_as setup coin_lines found) (λ why. read_step_line setup coin_lines (Ok said) ≡ refuses why) →
-    MatchResult r (λ found. read_form (at_steps setup coin_lines) line ≡ read_as setup coin_lines found) (λ why. read_form (at_steps setup coin_lines) line ≡ refuses why)
-step_reads setup coin_lines line said (Ok found) today e reads = step_form setup coin_lines line (read_as setup coin_lines found) today (ap (read_step_line setup coin_lines) e ∙ reads)
-step_reads setup coin_lines line said (Err why) today e reads = step_form setup coin_lines line (refuses why) today (ap (read_step_line setup coin_lines) e ∙ reads)
+-- the same of what the line says, or why it is refused
+pub step_reads : (setup : Setup) (line : List ℕ) (s : Step) (r : Result Said LineKind) → is_step_word (word_of line) ≡ true → step_line line ≡ Ok s →
+    MatchResult r (λ said. read_step_line setup (Ok s) ≡ read_as setup (step_of said s)) (λ why. read_step_line setup (Ok s) ≡ refuses why) →
+    MatchResult r (λ said. read_form (at_steps setup) line ≡ read_as setup (step_of said s)) (λ why. read_form (at_steps setup) line ≡ refuses why)
+step_reads setup line s (Ok r) today e reads = step_form setup line (read_as setup (step_of r s)) today (ap (read_step_line setup) e ∙ reads)
+step_reads setup line s (Err why) today e reads = step_form setup line (refuses why) today (ap (read_step_line setup) e ∙ reads)
 
-pub found_can_play : (setup : Setup) (coin_lines : ℕ) (line : List ℕ) (said : Step) (r : Result (Option Step) LineKind) → is_step_word (word_of line) ≡ true → step_line line ≡ Ok said →
-    MatchResult r (λ found. read_step_line setup coin_lines (Ok said) ≡ read_as setup coin_lines found) (λ why. read_step_line setup coin_lines (Ok said) ≡ refuses why) →
-    IfOk r (IsFound setup coin_lines said) → IfOk r (λ found. IfSome found (CanPlay setup coin_lines))
-found_can_play setup coin_lines line said (Ok found) today e reads is = can_play setup coin_lines line said found today e reads is
-found_can_play setup coin_lines line said (Err why) today e reads is = tt
+pub found_can_play : (setup : Setup) (line : List ℕ) (s : Step) (r : Result Said LineKind) → is_step_word (word_of line) ≡ true → step_line line ≡ Ok s →
+    MatchResult r (λ said. read_step_line setup (Ok s) ≡ read_as setup (step_of said s)) (λ why. read_step_line setup (Ok s) ≡ refuses why) →
+    IfOk r (IsFound setup s) → IfOk r (λ said. IfSome (step_of said s) (CanPlay setup))
+found_can_play setup line s (Ok r) today e reads is = can_play setup line s r today e reads is
+found_can_play setup line s (Err why) today e reads is = tt

@@ -7,12 +7,12 @@ use Rattle.cct_model.specs.declared.command.Step.TheVariants as step
 use Rattle.cct_model.specs.declared.entry.LineKind.{LineKind}
 use Rattle.cct_model.specs.declared.entry.LineKind.TheVariants as kind
 use Rattle.cct_model.specs.Grammar.{step_line}
-use Rattle.cct_model.specs.Script.{Stage, at_setup, at_steps, at_end, setup_at, Read, opens, plays, refuses, read_line, read_form, read_step_line, read_known, is_known, is_over, is_step_word, word_of, coins_after, most_coins, most_lines, most_bytes, stage_after, goes_on, Script, script_from}
+use Rattle.cct_model.specs.Script.{Stage, at_setup, at_steps, at_end, setup_at, Read, opens, plays, refuses, read_line, read_form, read_step_line, read_known, is_known, is_over, is_step_word, word_of, most_lines, most_bytes, stage_after, goes_on, Script, script_from}
 
 -- the setup is done, and it is this one
 abbrev pub IsDone : Setup → Stage → Type 0
 IsDone setup (at_setup before) = ⊥
-IsDone setup (at_steps before coin_lines) = before ≡ setup
+IsDone setup (at_steps before) = before ≡ setup
 IsDone setup (at_end before) = before ≡ setup
 
 abbrev GoesDone : Setup → Read → Type 0
@@ -24,20 +24,20 @@ either : (P : Read → Type 0) (b : Bool) (x y : Read) → P x → P y → P (if
 either P true x y p q = p
 either P false x y p q = q
 
-known_done : (setup before : Setup) (coin_lines : ℕ) (s : Step) → before ≡ setup → GoesDone setup (read_known before coin_lines s)
-known_done setup before coin_lines s same =
-    either (GoesDone setup) (nat_lt most_coins (coins_after s coin_lines)) _ _ tt (either (GoesDone setup) (is_known before s) _ _ same tt)
+known_done : (setup before : Setup) (s : Step) → before ≡ setup → GoesDone setup (read_known before s)
+known_done setup before s same =
+    either (GoesDone setup) (is_known before s) _ _ same tt
 
-step_done : (setup before : Setup) (coin_lines : ℕ) (r : Result Step LineKind) → before ≡ setup → GoesDone setup (read_step_line before coin_lines r)
-step_done setup before coin_lines (Err why) same = tt
-step_done setup before coin_lines (Ok step.End) same = same
-step_done setup before coin_lines (Ok s) same = known_done setup before coin_lines s same
+step_done : (setup before : Setup) (r : Result Step LineKind) → before ≡ setup → GoesDone setup (read_step_line before r)
+step_done setup before (Err why) same = tt
+step_done setup before (Ok step.End) same = same
+step_done setup before (Ok s) same = known_done setup before s same
 
 form_done : (setup : Setup) (stage : Stage) (line : List ℕ) → IsDone setup stage → GoesDone setup (read_form stage line)
 unfolding read_form
 form_done setup (at_setup before) line done = absurd done
-form_done setup (at_steps before coin_lines) line done =
-    either (GoesDone setup) (is_step_word (word_of line)) _ _ (step_done setup before coin_lines (step_line line) done) tt
+form_done setup (at_steps before) line done =
+    either (GoesDone setup) (is_step_word (word_of line)) _ _ (step_done setup before (step_line line) done) tt
 form_done setup (at_end before) line done = tt
 
 line_done : (number : ℕ) (setup : Setup) (stage : Stage) (line : List ℕ) → IsDone setup stage → GoesDone setup (read_line number stage line)
@@ -58,7 +58,7 @@ after_done setup stage (refuses why) done goes = done
 
 setup_done : (setup : Setup) (stage : Stage) → IsDone setup stage → setup_at stage ≡ setup
 setup_done setup (at_setup before) done = absurd done
-setup_done setup (at_steps before coin_lines) done = done
+setup_done setup (at_steps before) done = done
 setup_done setup (at_end before) done = done
 
 goes_done : (number : ℕ) (setup : Setup) (stage : Stage) (read : Read) (rest : Script) → IsDone setup stage → rest.setup ≡ setup → (goes_on number stage read rest).setup ≡ setup

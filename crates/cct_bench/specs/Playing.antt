@@ -7,26 +7,32 @@ use Rattle.cct_model.specs.declared.command.Step.{Step}
 use Rattle.cct_model.specs.declared.device.Setup.{Setup}
 use Rattle.cct_model.specs.declared.entry.Entry.{Entry}
 use Rattle.cct_model.specs.Legal.{Entries, is_played}
-use Rattle.cct_model.specs.Script.{Read, at_steps, at_end, opens, plays, coins_after, is_known, IsInRange}
+use Rattle.cct_model.specs.Script.{Read, at_steps, at_end, opens, plays, is_known, IsInRange}
 use Rattle.cct_model.specs.Text.{text}
+use Rattle.cct_bench.specs.declared.steps.Said.{Said}
+use Rattle.cct_bench.specs.declared.steps.Said.TheVariants as said
 
 -- What a step line is to a script, `end` with no step.
-abbrev pub read_as : Setup → ℕ → Option Step → Read
-read_as setup coin_lines None = opens (at_end setup)
-read_as setup coin_lines (Some s) = plays s (at_steps setup (coins_after s coin_lines))
+abbrev pub read_as : Setup → Option Step → Read
+read_as setup None = opens (at_end setup)
+read_as setup (Some s) = plays s (at_steps setup)
 
 -- A step that a machine of this setup plays: its numbers are in their ranges, it names a device that is there, and it
 -- is one of those that are played today.
-pub record CanPlay (setup : Setup) (coin_lines : ℕ) (s : Step) : Type 0 where
+pub record CanPlay (setup : Setup) (s : Step) : Type 0 where
   pub in_range : IsInRange s
   pub known : IsTrue (is_known setup s)
   pub played : IsTrue (is_played s)
-  pub few : coins_after s coin_lines ≤ 200
 
--- The step found is that of the line, its device is there, and there are not too many coins.
-abbrev pub IsFound : Setup → ℕ → Step → Option Step → Type 0
-IsFound setup coin_lines said None = ⊤
-IsFound setup coin_lines said (Some s) = (s ≡ said) × IsTrue (is_known setup s) × (coins_after s coin_lines ≤ 200)
+-- The step that a line says, none for `end`.
+abbrev pub step_of : Said → Step → Option Step
+step_of said.Step s = Some s
+step_of said.End s = None
+
+-- Where a line says this step, its device is there.
+abbrev pub IsFound : Setup → Step → Said → Type 0
+IsFound setup s said.Step = IsTrue (is_known setup s)
+IsFound setup s said.End = ⊤
 
 -- A step gives these entries, oldest first, whatever is behind it: one past stands for the machine before, and the past
 -- with them for the machine after.

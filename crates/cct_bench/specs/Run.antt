@@ -6,7 +6,7 @@ use Rattle.std.specs.declared.alloc.Global.{Global}
 use Rattle.cct_model.specs.declared.device.Setup.{Setup}
 use Rattle.cct_model.specs.declared.device.DeviceSetup.{DeviceSetup}
 use Rattle.cct_model.specs.declared.entry.Entry.{Entry}
-use Rattle.cct_model.specs.Claims.{InOrder, Covers}
+use Rattle.cct_model.specs.Claims.{InOrder, Covers, Pace}
 use Rattle.cct_laws.specs.Honest.{Honest}
 use Rattle.cct_laws.specs.Law.{IsOf, lines_in}
 use Rattle.cct_model.specs.declared.entry.Entry.TheVariants as entry
@@ -59,8 +59,8 @@ Ends s bytes taken played unplayed transcript old new =
     (tail : List Entry) × Closes s bytes taken played unplayed tail × Appends old new (text (transcript ++ tail))
 
 -- A run over a script of these bytes: what it took of them, the steps that it played, and their transcript; and what it
--- wrote. Where the wire was honest, the posts of each device are its accepted coins in order, none twice and none lost
--- in silence.
+-- wrote. Where the wire was honest, the posts of each device are its accepted coins in order, none twice; and at each
+-- device that kept the pace, none is lost in silence.
 pub record Ran (bytes : List ℕ) (s : Status) (left old new : Option (List ℕ)) : Type 0 where
   pub taken : List ℕ
   pub rest : List ℕ
@@ -72,7 +72,7 @@ pub record Ran (bytes : List ℕ) (s : Status) (left old new : Option (List ℕ)
   pub steps_are : (script bytes).steps ≡ played ++ unplayed
   pub legal : Legal (script bytes).setup played transcript
   pub in_order : (d : DeviceSetup) → IsOf (script bytes).setup d → Honest transcript → InOrder (lines_in d transcript)
-  pub covers : (d : DeviceSetup) → IsOf (script bytes).setup d → Honest transcript → Covers (lines_in d transcript)
+  pub covers : (d : DeviceSetup) → IsOf (script bytes).setup d → Honest transcript → Pace (lines_in d transcript) → Covers (lines_in d transcript)
   pub ends : Ends s bytes taken played unplayed transcript old new
 
 -- How a run ends where a script is read no further.

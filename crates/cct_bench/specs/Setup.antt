@@ -9,7 +9,7 @@ use Rattle.cct_bench.specs.declared.opening.Opened.TheVariants.{Added, Begun}
 -- Which line is wanted after a setup line that leaves this setup.
 abbrev pub stage_of : Opened → Setup → Stage
 stage_of Added setup = at_setup setup
-stage_of Begun setup = at_steps setup 0
+stage_of Begun setup = at_steps setup
 
 -- What a setup line does to the setup.
 abbrev pub opened_by : SetupLine → Opened

@@ -18,7 +18,7 @@ ghost use Rattle.cct_bench.specs.Run.{Played, Ran, ClosedBy, ending_at};
 use crate::lines::{Stop, read_end};
 use crate::opening::{Opened, read_opening};
 use crate::outcome::Status;
-use crate::steps::{coins_after, read_step};
+use crate::steps::{Said, read_step};
 use cct_edge::{Failed, Sink, Source};
 use cct_model::{Devices, Entry, LineKind, Setup, Step};
 use cct_script::LineBuffer;
@@ -103,7 +103,7 @@ fn read_setup<S: Source>(
     requires lines { lines.old ≡ [] }
     requires setup { setup.old ≡ no_devices }
     ensures opened { (written : Option (List ℕ)) → IfOk result (λ number.
-        Going (S.left script.old) (S.left script.new) lines.new number (at_steps setup.new 0) IsNothing written written) }
+        Going (S.left script.old) (S.left script.new) lines.new number (at_steps setup.new) IsNothing written written) }
     ensures counted { IfOk result (λ number. number ≤ 1048577) }
     ensures ended { (written : Option (List ℕ)) → IfErr result (λ how.
         IfSome (S.left script.old) (λ bytes. Played bytes how (S.left script.new) written written)) }
@@ -126,29 +126,26 @@ fn read_setup<S: Source>(
 #[derive(Drop)]
 struct Desk {
     lines: LineBuffer,
+    /// The step of the line read last.
+    step: Step,
     report: Report,
     line: TextLine,
 }
 
 impl Desk {
-    /// Plays one step, and writes its entries.
-    fn play<K: Sink>(
-        &mut self,
-        world: &mut World<'_>,
-        step: &Step,
-        out: &mut K,
-    ) -> Result<(), Failed>
-        requires known { IsTrue (is_known (setup_of world.old) step.now) }
-        requires in_range { IsInRange step.now }
-        requires played { IsTrue (is_played step.now) }
-        ensures plays { PlaysOn (StandsFor world.old) (StandsFor world.new) (setup_of world.old) step.now result
+    /// Plays the step that was read, and writes its entries.
+    fn play<K: Sink>(&mut self, world: &mut World<'_>, out: &mut K) -> Result<(), Failed>
+        requires known { IsTrue (is_known (setup_of world.old) self.old.step) }
+        requires in_range { IsInRange self.old.step }
+        requires played { IsTrue (is_played self.old.step) }
+        ensures plays { PlaysOn (StandsFor world.old) (StandsFor world.new) (setup_of world.old) self.old.step result
             (K.written out.old) (K.written out.new) }
         ensures setup { setup_of world.new ≡ setup_of world.old }
         ensures lines { self.new.lines ≡ self.old.lines }
         ensures tells { TellsAsBefore (K.written out.old) (K.written out.new) }
         ensures cause { HasCause (K.faults out.old) (K.faults out.new) result }
     {
-        world.step(step, &mut self.report);
+        world.step(&self.step, &mut self.report);
         write_report(out, &mut self.line, &self.report)
     }
 
@@ -162,7 +159,7 @@ impl Desk {
     ) -> Ending
         requires { first ≤ 1048577 }
         ensures played { (left0 : Option (List ℕ))
-            → Going left0 (S.left script.old) self.old.lines first (at_steps (setup_of world.old) 0) (StandsFor world.old) (K.written out.old) (K.written out.old)
+            → Going left0 (S.left script.old) self.old.lines first (at_steps (setup_of world.old)) (StandsFor world.old) (K.written out.old) (K.written out.old)
             → IfSome left0 (λ bytes. Played bytes result (S.left script.new) (K.written out.old) (K.written out.new)) }
         ensures unread { result ≡ Ending.Unread → Rose (S.faults script.old) (S.faults script.new) }
         ensures unwritten { result ≡ Ending.Unwritten → Rose (K.faults out.old) (K.faults out.new) }
@@ -173,17 +170,14 @@ impl Desk {
         ensures sink_later { K.faults out.old ≤ K.faults out.new }
     {
         let mut number = first;
-        let mut coin_lines = 0;
         loop {
-            let step = match read_step(&mut self.lines, world, number, coin_lines, script) {
-                Ok(Some(step)) => step,
-                Ok(None) => return self.finish(number + 1, script),
+            match read_step(&mut self.lines, world, number, script, &mut self.step) {
+                Ok(Said::Step) => match self.play(world, out) {
+                    Ok(()) => number += 1,
+                    Err(Failed) => return Ending::Unwritten,
+                },
+                Ok(Said::End) => return self.finish(number + 1, script),
                 Err(why) => return ending_at(number, why),
-            };
-            coin_lines = coins_after(&step, coin_lines);
-            match self.play(world, &step, out) {
-                Ok(()) => number += 1,
-                Err(Failed) => return Ending::Unwritten,
             }
         }
     }
@@ -224,6 +218,7 @@ impl Bench {
             },
             desk: Desk {
                 lines: LineBuffer::new(),
+                step: Step::End,
                 report: Report::new(),
                 line: TextLine::new(),
             },

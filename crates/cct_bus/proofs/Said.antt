@@ -1,5 +1,5 @@
 -- What a device says has room: it answers by a message only where the piece is for it, and else by its address alone.
-use Rattle.std.proofs.Common.{◌≡◌, ℕ, ◌≤◌, ◌==◌, ◌⊎◌, inl, inr, Bool, true, false, cond, List, [], ◌∷◌, length, slice_index, Option, Some, None, refl, ap, ◌∙◌, arith, eq-eqb}
+use Rattle.std.proofs.Common.{◌≡◌, ℕ, ◌≤◌, ◌==◌, ◌⊎◌, inl, inr, Bool, true, false, cond, List, [], ◌∷◌, length, slice_index, Option, Some, None, refl, ap, ◌∙◌, arith}
 use Rattle.std.specs.Prelude.{MatchOption, option_and_then, unwrap_or}
 use Rattle.std.specs.Option.{option_or, option_map}
 use Rattle.std.proofs.lemmas.Bool.{eqb-true}
@@ -10,17 +10,13 @@ use Rattle.cct_model.specs.declared.device.DeviceBody.{DeviceBody}
 use Rattle.cct_model.specs.declared.device.DeviceBody.TheVariants as body
 use Rattle.cct_model.specs.declared.device.DeviceSetup.{DeviceSetup}
 use Rattle.cct_model.specs.declared.request.Request.{Request}
-use Rattle.cct_model.specs.declared.request.Request.TheVariants.{AddressPoll, SetMask}
+use Rattle.cct_model.specs.declared.request.Request.TheVariants.{AddressPoll}
 use Rattle.cct_model.specs.Acceptor.{acceptor_reply}
-use Rattle.cct_model.specs.Device.{IsAcceptor, common_reply, own_reply, reply_of}
-use Rattle.cct_model.specs.Exchange.{answer, answer_to, ask, asked_of, asker, asking, asks_of, reply_bytes, to_all, to_one}
-use Rattle.cct_model.specs.History.{Met, heard}
+use Rattle.cct_model.specs.Device.{common_reply, own_reply, reply_of}
+use Rattle.cct_model.specs.Exchange.{answer, answer_to, asked_of, asker, asks_of, reply_bytes, to_all, to_one}
+use Rattle.cct_model.specs.History.{Met}
 use Rattle.cct_model.specs.Message.{Message, message}
-use Rattle.cct_model.specs.Request.{data_of, header_of, request_of}
-use Rattle.cct_model.specs.Transcript.{opening}
-use Rattle.cct_model.proofs.Requests.{request_back, request_short}
-use Rattle.cct_frame.specs.Frame.{carried}
-use Rattle.cct_frame.proofs.Spellings.{written_back}
+use Rattle.cct_model.specs.Request.{request_of}
 use Rattle.cct_bus.specs.Room.{most_said}
 
 some_is : (test : Bool) (x m : Message) → cond test (Some x) None ≡ Some m → x ≡ m
@@ -104,26 +100,6 @@ room_by d past piece said (Some q) asks e fits = room_asked d past piece said q 
 -- what a device answers has its room
 pub said_room : (d : DeviceSetup) (past : List Met) (piece said : List ℕ) → said ≡ unwrap_or (answer d past piece) [] → length said ≤ 260 → length said ≤ most_said d.addr piece
 said_room d past piece said e fits = room_by d past piece said (asks_of d piece) refl e fits
-
-asked_here : (kind : CheckKind) (addr : ℕ) (q : Request) → asked_of addr (carried kind (asking addr q)) ≡ to_one (request_of (header_of q) (data_of q))
-asked_here Simple addr q = rw (eq-eqb addr addr refl) refl
-asked_here Crc addr q = rw (eq-eqb addr addr refl) refl
-
--- what the host asks of a device to accept every coin place is asked of it
-pub opened : (d : DeviceSetup) → asks_of d (ask d.kind d.addr (SetMask 65535)) ≡ Some (SetMask 65535)
-unfolding asks_of ask
-opened d =
-    ap (option_and_then (asked_of d.addr)) (written_back d.kind (asking d.addr (SetMask 65535)) (omega (arith, request_short (SetMask 65535))) refl)
-    ∙ asked_here d.kind d.addr (SetMask 65535)
-    ∙ ap to_one (request_back (SetMask 65535) (λ serial count e. absurd cc))
-
-opening_of : (b : DeviceBody) → IsAcceptor b → opening b ≡ heard (Some (SetMask 65535)) ∷ []
-opening_of (body.Acceptor accepts values ids) kind = refl
-opening_of (body.Hopper life value) kind = absurd kind
-
--- so an acceptor that heard it met what it has met before a script
-pub opening_is : (d : DeviceSetup) → IsAcceptor d.body → opening d.body ≡ heard (asks_of d (ask d.kind d.addr (SetMask 65535))) ∷ []
-opening_is d kind = rw (opened d) (opening_of d.body kind)
 
 -- an answer, or none, as a device gives it
 pub said_is : (r : Option (List ℕ)) (answered : Bool) (said : List ℕ) → MatchOption r ((answered ≡ false) × (said ≡ [])) (λ bytes. (answered ≡ true) × (said ≡ bytes)) → said ≡ unwrap_or r []

@@ -3,14 +3,14 @@ ghost use Rattle.std.specs.Prelude.{◌≡◌, ◌==◌, nat_le, ◌+◌, ◌<�
 ghost use Rattle.std.specs.List.{All, flat_map, position};
 ghost use Rattle.std.specs.Option.{option_map};
 ghost use Rattle.cct_model.specs.declared.device.DeviceSetup.{DeviceSetup};
-ghost use Rattle.cct_model.specs.declared.command.WireFault.TheVariants.{HostHears};
+ghost use Rattle.cct_model.specs.declared.command.WireFault.TheVariants.{Clear, HostHears};
 ghost use Rattle.cct_model.specs.declared.entry.Entry.{Entry};
 ghost use Rattle.cct_model.specs.declared.entry.Entry.TheVariants as entry;
 ghost use Rattle.cct_model.specs.Device.{IsAcceptor, IsSound};
 ghost use Rattle.cct_model.specs.Exchange.{by_address, device_at};
 ghost use Rattle.cct_model.specs.Legal.{OfAcceptor, OfDevice, acceptor_there, coin_entry, hopper_there};
 ghost use Rattle.cct_model.specs.Setup.{IsSoundSetup};
-ghost use Rattle.cct_model.specs.Transcript.{heard_by_devices, heard_by_host, met, opening};
+ghost use Rattle.cct_model.specs.Transcript.{heard_by_devices, heard_by_host, met};
 ghost use Rattle.cct_acceptor.specs.Acceptor.{inserted};
 ghost use Rattle.cct_bus.specs.Device.{Stands, setup_in, setups_in};
 ghost use Rattle.cct_bus.specs.Fault.{IsShort};
@@ -23,7 +23,6 @@ use cct_acceptor::Inserted;
 use cct_model::{DeviceBody, DeviceSetup, Setup, WireFault};
 use cct_wire::Link;
 use std::alloc::{AllocError, Global};
-use std::mem;
 
 /// Up to 16 devices on one wire (ccTalk Generic Specification 4, part 1). Its contracts tell it by the transcript of all
 /// that happened on it, newest entry first.
@@ -44,8 +43,8 @@ pub struct Bus<'s> {
 impl<'s> Bus<'s> {
     ghost use Rattle.cct_bus.specs.Bus.{StandsFor, setup_of};
 
-    /// A bus with the devices of a setup, on which nothing has happened: each acceptor accepts every coin place. This
-    /// takes all memory that the bus ever has.
+    /// A bus with the devices of a setup as after power-up, on which nothing has happened. This takes all memory that
+    /// the bus ever has.
     ///
     /// Fails only where there is no memory for it.
     pub fn new(alloc: Global, setup: &'s Setup) -> Result<Bus<'s>, AllocError>
@@ -153,12 +152,12 @@ impl Link for Bus<'_> {
     /// Every device hears what is sent, or what the fault that is set has reach it, and acts on it. The host hears its
     /// echo and the answers in rising order of address, or what the fault makes of that. The fault is then used up.
     fn exchange(&mut self, sent: &[u8], heard: &mut ArrayVec<u8, 520>) {
-        let fault = mem::replace(&mut self.fault, WireFault::Clear);
         heard.clear();
         heard.try_extend_from_slice(sent).unwrap();
-        let piece = heard_by_devices(&fault, sent);
+        let piece = heard_by_devices(&self.fault, sent);
         all_hear(&mut self.devices, piece, &mut self.frame, heard);
-        heard_by_host(&fault, sent, heard);
+        heard_by_host(&self.fault, sent, heard);
+        use_up(&mut self.fault);
     }
 }
 
@@ -167,7 +166,7 @@ fn devices_of<'s>(alloc: Global, setups: &'s [DeviceSetup]) -> Result<Vec<Device
     requires sound { All IsSound setups.now }
     requires acceptors { All (λ d. IsAcceptor d.body) setups.now }
     ensures order { IfOk result (λ devices. setups_in devices.items ≡ by_address setups.now) }
-    ensures fresh { IfOk result (λ devices. All (Stands (λ d. opening d.body)) devices.items) }
+    ensures fresh { IfOk result (λ devices. All (Stands (λ d. [])) devices.items) }
 {
     match setups {
         [] => Ok(Vec::new(alloc)),
@@ -238,6 +237,16 @@ fn heard_by_host(fault: &WireFault, sent: &[u8], heard: &mut ArrayVec<u8, 520>)
         WireFault::Clear | WireFault::DevicesHear(_) => {}
         WireFault::HostHears(piece) => put_from(sent.len(), piece.as_slice(), heard),
         WireFault::WholeHeard(piece) => put_from(0, piece.as_slice(), heard),
+    }
+}
+
+/// Leaves no fault. Where none is set nothing is written, since a fault has room for a piece.
+fn use_up(fault: &mut WireFault)
+    ensures { fault.new ≡ Clear }
+{
+    match fault {
+        WireFault::Clear => {}
+        _ => *fault = WireFault::Clear,
     }
 }
 

@@ -4,18 +4,13 @@ ghost use Rattle.cct_model.specs.declared.device.DeviceSetup.{DeviceSetup};
 ghost use Rattle.cct_model.specs.Device.{IsAcceptor, IsSound};
 ghost use Rattle.cct_model.specs.Exchange.{answer, asks_of};
 ghost use Rattle.cct_model.specs.History.{Met, alien, coin, heard, reset};
-ghost use Rattle.cct_model.specs.Transcript.{opening};
 ghost use Rattle.cct_acceptor.specs.Acceptor.{StandsFor, inserted};
 ghost use Rattle.cct_bus.specs.Room.{most_said};
 
 use arrayvec::ArrayVec;
 use cct_acceptor::{Acceptor, Inserted};
-use cct_model::{DeviceBody, DeviceSetup, Request};
-use cct_msg::encode_request;
+use cct_model::DeviceSetup;
 use std::alloc::{AllocError, Global};
-
-/// The inhibit mask by which every coin place is accepted.
-const OPEN_MASK: u16 = 0xffff;
 
 /// A coin acceptor on the wire, with its setup.
 #[derive(Drop)]
@@ -28,19 +23,14 @@ pub(crate) struct Device<'s> {
 impl<'s> Device<'s> {
     ghost use Rattle.cct_bus.specs.Device.{Lived, setup_in};
 
-    /// An acceptor that has heard that it shall accept every coin place. This takes all memory that it ever has.
+    /// An acceptor as after power-up. This takes all memory that it ever has.
     pub(crate) fn new(alloc: Global, setup: &'s DeviceSetup) -> Result<Device<'s>, AllocError>
         requires sound { IsSound setup.now }
         requires acceptor { IsAcceptor setup.now.body }
         ensures setup { IfOk result (λ device. setup_in device ≡ setup.now) }
-        ensures fresh { IfOk result (λ device. Lived device (opening setup.now.body)) }
+        ensures fresh { IfOk result (λ device. Lived device []) }
     {
-        let mut acceptor = Acceptor::new(alloc, setup)?;
-        let mut piece = ArrayVec::new();
-        let mut answer = ArrayVec::new();
-        let request = Request::SetMask { mask: OPEN_MASK };
-        encode_request(setup.kind, setup.addr, &request, &mut piece);
-        acceptor.hear(piece.as_slice(), &mut answer);
+        let acceptor = Acceptor::new(alloc, setup)?;
         Ok(Device { setup, acceptor })
     }
 

@@ -1,4 +1,5 @@
-//! Worked exchanges of three acceptors: at 4 and 2 under the simple check, and at 3 under the CRC.
+//! Worked exchanges of three acceptors: at 4 and 2 under the simple check, and at 3 under the CRC. They accept no coin
+//! until their inhibit masks are set.
 ghost use Rattle.std.specs.Prelude.{◌≡◌, ◌≤◌, length};
 ghost use Rattle.std.specs.List.{All};
 ghost use Rattle.cct_model.specs.Device.{IsAcceptor, IsPrinting, IsSound, IsSoundBody, IsWord};
@@ -79,6 +80,14 @@ fn piece(bytes: &[u8]) -> Piece
     piece
 }
 
+/// Every acceptor hears that it shall accept every coin place.
+fn open(bus: &mut Bus<'_>) {
+    let mut heard = ArrayVec::new();
+    bus.exchange(b"\x02\x02\x01\xe7\xff\xff\x16", &mut heard);
+    bus.exchange(b"\x03\x02\x14\xe7\xff\xff\x3b", &mut heard);
+    bus.exchange(b"\x04\x02\x01\xe7\xff\xff\x14", &mut heard);
+}
+
 #[test]
 fn devices_answer_in_rising_order(rt: HostRuntime) -> Result<(), Fail> {
     let setup = machine();
@@ -101,10 +110,31 @@ fn devices_answer_in_rising_order(rt: HostRuntime) -> Result<(), Fail> {
 }
 
 #[test]
+fn an_acceptor_accepts_nothing_at_first(rt: HostRuntime) -> Result<(), Fail> {
+    let setup = machine();
+    let mut bus = Bus::new(rt.alloc(), &setup)?;
+    let mut heard = ArrayVec::new();
+    assert!(rt; bus.is_acceptor(2));
+    bus.exchange(b"\x02\x00\x01\xe5\x18", &mut heard);
+    assert_eq!(rt;
+        heard.as_slice(),
+        b"\x02\x00\x01\xe5\x18\x01\x0b\x02\x00\x00\x00\x00\x00\x00\x00\x00\x00\x00\x00\x00\xf2".as_slice()
+    );
+    assert_eq!(rt; bus.coin(2, 1), Inserted::Inhibited);
+    bus.exchange(b"\x02\x00\x01\xe5\x18", &mut heard);
+    assert_eq!(rt;
+        heard.as_slice(),
+        b"\x02\x00\x01\xe5\x18\x01\x0b\x02\x00\x01\x00\x02\x00\x00\x00\x00\x00\x00\x00\x00\xef".as_slice()
+    );
+    Ok(())
+}
+
+#[test]
 fn a_coin_falls_into_one_acceptor(rt: HostRuntime) -> Result<(), Fail> {
     let setup = machine();
     let mut bus = Bus::new(rt.alloc(), &setup)?;
     let mut heard = ArrayVec::new();
+    open(&mut bus);
     assert!(rt; bus.is_acceptor(3) && bus.is_acceptor(4));
     assert!(rt; !bus.is_acceptor(5) && !bus.is_hopper(2) && !bus.has_device(1));
 
@@ -151,6 +181,7 @@ fn a_fault_lasts_one_exchange(rt: HostRuntime) -> Result<(), Fail> {
     let setup = machine();
     let mut bus = Bus::new(rt.alloc(), &setup)?;
     let mut heard = ArrayVec::new();
+    open(&mut bus);
     assert!(rt; bus.is_acceptor(2) && bus.is_acceptor(4));
 
     // The devices hear that 4 shall reset, in the place of a request for its events.

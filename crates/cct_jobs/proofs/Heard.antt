@@ -3,7 +3,7 @@ use Rattle.std.proofs.Common.{◌≡◌, ℕ, Bool, true, false, cond, List, ref
 use Rattle.std.specs.Prelude.{◌==◌, is_some, option_and_then}
 use Rattle.cct_model.specs.declared.wire.CheckKind.{CheckKind}
 use Rattle.cct_model.specs.declared.request.Request.{Request}
-use Rattle.cct_model.specs.declared.request.Request.TheVariants.{ReadCredits, GetPath, GetDefault}
+use Rattle.cct_model.specs.declared.request.Request.TheVariants.{ReadCredits, GetMask, GetPath, GetDefault}
 use Rattle.cct_model.specs.declared.request.ReplyForm.{ReplyForm}
 use Rattle.cct_model.specs.declared.request.ReplyForm.TheVariants as form
 use Rattle.cct_model.specs.Request.{form_of}
@@ -12,7 +12,7 @@ use Rattle.cct_model.specs.Reply.{Reply, reply_in, reply_shown}
 use Rattle.cct_model.specs.Exchange.{after_echo, got, reply_from}
 use Rattle.cct_model.specs.Reply as reply
 use Rattle.cct_model.specs.declared.coin.Credits.{Credits}
-use Rattle.cct_model.specs.Job.{credits_reply, path_read}
+use Rattle.cct_model.specs.Job.{credits_reply, mask_reply, path_read}
 use Rattle.cct_msg.specs.Forms.{form_shown}
 use Rattle.cct_msg.proofs.Replies.{reply_form}
 use Rattle.cct_jobs.specs.Jobs.{path_reply, replied}
@@ -48,6 +48,11 @@ pub credits_alone : (kind : CheckKind) (addr : ℕ) (sent heard : List ℕ) (y :
 unfolding form_of
 credits_alone kind addr sent heard y e = form_heard kind addr ReadCredits sent heard y e
 
+-- a mask to that for the mask
+pub mask_alone : (kind : CheckKind) (addr : ℕ) (sent heard : List ℕ) (y : Reply) → replied kind addr GetMask sent heard ≡ Some y → form_shown y ≡ Some form.Mask
+unfolding form_of
+mask_alone kind addr sent heard y e = form_heard kind addr GetMask sent heard y e
+
 path_form : (b : Bool) (place : ℕ) → form_of (cond b GetDefault (GetPath place)) ≡ Some form.Path
 unfolding form_of
 path_form true place = refl
@@ -77,6 +82,26 @@ no_credits kind addr sent heard e = credits_none (replied kind addr ReadCredits 
 pub these_credits : (kind : CheckKind) (addr : ℕ) (sent heard : List ℕ) (read : Credits) → credits_reply (replied kind addr ReadCredits sent heard) ≡ Some read
     → replied kind addr ReadCredits sent heard ≡ Some (reply.credits read)
 these_credits kind addr sent heard read e = credits_some (replied kind addr ReadCredits sent heard) read e
+
+mask_none : (y : Option Reply) → ((r : Reply) → y ≡ Some r → form_shown r ≡ Some form.Mask) → mask_reply y ≡ None → y ≡ None
+mask_none None known e = refl
+mask_none (Some (reply.mask seen)) known e = absurd cc
+mask_none (Some r) known e =
+    let is : form_shown r ≡ Some form.Mask = known r refl in
+    absurd cc
+
+mask_some : (y : Option Reply) (seen : ℕ) → mask_reply y ≡ Some seen → y ≡ Some (reply.mask seen)
+mask_some None seen e = absurd cc
+mask_some (Some (reply.mask other)) seen e = cc
+mask_some (Some r) seen e = absurd cc
+
+-- so with the mask
+pub no_mask : (kind : CheckKind) (addr : ℕ) (sent heard : List ℕ) → mask_reply (replied kind addr GetMask sent heard) ≡ None → replied kind addr GetMask sent heard ≡ None
+no_mask kind addr sent heard e = mask_none (replied kind addr GetMask sent heard) (mask_alone kind addr sent heard) e
+
+pub this_mask : (kind : CheckKind) (addr : ℕ) (sent heard : List ℕ) (seen : ℕ) → mask_reply (replied kind addr GetMask sent heard) ≡ Some seen
+    → replied kind addr GetMask sent heard ≡ Some (reply.mask seen)
+this_mask kind addr sent heard seen e = mask_some (replied kind addr GetMask sent heard) seen e
 
 path_none : (y : Option Reply) → ((r : Reply) → y ≡ Some r → form_shown r ≡ Some form.Path) → path_reply y ≡ None → y ≡ None
 path_none None known e = refl

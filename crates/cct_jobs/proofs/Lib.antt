@@ -1,3 +1,5 @@
+pub mod Ends
+pub mod Epochs
 pub mod Heard
 pub mod Questions
 pub mod Rows

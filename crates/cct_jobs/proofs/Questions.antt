@@ -1,12 +1,13 @@
 -- The questions of an identification, each after the one before.
-use Rattle.std.proofs.Common.{◌≡◌, ℕ, suc, zero, ◌&&◌, Bool, true, false, List, [], ◌∷◌, length, map, refl, ap, subst, cond, Option, Some, None}
-use Rattle.std.specs.Prelude.{◌==◌, slice_get}
+use Rattle.std.proofs.Common.{◌≡◌, ℕ, suc, zero, ◌<◌, ◌&&◌, Bool, true, false, List, [], ◌∷◌, length, map, refl, ap, subst, cond, Option, Some, None, arith}
+use Rattle.std.proofs.lemmas.Bool.Decides.{nat_tests}
+use Rattle.std.specs.Prelude.{◌==◌, not, slice_get}
 use Rattle.std.specs.List.{list_all}
 use Rattle.cct_model.specs.declared.device.DeviceBody.{DeviceBody}
 use Rattle.cct_model.specs.declared.device.DeviceBody.TheVariants.{Acceptor, Hopper}
 use Rattle.cct_model.specs.declared.request.Request.{Request}
-use Rattle.cct_model.specs.declared.request.Request.TheVariants.{Dispense, SetDefault, SetPath, GetDefault, GetPath}
-use Rattle.cct_model.specs.Job.{ident_requests, path_set, path_read}
+use Rattle.cct_model.specs.declared.request.Request.TheVariants.{SetDefault, SetPath, GetDefault, GetPath}
+use Rattle.cct_model.specs.Job.{ident_requests, is_once, path_set, path_read}
 use Rattle.cct_model.specs.Legal.{is_acceptor}
 use Rattle.cct_msg.specs.Forms.{FitsItsBytes}
 use Rattle.cct_jobs.specs.Jobs.{question_after}
@@ -39,47 +40,65 @@ last_question (x ∷ []) (suc n) q at none = absurd cc
 last_question (x ∷ y ∷ xs) zero q at none = absurd cc
 last_question (x ∷ y ∷ xs) (suc n) q at none = ap suc (last_question (y ∷ xs) n q at none)
 
--- no dispense request
-abbrev is_plain : Request → Bool
-is_plain (Dispense serial count) = false
-is_plain q = true
+below : (xs : List Request) (n : ℕ) (q : Request) → slice_get xs n ≡ Some q → n < length xs
+below [] n q e = absurd cc
+below (x ∷ xs) zero q e = omega arith
+below (x ∷ xs) (suc n) q e =
+    let rest : n < length xs = below xs n q e in
+    omega (arith, rest)
 
-plain_fits : (q : Request) → is_plain q ≡ true → FitsItsBytes q
-plain_fits q plain number count e =
-    let not : is_plain q ≡ false = ap is_plain e in
+other : (n m : ℕ) → n < m → (m == n) ≡ false
+other n m less = grind (arith, nat_tests, less)
+
+-- where one is at a place, there are more than so many
+pub question_within : (xs : List Request) (n : ℕ) (q : Request) → slice_get xs n ≡ Some q → (length xs == n) ≡ false
+question_within xs n q e = other n (length xs) (below xs n q e)
+
+-- a request that is sent again where it isn't answered
+abbrev is_again : Request → Bool
+is_again q = not (is_once q)
+
+not_true : (b : Bool) → not b ≡ true → b ≡ false
+not_true true e = absurd cc
+not_true false e = refl
+
+-- it fits its bytes
+pub again_fits : (q : Request) → is_once q ≡ false → FitsItsBytes q
+again_fits q again number count e =
+    let once : is_once q ≡ true = ap is_once e in
     absurd cc
 
 both_true : (a b : Bool) → (a && b) ≡ true → (a ≡ true) × (b ≡ true)
 both_true true b e = (refl, e)
 both_true false b e = absurd cc
 
-plain_at : (xs : List Request) (n : ℕ) (q : Request) → list_all is_plain xs ≡ true → slice_get xs n ≡ Some q → is_plain q ≡ true
-plain_at [] n q e at = absurd cc
-plain_at (x ∷ xs) zero q e at =
+again_at : (xs : List Request) (n : ℕ) (q : Request) → list_all is_again xs ≡ true → slice_get xs n ≡ Some q → is_again q ≡ true
+again_at [] n q e at = absurd cc
+again_at (x ∷ xs) zero q e at =
     let is : x ≡ q = cc in
-    subst (λ r. is_plain r ≡ true) is (both_true (is_plain x) (list_all is_plain xs) e).0
-plain_at (x ∷ xs) (suc n) q e at = plain_at xs n q (both_true (is_plain x) (list_all is_plain xs) e).1 at
+    subst (λ r. is_again r ≡ true) is (both_true (is_again x) (list_all is_again xs) e).0
+again_at (x ∷ xs) (suc n) q e at = again_at xs n q (both_true (is_again x) (list_all is_again xs) e).1 at
 
-each_plain : (body : DeviceBody) → list_all is_plain (ident_requests body) ≡ true
-each_plain (Acceptor accepts values ids) = refl
-each_plain (Hopper life value) = refl
+each_again : (body : DeviceBody) → list_all is_again (ident_requests body) ≡ true
+each_again (Acceptor accepts values ids) = refl
+each_again (Hopper life value) = refl
 
--- every question fits its bytes
-pub question_fits : (body : DeviceBody) (n : ℕ) (q : Request) → slice_get (ident_requests body) n ≡ Some q → FitsItsBytes q
-question_fits body n q at = plain_fits q (plain_at (ident_requests body) n q (each_plain body) at)
+-- so is every question
+pub question_again : (body : DeviceBody) (n : ℕ) (q : Request) → slice_get (ident_requests body) n ≡ Some q → is_once q ≡ false
+question_again body n q at = not_true (is_once q) (again_at (ident_requests body) n q (each_again body) at)
 
-set_plain : (b : Bool) (place path : ℕ) → is_plain (cond b (SetDefault path) (SetPath place path)) ≡ true
-set_plain true place path = refl
-set_plain false place path = refl
+set_by : (b : Bool) (place path : ℕ) → is_once (cond b (SetDefault path) (SetPath place path)) ≡ false
+set_by true place path = refl
+set_by false place path = refl
 
--- so does a path that is set
-pub set_fits : (place path : ℕ) → FitsItsBytes (path_set place path)
-set_fits place path = plain_fits (path_set place path) (set_plain (place == 0) place path)
+-- and so are a path that is set
+pub set_again : (place path : ℕ) → is_once (path_set place path) ≡ false
+set_again place path = set_by (place == 0) place path
 
-read_plain : (b : Bool) (place : ℕ) → is_plain (cond b GetDefault (GetPath place)) ≡ true
-read_plain true place = refl
-read_plain false place = refl
+read_by : (b : Bool) (place : ℕ) → is_once (cond b GetDefault (GetPath place)) ≡ false
+read_by true place = refl
+read_by false place = refl
 
--- or read back
-pub read_fits : (place : ℕ) → FitsItsBytes (path_read place)
-read_fits place = plain_fits (path_read place) (read_plain (place == 0) place)
+-- and one that is read back
+pub read_again : (place : ℕ) → is_once (path_read place) ≡ false
+read_again place = read_by (place == 0) place

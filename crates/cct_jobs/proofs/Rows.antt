@@ -3,30 +3,26 @@ use Rattle.std.proofs.Common.{◌≡◌, ℕ, suc, ◌<◌, ◌==◌, Bool, true
 use Rattle.std.specs.Prelude.{option_and_then, slice_get}
 use Rattle.std.proofs.lemmas.Bool.{eqb-true}
 use Rattle.std.proofs.lemmas.Bool.Decides.{nat_tests}
-use Rattle.cct_model.specs.declared.coin.Credits.{Credits}
 use Rattle.cct_model.specs.declared.device.DeviceSetup.{DeviceSetup}
 use Rattle.cct_model.specs.declared.request.Request.{Request}
-use Rattle.cct_model.specs.declared.request.Request.TheVariants.{ReadCredits}
-use Rattle.cct_model.specs.declared.record.Record.{Record}
+use Rattle.cct_model.specs.declared.request.Request.TheVariants.{SetMask}
+use Rattle.cct_model.specs.declared.record.EpochState.{EpochState}
 use Rattle.cct_model.specs.declared.record.Judged.{Judged}
-use Rattle.cct_model.specs.declared.record.Judged.TheVariants.{Nothing, Reading, Broken}
 use Rattle.cct_model.specs.declared.command.Command.{Command}
 use Rattle.cct_model.specs.declared.command.Command.TheVariants as command
-use Rattle.cct_model.specs.declared.entry.End.{End}
-use Rattle.cct_model.specs.declared.entry.End.TheVariants.{Clean, Posted, Broke, NoAnswer, Told, PathSet}
+use Rattle.cct_model.specs.declared.entry.End.TheVariants.{NoAnswer, Told, PathSet}
 use Rattle.cct_model.specs.Request.{header_of, form_of}
 use Rattle.cct_model.specs.Reply.{Reply}
 use Rattle.cct_model.specs.Reply as reply
 use Rattle.cct_model.specs.Exchange.{ask, asked, device_at, got}
-use Rattle.cct_model.specs.Line.{Line, exchange, put}
-use Rattle.cct_model.specs.Job.{sends, puts, row, put_row, judged_in, end_of, end_of_put, end_of_reading, done, tries, ident_requests, path_set, path_read}
-use Rattle.cct_model.specs.Reading.{judge}
+use Rattle.cct_model.specs.Line.{Line, exchange}
+use Rattle.cct_model.specs.Job.{sends, row, row_at, judged_in, end_of, end_of_answer, end_of_failure, end_of_tries, done, tries, is_once, ident_requests, path_read}
 use Rattle.cct_model.specs.Transcript.{got_by}
 use Rattle.cct_msg.specs.Forms.{FitsItsBytes}
 use Rattle.cct_msg.proofs.Exchanges.{asked_back}
 use Rattle.cct_jobs.specs.declared.target.Target.{Target}
-use Rattle.cct_jobs.specs.Jobs.{Trying, RoundAsksAt, RoundPutsAt, IdentAsksAt, PathSetsAt, PathReadsAt, EndedAt, IsAnswer, after_failed, line_heard, question_after, replied, target_of}
-use Rattle.cct_jobs.proofs.Questions.{next_question, last_question, question_fits, set_fits, read_fits}
+use Rattle.cct_jobs.specs.Jobs.{Trying, AsksAt, IdentAsksAt, EndedAt, IsAnswer, after_failed, line_heard, question_after, replied, target_of}
+use Rattle.cct_jobs.proofs.Questions.{next_question, last_question, question_again, question_within, again_fits}
 
 address_by : (b : Bool) (x : DeviceSetup) (devices : List DeviceSetup) (addr : ℕ) (d : DeviceSetup) → (x.addr == addr) ≡ b → (device_at devices addr ≡ Some d → d.addr ≡ addr)
     → cond b (Some x) (device_at devices addr) ≡ Some d → d.addr ≡ addr
@@ -50,6 +46,11 @@ heard_is d device q sent heard y device_is fits is_ask reply_is =
     let same : replied d.kind d.addr q sent heard ≡ y = ap (λ (t : Target). replied t.kind t.addr q sent heard) (sym device_is) ∙ reply_is in
     ap (λ a. exchange a (option_and_then (λ form. got d.kind d.addr form sent heard) (option_and_then form_of a))) asked_is
     ∙ ap (exchange (Some q)) same
+
+-- what is sent once alone is a mask that lets coins in, or coins paid out
+pub fails_by_tries : (q : Request) (failed : ℕ) → is_once q ≡ false → end_of_failure q failed ≡ end_of_tries failed
+fails_by_tries (SetMask mask) failed again = absurd cc
+fails_by_tries q failed again = refl
 
 -- tries of a row
 pub tried : (q : Request) (since : List Line) → tries (header_of q) (exchange (Some q) None ∷ since) ≡ suc (tries (header_of q) since)
@@ -75,187 +76,166 @@ pub try_first : (p q : Request) (y : Reply) (since : List Line) → Trying q 0 (
 try_first p q y since = record { counted = refl; few = omega arith }
 
 -- the third failed try
-pub no_answer : (d : DeviceSetup) (c : Command) (since : List Line) (counter : ℕ) (q : Request) (failed : ℕ)
-    → Trying q failed since → after_failed failed ≡ None → EndedAt d NoAnswer c (exchange (Some q) None ∷ since) counter
-no_answer d c since counter q failed at last =
+pub no_answer : (d : DeviceSetup) (c : Command) (since : List Line) (state : EpochState) (q : Request) (failed : ℕ)
+    → Trying q failed since → is_once q ≡ false → after_failed failed ≡ None → EndedAt d NoAnswer c (exchange (Some q) None ∷ since) state
+no_answer d c since state q failed at again last =
     let third : suc failed ≡ 3 = eqb-true _ _ (test_none (suc failed == 3) (suc failed) last) in
     let all : tries (header_of q) (exchange (Some q) None ∷ since) ≡ 3 = tried q since ∙ ap suc (sym at.counted) ∙ third in
     record {
       line = exchange (Some q) None;
       rest = since;
       newest = refl;
-      ends = ap (λ n. cond (n == 3) (Some NoAnswer) None) all;
+      ends = fails_by_tries q _ again ∙ ap (λ n. cond (n == 3) (Some NoAnswer) None) all;
     }
 
--- a round
+-- an earlier one goes on
+tried_on : (d : DeviceSetup) (c : Command) (since : List Line) (state : EpochState) (q : Request) (failed n : ℕ)
+    → Trying q failed since → is_once q ≡ false → after_failed failed ≡ Some n → end_of d c (exchange (Some q) None) since state ≡ None
+tried_on d c since state q failed n at again more =
+    fails_by_tries q _ again
+    ∙ ap end_of_tries (tried q since ∙ ap suc (sym at.counted))
+    ∙ ap (λ b. cond b (Some NoAnswer) None) (test_some (suc failed == 3) (suc failed) n more).0
 
--- its row
-pub round_row : (d : DeviceSetup) (device : Target) (recorded failed : ℕ) (c : Command) (since : List Line) (counter : ℕ) → RoundAsksAt d device recorded failed c since counter → row d c since counter ≡ sends ReadCredits
-round_row d device recorded failed c since counter at = rw (at.command_is, at.rows) refl
+-- the end that an answer brings, by the command and the rows before
+pub end_after : (d : DeviceSetup) (own c : Command) (rows : ℕ) (y : Reply) (q : Request) (since : List Line) (state : EpochState) (means : Judged)
+    → c ≡ own → done since ≡ rows → judged_in c (exchange (Some q) (Some y) ∷ since) state ≡ means
+    → end_of d c (exchange (Some q) (Some y)) since state ≡ end_of_answer d.body own (suc rows) y means
+end_after d own c rows y q since state means command_is rows_are meant =
+    let line = exchange (Some q) (Some y) in
+    ap (λ k. end_of_answer d.body k (suc (done since)) y (judged_in c (line ∷ since) state)) command_is
+    ∙ ap (λ n. end_of_answer d.body own (suc n) y (judged_in c (line ∷ since) state)) rows_are
+    ∙ ap (end_of_answer d.body own (suc rows) y) meant
 
-credits_fit : FitsItsBytes ReadCredits
-credits_fit number count e = absurd cc
+-- the row of a job that asks
+pub asks_row : (d : DeviceSetup) (device : Target) (own : Command) (rows : ℕ) (q : Request) (failed : ℕ) (c : Command) (since : List Line) (state : EpochState)
+    → AsksAt d device own rows q failed c since state → ((means : Judged) → row_at d.body own rows means ≡ sends q) → row d c since state ≡ sends q
+asks_row d device own rows q failed c since state at is = rw (at.command_is, at.rows_are) (is (judged_in own since state))
 
-pub round_heard : (d : DeviceSetup) (device : Target) (recorded failed : ℕ) (c : Command) (since : List Line) (counter : ℕ) (sent heard : List ℕ) (y : Option Reply)
-    → RoundAsksAt d device recorded failed c since counter → sent ≡ ask d.kind d.addr ReadCredits → replied device.kind device.addr ReadCredits sent heard ≡ y
-    → line_heard d sent heard ≡ exchange (Some ReadCredits) y
-round_heard d device recorded failed c since counter sent heard y at is_ask e = heard_is d device ReadCredits sent heard y at.device_is credits_fit is_ask e
+-- what it heard
+asks_heard : (d : DeviceSetup) (device : Target) (own : Command) (rows : ℕ) (q : Request) (failed : ℕ) (c : Command) (since : List Line) (state : EpochState) (sent heard : List ℕ) (y : Option Reply)
+    → AsksAt d device own rows q failed c since state → FitsItsBytes q → sent ≡ ask d.kind d.addr q → replied device.kind device.addr q sent heard ≡ y
+    → line_heard d sent heard ≡ exchange (Some q) y
+asks_heard d device own rows q failed c since state sent heard y at fits is_ask e = heard_is d device q sent heard y at.device_is fits is_ask e
 
-pub round_again : (d : DeviceSetup) (device : Target) (recorded failed n : ℕ) (c : Command) (since : List Line) (counter : ℕ)
-    → RoundAsksAt d device recorded failed c since counter → after_failed failed ≡ Some n → RoundAsksAt d device recorded n c (exchange (Some ReadCredits) None ∷ since) counter
-round_again d device recorded failed n c since counter at more =
-    record { device_is = at.device_is; command_is = at.command_is; rows = at.rows; recorded_is = at.recorded_is; trying = try_again ReadCredits failed n since at.trying more }
+pub asks_answer : (d : DeviceSetup) (device : Target) (own : Command) (rows : ℕ) (q : Request) (failed : ℕ) (c : Command) (since : List Line) (state : EpochState) (sent heard : List ℕ) (y : Reply)
+    → AsksAt d device own rows q failed c since state → FitsItsBytes q → sent ≡ ask d.kind d.addr q → replied device.kind device.addr q sent heard ≡ Some y
+    → line_heard d sent heard ≡ exchange (Some q) (Some y)
+asks_answer d device own rows q failed c since state sent heard y at fits is_ask e = asks_heard d device own rows q failed c since state sent heard (Some y) at fits is_ask e
 
--- what the credits mean to it
-meant_by : (d : DeviceSetup) (device : Target) (recorded failed : ℕ) (c : Command) (since : List Line) (counter : ℕ) (read : Credits) (means : Judged)
-    → RoundAsksAt d device recorded failed c since counter → judge device.addr 65535 recorded read 65535 ≡ means
-    → judged_in c (exchange (Some ReadCredits) (Some (reply.credits read)) ∷ since) counter ≡ means
-meant_by d device recorded failed c since counter read means at e =
-    ap (λ k. judged_in k (exchange (Some ReadCredits) (Some (reply.credits read)) ∷ since) counter) at.command_is
-    ∙ ap (λ (t : Target). judge t.addr 65535 counter read 65535) (sym at.device_is)
-    ∙ ap (λ n. judge device.addr 65535 n read 65535) (sym at.recorded_is)
-    ∙ e
+pub asks_nothing : (d : DeviceSetup) (device : Target) (own : Command) (rows : ℕ) (q : Request) (failed : ℕ) (c : Command) (since : List Line) (state : EpochState) (sent heard : List ℕ)
+    → AsksAt d device own rows q failed c since state → FitsItsBytes q → sent ≡ ask d.kind d.addr q → replied device.kind device.addr q sent heard ≡ None
+    → line_heard d sent heard ≡ exchange (Some q) None
+asks_nothing d device own rows q failed c since state sent heard at fits is_ask e = asks_heard d device own rows q failed c since state sent heard None at fits is_ask e
 
-pub round_clean : (d : DeviceSetup) (device : Target) (recorded failed : ℕ) (c : Command) (since : List Line) (counter : ℕ) (read : Credits)
-    → RoundAsksAt d device recorded failed c since counter → judge device.addr 65535 recorded read 65535 ≡ Nothing
-    → EndedAt d Clean c (exchange (Some ReadCredits) (Some (reply.credits read)) ∷ since) counter
-round_clean d device recorded failed c since counter read at e =
-    let line = exchange (Some ReadCredits) (Some (reply.credits read)) in
-    let meant : judged_in (command.Round d.addr) (line ∷ since) counter ≡ Nothing = ap (λ k. judged_in k (line ∷ since) counter) (sym at.command_is) ∙ meant_by d device recorded failed c since counter read Nothing at e in
-    record {
-      line = line;
-      rest = since;
-      newest = refl;
-      ends = ap (λ k. end_of d k line since counter) at.command_is ∙ ap end_of_reading meant;
-    }
-
-by_reading : (b z : Bool) (x r entry : Record) → cond b (Broken x) (cond z Nothing (Reading r)) ≡ Reading entry → r ≡ entry
-by_reading true z x r entry e = absurd cc
-by_reading false true x r entry e = absurd cc
-by_reading false false x r entry e = cc
-
-by_broken : (b z : Bool) (x r entry : Record) → cond b (Broken x) (cond z Nothing (Reading r)) ≡ Broken entry → x ≡ entry
-by_broken true z x r entry e = cc
-by_broken false true x r entry e = absurd cc
-by_broken false false x r entry e = absurd cc
-
-reading_posts : (addr mask counter : ℕ) (read : Credits) (seen : ℕ) (entry : Record) → judge addr mask counter read seen ≡ Reading entry → end_of_put entry ≡ Some Posted
-unfolding judge
-reading_posts addr mask counter read seen entry e = ap end_of_put (sym (by_reading _ _ _ _ entry e))
-
-broken_breaks : (addr mask counter : ℕ) (read : Credits) (seen : ℕ) (entry : Record) → judge addr mask counter read seen ≡ Broken entry → end_of_put entry ≡ Some Broke
-unfolding judge
-broken_breaks addr mask counter read seen entry e = ap end_of_put (sym (by_broken _ _ _ _ entry e))
-
-puts_at : (d : DeviceSetup) (device : Target) (recorded failed : ℕ) (c : Command) (since : List Line) (counter : ℕ) (read : Credits) (means : Judged) (entry : Record) (end : End)
-    → RoundAsksAt d device recorded failed c since counter → judge device.addr 65535 recorded read 65535 ≡ means → put_row means ≡ puts entry → end_of_put entry ≡ Some end
-    → RoundPutsAt d entry end c (exchange (Some ReadCredits) (Some (reply.credits read)) ∷ since) counter
-puts_at d device recorded failed c since counter read means entry end at e row_is ends = record {
+again_at : (d : DeviceSetup) (device : Target) (own : Command) (rows : ℕ) (q : Request) (failed n : ℕ) (c : Command) (since : List Line) (state : EpochState)
+    → AsksAt d device own rows q failed c since state → is_once q ≡ false → after_failed failed ≡ Some n → AsksAt d device own rows q n c (exchange (Some q) None ∷ since) state
+again_at d device own rows q failed n c since state at again more = record {
+  device_is = at.device_is;
   command_is = at.command_is;
-  rows = ap suc at.rows;
-  meant = ap put_row (meant_by d device recorded failed c since counter read means at e) ∙ row_is;
-  ends = ends;
+  rows_are = rw again at.rows_are;
+  trying = try_again q failed n since at.trying more;
+  goes_on = tried_on d c since state q failed n at.trying again more;
 }
 
-pub round_posts : (d : DeviceSetup) (device : Target) (recorded failed : ℕ) (c : Command) (since : List Line) (counter : ℕ) (read : Credits) (entry : Record)
-    → RoundAsksAt d device recorded failed c since counter → judge device.addr 65535 recorded read 65535 ≡ Reading entry
-    → RoundPutsAt d entry Posted c (exchange (Some ReadCredits) (Some (reply.credits read)) ∷ since) counter
-round_posts d device recorded failed c since counter read entry at e =
-    puts_at d device recorded failed c since counter read (Reading entry) entry Posted at e refl (reading_posts _ _ _ read _ entry e)
+-- it asks again where it got no answer
+pub asks_again : (d : DeviceSetup) (device : Target) (own : Command) (rows : ℕ) (q : Request) (failed n : ℕ) (c : Command) (since : List Line) (state : EpochState) (sent heard : List ℕ)
+    → AsksAt d device own rows q failed c since state → is_once q ≡ false → sent ≡ ask d.kind d.addr q → replied device.kind device.addr q sent heard ≡ None
+    → after_failed failed ≡ Some n → AsksAt d device own rows q n c (line_heard d sent heard ∷ since) state
+asks_again d device own rows q failed n c since state sent heard at again is_ask e more =
+    subst (λ l. AsksAt d device own rows q n c (l ∷ since) state) (sym (asks_nothing d device own rows q failed c since state sent heard at (again_fits q again) is_ask e))
+    (again_at d device own rows q failed n c since state at again more)
 
-pub round_breaks : (d : DeviceSetup) (device : Target) (recorded failed : ℕ) (c : Command) (since : List Line) (counter : ℕ) (read : Credits) (entry : Record)
-    → RoundAsksAt d device recorded failed c since counter → judge device.addr 65535 recorded read 65535 ≡ Broken entry
-    → RoundPutsAt d entry Broke c (exchange (Some ReadCredits) (Some (reply.credits read)) ∷ since) counter
-round_breaks d device recorded failed c since counter read entry at e =
-    puts_at d device recorded failed c since counter read (Broken entry) entry Broke at e refl (broken_breaks _ _ _ read _ entry e)
+-- or ends after the third try
+pub asks_no_more : (d : DeviceSetup) (device : Target) (own : Command) (rows : ℕ) (q : Request) (failed : ℕ) (c : Command) (since : List Line) (state : EpochState) (sent heard : List ℕ)
+    → AsksAt d device own rows q failed c since state → is_once q ≡ false → sent ≡ ask d.kind d.addr q → replied device.kind device.addr q sent heard ≡ None
+    → after_failed failed ≡ None → EndedAt d NoAnswer c (line_heard d sent heard ∷ since) state
+asks_no_more d device own rows q failed c since state sent heard at again is_ask e last =
+    subst (λ l. EndedAt d NoAnswer c (l ∷ since) state) (sym (asks_nothing d device own rows q failed c since state sent heard at (again_fits q again) is_ask e))
+    (no_answer d c since state q failed at.trying again last)
 
-pub put_row_is : (d : DeviceSetup) (entry : Record) (end : End) (c : Command) (since : List Line) (counter : ℕ) → RoundPutsAt d entry end c since counter → row d c since counter ≡ puts entry
-put_row_is d entry end c since counter at =
-    let meant : put_row (judged_in (command.Round d.addr) since counter) ≡ puts entry = ap (λ k. put_row (judged_in k since counter)) (sym at.command_is) ∙ at.meant in
-    rw (at.command_is, at.rows) meant
-
-pub round_ends : (d : DeviceSetup) (entry other : Record) (end : End) (c : Command) (since : List Line) (counter : ℕ)
-    → RoundPutsAt d entry end c since counter → row d c since counter ≡ puts other → EndedAt d end c (put other ∷ since) counter
-round_ends d entry other end c since counter at is_put =
-    let both : puts entry ≡ puts other = sym (put_row_is d entry end c since counter at) ∙ is_put in
-    let same : entry ≡ other = cc in
-    record { line = put other; rest = since; newest = refl; ends = ap end_of_put (sym same) ∙ at.ends }
+-- and goes on to its next row where it did
+pub asks_next : (d : DeviceSetup) (device : Target) (own : Command) (rows : ℕ) (p q : Request) (failed : ℕ) (c : Command) (since : List Line) (state : EpochState) (sent heard : List ℕ) (y : Reply)
+    → AsksAt d device own rows p failed c since state → FitsItsBytes p → sent ≡ ask d.kind d.addr p → replied device.kind device.addr p sent heard ≡ Some y
+    → ((means : Judged) → end_of_answer d.body own (suc rows) y means ≡ None) → AsksAt d device own (suc rows) q 0 c (line_heard d sent heard ∷ since) state
+asks_next d device own rows p q failed c since state sent heard y at fits is_ask e on =
+    subst (λ l. AsksAt d device own (suc rows) q 0 c (l ∷ since) state) (sym (asks_answer d device own rows p failed c since state sent heard y at fits is_ask e))
+    (
+    record {
+      device_is = at.device_is;
+      command_is = at.command_is;
+      rows_are = ap suc at.rows_are;
+      trying = try_first p q y since;
+      goes_on = end_after d own c rows y p since state _ at.command_is at.rows_are refl ∙ on _;
+    }
+    )
 
 -- an identification
 
-pub ident_row : (d : DeviceSetup) (device : Target) (question : Request) (failed : ℕ) (c : Command) (since : List Line) (counter : ℕ) → IdentAsksAt d device question failed c since → row d c since counter ≡ sends question
-ident_row d device question failed c since counter at = rw (at.command_is, at.asks) refl
+pub ident_row : (d : DeviceSetup) (device : Target) (question : Request) (failed : ℕ) (c : Command) (since : List Line) (state : EpochState) → IdentAsksAt d device question failed c since state → row d c since state ≡ sends question
+ident_row d device question failed c since state at = rw (at.command_is, at.asks) refl
 
 -- where the device replied
-pub ident_heard : (d : DeviceSetup) (device : Target) (question : Request) (failed : ℕ) (c : Command) (since : List Line) (sent heard : List ℕ) (y : Option Reply)
-    → IdentAsksAt d device question failed c since → sent ≡ ask d.kind d.addr question → replied device.kind device.addr question sent heard ≡ y
+pub ident_heard : (d : DeviceSetup) (device : Target) (question : Request) (failed : ℕ) (c : Command) (since : List Line) (state : EpochState) (sent heard : List ℕ) (y : Option Reply)
+    → IdentAsksAt d device question failed c since state → sent ≡ ask d.kind d.addr question → replied device.kind device.addr question sent heard ≡ y
     → line_heard d sent heard ≡ exchange (Some question) y
-ident_heard d device question failed c since sent heard y at is_ask e =
-    heard_is d device question sent heard y at.device_is (question_fits d.body (done since) question at.asks) is_ask e
+ident_heard d device question failed c since state sent heard y at is_ask e =
+    heard_is d device question sent heard y at.device_is (again_fits question (question_again d.body (done since) question at.asks)) is_ask e
 
-pub ident_again : (d : DeviceSetup) (device : Target) (question : Request) (failed n : ℕ) (c : Command) (since : List Line)
-    → IdentAsksAt d device question failed c since → after_failed failed ≡ Some n → IdentAsksAt d device question n c (exchange (Some question) None ∷ since)
-ident_again d device question failed n c since at more =
-    record { device_is = at.device_is; command_is = at.command_is; asks = at.asks; trying = try_again question failed n since at.trying more }
+pub ident_again : (d : DeviceSetup) (device : Target) (question : Request) (failed n : ℕ) (c : Command) (since : List Line) (state : EpochState)
+    → IdentAsksAt d device question failed c since state → after_failed failed ≡ Some n → IdentAsksAt d device question n c (exchange (Some question) None ∷ since) state
+ident_again d device question failed n c since state at more =
+    let again = question_again d.body (done since) question at.asks in
+    record {
+      device_is = at.device_is;
+      command_is = at.command_is;
+      asks = rw again at.asks;
+      trying = try_again question failed n since at.trying more;
+      goes_on = tried_on d c since state question failed n at.trying again more;
+    }
 
-next_is : (d : DeviceSetup) (device : Target) (question : Request) (failed : ℕ) (c : Command) (since : List Line) (next : Option Request)
-    → IdentAsksAt d device question failed c since → question_after device.is_acceptor question ≡ next → slice_get (ident_requests d.body) (suc (done since)) ≡ next
-next_is d device question failed c since next at e =
+pub ident_no_answer : (d : DeviceSetup) (device : Target) (question : Request) (failed : ℕ) (c : Command) (since : List Line) (state : EpochState)
+    → IdentAsksAt d device question failed c since state → after_failed failed ≡ None → EndedAt d NoAnswer c (exchange (Some question) None ∷ since) state
+ident_no_answer d device question failed c since state at last = no_answer d c since state question failed at.trying (question_again d.body (done since) question at.asks) last
+
+next_is : (d : DeviceSetup) (device : Target) (question : Request) (failed : ℕ) (c : Command) (since : List Line) (state : EpochState) (next : Option Request)
+    → IdentAsksAt d device question failed c since state → question_after device.is_acceptor question ≡ next → slice_get (ident_requests d.body) (suc (done since)) ≡ next
+next_is d device question failed c since state next at e =
     next_question d.body (done since) question at.asks ∙ ap (λ (t : Target). question_after t.is_acceptor question) (sym at.device_is) ∙ e
 
-pub ident_on : (d : DeviceSetup) (device : Target) (question next : Request) (failed : ℕ) (c : Command) (since : List Line) (line : Line)
-    → IdentAsksAt d device question failed c since → question_after device.is_acceptor question ≡ Some next → IsAnswer line question
-    → IdentAsksAt d device next 0 c (line ∷ since)
-ident_on d device question next failed c since line at e (y, line_is) =
-    subst (λ l. IdentAsksAt d device next 0 c (l ∷ since)) (sym line_is)
-    (record { device_is = at.device_is; command_is = at.command_is; asks = next_is d device question failed c since (Some next) at e; trying = try_first question next y since })
+pub ident_on : (d : DeviceSetup) (device : Target) (question next : Request) (failed : ℕ) (c : Command) (since : List Line) (state : EpochState) (line : Line)
+    → IdentAsksAt d device question failed c since state → question_after device.is_acceptor question ≡ Some next → IsAnswer line question
+    → IdentAsksAt d device next 0 c (line ∷ since) state
+ident_on d device question next failed c since state line at e (y, line_is) =
+    let more = next_is d device question failed c since state (Some next) at e in
+    subst (λ l. IdentAsksAt d device next 0 c (l ∷ since) state) (sym line_is)
+    (
+    record {
+      device_is = at.device_is;
+      command_is = at.command_is;
+      asks = more;
+      trying = try_first question next y since;
+      goes_on =
+          end_after d (command.Ident d.addr) c (done since) y question since state _ at.command_is refl refl
+          ∙ ap (λ b. cond b (Some Told) None) (question_within (ident_requests d.body) (suc (done since)) next more);
+    }
+    )
 
-pub ident_told : (d : DeviceSetup) (device : Target) (question : Request) (failed : ℕ) (c : Command) (since : List Line) (counter : ℕ) (line : Line)
-    → IdentAsksAt d device question failed c since → question_after device.is_acceptor question ≡ None → IsAnswer line question
-    → EndedAt d Told c (line ∷ since) counter
-ident_told d device question failed c since counter line at e (y, line_is) =
-    let all : length (ident_requests d.body) ≡ suc (done since) = last_question (ident_requests d.body) (done since) question at.asks (next_is d device question failed c since None at e) in
+pub ident_told : (d : DeviceSetup) (device : Target) (question : Request) (failed : ℕ) (c : Command) (since : List Line) (state : EpochState) (line : Line)
+    → IdentAsksAt d device question failed c since state → question_after device.is_acceptor question ≡ None → IsAnswer line question
+    → EndedAt d Told c (line ∷ since) state
+ident_told d device question failed c since state line at e (y, line_is) =
+    let all : length (ident_requests d.body) ≡ suc (done since) = last_question (ident_requests d.body) (done since) question at.asks (next_is d device question failed c since state None at e) in
     let answer = exchange (Some question) (Some y) in
-    let ends : end_of d (command.Ident d.addr) answer since counter ≡ Some Told = rw (eq-eqb _ _ all) refl in
-    subst (λ l. EndedAt d Told c (l ∷ since) counter) (sym line_is)
-    (record { line = answer; rest = since; newest = refl; ends = ap (λ k. end_of d k answer since counter) at.command_is ∙ ends })
+    let ends : end_of d (command.Ident d.addr) answer since state ≡ Some Told = rw (eq-eqb _ _ all) refl in
+    subst (λ l. EndedAt d Told c (l ∷ since) state) (sym line_is)
+    (record { line = answer; rest = since; newest = refl; ends = ap (λ k. end_of d k answer since state) at.command_is ∙ ends })
 
--- a path
+-- a path that was read back
 
-pub set_row : (d : DeviceSetup) (device : Target) (place path failed : ℕ) (c : Command) (since : List Line) (counter : ℕ) → PathSetsAt d device place path failed c since → row d c since counter ≡ sends (path_set place path)
-set_row d device place path failed c since counter at = rw (at.command_is, at.rows) refl
-
-pub set_heard : (d : DeviceSetup) (device : Target) (place path failed : ℕ) (c : Command) (since : List Line) (sent heard : List ℕ) (y : Option Reply)
-    → PathSetsAt d device place path failed c since → sent ≡ ask d.kind d.addr (path_set place path) → replied device.kind device.addr (path_set place path) sent heard ≡ y
-    → line_heard d sent heard ≡ exchange (Some (path_set place path)) y
-set_heard d device place path failed c since sent heard y at is_ask e = heard_is d device (path_set place path) sent heard y at.device_is (set_fits place path) is_ask e
-
-pub set_again : (d : DeviceSetup) (device : Target) (place path failed n : ℕ) (c : Command) (since : List Line)
-    → PathSetsAt d device place path failed c since → after_failed failed ≡ Some n → PathSetsAt d device place path n c (exchange (Some (path_set place path)) None ∷ since)
-set_again d device place path failed n c since at more =
-    record { device_is = at.device_is; command_is = at.command_is; rows = at.rows; trying = try_again (path_set place path) failed n since at.trying more }
-
-pub set_on : (d : DeviceSetup) (device : Target) (place path failed : ℕ) (c : Command) (since : List Line) (y : Reply)
-    → PathSetsAt d device place path failed c since → PathReadsAt d device place path 0 c (exchange (Some (path_set place path)) (Some y) ∷ since)
-set_on d device place path failed c since y at =
-    record { device_is = at.device_is; command_is = at.command_is; rows = ap suc at.rows; trying = try_first (path_set place path) (path_read place) y since }
-
-pub read_row : (d : DeviceSetup) (device : Target) (place path failed : ℕ) (c : Command) (since : List Line) (counter : ℕ) → PathReadsAt d device place path failed c since → row d c since counter ≡ sends (path_read place)
-read_row d device place path failed c since counter at = rw (at.command_is, at.rows) refl
-
-pub read_heard : (d : DeviceSetup) (device : Target) (place path failed : ℕ) (c : Command) (since : List Line) (sent heard : List ℕ) (y : Option Reply)
-    → PathReadsAt d device place path failed c since → sent ≡ ask d.kind d.addr (path_read place) → replied device.kind device.addr (path_read place) sent heard ≡ y
-    → line_heard d sent heard ≡ exchange (Some (path_read place)) y
-read_heard d device place path failed c since sent heard y at is_ask e = heard_is d device (path_read place) sent heard y at.device_is (read_fits place) is_ask e
-
-pub read_again : (d : DeviceSetup) (device : Target) (place path failed n : ℕ) (c : Command) (since : List Line)
-    → PathReadsAt d device place path failed c since → after_failed failed ≡ Some n → PathReadsAt d device place path n c (exchange (Some (path_read place)) None ∷ since)
-read_again d device place path failed n c since at more =
-    record { device_is = at.device_is; command_is = at.command_is; rows = at.rows; trying = try_again (path_read place) failed n since at.trying more }
-
-pub read_ends : (d : DeviceSetup) (device : Target) (place path failed number : ℕ) (c : Command) (since : List Line) (counter : ℕ)
-    → PathReadsAt d device place path failed c since → EndedAt d (PathSet place number) c (exchange (Some (path_read place)) (Some (reply.path number)) ∷ since) counter
-read_ends d device place path failed number c since counter at =
+pub read_ends : (d : DeviceSetup) (device : Target) (place path failed number : ℕ) (c : Command) (since : List Line) (state : EpochState)
+    → AsksAt d device (command.Path d.addr place path) 1 (path_read place) failed c since state
+    → EndedAt d (PathSet place number) c (exchange (Some (path_read place)) (Some (reply.path number)) ∷ since) state
+read_ends d device place path failed number c since state at =
     let answer = exchange (Some (path_read place)) (Some (reply.path number)) in
-    let ends : end_of d (command.Path d.addr place path) answer since counter ≡ Some (PathSet place number) = rw at.rows refl in
-    record { line = answer; rest = since; newest = refl; ends = ap (λ k. end_of d k answer since counter) at.command_is ∙ ends }
+    let ends : end_of d (command.Path d.addr place path) answer since state ≡ Some (PathSet place number) = rw at.rows_are refl in
+    record { line = answer; rest = since; newest = refl; ends = ap (λ k. end_of d k answer since state) at.command_is ∙ ends }

@@ -1,6 +1,6 @@
 -- What a call or a poll makes of a scan.
-use Rattle.std.proofs.Common.{◌≡◌, inl, inr, ℕ, suc, zero, ◌<◌, ◌==◌, ◌&&◌, ◌||◌, not, Bool, true, false, cond, List, [], ◌∷◌, ◌++◌, length, slice_index, refl, sym, ap, subst, ◌∙◌, Option, Some, None, arith, eq-eqb}
-use Rattle.std.specs.Prelude.{bytes_eq, find, nat_le}
+use Rattle.std.proofs.Common.{◌≡◌, inl, inr, ℕ, suc, ◌<◌, ◌==◌, ◌&&◌, ◌||◌, not, Bool, true, false, cond, List, [], ◌∷◌, ◌++◌, length, refl, sym, ap, subst, ◌∙◌, Option, Some, None, arith, eq-eqb}
+use Rattle.std.specs.Prelude.{find, nat_le}
 use Rattle.std.specs.List.{list_any}
 use Rattle.std.proofs.lemmas.Bool.{and_parts, cases_eq, eqb-true, ne_eqb}
 use Rattle.std.proofs.lemmas.Bool.Decides.{nat_tests}
@@ -8,17 +8,15 @@ use Rattle.std.proofs.lemmas.List.{append-nil}
 use Rattle.std.proofs.lemmas.List.Folds.{list_any-append}
 use Rattle.cct_model.specs.declared.wire.CheckKind.{CheckKind}
 use Rattle.cct_model.specs.declared.wire.CheckKind.TheVariants.{Simple, Crc}
-use Rattle.cct_model.specs.declared.request.Request.{Request}
 use Rattle.cct_model.specs.declared.device_set.DeviceSet.{DeviceSet}
 use Rattle.cct_model.specs.declared.entry.Listed.{Listed}
 use Rattle.cct_model.specs.declared.entry.End.TheVariants as ends_of
-use Rattle.cct_model.specs.Message.{crc, spelling}
-use Rattle.cct_model.specs.Request.{data_of}
 use Rattle.cct_model.specs.DeviceSet.{all_addresses, has}
 use Rattle.cct_model.specs.Exchange.{after_echo, ask}
 use Rattle.cct_model.specs.Line.{Line, scanned}
 use Rattle.cct_model.specs.Scan.{answers, echoes, is_acknowledged, is_due, next_due, noted, noted_by, poll_after, poll_due, poll_of, polls, same_check, scan_row, scan_tries, set_of}
 use Rattle.cct_model.specs.Transcript.{scan_line}
+use Rattle.cct_model.proofs.Polls.{simple_poll_line, poll_line}
 use Rattle.cct_jobs.specs.Jobs.{after_failed}
 use Rattle.cct_jobs.specs.Scans.{CallsCrc, CallsSimple, HasDue, Lists, Polls, Unpolled}
 use Rattle.cct_model.specs.Scan.{end_of_scan, found, listed_in}
@@ -26,49 +24,11 @@ use Rattle.cct_jobs.proofs.Sets.{find_same, found_passes, same_set}
 
 -- the line of a poll
 
-bytes_same : (xs : List ℕ) → bytes_eq xs xs ≡ true
-bytes_same [] = refl
-bytes_same (x ∷ xs) = rw (eq-eqb x x refl, bytes_same xs) refl
-
-first_byte : (check : CheckKind) (addr : ℕ) (q : Request) → slice_index (ask check addr q) 0 ≡ addr
-unfolding ask spelling
-first_byte Simple addr q = refl
-first_byte Crc addr q = refl
-
-line_by : (sent heard : List ℕ) (addr : ℕ) (b : Bool) → slice_index sent 0 ≡ addr → bytes_eq sent (ask Simple addr (poll_of addr)) ≡ b
-    → scan_line sent heard ≡ cond b (scanned Simple addr (after_echo sent heard)) (scanned Crc addr (after_echo sent heard))
-unfolding scan_line
-line_by sent heard addr b first test = rw (first, test) refl
-
 pub simple_line : (addr : ℕ) (sent heard : List ℕ) → sent ≡ ask Simple addr (poll_of addr) → scan_line sent heard ≡ scanned Simple addr (after_echo sent heard)
-simple_line addr sent heard is_ask =
-    line_by sent heard addr true (ap (λ p. slice_index p 0) is_ask ∙ first_byte Simple addr (poll_of addr))
-    (ap (λ p. bytes_eq p (ask Simple addr (poll_of addr))) is_ask ∙ bytes_same (ask Simple addr (poll_of addr)))
-
--- a test of every number below another, which computes
-abbrev all_below : (ℕ → Bool) → ℕ → Bool
-all_below test zero = true
-all_below test (suc n) = test n && all_below test n
-
-below : (test : ℕ → Bool) (n : ℕ) → all_below test n ≡ true → (k : ℕ) → k < n → test k ≡ true
-below test zero e k within = absurd (omega arith)
-below test (suc n) e k within =
-    let both = and_parts (test n) (all_below test n) e in
-    elim (cases_eq k n) [ inl same ↦ rw same both.0 | inr other ↦ below test n both.1 k (omega arith) ]
-
-not_true : (b : Bool) → not b ≡ true → b ≡ false
-not_true true e = absurd cc
-not_true false e = refl
-
--- the two polls of an address are different pieces, at each address
-polls_differ : (addr : ℕ) → addr < 256 → bytes_eq (ask Crc addr (poll_of addr)) (ask Simple addr (poll_of addr)) ≡ false
-unfolding ask spelling crc data_of
-polls_differ addr within = not_true _ (below (λ a. not (bytes_eq (ask Crc a (poll_of a)) (ask Simple a (poll_of a)))) 256 refl addr within)
+simple_line addr sent heard is_ask = subst (λ p. scan_line p heard ≡ scanned Simple addr (after_echo p heard)) (sym is_ask) (simple_poll_line addr heard)
 
 pub crc_line : (addr : ℕ) (sent heard : List ℕ) → addr < 256 → sent ≡ ask Crc addr (poll_of addr) → scan_line sent heard ≡ scanned Crc addr (after_echo sent heard)
-crc_line addr sent heard within is_ask =
-    line_by sent heard addr false (ap (λ p. slice_index p 0) is_ask ∙ first_byte Crc addr (poll_of addr))
-    (ap (λ p. bytes_eq p (ask Simple addr (poll_of addr))) is_ask ∙ polls_differ addr within)
+crc_line addr sent heard within is_ask = subst (λ p. scan_line p heard ≡ scanned Crc addr (after_echo p heard)) (sym is_ask) (poll_line Crc addr heard within)
 
 -- tries of a call
 
@@ -201,8 +161,9 @@ due_second false x y p none = refl
 
 pub crc_called : (failed : ℕ) (before due : DeviceSet) (listed : Listed) (rest : List ℕ) (since : List Line) → CallsCrc failed before since
     → ((a : ℕ) → has due a ≡ ((nat_le 2 a && among a rest) || has before a)) → ((a : ℕ) → has listed.simple a ≡ false) → ((a : ℕ) → has listed.crc a ≡ false)
+    → length listed.simple.members ≡ 256 → length listed.crc.members ≡ 256
     → Lists due listed (scanned Crc 0 (Some rest) ∷ since)
-crc_called failed before due listed rest since at noted_now no_simple no_crc =
+crc_called failed before due listed rest since at noted_now no_simple no_crc simple_whole crc_whole =
     let after = fresh_call Crc (Some rest) since at.fresh in
     record {
       simple = at.simple;
@@ -215,6 +176,8 @@ crc_called failed before due listed rest since at noted_now no_simple no_crc =
           ∙ ap (λ b. nat_le 2 a && b && not (list_any (polls a) since)) (sym (list_any-append (λ byte. byte == a) rest (noted since)));
       found_simple = λ a within. no_simple a ∙ sym (after.unfound Simple a);
       found_crc = λ a within. no_crc a ∙ sym (after.unfound Crc a);
+      whole_simple = simple_whole;
+      whole_crc = crc_whole;
       quiet_simple = refl;
       quiet_crc = refl;
     }
@@ -298,8 +261,9 @@ lists_after : (check : CheckKind) (addr : ℕ) (rest : Option (List ℕ)) (befor
     → Lists before was since → nat_le 2 addr ≡ true → HasDue due (scanned check addr rest ∷ since)
     → ((a : ℕ) → a < 256 → has listed.simple a ≡ found Simple (scanned check addr rest ∷ since) a)
     → ((a : ℕ) → a < 256 → has listed.crc a ≡ found Crc (scanned check addr rest ∷ since) a)
+    → length listed.simple.members ≡ 256 → length listed.crc.members ≡ 256
     → Lists due listed (scanned check addr rest ∷ since)
-lists_after check addr rest before due was listed since at device due_is simple_is crc_is =
+lists_after check addr rest before due was listed since at device due_is simple_is crc_is simple_whole crc_whole =
     let apart = all_not_device addr device in
     record {
       simple = ap (λ b. echoes Simple 0 (scanned check addr rest) || b) at.simple ∙ or_true (echoes Simple 0 (scanned check addr rest));
@@ -307,18 +271,22 @@ lists_after check addr rest before due was listed since at device due_is simple_
       due_is = due_is;
       found_simple = simple_is;
       found_crc = crc_is;
+      whole_simple = simple_whole;
+      whole_crc = crc_whole;
       quiet_simple = quiet_poll Simple check addr rest since apart;
       quiet_crc = quiet_poll Crc check addr rest since apart;
     }
 
 -- a poll under the simple check that was acknowledged
 pub simple_found : (addr : ℕ) (rest : Option (List ℕ)) (before due : DeviceSet) (was listed : Listed) (since : List Line) → Polls Simple addr before was since
-    → ((a : ℕ) → has due a ≡ (not (a == addr) && has before a)) → ((a : ℕ) → has listed.simple a ≡ ((a == addr) || has was.simple a)) → listed.crc ≡ was.crc
+    → ((a : ℕ) → has due a ≡ (not (a == addr) && has before a)) → ((a : ℕ) → has listed.simple a ≡ ((a == addr) || has was.simple a)) → length listed.simple.members ≡ 256 → listed.crc ≡ was.crc
     → is_acknowledged Simple addr rest ≡ true → Lists due listed (scanned Simple addr rest ∷ since)
-simple_found addr rest before due was listed since at removed inserted same acked =
+simple_found addr rest before due was listed since at removed inserted whole same acked =
     lists_after Simple addr rest before due was listed since at.lists at.device (due_simple addr rest before due since at.lists.due_is (all_not_device addr at.device) removed)
     (λ a within. inserted a ∙ ap (λ b. (a == addr) || b) (at.lists.found_simple a within) ∙ found_more Simple addr rest since at.device acked a)
     (λ a within. ap (λ set. has set a) same ∙ at.lists.found_crc a within ∙ sym (found_by Crc Simple addr rest since a refl))
+    whole
+    (ap (λ set. length set.members) same ∙ at.lists.whole_crc)
 
 simple_missed : (addr : ℕ) (rest : Option (List ℕ)) (before due : DeviceSet) (was : Listed) (since : List Line) → Polls Simple addr before was since
     → ((a : ℕ) → has due a ≡ (not (a == addr) && has before a)) → is_acknowledged Simple addr rest ≡ false → Lists due was (scanned Simple addr rest ∷ since)
@@ -326,14 +294,18 @@ simple_missed addr rest before due was since at removed unacked =
     lists_after Simple addr rest before due was was since at.lists at.device (due_simple addr rest before due since at.lists.due_is (all_not_device addr at.device) removed)
     (λ a within. at.lists.found_simple a within ∙ found_same Simple addr rest since unacked a)
     (λ a within. at.lists.found_crc a within ∙ sym (found_by Crc Simple addr rest since a refl))
+    at.lists.whole_simple
+    at.lists.whole_crc
 
 pub crc_found : (addr : ℕ) (rest : Option (List ℕ)) (due : DeviceSet) (was listed : Listed) (since : List Line) → Polls Crc addr due was since
-    → ((a : ℕ) → has listed.crc a ≡ ((a == addr) || has was.crc a)) → listed.simple ≡ was.simple
+    → ((a : ℕ) → has listed.crc a ≡ ((a == addr) || has was.crc a)) → length listed.crc.members ≡ 256 → listed.simple ≡ was.simple
     → is_acknowledged Crc addr rest ≡ true → Lists due listed (scanned Crc addr rest ∷ since)
-crc_found addr rest due was listed since at inserted same acked =
+crc_found addr rest due was listed since at inserted whole same acked =
     lists_after Crc addr rest due due was listed since at.lists at.device (due_crc addr rest due since at.lists.due_is (all_not_device addr at.device))
     (λ a within. ap (λ set. has set a) same ∙ at.lists.found_simple a within ∙ sym (found_by Simple Crc addr rest since a refl))
     (λ a within. inserted a ∙ ap (λ b. (a == addr) || b) (at.lists.found_crc a within) ∙ found_more Crc addr rest since at.device acked a)
+    (ap (λ set. length set.members) same ∙ at.lists.whole_simple)
+    whole
 
 pub crc_missed : (addr : ℕ) (rest : Option (List ℕ)) (due : DeviceSet) (was : Listed) (since : List Line) → Polls Crc addr due was since
     → is_acknowledged Crc addr rest ≡ false → Lists due was (scanned Crc addr rest ∷ since)
@@ -341,6 +313,8 @@ crc_missed addr rest due was since at unacked =
     lists_after Crc addr rest due due was was since at.lists at.device (due_crc addr rest due since at.lists.due_is (all_not_device addr at.device))
     (λ a within. at.lists.found_simple a within ∙ sym (found_by Simple Crc addr rest since a refl))
     (λ a within. at.lists.found_crc a within ∙ found_same Crc addr rest since unacked a)
+    at.lists.whole_simple
+    at.lists.whole_crc
 
 -- what is polled after it
 
@@ -388,19 +362,19 @@ lists_row due listed since at = rw (at.simple, at.crc) refl
 pub polls_row : (check : CheckKind) (addr : ℕ) (due : DeviceSet) (listed : Listed) (since : List Line) → Polls check addr due listed since → scan_row since ≡ Some (check, addr)
 polls_row check addr due listed since at = lists_row due listed since at.lists ∙ at.next
 
-listed_is : (due : DeviceSet) (listed : Listed) (since : List Line) → Lists due listed since → length listed.simple.members ≡ 256 → length listed.crc.members ≡ 256 → listed_in since ≡ listed
+listed_is : (due : DeviceSet) (listed : Listed) (since : List Line) → Lists due listed since → listed_in since ≡ listed
 unfolding listed_in
-listed_is due listed since at simple_long crc_long =
-    let simple : listed.simple ≡ set_of (found Simple since) = same_set listed.simple (found Simple since) simple_long at.found_simple in
-    let crc_set : listed.crc ≡ set_of (found Crc since) = same_set listed.crc (found Crc since) crc_long at.found_crc in
+listed_is due listed since at =
+    let simple : listed.simple ≡ set_of (found Simple since) = same_set listed.simple (found Simple since) at.whole_simple at.found_simple in
+    let crc_set : listed.crc ≡ set_of (found Crc since) = same_set listed.crc (found Crc since) at.whole_crc at.found_crc in
     ap (λ (set : DeviceSet). record { simple = set; crc = set_of (found Crc since) }) (sym simple) ∙ ap (λ (set : DeviceSet). record { simple = listed.simple; crc = set }) (sym crc_set)
 
 pub scan_ends : (due : DeviceSet) (listed : Listed) (since : List Line) → Lists due listed since → poll_after since ≡ poll_due (next_due since)
-    → find (has due) all_addresses ≡ None → length listed.simple.members ≡ 256 → length listed.crc.members ≡ 256 → end_of_scan since ≡ Some (ends_of.Listed listed)
+    → find (has due) all_addresses ≡ None → end_of_scan since ≡ Some (ends_of.Listed listed)
 unfolding end_of_scan
-scan_ends due listed since at after first simple_long crc_long =
+scan_ends due listed since at after first =
     let row_is : scan_row since ≡ None = lists_row due listed since at ∙ after ∙ ap poll_due (due_found due since at.due_is ∙ first) in
-    rw (at.quiet_simple, at.quiet_crc, row_is) (ap (λ l. Some (ends_of.Listed l)) (listed_is due listed since at simple_long crc_long))
+    rw (at.quiet_simple, at.quiet_crc, row_is) (ap (λ l. Some (ends_of.Listed l)) (listed_is due listed since at))
 
 -- the line of a call, by what follows its echo
 pub simple_heard : (addr : ℕ) (sent heard : List ℕ) (rest : Option (List ℕ)) → sent ≡ ask Simple addr (poll_of addr) → after_echo sent heard ≡ rest → scan_line sent heard ≡ scanned Simple addr rest

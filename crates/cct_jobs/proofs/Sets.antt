@@ -2,11 +2,12 @@
 use Rattle.std.proofs.Common.{◌≡◌, inl, inr, ℕ, suc, zero, ◌<◌, Bool, true, false, cond, get_or, List, [], ◌∷◌, ◌++◌, length, map, refl, sym, ap, ◌∙◌, Option, Some, arith}
 use Rattle.std.specs.Prelude.{find}
 use Rattle.std.proofs.lemmas.Bool.{cases_eq}
-use Rattle.std.proofs.lemmas.List.{length-append, length-map, get_or-map, get_or_append_left, get_or_at, ext_get_or}
+use Rattle.std.proofs.lemmas.List.{length-map, get_or-map, get_or_append_left, get_or_at, ext_get_or}
 use Rattle.std.proofs.lemmas.List.Folds.{find-append}
 use Rattle.cct_model.specs.declared.device_set.DeviceSet.{DeviceSet}
 use Rattle.cct_model.specs.DeviceSet.{addresses_below, all_addresses, has}
 use Rattle.cct_model.specs.Scan.{set_of}
+use Rattle.cct_model.proofs.Polls.{length_below}
 
 find_below : (p q : ℕ → Bool) (n : ℕ) → ((a : ℕ) → a < n → p a ≡ q a) → find p (addresses_below n) ≡ find q (addresses_below n)
 find_below p q zero same = refl
@@ -30,10 +31,6 @@ found_by p false x a rest e later is = later is
 pub found_passes : (p : ℕ → Bool) (xs : List ℕ) (a : ℕ) → find p xs ≡ Some a → p a ≡ true
 found_passes p [] a e = absurd cc
 found_passes p (x ∷ xs) a e = found_by p (p x) x a (find p xs) refl (found_passes p xs a) e
-
-length_below : (n : ℕ) → length (addresses_below n) ≡ n
-length_below zero = refl
-length_below (suc n) = length-append (addresses_below n) (n ∷ []) ∙ omega (arith, length_below n)
 
 at_by : (n i : ℕ) → ((i < n) → get_or (addresses_below n) i 0 ≡ i) → i < suc n → get_or (addresses_below n ++ n ∷ []) i 0 ≡ i
 at_by n i before within =

@@ -1,5 +1,5 @@
 -- The lines of a scan, newest first, that a job stands for.
-use Rattle.std.specs.Prelude.{◌≡◌, ◌<◌, nat_le, ℕ, true, false, List, [], Some}
+use Rattle.std.specs.Prelude.{◌≡◌, ◌<◌, nat_le, ℕ, true, false, List, [], length, Some}
 use Rattle.std.specs.List.{list_any}
 use Rattle.cct_model.specs.declared.wire.CheckKind.{CheckKind}
 use Rattle.cct_model.specs.declared.wire.CheckKind.TheVariants.{Simple, Crc}
@@ -11,7 +11,7 @@ use Rattle.cct_model.specs.Scan.{echoes, end_of_scan, found, is_due, noted, poll
 use Rattle.cct_jobs.specs.declared.job.Need.{Need}
 use Rattle.cct_jobs.specs.declared.job.Need.TheVariants as need
 use Rattle.cct_jobs.specs.declared.job.Job.{Job}
-use Rattle.cct_jobs.specs.declared.job.Job.TheVariants.{RoundAsks, RoundPuts, IdentAsks, PathSets, PathReads, ScanCallsSimple, ScanCallsCrc, ScanPollsSimple, ScanPollsCrc, Done}
+use Rattle.cct_jobs.specs.declared.job.Job.TheVariants.{StartResets, StartReads, StartPuts, StartSets, RoundReads, RoundLooks, StopInhibits, StopReads, StopLooks, StopPuts, Puts, IdentAsks, PathSets, PathReads, ScanCallsSimple, ScanCallsCrc, ScanPollsSimple, ScanPollsCrc, Done}
 
 -- No device was polled.
 pub record Unpolled (since : List Line) : Type 0 where
@@ -47,6 +47,8 @@ pub record Lists (due : DeviceSet) (listed : Listed) (since : List Line) : Type 
   pub due_is : HasDue due since
   pub found_simple : (addr : ℕ) → addr < 256 → has listed.simple addr ≡ found Simple since addr
   pub found_crc : (addr : ℕ) → addr < 256 → has listed.crc addr ≡ found Crc since addr
+  pub whole_simple : length listed.simple.members ≡ 256
+  pub whole_crc : length listed.crc.members ≡ 256
   pub quiet_simple : scan_tries Simple since ≡ 0
   pub quiet_crc : scan_tries Crc since ≡ 0
 
@@ -63,8 +65,17 @@ StandsScan (ScanCallsCrc failed due) since = CallsCrc failed due since
 StandsScan (ScanPollsSimple addr due listed) since = Polls Simple addr due listed since
 StandsScan (ScanPollsCrc addr due listed) since = Polls Crc addr due listed since
 StandsScan (Done end) since = end_of_scan since ≡ Some end
-StandsScan (RoundAsks device counter failed) since = ⊥
-StandsScan (RoundPuts entry end) since = ⊥
+StandsScan (StartResets device mask failed) since = ⊥
+StandsScan (StartReads device mask failed) since = ⊥
+StandsScan (StartPuts device mask) since = ⊥
+StandsScan (StartSets device mask) since = ⊥
+StandsScan (RoundReads device recorded failed) since = ⊥
+StandsScan (RoundLooks device recorded read failed) since = ⊥
+StandsScan (StopInhibits device recorded failed) since = ⊥
+StandsScan (StopReads device recorded failed) since = ⊥
+StandsScan (StopLooks device recorded read failed) since = ⊥
+StandsScan (StopPuts device entry) since = ⊥
+StandsScan (Puts entry end) since = ⊥
 StandsScan (IdentAsks device question failed) since = ⊥
 StandsScan (PathSets device place path failed) since = ⊥
 StandsScan (PathReads device place failed) since = ⊥

@@ -4,6 +4,7 @@ ghost use Rattle.std.specs.Prelude.{◌≡◌, List, ℕ, suc, ◌∷◌, Some, 
 ghost use Rattle.cct_model.specs.declared.command.Command.{Command};
 ghost use Rattle.cct_model.specs.declared.device.DeviceBody.{DeviceBody};
 ghost use Rattle.cct_model.specs.declared.device.DeviceSetup.{DeviceSetup};
+ghost use Rattle.cct_model.specs.declared.record.EpochState.{EpochState};
 ghost use Rattle.cct_model.specs.Exchange.{ask};
 ghost use Rattle.cct_model.specs.Job.{ident_requests};
 ghost use Rattle.cct_model.specs.Legal.{is_acceptor};
@@ -19,9 +20,9 @@ const LAST_PLACE: u8 = 16;
 
 /// The identification after it heard what followed its question.
 pub(crate) fn heard(device: Target, question: Request, failed: u8, sent: &[u8], heard: &[u8]) -> Job
-    ensures { (d : DeviceSetup) (c : Command) (since : List Line) (counter : ℕ)
-        → IdentAsksAt d device question failed c since → sent.now ≡ ask d.kind d.addr question
-        → Stands d result c (line_heard d sent.now heard.now ∷ since) counter }
+    ensures { (d : DeviceSetup) (c : Command) (since : List Line) (state : EpochState)
+        → IdentAsksAt d device question failed c since state → sent.now ≡ ask d.kind d.addr question
+        → Stands d result c (line_heard d sent.now heard.now ∷ since) state }
 {
     if device.has_replied(question, sent, heard) {
         return told(device, question);
@@ -37,11 +38,10 @@ pub(crate) fn heard(device: Target, question: Request, failed: u8, sent: &[u8], 
 }
 
 /// The identification after this question was answered.
-#[tactic(auto, using(crate::proofs::Rows::ident_on, crate::proofs::Rows::ident_told))]
 fn told(device: Target, question: Request) -> Job
-    ensures { (d : DeviceSetup) (c : Command) (since : List Line) (counter failed : ℕ) (line : Line)
-        → IdentAsksAt d device question failed c since → IsAnswer line question
-        → Stands d result c (line ∷ since) counter }
+    ensures { (d : DeviceSetup) (c : Command) (since : List Line) (state : EpochState) (failed : ℕ) (line : Line)
+        → IdentAsksAt d device question failed c since state → IsAnswer line question
+        → Stands d result c (line ∷ since) state }
 {
     match question_after(question, device.is_acceptor) {
         Some(question) => Job::IdentAsks {

@@ -1,10 +1,12 @@
 //! What holds of the failed tries of every row of a job.
-ghost use Rattle.std.specs.Prelude.{◌≡◌, ◌≢◌, ◌↔◌, List, ℕ, suc, ◌∷◌, Option, Some, None};
+ghost use Rattle.std.specs.Prelude.{◌≡◌, ◌≢◌, ◌↔◌, List, ℕ, suc, ◌∷◌, Bool, false, Some, None};
 ghost use Rattle.cct_model.specs.declared.command.Command.{Command};
 ghost use Rattle.cct_model.specs.declared.device.DeviceSetup.{DeviceSetup};
-ghost use Rattle.cct_model.specs.declared.entry.End.TheVariants.{NoAnswer};
+ghost use Rattle.cct_model.specs.declared.entry.End.TheVariants.{NoAnswer, StartUnsure};
+ghost use Rattle.cct_model.specs.declared.record.EpochState.{EpochState};
 ghost use Rattle.cct_model.specs.declared.request.Request.{Request};
-ghost use Rattle.cct_model.specs.Job.{end_of, tries};
+ghost use Rattle.cct_model.specs.declared.request.Request.TheVariants.{SetMask};
+ghost use Rattle.cct_model.specs.Job.{end_of, is_once, tries};
 ghost use Rattle.cct_model.specs.Line.{Line, exchange};
 ghost use Rattle.cct_model.specs.Reply.{Reply};
 ghost use Rattle.cct_model.specs.Request.{header_of};
@@ -13,13 +15,15 @@ use cct_model::Request;
 
 /// A job at a device ends with [`End::NoAnswer`](cct_model::End) at the third failed try in succession of one row, and at
 /// no other exchange: each failed try of a row counts, and a wanted reply or an exchange of another row begins the count
-/// anew.
+/// anew. A request that is sent once alone is apart: a mask that isn't acknowledged ends its start unsure.
 #[tactic(auto, using(crate::proofs::Tries::third_ends, crate::proofs::Tries::answer_goes_on, crate::proofs::Tries::other_clears, crate::proofs::Rows::tried))]
 pub fn no_answer_comes_at_the_third_failed_try()
-    ensures third { (d : DeviceSetup) (c : Command) (q : Request) (since : List Line) (counter : ℕ)
-        → (end_of d c (exchange (Some q) None) since counter ≡ Some NoAnswer) ↔ (tries (header_of q) since ≡ 2) }
-    ensures answered { (d : DeviceSetup) (c : Command) (q : Request) (y : Reply) (since : List Line) (counter : ℕ)
-        → end_of d c (exchange (Some q) (Some y)) since counter ≢ Some NoAnswer }
+    ensures third { (d : DeviceSetup) (c : Command) (q : Request) (since : List Line) (state : EpochState) → is_once q ≡ false
+        → (end_of d c (exchange (Some q) None) since state ≡ Some NoAnswer) ↔ (tries (header_of q) since ≡ 2) }
+    ensures once { (d : DeviceSetup) (c : Command) (mask : ℕ) (since : List Line) (state : EpochState)
+        → end_of d c (exchange (Some (SetMask mask)) None) since state ≡ Some StartUnsure }
+    ensures answered { (d : DeviceSetup) (c : Command) (q : Request) (y : Reply) (since : List Line) (state : EpochState)
+        → end_of d c (exchange (Some q) (Some y)) since state ≢ Some NoAnswer }
     ensures counts { (q : Request) (since : List Line)
         → tries (header_of q) (exchange (Some q) None ∷ since) ≡ suc (tries (header_of q) since) }
     ensures reply_clears { (q : Request) (header : ℕ) (y : Reply) (since : List Line)

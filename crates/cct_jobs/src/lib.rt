@@ -1,17 +1,19 @@
-//! The jobs of the host that only look: the short round, the identification of a device, the setting of a sorter path,
-//! and the scan. A job stands at one row: it sends one request, or puts one record, or is done.
+//! The jobs of the host: the start, the round and the stop of an acceptor's epoch, the identification of a device, the
+//! setting of a sorter path, and the scan. A job stands at one row: it sends one request, or puts one record, or is done.
 #![tactic(auto)]
 
+mod acceptor;
 mod ident;
 mod job;
-mod judging;
 mod laws;
 mod path;
 mod round;
 mod scan;
+mod start;
+mod stop;
 mod target;
 
-pub use job::{Job, Need, Sending};
+pub use job::{Job, Need, Recorded, Sending};
 pub use laws::no_answer_comes_at_the_third_failed_try;
 pub use target::Target;
 

@@ -2,12 +2,14 @@
 //! 189 and 188).
 ghost use Rattle.std.specs.Prelude.{◌≡◌, List, ℕ, ◌∷◌, Some};
 ghost use Rattle.cct_model.specs.declared.command.Command.{Command};
+ghost use Rattle.cct_model.specs.declared.command.Command.TheVariants as command;
 ghost use Rattle.cct_model.specs.declared.device.DeviceSetup.{DeviceSetup};
+ghost use Rattle.cct_model.specs.declared.record.EpochState.{EpochState};
 ghost use Rattle.cct_model.specs.Exchange.{ask};
 ghost use Rattle.cct_model.specs.Job.{path_read, path_set};
 ghost use Rattle.cct_model.specs.Line.{Line};
 ghost use Rattle.cct_model.specs.Reply.{reply_shown};
-ghost use Rattle.cct_jobs.specs.Jobs.{PathReadsAt, PathSetsAt, Stands, line_heard, path_reply, replied};
+ghost use Rattle.cct_jobs.specs.Jobs.{AsksAt, Stands, line_heard, path_reply, replied};
 
 use crate::job::Job;
 use crate::target::{Target, after_failed};
@@ -47,9 +49,9 @@ pub(crate) fn set_heard(
     sent: &[u8],
     heard: &[u8],
 ) -> Job
-    ensures { (d : DeviceSetup) (c : Command) (since : List Line) (counter : ℕ)
-        → PathSetsAt d device place path failed c since → sent.now ≡ ask d.kind d.addr (path_set place path)
-        → Stands d result c (line_heard d sent.now heard.now ∷ since) counter }
+    ensures { (d : DeviceSetup) (c : Command) (since : List Line) (state : EpochState)
+        → AsksAt d device (command.Path d.addr place path) 0 (path_set place path) failed c since state → sent.now ≡ ask d.kind d.addr (path_set place path)
+        → Stands d result c (line_heard d sent.now heard.now ∷ since) state }
 {
     if device.has_replied(setting(place, path), sent, heard) {
         return Job::PathReads {
@@ -71,9 +73,9 @@ pub(crate) fn set_heard(
 
 /// The job after it heard what followed the question for the path.
 pub(crate) fn read_heard(device: Target, place: u8, failed: u8, sent: &[u8], heard: &[u8]) -> Job
-    ensures { (d : DeviceSetup) (c : Command) (since : List Line) (counter path : ℕ)
-        → PathReadsAt d device place path failed c since → sent.now ≡ ask d.kind d.addr (path_read place)
-        → Stands d result c (line_heard d sent.now heard.now ∷ since) counter }
+    ensures { (d : DeviceSetup) (c : Command) (since : List Line) (state : EpochState) (path : ℕ)
+        → AsksAt d device (command.Path d.addr place path) 1 (path_read place) failed c since state → sent.now ≡ ask d.kind d.addr (path_read place)
+        → Stands d result c (line_heard d sent.now heard.now ∷ since) state }
 {
     match path_heard(&device, place, sent, heard) {
         Some(path) => Job::Done(End::PathSet { place, path }),

@@ -1,14 +1,15 @@
 -- What an acceptor replies to each request that a job sends it.
-use Rattle.std.proofs.Common.{◌≡◌, ℕ, zero, suc, ◌-◌, ◌<◌, ◌≤◌, ◌==◌, cond, true, false, Bool, List, [], ◌∷◌, length, refl, subst, Some, slice_get, unwrap_or, All, ◌⊎◌, inl, inr, arith}
+use Rattle.std.proofs.Common.{◌≡◌, ℕ, zero, suc, ◌-◌, ◌<◌, ◌≤◌, ◌==◌, cond, true, false, Bool, List, [], ◌∷◌, ◌++◌, length, refl, ◌∙◌, subst, Option, Some, None, slice_get, unwrap_or, All, ◌⊎◌, inl, inr, arith, length-append, length-take}
 use Rattle.std.specs.Prelude.{⊤}
 use Rattle.std.proofs.lemmas.List.Elements.{All-head, All-tail}
 use Rattle.std.proofs.lemmas.Bool.Decides.{nat_tests}
+use Rattle.cct_model.specs.declared.coin.Pair.{Pair}
 use Rattle.cct_model.specs.declared.device.DeviceSetup.{DeviceSetup}
 use Rattle.cct_model.specs.declared.device.Setup.{Setup}
 use Rattle.cct_model.specs.declared.device.DeviceBody.{DeviceBody}
 use Rattle.cct_model.specs.declared.device.DeviceBody.TheVariants.{Acceptor, Hopper}
 use Rattle.cct_model.specs.declared.request.Request.{Request}
-use Rattle.cct_model.specs.declared.request.Request.TheVariants.{MakerId, Category, ProductCode, SerialNumber, SoftwareRevision, BuildCode, CommsRevision, GetMaster, SetPath, GetPath, SetDefault, GetDefault, CoinId, AcceptCount}
+use Rattle.cct_model.specs.declared.request.Request.TheVariants.{MakerId, Category, ProductCode, SerialNumber, SoftwareRevision, BuildCode, CommsRevision, ResetDevice, SetMask, GetMask, SetMaster, GetMaster, ReadCredits, SetPath, GetPath, SetDefault, GetDefault, CoinId, AcceptCount}
 use Rattle.cct_model.specs.declared.request.ReplyForm.TheVariants as form
 use Rattle.cct_model.specs.declared.record.Judged.{Judged}
 use Rattle.cct_model.specs.declared.record.Judged.TheVariants.{Nothing, Reading, Broken}
@@ -21,25 +22,24 @@ use Rattle.cct_model.specs.Reply.{Reply}
 use Rattle.cct_model.specs.Reply as reply
 use Rattle.cct_model.specs.History.{Met}
 use Rattle.cct_model.specs.Setting.{is_place, is_path, default_in}
-use Rattle.cct_model.specs.Acceptor.{settings, path_of, master_of, accept_count, id_at, acceptor_reply}
+use Rattle.cct_model.specs.Acceptor.{settings, events, no_event, last_five, credits_of, mask_of, path_of, master_of, accept_count, id_at, acceptor_reply}
 use Rattle.cct_model.specs.Device.{IsSound, IsSoundBody, IsId, IsWord, IsAcceptor, common_reply, own_reply, reply_of, category_of}
 use Rattle.cct_model.specs.Setup.{IsSoundSetup}
-use Rattle.cct_model.specs.Job.{Row, sends, puts, no_row, row_at, put_row, send_row, ident_requests}
+use Rattle.cct_model.specs.Job.{Row, sends, puts, no_row, row_at, start_row, round_row, stop_row, put_or, ident_requests}
 use Rattle.cct_model.specs.Script.{IsCommand}
 use Rattle.cct_model.specs.Exchange.{ask}
-use Rattle.cct_model.specs.Transcript.{pending, met, heard_after, got_by}
+use Rattle.cct_model.specs.Transcript.{pending, met}
 use Rattle.cct_laws.specs.Honest.{IsHonestFault}
-use Rattle.cct_laws.specs.Law.{IsOf, HasAllIds, IsAnswered, IsUnanswered}
+use Rattle.cct_laws.specs.Kept.{Fate, unheard, silenced, answered}
+use Rattle.cct_laws.specs.Law.{IsOf, IsAnswered, IsUnanswered}
 use Rattle.cct_laws.proofs.Setups.{found_in}
-use Rattle.cct_laws.proofs.Exchanges.{Replied, GotAtMost, undisturbed_got, honest_got}
-use Rattle.cct_laws.proofs.Rows.{Each}
-use Rattle.cct_laws.proofs.Rounds.{credits_replied}
+use Rattle.cct_laws.proofs.Exchanges.{Replied, undisturbed_got, fares}
+use Rattle.cct_laws.proofs.Rows.{Each, IfSends, each_row}
 
--- what is sound of an acceptor, and whole
+-- a sound acceptor
 record Sane (d : DeviceSetup) : Type 0 where
   sound : IsSound d
   accepting : IsAcceptor d.body
-  whole : HasAllIds d.body
 
 -- a text of 24 characters can be said
 word_short : (text : List ℕ) → IsWord text → length text ≤ 255
@@ -97,6 +97,52 @@ default_replied : (d : DeviceSetup) (past : List Met) → Sane d → Replied d p
 unfolding reply_of common_reply form_of
 default_replied d past sane = record { y = reply.path (default_in (settings past)); form = form.Path; replied = own_default d.body past sane.accepting; wants = refl; shown = refl; whole = tt; sayable = tt; fits = λ serial count e. cc; to_its_device = refl }
 
+reset_replied : (d : DeviceSetup) (past : List Met) → Replied d past ResetDevice
+unfolding reply_of common_reply form_of
+reset_replied d past = record { y = reply.ack; form = form.Ack; replied = refl; wants = refl; shown = refl; whole = tt; sayable = tt; fits = λ serial count e. cc; to_its_device = refl }
+
+-- the credits and the inhibits of an acceptor
+length-last_five : (newest : List Pair) → length (last_five newest) ≡ 5
+length-last_five newest =
+    let blank : List Pair = no_event ∷ no_event ∷ no_event ∷ no_event ∷ no_event ∷ [] in
+    length-take 5 (newest ++ blank) ∙ omega (arith, length-append newest blank)
+
+own_credits : (body : DeviceBody) (past : List Met) → IsAcceptor body → own_reply body past ReadCredits ≡ Some (reply.credits (credits_of past))
+unfolding acceptor_reply
+own_credits (Acceptor accepts values ids) past accepting = refl
+own_credits (Hopper life value) past accepting = absurd accepting
+
+credits_replied : (d : DeviceSetup) (past : List Met) → Sane d → Replied d past ReadCredits
+unfolding reply_of common_reply form_of
+credits_replied d past sane = record { y = reply.credits (credits_of past); form = form.Credits; replied = own_credits d.body past sane.accepting; wants = refl; shown = refl; whole = length-last_five (events past); sayable = tt; fits = λ serial count e. cc; to_its_device = refl }
+
+own_set_mask : (body : DeviceBody) (past : List Met) (mask : ℕ) → IsAcceptor body → own_reply body past (SetMask mask) ≡ Some reply.ack
+unfolding acceptor_reply
+own_set_mask (Acceptor accepts values ids) past mask accepting = refl
+own_set_mask (Hopper life value) past mask accepting = absurd accepting
+
+set_mask_replied : (d : DeviceSetup) (past : List Met) (mask : ℕ) → Sane d → Replied d past (SetMask mask)
+unfolding reply_of common_reply form_of
+set_mask_replied d past mask sane = record { y = reply.ack; form = form.Ack; replied = own_set_mask d.body past mask sane.accepting; wants = refl; shown = refl; whole = tt; sayable = tt; fits = λ serial count e. cc; to_its_device = refl }
+
+own_mask : (body : DeviceBody) (past : List Met) → IsAcceptor body → own_reply body past GetMask ≡ Some (reply.mask (mask_of past))
+unfolding acceptor_reply
+own_mask (Acceptor accepts values ids) past accepting = refl
+own_mask (Hopper life value) past accepting = absurd accepting
+
+mask_replied : (d : DeviceSetup) (past : List Met) → Sane d → Replied d past GetMask
+unfolding reply_of common_reply form_of
+mask_replied d past sane = record { y = reply.mask (mask_of past); form = form.Mask; replied = own_mask d.body past sane.accepting; wants = refl; shown = refl; whole = tt; sayable = tt; fits = λ serial count e. cc; to_its_device = refl }
+
+own_set_master : (body : DeviceBody) (past : List Met) (value : ℕ) → IsAcceptor body → own_reply body past (SetMaster value) ≡ Some reply.ack
+unfolding acceptor_reply
+own_set_master (Acceptor accepts values ids) past master accepting = refl
+own_set_master (Hopper life value) past master accepting = absurd accepting
+
+set_master_replied : (d : DeviceSetup) (past : List Met) (value : ℕ) → Sane d → Replied d past (SetMaster value)
+unfolding reply_of common_reply form_of
+set_master_replied d past value sane = record { y = reply.ack; form = form.Ack; replied = own_set_master d.body past value sane.accepting; wants = refl; shown = refl; whole = tt; sayable = tt; fits = λ serial count e. cc; to_its_device = refl }
+
 -- the number at which the accept counter of an acceptor started
 abbrev start_of : DeviceBody → ℕ
 start_of (Acceptor accepts values ids) = accepts
@@ -132,9 +178,11 @@ unfolding acceptor_reply
 own_id (Acceptor accepts values ids) past place accepting there = rw there refl
 own_id (Hopper life value) past place accepting there = absurd accepting
 
-six_at : (body : DeviceBody) (place : ℕ) → IsAcceptor body → IsSoundBody body → HasAllIds body → 1 ≤ place → place ≤ 16 → length (id_at (ids_of body) place) ≡ 6
-six_at (Acceptor accepts values ids) place accepting sound whole low high = id_long ids (place - 1) sound.2 (omega (arith, whole))
-six_at (Hopper life value) place accepting sound whole low high = absurd accepting
+six_at : (body : DeviceBody) (place : ℕ) → IsAcceptor body → IsSoundBody body → 1 ≤ place → place ≤ 16 → length (id_at (ids_of body) place) ≡ 6
+six_at (Acceptor accepts values ids) place accepting sound low high =
+    let whole : length ids ≡ 16 = sound.4 in
+    id_long ids (place - 1) sound.2 (omega (arith, whole))
+six_at (Hopper life value) place accepting sound low high = absurd accepting
 
 coin_id_replied : (d : DeviceSetup) (past : List Met) (place : ℕ) → Sane d → 1 ≤ place → place ≤ 16 → Replied d past (CoinId place)
 unfolding reply_of common_reply form_of
@@ -144,7 +192,7 @@ coin_id_replied d past place sane low high = record {
   replied = own_id d.body past place sane.accepting (place_is place low high);
   wants = refl;
   shown = refl;
-  whole = six_at d.body place sane.accepting sane.sound.body sane.whole low high;
+  whole = six_at d.body place sane.accepting sane.sound.body low high;
   sayable = tt;
   fits = λ serial count e. cc;
   to_its_device = refl;
@@ -280,49 +328,72 @@ read_by d past place false test sane high = path_replied d past place sane (plac
     not_zero : (n : ℕ) → (n == 0) ≡ false → 1 ≤ n
     not_zero n e = grind (arith, nat_tests)
 
-asks_no_put : (P : Request → Type 0) (judged : Judged) → IfAsks P (put_row judged)
-asks_no_put P Nothing = tt
-asks_no_put P (Reading r) = tt
-asks_no_put P (Broken r) = tt
+asks_sent : (P : Request → Type 0) (r : Row) → IfSends P r → IfAsks P r
+asks_sent P (sends q) sent = sent
+asks_sent P (puts r) sent = tt
+asks_sent P no_row sent = tt
 
-asks_all : (P : Request → Type 0) (qs : List Request) (i : ℕ) → Each P qs → IfAsks P (send_row (slice_get qs i))
-asks_all P [] i each = tt
-asks_all P (q ∷ qs) zero each = each.0
-asks_all P (q ∷ qs) (suc i) each = asks_all P qs i each.1
+asks_put : (P : Request → Type 0) (other : Row) (judged : Judged) → IfAsks P other → IfAsks P (put_or other judged)
+asks_put P other Nothing asks = asks
+asks_put P other (Reading r) asks = tt
+asks_put P other (Broken r) asks = tt
 
 -- each request that a row sends has a reply in the wanted form
+start_replied : (d : DeviceSetup) (past : List Met) (addr mask rows : ℕ) → Sane d → IfAsks (Replied d past) (start_row addr mask rows)
+start_replied d past addr mask zero sane = reset_replied d past
+start_replied d past addr mask (suc zero) sane = credits_replied d past sane
+start_replied d past addr mask (suc (suc zero)) sane = tt
+start_replied d past addr mask (suc (suc (suc zero))) sane = set_mask_replied d past mask sane
+start_replied d past addr mask (suc (suc (suc (suc rows)))) sane = tt
+
+round_replied : (d : DeviceSetup) (past : List Met) (rows : ℕ) (judged : Judged) → Sane d → IfAsks (Replied d past) (round_row rows judged)
+round_replied d past zero judged sane = credits_replied d past sane
+round_replied d past (suc zero) judged sane = mask_replied d past sane
+round_replied d past (suc (suc zero)) judged sane = asks_put (Replied d past) no_row judged tt
+round_replied d past (suc (suc (suc rows))) judged sane = tt
+
+stop_replied : (d : DeviceSetup) (past : List Met) (addr rows : ℕ) (judged : Judged) → Sane d → IfAsks (Replied d past) (stop_row addr rows judged)
+stop_replied d past addr zero judged sane = set_master_replied d past 0 sane
+stop_replied d past addr (suc zero) judged sane = credits_replied d past sane
+stop_replied d past addr (suc (suc zero)) judged sane = mask_replied d past sane
+stop_replied d past addr (suc (suc (suc zero))) judged sane = asks_put (Replied d past) _ judged tt
+stop_replied d past addr (suc (suc (suc (suc zero)))) judged sane = tt
+stop_replied d past addr (suc (suc (suc (suc (suc rows))))) judged sane = tt
+
 row_replied : (d : DeviceSetup) (past : List Met) (c : Command) (rows : ℕ) (judged : Judged) → Sane d → IsCommand c → IfAsks (Replied d past) (row_at d.body c rows judged)
-row_replied d past (command.Round addr) zero judged sane known = credits_replied d past sane.accepting
-row_replied d past (command.Round addr) (suc zero) judged sane known = asks_no_put (Replied d past) judged
-row_replied d past (command.Round addr) (suc (suc rows)) judged sane known = tt
-row_replied d past (command.Ident addr) rows judged sane known = asks_all (Replied d past) (ident_requests d.body) rows (ident_by d past d.body sane.accepting sane)
+row_replied d past (command.Start addr mask) rows judged sane known = start_replied d past addr mask rows sane
+row_replied d past (command.Round addr) rows judged sane known = round_replied d past rows judged sane
+row_replied d past (command.Stop addr) rows judged sane known = stop_replied d past addr rows judged sane
+row_replied d past (command.Ident addr) rows judged sane known =
+    asks_sent (Replied d past) _ (each_row (Replied d past) (ident_requests d.body) rows (ident_by d past d.body sane.accepting sane))
 row_replied d past (command.Path addr place path) zero judged sane known = set_by d past place path (place == 0) refl sane known
 row_replied d past (command.Path addr place path) (suc zero) judged sane known = read_by d past place (place == 0) refl sane known.0
 row_replied d past (command.Path addr place path) (suc (suc rows)) judged sane known = tt
 row_replied d past c rows judged sane known = tt
 
-replied_at : (setup : Setup) (past : List Entry) (d : DeviceSetup) (c : Command) (rows : ℕ) (judged : Judged) (q : Request) →
-    IsSoundSetup setup → IsOf setup d → IsAcceptor d.body → HasAllIds d.body → IsCommand c → row_at d.body c rows judged ≡ sends q → Replied d (met d past) q
-replied_at setup past d c rows judged q sound own accepting whole known asks =
-    let sane : Sane d = record { sound = (found_in IsSound setup.devices d.addr d sound.devices own).0; accepting = accepting; whole = whole } in
+pub replied_at : (setup : Setup) (past : List Entry) (d : DeviceSetup) (c : Command) (rows : ℕ) (judged : Judged) (q : Request) →
+    IsSoundSetup setup → IsOf setup d → IsAcceptor d.body → IsCommand c → row_at d.body c rows judged ≡ sends q → Replied d (met d past) q
+replied_at setup past d c rows judged q sound own accepting known asks =
+    let sane : Sane d = record { sound = (found_in IsSound setup.devices d.addr d sound.devices own).0; accepting = accepting } in
     subst (IfAsks (Replied d (met d past))) asks (row_replied d (met d past) c rows judged sane known)
 
 -- an exchange without a pending fault is answered
 pub undisturbed_answered : (setup : Setup) (past : List Entry) (d : DeviceSetup) (c : Command) (rows : ℕ) (judged : Judged) (q : Request) →
-    IsSoundSetup setup → IsOf setup d → IsAcceptor d.body → HasAllIds d.body → IsCommand c → pending past ≡ fault.Clear → row_at d.body c rows judged ≡ sends q → IsAnswered setup d past q
-undisturbed_answered setup past d c rows judged q sound own accepting whole known clear asks =
-    let is = replied_at setup past d c rows judged q sound own accepting whole known asks in
+    IsSoundSetup setup → IsOf setup d → IsAcceptor d.body → IsCommand c → pending past ≡ fault.Clear → row_at d.body c rows judged ≡ sends q → IsAnswered setup d past q
+undisturbed_answered setup past d c rows judged q sound own accepting known clear asks =
+    let is = replied_at setup past d c rows judged q sound own accepting known asks in
     (is.y, is.replied, undisturbed_got setup d past q is sound own clear)
 
-got_or_none : (setup : Setup) (past : List Entry) (d : DeviceSetup) (q : Request) (is : Replied d (met d past) q) → GotAtMost (got_by d (ask d.kind d.addr q) (heard_after setup past (ask d.kind d.addr q))) is.y →
-    IsUnanswered setup d past q ⊎ IsAnswered setup d past q
-got_or_none setup past d q is (inl none) = inl none
-got_or_none setup past d q is (inr same) = inr (is.y, is.replied, same)
+got_or_none : (d : DeviceSetup) (past : List Met) (q : Request) (asks : Option Request) (got : Option Reply) → Fate d past q asks got →
+    (got ≡ None) ⊎ ((y : Reply) × (reply_of d past q ≡ Some y) × (got ≡ Some y))
+got_or_none d past q _ _ unheard = inl refl
+got_or_none d past q _ _ silenced = inl refl
+got_or_none d past q _ _ (answered y replied) = inr (y, replied, refl)
 
 -- and one with an honest fault is, or nothing is got
 pub honest_answered : (setup : Setup) (past : List Entry) (d : DeviceSetup) (c : Command) (rows : ℕ) (judged : Judged) (q : Request) →
-    IsSoundSetup setup → IsOf setup d → IsAcceptor d.body → HasAllIds d.body → IsCommand c → IsHonestFault (pending past) (ask d.kind d.addr q) → row_at d.body c rows judged ≡ sends q →
+    IsSoundSetup setup → IsOf setup d → IsAcceptor d.body → IsCommand c → IsHonestFault (pending past) (ask d.kind d.addr q) → row_at d.body c rows judged ≡ sends q →
     IsUnanswered setup d past q ⊎ IsAnswered setup d past q
-honest_answered setup past d c rows judged q sound own accepting whole known honest asks =
-    let is = replied_at setup past d c rows judged q sound own accepting whole known asks in
-    got_or_none setup past d q is (honest_got setup d past q is sound own honest)
+honest_answered setup past d c rows judged q sound own accepting known honest asks =
+    let is = replied_at setup past d c rows judged q sound own accepting known asks in
+    got_or_none d (met d past) q _ _ (fares setup d past q is sound own honest)

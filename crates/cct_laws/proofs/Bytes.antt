@@ -163,6 +163,7 @@ FitsPairs (pair ∷ pairs) = ((pair.a < 256) × (pair.b < 256)) × FitsPairs pai
 abbrev pub FitsReply : Reply → Type 0
 FitsReply (reply.credits c) = (c.counter < 256) × FitsPairs c.pairs
 FitsReply (reply.path number) = number < 256
+FitsReply (reply.mask mask) = mask < 65536
 FitsReply y = ⊤
 
 none_fits : (P : Reply → Type 0) (y : Reply) (body : List ℕ) → P y → IfThere P (reply.none_in y body)
@@ -174,11 +175,11 @@ one_fits P make [] h k = tt
 one_fits P make (a ∷ []) h k = k a h.0
 one_fits P make (a ∷ b ∷ body) h k = tt
 
-two_fits : (P : Reply → Type 0) (make : ℕ → ℕ → Reply) (body : List ℕ) → ((a b : ℕ) → P (make a b)) → IfThere P (reply.two_in make body)
-two_fits P make [] k = tt
-two_fits P make (a ∷ []) k = tt
-two_fits P make (a ∷ b ∷ []) k = k a b
-two_fits P make (a ∷ b ∷ c ∷ body) k = tt
+two_fits : (P : Reply → Type 0) (make : ℕ → ℕ → Reply) (body : List ℕ) → Bytes body → ((a b : ℕ) → a < 256 → b < 256 → P (make a b)) → IfThere P (reply.two_in make body)
+two_fits P make [] h k = tt
+two_fits P make (a ∷ []) h k = tt
+two_fits P make (a ∷ b ∷ []) h k = k a b h.0 h.1.0
+two_fits P make (a ∷ b ∷ c ∷ body) h k = tt
 
 three_fits : (P : Reply → Type 0) (make : ℕ → ℕ → ℕ → Reply) (body : List ℕ) → ((a b c : ℕ) → P (make a b c)) → IfThere P (reply.three_in make body)
 three_fits P make [] k = tt
@@ -205,7 +206,7 @@ reply_in_fits : (f : ReplyForm) (body : List ℕ) → Bytes body → IfThere Fit
 unfolding reply.reply_in
 reply_in_fits form.Ack body h = none_fits FitsReply reply.ack body tt
 reply_in_fits form.Credits body h = credits_fit body h
-reply_in_fits form.Mask body h = two_fits FitsReply _ body (λ a b. tt)
+reply_in_fits form.Mask body h = two_fits FitsReply _ body h (λ a b k l. omega (arith, k, l))
 reply_in_fits form.Master body h = one_fits FitsReply reply.master body h (λ a k. tt)
 reply_in_fits form.Path body h = one_fits FitsReply reply.path body h (λ a k. k)
 reply_in_fits form.CoinId body h = id_fits body

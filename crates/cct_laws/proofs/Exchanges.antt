@@ -1,5 +1,5 @@
 -- An exchange with a device of a setup: what is asked is heard by it alone, and what it replies is got, or nothing.
-use Rattle.std.proofs.Common.{◌≡◌, ◌≢◌, ℕ, ◌==◌, ◌≤◌, nat_le, cond, true, false, Bool, List, [], ◌∷◌, ◌++◌, length, slice_index, flat_map, refl, ap, sym, ◌∙◌, Option, Some, None, option_and_then, unwrap_or, ◌⊎◌, inl, inr, arith, eq-eqb, eqb-true, append-nil}
+use Rattle.std.proofs.Common.{◌≡◌, ◌≢◌, ℕ, ◌==◌, ◌≤◌, nat_le, cond, true, false, Bool, List, [], ◌∷◌, ◌++◌, length, slice_index, flat_map, refl, ap, sym, ◌∙◌, subst₂, Option, Some, None, option_and_then, unwrap_or, arith, eq-eqb, eqb-true, append-nil}
 use Rattle.cct_model.specs.declared.wire.CheckKind.{CheckKind}
 use Rattle.cct_model.specs.declared.wire.CheckKind.TheVariants.{Simple, Crc}
 use Rattle.cct_model.specs.declared.device.DeviceSetup.{DeviceSetup}
@@ -23,6 +23,7 @@ use Rattle.cct_frame.proofs.Spellings.{written_back}
 use Rattle.cct_msg.specs.Forms.{FitsItsBytes, IsWhole, form_shown}
 use Rattle.cct_msg.proofs.Exchanges.{asked_back, reply_heard}
 use Rattle.cct_laws.specs.Honest.{IsNoMessage, IsAddressPoll, IsHonestFault}
+use Rattle.cct_laws.specs.Kept.{Fate, unheard, silenced, answered}
 use Rattle.cct_laws.specs.Law.{IsOf}
 use Rattle.cct_laws.proofs.Pieces.{ask_to, asks_nothing, none_under, damaged_asks}
 use Rattle.cct_laws.proofs.Setups.{found_in, same_some}
@@ -213,40 +214,48 @@ pub heard_is : (setup : Setup) (past : List Entry) (sent : List ℕ) → heard_a
 unfolding heard_after
 heard_is setup past sent = refl
 
--- what is got: nothing, or this reply
-abbrev pub GotAtMost : Option Reply → Reply → Type 0
-GotAtMost got y = (got ≡ None) ⊎ (got ≡ Some y)
-
 -- without a fault the device's reply is got
 clear_got : (setup : Setup) (d : DeviceSetup) (past : List Entry) (q : Request) (is : Replied d (met d past) q) → IsSoundSetup setup → IsOf setup d →
     got_by d (ask d.kind d.addr q) (heard_under setup past fault.Clear (ask d.kind d.addr q)) ≡ Some is.y
 clear_got setup d past q is sound own =
     ap (λ heard. got_by d (ask d.kind d.addr q) (ask d.kind d.addr q ++ heard)) (answers_back setup d past q is sound own) ∙ got_by_back d (met d past) q is
 
--- and with an honest one no other than the device's reply
-got_under : (setup : Setup) (d : DeviceSetup) (past : List Entry) (q : Request) (is : Replied d (met d past) q) (f : WireFault) → IsSoundSetup setup → IsOf setup d →
-    IsHonestFault f (ask d.kind d.addr q) → (IsAddressPoll (ask d.kind d.addr q) → ⊥) → GotAtMost (got_by d (ask d.kind d.addr q) (heard_under setup past f (ask d.kind d.addr q))) is.y
-got_under setup d past q is fault.Clear sound own honest no_poll = inr (clear_got setup d past q is sound own)
-got_under setup d past q is (fault.DevicesHear piece) sound own honest no_poll =
+-- and an honest one leaves no other fate: nobody heard what was asked, or the device alone did, or its reply was got
+abbrev Fares : Setup → DeviceSetup → List Entry → Request → WireFault → Type 0
+Fares setup d past q f =
     let sent = ask d.kind d.addr q in
-    inl (ap (λ heard. got_by d sent (sent ++ heard)) (damaged_answers setup past piece honest) ∙ none_behind d sent [] (empty_message d.kind))
-got_under setup d past q is (fault.HostHears piece) sound own honest no_poll =
-    inl (none_behind d (ask d.kind d.addr q) piece (none_under d.kind piece (honest no_poll)))
-got_under setup d past q is (fault.WholeHeard piece) sound own honest no_poll =
+    Fate d (met d past) q (asks_of d (heard_by_devices f sent)) (got_by d sent (heard_under setup past f sent))
+
+fate_is : (d : DeviceSetup) (past : List Met) (q : Request) (asks heard : Option Request) (got found : Option Reply) → Fate d past q heard found → asks ≡ heard → got ≡ found → Fate d past q asks got
+fate_is d past q asks heard got found fate asks_are got_is = subst₂ (Fate d past q) (sym asks_are) (sym got_is) fate
+
+fares_under : (setup : Setup) (d : DeviceSetup) (past : List Entry) (q : Request) (is : Replied d (met d past) q) (f : WireFault) → IsSoundSetup setup → IsOf setup d →
+    IsHonestFault f (ask d.kind d.addr q) → (IsAddressPoll (ask d.kind d.addr q) → ⊥) → Fares setup d past q f
+fares_under setup d past q is fault.Clear sound own honest no_poll =
+    fate_is d (met d past) q _ (Some q) _ (Some is.y) (answered is.y is.replied) (asks_back d q is.fits is.to_its_device) (clear_got setup d past q is sound own)
+fares_under setup d past q is (fault.DevicesHear piece) sound own honest no_poll =
     let sent = ask d.kind d.addr q in
-    inl (nothing_got d sent piece (λ rest found. none_under d.kind rest ((honest no_poll).1 rest (echo_known sent piece rest found))))
+    fate_is d (met d past) q _ None _ None unheard (damaged_asks d piece honest)
+    (ap (λ heard. got_by d sent (sent ++ heard)) (damaged_answers setup past piece honest) ∙ none_behind d sent [] (empty_message d.kind))
+fares_under setup d past q is (fault.HostHears piece) sound own honest no_poll =
+    fate_is d (met d past) q _ (Some q) _ None silenced (asks_back d q is.fits is.to_its_device)
+    (none_behind d (ask d.kind d.addr q) piece (none_under d.kind piece (honest no_poll)))
+fares_under setup d past q is (fault.WholeHeard piece) sound own honest no_poll =
+    let sent = ask d.kind d.addr q in
+    fate_is d (met d past) q _ (Some q) _ None silenced (asks_back d q is.fits is.to_its_device)
+    (nothing_got d sent piece (λ rest found. none_under d.kind rest ((honest no_poll).1 rest (echo_known sent piece rest found))))
 
 -- a request to a device is no address poll
-pub no_poll : (setup : Setup) (d : DeviceSetup) (q : Request) → IsSoundSetup setup → IsOf setup d → IsAddressPoll (ask d.kind d.addr q) → ⊥
+no_poll : (setup : Setup) (d : DeviceSetup) (q : Request) → IsSoundSetup setup → IsOf setup d → IsAddressPoll (ask d.kind d.addr q) → ⊥
 no_poll setup d q sound own poll =
     let low = (found_in IsSound setup.devices d.addr d sound.devices own).0.low in
     let zero : d.addr ≡ 0 = sym (ask_to d.kind d.addr q) ∙ ap (λ piece. slice_index piece 0) poll.1 ∙ ask_to poll.0 0 _ in
     omega (arith, low, zero)
 
-pub honest_got : (setup : Setup) (d : DeviceSetup) (past : List Entry) (q : Request) (is : Replied d (met d past) q) → IsSoundSetup setup → IsOf setup d → IsHonestFault (pending past) (ask d.kind d.addr q) →
-    GotAtMost (got_by d (ask d.kind d.addr q) (heard_after setup past (ask d.kind d.addr q))) is.y
+pub fares : (setup : Setup) (d : DeviceSetup) (past : List Entry) (q : Request) (is : Replied d (met d past) q) → IsSoundSetup setup → IsOf setup d → IsHonestFault (pending past) (ask d.kind d.addr q) →
+    Fate d (met d past) q (asks_of d (heard_by_devices (pending past) (ask d.kind d.addr q))) (got_by d (ask d.kind d.addr q) (heard_after setup past (ask d.kind d.addr q)))
 unfolding heard_after
-honest_got setup d past q is sound own honest = got_under setup d past q is (pending past) sound own honest (no_poll setup d q sound own)
+fares setup d past q is sound own honest = fares_under setup d past q is (pending past) sound own honest (no_poll setup d q sound own)
 
 pub undisturbed_got : (setup : Setup) (d : DeviceSetup) (past : List Entry) (q : Request) (is : Replied d (met d past) q) → IsSoundSetup setup → IsOf setup d → pending past ≡ fault.Clear →
     got_by d (ask d.kind d.addr q) (heard_after setup past (ask d.kind d.addr q)) ≡ Some is.y

@@ -1,64 +1,20 @@
 -- A scan lists no device under both checks: it polls each address once under the simple check, and under the CRC only
 -- where that wasn't acknowledged.
-use Rattle.std.proofs.Common.{◌≡◌, ℕ, zero, suc, ◌<◌, ◌≤◌, ◌==◌, ◌&&◌, ◌||◌, not, nat_le, Bool, true, false, cond, List, [], ◌∷◌, length, map, slice_index, refl, sym, subst, ◌∙◌, Option, Some, None, inl, inr, arith, eq-eqb, eqb-true, length-append}
-use Rattle.std.specs.Prelude.{⊤, bytes_eq, find, slice_index_or}
+use Rattle.std.proofs.Common.{◌≡◌, ℕ, zero, suc, ◌<◌, ◌≤◌, ◌==◌, ◌&&◌, ◌||◌, not, nat_le, Bool, true, false, cond, List, [], ◌∷◌, length, map, refl, sym, subst, ◌∙◌, Option, Some, None, arith, eq-eqb, eqb-true}
+use Rattle.std.specs.Prelude.{⊤, find, slice_index_or}
 use Rattle.std.specs.List.{list_any}
-use Rattle.std.proofs.lemmas.Bool.{and_parts, cases_eq}
 use Rattle.std.proofs.lemmas.List.{length-map}
 use Rattle.cct_model.specs.declared.wire.CheckKind.{CheckKind}
 use Rattle.cct_model.specs.declared.wire.CheckKind.TheVariants.{Simple, Crc}
-use Rattle.cct_model.specs.declared.request.Request.{Request}
 use Rattle.cct_model.specs.declared.entry.End.TheVariants as end_of
-use Rattle.cct_model.specs.Message.{crc, spelling}
-use Rattle.cct_model.specs.Request.{data_of}
+use Rattle.cct_model.specs.Message.{crc}
 use Rattle.cct_model.specs.DeviceSet.{addresses_below, all_addresses, has}
-use Rattle.cct_model.specs.Exchange.{after_echo, ask}
 use Rattle.cct_model.specs.Line.{Line, scanned}
-use Rattle.cct_model.specs.Scan.{echoes, answers, is_acknowledged, is_due, next_due, noted, poll_after, poll_due, poll_of, polls, scan_row, scan_tries, set_of, found, listed_in, end_by_row, end_of_scan}
-use Rattle.cct_model.specs.Transcript.{scan_line}
+use Rattle.cct_model.specs.Scan.{echoes, answers, is_acknowledged, is_due, next_due, noted, poll_after, poll_due, polls, scan_row, scan_tries, set_of, found, listed_in, end_by_row, end_of_scan}
+use Rattle.cct_model.proofs.Polls.{length_below}
 use Rattle.cct_text.specs.Written.{IsListed, IsEnd}
 use Rattle.cct_laws.proofs.Said.{IfThere}
 use Rattle.cct_laws.proofs.Bytes.{Bytes, bytes_more}
-
--- the line of a poll
-bytes_same : (xs : List ℕ) → bytes_eq xs xs ≡ true
-bytes_same [] = refl
-bytes_same (x ∷ xs) = rw (eq-eqb x x refl, bytes_same xs) refl
-
-first_byte : (check : CheckKind) (addr : ℕ) (q : Request) → slice_index (ask check addr q) 0 ≡ addr
-unfolding ask spelling
-first_byte Simple addr q = refl
-first_byte Crc addr q = refl
-
-line_by : (sent heard : List ℕ) (addr : ℕ) (b : Bool) → slice_index sent 0 ≡ addr → bytes_eq sent (ask Simple addr (poll_of addr)) ≡ b
-    → scan_line sent heard ≡ cond b (scanned Simple addr (after_echo sent heard)) (scanned Crc addr (after_echo sent heard))
-unfolding scan_line
-line_by sent heard addr b first test = rw (first, test) refl
-
-abbrev all_below : (ℕ → Bool) → ℕ → Bool
-all_below test zero = true
-all_below test (suc n) = test n && all_below test n
-
-below : (test : ℕ → Bool) (n : ℕ) → all_below test n ≡ true → (k : ℕ) → k < n → test k ≡ true
-below test zero e k within = absurd (omega arith)
-below test (suc n) e k within =
-    let both = and_parts (test n) (all_below test n) e in
-    elim (cases_eq k n) [ inl same ↦ rw same both.0 | inr other ↦ below test n both.1 k (omega arith) ]
-
-not_true : (b : Bool) → not b ≡ true → b ≡ false
-not_true true e = absurd cc
-not_true false e = refl
-
-polls_differ : (addr : ℕ) → addr < 256 → bytes_eq (ask Crc addr (poll_of addr)) (ask Simple addr (poll_of addr)) ≡ false
-unfolding ask spelling crc data_of
-polls_differ addr within = not_true _ (below (λ a. not (bytes_eq (ask Crc a (poll_of a)) (ask Simple a (poll_of a)))) 256 refl addr within)
-
-pub poll_line : (check : CheckKind) (addr : ℕ) (heard : List ℕ) → addr < 256 →
-    scan_line (ask check addr (poll_of addr)) heard ≡ scanned check addr (after_echo (ask check addr (poll_of addr)) heard)
-poll_line Simple addr heard within =
-    line_by (ask Simple addr (poll_of addr)) heard addr true (first_byte Simple addr (poll_of addr)) (bytes_same (ask Simple addr (poll_of addr)))
-poll_line Crc addr heard within =
-    line_by (ask Crc addr (poll_of addr)) heard addr false (first_byte Crc addr (poll_of addr)) (polls_differ addr within)
 
 -- what holds of an address of a device in the lines of a scan: its polls under the simple check go before any answer, and
 -- there is one of them at the most
@@ -199,10 +155,6 @@ fine_more check addr rest since asked fine =
     record { once = λ a device. once_more check a addr rest since device asked.asks (fine.once a device); small = asked.small }
 
 -- the list
-length_below : (n : ℕ) → length (addresses_below n) ≡ n
-length_below zero = refl
-length_below (suc n) = length-append (addresses_below n) (n ∷ []) ∙ omega (arith, length_below n)
-
 set_long : (test : ℕ → Bool) → length (set_of test).members ≡ 256
 unfolding all_addresses
 set_long test = length-map (addresses_below 256) test ∙ length_below 256

@@ -1,295 +1,218 @@
--- How each line keeps what holds of an acceptor.
-use Rattle.std.proofs.Common.{◌≡◌, ℕ, zero, ◌+◌, ◌≤◌, eqb, false, List, [], ◌∷◌, length, refl, ap, sym, ◌∙◌, subst, suc, Option, Some, None, arith, ne_eqb}
+-- What holds of an acceptor after every step, and how pieces, commands, ends and exchanges keep it.
+use Rattle.std.proofs.Common.{◌≡◌, ℕ, suc, ◌≤◌, ◌==◌, cond, Bool, true, false, List, ◌∷◌, length, refl, sym, subst, Option, Some, None, arith}
 use Rattle.std.specs.Prelude.{⊤}
-use Rattle.std.proofs.lemmas.List.{nil_from_length}
-use Rattle.cct_model.specs.declared.coin.Pair.{Pair}
 use Rattle.cct_model.specs.declared.coin.Coin.{Coin}
-use Rattle.cct_model.specs.declared.coin.Credits.{Credits}
+use Rattle.cct_model.specs.declared.device.DeviceSetup.{DeviceSetup}
 use Rattle.cct_model.specs.declared.request.Request.{Request}
-use Rattle.cct_model.specs.declared.request.Request.TheVariants.{ReadCredits}
+use Rattle.cct_model.specs.declared.request.Request.TheVariants.{ResetDevice, SetMask, SetMaster, SetPath, SetDefault, Dispense}
+use Rattle.cct_model.specs.declared.record.Record.{Record}
+use Rattle.cct_model.specs.declared.record.EpochState.{EpochState}
+use Rattle.cct_model.specs.declared.record.EpochState.TheVariants.{Idle, Running}
 use Rattle.cct_model.specs.declared.command.Command.{Command}
 use Rattle.cct_model.specs.declared.command.Command.TheVariants as command
 use Rattle.cct_model.specs.declared.entry.End.{End}
-use Rattle.cct_model.specs.declared.entry.End.TheVariants.{Clean, Posted}
+use Rattle.cct_model.specs.declared.entry.End.TheVariants.{Clean}
 use Rattle.cct_model.specs.Reply.{Reply}
-use Rattle.cct_model.specs.Line.{Line, accepted, inhibited, alien, exchange, put, taken, ended}
-use Rattle.cct_model.specs.Job.{Job, free, works, job, with_line, done, recorded, credits_read}
-use Rattle.cct_model.specs.Reading.{coins_among, distance}
-use Rattle.cct_model.specs.Acceptor.{counter}
-use Rattle.cct_model.specs.Claims.{coins, reading, mark, part, OrderAt, CoverAt, arrivals, base, Near, PaceAt}
-use Rattle.cct_laws.proofs.Counters.{counter_same}
-use Rattle.cct_laws.proofs.World.{Known, Settled, Sound, Held, credits_at, read_line, new_by, record_put, new_and_old, new_near, new_few, part_new, mark_most, put_in_order, put_covers}
+use Rattle.cct_model.specs.History.{Met, heard}
+use Rattle.cct_model.specs.History as met
+use Rattle.cct_model.specs.Acceptor.{accepts, path_of}
+use Rattle.cct_model.specs.Device.{reply_of}
+use Rattle.cct_model.specs.Line.{Line, accepted, inhibited, exchange, taken, ended}
+use Rattle.cct_model.specs.Line as line
+use Rattle.cct_model.specs.Job.{works, job, with_line, is_once, done, epoch, credits_read, judged_in, end_of, end_of_tries, sends, puts}
+use Rattle.cct_model.specs.Legal.{is_played_command, start_refusal, running_refusal}
+use Rattle.cct_model.specs.Claims.{coins, mark, base, OrderAt, CoverAt, PaceAt, InOrder, Covers, Pace}
+use Rattle.cct_laws.specs.Kept.{Fate, unheard, silenced, answered, with_ended, IsTaken}
+use Rattle.cct_laws.proofs.World.{World, world, On, on_coin, on_piece, on_reset, on_master, on_path, on_default, on_nothing}
+use Rattle.cct_laws.proofs.Fits.{Book, book, StateOf, IsIdle, IsRunning, FitsFor, Fits, state_on, for_on, fits_on}
 
--- a round before its reading, or with a reading that isn't put yet
-pub data Stand (events : List Pair) (lines since : List Line) : Type 0 where
-  begins : credits_read since ≡ None → done since ≡ zero → Stand events lines since
-  holds : (credits : Credits) → credits_read since ≡ Some credits → done since ≡ suc zero → Held events lines credits → eqb (new_by lines credits) 0 ≡ false → Stand events lines since
-
--- what a job has to have: a round stands so, and other jobs read no credits
-abbrev pub StandFor : Command → List Pair → List Line → List Line → Type 0
-StandFor (command.Round addr) events lines since = Stand events lines since
-StandFor c events lines since = ⊤
-
-abbrev pub Stands : List Pair → List Line → Job → Type 0
-Stands events lines free = ⊤
-Stands events lines (works c since) = StandFor c events lines since
+-- what holds after every line
+pub record Sound (past : List Met) (lines : List Line) : Type 0 where
+  pub in_order : InOrder lines
+  pub covers : Pace lines → Covers lines
+  pub marked : mark lines ≤ length (coins lines)
+  pub state : StateOf (world past lines) (mark lines) (base lines) (epoch lines)
 
 -- what holds after every step
-pub record Keeps (events : List Pair) (lines : List Line) : Type 0 where
-  pub sound : Sound events lines
-  pub stands : Stands events lines (job lines)
+pub record Keeps (past : List Met) (lines : List Line) : Type 0 where
+  pub sound : Sound past lines
+  pub fits : Fits (world past lines) (book lines) (job lines)
 
--- a line that is no item
-pub record IsNoItem (lines : List Line) (line : Line) : Type 0 where
-  pub recorded_stays : recorded (line ∷ lines) ≡ recorded lines
-  pub mark_stays : mark (line ∷ lines) ≡ mark lines
-  pub base_stays : base (line ∷ lines) ≡ base lines
-  pub orders : OrderAt lines line
-  pub covers : CoverAt lines line
-
--- a line that is no piece
-pub record IsNoPiece (lines : List Line) (line : Line) : Type 0 where
-  pub coins_stay : coins (line ∷ lines) ≡ coins lines
-  pub arrivals_stay : arrivals (line ∷ lines) ≡ arrivals lines
-
--- a line of a piece that fell in, and its event
-pub record Arrives (pair : Pair) (line : Line) : Type 0 where
-  pub grows : (events : List Pair) (lines : List Line) → coins lines ≡ coins_among events → coins (line ∷ lines) ≡ coins_among (pair ∷ events)
-  pub counts : (lines : List Line) → arrivals (line ∷ lines) ≡ suc (arrivals lines)
-  pub no_item : (lines : List Line) → IsNoItem lines line
-  pub reading_stays : (lines : List Line) → reading (line ∷ lines) ≡ reading lines
-  pub job_stays : (lines : List Line) → job (line ∷ lines) ≡ job lines
-
-pub settled_line : (events : List Pair) (lines : List Line) (line : Line) → IsNoItem lines line → Settled events lines → Settled events (line ∷ lines)
-settled_line events lines line no_item settled = record {
-  new = settled.new;
-  old = settled.old;
-  split = settled.split;
-  counted = no_item.recorded_stays ∙ settled.counted;
-  marked = no_item.mark_stays ∙ settled.marked;
-  based = rw no_item.base_stays settled.based;
-}
-
--- one event more is new
-pub settled_event : (pair : Pair) (events : List Pair) (lines : List Line) → Settled events lines → Settled (pair ∷ events) lines
-settled_event pair events lines settled = record {
-  new = pair ∷ settled.new;
-  old = settled.old;
-  split = ap (λ es. pair ∷ es) settled.split;
-  counted = settled.counted;
-  marked = settled.marked;
-  based = settled.based;
-}
-
--- what a line has to show that is no piece
-pub sound_line : (events : List Pair) (lines : List Line) (line : Line) → IsNoPiece lines line → Settled events (line ∷ lines) →
-    OrderAt lines line → (PaceAt lines line → CoverAt lines line) → Sound events lines → Sound events (line ∷ lines)
-sound_line events lines line no_piece settled order cover sound = record {
-  known = record { coins_are = no_piece.coins_stay ∙ sound.known.coins_are; arrivals_are = no_piece.arrivals_stay ∙ sound.known.arrivals_are };
-  settled = settled;
+-- what a line has to show
+pub sound_line : (past now : List Met) (lines : List Line) (line : Line) → OrderAt lines line → (PaceAt lines line → CoverAt lines line) →
+    mark (line ∷ lines) ≤ length (coins (line ∷ lines)) → StateOf (world now (line ∷ lines)) (mark (line ∷ lines)) (base (line ∷ lines)) (epoch (line ∷ lines)) →
+    Sound past lines → Sound now (line ∷ lines)
+sound_line past now lines line order cover marked state sound = record {
   in_order = (order, sound.in_order);
   covers = λ pace. (cover pace.0, sound.covers pace.1);
+  marked = marked;
+  state = state;
 }
-
--- a line that is neither
-pub quiet_line : (events : List Pair) (lines : List Line) (line : Line) → IsNoPiece lines line → IsNoItem lines line → Sound events lines → Sound events (line ∷ lines)
-quiet_line events lines line no_piece no_item sound =
-    sound_line events lines line no_piece (settled_line events lines line no_item sound.settled) no_item.orders (λ _. no_item.covers) sound
 
 -- a piece
 
-sound_piece : (pair : Pair) (line : Line) (events : List Pair) (lines : List Line) → Arrives pair line → Sound events lines → Sound (pair ∷ events) (line ∷ lines)
-sound_piece pair line events lines is sound = record {
-  known = record { coins_are = is.grows events lines sound.known.coins_are; arrivals_are = is.counts lines ∙ ap suc sound.known.arrivals_are };
-  settled = settled_line (pair ∷ events) lines line (is.no_item lines) (settled_event pair events lines sound.settled);
-  in_order = ((is.no_item lines).orders, sound.in_order);
-  covers = λ pace. ((is.no_item lines).covers, sound.covers pace.1);
-}
+record IsPiece (lines : List Line) (line : Line) : Type 0 where
+  orders : OrderAt lines line
+  covers : CoverAt lines line
+  book_stays : book (line ∷ lines) ≡ book lines
+  job_stays : job (line ∷ lines) ≡ job lines
 
--- a held reading stays held while pieces come
-held_piece : (pair : Pair) (line : Line) (events : List Pair) (lines : List Line) (credits : Credits) → Arrives pair line → Held events lines credits → Held (pair ∷ events) (line ∷ lines) credits
-held_piece pair line events lines credits is held = record {
-  later = pair ∷ held.later;
-  read = held.read;
-  split = ap (λ es. pair ∷ es) held.split;
-  known = subst (Known held.read) (sym (is.reading_stays lines)) held.known;
-  settled = settled_line held.read lines line (is.no_item lines) held.settled;
-  credits_are = held.credits_are;
-}
+keeps_piece : (past now : List Met) (lines : List Line) (line : Line) → IsPiece lines line → On (world past lines) (world now (line ∷ lines)) → Keeps past lines → Keeps now (line ∷ lines)
+keeps_piece past now lines line piece on keeps =
+    let v = world now (line ∷ lines) in
+    let same = sym piece.book_stays in
+    let state = state_on (world past lines) v (mark lines) (base lines) (epoch lines) on keeps.sound.state in
+    let fits = fits_on (world past lines) v (book lines) (job lines) on keeps.fits in
+    record {
+      sound = sound_line past now lines line piece.orders (λ _. piece.covers)
+          (subst (λ (b : Book). b.mark ≤ length (coins (line ∷ lines))) same (omega (arith, keeps.sound.marked, on.longer)))
+          (subst (λ (b : Book). StateOf v b.mark b.base b.epoch) same state) keeps.sound;
+      fits = subst (Fits v (book (line ∷ lines))) (sym piece.job_stays) (subst (λ (b : Book). Fits v b (job lines)) same fits);
+    }
 
-stand_piece : (pair : Pair) (line : Line) (events : List Pair) (lines since : List Line) → Arrives pair line → Stand events lines since → Stand (pair ∷ events) (line ∷ lines) since
-stand_piece pair line events lines since is (begins none zero_done) = begins none zero_done
-stand_piece pair line events lines since is (holds credits read one_done held some) =
-    holds credits read one_done (held_piece pair line events lines credits is held) (rw (is.no_item lines).recorded_stays some)
+pub keeps_accepted : (past : List Met) (lines : List Line) (place : ℕ) → 1 ≤ place → accepts past place ≡ true →
+    Keeps past lines → Keeps (met.coin place ∷ past) (accepted (record { place = place; path = path_of past place }) ∷ lines)
+keeps_accepted past lines place has_place is keeps =
+    let w = world past lines in
+    let coin : Coin = record { place = place; path = path_of past place } in
+    let on = subst (λ b. On w (record { events = cond b (record { a = place; b = path_of past place }) (record { a = 0; b = 2 }) ∷ w.events; settings = w.settings; coins = coin ∷ w.coins; arrivals = suc w.arrivals }))
+    (sym is) (on_coin w coin has_place is) in
+    keeps_piece past (met.coin place ∷ past) lines (accepted coin) (record { orders = tt; covers = tt; book_stays = refl; job_stays = refl }) on keeps
 
-stand_for_piece : (c : Command) (pair : Pair) (line : Line) (events : List Pair) (lines since : List Line) → Arrives pair line → StandFor c events lines since → StandFor c (pair ∷ events) (line ∷ lines) since
-stand_for_piece (command.Round addr) pair line events lines since is stand = stand_piece pair line events lines since is stand
-stand_for_piece c pair line events lines since is stand = tt
+pub keeps_inhibited : (past : List Met) (lines : List Line) (place : ℕ) → accepts past place ≡ false →
+    Keeps past lines → Keeps (met.coin place ∷ past) (inhibited place ∷ lines)
+keeps_inhibited past lines place is keeps =
+    let w = world past lines in
+    let on = subst (λ b. On w (record { events = cond b (record { a = place; b = path_of past place }) (record { a = 0; b = 2 }) ∷ w.events; settings = w.settings; coins = w.coins; arrivals = suc w.arrivals }))
+    (sym is) (on_piece w 2) in
+    keeps_piece past (met.coin place ∷ past) lines (inhibited place) (record { orders = tt; covers = tt; book_stays = refl; job_stays = refl }) on keeps
 
-stands_piece : (pair : Pair) (line : Line) (events : List Pair) (lines : List Line) (at_work : Job) → Arrives pair line → Stands events lines at_work → Stands (pair ∷ events) (line ∷ lines) at_work
-stands_piece pair line events lines free is stands = tt
-stands_piece pair line events lines (works c since) is stands = stand_for_piece c pair line events lines since is stands
+pub keeps_alien : (past : List Met) (lines : List Line) → Keeps past lines → Keeps (met.alien ∷ past) (line.alien ∷ lines)
+keeps_alien past lines keeps =
+    keeps_piece past (met.alien ∷ past) lines line.alien (record { orders = tt; covers = tt; book_stays = refl; job_stays = refl }) (on_piece (world past lines) 1) keeps
 
-pub keeps_piece : (pair : Pair) (line : Line) (events : List Pair) (lines : List Line) → Arrives pair line → Keeps events lines → Keeps (pair ∷ events) (line ∷ lines)
-keeps_piece pair line events lines is keeps = record {
-  sound = sound_piece pair line events lines is keeps.sound;
-  stands = subst (Stands (pair ∷ events) (line ∷ lines)) (sym (is.job_stays lines)) (stands_piece pair line events lines (job lines) is keeps.stands);
-}
+pub keeps_reset : (past : List Met) (lines : List Line) → Keeps past lines → Keeps (met.reset ∷ past) (line.reset ∷ lines)
+keeps_reset past lines keeps =
+    keeps_piece past (met.reset ∷ past) lines line.reset (record { orders = tt; covers = tt; book_stays = refl; job_stays = refl }) (on_reset (world past lines)) keeps
 
--- the three kinds of pieces
-pub arrives_accepted : (coin : Coin) → 1 ≤ coin.place → Arrives (record { a = coin.place; b = coin.path }) (accepted coin)
-arrives_accepted coin has_place = record {
-  grows = λ events lines known. rw (ne_eqb coin.place 0 (omega arith)) (ap (λ cs. coin ∷ cs) known);
-  counts = λ lines. refl;
-  no_item = λ lines. record { recorded_stays = refl; mark_stays = refl; base_stays = refl; orders = tt; covers = tt };
-  reading_stays = λ lines. refl;
-  job_stays = λ lines. refl;
-}
-
-pub arrives_inhibited : (place : ℕ) → Arrives (record { a = 0; b = 2 }) (inhibited place)
-arrives_inhibited place = record {
-  grows = λ events lines known. known;
-  counts = λ lines. refl;
-  no_item = λ lines. record { recorded_stays = refl; mark_stays = refl; base_stays = refl; orders = tt; covers = tt };
-  reading_stays = λ lines. refl;
-  job_stays = λ lines. refl;
-}
-
-pub arrives_alien : Arrives (record { a = 0; b = 1 }) alien
-arrives_alien = record {
-  grows = λ events lines known. known;
-  counts = λ lines. refl;
-  no_item = λ lines. record { recorded_stays = refl; mark_stays = refl; base_stays = refl; orders = tt; covers = tt };
-  reading_stays = λ lines. refl;
-  job_stays = λ lines. refl;
-}
-
--- a command is taken
-
-no_item_taken : (c : Command) (lines : List Line) → IsNoItem lines (taken c)
-no_item_taken c lines = record { recorded_stays = refl; mark_stays = refl; base_stays = refl; orders = tt; covers = tt }
-
-pub begun_stand : (c : Command) (events : List Pair) (lines : List Line) → StandFor c events lines []
-begun_stand (command.Round addr) events lines = begins refl refl
-begun_stand c events lines = tt
-
-pub keeps_taken : (c : Command) (events : List Pair) (lines : List Line) → job (taken c ∷ lines) ≡ works c [] → Keeps events lines → Keeps events (taken c ∷ lines)
-keeps_taken c events lines begun keeps = record {
-  sound = quiet_line events lines (taken c) (record { coins_stay = refl; arrivals_stay = refl }) (no_item_taken c lines) keeps.sound;
-  stands = subst (Stands events (taken c ∷ lines)) (sym begun) (begun_stand c events (taken c ∷ lines));
-}
-
--- an exchange that reads no credits
-
-no_item_exchange : (asked : Option Request) (got : Option Reply) (lines : List Line) → IsNoItem lines (exchange asked got)
-no_item_exchange asked got lines = record { recorded_stays = refl; mark_stays = refl; base_stays = refl; orders = tt; covers = tt }
-
-sound_exchange : (events : List Pair) (lines : List Line) (asked : Option Request) (got : Option Reply) → Sound events lines → Sound events (exchange asked got ∷ lines)
-sound_exchange events lines asked got sound =
-    quiet_line events lines (exchange asked got) (record { coins_stay = refl; arrivals_stay = refl }) (no_item_exchange asked got lines) sound
-
--- a job of a round isn't answered
-pub keeps_unheard : (addr : ℕ) (events : List Pair) (lines since : List Line) → job lines ≡ works (command.Round addr) since → credits_read since ≡ None → done since ≡ zero →
-    Keeps events lines → Keeps events (exchange (Some ReadCredits) None ∷ lines)
-keeps_unheard addr events lines since is_job none zero_done keeps = record {
-  sound = sound_exchange events lines (Some ReadCredits) None keeps.sound;
-  stands =
-      subst (λ j. Stands events (exchange (Some ReadCredits) None ∷ lines) (with_line (exchange (Some ReadCredits) None) j)) (sym is_job)
-      (begins none zero_done);
-}
-
--- a job that is no round makes an exchange
-pub keeps_other : (c : Command) (events : List Pair) (lines since : List Line) (asked : Option Request) (got : Option Reply) → job lines ≡ works c since → ((es : List Pair) (ls ss : List Line) → StandFor c es ls ss) →
-    Keeps events lines → Keeps events (exchange asked got ∷ lines)
-keeps_other c events lines since asked got is_job loose keeps = record {
-  sound = sound_exchange events lines asked got keeps.sound;
-  stands =
-      subst (λ j. Stands events (exchange asked got ∷ lines) (with_line (exchange asked got) j)) (sym is_job)
-      (loose events (exchange asked got ∷ lines) (exchange asked got ∷ since));
-}
+-- the end of a job
 
 -- an end but a clean one
 abbrev pub IsOtherEnd : End → Type 0
 IsOtherEnd Clean = ⊥
 IsOtherEnd end = ⊤
 
-quiet_end : (events : List Pair) (lines : List Line) (end : End) → IsOtherEnd end → Sound events lines → Sound events (ended end ∷ lines)
-quiet_end events lines Clean other sound = absurd other
-quiet_end events lines end other sound =
-    quiet_line events lines (ended end) (record { coins_stay = refl; arrivals_stay = refl })
-    (record { recorded_stays = refl; mark_stays = refl; base_stays = refl; orders = tt; covers = tt }) sound
+abbrev pub IfOther : Option End → Type 0
+IfOther None = ⊤
+IfOther (Some end) = IsOtherEnd end
 
-pub keeps_ended : (events : List Pair) (lines : List Line) (end : End) → IsOtherEnd end → Keeps events lines → Keeps events (ended end ∷ lines)
-keeps_ended events lines end other keeps = record { sound = quiet_end events lines end other keeps.sound; stands = tt }
+sound_ended : (past : List Met) (lines : List Line) (end : End) → IsOtherEnd end → Sound past lines → Sound past (ended end ∷ lines)
+sound_ended past lines Clean other sound = absurd other
+sound_ended past lines end other sound = sound_line past past lines (ended end) tt (λ _. tt) sound.marked sound.state sound
 
--- an answered reading of the credits
-sound_read : (events : List Pair) (lines : List Line) (credits : Credits) → Sound events lines → Sound events (read_line credits ∷ lines)
-sound_read events lines credits sound = sound_exchange events lines _ _ sound
+pub keeps_ended : (past : List Met) (lines : List Line) (end : End) → IsOtherEnd end → Sound past lines → Keeps past (ended end ∷ lines)
+keeps_ended past lines end other sound = record { sound = sound_ended past lines end other sound; fits = tt }
 
--- a reading that shows new events, which the job then holds
-pub keeps_read : (addr : ℕ) (events : List Pair) (lines since : List Line) → job lines ≡ works (command.Round addr) since → done since ≡ zero → eqb (new_by lines (credits_at events)) 0 ≡ false →
-    Keeps events lines → Keeps events (read_line (credits_at events) ∷ lines)
-keeps_read addr events lines since is_job zero_done some keeps =
-    let line = read_line (credits_at events) in
-    let sound = sound_read events lines (credits_at events) keeps.sound in
-    let held : Held events (line ∷ lines) (credits_at events) =
-    record { later = []; read = events; split = refl; known = keeps.sound.known; settled = sound.settled; credits_are = refl } in
-    let stand : Stand events (line ∷ lines) (line ∷ since) = holds (credits_at events) refl (ap suc zero_done) held some in
-    record { sound = sound; stands = subst (λ j. Stands events (line ∷ lines) (with_line line j)) (sym is_job) stand }
+pub keeps_with_ended : (past : List Met) (lines : List Line) (end : Option End) → IfOther end → Keeps past lines → Keeps past (with_ended end lines)
+keeps_with_ended past lines None other keeps = keeps
+keeps_with_ended past lines (Some end) other keeps = keeps_ended past lines end other keeps.sound
 
--- where a reading shows no event, none is new
-clean_covers : (events : List Pair) (lines : List Line) (settled : Settled events lines) → new_by lines (credits_at events) ≡ 0 → Known events (reading lines) → Near lines → part lines ≡ []
-clean_covers events lines settled none known near =
-    let all = new_near events lines settled (new_few events lines settled known near) in
-    part_new events lines settled known ∙ ap coins_among (nil_from_length settled.new (sym all ∙ none))
+-- a command is taken
 
--- and the counter is the recorded one
-clean_settled : (events : List Pair) (lines : List Line) (settled : Settled events lines) → new_by lines (credits_at events) ≡ 0 → Known events (reading lines) → Settled events (ended Clean ∷ lines)
-clean_settled events lines settled none known =
-    let whole = new_and_old events lines settled in
-    let none_by : distance (counter (length settled.old)) (counter (length settled.new + length settled.old)) ≡ 0 = rw (← settled.counted, ← whole) none in
-    record {
-      new = [];
-      old = events;
-      split = refl;
-      counted = settled.counted ∙ counter_same (length settled.new) (length settled.old) none_by ∙ ap counter (sym whole);
-      marked = ap length known.coins_are;
-      based = omega (arith, settled.based, whole);
-    }
+idle_taken : (mask : ℕ) (d : DeviceSetup) (state : EpochState) → start_refusal mask d state ≡ None → IsIdle state
+idle_taken mask d Idle fine = tt
+idle_taken mask d (Running running counter) fine = absurd cc
 
-sound_clean : (events : List Pair) (lines : List Line) → new_by lines (credits_at events) ≡ 0 → Known events (reading lines) → Sound events lines → Sound events (ended Clean ∷ lines)
-sound_clean events lines none known sound =
-    sound_line events lines (ended Clean) (record { coins_stay = refl; arrivals_stay = refl })
-    (clean_settled events lines sound.settled none known)
-    (mark_most events lines sound.settled known) (clean_covers events lines sound.settled none known) sound
+running_taken : (d : DeviceSetup) (state : EpochState) → running_refusal d state ≡ None → IsRunning state
+running_taken d Idle fine = absurd cc
+running_taken d (Running mask counter) fine = tt
 
--- a reading that shows none ends the job clean
-pub keeps_clean : (events : List Pair) (lines : List Line) → new_by lines (credits_at events) ≡ 0 → Keeps events lines → Keeps events (ended Clean ∷ read_line (credits_at events) ∷ lines)
-keeps_clean events lines none keeps =
-    let sound = sound_read events lines (credits_at events) keeps.sound in
-    record { sound = sound_clean events (read_line (credits_at events) ∷ lines) none keeps.sound.known sound; stands = tt }
+taken_fits : (d : DeviceSetup) (w : World) (lines : List Line) (c : Command) → is_played_command c ≡ true → IsTaken d c (epoch lines) → Fits w (book lines) (job (taken c ∷ lines))
+taken_fits d w lines (command.Start addr mask) played fine = idle_taken mask d (epoch lines) fine
+taken_fits d w lines (command.Round addr) played fine = running_taken d (epoch lines) fine
+taken_fits d w lines (command.Stop addr) played fine = running_taken d (epoch lines) fine
+taken_fits d w lines (command.Halt addr) played fine = absurd cc
+taken_fits d w lines c played fine = tt
 
--- the old events are then those that were read
-put_settled : (addr : ℕ) (events : List Pair) (lines : List Line) (credits : Credits) → Held events lines credits → Settled events (put (record_put addr lines credits) ∷ lines)
-put_settled addr events lines credits held = record {
-  new = held.later;
-  old = held.read;
-  split = held.split;
-  counted = ap (λ c. c.counter) held.credits_are;
-  marked = ap length held.known.coins_are;
-  based = omega (arith, held.known.arrivals_are);
+pub keeps_taken : (d : DeviceSetup) (past : List Met) (lines : List Line) (c : Command) → is_played_command c ≡ true → IsTaken d c (epoch lines) →
+    Keeps past lines → Keeps past (taken c ∷ lines)
+keeps_taken d past lines c played fine keeps = record {
+  sound = sound_line past past lines (taken c) tt (λ _. tt) keeps.sound.marked keeps.sound.state keeps.sound;
+  fits = taken_fits d (world past lines) lines c played fine;
 }
 
-sound_put : (addr : ℕ) (events : List Pair) (lines : List Line) (credits : Credits) → Held events lines credits → Sound events lines → Sound events (put (record_put addr lines credits) ∷ lines)
-sound_put addr events lines credits held sound =
-    let back = sym held.credits_are in
-    sound_line events lines (put (record_put addr lines credits)) (record { coins_stay = refl; arrivals_stay = refl })
-    (put_settled addr events lines credits held)
-    (subst (λ c. OrderAt lines (put (record_put addr lines c))) back (put_in_order addr held.read lines held.settled held.known))
-    (λ near. subst (λ c. CoverAt lines (put (record_put addr lines c))) back (put_covers addr held.read lines held.settled held.known near))
-    sound
+-- an exchange
 
--- a held reading is put, which ends the job
-pub keeps_put : (addr : ℕ) (events : List Pair) (lines : List Line) (credits : Credits) → Held events lines credits → Keeps events lines → Keeps events (ended Posted ∷ put (record_put addr lines credits) ∷ lines)
-keeps_put addr events lines credits held keeps =
-    record { sound = quiet_end events _ Posted tt (sound_put addr events lines credits held keeps.sound); stands = tt }
+pub sound_exchange : (past now : List Met) (lines : List Line) (asked : Option Request) (got : Option Reply) → On (world past lines) (world now lines) →
+    Sound past lines → Sound now (exchange asked got ∷ lines)
+sound_exchange past now lines asked got on sound =
+    sound_line past now lines (exchange asked got) tt (λ _. tt) sound.marked
+    (state_on (world past lines) (world now lines) (mark lines) (base lines) (epoch lines) on sound.state) sound
+
+-- what a job needs after an exchange
+abbrev pub FitsBehind : List Met → List Line → Command → List Line → Type 0
+FitsBehind now lines c since = FitsFor (world now lines) (book lines) c (done since) (credits_read since) (judged_in c since (epoch lines))
+
+pub keeps_exchange : (past now : List Met) (lines : List Line) (c : Command) (since : List Line) (asked : Option Request) (got : Option Reply) → job lines ≡ works c since →
+    On (world past lines) (world now lines) → Sound past lines → FitsBehind now (exchange asked got ∷ lines) c (exchange asked got ∷ since) → Keeps now (exchange asked got ∷ lines)
+keeps_exchange past now lines c since asked got is_job on sound fits = record {
+  sound = sound_exchange past now lines asked got on sound;
+  fits = subst (λ j. Fits (world now lines) (book (exchange asked got ∷ lines)) (with_line (exchange asked got) j)) (sym is_job) fits;
+}
+
+pub fits_at : (past : List Met) (lines : List Line) (c : Command) (since : List Line) → job lines ≡ works c since → Keeps past lines → FitsBehind past lines c since
+fits_at past lines c since is_job keeps = subst (Fits (world past lines) (book lines)) is_job keeps.fits
+
+-- what comes of an exchange
+abbrev pub KeepsAsk : DeviceSetup → List Met → List Line → Command → List Line → Request → Option Request → Option Reply → Type 0
+KeepsAsk d past lines c since q asked got =
+    Keeps (heard asked ∷ past) (with_ended (end_of d c (exchange (Some q) got) since (epoch lines)) (exchange (Some q) got ∷ lines))
+
+pub other_if : (b : Bool) (end : End) → IsOtherEnd end → IfOther (cond b (Some end) None)
+other_if true end other = other
+other_if false end other = tt
+
+tries_end : (failed : ℕ) → IfOther (end_of_tries failed)
+tries_end failed = other_if (failed == 3) _ tt
+
+-- an exchange without its reply is tried again, or ends the job
+keeps_failed : (d : DeviceSetup) (past now : List Met) (lines : List Line) (c : Command) (since : List Line) (q : Request) → is_once q ≡ false → job lines ≡ works c since →
+    On (world past lines) (world now lines) → Keeps past lines →
+    Keeps now (with_ended (end_of d c (exchange (Some q) None) since (epoch lines)) (exchange (Some q) None ∷ lines))
+keeps_failed d past now lines c since (SetMask mask) many is_job on keeps = absurd cc
+keeps_failed d past now lines c since (Dispense serial count) many is_job on keeps = absurd cc
+keeps_failed d past now lines c since q many is_job on keeps =
+    keeps_with_ended now (exchange (Some q) None ∷ lines) _ (tries_end _)
+    (keeps_exchange past now lines c since (Some q) None is_job on keeps.sound
+    (for_on (world past lines) (world now lines) (book lines) c (done since) (credits_read since) (judged_in c since (epoch lines)) on (fits_at past lines c since is_job keeps)))
+
+-- a request that opens no place
+abbrev pub IsMild : Request → Type 0
+IsMild (SetMask mask) = ⊥
+IsMild (SetMaster value) = value ≡ 0
+IsMild q = ⊤
+
+pub on_heard : (past : List Met) (lines : List Line) (q : Request) → IsMild q → On (world past lines) (world (heard (Some q) ∷ past) lines)
+on_heard past lines ResetDevice mild = on_reset (world past lines)
+on_heard past lines (SetMask mask) mild = absurd mild
+on_heard past lines (SetMaster value) mild = subst (λ n. On (world past lines) (world (heard (Some (SetMaster n)) ∷ past) lines)) (sym mild) (on_master (world past lines))
+on_heard past lines (SetPath place path) mild = on_path (world past lines) place path
+on_heard past lines (SetDefault path) mild = on_default (world past lines) path
+on_heard past lines q mild = on_nothing (world past lines)
+
+-- so what is left to show is what the reply brings
+pub by_fate : (d : DeviceSetup) (past : List Met) (lines : List Line) (c : Command) (since : List Line) (q : Request) (asked : Option Request) (got : Option Reply) →
+    is_once q ≡ false → IsMild q → job lines ≡ works c since → Keeps past lines →
+    ((y : Reply) → reply_of d past q ≡ Some y → KeepsAsk d past lines c since q (Some q) (Some y)) → Fate d past q asked got → KeepsAsk d past lines c since q asked got
+by_fate d past lines c since q asked got many mild is_job keeps replied unheard =
+    keeps_failed d past (heard None ∷ past) lines c since q many is_job (on_nothing (world past lines)) keeps
+by_fate d past lines c since q asked got many mild is_job keeps replied silenced =
+    keeps_failed d past (heard (Some q) ∷ past) lines c since q many is_job (on_heard past lines q mild) keeps
+by_fate d past lines c since q asked got many mild is_job keeps replied (answered y gives) = replied y gives
+
+-- a row tells its request or its record
+pub request_is : (q r : Request) → sends q ≡ sends r → q ≡ r
+request_is q r row = cc
+
+pub entry_is : (a b : Record) → puts a ≡ puts b → a ≡ b
+entry_is a b row = cc

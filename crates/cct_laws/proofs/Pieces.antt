@@ -1,21 +1,21 @@
 -- What a piece asks of a device: its first byte tells whom it is for, and its fourth is its header.
-use Rattle.std.proofs.Common.{◌≡◌, ◌≢◌, ℕ, ◌==◌, cond, true, false, Bool, List, [], ◌∷◌, slice_index, refl, ap, sym, ◌∙◌, Option, Some, None, option_and_then}
+use Rattle.std.proofs.Common.{◌≡◌, ◌≢◌, ℕ, ◌==◌, cond, true, false, Bool, List, [], ◌∷◌, slice_index, refl, ap, sym, ◌∙◌, subst, Option, Some, None, option_and_then, eq-eqb}
 use Rattle.std.proofs.lemmas.Bool.{ne_eqb}
 use Rattle.cct_model.specs.declared.wire.CheckKind.{CheckKind}
 use Rattle.cct_model.specs.declared.wire.CheckKind.TheVariants.{Simple, Crc}
 use Rattle.cct_model.specs.declared.device.DeviceSetup.{DeviceSetup}
-use Rattle.cct_model.specs.declared.coin.Pair.{Pair}
 use Rattle.cct_model.specs.declared.request.Request.{Request}
-use Rattle.cct_model.specs.declared.request.Request.TheVariants.{AddressPoll, ResetDevice}
+use Rattle.cct_model.specs.declared.request.Request.TheVariants.{AddressPoll, SimplePoll}
 use Rattle.cct_model.specs.declared.command.WireFault.{WireFault}
 use Rattle.cct_model.specs.declared.command.WireFault.TheVariants as fault
 use Rattle.cct_model.specs.Message.{Message, message, spelling}
 use Rattle.cct_model.specs.Request.{header_of, request_of}
-use Rattle.cct_model.specs.History.{unless_reset}
 use Rattle.cct_model.specs.Exchange.{ask, asks_of, asked_of, to_one, to_all}
+use Rattle.cct_model.specs.Scan.{poll_of}
 use Rattle.cct_model.specs.Transcript.{heard_by_devices}
 use Rattle.cct_model.proofs.Requests.{request_header}
 use Rattle.cct_laws.specs.Honest.{IsNoMessage, IsHonestFault}
+use Rattle.cct_laws.specs.Kept.{IsForOthers}
 
 passed : (fits : Bool) (x m : Message) → cond fits (Some x) None ≡ Some m → x ≡ m
 passed true x m found = cc
@@ -73,42 +73,53 @@ pub damaged_asks : (d : DeviceSetup) (piece : List ℕ) → IsNoMessage piece �
 unfolding asks_of
 damaged_asks d piece none = ap (option_and_then (asked_of d.addr)) (none_under d.kind piece none)
 
--- a piece asks for a reset by its header alone
-to_one_reset : (a : Option Request) → to_one a ≡ Some ResetDevice → a ≡ Some ResetDevice
-to_one_reset None e = e
-to_one_reset (Some AddressPoll) e = absurd cc
-to_one_reset a e = e
+-- an honest wire brings a device nothing of what is sent to another
+pub asked_elsewhere : (d : DeviceSetup) (f : WireFault) (sent : List ℕ) → IsHonestFault f sent → slice_index sent 0 ≢ d.addr → slice_index sent 0 ≢ 0 → asks_of d (heard_by_devices f sent) ≡ None
+asked_elsewhere d fault.Clear sent honest other some = asks_nothing d sent other some
+asked_elsewhere d (fault.DevicesHear piece) sent honest other some = damaged_asks d piece honest
+asked_elsewhere d (fault.HostHears piece) sent honest other some = asks_nothing d sent other some
+asked_elsewhere d (fault.WholeHeard piece) sent honest other some = asks_nothing d sent other some
 
-to_all_reset : (a : Option Request) → to_all a ≡ Some ResetDevice → a ≡ Some ResetDevice
-to_all_reset None e = e
-to_all_reset (Some AddressPoll) e = absurd cc
-to_all_reset a e = absurd cc
+-- a poll of a scan asks nothing else of any device
+to_one_others : (a : Option Request) → IsForOthers a → IsForOthers (to_one a)
+to_one_others None others = tt
+to_one_others (Some AddressPoll) others = tt
+to_one_others a others = others
 
-asked_reset : (own all : Bool) (a : Option Request) → cond own (to_one a) (cond all (to_all a) None) ≡ Some ResetDevice → a ≡ Some ResetDevice
-asked_reset true all a e = to_one_reset a e
-asked_reset false true a e = to_all_reset a e
-asked_reset false false a e = absurd cc
+to_all_others : (a : Option Request) → IsForOthers (to_all a)
+to_all_others None = tt
+to_all_others (Some AddressPoll) = tt
+to_all_others a = tt
 
-reset_header : (d : DeviceSetup) (piece : List ℕ) (found : Option Message) → message d.kind piece ≡ found → option_and_then (asked_of d.addr) found ≡ Some ResetDevice → slice_index piece 3 ≡ 1
-reset_header d piece None was e = absurd cc
-reset_header d piece (Some m) was e =
-    sym (message_placed d.kind piece m was).1 ∙ request_header m.header m.body ResetDevice (asked_reset (m.to == d.addr) (m.to == 0) (request_of m.header m.body) e)
+asked_others : (own all : Bool) (a : Option Request) → IsForOthers a → IsForOthers (cond own (to_one a) (cond all (to_all a) None))
+asked_others true all a others = to_one_others a others
+asked_others false true a others = to_all_others a
+asked_others false false a others = tt
 
-asks_reset : (d : DeviceSetup) (piece : List ℕ) → asks_of d piece ≡ Some ResetDevice → slice_index piece 3 ≡ 1
+poll_known : (q : Request) (all : Bool) → (header_of q == header_of (cond all AddressPoll SimplePoll)) ≡ true → IsForOthers (Some q)
+poll_known SimplePoll all e = tt
+poll_known AddressPoll all e = tt
+poll_known q true e = absurd cc
+poll_known q false e = absurd cc
+
+poll_read : (addr header : ℕ) (body : List ℕ) (found : Option Request) → request_of header body ≡ found → header ≡ header_of (poll_of addr) → IsForOthers found
+poll_read addr header body None was is = tt
+poll_read addr header body (Some q) was is = poll_known q (addr == 0) (eq-eqb _ _ (sym (request_header header body q was) ∙ is))
+
+poll_found : (d : DeviceSetup) (addr : ℕ) (piece : List ℕ) (found : Option Message) → message d.kind piece ≡ found → slice_index piece 3 ≡ header_of (poll_of addr) → IsForOthers (option_and_then (asked_of d.addr) found)
+poll_found d addr piece None was is = tt
+poll_found d addr piece (Some m) was is =
+    let header_is : m.header ≡ header_of (poll_of addr) = (message_placed d.kind piece m was).1 ∙ is in
+    asked_others (m.to == d.addr) (m.to == 0) (request_of m.header m.body) (poll_read addr m.header m.body (request_of m.header m.body) refl header_is)
+
+poll_asks : (d : DeviceSetup) (kind : CheckKind) (addr : ℕ) → IsForOthers (asks_of d (ask kind addr (poll_of addr)))
 unfolding asks_of
-asks_reset d piece e = reset_header d piece (message d.kind piece) refl e
+poll_asks d kind addr =
+    let sent = ask kind addr (poll_of addr) in
+    poll_found d addr sent (message d.kind sent) refl (ask_header kind addr (poll_of addr))
 
--- over an honest wire a device is reset only where the host asks for it
-pub heard_keeps : (d : DeviceSetup) (f : WireFault) (sent : List ℕ) → IsHonestFault f sent → slice_index sent 3 ≢ 1 → asks_of d (heard_by_devices f sent) ≢ Some ResetDevice
-heard_keeps d fault.Clear sent honest other = λ e. other (asks_reset d sent e)
-heard_keeps d (fault.DevicesHear piece) sent honest other = λ e. absurd (none_some (sym (damaged_asks d piece honest) ∙ e))
-  where
-    none_some : {A : Type 0} {x : A} → None ≡ Some x → ⊥
-    none_some e = cc
-heard_keeps d (fault.HostHears piece) sent honest other = λ e. other (asks_reset d sent e)
-heard_keeps d (fault.WholeHeard piece) sent honest other = λ e. other (asks_reset d sent e)
-
-pub kept_over : (a : Option Request) (before : List Pair) → a ≢ Some ResetDevice → unless_reset a [] before ≡ before
-kept_over None before other = refl
-kept_over (Some ResetDevice) before other = absurd (other refl)
-kept_over a before other = refl
+pub poll_others : (d : DeviceSetup) (f : WireFault) (kind : CheckKind) (addr : ℕ) → IsHonestFault f (ask kind addr (poll_of addr)) → IsForOthers (asks_of d (heard_by_devices f (ask kind addr (poll_of addr))))
+poll_others d fault.Clear kind addr honest = poll_asks d kind addr
+poll_others d (fault.DevicesHear piece) kind addr honest = subst IsForOthers (sym (damaged_asks d piece honest)) tt
+poll_others d (fault.HostHears piece) kind addr honest = poll_asks d kind addr
+poll_others d (fault.WholeHeard piece) kind addr honest = poll_asks d kind addr

@@ -1,9 +1,7 @@
--- What a job at a device sends and puts: no job resets a device, a record is of the job's address, and a job that is no
--- round puts nothing.
-use Rattle.std.proofs.Common.{◌≡◌, ℕ, zero, suc, ◌==◌, cond, true, false, Bool, List, [], ◌∷◌, refl, Option, Some, None, slice_get}
+-- What the rows of a job at a device send and put: each record is of the job's address.
+use Rattle.std.proofs.Common.{◌≡◌, ℕ, zero, suc, cond, true, false, Bool, List, [], ◌∷◌, refl, Option, Some, None, slice_get}
 use Rattle.std.specs.Prelude.{⊤}
 use Rattle.cct_model.specs.declared.device.DeviceBody.{DeviceBody}
-use Rattle.cct_model.specs.declared.device.DeviceBody.TheVariants.{Acceptor, Hopper}
 use Rattle.cct_model.specs.declared.device.DeviceSetup.{DeviceSetup}
 use Rattle.cct_model.specs.declared.coin.Coin.{Coin}
 use Rattle.cct_model.specs.declared.coin.Credits.{Credits}
@@ -11,24 +9,15 @@ use Rattle.cct_model.specs.declared.request.Request.{Request}
 use Rattle.cct_model.specs.declared.record.Record.TheVariants as record_of
 use Rattle.cct_model.specs.declared.record.Judged.{Judged}
 use Rattle.cct_model.specs.declared.record.Judged.TheVariants.{Nothing, Reading, Broken}
+use Rattle.cct_model.specs.declared.record.EpochState.{EpochState}
+use Rattle.cct_model.specs.declared.record.EpochState.TheVariants.{Idle, Running}
 use Rattle.cct_model.specs.declared.command.Command.{Command}
 use Rattle.cct_model.specs.declared.command.Command.TheVariants as command
 use Rattle.cct_model.specs.declared.entry.Entry.{Entry}
-use Rattle.cct_model.specs.Request.{header_of}
 use Rattle.cct_model.specs.Line.{Line}
 use Rattle.cct_model.specs.Reading.{judge}
-use Rattle.cct_model.specs.Job.{Row, sends, puts, no_row, row, row_at, put_row, send_row, ident_requests, judged_by, judged_in, credits_read, done, address_of}
+use Rattle.cct_model.specs.Job.{Row, sends, puts, no_row, row, row_at, start_row, round_row, stop_row, put_or, send_row, judged_by, judged_in, credits_read, mask_read, done, address_of}
 use Rattle.cct_model.specs.Transcript.{owner}
-
--- a request is no reset
-abbrev pub IsMildRequest : Request → Type 0
-IsMildRequest q = (header_of q == 1) ≡ false
-
--- a row resets no device, and puts only records of an address
-abbrev pub IsMild : ℕ → Row → Type 0
-IsMild addr (sends q) = IsMildRequest q
-IsMild addr (puts r) = (past : List Entry) → owner past r ≡ addr
-IsMild addr no_row = ⊤
 
 -- a row puts nothing, and a fact holds of the request that it sends
 abbrev pub IfSends : (Request → Type 0) → Row → Type 0
@@ -46,52 +35,63 @@ each_row P [] i each = tt
 each_row P (q ∷ qs) zero each = each.0
 each_row P (q ∷ qs) (suc i) each = each_row P qs i each.1
 
-ident_mild : (body : DeviceBody) → Each IsMildRequest (ident_requests body)
-ident_mild (Acceptor accepts values ids) =
-    (refl, (refl, (refl, (refl, (refl, (refl, (refl, (refl, (refl, (refl, (refl, (refl, (refl, (refl, (refl, (refl, (refl, (refl, (refl, (refl, (refl, (refl, (refl, (refl, (refl, (refl, tt))))))))))))))))))))))))))
-ident_mild (Hopper life value) = (refl, (refl, (refl, (refl, (refl, (refl, (refl, (refl, tt))))))))
+-- a row puts only records of an address
+abbrev pub IsOwned : ℕ → Row → Type 0
+IsOwned addr (sends q) = ⊤
+IsOwned addr (puts r) = (past : List Entry) → owner past r ≡ addr
+IsOwned addr no_row = ⊤
 
--- the two requests of a path, by whether the place is 0
-set_by : (P : Request → Type 0) (first second : Request) (b : Bool) → P first → P second → P (cond b first second)
-set_by P first second true p q = p
-set_by P first second false p q = q
+start_owned : (addr mask rows : ℕ) → IsOwned addr (start_row addr mask rows)
+start_owned addr mask zero = tt
+start_owned addr mask (suc zero) = tt
+start_owned addr mask (suc (suc zero)) = λ past. refl
+start_owned addr mask (suc (suc (suc zero))) = tt
+start_owned addr mask (suc (suc (suc (suc rows)))) = tt
 
--- a command begins no round
-abbrev pub IsNoRound : Command → Type 0
-IsNoRound (command.Round addr) = ⊥
-IsNoRound c = ⊤
+round_owned : (addr rows : ℕ) (judged : Judged) → IsOwned addr (put_or no_row judged) → IsOwned addr (round_row rows judged)
+round_owned addr zero judged owned = tt
+round_owned addr (suc zero) judged owned = tt
+round_owned addr (suc (suc zero)) judged owned = owned
+round_owned addr (suc (suc (suc rows))) judged owned = tt
 
--- a job that is no round sends what is mild, and puts nothing
-pub other_row : (body : DeviceBody) (c : Command) (rows : ℕ) (judged : Judged) → IsNoRound c → IfSends IsMildRequest (row_at body c rows judged)
-other_row body (command.Round addr) rows judged other = absurd other
-other_row body (command.Ident addr) rows judged other = each_row IsMildRequest (ident_requests body) rows (ident_mild body)
-other_row body (command.Path addr place path) zero judged other = set_by IsMildRequest _ _ (place == 0) refl refl
-other_row body (command.Path addr place path) (suc zero) judged other = set_by IsMildRequest _ _ (place == 0) refl refl
-other_row body (command.Path addr place path) (suc (suc rows)) judged other = tt
-other_row body c rows judged other = tt
+stop_owned : (addr rows : ℕ) (judged : Judged) → IsOwned addr (put_or (puts (record_of.EpochEnd addr)) judged) → IsOwned addr (stop_row addr rows judged)
+stop_owned addr zero judged owned = tt
+stop_owned addr (suc zero) judged owned = tt
+stop_owned addr (suc (suc zero)) judged owned = tt
+stop_owned addr (suc (suc (suc zero))) judged owned = owned
+stop_owned addr (suc (suc (suc (suc zero)))) judged owned = λ past. refl
+stop_owned addr (suc (suc (suc (suc (suc rows))))) judged owned = tt
 
-mild_if : (addr : ℕ) (r : Row) → IfSends IsMildRequest r → IsMild addr r
-mild_if addr (sends q) mild = mild
-mild_if addr (puts r) mild = absurd mild
-mild_if addr no_row mild = tt
+path_owned : (addr place path rows : ℕ) (body : DeviceBody) (judged : Judged) → IsOwned addr (row_at body (command.Path addr place path) rows judged)
+path_owned addr place path zero body judged = tt
+path_owned addr place path (suc zero) body judged = tt
+path_owned addr place path (suc (suc rows)) body judged = tt
 
-judged_mild : (addr seen read lost : ℕ) (ps qs : List Coin) (breaks none : Bool) →
-    IsMild addr (put_row (cond breaks (Broken (record_of.Broken addr seen read ps)) (cond none Nothing (Reading (record_of.Reading addr read lost qs)))))
-judged_mild addr seen read lost ps qs true none = λ past. refl
-judged_mild addr seen read lost ps qs false true = tt
-judged_mild addr seen read lost ps qs false false = λ past. refl
+sent_owned : (addr : ℕ) (q : Option Request) → IsOwned addr (send_row q)
+sent_owned addr None = tt
+sent_owned addr (Some q) = tt
 
-judge_mild : (addr counter : ℕ) (credits : Option Credits) → IsMild addr (put_row (judged_by addr counter credits))
+-- what a reading of an address means is put there
+reading_owned : (addr seen read lost : ℕ) (other : Row) (ps qs : List Coin) (breaks none : Bool) → IsOwned addr other →
+    IsOwned addr (put_or other (cond breaks (Broken (record_of.Broken addr seen read ps)) (cond none Nothing (Reading (record_of.Reading addr read lost qs)))))
+reading_owned addr seen read lost other ps qs true none owned = λ past. refl
+reading_owned addr seen read lost other ps qs false true owned = owned
+reading_owned addr seen read lost other ps qs false false owned = λ past. refl
+
+judged_owned : (addr : ℕ) (other : Row) (state : EpochState) (credits : Option Credits) (seen : Option ℕ) → IsOwned addr other → IsOwned addr (put_or other (judged_by addr state credits seen))
 unfolding judge
-judge_mild addr counter None = tt
-judge_mild addr counter (Some credits) = judged_mild addr _ _ _ _ _ _ _
+judged_owned addr other (Running mask counter) (Some credits) (Some seen) owned = reading_owned addr _ _ _ other _ _ _ _ owned
+judged_owned addr other (Running mask counter) (Some credits) None owned = owned
+judged_owned addr other (Running mask counter) None seen owned = owned
+judged_owned addr other Idle credits seen owned = owned
 
-round_mild : (body : DeviceBody) (addr rows : ℕ) (judged : Judged) → IsMild addr (put_row judged) → IsMild addr (row_at body (command.Round addr) rows judged)
-round_mild body addr zero judged mild = refl
-round_mild body addr (suc zero) judged mild = mild
-round_mild body addr (suc (suc rows)) judged mild = tt
-
--- the row of any job is mild
-pub row_mild : (d : DeviceSetup) (c : Command) (since : List Line) (counter : ℕ) → IsMild (address_of c) (row d c since counter)
-row_mild d (command.Round addr) since counter = round_mild d.body addr (done since) (judged_in (command.Round addr) since counter) (judge_mild addr counter (credits_read since))
-row_mild d c since counter = mild_if (address_of c) (row d c since counter) (other_row d.body c (done since) (judged_in c since counter) tt)
+-- the row of any job puts only records of its address
+pub row_owned : (d : DeviceSetup) (c : Command) (since : List Line) (state : EpochState) → IsOwned (address_of c) (row d c since state)
+row_owned d (command.Start addr mask) since state = start_owned addr mask (done since)
+row_owned d (command.Round addr) since state =
+    round_owned addr (done since) (judged_in (command.Round addr) since state) (judged_owned addr no_row state (credits_read since) (mask_read since) tt)
+row_owned d (command.Stop addr) since state =
+    stop_owned addr (done since) (judged_in (command.Stop addr) since state) (judged_owned addr (puts (record_of.EpochEnd addr)) state (credits_read since) (mask_read since) (λ past. refl))
+row_owned d (command.Ident addr) since state = sent_owned addr _
+row_owned d (command.Path addr place path) since state = path_owned addr place path (done since) d.body (judged_in (command.Path addr place path) since state)
+row_owned d c since state = tt

@@ -1,5 +1,5 @@
 -- What a line says that is played today: a device of a sound setup, or a step in range.
-use Rattle.std.proofs.Common.{◌≡◌, ℕ, ◌-◌, ◌*◌, ◌%◌, ◌^◌, ◌<◌, ◌≤◌, ◌≢◌, ◌==◌, ◌&&◌, nat_le, Bool, true, false, cond, List, [], ◌∷◌, length, get_or, bytes_eq, codes, refl, ap, sym, ◌∙◌, subst, Option, Some, None, option_map, ok_or, Result, Ok, Err, All, lit≤, arith}
+use Rattle.std.proofs.Common.{◌≡◌, ℕ, ◌+◌, ◌-◌, ◌*◌, ◌%◌, ◌^◌, ◌<◌, ◌≤◌, ◌≢◌, ◌==◌, ◌&&◌, nat_le, Bool, true, false, cond, List, [], ◌∷◌, length, get_or, bytes_eq, codes, refl, ap, sym, ◌∙◌, subst, Option, Some, None, option_map, ok_or, Result, Ok, Err, All, lit≤, arith}
 use Rattle.std.specs.Prelude.{⊤}
 use Rattle.std.specs.List.{list_all, slice_set}
 use Rattle.std.specs.Result.{result_ok}
@@ -23,12 +23,11 @@ use Rattle.cct_model.specs.declared.command.Step.TheVariants as step
 use Rattle.cct_model.specs.declared.entry.LineKind.{LineKind}
 use Rattle.cct_model.specs.declared.entry.LineKind.TheVariants as kind
 use Rattle.cct_model.specs.Device.{IsPrinting, IsWord, IsId, IsSound, IsSoundBody, IsAcceptor}
-use Rattle.cct_model.specs.Grammar.{◌>>=◌, is_space, number_in, within, ranged, three_byte_in, check_in, is_printing, word_in, id_in, bytes_in, piece_in, plain_acceptor, plain_device, acceptor_line, value_line, texts_line, alone, setup_fields, setup_line, address_in, step_at, coin_step, fault_step, path_step, step_fields, step_line, valued}
-use Rattle.cct_model.specs.Job.{address_of}
+use Rattle.cct_model.specs.Grammar.{◌>>=◌, is_space, number_in, within, ranged, three_byte_in, check_in, is_printing, word_in, id_in, bytes_in, piece_in, plain_acceptor, plain_device, acceptor_line, value_line, texts_line, alone, setup_fields, setup_line, mask_of_bytes, mask_in, address_in, step_at, coin_step, fault_step, start_step, path_step, step_fields, step_line, valued}
 use Rattle.cct_model.specs.Legal.{is_played_command}
 use Rattle.cct_model.specs.Script.{word_of, is_setup_word, is_step_word, IsCommand, IsFault}
 use Rattle.cct_model.proofs.Added.{KeepsEach}
-use Rattle.cct_laws.specs.Law.{HasAllIds, HasBytes}
+use Rattle.cct_laws.specs.Law.{IsCommandOfBytes, HasBytes}
 use Rattle.cct_laws.proofs.Words.{first_part, no_word}
 
 -- a fact of what is there, if it is
@@ -167,11 +166,10 @@ unfolding piece_in
 piece_bytes most [] piece found = absurd cc
 piece_bytes most (byte ∷ bytes) piece found = decoded_by (bytes_eq (byte ∷ bytes) (codes "-")) (nat_le (length (byte ∷ bytes)) (2 * most)) (byte ∷ bytes) piece found
 
--- a sound acceptor with all its identifications
+-- a sound acceptor
 pub record Fit (d : DeviceSetup) : Type 0 where
   pub sound : IsSound d
   pub accepting : IsAcceptor d.body
-  pub whole : HasAllIds d.body
 
 -- a setup line that is played today
 abbrev pub IsFitLine : SetupLine → Type 0
@@ -180,7 +178,7 @@ IsFitLine line = KeepsEach Fit line
 
 plain_sound : (accepts : ℕ) → accepts < 2 ^ 24 → IsSoundBody (plain_acceptor accepts)
 plain_sound accepts few =
-    (few, All-replicate (λ value. value ≤ 1000000) 16 0 (lit≤ tt), All-replicate IsId 16 (codes "......") (refl, printing_all (codes "......") refl))
+    (few, All-replicate (λ value. value ≤ 1000000) 16 0 (lit≤ tt), All-replicate IsId 16 (codes "......") (refl, printing_all (codes "......") refl), refl, refl)
 
 plain_word : (text : List ℕ) → 1 ≤ length text → length text ≤ 24 → list_all is_printing text ≡ true → IsWord text
 plain_word text some few printing = (some, few, printing_all text printing)
@@ -198,7 +196,6 @@ plain_fit addr check serial accepts low high serial_few accepts_few = record {
     body = plain_sound accepts accepts_few;
   };
   accepting = tt;
-  whole = refl;
 }
 
 acceptor_said : (fields : List (List ℕ)) → IfThere IsFitLine (acceptor_line fields)
@@ -212,8 +209,8 @@ acceptor_said (a ∷ c ∷ s ∷ n ∷ []) =
 acceptor_said fields = tt
 
 -- a value keeps an acceptor fit
-fit_with : (d : DeviceSetup) (body : DeviceBody) → Fit d → IsSoundBody body → IsAcceptor body → HasAllIds body → Fit (record d { body = body })
-fit_with d body fit sound accepting whole = record {
+fit_with : (d : DeviceSetup) (body : DeviceBody) → Fit d → IsSoundBody body → IsAcceptor body → Fit (record d { body = body })
+fit_with d body fit sound accepting = record {
   sound = record {
     low = fit.sound.low;
     high = fit.sound.high;
@@ -225,7 +222,6 @@ fit_with d body fit sound accepting whole = record {
     body = sound;
   };
   accepting = accepting;
-  whole = whole;
 }
 
 valued_by : (b : Bool) (d e : DeviceSetup) (body : DeviceBody) → Fit (record d { body = body }) → cond b (Ok (record d { body = body })) (Err kind.Again) ≡ Ok e → Fit e
@@ -234,12 +230,12 @@ valued_by true d e body fit was =
     subst Fit is fit
 valued_by false d e body fit was = absurd cc
 
-valued_fit : (d e : DeviceSetup) (place value : ℕ) (id : List ℕ) (body : DeviceBody) → value ≤ 1000000 → IsId id → Fit d → IsSoundBody body → HasAllIds body → valued d place value id body ≡ Ok e → Fit e
-valued_fit d e place value id (Acceptor accepts values ids) few is_id fit sound whole was =
+valued_fit : (d e : DeviceSetup) (place value : ℕ) (id : List ℕ) (body : DeviceBody) → value ≤ 1000000 → IsId id → Fit d → IsSoundBody body → valued d place value id body ≡ Ok e → Fit e
+valued_fit d e place value id (Acceptor accepts values ids) few is_id fit sound was =
     let new : DeviceBody = Acceptor accepts (slice_set values (place - 1) value) (slice_set ids (place - 1) id) in
     valued_by _ d e new
-    (fit_with d new fit (sound.0, All-set (λ worth. worth ≤ 1000000) values (place - 1) value few sound.1, All-set IsId ids (place - 1) id is_id sound.2) tt (length-set ids (place - 1) id ∙ whole)) was
-valued_fit d e place value id (Hopper life worth) few is_id fit sound whole was = absurd cc
+    (fit_with d new fit (sound.0, All-set (λ worth. worth ≤ 1000000) values (place - 1) value few sound.1, All-set IsId ids (place - 1) id is_id sound.2, length-set values (place - 1) value ∙ sound.3, length-set ids (place - 1) id ∙ sound.4) tt) was
+valued_fit d e place value id (Hopper life worth) few is_id fit sound was = absurd cc
 
 value_said : (fields : List (List ℕ)) → IfThere IsFitLine (value_line fields)
 value_said (a ∷ p ∷ v ∷ i ∷ []) =
@@ -247,7 +243,7 @@ value_said (a ∷ p ∷ v ∷ i ∷ []) =
     bind IsFitLine (ranged 1 16 p) _ (λ place placed.
     bind IsFitLine (ranged 1 1000000 v) _ (λ value worth.
     bind IsFitLine (id_in i) _ (λ id named.
-    λ d e fit was. valued_fit d e place value id d.body (ranged_in 1 1000000 v value worth).1 (id_found i id named) fit fit.sound.body fit.whole was))))
+    λ d e fit was. valued_fit d e place value id d.body (ranged_in 1 1000000 v value worth).1 (id_found i id named) fit fit.sound.body was))))
 value_said fields = tt
 
 named_fit : (b : Bool) (d e : DeviceSetup) (texts : Texts) → IsWord texts.maker → IsWord texts.product → IsWord texts.software → IsWord texts.build → Fit d →
@@ -267,7 +263,6 @@ named_fit false d e texts maker product software build fit was =
         body = fit.sound.body;
       };
       accepting = fit.accepting;
-      whole = fit.whole;
     } in
     subst Fit is made
 
@@ -303,9 +298,11 @@ setup_said line played =
 -- a step in range that is played today, or the end
 abbrev pub IsToday : Step → Type 0
 IsToday (step.Coin addr place) = (1 ≤ place) × (place ≤ 16)
+IsToday (step.Alien addr) = ⊤
+IsToday (step.Reset addr) = ⊤
 IsToday (step.Fault f) = IsFault f × HasBytes (step.Fault f)
 IsToday (step.Next addr) = addr < 256
-IsToday (step.Command c) = (is_played_command c ≡ true) × IsCommand c × (address_of c < 256)
+IsToday (step.Command c) = (is_played_command c ≡ true) × IsCommand c × IsCommandOfBytes c
 IsToday step.End = ⊤
 IsToday s = ⊥
 
@@ -325,6 +322,35 @@ coin_said : (fields : List (List ℕ)) → IfThere IsToday (coin_step fields)
 coin_said (a ∷ p ∷ []) =
     bind IsToday (address_in a) _ (λ addr at. bind IsToday (ranged 1 16 p) _ (λ place placed. ranged_in 1 16 p place placed))
 coin_said fields = tt
+
+-- a mask that isn't 0 is read from two bytes
+mask_by : (none : Bool) (high low mask : ℕ) → high < 256 → low < 256 → (256 * high + low == 0) ≡ none → cond none None (Some (256 * high + low)) ≡ Some mask → (1 ≤ mask) × (mask < 65536)
+mask_by true high low mask h l test found = absurd cc
+mask_by false high low mask h l test found =
+    let is : 256 * high + low ≡ mask = cc in
+    let some : 1 ≤ 256 * high + low = grind (arith, nat_tests) in
+    subst (λ m. (1 ≤ m) × (m < 65536)) is (some, omega arith)
+
+mask_of_pair : (bytes : List ℕ) (mask : ℕ) → IsBytes bytes → mask_of_bytes bytes ≡ Some mask → (1 ≤ mask) × (mask < 65536)
+mask_of_pair [] mask h found = absurd cc
+mask_of_pair (a ∷ []) mask h found = absurd cc
+mask_of_pair (high ∷ low ∷ []) mask h found = mask_by (256 * high + low == 0) high low mask (h 0) (h 1) refl found
+mask_of_pair (a ∷ b ∷ c ∷ bytes) mask h found = absurd cc
+
+mask_there : (bytes : Option (List ℕ)) (mask : ℕ) → ((bs : List ℕ) → bytes ≡ Some bs → IsBytes bs) → (bytes >>= mask_of_bytes) ≡ Some mask → (1 ≤ mask) × (mask < 65536)
+mask_there None mask h found = absurd cc
+mask_there (Some bs) mask h found = mask_of_pair bs mask (h bs refl) found
+
+mask_found : (field : List ℕ) (mask : ℕ) → mask_in field ≡ Some mask → (1 ≤ mask) × (mask < 65536)
+unfolding mask_in
+mask_found field mask found = mask_there (bytes_in field) mask (bytes_decoded field) found
+
+start_said : (fields : List (List ℕ)) → IfThere IsToday (start_step fields)
+start_said (a ∷ m ∷ []) =
+    bind IsToday (address_in a) _ (λ addr at.
+    bind IsToday (mask_in m) _ (λ mask has.
+    (refl, (mask_found m mask has).0, (small_address a addr at, (mask_found m mask has).1))))
+start_said fields = tt
 
 path_said : (fields : List (List ℕ)) → IfThere IsToday (path_step fields)
 path_said (a ∷ p ∷ q ∷ []) =
@@ -357,15 +383,15 @@ step_fields_said : (word : List ℕ) (fields : List (List ℕ)) → is_step_word
 step_fields_said word fields played =
     let at = λ (make : ℕ → Step) (holds : (addr : ℕ) → addr < 256 → IsToday (make addr)). said_or IsToday (step_at make fields) kind.Form (at_said make fields holds) in
     word_by IsToday (bytes_eq word (codes "coin")) _ _ (λ _. said_or IsToday (coin_step fields) kind.Form (coin_said fields))
-    (word_by IsToday (bytes_eq word (codes "alien")) _ _ (not_today word (codes "alien") _ refl played)
+    (word_by IsToday (bytes_eq word (codes "alien")) _ _ (λ _. at step.Alien (λ addr small. tt))
     (word_by IsToday (bytes_eq word (codes "fall")) _ _ (not_today word (codes "fall") _ refl played)
     (word_by IsToday (bytes_eq word (codes "jam")) _ _ (not_today word (codes "jam") _ refl played)
-    (word_by IsToday (bytes_eq word (codes "reset")) _ _ (not_today word (codes "reset") _ refl played)
+    (word_by IsToday (bytes_eq word (codes "reset")) _ _ (λ _. at step.Reset (λ addr small. tt))
     (word_by IsToday (bytes_eq word (codes "next")) _ _ (λ _. at step.Next (λ addr small. small))
     (word_by IsToday (bytes_eq word (codes "fault")) _ _ (λ _. said_or IsToday (fault_step fields) kind.Form (fault_said fields))
-    (word_by IsToday (bytes_eq word (codes "start")) _ _ (not_today word (codes "start") _ refl played)
+    (word_by IsToday (bytes_eq word (codes "start")) _ _ (λ _. said_or IsToday (start_step fields) kind.Form (start_said fields))
     (word_by IsToday (bytes_eq word (codes "round")) _ _ (λ _. at (λ a. step.Command (command.Round a)) (λ addr small. (refl, tt, small)))
-    (word_by IsToday (bytes_eq word (codes "stop")) _ _ (not_today word (codes "stop") _ refl played)
+    (word_by IsToday (bytes_eq word (codes "stop")) _ _ (λ _. at (λ a. step.Command (command.Stop a)) (λ addr small. (refl, tt, small)))
     (word_by IsToday (bytes_eq word (codes "settle")) _ _ (not_today word (codes "settle") _ refl played)
     (word_by IsToday (bytes_eq word (codes "halt")) _ _ (not_today word (codes "halt") _ refl played)
     (word_by IsToday (bytes_eq word (codes "ident")) _ _ (λ _. at (λ a. step.Command (command.Ident a)) (λ addr small. (refl, tt, small)))

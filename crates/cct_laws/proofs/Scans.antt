@@ -19,7 +19,7 @@ use Rattle.cct_model.specs.Device.{IsSound}
 use Rattle.cct_model.specs.Setup.{IsSoundSetup}
 use Rattle.cct_model.specs.Exchange.{ask, after_echo, device_at}
 use Rattle.cct_model.specs.Line.{Line, scanned, taken, ended}
-use Rattle.cct_model.specs.Job.{Job, free, works, job, with_line, Row, sends, puts, no_row, row, recorded, address_of, end_of_put}
+use Rattle.cct_model.specs.Job.{Job, free, works, job, with_line, Row, sends, puts, no_row, row, epoch, address_of, end_of_put}
 use Rattle.cct_model.specs.Scan.{same_check, scan_row, scan_tries, end_of_scan, end_by_row, poll_of}
 use Rattle.cct_model.specs.Claims.{AllPast}
 use Rattle.cct_model.specs.Legal.{is_acceptor, coin_entry, command_entry, refusal, with_end, is_played_command, RowEntries, NextEntries, PollEntries, ScanEntries, BareNext, OfDevice, OfAcceptor, OfNext, Entries, LegalFrom, Legal}
@@ -126,12 +126,12 @@ wire_elsewhere past addr sent piece end other polls = polls_elsewhere past addr 
 row_kept : (setup : Setup) (d : DeviceSetup) (past news : List Entry) (c : Command) (since : List Line) (r : Row) → d.addr ≢ 0 → RowEntries setup d past c since r news → PollsAt past → PollsAt (news ++ past)
 row_kept setup d past news c since (sends q) other told polls =
     subst (λ ns. PollsAt (ns ++ past)) (sym told) (wire_elsewhere past d.addr _ _ _ other polls)
-row_kept setup d past news c since (puts r) other told polls = subst (λ ns. PollsAt (ns ++ past)) (sym told) (polls_elsewhere past d.addr (entry.Put r) (end_of_put r) other refl polls)
+row_kept setup d past news c since (puts r) other told polls = subst (λ ns. PollsAt (ns ++ past)) (sym told) (polls_elsewhere past d.addr (entry.Put r) (end_of_put c r) other refl polls)
 row_kept setup d past news c since no_row other told polls = absurd told
 
 device_next : (setup : Setup) (d : DeviceSetup) (past news : List Entry) (at_work : Job) → d.addr ≢ 0 → NextEntries setup d past at_work news → PollsAt past → PollsAt (news ++ past)
 device_next setup d past news free other told polls = subst (λ ns. PollsAt (ns ++ past)) (sym told) polls
-device_next setup d past news (works c since) other told polls = row_kept setup d past news c since (row d c since (recorded (lines_of d past))) other told polls
+device_next setup d past news (works c since) other told polls = row_kept setup d past news c since (row d c since (epoch (lines_of d past))) other told polls
 
 next_found : (setup : Setup) (past news : List Entry) (addr : ℕ) (found : Option DeviceSetup) → device_at setup.devices addr ≡ found → IsSoundSetup setup →
     OfNext found (λ e. NextEntries setup e past (job (lines_of e past)) news) (BareNext setup past addr news) → PollsAt past → PollsAt (news ++ past)

@@ -1,8 +1,7 @@
--- What every script says is in range: its setup, its steps, and how many pieces they are.
-use Rattle.std.proofs.Common.{◌≡◌, ℕ, ◌+◌, ◌-◌, ◌<◌, ◌≤◌, nat_lt, Bool, true, false, cond, List, [], ◌∷◌, ◌++◌, length, refl, sym, subst, Result, Ok, Err, All, le_refl, append-nil, arith}
+-- What every script says is in range: its setup and its steps.
+use Rattle.std.proofs.Common.{◌≡◌, ℕ, ◌+◌, nat_lt, Bool, true, false, cond, List, [], ◌∷◌, ◌++◌, length, refl, sym, subst, Result, Ok, Err, All, append-nil}
 use Rattle.std.specs.Prelude.{⊤}
 use Rattle.std.specs.List.{AllByRecursion, slice_split}
-use Rattle.std.proofs.lemmas.Bool.Decides.{nat_tests}
 use Rattle.std.proofs.lemmas.List.Elements.{All-from_recursion, All-weaker, All-nil}
 use Rattle.cct_model.specs.declared.device.DeviceSetup.{DeviceSetup}
 use Rattle.cct_model.specs.declared.device.Setup.{Setup}
@@ -13,129 +12,107 @@ use Rattle.cct_model.specs.declared.command.Step.TheVariants as step
 use Rattle.cct_model.specs.declared.entry.Entry.{Entry}
 use Rattle.cct_model.specs.declared.entry.LineKind.{LineKind}
 use Rattle.cct_model.specs.declared.entry.LineKind.TheVariants as kind
-use Rattle.cct_model.specs.Claims.{InOrder, Covers}
+use Rattle.cct_model.specs.Claims.{InOrder, Covers, Pace}
 use Rattle.cct_model.specs.Device.{IsSound, IsAcceptor}
 use Rattle.cct_model.specs.Grammar.{setup_line, step_line, added}
 use Rattle.cct_model.specs.Legal.{Legal, is_played}
-use Rattle.cct_model.specs.Script.{Stage, at_setup, at_steps, at_end, setup_at, Read, opens, plays, refuses, opened, read_setup_line, most_coins, coins_after, is_known, read_known, read_step_line, read_form, most_lines, most_bytes, is_over, read_line, Script, stage_after, goes_on, script_from, no_devices, script, word_of, is_setup_word, is_step_word, is_line_feed, IsInRange}
+use Rattle.cct_model.specs.Script.{Stage, at_setup, at_steps, at_end, setup_at, Read, opens, plays, refuses, opened, read_setup_line, read_step_line, read_form, most_lines, most_bytes, is_over, read_line, Script, stage_after, goes_on, script_from, no_devices, script, word_of, is_setup_word, is_step_word, is_line_feed, IsInRange}
 use Rattle.cct_model.proofs.Added.{AreAll, KeepsEach, added_keeps}
 use Rattle.cct_model.specs.Text.{text}
 use Rattle.cct_text.proofs.Whole.{text_is_one}
 use Rattle.cct_laws.specs.Honest.{Honest}
-use Rattle.cct_laws.specs.Law.{IsOf, HasAllIds, HasBytes, IsNoReset, AreOfToday, IsSetupOfToday, lines_in}
-use Rattle.cct_laws.specs.Pace.{pieces_after, piece_steps}
+use Rattle.cct_laws.specs.Law.{IsOf, HasBytes, AreOfToday, IsSetupOfToday, lines_in}
 use Rattle.cct_laws.proofs.Setups.{found_in}
 use Rattle.cct_laws.proofs.Said.{Fit, IsFitLine, IfSaid, IsToday, setup_said, step_said}
-use Rattle.cct_laws.proofs.Whole.{legal_in_order, legal_covers}
-use Rattle.cct_laws.proofs.Paces.{legal_keeps_pace}
+use Rattle.cct_laws.proofs.Posts.{legal_in_order, legal_covers}
 use Rattle.cct_laws.proofs.Texts.{legal_written}
 
 -- a step that a script can have
 abbrev IsPlain : Step → Type 0
-IsPlain s = IsInRange s × IsNoReset s × (is_played s ≡ true) × HasBytes s
+IsPlain s = IsInRange s × (is_played s ≡ true) × HasBytes s
 
--- how many pieces the lines that are left may say
-abbrev room : Stage → ℕ
-room (at_setup setup) = most_coins
-room (at_steps setup coin_lines) = most_coins - coin_lines
-room (at_end setup) = 0
-
--- a line keeps the setup, plays a step that a script can have, and leaves no more room than there was
-abbrev IsRead : Stage → Read → Type 0
-IsRead stage (opens next) = AreAll Fit (setup_at next) × (room next ≤ room stage)
-IsRead stage (plays s next) = IsPlain s × AreAll Fit (setup_at next) × (pieces_after s 0 + room next ≤ room stage)
-IsRead stage (refuses why) = ⊤
+-- a line keeps the setup, and plays a step that a script can have
+abbrev IsRead : Read → Type 0
+IsRead (opens next) = AreAll Fit (setup_at next)
+IsRead (plays s next) = IsPlain s × AreAll Fit (setup_at next)
+IsRead (refuses why) = ⊤
 
 -- what the lines from a stage on say
-pub record IsAllSaid (left : ℕ) (said : Script) : Type 0 where
+pub record IsAllSaid (said : Script) : Type 0 where
   pub fits : AreAll Fit said.setup
   pub plain : AllByRecursion IsPlain said.steps
-  pub few : piece_steps said.steps ≤ left
 
 -- a setup line
-opened_read : (setup : Setup) (line : SetupLine) (r : Result Setup LineKind) → added setup line ≡ r → KeepsEach Fit line → AreAll Fit setup → IsRead (at_setup setup) (opened r)
-opened_read setup line (Ok new) was keeps all = (added_keeps Fit setup new line keeps all was, le_refl most_coins)
+opened_read : (setup : Setup) (line : SetupLine) (r : Result Setup LineKind) → added setup line ≡ r → KeepsEach Fit line → AreAll Fit setup → IsRead (opened r)
+opened_read setup line (Ok new) was keeps all = added_keeps Fit setup new line keeps all was
 opened_read setup line (Err why) was keeps all = tt
 
-setup_read : (setup : Setup) (r : Result SetupLine LineKind) → IfSaid IsFitLine r → AreAll Fit setup → IsRead (at_setup setup) (read_setup_line setup r)
+setup_read : (setup : Setup) (r : Result SetupLine LineKind) → IfSaid IsFitLine r → AreAll Fit setup → IsRead (read_setup_line setup r)
 setup_read setup (Err why) fit all = tt
-setup_read setup (Ok says.Begin) fit all = (all, omega arith)
+setup_read setup (Ok says.Begin) fit all = all
 setup_read setup (Ok (says.Acceptor d)) fit all = opened_read setup (says.Acceptor d) _ refl fit all
 setup_read setup (Ok (says.Hopper d)) fit all = absurd fit
 setup_read setup (Ok (says.Value addr place value id)) fit all = opened_read setup (says.Value addr place value id) _ refl fit all
 setup_read setup (Ok (says.Named addr texts)) fit all = opened_read setup (says.Named addr texts) _ refl fit all
 
 -- a step line
-not_over : (n : ℕ) → nat_lt most_coins n ≡ false → n ≤ 200
-not_over n test = grind (arith, nat_tests)
+known_read : (known : Bool) (setup : Setup) (s : Step) → AreAll Fit setup → IsPlain s → IsRead (cond known (plays s (at_steps setup)) (refuses kind.Device))
+known_read true setup s all plain = (plain, all)
+known_read false setup s all plain = tt
 
-known_read : (over known : Bool) (setup : Setup) (coin_lines : ℕ) (s : Step) → nat_lt most_coins (coins_after s coin_lines) ≡ over → AreAll Fit setup → IsPlain s →
-    (coins_after s coin_lines ≤ 200 → pieces_after s 0 + (200 - coins_after s coin_lines) ≤ 200 - coin_lines) →
-    IsRead (at_steps setup coin_lines) (cond over (refuses kind.Form) (cond known (plays s (at_steps setup (coins_after s coin_lines))) (refuses kind.Device)))
-known_read true known setup coin_lines s test all plain leaves = tt
-known_read false true setup coin_lines s test all plain leaves = (plain, all, leaves (not_over (coins_after s coin_lines) test))
-known_read false false setup coin_lines s test all plain leaves = tt
-
-step_known : (setup : Setup) (coin_lines : ℕ) (s : Step) → AreAll Fit setup → IsPlain s → (coins_after s coin_lines ≤ 200 → pieces_after s 0 + (200 - coins_after s coin_lines) ≤ 200 - coin_lines) →
-    IsRead (at_steps setup coin_lines) (read_known setup coin_lines s)
-step_known setup coin_lines s all plain leaves = known_read (nat_lt most_coins (coins_after s coin_lines)) (is_known setup s) setup coin_lines s refl all plain leaves
-
-step_read : (setup : Setup) (coin_lines : ℕ) (r : Result Step LineKind) → IfSaid IsToday r → AreAll Fit setup → IsRead (at_steps setup coin_lines) (read_step_line setup coin_lines r)
-step_read setup coin_lines (Err why) today all = tt
-step_read setup coin_lines (Ok step.End) today all = (all, omega arith)
-step_read setup coin_lines (Ok (step.Coin addr place)) today all = step_known setup coin_lines (step.Coin addr place) all (today, tt, refl, tt) (λ most. omega (arith, most))
-step_read setup coin_lines (Ok (step.Next addr)) today all = step_known setup coin_lines (step.Next addr) all (tt, tt, refl, today) (λ most. omega arith)
-step_read setup coin_lines (Ok (step.Fault f)) today all = step_known setup coin_lines (step.Fault f) all (today.0, tt, refl, today.1) (λ most. omega arith)
-step_read setup coin_lines (Ok (step.Command c)) today all = step_known setup coin_lines (step.Command c) all (today.1, tt, today.0, today.2) (λ most. omega arith)
-step_read setup coin_lines (Ok s) today all = absurd today
+step_read : (setup : Setup) (r : Result Step LineKind) → IfSaid IsToday r → AreAll Fit setup → IsRead (read_step_line setup r)
+step_read setup (Err why) today all = tt
+step_read setup (Ok step.End) today all = all
+step_read setup (Ok (step.Coin addr place)) today all = known_read _ setup (step.Coin addr place) all (today, refl, tt)
+step_read setup (Ok (step.Alien addr)) today all = known_read _ setup (step.Alien addr) all (tt, refl, tt)
+step_read setup (Ok (step.Reset addr)) today all = known_read _ setup (step.Reset addr) all (tt, refl, tt)
+step_read setup (Ok (step.Next addr)) today all = known_read true setup (step.Next addr) all (tt, refl, today)
+step_read setup (Ok (step.Fault f)) today all = known_read true setup (step.Fault f) all (today.0, refl, today.1)
+step_read setup (Ok (step.Command c)) today all = known_read true setup (step.Command c) all (today.1, today.0, today.2)
+step_read setup (Ok s) today all = absurd today
 
 -- a line
-read_if : (stage : Stage) (b : Bool) (r : Read) → (b ≡ true → IsRead stage r) → IsRead stage (cond b r (refuses kind.Word))
-read_if stage true r holds = holds refl
-read_if stage false r holds = tt
+read_if : (b : Bool) (r : Read) → (b ≡ true → IsRead r) → IsRead (cond b r (refuses kind.Word))
+read_if true r holds = holds refl
+read_if false r holds = tt
 
-form_read : (stage : Stage) (line : List ℕ) → AreAll Fit (setup_at stage) → IsRead stage (read_form stage line)
+form_read : (stage : Stage) (line : List ℕ) → AreAll Fit (setup_at stage) → IsRead (read_form stage line)
 unfolding read_form
-form_read (at_setup setup) line all = read_if (at_setup setup) (is_setup_word (word_of line)) _ (λ played. setup_read setup (setup_line line) (setup_said line played) all)
-form_read (at_steps setup coin_lines) line all = read_if (at_steps setup coin_lines) (is_step_word (word_of line)) _ (λ played. step_read setup coin_lines (step_line line) (step_said line played) all)
+form_read (at_setup setup) line all = read_if (is_setup_word (word_of line)) _ (λ played. setup_read setup (setup_line line) (setup_said line played) all)
+form_read (at_steps setup) line all = read_if (is_step_word (word_of line)) _ (λ played. step_read setup (step_line line) (step_said line played) all)
 form_read (at_end setup) line all = tt
 
-refused_if : (b : Bool) (stage : Stage) (why : LineKind) (r : Read) → IsRead stage r → IsRead stage (cond b (refuses why) r)
-refused_if true stage why r known = tt
-refused_if false stage why r known = known
+refused_if : (b : Bool) (why : LineKind) (r : Read) → IsRead r → IsRead (cond b (refuses why) r)
+refused_if true why r known = tt
+refused_if false why r known = known
 
-line_read : (number : ℕ) (stage : Stage) (line : List ℕ) → AreAll Fit (setup_at stage) → IsRead stage (read_line number stage line)
+line_read : (number : ℕ) (stage : Stage) (line : List ℕ) → AreAll Fit (setup_at stage) → IsRead (read_line number stage line)
 line_read number stage line all =
-    refused_if (is_over stage) stage kind.Trailing _
-    (refused_if (nat_lt most_lines number) stage kind.Lines _ (refused_if (nat_lt most_bytes (length line)) stage kind.Long _ (form_read stage line all)))
+    refused_if (is_over stage) kind.Trailing _
+    (refused_if (nat_lt most_lines number) kind.Lines _ (refused_if (nat_lt most_bytes (length line)) kind.Long _ (form_read stage line all)))
 
 -- the setup after it
-after_fits : (stage : Stage) (r : Read) → IsRead stage r → AreAll Fit (setup_at stage) → AreAll Fit (setup_at (stage_after stage r))
-after_fits stage (opens next) known all = known.0
+after_fits : (stage : Stage) (r : Read) → IsRead r → AreAll Fit (setup_at stage) → AreAll Fit (setup_at (stage_after stage r))
+after_fits stage (opens next) known all = known
 after_fits stage (plays s next) known all = known.1
 after_fits stage (refuses why) known all = all
 
-pieces_more : (s : Step) (steps : List Step) → piece_steps (s ∷ steps) ≡ pieces_after s 0 + piece_steps steps
-pieces_more (step.Coin addr place) steps = omega arith
-pieces_more (step.Alien addr) steps = omega arith
-pieces_more s steps = omega arith
-
 -- a line, and what the lines after it say
-said_on : (number : ℕ) (stage : Stage) (r : Read) (rest : Script) → IsRead stage r → AreAll Fit (setup_at stage) → IsAllSaid (room (stage_after stage r)) rest → IsAllSaid (room stage) (goes_on number stage r rest)
-said_on number stage (opens next) rest known all said = record { fits = said.fits; plain = said.plain; few = omega (arith, said.few, known.1) }
-said_on number stage (plays s next) rest known all said = record { fits = said.fits; plain = (known.0, said.plain); few = omega (arith, said.few, known.2, pieces_more s rest.steps) }
-said_on number stage (refuses why) rest known all said = record { fits = all; plain = tt; few = omega arith }
+said_on : (number : ℕ) (stage : Stage) (r : Read) (rest : Script) → IsRead r → AreAll Fit (setup_at stage) → IsAllSaid rest → IsAllSaid (goes_on number stage r rest)
+said_on number stage (opens next) rest known all said = said
+said_on number stage (plays s next) rest known all said = record { fits = said.fits; plain = (known.0, said.plain) }
+said_on number stage (refuses why) rest known all said = record { fits = all; plain = tt }
 
-said_from : (number : ℕ) (stage : Stage) (parts : List (List ℕ)) → AreAll Fit (setup_at stage) → IsAllSaid (room stage) (script_from number stage parts)
-said_from number stage [] all = record { fits = all; plain = tt; few = omega arith }
-said_from number stage (rest ∷ []) all = record { fits = all; plain = tt; few = omega arith }
+said_from : (number : ℕ) (stage : Stage) (parts : List (List ℕ)) → AreAll Fit (setup_at stage) → IsAllSaid (script_from number stage parts)
+said_from number stage [] all = record { fits = all; plain = tt }
+said_from number stage (rest ∷ []) all = record { fits = all; plain = tt }
 said_from number stage (line ∷ next ∷ parts) all =
     let r = read_line number stage line in
-    let known : IsRead stage r = line_read number stage line all in
+    let known : IsRead r = line_read number stage line all in
     said_on number stage r _ known all (said_from (number + 1) (stage_after stage r) (next ∷ parts) (after_fits stage r known all))
 
 -- what bytes say
-said : (bytes : List ℕ) → IsAllSaid most_coins (script bytes)
+said : (bytes : List ℕ) → IsAllSaid (script bytes)
 unfolding script
 said bytes = said_from 1 (at_setup no_devices) (slice_split is_line_feed bytes) (record { each = All-nil Fit; distinct = tt })
 
@@ -144,10 +121,6 @@ front_plain : (played rest : List Step) → AllByRecursion IsPlain (played ++ re
 front_plain [] rest all = tt
 front_plain (s ∷ played) rest all = (all.0, front_plain played rest all.1)
 
-front_few : (played rest : List Step) → piece_steps played ≤ piece_steps (played ++ rest)
-front_few [] rest = omega arith
-front_few (s ∷ played) rest = omega (arith, pieces_more s played, pieces_more s (played ++ rest), front_few played rest)
-
 -- the setup of a script
 pub setup_of_today : (bytes : List ℕ) → IsSetupOfToday (script bytes).setup
 setup_of_today bytes =
@@ -155,37 +128,33 @@ setup_of_today bytes =
     record {
       sound = record { devices = All-weaker Fit IsSound (λ d fit. fit.sound) (script bytes).setup.devices all.each; distinct = all.distinct };
       acceptors = All-weaker Fit (λ d. IsAcceptor d.body) (λ d fit. fit.accepting) (script bytes).setup.devices all.each;
-      ids = All-weaker Fit (λ d. HasAllIds d.body) (λ d fit. fit.whole) (script bytes).setup.devices all.each;
     }
 
 -- a front of the steps of a script
 pub front_of_today : (bytes : List ℕ) (played rest : List Step) → (script bytes).steps ≡ played ++ rest → AreOfToday played
 front_of_today bytes played rest fronts =
     let plain : All IsPlain played = All-from_recursion IsPlain played (front_plain played rest (subst (AllByRecursion IsPlain) fronts (said bytes).plain)) in
-    let few : piece_steps (played ++ rest) ≤ most_coins = subst (λ steps. piece_steps steps ≤ most_coins) fronts (said bytes).few in
     record {
       in_range = All-weaker IsPlain IsInRange (λ s is. is.0) played plain;
-      played = All-weaker IsPlain (λ s. is_played s ≡ true) (λ s is. is.2) played plain;
-      no_reset = All-weaker IsPlain IsNoReset (λ s is. is.1) played plain;
-      bytes = All-weaker IsPlain HasBytes (λ s is. is.3) played plain;
-      few = omega (arith, few, front_few played rest);
+      played = All-weaker IsPlain (λ s. is_played s ≡ true) (λ s is. is.1) played plain;
+      bytes = All-weaker IsPlain HasBytes (λ s is. is.2) played plain;
     }
 
 -- and all of them
 pub steps_of_today : (bytes : List ℕ) → AreOfToday (script bytes).steps
 steps_of_today bytes = front_of_today bytes (script bytes).steps [] (sym (append-nil (script bytes).steps))
 
--- a script that was played up to a step posts in order, and loses none in silence
+-- a script that was played up to a step posts in order, and under the pace loses none in silence
 pub played_holds : (bytes : List ℕ) (played rest : List Step) (transcript : List Entry) (d : DeviceSetup) → (script bytes).steps ≡ played ++ rest →
-    Legal (script bytes).setup played transcript → Honest transcript → IsOf (script bytes).setup d → InOrder (lines_in d transcript) × Covers (lines_in d transcript)
+    Legal (script bytes).setup played transcript → Honest transcript → IsOf (script bytes).setup d →
+    InOrder (lines_in d transcript) × (Pace (lines_in d transcript) → Covers (lines_in d transcript))
 played_holds bytes played rest transcript d fronts legal honest own =
     let setup = (script bytes).setup in
     let of_setup = setup_of_today bytes in
     let of_steps = front_of_today bytes played rest fronts in
-    let accepting = (found_in (λ e. IsAcceptor e.body) setup.devices d.addr d of_setup.acceptors own).0 in
-    let few : piece_steps played < 255 = omega (arith, of_steps.few) in (
-      legal_in_order setup played transcript d of_setup.sound own accepting of_steps.in_range of_steps.no_reset legal honest,
-      legal_covers setup played transcript d of_setup.sound own accepting of_steps.in_range of_steps.no_reset legal honest (legal_keeps_pace setup played transcript d legal few),
+    let accepting = (found_in (λ e. IsAcceptor e.body) setup.devices d.addr d of_setup.acceptors own).0 in (
+      legal_in_order setup played transcript d of_setup.sound own accepting of_steps.in_range legal honest,
+      legal_covers setup played transcript d of_setup.sound own accepting of_steps.in_range legal honest,
     )
 
 -- the texts of two scripts that were played up to a step tell their transcripts

@@ -1,12 +1,15 @@
 -- Every entry of a legal transcript is written, so its text tells it.
-use Rattle.std.proofs.Common.{◌≡◌, ◌≢◌, ℕ, ◌<◌, ◌≤◌, ◌==◌, Bool, true, false, cond, List, [], ◌∷◌, ◌++◌, refl, sym, ap, subst, Option, Some, None, MatchBool, All, arith}
-use Rattle.std.specs.Prelude.{⊤}
+use Rattle.std.proofs.Common.{◌≡◌, ◌≢◌, ℕ, ◌<◌, ◌≤◌, ◌==◌, ◌&&◌, Bool, true, false, cond, List, [], ◌∷◌, ◌++◌, refl, sym, ap, subst, Option, Some, None, MatchBool, All, arith, rules}
+use Rattle.std.specs.Prelude.{⊤, find}
+use Rattle.std.specs.Option.{option_map, option_or}
 use Rattle.std.proofs.lemmas.Bool.{ne_eqb}
-use Rattle.std.proofs.lemmas.List.Elements.{All-head, All-tail}
+use Rattle.std.proofs.lemmas.List.Elements.{All-head, All-tail, All-from_recursion}
 use Rattle.cct_model.specs.declared.wire.CheckKind.{CheckKind}
 use Rattle.cct_model.specs.declared.device.DeviceSetup.{DeviceSetup}
 use Rattle.cct_model.specs.declared.device.Setup.{Setup}
 use Rattle.cct_model.specs.declared.request.Request.TheVariants.{AddressPoll, SimplePoll}
+use Rattle.cct_model.specs.declared.record.EpochState.{EpochState}
+use Rattle.cct_model.specs.declared.record.EpochState.TheVariants.{Idle, Running}
 use Rattle.cct_model.specs.declared.command.Command.{Command}
 use Rattle.cct_model.specs.declared.command.Command.TheVariants as command
 use Rattle.cct_model.specs.declared.command.CommandNo.{CommandNo}
@@ -18,25 +21,27 @@ use Rattle.cct_model.specs.declared.entry.Entry.{Entry}
 use Rattle.cct_model.specs.declared.entry.Entry.TheVariants as entry
 use Rattle.cct_model.specs.Request.{data_of}
 use Rattle.cct_model.specs.Text.{text}
+use Rattle.cct_model.specs.Setting.{has_place}
 use Rattle.cct_model.specs.Acceptor.{accepts, path_of}
 use Rattle.cct_model.specs.Device.{IsSound}
 use Rattle.cct_model.specs.Setup.{IsSoundSetup}
 use Rattle.cct_model.specs.Exchange.{after_echo, ask, device_at}
 use Rattle.cct_model.specs.Line.{Line, scanned}
-use Rattle.cct_model.specs.Job.{Job, free, works, job, with_line, Row, sends, puts, no_row, row, recorded, address_of}
+use Rattle.cct_model.specs.Job.{Job, free, works, job, with_line, Row, sends, puts, no_row, row, epoch, address_of}
 use Rattle.cct_model.specs.Scan.{scan_row, end_of_scan, poll_of}
 use Rattle.cct_model.specs.Script.{IsCommand, IsInRange}
-use Rattle.cct_model.specs.Legal.{is_acceptor, coin_entry, busy, at_device, at_acceptor, command_entry, refusal, with_end, is_played_command, RowEntries, NextEntries, PollEntries, ScanEntries, BareNext, OfDevice, OfAcceptor, OfNext, Entries, LegalFrom, Legal}
+use Rattle.cct_model.specs.Legal.{is_acceptor, coin_entry, busy, at_device, at_acceptor, when_free, coin_places, value_at, start_refusal, running_refusal, command_entry, refusal, with_end, is_played_command, RowEntries, NextEntries, PollEntries, ScanEntries, BareNext, OfDevice, OfAcceptor, OfNext, Entries, LegalFrom, Legal}
 use Rattle.cct_model.specs.Transcript.{met, lines_of, scan_own, scan_lines, scan_line, heard_after, onto}
+use Rattle.cct_model.proofs.Polls.{poll_line}
 use Rattle.cct_text.specs.Written.{IsEnd, IsWritten}
 use Rattle.cct_text.proofs.Whole.{text_is_one}
-use Rattle.cct_laws.specs.Law.{HasBytes}
+use Rattle.cct_laws.specs.Law.{IsCommandOfBytes, HasBytes}
 use Rattle.cct_laws.proofs.Setups.{found_in}
 use Rattle.cct_laws.proofs.Steps.{begun_played, played_if, acceptor_if}
 use Rattle.cct_laws.proofs.Said.{IfThere}
 use Rattle.cct_laws.proofs.Bytes.{Bytes}
 use Rattle.cct_laws.proofs.Answering.{path_small}
-use Rattle.cct_laws.proofs.Lists.{Fine, IsAsked, fine_begun, row_asked, poll_line, fine_more, scan_ends}
+use Rattle.cct_laws.proofs.Lists.{Fine, IsAsked, fine_begun, row_asked, fine_more, scan_ends}
 use Rattle.cct_laws.proofs.Told.{IsPlayed, IsPlain, IsTold, AllTold, all_written, heard_bytes, FitsAsk, ask_bytes, poll_fits, FitsJob, job_fits, FitsRow, row_fits, exchange_ends, put_end}
 
 -- what holds of a past
@@ -69,18 +74,18 @@ row_good setup d past news c since (sends q) sound is played fits told good =
     let other : d.addr ≢ 0 = omega (arith, is.low) in
     subst (λ ns. Good (ns ++ past)) (sym told)
     (good_end past d.addr (entry.Wire d.addr sent piece) _ other (rw (ne_eqb d.addr 0 other) refl) (small, sent_bytes, bytes)
-    (exchange_ends d c sent piece since (recorded (lines_of d past)) small played bytes) good)
+    (exchange_ends d c sent piece since (epoch (lines_of d past)) small played bytes) good)
 row_good setup d past news c since (puts r) sound is played fits told good =
     let small : d.addr < 256 = omega (arith, is.high) in
     subst (λ ns. Good (ns ++ past)) (sym told)
-    (good_end past d.addr (entry.Put r) _ (omega (arith, is.low)) refl fits (put_end d c r since (recorded (lines_of d past)) small) good)
+    (good_end past d.addr (entry.Put r) _ (omega (arith, is.low)) refl fits (put_end d c r since (epoch (lines_of d past)) small) good)
 row_good setup d past news c since no_row sound is played fits told good = absurd told
 
 device_next : (setup : Setup) (d : DeviceSetup) (past news : List Entry) (at_work : Job) → IsSoundSetup setup → IsSound d → FitsJob at_work → NextEntries setup d past at_work news → Good past → Good (news ++ past)
 device_next setup d past news free sound is fits told good =
     subst (λ ns. Good (ns ++ past)) (sym told) (good_passed past (entry.Idle d.addr) refl (omega (arith, is.high)) good)
 device_next setup d past news (works c since) sound is fits told good =
-    row_good setup d past news c since (row d c since (recorded (lines_of d past))) sound is fits.0 (row_fits d c since (recorded (lines_of d past)) fits) told good
+    row_good setup d past news c since (row d c since (epoch (lines_of d past))) sound is fits.0 (row_fits d c since (epoch (lines_of d past)) fits) told good
 
 -- a next of a scan
 poll_asks : (addr : ℕ) → FitsAsk (poll_of addr)
@@ -157,8 +162,10 @@ reset_good setup past news addr (Some e) was sound told good =
     subst (λ ns. Good (ns ++ past)) (sym told) (good_passed past (entry.Reset addr) refl (small_there setup addr e was sound) good)
 
 -- a command
-command_played : (c : Command) → is_played_command c ≡ true → IsCommand c → address_of c < 256 → IsPlayed c
+command_played : (c : Command) → is_played_command c ≡ true → IsCommand c → IsCommandOfBytes c → IsPlayed c
+command_played (command.Start addr mask) played h small = small
 command_played (command.Round addr) played h small = small
+command_played (command.Stop addr) played h small = small
 command_played command.Scan played h small = tt
 command_played (command.Ident addr) played h small = small
 command_played (command.Path addr place path) played h small = (small, h.0, h.2)
@@ -179,8 +186,42 @@ kind_plain false why h = tt
 acceptor_plain : (past : List Entry) (found : Option DeviceSetup) → IfThere IsPlain (at_acceptor found (λ d. busy (job (lines_of d past))))
 acceptor_plain past found = device_plain found _ (λ d. kind_plain (is_acceptor d.body) (busy (job (lines_of d past))) (busy_plain (job (lines_of d past))))
 
+-- the tests of a command beside the epoch
+when_plain : (past : List Entry) (further : DeviceSetup → EpochState → Option CommandNo) (d : DeviceSetup) → ((e : DeviceSetup) (state : EpochState) → IfThere IsPlain (further e state)) → IfThere IsPlain (when_free past further d)
+when_plain past further d h = first (busy (job (lines_of d past))) (further d (epoch (lines_of d past))) (busy_plain (job (lines_of d past))) (h d (epoch (lines_of d past)))
+  where
+    first : (one other : Option CommandNo) → IfThere IsPlain one → IfThere IsPlain other → IfThere IsPlain (option_or one other)
+    first None other k l = l
+    first (Some why) other k l = k
+
+epoch_plain : (past : List Entry) (found : Option DeviceSetup) (further : DeviceSetup → EpochState → Option CommandNo) → ((e : DeviceSetup) (state : EpochState) → IfThere IsPlain (further e state)) →
+    IfThere IsPlain (at_acceptor found (when_free past further))
+epoch_plain past found further h = device_plain found _ (λ d. kind_plain (is_acceptor d.body) (when_free past further d) (when_plain past further d h))
+
+-- a place of a mask is one of sixteen
+place_by : (here : Bool) (place : ℕ) (rest : Option ℕ) → place ≤ 16 → IfThere IsPlain (option_map refusals.NoValue rest) → IfThere IsPlain (option_map refusals.NoValue (cond here (Some place) rest))
+place_by true place rest few later = few
+place_by false place rest few later = later
+
+place_plain : (test : ℕ → Bool) (places : List ℕ) → All (λ place. place ≤ 16) places → IfThere IsPlain (option_map refusals.NoValue (find test places))
+place_plain test [] h = tt
+place_plain test (place ∷ places) h = place_by (test place) place (find test places) (All-head (λ p. p ≤ 16) place places h) (place_plain test places (All-tail (λ p. p ≤ 16) place places h))
+
+places_few : All (λ place. place ≤ 16) coin_places
+places_few = All-from_recursion (λ place. place ≤ 16) coin_places (search rules)
+
+start_plain : (mask : ℕ) (d : DeviceSetup) (state : EpochState) → IfThere IsPlain (start_refusal mask d state)
+start_plain mask d Idle = place_plain (λ place. has_place mask place && (value_at d.body place == 0)) coin_places places_few
+start_plain mask d (Running running counter) = tt
+
+running_plain : (d : DeviceSetup) (state : EpochState) → IfThere IsPlain (running_refusal d state)
+running_plain d Idle = tt
+running_plain d (Running mask counter) = tt
+
 refusal_plain : (setup : Setup) (past : List Entry) (c : Command) → IfThere IsPlain (refusal setup past c)
-refusal_plain setup past (command.Round addr) = acceptor_plain past (device_at setup.devices addr)
+refusal_plain setup past (command.Start addr mask) = epoch_plain past (device_at setup.devices addr) (start_refusal mask) (start_plain mask)
+refusal_plain setup past (command.Round addr) = epoch_plain past (device_at setup.devices addr) running_refusal running_plain
+refusal_plain setup past (command.Stop addr) = epoch_plain past (device_at setup.devices addr) running_refusal running_plain
 refusal_plain setup past (command.Path addr place path) = acceptor_plain past (device_at setup.devices addr)
 refusal_plain setup past (command.Ident addr) = device_plain (device_at setup.devices addr) _ (λ d. busy_plain (job (lines_of d past)))
 refusal_plain setup past command.Scan = busy_plain (job (scan_lines past))

@@ -12,11 +12,13 @@ use Rattle.cct_model.specs.declared.device.DeviceBody.TheVariants.{Acceptor, Hop
 use Rattle.cct_model.specs.declared.device.DeviceSetup.{DeviceSetup}
 use Rattle.cct_model.specs.declared.device.Setup.{Setup}
 use Rattle.cct_model.specs.declared.request.Request.{Request}
-use Rattle.cct_model.specs.declared.request.Request.TheVariants.{ReadCredits, SetMask}
+use Rattle.cct_model.specs.declared.request.Request.TheVariants.{ReadCredits, SetMask, GetMask}
 use Rattle.cct_model.specs.declared.record.Record.{Record}
 use Rattle.cct_model.specs.declared.record.Record.TheVariants as record_of
 use Rattle.cct_model.specs.declared.record.Judged.{Judged}
 use Rattle.cct_model.specs.declared.record.Judged.TheVariants.{Nothing, Reading, Broken}
+use Rattle.cct_model.specs.declared.record.EpochState.{EpochState}
+use Rattle.cct_model.specs.declared.record.EpochState.TheVariants.{Running}
 use Rattle.cct_model.specs.declared.command.Command.{Command}
 use Rattle.cct_model.specs.declared.command.Command.TheVariants as command
 use Rattle.cct_model.specs.declared.command.CommandNo.{CommandNo}
@@ -36,8 +38,8 @@ use Rattle.cct_model.specs.Exchange.{ask, asked, asking, answer, got, put_by_add
 use Rattle.cct_model.specs.Line.{Line, accepted, inhibited, fell, exchange, scanned, put, taken, ended, crashed}
 use Rattle.cct_model.specs.Line as line
 use Rattle.cct_model.specs.Reading.{coins_among, posted_of, distance, shows_break, judge}
-use Rattle.cct_model.specs.Job.{Job, free, works, job, begun, with_line, done, credits_reply, credits_line, credits_read, open_mask, judged_by, judged_in, Row, sends, puts, no_row, put_row, send_row, ident_requests, row_at, row, address_of, tries, end_of_put, end_of_reading, end_of_path, end_of_answer, end_of_tries, end_of}
-use Rattle.cct_model.specs.Transcript.{pending, heard_by_devices, heard_by_host, opening, met, answers, heard_after, got_by, owner, lines_of}
+use Rattle.cct_model.specs.Job.{Job, free, works, job, begun, with_line, done, credits_reply, credits_line, credits_read, mask_reply, mask_line, mask_read, judged_by, judged_in, Row, sends, puts, no_row, put_or, send_row, ident_requests, start_row, round_row, stop_row, path_row, row, address_of, tries, end_of_put, end_of_start, end_of_reading, end_of_round, end_of_path, end_of_answer, end_of_tries, end_of_failure, end_of}
+use Rattle.cct_model.specs.Transcript.{pending, heard_by_devices, heard_by_host, met, answers, heard_after, got_by, owner, lines_of}
 use Rattle.cct_model.proofs.Requests.{request_short}
 use Rattle.cct_text.specs.Written.{IsNumber, IsCoin, IsCommand, IsReason, IsRecord, IsFault, IsEnd, IsWritten}
 use Rattle.cct_laws.proofs.Said.{IfThere}
@@ -47,7 +49,9 @@ use Rattle.cct_laws.proofs.Answering.{FitsMet, FitsAll, pairs_taken, there_or, a
 
 -- a command that is played, whose numbers are in range
 abbrev pub IsPlayed : Command → Type 0
+IsPlayed (command.Start addr mask) = (addr < 256) × (mask < 65536)
 IsPlayed (command.Round addr) = addr < 256
+IsPlayed (command.Stop addr) = addr < 256
 IsPlayed command.Scan = ⊤
 IsPlayed (command.Ident addr) = addr < 256
 IsPlayed (command.Path addr place path) = (addr < 256) × (place ≤ 16) × (path ≤ 8)
@@ -58,6 +62,9 @@ abbrev pub IsPlain : CommandNo → Type 0
 IsPlain refusals.NoDevice = ⊤
 IsPlain refusals.WrongKind = ⊤
 IsPlain refusals.Busy = ⊤
+IsPlain refusals.EpochRuns = ⊤
+IsPlain refusals.NoEpoch = ⊤
+IsPlain (refusals.NoValue place) = place ≤ 16
 IsPlain why = ⊥
 
 -- an entry tells numbers and bytes in range
@@ -84,7 +91,9 @@ byte_number : (n : ℕ) → n < 256 → IsNumber n
 byte_number n h = omega (arith, h)
 
 command_numbers : (c : Command) → IsPlayed c → IsCommand c
+command_numbers (command.Start addr mask) h = (byte_number addr h.0, omega (arith, h.1))
 command_numbers (command.Round addr) h = byte_number addr h
+command_numbers (command.Stop addr) h = byte_number addr h
 command_numbers command.Scan h = tt
 command_numbers (command.Ident addr) h = byte_number addr h
 command_numbers (command.Path addr place path) h = (byte_number addr h.0, omega (arith, h.1), omega (arith, h.2))
@@ -94,6 +103,9 @@ reason_numbers : (why : CommandNo) → IsPlain why → IsReason why
 reason_numbers refusals.NoDevice h = tt
 reason_numbers refusals.WrongKind h = tt
 reason_numbers refusals.Busy h = tt
+reason_numbers refusals.EpochRuns h = tt
+reason_numbers refusals.NoEpoch h = tt
+reason_numbers (refusals.NoValue place) h = omega (arith, h)
 reason_numbers why h = absurd h
 
 pub told_written : (e : Entry) → IsTold e → IsWritten e
@@ -173,12 +185,8 @@ met_if : (b : Bool) (m : Met) (ms : List Met) → FitsMet m → FitsAll ms → F
 met_if true m ms h k = (h, k)
 met_if false m ms h k = k
 
-opening_fits : (body : DeviceBody) → FitsAll (opening body)
-opening_fits (Acceptor accepts values ids) = (omega arith, tt)
-opening_fits (Hopper life value) = tt
-
 met_fits : (d : DeviceSetup) (past : List Entry) → AllTold past → FitsAll (met d past)
-met_fits d [] h = opening_fits d.body
+met_fits d [] h = tt
 met_fits d (entry.Accepted addr c ∷ past) h = met_if (addr == d.addr) (coin c.place) (met d past) h.0.1 (met_fits d past h.1)
 met_fits d (entry.Inhibited addr place ∷ past) h = met_if (addr == d.addr) (coin place) (met d past) h.0.1 (met_fits d past h.1)
 met_fits d (entry.Alien addr ∷ past) h = met_if (addr == d.addr) alien (met d past) tt (met_fits d past h.1)
@@ -292,6 +300,18 @@ read_fits : (lines : List Line) → FitsLines lines → IfThere FitsCredits (cre
 read_fits [] h = tt
 read_fits (l ∷ lines) h = there_or FitsCredits (credits_line l) (credits_read lines) (line_credits l h.0) (read_fits lines h.1)
 
+reply_mask : (found : Option Reply) → IfThere FitsReply found → IfThere (λ mask. mask < 65536) (mask_reply found)
+reply_mask (Some (reply.mask m)) h = h
+reply_mask found h = tt
+
+line_mask : (l : Line) → FitsLine l → IfThere (λ mask. mask < 65536) (mask_line l)
+line_mask (exchange (Some GetMask) found) h = reply_mask found h
+line_mask l h = tt
+
+mask_fits : (lines : List Line) → FitsLines lines → IfThere (λ mask. mask < 65536) (mask_read lines)
+mask_fits [] h = tt
+mask_fits (l ∷ lines) h = there_or (λ mask. mask < 65536) (mask_line l) (mask_read lines) (line_mask l h.0) (mask_fits lines h.1)
+
 -- what is judged
 abbrev FitsJudged : Judged → Type 0
 FitsJudged Nothing = ⊤
@@ -324,22 +344,26 @@ distance_fits : (old new : ℕ) → new < 256 → distance old new < 256
 unfolding distance
 distance_fits old new h = distance_by (old == 0) (new == 0) old new h
 
-judged_by_tests : (breaks none : Bool) (addr counter lost : ℕ) (coins : List Coin) → addr < 256 → counter < 256 → lost < 256 → All IsCoin coins →
-    FitsJudged (cond breaks (Broken (record_of.Broken addr open_mask counter coins)) (cond none Nothing (Reading (record_of.Reading addr counter lost coins))))
-judged_by_tests true none addr counter lost coins h k l m = (byte_number addr h, omega arith, byte_number counter k, m)
-judged_by_tests false true addr counter lost coins h k l m = tt
-judged_by_tests false false addr counter lost coins h k l m = (byte_number addr h, byte_number counter k, byte_number lost l, m)
+judged_by_tests : (breaks none : Bool) (addr seen counter lost : ℕ) (coins : List Coin) → addr < 256 → seen < 65536 → counter < 256 → lost < 256 → All IsCoin coins →
+    FitsJudged (cond breaks (Broken (record_of.Broken addr seen counter coins)) (cond none Nothing (Reading (record_of.Reading addr counter lost coins))))
+judged_by_tests true none addr seen counter lost coins h i k l m = (byte_number addr h, omega (arith, i), byte_number counter k, m)
+judged_by_tests false true addr seen counter lost coins h i k l m = tt
+judged_by_tests false false addr seen counter lost coins h i k l m = (byte_number addr h, byte_number counter k, byte_number lost l, m)
 
-judge_fits : (addr before : ℕ) (c : Credits) → addr < 256 → FitsCredits c → FitsJudged (judge addr open_mask before c open_mask)
+judge_fits : (addr mask before seen : ℕ) (c : Credits) → addr < 256 → seen < 65536 → FitsCredits c → FitsJudged (judge addr mask before c seen)
 unfolding judge
-judge_fits addr before c h k =
+judge_fits addr mask before seen c h i k =
     let n = distance before c.counter in
     let near : n < 256 = distance_fits before c.counter k.0 in
-    judged_by_tests (shows_break open_mask before open_mask c.counter) (n == 0) addr c.counter (n - 5) (posted_of n c.pairs) h k.0 (omega (arith, near)) (posted_fit n c.pairs k.1)
+    judged_by_tests (shows_break mask before seen c.counter) (n == 0) addr seen c.counter (n - 5) (posted_of n c.pairs) h i k.0 (omega (arith, near)) (posted_fit n c.pairs k.1)
 
-judged_there : (addr before : ℕ) (found : Option Credits) → addr < 256 → IfThere FitsCredits found → FitsJudged (judged_by addr before found)
-judged_there addr before None h k = tt
-judged_there addr before (Some c) h k = judge_fits addr before c h k
+judged_there : (addr : ℕ) (state : EpochState) (found : Option Credits) (seen : Option ℕ) → addr < 256 → IfThere FitsCredits found → IfThere (λ mask. mask < 65536) seen →
+    FitsJudged (judged_by addr state found seen)
+judged_there addr (Running mask before) (Some c) (Some seen) h k i = judge_fits addr mask before seen c h i k
+judged_there addr state found seen h k i = tt
+
+judged_fits : (c : Command) (since : List Line) (state : EpochState) → address_of c < 256 → FitsLines since → FitsJudged (judged_in c since state)
+judged_fits c since state h k = judged_there (address_of c) state (credits_read since) (mask_read since) h (read_fits since k) (mask_fits since k)
 
 -- the row of a job
 abbrev pub FitsRow : Row → Type 0
@@ -347,16 +371,34 @@ FitsRow (sends q) = FitsAsk q
 FitsRow (puts r) = IsRecord r
 FitsRow no_row = ⊤
 
-put_row_fits : (judged : Judged) → FitsJudged judged → FitsRow (put_row judged)
-put_row_fits Nothing h = tt
-put_row_fits (Reading r) h = h
-put_row_fits (Broken r) h = h
+put_or_fits : (other : Row) (judged : Judged) → FitsRow other → FitsJudged judged → FitsRow (put_or other judged)
+put_or_fits other Nothing h k = h
+put_or_fits other (Reading r) h k = k
+put_or_fits other (Broken r) h k = k
 
-round_fits : (body : DeviceBody) (addr rows : ℕ) (judged : Judged) → FitsJudged judged → FitsRow (row_at body (command.Round addr) rows judged)
+start_fits : (addr mask rows : ℕ) → addr < 256 → mask < 65536 → FitsRow (start_row addr mask rows)
 unfolding data_of
-round_fits body addr zero judged h = tt
-round_fits body addr (suc zero) judged h = put_row_fits judged h
-round_fits body addr (suc (suc rows)) judged h = tt
+start_fits addr mask zero h k = tt
+start_fits addr mask (suc zero) h k = tt
+start_fits addr mask (suc (suc zero)) h k = (byte_number addr h, omega (arith, k))
+start_fits addr mask (suc (suc (suc zero))) h k = (omega arith, (omega (arith, k), tt))
+start_fits addr mask (suc (suc (suc (suc rows)))) h k = tt
+
+round_fits : (rows : ℕ) (judged : Judged) → FitsJudged judged → FitsRow (round_row rows judged)
+unfolding data_of
+round_fits zero judged h = tt
+round_fits (suc zero) judged h = tt
+round_fits (suc (suc zero)) judged h = put_or_fits no_row judged tt h
+round_fits (suc (suc (suc rows))) judged h = tt
+
+stop_fits : (addr rows : ℕ) (judged : Judged) → addr < 256 → FitsJudged judged → FitsRow (stop_row addr rows judged)
+unfolding data_of
+stop_fits addr zero judged h k = (omega arith, tt)
+stop_fits addr (suc zero) judged h k = tt
+stop_fits addr (suc (suc zero)) judged h k = tt
+stop_fits addr (suc (suc (suc zero))) judged h k = put_or_fits (puts (record_of.EpochEnd addr)) judged (byte_number addr h) k
+stop_fits addr (suc (suc (suc (suc zero)))) judged h k = byte_number addr h
+stop_fits addr (suc (suc (suc (suc (suc rows))))) judged h k = tt
 
 sends_fit : (r : Row) → IfSends FitsAsk r → FitsRow r
 sends_fit (sends q) h = h
@@ -368,41 +410,58 @@ unfolding data_of
 ident_fits (Acceptor accepts values ids) rows = each_row FitsAsk (ident_requests (Acceptor accepts values ids)) rows (search rules)
 ident_fits (Hopper life value) rows = each_row FitsAsk (ident_requests (Hopper life value)) rows (search rules)
 
-path_fits : (body : DeviceBody) (addr place path rows : ℕ) (judged : Judged) → place ≤ 16 → path ≤ 8 → FitsRow (row_at body (command.Path addr place path) rows judged)
+path_fits : (place path rows : ℕ) → place ≤ 16 → path ≤ 8 → FitsRow (path_row place path rows)
 unfolding data_of
-path_fits body addr place path zero judged h k = poll_fits (place == 0) _ _ (omega (arith, k), tt) (omega (arith, h), (omega (arith, k), tt))
-path_fits body addr place path (suc zero) judged h k = poll_fits (place == 0) _ _ tt (omega (arith, h), tt)
-path_fits body addr place path (suc (suc rows)) judged h k = tt
+path_fits place path zero h k = poll_fits (place == 0) _ _ (omega (arith, k), tt) (omega (arith, h), (omega (arith, k), tt))
+path_fits place path (suc zero) h k = poll_fits (place == 0) _ _ tt (omega (arith, h), tt)
+path_fits place path (suc (suc rows)) h k = tt
 
-pub row_fits : (d : DeviceSetup) (c : Command) (since : List Line) (counter : ℕ) → FitsJob (works c since) → FitsRow (row d c since counter)
-row_fits d (command.Round addr) since counter h =
-    round_fits d.body addr (done since) (judged_in (command.Round addr) since counter) (judged_there addr counter (credits_read since) h.0 (read_fits since h.1))
-row_fits d command.Scan since counter h = tt
-row_fits d (command.Ident addr) since counter h = sends_fit (send_row (slice_get (ident_requests d.body) (done since))) (ident_fits d.body (done since))
-row_fits d (command.Path addr place path) since counter h = path_fits d.body addr place path (done since) (judged_in (command.Path addr place path) since counter) h.0.1 h.0.2
-row_fits d c since counter h = absurd h.0
+pub row_fits : (d : DeviceSetup) (c : Command) (since : List Line) (state : EpochState) → FitsJob (works c since) → FitsRow (row d c since state)
+row_fits d (command.Start addr mask) since state h = start_fits addr mask (done since) h.0.0 h.0.1
+row_fits d (command.Round addr) since state h = round_fits (done since) (judged_in (command.Round addr) since state) (judged_fits (command.Round addr) since state h.0 h.1)
+row_fits d (command.Stop addr) since state h = stop_fits addr (done since) (judged_in (command.Stop addr) since state) h.0 (judged_fits (command.Stop addr) since state h.0 h.1)
+row_fits d command.Scan since state h = tt
+row_fits d (command.Ident addr) since state h = sends_fit (send_row (slice_get (ident_requests d.body) (done since))) (ident_fits d.body (done since))
+row_fits d (command.Path addr place path) since state h = path_fits place path (done since) h.0.1 h.0.2
+row_fits d c since state h = absurd h.0
 
 -- the end that a line brings
 ends_if : (addr : ℕ) (b : Bool) (end : End) → IsEnd addr end → IfThere (IsEnd addr) (cond b (Some end) None)
 ends_if addr true end h = h
 ends_if addr false end h = tt
 
-put_ends : (addr : ℕ) (r : Record) → addr < 256 → IfThere (IsEnd addr) (end_of_put r)
-put_ends addr (record_of.Reading a counter lost posted) h = byte_number addr h
-put_ends addr (record_of.Broken a seen counter posted) h = byte_number addr h
-put_ends addr r h = tt
+put_ends : (addr : ℕ) (c : Command) (r : Record) → addr < 256 → IfThere (IsEnd addr) (end_of_put c r)
+put_ends addr (command.Round at) (record_of.Reading a counter lost posted) h = byte_number addr h
+put_ends addr (command.Round at) (record_of.Broken a seen counter posted) h = byte_number addr h
+put_ends addr (command.Stop at) (record_of.Broken a seen counter posted) h = byte_number addr h
+put_ends addr (command.Stop at) (record_of.EpochEnd a) h = byte_number addr h
+put_ends addr c r h = tt
+
+start_ends : (addr rows : ℕ) (y : Reply) → addr < 256 → FitsReply y → IfThere (IsEnd addr) (end_of_start rows y)
+start_ends addr (suc (suc zero)) (reply.credits c) h l = unquiet (c.counter == 0)
+  where
+    unquiet : (quiet : Bool) → IfThere (IsEnd addr) (cond quiet None (Some (ends_of.Unquiet c.counter)))
+    unquiet true = tt
+    unquiet false = (byte_number addr h, byte_number c.counter l.0)
+start_ends addr (suc (suc (suc (suc zero)))) y h l = byte_number addr h
+start_ends addr rows y h l = tt
 
 reading_ends : (addr : ℕ) (judged : Judged) → addr < 256 → IfThere (IsEnd addr) (end_of_reading judged)
 reading_ends addr Nothing h = byte_number addr h
 reading_ends addr (Reading r) h = tt
 reading_ends addr (Broken r) h = tt
 
+round_ends : (addr rows : ℕ) (judged : Judged) → addr < 256 → IfThere (IsEnd addr) (end_of_round rows judged)
+round_ends addr (suc (suc zero)) judged h = reading_ends addr judged h
+round_ends addr rows judged h = tt
+
 path_ends : (addr place rows : ℕ) (y : Reply) → addr < 256 → place ≤ 16 → FitsReply y → IfThere (IsEnd addr) (end_of_path place rows y)
 path_ends addr place (suc (suc zero)) (reply.path number) h k l = (byte_number addr h, omega (arith, k), byte_number number l)
 path_ends addr place rows y h k l = tt
 
 answer_ends : (addr : ℕ) (body : DeviceBody) (c : Command) (rows : ℕ) (y : Reply) (judged : Judged) → addr < 256 → IsPlayed c → FitsReply y → IfThere (IsEnd addr) (end_of_answer body c rows y judged)
-answer_ends addr body (command.Round a) rows y judged h k l = reading_ends addr judged h
+answer_ends addr body (command.Start a mask) rows y judged h k l = start_ends addr rows y h l
+answer_ends addr body (command.Round a) rows y judged h k l = round_ends addr rows judged h
 answer_ends addr body (command.Ident a) rows y judged h k l = ends_if addr (length (ident_requests body) == rows) ends_of.Told (byte_number addr h)
 answer_ends addr body (command.Path a place path) rows y judged h k l = path_ends addr place rows y h k.1 l
 answer_ends addr body c rows y judged h k l = tt
@@ -410,15 +469,19 @@ answer_ends addr body c rows y judged h k l = tt
 tries_end : (addr failed : ℕ) → addr < 256 → IfThere (IsEnd addr) (end_of_tries failed)
 tries_end addr failed h = ends_if addr (failed == 3) ends_of.NoAnswer (byte_number addr h)
 
-pub exchange_ends : (d : DeviceSetup) (c : Command) (sent piece : List ℕ) (since : List Line) (counter : ℕ) → d.addr < 256 → IsPlayed c → Bytes piece →
-    IfThere (IsEnd d.addr) (end_of d c (exchange (asked d.kind sent) (got_by d sent piece)) since counter)
-exchange_ends d c sent piece since counter h k l = by_got (asked d.kind sent) (got_by d sent piece) (got_by_fits d sent piece l)
+failure_end : (addr : ℕ) (q : Request) (failed : ℕ) → addr < 256 → IfThere (IsEnd addr) (end_of_failure q failed)
+failure_end addr (SetMask mask) failed h = byte_number addr h
+failure_end addr q failed h = tries_end addr failed h
+
+pub exchange_ends : (d : DeviceSetup) (c : Command) (sent piece : List ℕ) (since : List Line) (state : EpochState) → d.addr < 256 → IsPlayed c → Bytes piece →
+    IfThere (IsEnd d.addr) (end_of d c (exchange (asked d.kind sent) (got_by d sent piece)) since state)
+exchange_ends d c sent piece since state h k l = by_got (asked d.kind sent) (got_by d sent piece) (got_by_fits d sent piece l)
   where
-    by_got : (asks : Option Request) (found : Option Reply) → IfThere FitsReply found → IfThere (IsEnd d.addr) (end_of d c (exchange asks found) since counter)
+    by_got : (asks : Option Request) (found : Option Reply) → IfThere FitsReply found → IfThere (IsEnd d.addr) (end_of d c (exchange asks found) since state)
     by_got None None fits = tt
-    by_got (Some q) None fits = tries_end d.addr (tries (header_of q) (exchange (Some q) None ∷ since)) h
+    by_got (Some q) None fits = failure_end d.addr q (tries (header_of q) (exchange (Some q) None ∷ since)) h
     by_got None (Some y) fits = answer_ends d.addr d.body c _ y _ h k fits
     by_got (Some q) (Some y) fits = answer_ends d.addr d.body c _ y _ h k fits
 
-pub put_end : (d : DeviceSetup) (c : Command) (r : Record) (since : List Line) (counter : ℕ) → d.addr < 256 → IfThere (IsEnd d.addr) (end_of d c (put r) since counter)
-put_end d c r since counter h = put_ends d.addr r h
+pub put_end : (d : DeviceSetup) (c : Command) (r : Record) (since : List Line) (state : EpochState) → d.addr < 256 → IfThere (IsEnd d.addr) (end_of d c (put r) since state)
+put_end d c r since state h = put_ends d.addr c r h

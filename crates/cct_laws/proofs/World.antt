@@ -1,110 +1,211 @@
--- What holds of an acceptor's events beside the lines of its address, and how each line keeps it.
-use Rattle.std.proofs.Common.{◌≡◌, ℕ, ◌+◌, ◌-◌, ◌<◌, ◌≤◌, List, ◌++◌, length, ap, sym, ◌∙◌, subst, Some, arith, length-append}
+-- What holds of an acceptor beside the coins and the pieces that its lines tell, and what moves keep it.
+use Rattle.std.proofs.Common.{◌≡◌, ◌≢◌, ℕ, suc, ◌+◌, ◌≤◌, ◌⊎◌, inl, inr, ◌&&◌, Bool, true, false, List, [], ◌∷◌, ◌++◌, length, refl, ap, sym, ◌∙◌, arith, ne_eqb}
+use Rattle.std.proofs.lemmas.Bool.Decides.{nat_tests}
 use Rattle.cct_model.specs.declared.coin.Pair.{Pair}
-use Rattle.cct_model.specs.declared.coin.Credits.{Credits}
-use Rattle.cct_model.specs.declared.request.Request.TheVariants.{ReadCredits}
-use Rattle.cct_model.specs.Reply as reply
-use Rattle.cct_model.specs.declared.record.Record.{Record}
-use Rattle.cct_model.specs.declared.record.Record.TheVariants as record_of
-use Rattle.cct_model.specs.Line.{Line, exchange, put}
-use Rattle.cct_model.specs.Job.{recorded}
-use Rattle.cct_model.specs.Reading.{coins_among, posted_of, distance}
-use Rattle.cct_model.specs.Acceptor.{counter, last_five}
-use Rattle.cct_model.specs.Claims.{coins, reading, mark, part, AreNewest, OrderAt, CoverAt, InOrder, Covers, arrivals, base, Near, Pace}
-use Rattle.cct_laws.proofs.Counters.{distance_most, distance_near}
-use Rattle.cct_laws.proofs.Newest.{coins_among-append, take_front, posted_newest, posted_most}
+use Rattle.cct_model.specs.declared.coin.Coin.{Coin}
+use Rattle.cct_model.specs.Setting.{Setting, master_set, path_set, default_set, has_place, mask_in, accepts_in}
+use Rattle.cct_model.specs.Reading.{coins_among}
+use Rattle.cct_model.specs.Acceptor.{counter, settings, events}
+use Rattle.cct_model.specs.History.{Met}
+use Rattle.cct_model.specs.Line.{Line}
+use Rattle.cct_model.specs.Claims.{coins, arrivals}
 
--- the lines tell the coins among the events, and how many events there are
-pub record Known (events : List Pair) (lines : List Line) : Type 0 where
-  pub coins_are : coins lines ≡ coins_among events
-  pub arrivals_are : arrivals lines ≡ length events
+-- an acceptor's events and settings, beside the coins and the number of pieces that the lines of its address tell
+pub record World : Type 0 where
+  pub events : List Pair
+  pub settings : List Setting
+  pub coins : List Coin
+  pub arrivals : ℕ
 
--- the recorded counter is that of the old events, whose coins are those up to the mark
-pub record Settled (events : List Pair) (lines : List Line) : Type 0 where
+abbrev pub world : List Met → List Line → World
+world past lines = record { events = events past; settings = settings past; coins = coins lines; arrivals = arrivals lines }
+
+abbrev pub mask_at : World → ℕ
+mask_at w = mask_in w.settings
+
+-- no coin is accepted
+abbrev pub Shut : World → Type 0
+Shut w = (place : ℕ) → accepts_in w.settings place ≡ false
+
+-- no place is open, and no coin is among the events
+pub record Silent (w : World) : Type 0 where
+  pub masked : mask_at w ≡ 0
+  pub none : coins_among w.events ≡ []
+
+-- a moment has this event counter and this many coins, and since this many pieces had come no more came than events are
+-- behind it
+pub record After (w : World) (k m t : ℕ) : Type 0 where
   pub new : List Pair
   pub old : List Pair
-  pub split : events ≡ new ++ old
-  pub counted : recorded lines ≡ counter (length old)
-  pub marked : mark lines ≡ length (coins_among old)
-  pub based : base lines ≤ length old
+  pub before : List Coin
+  pub split : w.events ≡ new ++ old
+  pub coins_are : w.coins ≡ coins_among new ++ before
+  pub counted : counter (length old) ≡ k
+  pub marked : length before ≡ m
+  pub came : length new + t ≤ w.arrivals
 
--- what holds after every line
-pub record Sound (events : List Pair) (lines : List Line) : Type 0 where
-  pub known : Known events lines
-  pub settled : Settled events lines
-  pub in_order : InOrder lines
-  pub covers : Pace lines → Covers lines
+-- the mask is that of an epoch, or the acceptor was reset and is silent
+abbrev pub IsLive : World → ℕ → Type 0
+IsLive w mask = (mask_at w ≡ mask) ⊎ Silent w
 
--- what is read of these events
-abbrev pub credits_at : List Pair → Credits
-credits_at events = record { counter = counter (length events); pairs = last_five events }
+-- while the mask is that of an epoch, a moment stands behind its events
+pub record Tracks (w : World) (mask k m t : ℕ) : Type 0 where
+  pub nonzero : mask ≢ 0
+  pub after : mask_at w ≡ mask → After w k m t
 
--- a job holds the credits that were read, and later events came since
-pub record Held (events : List Pair) (lines : List Line) (credits : Credits) : Type 0 where
-  pub later : List Pair
-  pub read : List Pair
-  pub split : events ≡ later ++ read
-  pub known : Known read (reading lines)
-  pub settled : Settled read lines
-  pub credits_are : credits ≡ credits_at read
+-- what a move of the acceptor keeps
+pub record On (w v : World) : Type 0 where
+  pub shut : Shut w → Shut v
+  pub same : Shut w → v.coins ≡ w.coins
+  pub silent : Silent w → Silent v
+  pub live : (mask : ℕ) → IsLive w mask → IsLive v mask
+  pub masked : (mask : ℕ) → mask ≢ 0 → mask_at v ≡ mask → mask_at w ≡ mask
+  pub after : (mask k m t : ℕ) → mask ≢ 0 → mask_at v ≡ mask → After w k m t → After v k m t
+  pub few : (t : ℕ) → length w.events + t ≤ w.arrivals → length v.events + t ≤ v.arrivals
+  pub longer : length w.coins ≤ length v.coins
 
--- the line by which credits were read
-abbrev pub read_line : Credits → Line
-read_line credits = exchange (Some ReadCredits) (Some (reply.credits credits))
+-- a moment stays behind the events
+pub tracks_on : (w v : World) (mask k m t : ℕ) → On w v → Tracks w mask k m t → Tracks v mask k m t
+tracks_on w v mask k m t on tracks = record {
+  nonzero = tracks.nonzero;
+  after = λ is_mask. on.after mask k m t tracks.nonzero is_mask (tracks.after (on.masked mask tracks.nonzero is_mask));
+}
 
--- how many events are judged to be new
-abbrev pub new_by : List Line → Credits → ℕ
-new_by lines credits = distance (recorded lines) credits.counter
+-- a mask of 0 has no place
 
--- the length of the events is that of the new and the old ones
-pub new_and_old : (events : List Pair) (lines : List Line) (settled : Settled events lines) → length events ≡ length settled.new + length settled.old
-new_and_old events lines settled = ap length settled.split ∙ length-append settled.new settled.old
+no_place : (place : ℕ) → has_place 0 place ≡ false
+unfolding has_place
+no_place place = grind (arith, nat_tests)
 
--- no more events are judged new than came
-pub new_most : (events : List Pair) (lines : List Line) (settled : Settled events lines) → new_by lines (credits_at events) ≤ length settled.new
-new_most events lines settled = rw (settled.counted, new_and_old events lines settled) (distance_most (length settled.new) (length settled.old))
+and_false : (b : Bool) → (b && false) ≡ false
+and_false true = refl
+and_false false = refl
 
--- and just as many where fewer than 255 came
-pub new_near : (events : List Pair) (lines : List Line) (settled : Settled events lines) → length settled.new < 255 → new_by lines (credits_at events) ≡ length settled.new
-new_near events lines settled near = rw (settled.counted, new_and_old events lines settled) (distance_near (length settled.new) (length settled.old) near)
+pub closed : (w : World) → mask_at w ≡ 0 → Shut w
+closed w zero_mask place = rw (zero_mask, no_place place) refl
 
--- under the pace there are few new ones
-pub new_few : (events : List Pair) (lines : List Line) (settled : Settled events lines) → Known events (reading lines) → Near lines → length settled.new < 255
-new_few events lines settled known near = omega (arith, new_and_old events lines settled, known.arrivals_are, settled.based)
+-- a piece came
 
--- the coins that were read are those of the new events and those of the old
-pub coins_split : (events : List Pair) (lines : List Line) (settled : Settled events lines) → coins_among events ≡ coins_among settled.new ++ coins_among settled.old
-coins_split events lines settled = ap coins_among settled.split ∙ coins_among-append settled.new settled.old
+came_more : (w : World) (pair : Pair) (coins : List Coin) (k m t : ℕ) →
+    ((new : List Pair) (before : List Coin) → w.coins ≡ coins_among new ++ before → coins ≡ coins_among (pair ∷ new) ++ before) →
+    After w k m t → After (record { events = pair ∷ w.events; settings = w.settings; coins = coins; arrivals = suc w.arrivals }) k m t
+came_more w pair coins k m t grows after = record {
+  new = pair ∷ after.new;
+  old = after.old;
+  before = after.before;
+  split = ap (λ es. pair ∷ es) after.split;
+  coins_are = grows after.new after.before after.coins_are;
+  counted = after.counted;
+  marked = after.marked;
+  came = omega (arith, after.came);
+}
 
--- the part of an item is the coins of the new events
-pub part_new : (events : List Pair) (lines : List Line) (settled : Settled events lines) → Known events (reading lines) → part lines ≡ coins_among settled.new
-part_new events lines settled known =
-    rw (known.coins_are ∙ coins_split events lines settled, settled.marked) (take_front (coins_among settled.new) (coins_among settled.old))
+-- an accepted coin
+abbrev pub with_coin : World → Coin → World
+with_coin w coin = record { events = record { a = coin.place; b = coin.path } ∷ w.events; settings = w.settings; coins = coin ∷ w.coins; arrivals = suc w.arrivals }
 
--- the mark doesn't go back
-pub mark_most : (events : List Pair) (lines : List Line) (settled : Settled events lines) → Known events (reading lines) → mark lines ≤ length (coins (reading lines))
-mark_most events lines settled known =
-    omega (arith, settled.marked, ap length (known.coins_are ∙ coins_split events lines settled), length-append (coins_among settled.new) (coins_among settled.old))
+pub on_coin : (w : World) (coin : Coin) → 1 ≤ coin.place → accepts_in w.settings coin.place ≡ true → On w (with_coin w coin)
+on_coin w coin has_place accepted = record {
+  shut = λ shut. shut;
+  same = λ shut. absurd (clash (sym accepted ∙ shut coin.place));
+  silent = λ silent. absurd (clash (sym accepted ∙ closed w silent.masked coin.place));
+  live = λ mask live. elim live as (λ _. IsLive (with_coin w coin) mask) [
+    | inl is ↦ inl is
+    | inr silent ↦ absurd (clash (sym accepted ∙ closed w silent.masked coin.place))
+  ];
+  masked = λ mask some is. is;
+  after = λ mask k m t some is after. came_more w (record { a = coin.place; b = coin.path }) (coin ∷ w.coins) k m t
+      (λ new before known. rw (ne_eqb coin.place 0 (omega (arith, has_place))) (ap (λ cs. coin ∷ cs) known)) after;
+  few = λ t few. omega (arith, few);
+  longer = omega arith;
+}
+  where
+    clash : true ≡ false → ⊥
+    clash e = cc
 
--- the record that is put
-abbrev pub record_put : ℕ → List Line → Credits → Record
-record_put addr lines credits = record_of.Reading addr credits.counter (new_by lines credits - 5) (posted_of (new_by lines credits) credits.pairs)
+-- any other piece
+abbrev pub with_piece : World → ℕ → World
+with_piece w error = record { events = record { a = 0; b = error } ∷ w.events; settings = w.settings; coins = w.coins; arrivals = suc w.arrivals }
 
--- a put reading's posts are the newest coins of its part
-pub put_in_order : (addr : ℕ) (events : List Pair) (lines : List Line) → Settled events lines → Known events (reading lines) → OrderAt lines (put (record_put addr lines (credits_at events)))
-put_in_order addr events lines settled known =
-    let n = new_by lines (credits_at events) in (
-      mark_most events lines settled known,
-      rw (part_new events lines settled known)
-          (subst (λ es. AreNewest (posted_of n (last_five es)) (coins_among settled.new)) (sym settled.split)
-          (posted_newest settled.new settled.old n (new_most events lines settled))),
-    )
+pub on_piece : (w : World) (error : ℕ) → On w (with_piece w error)
+on_piece w error = record {
+  shut = λ shut. shut;
+  same = λ shut. refl;
+  silent = λ silent. record { masked = silent.masked; none = silent.none };
+  live = λ mask live. elim live as (λ _. IsLive (with_piece w error) mask) [
+    | inl is ↦ inl is
+    | inr silent ↦ inr (record { masked = silent.masked; none = silent.none })
+  ];
+  masked = λ mask some is. is;
+  after = λ mask k m t some is after. came_more w (record { a = 0; b = error }) w.coins k m t (λ new before known. known) after;
+  few = λ t few. omega (arith, few);
+  longer = omega arith;
+}
 
--- under the pace it leaves no more coins unposted than it reports lost
-pub put_covers : (addr : ℕ) (events : List Pair) (lines : List Line) → Settled events lines → Known events (reading lines) → Near lines → CoverAt lines (put (record_put addr lines (credits_at events)))
-put_covers addr events lines settled known near =
-    let n = new_by lines (credits_at events) in
-    let all = new_near events lines settled (new_few events lines settled known near) in
-    rw (part_new events lines settled known)
-    (subst (λ es. length (coins_among settled.new) ≤ (n - 5) + length (posted_of n (last_five es))) (sym settled.split)
-    (posted_most settled.new settled.old n all))
+-- a reset
+abbrev pub fresh : World → World
+fresh w = record { events = []; settings = []; coins = w.coins; arrivals = w.arrivals }
+
+pub silent_fresh : (w : World) → Silent (fresh w)
+silent_fresh w = record { masked = refl; none = refl }
+
+pub on_reset : (w : World) → On w (fresh w)
+on_reset w = record {
+  shut = λ shut. closed (fresh w) refl;
+  same = λ shut. refl;
+  silent = λ silent. silent_fresh w;
+  live = λ mask live. inr (silent_fresh w);
+  masked = λ mask some is. absurd (some (sym is));
+  after = λ mask k m t some is after. absurd (some (sym is));
+  few = λ t few. omega (arith, few);
+  longer = omega arith;
+}
+
+-- settings were made that accept no more coins, and leave the mask
+abbrev pub with_settings : World → List Setting → World
+with_settings w settings = record { events = w.events; settings = settings; coins = w.coins; arrivals = w.arrivals }
+
+after_settings : (w : World) (settings : List Setting) (k m t : ℕ) → After w k m t → After (with_settings w settings) k m t
+after_settings w settings k m t after = record {
+  new = after.new;
+  old = after.old;
+  before = after.before;
+  split = after.split;
+  coins_are = after.coins_are;
+  counted = after.counted;
+  marked = after.marked;
+  came = after.came;
+}
+
+pub on_settings : (w : World) (settings : List Setting) → mask_in settings ≡ mask_at w → (Shut w → Shut (with_settings w settings)) → On w (with_settings w settings)
+on_settings w settings same_mask stays_shut =
+    let stays_silent : Silent w → Silent (with_settings w settings) = λ silent. record { masked = same_mask ∙ silent.masked; none = silent.none } in
+    record {
+      shut = stays_shut;
+      same = λ shut. refl;
+      silent = stays_silent;
+      live = λ mask live. elim live as (λ _. IsLive (with_settings w settings) mask) [
+        | inl is ↦ inl (same_mask ∙ is)
+        | inr silent ↦ inr (stays_silent silent)
+      ];
+      masked = λ mask some is. sym same_mask ∙ is;
+      after = λ mask k m t some is after. after_settings w settings k m t after;
+      few = λ t few. few;
+      longer = omega arith;
+    }
+
+-- the master inhibit closes every place
+pub shut_by_master : (w : World) → Shut (with_settings w (master_set 0 ∷ w.settings))
+shut_by_master w place = and_false (has_place (mask_in w.settings) place)
+
+pub on_master : (w : World) → On w (with_settings w (master_set 0 ∷ w.settings))
+on_master w = on_settings w (master_set 0 ∷ w.settings) refl (λ shut. shut_by_master w)
+
+pub on_path : (w : World) (place path : ℕ) → On w (with_settings w (path_set place path ∷ w.settings))
+on_path w place path = on_settings w (path_set place path ∷ w.settings) refl (λ shut. shut)
+
+pub on_default : (w : World) (path : ℕ) → On w (with_settings w (default_set path ∷ w.settings))
+on_default w path = on_settings w (default_set path ∷ w.settings) refl (λ shut. shut)
+
+pub on_nothing : (w : World) → On w w
+on_nothing w = on_settings w w.settings refl (λ shut. shut)

@@ -1,4 +1,6 @@
 pub mod Honest
-pub mod Pace
+pub mod Kept
+pub mod Since
 pub mod Law
 pub mod Tries
+pub mod Ending

@@ -1,7 +1,6 @@
 -- The definitions of scripts and of scans at worked values.
-use Rattle.std.proofs.Common.{◌≡◌, ℕ, List, [], ◌∷◌, ◌++◌, Some, None, Option, codes, refl}
+use Rattle.std.proofs.Common.{◌≡◌, [], ◌∷◌, ◌++◌, Some, None, codes, refl}
 use Rattle.std.specs.Prelude.{Ok, Err}
-use Rattle.std.specs.List.{slice_split}
 use Rattle.cct_model.specs.declared.wire.CheckKind.TheVariants.{Simple, Crc}
 use Rattle.cct_model.specs.declared.device.SetupLine.TheVariants as says
 use Rattle.cct_model.specs.declared.command.Step.TheVariants as step
@@ -11,11 +10,11 @@ use Rattle.cct_model.specs.declared.entry.LineKind.TheVariants as kind
 use Rattle.hex.specs.Hex.{decode_pairs}
 use Rattle.cct_model.specs.Message.{message}
 use Rattle.cct_model.specs.Grammar.{setup_line, step_line, ranged, id_in, piece_in, mask_in, plain_device, plain_acceptor, added}
-use Rattle.cct_model.specs.Line.{Line, scanned}
-use Rattle.cct_model.specs.Scan.{scan_row, next_due, end_of_scan, scan_tries}
+use Rattle.cct_model.specs.Line.{scanned}
+use Rattle.cct_model.specs.Scan.{scan_row, next_due}
 use Rattle.cct_model.specs.DeviceSet.{all_addresses}
 use Rattle.cct_model.specs.Reply.{reply_in}
-use Rattle.cct_model.specs.Script.{script, Refusal, most_lines, read_form}
+use Rattle.cct_model.specs.Script.{script, most_lines, read_form}
 
 acceptor_said : setup_line (codes "acceptor 2 simple 1 0") ≡ Ok (says.Acceptor (plain_device 2 Simple 1 (plain_acceptor 0)))
 unfolding setup_line ranged
@@ -85,7 +84,7 @@ given_twice_refused : (script (codes "acceptor 2 simple 1 0" ++ 10 ∷ codes "va
 unfolding script read_form setup_line step_line ranged id_in added most_lines
 given_twice_refused = refl
 
-later_word_refused : (script (codes "begin" ++ 10 ∷ codes "reset" ++ 10 ∷ [])).refused ≡ Some (record { number = 2; why = kind.Word })
+later_word_refused : (script (codes "begin" ++ 10 ∷ codes "vend" ++ 10 ∷ [])).refused ≡ Some (record { number = 2; why = kind.Word })
 unfolding script read_form setup_line most_lines
 later_word_refused = refl
 

@@ -1,21 +1,22 @@
--- What a set of addresses has, and its least address.
-use Rattle.std.proofs.Common.{◌≡◌, ℕ, suc, zero, ◌+◌, ◌<◌, ◌⊎◌, inl, inr, Bool, true, false, List, [], ◌∷◌, ◌++◌, cond, get_or, Option, Some, None, refl, sym, subst, arith}
+-- The least address that passes a test.
+use Rattle.std.proofs.Common.{◌≡◌, ℕ, suc, zero, ◌<◌, ◌≤◌, inl, inr, Bool, true, false, [], ◌∷◌, Some, None, refl, sym, subst, arith}
 use Rattle.std.proofs.lemmas.Bool.{cases_eq}
 use Rattle.std.proofs.lemmas.List.Folds.{find-append}
-use Rattle.std.specs.Prelude.{replicate, find}
+use Rattle.std.specs.Prelude.{find}
 use Rattle.cct_model.specs.DeviceSet.{addresses_below}
 
--- nothing stands in a list of no's
-pub none_there : (n i : ℕ) → get_or (replicate n false) i false ≡ false
-none_there zero i = refl
-none_there (suc n) zero = refl
-none_there (suc n) (suc i) = none_there n i
-
 -- one address more isn't found either
-pub one_more : (p : ℕ → Bool) (n : ℕ) → find p (addresses_below n) ≡ None → p n ≡ false → find p (addresses_below (n + 1)) ≡ None
-one_more p n before not_here =
-    let next : n + 1 ≡ suc n = omega arith in
-    rw (next, find-append p (addresses_below n) (n ∷ []), before, not_here) refl
+one_more : (p : ℕ → Bool) (n : ℕ) → find p (addresses_below n) ≡ None → p n ≡ false → find p (addresses_below (suc n)) ≡ None
+one_more p n before not_here = rw (find-append p (addresses_below n) (n ∷ []), before, not_here) refl
+
+-- nor are more of them
+pub none_more : (p : ℕ → Bool) (n k : ℕ) → find p (addresses_below n) ≡ None → ((a : ℕ) → n ≤ a → a < k → p a ≡ false) → n ≤ k → find p (addresses_below k) ≡ None
+none_more p n zero before not_there up_to = let none : n ≡ 0 = omega arith in subst (λ m. find p (addresses_below m) ≡ None) none before
+none_more p n (suc k) before not_there up_to =
+    elim (cases_eq n (suc k)) [
+      | inl same ↦ subst (λ m. find p (addresses_below m) ≡ None) same before
+      | inr other ↦ one_more p k (none_more p n k before (λ a from below. not_there a from (omega arith)) (omega arith)) (not_there k (omega arith) (omega arith))
+    ]
 
 chosen_by : (p : ℕ → Bool) (n m : ℕ) → n < suc m → (n < m → find p (addresses_below m) ≡ Some n) → (n ≡ m → find p (addresses_below m) ≡ None) → p n ≡ true →
     find p (addresses_below (suc m)) ≡ Some n

@@ -1,13 +1,12 @@
 -- What holds of the lines of an acceptor: its posts are accepted coins in their order, none twice, and none is lost
 -- in silence.
-use Rattle.std.specs.Prelude.{◌≡◌, ℕ, suc, ◌+◌, ◌-◌, ◌<◌, ◌≤◌, List, [], ◌∷◌, ◌++◌, length, take, reverse, Option, Some, None, unwrap_or, ⊤}
+use Rattle.std.specs.Prelude.{◌≡◌, ℕ, suc, ◌+◌, ◌-◌, ◌<◌, ◌≤◌, nat_le, List, [], ◌∷◌, ◌++◌, length, take, reverse, if◌then◌else◌, Option, Some, None, ⊤}
 use Rattle.cct_model.specs.declared.coin.Coin.{Coin}
-use Rattle.cct_model.specs.declared.coin.Credits.{Credits}
 use Rattle.cct_model.specs.declared.record.Record.{Record}
 use Rattle.cct_model.specs.declared.record.Record.TheVariants as record_of
 use Rattle.cct_model.specs.declared.entry.End.TheVariants.{Clean}
 use Rattle.cct_model.specs.Line.{Line, accepted, inhibited, alien, put, ended}
-use Rattle.cct_model.specs.Job.{credits_line}
+use Rattle.cct_model.specs.Job.{credits_line, mask_line}
 
 -- The coins that were accepted, newest first.
 abbrev pub coins : List Line → List Coin
@@ -23,79 +22,120 @@ arrivals (inhibited place ∷ past) = suc (arrivals past)
 arrivals (alien ∷ past) = suc (arrivals past)
 arrivals (_ ∷ past) = arrivals past
 
--- All that came before, where this line is the reading, else what came before an earlier one.
-abbrev pub behind : Option Credits → List Line → List Line → List Line
+-- All that came before, where this line read something, else what came before an earlier such line.
+abbrev pub behind : {A : Type 0} → Option A → List Line → List Line → List Line
 behind None past earlier = earlier
-behind (Some credits) past earlier = past
+behind (Some read) past earlier = past
 
--- All that came before the last reading, which is the last answered header 229.
+-- All that came before the last reading of the credits, which is the last answered header 229.
 abbrev pub reading : List Line → List Line
 reading [] = []
 reading (line ∷ past) = behind (credits_line line) past (reading past)
 
--- An item is a record put or a clean end. The number of coins up to which it tells: those that were accepted before
--- its reading.
-abbrev pub told : List Line → Line → Option ℕ
-told past (put entry) = Some (length (coins (reading past)))
-told past (ended Clean) = Some (length (coins (reading past)))
-told past _ = None
+-- All that came before the last reading of the mask, which is the last answered header 230.
+abbrev pub looking : List Line → List Line
+looking [] = []
+looking (line ∷ past) = behind (mask_line line) past (looking past)
+
+-- Up to which coins a record tells, newest first: a reading, those that were accepted before the credits were read; a
+-- break, those before the mask was read; the begin and the end of an epoch, all that were accepted.
+abbrev pub told_by : Record → List Line → Option (List Coin)
+told_by (record_of.Epoch addr mask) past = Some (coins past)
+told_by (record_of.Reading addr counter lost posted) past = Some (coins (reading past))
+told_by (record_of.Broken addr seen counter posted) past = Some (coins (looking past))
+told_by (record_of.EpochEnd addr) past = Some (coins past)
+told_by r past = None
+
+-- An item is a record of an acceptor, or a clean end, which tells as a reading does. Up to which coins it tells.
+abbrev pub told : List Line → Line → Option (List Coin)
+told past (put entry) = told_by entry past
+told past (ended Clean) = Some (coins (reading past))
+told past line = None
+
+-- How many coins an item tells, or as many as before.
+abbrev pub count_or : ℕ → Option (List Coin) → ℕ
+count_or before None = before
+count_or before (Some told) = length told
 
 -- The mark is the number of coins up to which the last item tells, 0 before any.
 abbrev pub mark : List Line → ℕ
 mark [] = 0
-mark (line ∷ past) = unwrap_or (told past line) (mark past)
+mark (line ∷ past) = count_or (mark past) (told past line)
 
--- The part of an item: the coins after the mark of the item before it and up to its own reading, newest first.
-abbrev pub part : List Line → List Coin
-part past = let known = coins (reading past) in take (length known - mark past) known
+-- The part of an item that tells up to these coins: those of them behind the mark of the item before it, newest first.
+abbrev pub part : List Line → List Coin → List Coin
+part past known = take (length known - mark past) known
 
--- Posted coins, oldest first, are the newest of a part.
+-- Of the coins up to two moments, those up to the earlier one.
+abbrev pub fewer : List Coin → List Coin → List Coin
+fewer one other = if nat_le (length one) (length other) then one else other
+
+-- Posted coins, oldest first, are the newest of these.
 abbrev pub AreNewest : List Coin → List Coin → Type 0
 AreNewest posted newest = (older : List Coin) × (newest ≡ reverse posted ++ older)
 
--- A record's posts are the newest coins of its part, in their order.
+-- A record's posts are the newest coins of its part, in their order; of a break, the newest of those that were accepted
+-- before its credits were read. No coin was accepted between an epoch and the item before it.
 abbrev pub PostsOf : List Line → Record → Type 0
-PostsOf past (record_of.Reading addr counter lost posted) = AreNewest posted (part past)
-PostsOf past (record_of.Broken addr seen counter posted) = AreNewest posted (part past)
+PostsOf past (record_of.Epoch addr mask) = part past (coins past) ≡ []
+PostsOf past (record_of.Reading addr counter lost posted) = AreNewest posted (part past (coins (reading past)))
+PostsOf past (record_of.Broken addr seen counter posted) = AreNewest posted (part past (fewer (coins (reading past)) (coins (looking past))))
 PostsOf past r = ⊤
+
+-- An item tells no fewer coins than the item before it.
+abbrev pub GoesOn : List Line → Option (List Coin) → Type 0
+GoesOn past None = ⊤
+GoesOn past (Some known) = mark past ≤ length known
 
 -- An item tells no fewer coins than the item before it, and its posts are the newest coins of its part.
 abbrev pub OrderAt : List Line → Line → Type 0
-OrderAt past (put entry) = (mark past ≤ length (coins (reading past))) × PostsOf past entry
+OrderAt past (put entry) = GoesOn past (told_by entry past) × PostsOf past entry
 OrderAt past (ended Clean) = mark past ≤ length (coins (reading past))
-OrderAt past _ = ⊤
+OrderAt past line = ⊤
 
--- A reading leaves no more coins of its part unposted than it reports lost; a break reports that some may be lost.
+-- A reading leaves no more coins of its part unposted than it reports lost, and no coin is between the end of an epoch
+-- and the item before it; a break reports that coins may be lost.
 abbrev pub UnpostedOf : List Line → Record → Type 0
-UnpostedOf past (record_of.Reading addr counter lost posted) = length (part past) ≤ lost + length posted
+UnpostedOf past (record_of.Reading addr counter lost posted) = length (part past (coins (reading past))) ≤ lost + length posted
+UnpostedOf past (record_of.EpochEnd addr) = part past (coins past) ≡ []
 UnpostedOf past r = ⊤
 
 -- No coin of an item's part is lost in silence, and a clean end has no coin in its part.
 abbrev pub CoverAt : List Line → Line → Type 0
 CoverAt past (put entry) = UnpostedOf past entry
-CoverAt past (ended Clean) = part past ≡ []
-CoverAt past _ = ⊤
+CoverAt past (ended Clean) = part past (coins (reading past)) ≡ []
+CoverAt past line = ⊤
 
--- How many pieces had come at the reading of the last recorded reading.
-abbrev pub base_by : Record → List Line → ℕ → ℕ
-base_by (record_of.Reading addr counter lost posted) past before = arrivals (reading past)
+-- How many pieces had come at the reading of the last record, where that begins an epoch or is a reading; none behind a
+-- record that ends an epoch.
+abbrev pub base_by : Record → List Line → Option ℕ → Option ℕ
+base_by (record_of.Epoch addr mask) past before = Some (arrivals (reading past))
+base_by (record_of.Reading addr counter lost posted) past before = Some (arrivals (reading past))
+base_by (record_of.Broken addr seen counter posted) past before = None
+base_by (record_of.EpochEnd addr) past before = None
 base_by r past before = before
 
--- The same after all these lines: 0 before any recorded reading.
-abbrev pub base : List Line → ℕ
-base [] = 0
+-- The same after all these lines.
+abbrev pub base : List Line → Option ℕ
+base [] = None
 base (put entry ∷ past) = base_by entry past (base past)
-base (_ ∷ past) = base past
+base (line ∷ past) = base past
 
--- Fewer than 255 pieces came between the last recorded reading and the reading of this item.
+-- Fewer than 255 pieces came from one number of pieces to another, where there is the first.
+abbrev pub IsNear : Option ℕ → ℕ → Type 0
+IsNear None now = ⊤
+IsNear (Some before) now = now < before + 255
+
+-- Fewer than 255 pieces came between the reading of the last record, where that begins an epoch or is a reading, and the
+-- reading of this item.
 abbrev pub Near : List Line → Type 0
-Near past = arrivals (reading past) < base past + 255
+Near past = IsNear (base past) (arrivals (reading past))
 
 -- An item, a record put or a clean end, is near.
 abbrev pub PaceAt : List Line → Line → Type 0
 PaceAt past (put entry) = Near past
 PaceAt past (ended Clean) = Near past
-PaceAt past _ = ⊤
+PaceAt past line = ⊤
 
 -- A fact of each line and all that came before it.
 abbrev pub AllPast : (List Line → Line → Type 0) → List Line → Type 0

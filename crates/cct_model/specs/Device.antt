@@ -24,9 +24,11 @@ IsWord text = (1 ≤ length text) × (length text ≤ 24) × All IsPrinting text
 abbrev pub IsId : List ℕ → Type 0
 IsId id = (length id ≡ 6) × All IsPrinting id
 
--- The numbers and the identifications of a kind of device are in their ranges.
+-- The numbers and the identifications of a kind of device are in their ranges; an acceptor has one of each for each of
+-- its 16 coin places.
 abbrev pub IsSoundBody : DeviceBody → Type 0
-IsSoundBody (Acceptor accepts values ids) = (accepts < 2 ^ 24) × All (λ value. value ≤ 1000000) values × All IsId ids
+IsSoundBody (Acceptor accepts values ids) =
+    (accepts < 2 ^ 24) × All (λ value. value ≤ 1000000) values × All IsId ids × (length values ≡ 16) × (length ids ≡ 16)
 IsSoundBody (Hopper life value) = (life < 2 ^ 24) × (1 ≤ value) × (value ≤ 1000000)
 
 -- The numbers and the texts of a device are in their ranges.

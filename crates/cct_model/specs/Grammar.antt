@@ -1,8 +1,8 @@
 -- The lines of a script: what a setup line and a step line say by their fields, and what a setup line adds to the setup
 -- (docs/SCRIPT.md).
-use Rattle.std.specs.Prelude.{ℕ, ◌+◌, ◌-◌, ◌*◌, ◌%◌, ◌^◌, ◌==◌, ◌&&◌, ◌||◌, not, nat_lt, nat_le, Bool, true, false, List, [], ◌∷◌, ◌++◌, length, map, replicate, if◌then◌else◌, Option, Some, None, is_some, Result, Ok, Err, codes, bytes_eq, slice_index}
+use Rattle.std.specs.Prelude.{ℕ, ◌+◌, ◌-◌, ◌*◌, ◌==◌, ◌&&◌, ◌||◌, nat_le, Bool, true, false, List, [], ◌∷◌, ◌++◌, length, map, replicate, if◌then◌else◌, Option, Some, None, is_some, Result, Ok, Err, codes, bytes_eq, slice_index}
 use Rattle.std.specs.List.{slice_split, slice_set, list_all}
-use Rattle.std.specs.Option.{option_map, option_and_then, ok_or}
+use Rattle.std.specs.Option.{option_map, ok_or}
 use Rattle.std.specs.Result.{result_ok}
 use Rattle.hex.specs.Hex.{decode_of}
 use Rattle.cct_model.specs.declared.wire.CheckKind.{CheckKind}
@@ -15,8 +15,6 @@ use Rattle.cct_model.specs.declared.device.Setup.{Setup}
 use Rattle.cct_model.specs.declared.device.SetupLine.{SetupLine}
 use Rattle.cct_model.specs.declared.device.SetupLine.TheVariants as says
 use Rattle.cct_model.specs.declared.command.Command.TheVariants as command
-use Rattle.cct_model.specs.declared.command.CrashAt.{CrashAt}
-use Rattle.cct_model.specs.declared.command.WireFault.{WireFault}
 use Rattle.cct_model.specs.declared.command.WireFault.TheVariants as fault
 use Rattle.cct_model.specs.declared.command.Step.{Step}
 use Rattle.cct_model.specs.declared.command.Step.TheVariants as step

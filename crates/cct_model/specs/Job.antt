@@ -1,20 +1,23 @@
--- The job at an address, read off its lines: which command began it, which of its rows are done, and how it ends.
-use Rattle.std.specs.Prelude.{ℕ, suc, zero, ◌==◌, List, [], ◌∷◌, ◌++◌, length, if◌then◌else◌, Option, Some, None, slice_get}
+-- The job at an address, read off its lines: which command began it, which of its rows are done, and how it ends. And
+-- the epoch of an acceptor, read off its records.
+use Rattle.std.specs.Prelude.{ℕ, suc, zero, ◌==◌, Bool, true, false, List, [], ◌∷◌, length, if◌then◌else◌, Option, Some, None, slice_get}
 use Rattle.std.specs.Option.{option_or}
 use Rattle.cct_model.specs.declared.coin.Credits.{Credits}
 use Rattle.cct_model.specs.declared.device.DeviceBody.{DeviceBody}
 use Rattle.cct_model.specs.declared.device.DeviceBody.TheVariants.{Acceptor, Hopper}
 use Rattle.cct_model.specs.declared.device.DeviceSetup.{DeviceSetup}
 use Rattle.cct_model.specs.declared.request.Request.{Request}
-use Rattle.cct_model.specs.declared.request.Request.TheVariants.{MakerId, Category, ProductCode, SerialNumber, SoftwareRevision, BuildCode, CommsRevision, GetMaster, ReadCredits, SetPath, GetPath, SetDefault, GetDefault, CoinId, AcceptCount, TestHopper}
+use Rattle.cct_model.specs.declared.request.Request.TheVariants.{MakerId, Category, ProductCode, SerialNumber, SoftwareRevision, BuildCode, CommsRevision, ResetDevice, SetMask, GetMask, SetMaster, GetMaster, ReadCredits, SetPath, GetPath, SetDefault, GetDefault, CoinId, AcceptCount, TestHopper, Dispense}
 use Rattle.cct_model.specs.declared.record.Record.{Record}
 use Rattle.cct_model.specs.declared.record.Record.TheVariants as record_of
 use Rattle.cct_model.specs.declared.record.Judged.{Judged}
 use Rattle.cct_model.specs.declared.record.Judged.TheVariants.{Nothing, Reading, Broken}
+use Rattle.cct_model.specs.declared.record.EpochState.{EpochState}
+use Rattle.cct_model.specs.declared.record.EpochState.TheVariants.{Idle, Running}
 use Rattle.cct_model.specs.declared.command.Command.{Command}
 use Rattle.cct_model.specs.declared.command.Command.TheVariants as command
 use Rattle.cct_model.specs.declared.entry.End.{End}
-use Rattle.cct_model.specs.declared.entry.End.TheVariants.{Clean, Posted, Broke, NoAnswer, Told, PathSet}
+use Rattle.cct_model.specs.declared.entry.End.TheVariants.{Started, StartUnsure, Unquiet, Clean, Posted, Broke, Stopped, NoAnswer, Told, PathSet}
 use Rattle.cct_model.specs.Request.{header_of}
 use Rattle.cct_model.specs.Reply.{Reply}
 use Rattle.cct_model.specs.Reply as reply
@@ -51,16 +54,23 @@ job (alien ∷ past) = job past
 job (fell ∷ past) = job past
 job (reset ∷ past) = job past
 
--- One row more where the exchange was answered.
-abbrev pub done_after : Option Reply → ℕ → ℕ
-done_after None rows = rows
-done_after (Some got) rows = suc rows
+-- A request that is sent once, whatever is heard of it: one that lets coins in, and one that pays coins out.
+abbrev pub is_once : Request → Bool
+is_once (SetMask mask) = true
+is_once (Dispense serial count) = true
+is_once q = false
 
--- How many rows of a job are done: its answered exchanges and its puts.
+-- An exchange ends its row: it was answered, or asks what is sent once.
+abbrev pub ends_row : Option Request → Option Reply → Bool
+ends_row asked (Some got) = true
+ends_row (Some q) None = is_once q
+ends_row None None = false
+
+-- How many rows of a job are done: its exchanges that ended their row, and its puts.
 abbrev pub done : List Line → ℕ
 done [] = 0
 done (put entry ∷ since) = suc (done since)
-done (exchange asked got ∷ since) = done_after got (done since)
+done (exchange asked got ∷ since) = if ends_row asked got then suc (done since) else done since
 done (line ∷ since) = done since
 
 -- One failed try more, where an exchange asked this header and was not answered; an exchange that was answered, or asked
@@ -92,25 +102,45 @@ abbrev pub credits_read : List Line → Option Credits
 credits_read [] = None
 credits_read (line ∷ past) = option_or (credits_line line) (credits_read past)
 
--- The event counter that a record leaves recorded.
-abbrev pub recorded_by : Record → ℕ → ℕ
-recorded_by (record_of.Reading addr counter lost posted) before = counter
-recorded_by r before = before
+-- The inhibit mask that a reply is, or none.
+abbrev pub mask_reply : Option Reply → Option ℕ
+mask_reply (Some (reply.mask m)) = Some m
+mask_reply got = None
 
--- The recorded event counter of an acceptor: that of its last reading put, 0 before any.
-abbrev pub recorded : List Line → ℕ
-recorded [] = 0
-recorded (put entry ∷ past) = recorded_by entry (recorded past)
-recorded (line ∷ past) = recorded past
+-- The inhibit mask that a line read, or none where it is no answered header 230.
+abbrev pub mask_line : Line → Option ℕ
+mask_line (exchange (Some GetMask) got) = mask_reply got
+mask_line line = None
 
--- The inhibit mask of every acceptor, since nothing yet sets another.
-abbrev pub open_mask : ℕ
-open_mask = 65535
+-- The inhibit mask that was last read.
+abbrev pub mask_read : List Line → Option ℕ
+mask_read [] = None
+mask_read (line ∷ past) = option_or (mask_line line) (mask_read past)
 
--- What the credits of a job mean, beside the recorded counter; nothing where none were read.
-abbrev pub judged_by : ℕ → ℕ → Option Credits → Judged
-judged_by addr counter None = Nothing
-judged_by addr counter (Some c) = judge addr open_mask counter c open_mask
+-- An epoch with another event counter.
+abbrev pub counted : ℕ → EpochState → EpochState
+counted counter Idle = Idle
+counted counter (Running mask before) = Running mask counter
+
+-- The epoch after a record: it begins at counter 0, a reading moves its counter, and a break or its end ends it.
+abbrev pub epoch_by : Record → EpochState → EpochState
+epoch_by (record_of.Epoch addr mask) before = Running mask 0
+epoch_by (record_of.Reading addr counter lost posted) before = counted counter before
+epoch_by (record_of.Broken addr seen counter posted) before = Idle
+epoch_by (record_of.EpochEnd addr) before = Idle
+epoch_by r before = before
+
+-- The epoch of an acceptor: its inhibit mask and its recorded event counter, or none.
+abbrev pub epoch : List Line → EpochState
+epoch [] = Idle
+epoch (put entry ∷ past) = epoch_by entry (epoch past)
+epoch (line ∷ past) = epoch past
+
+-- What the credits and the mask that a job read mean, beside the epoch; nothing where one of them wasn't read, or no
+-- epoch runs.
+abbrev pub judged_by : ℕ → EpochState → Option Credits → Option ℕ → Judged
+judged_by addr (Running mask counter) (Some c) (Some seen) = judge addr mask counter c seen
+judged_by addr state credits seen = Nothing
 
 -- What a job has to do next: send a request, or put a record.
 pub data Row : Type 0 where
@@ -118,11 +148,11 @@ pub data Row : Type 0 where
   puts : (entry : Record) → Row
   no_row : Row
 
--- The row that puts what was judged.
-abbrev pub put_row : Judged → Row
-put_row Nothing = no_row
-put_row (Reading entry) = puts entry
-put_row (Broken entry) = puts entry
+-- The row that puts what was judged, or another where that is nothing.
+abbrev pub put_or : Row → Judged → Row
+put_or other Nothing = other
+put_or other (Reading entry) = puts entry
+put_or other (Broken entry) = puts entry
 
 -- What a device of a kind is asked of itself, after what every device is asked.
 abbrev pub own_requests : DeviceBody → List Request
@@ -148,17 +178,45 @@ path_set place path = if place == 0 then SetDefault path else SetPath place path
 abbrev pub path_read : ℕ → Request
 path_read place = if place == 0 then GetDefault else GetPath place
 
--- The row at which a job at a device stands, after so many rows: a round reads the credits, and then puts what they mean;
--- an identification asks for one thing after the other; a path is set, and then read back. Other commands begin no job
--- yet.
+-- The rows of a start: it resets the acceptor, reads its credits, puts that an epoch begins, and sets the mask.
+abbrev pub start_row : ℕ → ℕ → ℕ → Row
+start_row addr mask zero = sends ResetDevice
+start_row addr mask (suc zero) = sends ReadCredits
+start_row addr mask (suc (suc zero)) = puts (record_of.Epoch addr mask)
+start_row addr mask (suc (suc (suc zero))) = sends (SetMask mask)
+start_row addr mask (suc (suc (suc (suc rows)))) = no_row
+
+-- The rows of a round: it reads the credits and then the mask, and puts what they mean.
+abbrev pub round_row : ℕ → Judged → Row
+round_row zero judged = sends ReadCredits
+round_row (suc zero) judged = sends GetMask
+round_row (suc (suc zero)) judged = put_or no_row judged
+round_row (suc (suc (suc rows))) judged = no_row
+
+-- The rows of a stop: it inhibits every coin, reads the credits and then the mask, puts what they mean, and then that
+-- the epoch ends.
+abbrev pub stop_row : ℕ → ℕ → Judged → Row
+stop_row addr zero judged = sends (SetMaster 0)
+stop_row addr (suc zero) judged = sends ReadCredits
+stop_row addr (suc (suc zero)) judged = sends GetMask
+stop_row addr (suc (suc (suc zero))) judged = put_or (puts (record_of.EpochEnd addr)) judged
+stop_row addr (suc (suc (suc (suc zero)))) judged = puts (record_of.EpochEnd addr)
+stop_row addr (suc (suc (suc (suc (suc rows))))) judged = no_row
+
+-- The rows of the setting of a path: it is set, and then read back.
+abbrev pub path_row : ℕ → ℕ → ℕ → Row
+path_row place path zero = sends (path_set place path)
+path_row place path (suc zero) = sends (path_read place)
+path_row place path (suc (suc rows)) = no_row
+
+-- The row at which a job at a device stands, after so many rows; an identification asks for one thing after the other.
+-- Other commands begin no job yet.
 abbrev pub row_at : DeviceBody → Command → ℕ → Judged → Row
-row_at body (command.Round addr) zero judged = sends ReadCredits
-row_at body (command.Round addr) (suc zero) judged = put_row judged
-row_at body (command.Round addr) (suc (suc rows)) judged = no_row
+row_at body (command.Start addr mask) rows judged = start_row addr mask rows
+row_at body (command.Round addr) rows judged = round_row rows judged
+row_at body (command.Stop addr) rows judged = stop_row addr rows judged
 row_at body (command.Ident addr) rows judged = send_row (slice_get (ident_requests body) rows)
-row_at body (command.Path addr place path) zero judged = sends (path_set place path)
-row_at body (command.Path addr place path) (suc zero) judged = sends (path_read place)
-row_at body (command.Path addr place path) (suc (suc rows)) judged = no_row
+row_at body (command.Path addr place path) rows judged = path_row place path rows
 row_at body c rows judged = no_row
 
 -- The address of a command: a scan is at 0, and a sale at 1.
@@ -174,19 +232,32 @@ address_of (command.Ident addr) = addr
 address_of (command.Path addr place path) = addr
 address_of (command.Vend id price) = 1
 
--- What the lines of a job mean, beside the recorded counter.
-abbrev pub judged_in : Command → List Line → ℕ → Judged
-judged_in c since counter = judged_by (address_of c) counter (credits_read since)
+-- What the lines of a job mean, beside the epoch.
+abbrev pub judged_in : Command → List Line → EpochState → Judged
+judged_in c since state = judged_by (address_of c) state (credits_read since) (mask_read since)
 
 -- The row at which a job at a device stands.
-abbrev pub row : DeviceSetup → Command → List Line → ℕ → Row
-row d c since counter = row_at d.body c (done since) (judged_in c since counter)
+abbrev pub row : DeviceSetup → Command → List Line → EpochState → Row
+row d c since state = row_at d.body c (done since) (judged_in c since state)
 
--- A put ends a round: posted by a reading, broke by a broken one.
-abbrev pub end_of_put : Record → Option End
-end_of_put (record_of.Reading addr counter lost posted) = Some Posted
-end_of_put (record_of.Broken addr seen counter posted) = Some Broke
-end_of_put r = None
+-- The end that a put brings to a job: a round ends with what it judged, a stop with a break or with the epoch's end.
+abbrev pub end_of_put : Command → Record → Option End
+end_of_put (command.Round addr) (record_of.Reading a counter lost posted) = Some Posted
+end_of_put (command.Round addr) (record_of.Broken a seen counter posted) = Some Broke
+end_of_put (command.Stop addr) (record_of.Broken a seen counter posted) = Some Broke
+end_of_put (command.Stop addr) (record_of.EpochEnd a) = Some Stopped
+end_of_put c r = None
+
+-- The end that the credits bring to a start: an acceptor that was just reset has event counter 0.
+abbrev pub end_of_credits : ℕ → Option End
+end_of_credits counter = if counter == 0 then None else Some (Unquiet counter)
+
+-- The end that an answer brings to a start, of which so many rows are then done: the credits may end it, and the
+-- acknowledged mask does.
+abbrev pub end_of_start : ℕ → Reply → Option End
+end_of_start (suc (suc zero)) (reply.credits c) = end_of_credits c.counter
+end_of_start (suc (suc (suc (suc zero)))) y = Some Started
+end_of_start rows y = None
 
 -- A reading that means nothing ends a round clean.
 abbrev pub end_of_reading : Judged → Option End
@@ -194,15 +265,21 @@ end_of_reading Nothing = Some Clean
 end_of_reading (Reading entry) = None
 end_of_reading (Broken entry) = None
 
+-- The end that an answer brings to a round, of which so many rows are then done: the mask completes its reading.
+abbrev pub end_of_round : ℕ → Judged → Option End
+end_of_round (suc (suc zero)) judged = end_of_reading judged
+end_of_round rows judged = None
+
 -- The path that was read back ends the setting of a path.
 abbrev pub end_of_path : ℕ → ℕ → Reply → Option End
 end_of_path place (suc (suc zero)) (reply.path number) = Some (PathSet place number)
 end_of_path place rows y = None
 
--- The end that an answered exchange brings to a job, of which so many rows are then done: a reading that means nothing
--- ends a round, the last answer an identification, and the path that was read back the setting of a path.
+-- The end that an answered exchange brings to a job, of which so many rows are then done; the last answer ends an
+-- identification.
 abbrev pub end_of_answer : DeviceBody → Command → ℕ → Reply → Judged → Option End
-end_of_answer body (command.Round addr) rows y judged = end_of_reading judged
+end_of_answer body (command.Start addr mask) rows y judged = end_of_start rows y
+end_of_answer body (command.Round addr) rows y judged = end_of_round rows judged
 end_of_answer body (command.Ident addr) rows y judged = if length (ident_requests body) == rows then Some Told else None
 end_of_answer body (command.Path addr place path) rows y judged = end_of_path place rows y
 end_of_answer body c rows y judged = None
@@ -211,10 +288,16 @@ end_of_answer body c rows y judged = None
 abbrev pub end_of_tries : ℕ → Option End
 end_of_tries failed = if failed == 3 then Some NoAnswer else None
 
+-- The end that an exchange without the wanted reply brings to a job, whose row then has so many failed tries: a start
+-- whose mask, sent once, isn't acknowledged ends unsure.
+abbrev pub end_of_failure : Request → ℕ → Option End
+end_of_failure (SetMask mask) failed = Some StartUnsure
+end_of_failure q failed = end_of_tries failed
+
 -- The end that a line brings to a job at a device, if it brings one.
-abbrev pub end_of : DeviceSetup → Command → Line → List Line → ℕ → Option End
-end_of d c (put entry) since counter = end_of_put entry
-end_of d c (exchange asked (Some y)) since counter =
-    end_of_answer d.body c (done (exchange asked (Some y) ∷ since)) y (judged_in c (exchange asked (Some y) ∷ since) counter)
-end_of d c (exchange (Some q) None) since counter = end_of_tries (tries (header_of q) (exchange (Some q) None ∷ since))
-end_of d c line since counter = None
+abbrev pub end_of : DeviceSetup → Command → Line → List Line → EpochState → Option End
+end_of d c (put entry) since state = end_of_put c entry
+end_of d c (exchange asked (Some y)) since state =
+    end_of_answer d.body c (done (exchange asked (Some y) ∷ since)) y (judged_in c (exchange asked (Some y) ∷ since) state)
+end_of d c (exchange (Some q) None) since state = end_of_failure q (tries (header_of q) (exchange (Some q) None ∷ since))
+end_of d c line since state = None

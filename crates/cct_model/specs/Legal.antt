@@ -1,5 +1,6 @@
 -- A legal transcript: the entries of a script's steps, one step after the other, and none besides.
-use Rattle.std.specs.Prelude.{◌≡◌, ℕ, ◌==◌, not, Bool, true, false, List, [], ◌∷◌, ◌++◌, if◌then◌else◌, Option, Some, None, MatchBool}
+use Rattle.std.specs.Prelude.{◌≡◌, ℕ, ◌-◌, ◌==◌, ◌&&◌, not, Bool, true, false, List, [], ◌∷◌, ◌++◌, find, slice_index_or, if◌then◌else◌, Option, Some, None, MatchBool}
+use Rattle.std.specs.Option.{option_map, option_or}
 use Rattle.cct_model.specs.declared.wire.CheckKind.{CheckKind}
 use Rattle.cct_model.specs.declared.device.DeviceBody.{DeviceBody}
 use Rattle.cct_model.specs.declared.device.DeviceBody.TheVariants.{Acceptor, Hopper}
@@ -8,18 +9,19 @@ use Rattle.cct_model.specs.declared.device.Setup.{Setup}
 use Rattle.cct_model.specs.declared.command.Command.{Command}
 use Rattle.cct_model.specs.declared.command.Command.TheVariants as command
 use Rattle.cct_model.specs.declared.command.CommandNo.{CommandNo}
-use Rattle.cct_model.specs.declared.command.CommandNo.TheVariants.{NoDevice, WrongKind, Busy}
-use Rattle.cct_model.specs.declared.command.WireFault.{WireFault}
-use Rattle.cct_model.specs.declared.command.WireFault.TheVariants as fault
+use Rattle.cct_model.specs.declared.command.CommandNo.TheVariants.{NoDevice, WrongKind, Busy, EpochRuns, NoEpoch, NoValue}
 use Rattle.cct_model.specs.declared.command.Step.{Step}
 use Rattle.cct_model.specs.declared.command.Step.TheVariants as step
+use Rattle.cct_model.specs.declared.record.EpochState.{EpochState}
+use Rattle.cct_model.specs.declared.record.EpochState.TheVariants.{Idle, Running}
 use Rattle.cct_model.specs.declared.entry.End.{End}
 use Rattle.cct_model.specs.declared.entry.Entry.{Entry}
 use Rattle.cct_model.specs.declared.entry.Entry.TheVariants as entry
+use Rattle.cct_model.specs.Setting.{has_place}
 use Rattle.cct_model.specs.Acceptor.{accepts, path_of}
 use Rattle.cct_model.specs.Exchange.{ask, asked, device_at}
 use Rattle.cct_model.specs.Line.{Line, exchange, put}
-use Rattle.cct_model.specs.Job.{Job, free, works, job, Row, sends, puts, no_row, row, recorded, end_of, address_of}
+use Rattle.cct_model.specs.Job.{Job, free, works, job, Row, sends, puts, no_row, row, epoch, end_of}
 use Rattle.cct_model.specs.Scan.{scan_row, end_of_scan, poll_of}
 use Rattle.cct_model.specs.Transcript.{met, lines_of, scan_lines, scan_line, heard_after, got_by, onto}
 
@@ -60,9 +62,38 @@ at_device (Some d) further = further d
 abbrev pub at_acceptor : Option DeviceSetup → (DeviceSetup → Option CommandNo) → Option CommandNo
 at_acceptor found further = at_device found (λ d. if is_acceptor d.body then further d else Some WrongKind)
 
+-- The tests of a command to a coin acceptor that no job is at, beside those of its epoch.
+abbrev pub when_free : List Entry → (DeviceSetup → EpochState → Option CommandNo) → DeviceSetup → Option CommandNo
+when_free past further d = option_or (busy (job (lines_of d past))) (further d (epoch (lines_of d past)))
+
+-- The coin places.
+abbrev pub coin_places : List ℕ
+coin_places = 1 ∷ 2 ∷ 3 ∷ 4 ∷ 5 ∷ 6 ∷ 7 ∷ 8 ∷ 9 ∷ 10 ∷ 11 ∷ 12 ∷ 13 ∷ 14 ∷ 15 ∷ 16 ∷ []
+
+-- The value of a coin place of a device, 0 where it has none.
+abbrev pub value_at : DeviceBody → ℕ → ℕ
+value_at (Acceptor accepts values ids) place = slice_index_or values (place - 1) 0
+value_at (Hopper life value) place = 0
+
+-- The least coin place of a mask that has no value, or none.
+abbrev pub valueless : DeviceBody → ℕ → Option ℕ
+valueless body mask = find (λ place. has_place mask place && (value_at body place == 0)) coin_places
+
+-- The tests of a start beside the epoch: one runs already, or a place of the mask has no value.
+abbrev pub start_refusal : ℕ → DeviceSetup → EpochState → Option CommandNo
+start_refusal mask d Idle = option_map NoValue (valueless d.body mask)
+start_refusal mask d (Running running counter) = Some EpochRuns
+
+-- The test of a round and of a stop beside the epoch: none runs.
+abbrev pub running_refusal : DeviceSetup → EpochState → Option CommandNo
+running_refusal d Idle = Some NoEpoch
+running_refusal d (Running mask counter) = None
+
 -- The first reason that holds for which a command is refused, or none.
 abbrev pub refusal : Setup → List Entry → Command → Option CommandNo
-refusal setup past (command.Round addr) = at_acceptor (device_at setup.devices addr) (λ d. busy (job (lines_of d past)))
+refusal setup past (command.Start addr mask) = at_acceptor (device_at setup.devices addr) (when_free past (start_refusal mask))
+refusal setup past (command.Round addr) = at_acceptor (device_at setup.devices addr) (when_free past running_refusal)
+refusal setup past (command.Stop addr) = at_acceptor (device_at setup.devices addr) (when_free past running_refusal)
 refusal setup past (command.Path addr place path) = at_acceptor (device_at setup.devices addr) (λ d. busy (job (lines_of d past)))
 refusal setup past (command.Ident addr) = at_device (device_at setup.devices addr) (λ d. busy (job (lines_of d past)))
 refusal setup past command.Scan = busy (job (scan_lines past))
@@ -83,16 +114,16 @@ abbrev pub RowEntries : Setup → DeviceSetup → List Entry → Command → Lis
 RowEntries setup d past c since (sends q) news =
     let sent = ask d.kind d.addr q in
     let piece = heard_after setup past sent in
-    news ≡ with_end d.addr (entry.Wire d.addr sent piece) (end_of d c (exchange (asked d.kind sent) (got_by d sent piece)) since (recorded (lines_of d past)))
+    news ≡ with_end d.addr (entry.Wire d.addr sent piece) (end_of d c (exchange (asked d.kind sent) (got_by d sent piece)) since (epoch (lines_of d past)))
 RowEntries setup d past c since (puts r) news =
-    news ≡ with_end d.addr (entry.Put r) (end_of d c (put r) since (recorded (lines_of d past)))
+    news ≡ with_end d.addr (entry.Put r) (end_of d c (put r) since (epoch (lines_of d past)))
 RowEntries setup d past c since no_row news = ⊥
 
 -- The entries of a `next` at a device, newest first: idle with no job, else those of its row.
 abbrev pub NextEntries : Setup → DeviceSetup → List Entry → Job → List Entry → Type 0
 NextEntries setup d past free news = news ≡ entry.Idle d.addr ∷ []
 NextEntries setup d past (works c since) news =
-    RowEntries setup d past c since (row d c since (recorded (lines_of d past))) news
+    RowEntries setup d past c since (row d c since (epoch (lines_of d past))) news
 
 -- The entries of one poll of a scan, newest first, and its end.
 abbrev pub PollEntries : Setup → List Entry → List Line → Option (CheckKind × ℕ) → List Entry → Type 0
@@ -128,7 +159,9 @@ OfNext (Some d) P Q = P d
 
 -- A command that is played today.
 abbrev pub is_played_command : Command → Bool
+is_played_command (command.Start addr mask) = true
 is_played_command (command.Round addr) = true
+is_played_command (command.Stop addr) = true
 is_played_command command.Scan = true
 is_played_command (command.Ident addr) = true
 is_played_command (command.Path addr place path) = true

@@ -14,6 +14,7 @@ pub mod Scan
 pub mod Transcript
 pub mod Legal
 pub mod Claims
+pub mod Members
 pub mod DeviceSet
 pub mod Text
 pub mod Grammar

@@ -1,6 +1,6 @@
 -- The job of a scan, read off its lines since its command, newest first: which bytes it noted, which addresses it polled,
 -- and which devices it lists.
-use Rattle.std.specs.Prelude.{ℕ, suc, ◌==◌, ◌&&◌, ◌||◌, not, nat_le, Bool, true, false, List, [], ◌∷◌, ◌++◌, map, find, filter, if◌then◌else◌, Option, Some, None, is_some, option_and_then}
+use Rattle.std.specs.Prelude.{ℕ, suc, ◌==◌, ◌&&◌, ◌||◌, not, nat_le, Bool, true, false, List, [], ◌∷◌, ◌++◌, map, find, if◌then◌else◌, Option, Some, None, is_some, option_and_then}
 use Rattle.std.specs.List.{list_any}
 use Rattle.cct_model.specs.declared.wire.CheckKind.{CheckKind}
 use Rattle.cct_model.specs.declared.wire.CheckKind.TheVariants.{Simple, Crc}

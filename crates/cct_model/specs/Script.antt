@@ -1,7 +1,6 @@
 -- What a script says: its setup, its steps, and the first line that is refused, with its kind (docs/SCRIPT.md).
-use Rattle.std.specs.Prelude.{◌≤◌, suc, ℕ, ◌+◌, ◌==◌, ◌||◌, ◌&&◌, nat_lt, Bool, true, false, List, [], ◌∷◌, length, if◌then◌else◌, Option, Some, None, is_some, Result, Ok, Err, codes, bytes_eq, ⊤}
+use Rattle.std.specs.Prelude.{◌≤◌, ℕ, ◌+◌, ◌==◌, ◌||◌, ◌&&◌, nat_lt, Bool, true, false, List, [], ◌∷◌, length, if◌then◌else◌, Option, Some, None, is_some, Result, Ok, Err, codes, bytes_eq, ⊤}
 use Rattle.std.specs.List.{slice_split, before_first}
-use Rattle.cct_model.specs.declared.device.DeviceSetup.{DeviceSetup}
 use Rattle.cct_model.specs.declared.device.Setup.{Setup}
 use Rattle.cct_model.specs.declared.device.SetupLine.{SetupLine}
 use Rattle.cct_model.specs.declared.device.SetupLine.TheVariants as says
@@ -34,19 +33,20 @@ is_setup_word word =
 -- The step words that are played today.
 abbrev pub is_step_word : List ℕ → Bool
 is_step_word word =
-    bytes_eq word (codes "coin") || bytes_eq word (codes "next") || bytes_eq word (codes "fault") || bytes_eq word (codes "round")
+    bytes_eq word (codes "coin") || bytes_eq word (codes "alien") || bytes_eq word (codes "reset") || bytes_eq word (codes "next")
+    || bytes_eq word (codes "fault") || bytes_eq word (codes "start") || bytes_eq word (codes "round") || bytes_eq word (codes "stop")
     || bytes_eq word (codes "scan") || bytes_eq word (codes "ident") || bytes_eq word (codes "path") || bytes_eq word (codes "end")
 
--- Which line a script wants next: one of its setup, a step, after so many coin lines, or none.
+-- Which line a script wants next: one of its setup, a step, or none.
 pub data Stage : Type 0 where
   at_setup : (setup : Setup) → Stage
-  at_steps : (setup : Setup) (coin_lines : ℕ) → Stage
+  at_steps : (setup : Setup) → Stage
   at_end : (setup : Setup) → Stage
 
 -- The setup that a stage has.
 abbrev pub setup_at : Stage → Setup
 setup_at (at_setup setup) = setup
-setup_at (at_steps setup coin_lines) = setup
+setup_at (at_steps setup) = setup
 setup_at (at_end setup) = setup
 
 -- What a line is to a script: it goes on, plays a step, or is refused.
@@ -63,17 +63,8 @@ opened (Err why) = refuses why
 -- What a setup line is to a script: `begin` ends the setup, and another adds to it.
 abbrev pub read_setup_line : Setup → Result SetupLine LineKind → Read
 read_setup_line setup (Err why) = refuses why
-read_setup_line setup (Ok says.Begin) = opens (at_steps setup 0)
+read_setup_line setup (Ok says.Begin) = opens (at_steps setup)
 read_setup_line setup (Ok line) = opened (added setup line)
-
--- The most coin lines of a script.
-abbrev pub most_coins : ℕ
-most_coins = 200
-
--- So many coin lines after a step.
-abbrev pub coins_after : Step → ℕ → ℕ
-coins_after (step.Coin addr place) coin_lines = suc coin_lines
-coins_after s coin_lines = coin_lines
 
 -- A step names a device that the setup has, and of the kind that it needs.
 abbrev pub is_known : Setup → Step → Bool
@@ -84,25 +75,20 @@ is_known setup (step.Jam addr) = hopper_there (device_at setup.devices addr)
 is_known setup (step.Reset addr) = is_some (device_at setup.devices addr)
 is_known setup s = true
 
--- A step of a script: a coin line past the most is in no form, and a step that names a device that isn't there is
--- refused.
-abbrev pub read_known : Setup → ℕ → Step → Read
-read_known setup coin_lines s =
-    if nat_lt most_coins (coins_after s coin_lines) then refuses kind.Form
-    else if is_known setup s then plays s (at_steps setup (coins_after s coin_lines))
-    else refuses kind.Device
+-- A step of a script: one that names a device that isn't there is refused.
+abbrev pub read_known : Setup → Step → Read
+read_known setup s = if is_known setup s then plays s (at_steps setup) else refuses kind.Device
 
 -- What a step line is to a script: `end` ends it.
-abbrev pub read_step_line : Setup → ℕ → Result Step LineKind → Read
-read_step_line setup coin_lines (Err why) = refuses why
-read_step_line setup coin_lines (Ok step.End) = opens (at_end setup)
-read_step_line setup coin_lines (Ok s) = read_known setup coin_lines s
+abbrev pub read_step_line : Setup → Result Step LineKind → Read
+read_step_line setup (Err why) = refuses why
+read_step_line setup (Ok step.End) = opens (at_end setup)
+read_step_line setup (Ok s) = read_known setup s
 
 -- A whole line, by its word and its form; a word that isn't played today is no word.
 unfoldable pub read_form : Stage → List ℕ → Read
 read_form (at_setup setup) line = if is_setup_word (word_of line) then read_setup_line setup (setup_line line) else refuses kind.Word
-read_form (at_steps setup coin_lines) line =
-    if is_step_word (word_of line) then read_step_line setup coin_lines (step_line line) else refuses kind.Word
+read_form (at_steps setup) line = if is_step_word (word_of line) then read_step_line setup (step_line line) else refuses kind.Word
 read_form (at_end setup) line = refuses kind.Trailing
 
 -- The most lines of a script.
@@ -215,8 +201,3 @@ IsInRange (step.Fault f) = IsFault f
 IsInRange (step.Command c) = IsCommand c
 IsInRange (step.Crash at choice) = IsCrash at
 IsInRange s = ⊤
-
--- How many of these steps are coins.
-abbrev pub coin_steps : List Step → ℕ
-coin_steps [] = 0
-coin_steps (s ∷ steps) = coins_after s (coin_steps steps)

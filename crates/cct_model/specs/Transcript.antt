@@ -1,11 +1,8 @@
 -- A transcript, newest entry first: the wire's pending fault, what each device met, and the lines of each address.
-use Rattle.std.specs.Prelude.{ℕ, ◌==◌, List, [], ◌∷◌, ◌++◌, flat_map, if◌then◌else◌, Option, Some, None, option_and_then, unwrap_or, slice_index, bytes_eq}
+use Rattle.std.specs.Prelude.{ℕ, ◌==◌, List, [], ◌∷◌, ◌++◌, flat_map, if◌then◌else◌, Option, option_and_then, unwrap_or, slice_index, bytes_eq}
 use Rattle.cct_model.specs.declared.wire.CheckKind.TheVariants.{Simple, Crc}
-use Rattle.cct_model.specs.declared.device.DeviceBody.{DeviceBody}
-use Rattle.cct_model.specs.declared.device.DeviceBody.TheVariants.{Acceptor, Hopper}
 use Rattle.cct_model.specs.declared.device.DeviceSetup.{DeviceSetup}
 use Rattle.cct_model.specs.declared.device.Setup.{Setup}
-use Rattle.cct_model.specs.declared.request.Request.TheVariants.{SetMask}
 use Rattle.cct_model.specs.declared.command.WireFault.{WireFault}
 use Rattle.cct_model.specs.declared.command.WireFault.TheVariants as fault
 use Rattle.cct_model.specs.declared.record.Record.{Record}
@@ -18,7 +15,7 @@ use Rattle.cct_model.specs.History.{Met, coin, alien, fall, jam, reset, heard}
 use Rattle.cct_model.specs.Exchange.{ask, asked, asks_of, answer, after_echo, got, by_address}
 use Rattle.cct_model.specs.Line.{Line}
 use Rattle.cct_model.specs.Line as line
-use Rattle.cct_model.specs.Job.{address_of, open_mask}
+use Rattle.cct_model.specs.Job.{address_of}
 use Rattle.cct_model.specs.Scan.{poll_of}
 
 -- What stands at an address, where that is the device's.
@@ -57,14 +54,9 @@ meets d past (entry.Reset addr) = at addr d reset
 meets d past (entry.Wire addr sent piece) = heard (asks_of d (heard_by_devices (pending past) sent)) ∷ []
 meets d past e = []
 
--- What a device met before a script: an acceptor heard a piece that accepts every coin place.
-abbrev pub opening : DeviceBody → List Met
-opening (Acceptor accepts values ids) = heard (Some (SetMask open_mask)) ∷ []
-opening (Hopper life value) = []
-
 -- All that a device met.
 abbrev pub met : DeviceSetup → List Entry → List Met
-met d [] = opening d.body
+met d [] = []
 met d (e ∷ past) = meets d past e ++ met d past
 
 -- The bytes with which the devices of a setup answer a piece, in rising order of address.

@@ -1,10 +1,27 @@
 //! Sets of addresses.
-ghost use Rattle.std.specs.Prelude.{◌≡◌, ℕ, ◌<◌, ◌==◌, ◌&&◌, ◌||◌, not, false, find};
+ghost use Rattle.std.specs.Prelude.{◌≡◌, ℕ, ◌==◌, ◌&&◌, ◌||◌, length, not, false, find};
 
-/// A set of addresses, 0 to 255. Contracts see it by the addresses that it has, which are listed in rising order.
+use std::marker::Model;
+
+/// A set of addresses, 0 to 255. Contracts see it as which address is a member, in rising order of the addresses.
 #[derive(Clone, Copy, Debug, PartialEq, Eq)]
 pub struct DeviceSet {
-    members: [bool; 256],
+    /// Address `a` is bit `a % 64` of word `a / 64`.
+    words: [u64; 4],
+}
+
+impl Model for DeviceSet {
+    ghost use Rattle.cct_model.specs.Members.{AreWords, Members, set_in, words_back, words_of};
+
+    ghost Value = { Members };
+
+    ghost view = { λ s. set_in s.words };
+
+    ghost invariant = { λ s. AreWords s.words };
+
+    ghost inverse = { λ set. record { words = words_of set } };
+
+    ghost inverse_ok = { λ s h i. record { words = words_back s.words h i } };
 }
 
 impl DeviceSet {
@@ -12,35 +29,35 @@ impl DeviceSet {
 
     /// No address.
     pub fn new() -> Self
-        ensures { (addr : ℕ) → has result addr ≡ false }
+        ensures none { (addr : ℕ) → has result addr ≡ false }
+        ensures whole { length result.members ≡ 256 }
     {
-        DeviceSet {
-            members: [false; 256],
-        }
+        DeviceSet { words: [0; 4] }
     }
 
     /// Adds an address, where it isn't in the set yet.
     pub fn insert(&mut self, addr: u8)
-        ensures { (other : ℕ) → has self.new other ≡ ((other == addr) || has self.old other) }
+        ensures one_more { (other : ℕ) → has self.new other ≡ ((other == addr) || has self.old other) }
+        ensures whole { length self.new.members ≡ 256 }
     {
-        self.members[addr as usize] = true;
+        self.words[addr as usize / 64] |= 1 << (addr % 64);
     }
 
     /// Takes an address out, where it is in the set.
     pub fn remove(&mut self, addr: u8)
-        ensures { (other : ℕ) → has self.new other ≡ (not (other == addr) && has self.old other) }
+        ensures one_less { (other : ℕ) → has self.new other ≡ (not (other == addr) && has self.old other) }
+        ensures whole { length self.new.members ≡ 256 }
     {
-        self.members[addr as usize] = false;
+        self.words[addr as usize / 64] &= !(1 << (addr % 64));
     }
 
     /// The least address of the set, if it has any.
-    #[tactic(auto, using(crate::proofs::Sets::one_more))]
     pub fn first(&self) -> Option<u8>
         ensures { result ≡ find (has self.now) all_addresses }
     {
-        for (addr, is_member) in self.members.iter().enumerate() {
-            if *is_member {
-                return Some(addr as u8);
+        for (index, word) in self.words.iter().enumerate() {
+            if *word != 0 {
+                return Some(index as u8 * 64 + word.trailing_zeros() as u8);
             }
         }
         None
@@ -50,6 +67,6 @@ impl DeviceSet {
     pub fn has(&self, addr: u8) -> bool
         ensures { result ≡ has self.now addr }
     {
-        self.members[addr as usize]
+        (self.words[addr as usize / 64] >> (addr % 64)) & 1 == 1
     }
 }

@@ -16,7 +16,7 @@ pub use adding::add;
 pub use buffer::{Held, LineBuffer};
 pub use lines::{Line, Lines, LinesNo};
 pub use setup::read_setup_line;
-pub use step::read_step_line;
+pub use step::{read_step, read_step_line};
 
 #[cfg(test)]
 mod tests;

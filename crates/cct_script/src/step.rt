@@ -1,6 +1,5 @@
 //! The step lines of a script (`docs/SCRIPT.md`).
-ghost use Rattle.std.specs.Prelude.{◌≡◌, ℕ, IfOk, IfSome, MatchResult};
-ghost use Rattle.std.specs.Option.{ok_or};
+ghost use Rattle.std.specs.Prelude.{◌≡◌, ℕ, Some, None, Ok, Err, IfOk, MatchOption, MatchResult};
 ghost use Rattle.cct_model.specs.declared.command.Step.{Step};
 ghost use Rattle.cct_model.specs.Grammar.{address_in, choice_in, coin_step, step_at, fault_step, start_step, pay_step, path_step, vend_step, crash_step, step_line};
 ghost use Rattle.cct_model.specs.Script.{IsInRange};
@@ -77,111 +76,122 @@ fn choice_in(field: &[u8]) -> Option<u64>
     ranged(0, u64::MAX, field)
 }
 
-/// `coin A PLACE`
+/// `coin A PLACE`: the address and the place.
 #[tactic(auto, using(crate::proofs::Forms::no_coin))]
-fn coin_step(rest: Option<&[u8]>) -> Option<Step>
-    ensures says { result ≡ coin_step (fields_behind rest.entry) }
-    ensures ranged { IfSome result IsInRange }
+fn coin_in(rest: Option<&[u8]>) -> Option<(u8, u8)>
+    ensures { MatchOption result (coin_step (fields_behind rest.entry) ≡ None)
+        (λ coin. (coin_step (fields_behind rest.entry) ≡ Some (Step.Coin coin.0 coin.1)) × IsInRange (Step.Coin coin.0 coin.1)) }
 {
     let (addr, place) = two(rest)?;
     let addr = address_in(addr)?;
     let place = ranged_u8(1, 16, place)?;
-    Some(Step::Coin { addr, place })
+    Some((addr, place))
 }
 
 /// `fault devices PIECE`, `fault host PIECE`, `fault whole PIECE`
 #[tactic(auto, using(crate::proofs::Forms::no_fault))]
-fn fault_step(rest: Option<&[u8]>) -> Option<Step>
-    ensures says { result ≡ fault_step (fields_behind rest.entry) }
-    ensures ranged { IfSome result IsInRange }
+fn fault_in(rest: Option<&[u8]>) -> Option<WireFault>
+    ensures { MatchOption result (fault_step (fields_behind rest.entry) ≡ None)
+        (λ fault. (fault_step (fields_behind rest.entry) ≡ Some (Step.Fault fault)) × IsInRange (Step.Fault fault)) }
 {
     let (whom, piece) = two(rest)?;
     if whom == DEVICES {
         let piece = piece_in(MOST_SENT, piece)?;
-        return Some(Step::Fault(WireFault::DevicesHear(piece)));
+        return Some(WireFault::DevicesHear(piece));
     }
     if whom == HOST {
         let piece = piece_in(MOST_SENT, piece)?;
-        return Some(Step::Fault(WireFault::HostHears(piece)));
+        return Some(WireFault::HostHears(piece));
     }
     if whom == WHOLE {
         let piece = piece_in(MOST_HEARD, piece)?;
-        return Some(Step::Fault(WireFault::WholeHeard(piece)));
+        return Some(WireFault::WholeHeard(piece));
     }
     None
 }
 
 /// `start A MASK`
 #[tactic(auto, using(crate::proofs::Forms::no_start))]
-fn start_step(rest: Option<&[u8]>) -> Option<Step>
-    ensures says { result ≡ start_step (fields_behind rest.entry) }
-    ensures ranged { IfSome result IsInRange }
+fn start_in(rest: Option<&[u8]>) -> Option<Command>
+    ensures { MatchOption result (start_step (fields_behind rest.entry) ≡ None)
+        (λ command. (start_step (fields_behind rest.entry) ≡ Some (Step.Command command)) × IsInRange (Step.Command command)) }
 {
     let (addr, mask) = two(rest)?;
     let addr = address_in(addr)?;
     let mask = mask_in(mask)?;
-    Some(Step::Command(Command::Start { addr, mask }))
+    Some(Command::Start { addr, mask })
 }
 
 /// `pay A ID COUNT`
 #[tactic(auto, using(crate::proofs::Forms::no_pay))]
-fn pay_step(rest: Option<&[u8]>) -> Option<Step>
-    ensures says { result ≡ pay_step (fields_behind rest.entry) }
-    ensures ranged { IfSome result IsInRange }
+fn pay_in(rest: Option<&[u8]>) -> Option<Command>
+    ensures { MatchOption result (pay_step (fields_behind rest.entry) ≡ None)
+        (λ command. (pay_step (fields_behind rest.entry) ≡ Some (Step.Command command)) × IsInRange (Step.Command command)) }
 {
     let (addr, id, count) = three(rest)?;
     let addr = address_in(addr)?;
     let id = ranged_u32(1, u32::MAX, id)?;
     let count = ranged_u8(1, 255, count)?;
-    Some(Step::Command(Command::Pay { addr, id, count }))
+    Some(Command::Pay { addr, id, count })
 }
 
 /// `path A PLACE PATH`
 #[tactic(auto, using(crate::proofs::Forms::no_path))]
-fn path_step(rest: Option<&[u8]>) -> Option<Step>
-    ensures says { result ≡ path_step (fields_behind rest.entry) }
-    ensures ranged { IfSome result IsInRange }
+fn path_in(rest: Option<&[u8]>) -> Option<Command>
+    ensures { MatchOption result (path_step (fields_behind rest.entry) ≡ None)
+        (λ command. (path_step (fields_behind rest.entry) ≡ Some (Step.Command command)) × IsInRange (Step.Command command)) }
 {
     let (addr, place, path) = three(rest)?;
     let addr = address_in(addr)?;
     let place = ranged_u8(0, 16, place)?;
     let path = ranged_u8(1, 8, path)?;
-    Some(Step::Command(Command::Path { addr, place, path }))
+    Some(Command::Path { addr, place, path })
 }
 
 /// `vend ID PRICE`
 #[tactic(auto, using(crate::proofs::Forms::no_vend))]
-fn vend_step(rest: Option<&[u8]>) -> Option<Step>
-    ensures says { result ≡ vend_step (fields_behind rest.entry) }
-    ensures ranged { IfSome result IsInRange }
+fn vend_in(rest: Option<&[u8]>) -> Option<Command>
+    ensures { MatchOption result (vend_step (fields_behind rest.entry) ≡ None)
+        (λ command. (vend_step (fields_behind rest.entry) ≡ Some (Step.Command command)) × IsInRange (Step.Command command)) }
 {
     let (id, price) = two(rest)?;
     let id = ranged_u32(1, u32::MAX, id)?;
     let price = ranged_u32(1, 1_000_000_000, price)?;
-    Some(Step::Command(Command::Vend { id, price }))
+    Some(Command::Vend { id, price })
 }
 
-/// `crash CHOICE`, `crash A CALLS CHOICE`
+/// `crash CHOICE`, `crash A CALLS CHOICE`: where the power is lost, and the choice.
 #[tactic(auto, using(crate::proofs::Forms::no_crash))]
-fn crash_step(rest: Option<&[u8]>) -> Option<Step>
-    ensures says { result ≡ crash_step (fields_behind rest.entry) }
-    ensures ranged { IfSome result IsInRange }
+fn crash_in(rest: Option<&[u8]>) -> Option<(Option<CrashAt>, u64)>
+    ensures { MatchOption result (crash_step (fields_behind rest.entry) ≡ None)
+        (λ crash. (crash_step (fields_behind rest.entry) ≡ Some (Step.Crash crash.0 crash.1)) × IsInRange (Step.Crash crash.0 crash.1)) }
 {
     if let Some(choice) = one(rest) {
         let choice = choice_in(choice)?;
-        return Some(Step::Crash { at: None, choice });
+        return Some((None, choice));
     }
     let (addr, calls, choice) = three(rest)?;
     let addr = address_in(addr)?;
     let calls = ranged_u8(0, 4, calls)?;
     let choice = choice_in(choice)?;
     let at = Some(CrashAt { addr, calls });
-    Some(Step::Crash { at, choice })
+    Some((at, choice))
+}
+
+/// Reads what a line says of a fault. It stands apart, so that the room for its piece is taken for no other line.
+fn fault_step(rest: Option<&[u8]>, step: &mut Step) -> Result<(), LineKind>
+    ensures { MatchResult result
+        (λ done. (fault_step (fields_behind rest.entry) ≡ Some step.new) × IsInRange step.new)
+        (λ why. (why ≡ LineKind.Form) × (fault_step (fields_behind rest.entry) ≡ None) × (step.new ≡ step.old)) }
+{
+    let fault = fault_in(rest).ok_or(LineKind::Form)?;
+    *step = Step::Fault(fault);
+    Ok(())
 }
 
 /// The address alone behind a word.
 #[tactic(auto, using(crate::proofs::Forms::no_step_at))]
-fn addr_alone(rest: Option<&[u8]>) -> Result<u8, LineKind>
+fn addr(rest: Option<&[u8]>) -> Result<u8, LineKind>
     ensures { MatchResult result
         (λ addr. (make : ℕ → Step) → step_at make (fields_behind rest.entry) ≡ Some (make addr))
         (λ why. (why ≡ LineKind.Form) × ((make : ℕ → Step) → step_at make (fields_behind rest.entry) ≡ None)) }
@@ -192,55 +202,64 @@ fn addr_alone(rest: Option<&[u8]>) -> Result<u8, LineKind>
     }
 }
 
+/// Reads what a step line says, without its line feed. `Word` where the first field is no word of a step line, else
+/// `Form` where the line isn't in a form of its word; the step then stays as it was.
+#[tactic(auto, unfolding(cct_model::specs::Grammar::step_line))]
+pub fn read_step(line: &[u8], step: &mut Step) -> Result<(), LineKind>
+    ensures reads { MatchResult result
+        (λ done. step_line line.now ≡ Ok step.new)
+        (λ why. (step_line line.now ≡ Err why) × (step.new ≡ step.old)) }
+    ensures ranged { IfOk result (λ done. IsInRange step.new) }
+{
+    let (word, rest) = first_field(line);
+    match word {
+        _ if word == COIN => {
+            let (addr, place) = coin_in(rest).ok_or(LineKind::Form)?;
+            *step = Step::Coin { addr, place };
+        }
+        _ if word == ALIEN => *step = Step::Alien { addr: addr(rest)? },
+        _ if word == FALL => *step = Step::Fall { addr: addr(rest)? },
+        _ if word == JAM => *step = Step::Jam { addr: addr(rest)? },
+        _ if word == RESET => *step = Step::Reset { addr: addr(rest)? },
+        _ if word == NEXT => *step = Step::Next { addr: addr(rest)? },
+        _ if word == FAULT => fault_step(rest, step)?,
+        _ if word == START => *step = Step::Command(start_in(rest).ok_or(LineKind::Form)?),
+        _ if word == ROUND => *step = Step::Command(Command::Round { addr: addr(rest)? }),
+        _ if word == STOP => *step = Step::Command(Command::Stop { addr: addr(rest)? }),
+        _ if word == SETTLE => *step = Step::Command(Command::Settle { addr: addr(rest)? }),
+        _ if word == HALT => *step = Step::Command(Command::Halt { addr: addr(rest)? }),
+        _ if word == IDENT => *step = Step::Command(Command::Ident { addr: addr(rest)? }),
+        _ if word == PAY => *step = Step::Command(pay_in(rest).ok_or(LineKind::Form)?),
+        _ if word == SCAN => {
+            alone((), rest).ok_or(LineKind::Form)?;
+            *step = Step::Command(Command::Scan);
+        }
+        _ if word == PATH => *step = Step::Command(path_in(rest).ok_or(LineKind::Form)?),
+        _ if word == VEND => *step = Step::Command(vend_in(rest).ok_or(LineKind::Form)?),
+        _ if word == CRASH => {
+            let (at, choice) = crash_in(rest).ok_or(LineKind::Form)?;
+            *step = Step::Crash { at, choice };
+        }
+        _ if word == BALANCE => {
+            alone((), rest).ok_or(LineKind::Form)?;
+            *step = Step::Balance;
+        }
+        _ if word == END => {
+            alone((), rest).ok_or(LineKind::Form)?;
+            *step = Step::End;
+        }
+        _ => return Err(LineKind::Word),
+    }
+    Ok(())
+}
+
 /// What a step line says, without its line feed. `Word` where the first field is no word of a step line, else `Form`
 /// where the line isn't in a form of its word.
-#[tactic(auto, unfolding(cct_model::specs::Grammar::step_line))]
 pub fn read_step_line(line: &[u8]) -> Result<Step, LineKind>
     ensures value { result ≡ step_line line.now }
     ensures ranged { IfOk result IsInRange }
 {
-    let (word, rest) = first_field(line);
-    match word {
-        _ if word == COIN => coin_step(rest).ok_or(LineKind::Form),
-        _ if word == ALIEN => Ok(Step::Alien {
-            addr: addr_alone(rest)?,
-        }),
-        _ if word == FALL => Ok(Step::Fall {
-            addr: addr_alone(rest)?,
-        }),
-        _ if word == JAM => Ok(Step::Jam {
-            addr: addr_alone(rest)?,
-        }),
-        _ if word == RESET => Ok(Step::Reset {
-            addr: addr_alone(rest)?,
-        }),
-        _ if word == NEXT => Ok(Step::Next {
-            addr: addr_alone(rest)?,
-        }),
-        _ if word == FAULT => fault_step(rest).ok_or(LineKind::Form),
-        _ if word == START => start_step(rest).ok_or(LineKind::Form),
-        _ if word == ROUND => Ok(Step::Command(Command::Round {
-            addr: addr_alone(rest)?,
-        })),
-        _ if word == STOP => Ok(Step::Command(Command::Stop {
-            addr: addr_alone(rest)?,
-        })),
-        _ if word == SETTLE => Ok(Step::Command(Command::Settle {
-            addr: addr_alone(rest)?,
-        })),
-        _ if word == HALT => Ok(Step::Command(Command::Halt {
-            addr: addr_alone(rest)?,
-        })),
-        _ if word == IDENT => Ok(Step::Command(Command::Ident {
-            addr: addr_alone(rest)?,
-        })),
-        _ if word == PAY => pay_step(rest).ok_or(LineKind::Form),
-        _ if word == SCAN => alone(Step::Command(Command::Scan), rest).ok_or(LineKind::Form),
-        _ if word == PATH => path_step(rest).ok_or(LineKind::Form),
-        _ if word == VEND => vend_step(rest).ok_or(LineKind::Form),
-        _ if word == CRASH => crash_step(rest).ok_or(LineKind::Form),
-        _ if word == BALANCE => alone(Step::Balance, rest).ok_or(LineKind::Form),
-        _ if word == END => alone(Step::End, rest).ok_or(LineKind::Form),
-        _ => Err(LineKind::Word),
-    }
+    let mut step = Step::End;
+    read_step(line, &mut step)?;
+    Ok(step)
 }

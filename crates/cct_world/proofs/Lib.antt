@@ -1,5 +1,5 @@
 pub mod Begins
-pub mod Ends
+pub mod CoinPlaces
 pub mod Lines
 pub mod Moves
 pub mod Places

@@ -1,5 +1,5 @@
 -- Which lines an entry is at which address.
-use Rattle.std.proofs.Common.{◌≡◌, ◌≢◌, ℕ, ◌==◌, Bool, true, false, cond, List, [], ◌∷◌, ◌++◌, refl, sym, ap, subst, ◌∙◌, eq-eqb, arith}
+use Rattle.std.proofs.Common.{◌≡◌, ◌≢◌, ℕ, ◌==◌, Bool, true, false, cond, List, [], ◌∷◌, ◌++◌, refl, sym, ap, ◌∙◌, eq-eqb, arith}
 use Rattle.std.proofs.lemmas.Bool.Decides.{nat_tests}
 use Rattle.cct_model.specs.declared.coin.Coin.{Coin}
 use Rattle.cct_model.specs.declared.device.DeviceSetup.{DeviceSetup}
@@ -70,54 +70,54 @@ ended_at addr past e end before = record {
   scans = λ other. ap (λ ls. ls ++ scan_lines (e ∷ past)) (at_no_scan addr (line.ended end) other) ∙ before.scans other;
 }
 
--- an entry that changes no job and no recorded event counter
+-- an entry that changes no job and no epoch
 pub record IsQuiet (past : List Entry) (e : Entry) : Type 0 where
   pub jobs : (d : DeviceSetup) → model.job (lines_of d (e ∷ past)) ≡ model.job (lines_of d past)
-  pub counts : (d : DeviceSetup) → model.recorded (lines_of d (e ∷ past)) ≡ model.recorded (lines_of d past)
+  pub epochs : (d : DeviceSetup) → model.epoch (lines_of d (e ∷ past)) ≡ model.epoch (lines_of d past)
   pub scans : scan_lines (e ∷ past) ≡ scan_lines past
 
 -- a line that changes none
 abbrev pub Passes : Line → Type 0
-Passes x = (lines : List Line) → (model.job (x ∷ lines) ≡ model.job lines) × (model.recorded (x ∷ lines) ≡ model.recorded lines)
+Passes x = (lines : List Line) → (model.job (x ∷ lines) ≡ model.job lines) × (model.epoch (x ∷ lines) ≡ model.epoch lines)
 
 job_by : (same : Bool) (x : Line) (lines : List Line) → Passes x → model.job (cond same (x ∷ []) [] ++ lines) ≡ model.job lines
 job_by true x lines passes = (passes lines).0
 job_by false x lines passes = refl
 
-count_by : (same : Bool) (x : Line) (lines : List Line) → Passes x → model.recorded (cond same (x ∷ []) [] ++ lines) ≡ model.recorded lines
-count_by true x lines passes = (passes lines).1
-count_by false x lines passes = refl
+epoch_kept : (same : Bool) (x : Line) (lines : List Line) → Passes x → model.epoch (cond same (x ∷ []) [] ++ lines) ≡ model.epoch lines
+epoch_kept true x lines passes = (passes lines).1
+epoch_kept false x lines passes = refl
 
 pub accepted_quiet : (past : List Entry) (addr : ℕ) (c : Coin) → IsQuiet past (entry.Accepted addr c)
 accepted_quiet past addr c = record {
   jobs = λ d. job_by (addr == d.addr) (line.accepted c) (lines_of d past) (λ ls. (refl, refl));
-  counts = λ d. count_by (addr == d.addr) (line.accepted c) (lines_of d past) (λ ls. (refl, refl));
+  epochs = λ d. epoch_kept (addr == d.addr) (line.accepted c) (lines_of d past) (λ ls. (refl, refl));
   scans = refl;
 }
 
 pub inhibited_quiet : (past : List Entry) (addr place : ℕ) → IsQuiet past (entry.Inhibited addr place)
 inhibited_quiet past addr place = record {
   jobs = λ d. job_by (addr == d.addr) (line.inhibited place) (lines_of d past) (λ ls. (refl, refl));
-  counts = λ d. count_by (addr == d.addr) (line.inhibited place) (lines_of d past) (λ ls. (refl, refl));
+  epochs = λ d. epoch_kept (addr == d.addr) (line.inhibited place) (lines_of d past) (λ ls. (refl, refl));
   scans = refl;
 }
 
 pub alien_quiet : (past : List Entry) (addr : ℕ) → IsQuiet past (entry.Alien addr)
 alien_quiet past addr = record {
   jobs = λ d. job_by (addr == d.addr) line.alien (lines_of d past) (λ ls. (refl, refl));
-  counts = λ d. count_by (addr == d.addr) line.alien (lines_of d past) (λ ls. (refl, refl));
+  epochs = λ d. epoch_kept (addr == d.addr) line.alien (lines_of d past) (λ ls. (refl, refl));
   scans = refl;
 }
 
 pub reset_quiet : (past : List Entry) (addr : ℕ) → IsQuiet past (entry.Reset addr)
 reset_quiet past addr = record {
   jobs = λ d. job_by (addr == d.addr) line.reset (lines_of d past) (λ ls. (refl, refl));
-  counts = λ d. count_by (addr == d.addr) line.reset (lines_of d past) (λ ls. (refl, refl));
+  epochs = λ d. epoch_kept (addr == d.addr) line.reset (lines_of d past) (λ ls. (refl, refl));
   scans = refl;
 }
 
 pub fault_quiet : (past : List Entry) (f : WireFault) → IsQuiet past (entry.Fault f)
-fault_quiet past f = record { jobs = λ d. refl; counts = λ d. refl; scans = refl }
+fault_quiet past f = record { jobs = λ d. refl; epochs = λ d. refl; scans = refl }
 
 pub refused_quiet : (past : List Entry) (c : Command) (why : CommandNo) → IsQuiet past (entry.No c why)
-refused_quiet past c why = record { jobs = λ d. refl; counts = λ d. refl; scans = refl }
+refused_quiet past c why = record { jobs = λ d. refl; epochs = λ d. refl; scans = refl }

@@ -1,5 +1,5 @@
 -- The desk of the device at an address, by its index.
-use Rattle.std.proofs.Common.{◌≡◌, ◌≢◌, ℕ, zero, suc, ◌<◌, ◌≤◌, ◌==◌, nat_lt, Bool, true, false, cond, List, [], ◌∷◌, ◌++◌, length, map, set, get_or, Option, Some, None, refl, sym, ap, subst, ◌∙◌, arith}
+use Rattle.std.proofs.Common.{◌≡◌, ◌≢◌, ℕ, zero, suc, ◌<◌, ◌==◌, nat_lt, Bool, true, false, cond, List, [], ◌∷◌, length, set, get_or, Option, Some, None, refl, sym, ap, subst, ◌∙◌, arith}
 use Rattle.std.specs.Prelude.{IsTrue, is_some}
 use Rattle.std.specs.List.{All, position, position_or_len}
 use Rattle.std.proofs.lemmas.Bool.{eqb-true}
@@ -11,7 +11,7 @@ use Rattle.cct_model.specs.declared.device.DeviceSetup.{DeviceSetup}
 use Rattle.cct_model.specs.Exchange.{device_at}
 use Rattle.cct_model.specs.Setup.{AreDistinct}
 use Rattle.cct_world.specs.declared.desk.Desk.{Desk}
-use Rattle.cct_world.specs.Desk.{device_of, devices_of}
+use Rattle.cct_world.specs.Desk.{device_of, devices_of, epoch_at}
 
 -- the test of a desk by its device's address
 abbrev pub is_at : ℕ → Desk → Bool
@@ -73,6 +73,20 @@ device_found desks setups i y addr places found is =
       ap (λ ds. device_at ds addr) (sym places) ∙ place.1 ∙ ap (λ d. Some (device_of d)) (sym is),
       ap (λ d. (device_of d).addr) is ∙ place.2,
     )
+
+epoch_at_place : (desks : List Desk) (i : ℕ) (x : Desk) (addr : ℕ) → i < length desks → is_at addr (get_or desks i x) ≡ true
+    → ((k : ℕ) → k < i → is_at addr (get_or desks k x) ≡ false) → epoch_at desks addr ≡ (get_or desks i x).epoch
+epoch_at_place [] i x addr within here before = absurd (omega arith)
+epoch_at_place (e ∷ es) zero x addr within here before = ap (λ b. cond b e.epoch (epoch_at es addr)) here
+epoch_at_place (e ∷ es) (suc i) x addr within here before =
+    ap (λ b. cond b e.epoch (epoch_at es addr)) (before 0 (omega arith))
+    ∙ epoch_at_place es i x addr (omega arith) here (λ k below. before (suc k) (omega arith))
+
+-- the epoch at an address is that of the desk at its index
+pub epoch_found : (desks : List Desk) (i : ℕ) (y : Desk) (addr : ℕ) → position (is_at addr) desks ≡ Some i → y ≡ get_or desks i y → epoch_at desks addr ≡ y.epoch
+epoch_found desks i y addr found is =
+    let known : (i < length desks) × (is_at addr (get_or desks i y) ≡ true) × ((k : ℕ) → k < i → is_at addr (get_or desks k y) ≡ false) = position-Some (is_at addr) desks i y found in
+    epoch_at_place desks i y addr known.0 known.1 known.2 ∙ sym (ap (λ desk. desk.epoch) is)
 
 -- the desk at an index is one of all
 pub one_of : (P : Desk → Type 0) (desks : List Desk) (i : ℕ) (y : Desk) → i < length desks → y ≡ get_or desks i y → All P desks → P y

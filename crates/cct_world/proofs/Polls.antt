@@ -1,11 +1,10 @@
 -- A poll of a scan, and what it leaves.
-use Rattle.std.proofs.Common.{◌≡◌, ◌≢◌, ℕ, List, [], ◌∷◌, ◌++◌, reverse, Bool, true, false, cond, refl, sym, ap, subst, ◌∙◌, Option, Some, None}
+use Rattle.std.proofs.Common.{◌≡◌, ℕ, List, [], ◌∷◌, ◌++◌, reverse, Bool, true, false, cond, refl, sym, ap, subst, ◌∙◌, Option, Some, None}
 use Rattle.std.specs.Prelude.{is_some}
 use Rattle.cct_model.specs.declared.wire.CheckKind.{CheckKind}
 use Rattle.cct_model.specs.declared.wire.CheckKind.TheVariants.{Simple, Crc}
 use Rattle.cct_model.specs.declared.device.Setup.{Setup}
 use Rattle.cct_model.specs.declared.command.Command.{Command}
-use Rattle.cct_model.specs.declared.entry.End.{End}
 use Rattle.cct_model.specs.declared.entry.Entry.{Entry}
 use Rattle.cct_model.specs.declared.entry.Entry.TheVariants as entry
 use Rattle.cct_model.specs.Exchange.{ask}

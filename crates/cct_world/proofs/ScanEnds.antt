@@ -1,22 +1,20 @@
 -- A scan that isn't done after a line was not ended by it.
-use Rattle.std.proofs.Common.{◌≡◌, ◌≢◌, ℕ, suc, ◌<◌, ◌==◌, ◌||◌, ◌&&◌, Bool, true, false, not, cond, List, [], ◌∷◌, refl, sym, ap, subst, ◌∙◌, Option, Some, None, arith}
+use Rattle.std.proofs.Common.{◌≡◌, ℕ, ◌<◌, ◌==◌, ◌||◌, Bool, true, false, List, ◌∷◌, refl, sym, ap, subst, ◌∙◌, Option, Some, None, arith}
 use Rattle.std.specs.Prelude.{is_some}
 use Rattle.std.specs.List.{list_any}
 use Rattle.std.proofs.lemmas.Bool.Decides.{nat_tests}
 use Rattle.cct_model.specs.declared.wire.CheckKind.{CheckKind}
 use Rattle.cct_model.specs.declared.wire.CheckKind.TheVariants.{Simple, Crc}
 use Rattle.cct_model.specs.declared.device_set.DeviceSet.{DeviceSet}
-use Rattle.cct_model.specs.declared.entry.End.{End}
-use Rattle.cct_model.specs.declared.entry.End.TheVariants as ends_of
 use Rattle.cct_model.specs.Exchange.{after_echo, ask}
 use Rattle.cct_model.specs.Line.{Line, scanned}
-use Rattle.cct_model.specs.Scan.{echoes, end_by_row, end_of_scan, poll_after, poll_of, scan_row, scan_tries}
+use Rattle.cct_model.specs.Scan.{echoes, end_by_row, end_of_scan, poll_of, scan_row, scan_tries}
 use Rattle.cct_model.specs.Transcript.{scan_line}
 use Rattle.cct_jobs.specs.declared.job.Job.{Job}
-use Rattle.cct_jobs.specs.declared.job.Job.TheVariants.{RoundAsks, RoundPuts, IdentAsks, PathSets, PathReads, ScanCallsSimple, ScanCallsCrc, ScanPollsSimple, ScanPollsCrc, Done}
+use Rattle.cct_jobs.specs.declared.job.Job.TheVariants.{StartResets, StartReads, StartPuts, StartSets, RoundReads, RoundLooks, StopInhibits, StopReads, StopLooks, StopPuts, Puts, IdentAsks, PathSets, PathReads, ScanCallsSimple, ScanCallsCrc, ScanPollsSimple, ScanPollsCrc, Done}
 use Rattle.cct_jobs.specs.declared.job.Need.TheVariants as need
 use Rattle.cct_jobs.specs.Jobs.{need_of, sending_of}
-use Rattle.cct_jobs.specs.Scans.{CallsCrc, CallsSimple, Lists, Polls, StandsScan}
+use Rattle.cct_jobs.specs.Scans.{CallsCrc, CallsSimple, StandsScan}
 use Rattle.cct_jobs.proofs.Scans.{calls_crc_row, calls_simple_row, crc_line, polls_row, simple_line}
 use Rattle.cct_world.specs.Running.{is_unfinished}
 
@@ -123,8 +121,17 @@ scan_goes_on (ScanPollsSimple polled due listed) since check addr sent heard run
     no_end _ Simple polled (zero_not _ at.lists.quiet_simple) (zero_not _ at.lists.quiet_crc) (polls_row Simple polled due listed _ at)
 scan_goes_on (ScanPollsCrc polled due listed) since check addr sent heard runs is_ask is_row at =
     no_end _ Crc polled (zero_not _ at.lists.quiet_simple) (zero_not _ at.lists.quiet_crc) (polls_row Crc polled due listed _ at)
-scan_goes_on (RoundAsks device recorded failed) since check addr sent heard runs is_ask is_row at = absurd at
-scan_goes_on (RoundPuts entry end) since check addr sent heard runs is_ask is_row at = absurd at
+scan_goes_on (StartResets device mask failed) since check addr sent heard runs is_ask is_row at = absurd at
+scan_goes_on (StartReads device mask failed) since check addr sent heard runs is_ask is_row at = absurd at
+scan_goes_on (StartPuts device mask) since check addr sent heard runs is_ask is_row at = absurd at
+scan_goes_on (StartSets device mask) since check addr sent heard runs is_ask is_row at = absurd at
+scan_goes_on (RoundReads device recorded failed) since check addr sent heard runs is_ask is_row at = absurd at
+scan_goes_on (RoundLooks device recorded read failed) since check addr sent heard runs is_ask is_row at = absurd at
+scan_goes_on (StopInhibits device recorded failed) since check addr sent heard runs is_ask is_row at = absurd at
+scan_goes_on (StopReads device recorded failed) since check addr sent heard runs is_ask is_row at = absurd at
+scan_goes_on (StopLooks device recorded read failed) since check addr sent heard runs is_ask is_row at = absurd at
+scan_goes_on (StopPuts device entry) since check addr sent heard runs is_ask is_row at = absurd at
+scan_goes_on (Puts entry end) since check addr sent heard runs is_ask is_row at = absurd at
 scan_goes_on (IdentAsks device question failed) since check addr sent heard runs is_ask is_row at = absurd at
 scan_goes_on (PathSets device place path failed) since check addr sent heard runs is_ask is_row at = absurd at
 scan_goes_on (PathReads device place failed) since check addr sent heard runs is_ask is_row at = absurd at
@@ -136,8 +143,17 @@ sends_exchange (ScanCallsSimple failed) sends = refl
 sends_exchange (ScanCallsCrc failed due) sends = refl
 sends_exchange (ScanPollsSimple polled due listed) sends = refl
 sends_exchange (ScanPollsCrc polled due listed) sends = refl
-sends_exchange (RoundAsks device recorded failed) sends = refl
-sends_exchange (RoundPuts entry end) sends = absurd cc
+sends_exchange (StartResets device mask failed) sends = refl
+sends_exchange (StartReads device mask failed) sends = refl
+sends_exchange (StartPuts device mask) sends = absurd cc
+sends_exchange (StartSets device mask) sends = refl
+sends_exchange (RoundReads device recorded failed) sends = refl
+sends_exchange (RoundLooks device recorded read failed) sends = refl
+sends_exchange (StopInhibits device recorded failed) sends = refl
+sends_exchange (StopReads device recorded failed) sends = refl
+sends_exchange (StopLooks device recorded read failed) sends = refl
+sends_exchange (StopPuts device entry) sends = absurd cc
+sends_exchange (Puts entry end) sends = absurd cc
 sends_exchange (IdentAsks device question failed) sends = refl
 sends_exchange (PathSets device place path failed) sends = refl
 sends_exchange (PathReads device place failed) sends = refl

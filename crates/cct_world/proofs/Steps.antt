@@ -1,6 +1,6 @@
 -- What one step leaves of the whole machine.
-use Rattle.std.proofs.Common.{◌≡◌, ◌≢◌, ℕ, ◌==◌, Bool, true, false, cond, List, [], ◌∷◌, ◌++◌, reverse, set, get_or, refl, sym, ap, ap₂, subst, ◌∙◌, eq-eqb, Option, Some, None}
-use Rattle.std.specs.Prelude.{IsTrue, MatchBool}
+use Rattle.std.proofs.Common.{◌≡◌, ◌≢◌, ℕ, ◌==◌, Bool, true, false, cond, List, [], ◌∷◌, ◌++◌, reverse, set, get_or, refl, sym, ap, subst, ◌∙◌, Option, Some, None}
+use Rattle.std.specs.Prelude.{MatchBool}
 use Rattle.std.specs.List.{All, position}
 use Rattle.cct_model.specs.declared.coin.Coin.{Coin}
 use Rattle.cct_model.specs.declared.device.DeviceSetup.{DeviceSetup}
@@ -9,15 +9,14 @@ use Rattle.cct_model.specs.declared.command.Command.{Command}
 use Rattle.cct_model.specs.declared.command.Command.TheVariants as command
 use Rattle.cct_model.specs.declared.entry.Entry.{Entry}
 use Rattle.cct_model.specs.declared.entry.Entry.TheVariants as entry
-use Rattle.cct_model.specs.Acceptor.{accepts, path_of}
+use Rattle.cct_model.specs.Acceptor.{accepts}
 use Rattle.cct_model.specs.Device.{IsSound}
 use Rattle.cct_model.specs.Exchange.{device_at}
-use Rattle.cct_model.specs.History.{Met}
 use Rattle.cct_model.specs.Job as model
 use Rattle.cct_model.specs.Job.{address_of}
-use Rattle.cct_model.specs.Legal.{BareNext, NextEntries, OfAcceptor, OfNext, ScanEntries, coin_entry, is_acceptor}
+use Rattle.cct_model.specs.Legal.{BareNext, OfAcceptor, OfNext, ScanEntries, coin_entry, is_acceptor}
 use Rattle.cct_model.specs.Setup.{IsSoundSetup}
-use Rattle.cct_model.specs.Transcript.{lines_of, met, scan_lines}
+use Rattle.cct_model.specs.Transcript.{met, scan_lines}
 use Rattle.cct_acceptor.specs.declared.acceptor.Inserted.{Inserted}
 use Rattle.cct_acceptor.specs.declared.acceptor.Inserted.TheVariants as taken
 use Rattle.cct_acceptor.specs.Acceptor.{inserted}
@@ -130,5 +129,5 @@ pub one_entry : (before after : List Entry) (e : Entry) → before ≡ [] → af
 one_entry before after e none is = is ∙ ap (λ es. es ++ e ∷ []) none
 
 -- a desk that keeps its device
-pub sits_as : (x y : Desk) (past : List Entry) → x.device ≡ y.device → Keeps (device_of y) x.job x.recorded past → Sits past x
-sits_as x y past same keeps = subst (λ d. Keeps d x.job x.recorded past) (sym (ap (λ s. s.now) same)) keeps
+pub sits_as : (x y : Desk) (past : List Entry) → x.device ≡ y.device → Keeps (device_of y) x.job x.epoch past → Sits past x
+sits_as x y past same keeps = subst (λ d. Keeps d x.job x.epoch past) (sym (ap (λ s. s.now) same)) keeps

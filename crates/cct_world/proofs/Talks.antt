@@ -2,6 +2,7 @@
 use Rattle.std.proofs.Common.{◌≡◌, ℕ, List, ◌∷◌, Some, sym, ap, subst, ◌∙◌}
 use Rattle.cct_model.specs.declared.wire.CheckKind.{CheckKind}
 use Rattle.cct_model.specs.declared.device.DeviceSetup.{DeviceSetup}
+use Rattle.cct_model.specs.declared.record.EpochState.{EpochState}
 use Rattle.cct_model.specs.declared.request.Request.{Request}
 use Rattle.cct_model.specs.declared.command.Command.{Command}
 use Rattle.cct_model.specs.Exchange.{ask}
@@ -27,17 +28,17 @@ spelled s sent kind addr q is_ask is = is_ask ∙ ap (λ (x : Sending). ask x.ki
 
 -- a job at a device
 pub device_hears : (old same new : Job) (s : Sending) (sent heard piece rest : List ℕ) → same ≡ old
-    → ((d : DeviceSetup) (c : Command) (since : List Line) (counter : ℕ) (q : Request) → Stands d old c since counter → row d c since counter ≡ sends q → s ≡ record { to = d.addr; kind = d.kind; request = q })
+    → ((d : DeviceSetup) (c : Command) (since : List Line) (state : EpochState) (q : Request) → Stands d old c since state → row d c since state ≡ sends q → s ≡ record { to = d.addr; kind = d.kind; request = q })
     → sent ≡ ask s.kind s.to s.request → piece ≡ sent → rest ≡ heard
-    → ((d : DeviceSetup) (c : Command) (since : List Line) (counter : ℕ) (q : Request) → Stands d same c since counter → row d c since counter ≡ sends q → piece ≡ ask d.kind d.addr q
-    → Stands d new c (line_heard d piece rest ∷ since) counter)
+    → ((d : DeviceSetup) (c : Command) (since : List Line) (state : EpochState) (q : Request) → Stands d same c since state → row d c since state ≡ sends q → piece ≡ ask d.kind d.addr q
+    → Stands d new c (line_heard d piece rest ∷ since) state)
     → HearsAtDevice old sent heard new
-device_hears old same new s sent heard piece rest kept asks is_ask piece_is rest_is hears d c since counter q stands is_row =
-    let sent_is : sent ≡ ask d.kind d.addr q = spelled s sent d.kind d.addr q is_ask (asks d c since counter q stands is_row) in
-    let after : Stands d new c (line_heard d piece rest ∷ since) counter =
-    hears d c since counter q (subst (λ j. Stands d j c since counter) (sym kept) stands) is_row (piece_is ∙ sent_is) in (
+device_hears old same new s sent heard piece rest kept asks is_ask piece_is rest_is hears d c since state q stands is_row =
+    let sent_is : sent ≡ ask d.kind d.addr q = spelled s sent d.kind d.addr q is_ask (asks d c since state q stands is_row) in
+    let after : Stands d new c (line_heard d piece rest ∷ since) state =
+    hears d c since state q (subst (λ j. Stands d j c since state) (sym kept) stands) is_row (piece_is ∙ sent_is) in (
       sent_is,
-      subst (λ p. Stands d new c (line_heard d p heard ∷ since) counter) piece_is (subst (λ r. Stands d new c (line_heard d piece r ∷ since) counter) rest_is after),
+      subst (λ p. Stands d new c (line_heard d p heard ∷ since) state) piece_is (subst (λ r. Stands d new c (line_heard d piece r ∷ since) state) rest_is after),
     )
 
 -- a scan

@@ -1,4 +1,5 @@
 pub mod Coin
+pub mod CoinPlaces
 pub mod Desk
 pub mod Exchange
 pub mod Report

@@ -1,5 +1,5 @@
 -- A whole machine that stands for all that happened on it.
-use Rattle.std.specs.Prelude.{◌≡◌, ℕ, List, [], ◌∷◌, ◌++◌, reverse, Option, Some, None, ⊤}
+use Rattle.std.specs.Prelude.{List, ◌∷◌, ◌++◌, reverse, Option, Some, None, ⊤}
 use Rattle.std.specs.List.{All}
 use Rattle.cct_model.specs.declared.device.Setup.{Setup}
 use Rattle.cct_model.specs.declared.command.Step.{Step}
@@ -26,8 +26,8 @@ Scans (Some job) (model.works c since) = StandsScan job since
 Scans None (model.works c since) = ⊥
 Scans (Some job) model.free = ⊥
 
--- A machine stands for a transcript, newest entry first: its bus does, each device's desk has the job and the recorded
--- event counter that the device's lines tell, and the scan is that of the lines of address 0.
+-- A machine stands for a transcript, newest entry first: its bus does, each device's desk has the job and the epoch that
+-- the device's lines tell, and the scan is that of the lines of address 0.
 pub record StandsFor (world : World) (past : List Entry) : Type 0 where
   pub bus : wires.StandsFor world.bus past
   pub desks : All (Sits past) world.desks.items

@@ -1,9 +1,10 @@
-//! One step of the whole machine: the bus of devices, the host's job at each address, and the recorded event counters.
+//! One step of the whole machine: the bus of devices, the host's job at each address, and the epochs of its acceptors.
 #![tactic(auto)]
 
 mod desk;
 mod exchange;
 mod report;
+mod values;
 mod world;
 
 pub use report::Report;

@@ -7,15 +7,15 @@ ghost use Rattle.cct_model.specs.Device.{IsAcceptor};
 ghost use Rattle.cct_model.specs.Exchange.{device_at};
 ghost use Rattle.cct_model.specs.Job as model;
 ghost use Rattle.cct_model.specs.Job.{address_of};
-ghost use Rattle.cct_model.specs.Legal.{acceptor_there, at_acceptor, at_device, busy, is_played, is_played_command, refusal};
+ghost use Rattle.cct_model.specs.Legal.{acceptor_there, at_acceptor, at_device, busy, is_played, is_played_command, refusal, running_refusal, start_refusal, when_free};
 ghost use Rattle.cct_model.specs.Script.{IsInRange, is_known};
 ghost use Rattle.cct_model.specs.Setup.{IsSoundSetup};
 ghost use Rattle.cct_model.specs.Transcript.{lines_of, scan_lines};
 ghost use Rattle.cct_bus.specs.Bus as wires;
 ghost use Rattle.cct_bus.specs.Fault.{IsShort};
-ghost use Rattle.cct_jobs.specs.Jobs.{MayBegin, sending_of};
+ghost use Rattle.cct_jobs.specs.Jobs.{IsRunning, MayBegin, sending_of};
 ghost use Rattle.cct_world.specs.Coin.{entry_of};
-ghost use Rattle.cct_world.specs.Desk.{Sits, device_of, devices_of};
+ghost use Rattle.cct_world.specs.Desk.{Sits, device_of, devices_of, epoch_at};
 ghost use Rattle.cct_world.specs.Report.{entries_of};
 ghost use Rattle.cct_world.specs.Running.{is_polling};
 
@@ -25,7 +25,7 @@ use crate::report::Report;
 use cct_acceptor::Inserted;
 use cct_bus::Bus;
 use cct_jobs::Job;
-use cct_model::{Command, CommandNo, DeviceSetup, Entry, Setup, Step, WireFault};
+use cct_model::{Command, CommandNo, DeviceSetup, Entry, EpochState, Setup, Step, WireFault};
 use std::alloc::{AllocError, Global};
 
 /// The machine that a script plays on: the devices on their wire, and the host with a job at each address. Its contracts
@@ -174,11 +174,14 @@ impl<'s> World<'s> {
     /// Why a command is refused, if it is.
     fn refusal(&self, command: &Command) -> Option<CommandNo>
         requires played { IsTrue (is_played_command command.now) }
-        ensures begins { result ≡ None → MayBegin command.now (setup_of self.now).devices }
+        ensures begins { result ≡ None
+            → MayBegin command.now (setup_of self.now).devices (epoch_at self.now.desks.items (address_of command.now)) }
         ensures value { (past : List Entry) → StandsFor self.now past → result ≡ refusal (setup_of self.now) past command.now }
     {
         match *command {
-            Command::Round { addr } => self.acceptor_refusal(addr),
+            Command::Start { addr, mask } => self.start_refusal(addr, mask),
+            Command::Round { addr } => self.running_refusal(addr),
+            Command::Stop { addr } => self.running_refusal(addr),
             Command::Path { addr, .. } => self.acceptor_refusal(addr),
             Command::Ident { addr } => self.device_refusal(addr),
             Command::Scan => busy_by(&self.scan),
@@ -186,7 +189,32 @@ impl<'s> World<'s> {
         }
     }
 
-    /// Why a command to a coin acceptor is refused, if it is.
+    /// Why a start with a mask is refused, if it is.
+    fn start_refusal(&self, addr: u8, mask: u16) -> Option<CommandNo>
+        ensures there { result ≡ None → IsTrue (acceptor_there (device_at (setup_of self.now).devices addr)) }
+        ensures value { (past : List Entry) → StandsFor self.now past
+            → result ≡ at_acceptor (device_at (setup_of self.now).devices addr) (when_free past (start_refusal mask)) }
+    {
+        match self.acceptor_refusal(addr) {
+            None => self.desks[self.index_of(addr)].start_refusal(mask),
+            Some(why) => Some(why),
+        }
+    }
+
+    /// Why a round or a stop is refused, if it is.
+    fn running_refusal(&self, addr: u8) -> Option<CommandNo>
+        ensures there { result ≡ None → IsTrue (acceptor_there (device_at (setup_of self.now).devices addr)) }
+        ensures runs { result ≡ None → IsRunning (epoch_at self.now.desks.items addr) }
+        ensures value { (past : List Entry) → StandsFor self.now past
+            → result ≡ at_acceptor (device_at (setup_of self.now).devices addr) (when_free past running_refusal) }
+    {
+        match self.acceptor_refusal(addr) {
+            None => self.desks[self.index_of(addr)].running_refusal(),
+            Some(why) => Some(why),
+        }
+    }
+
+    /// Why a command to a coin acceptor is refused, if it is, whatever its epoch is.
     fn acceptor_refusal(&self, addr: u8) -> Option<CommandNo>
         ensures there { result ≡ None → IsTrue (acceptor_there (device_at (setup_of self.now).devices addr)) }
         ensures value { (past : List Entry) → StandsFor self.now past
@@ -219,13 +247,15 @@ impl<'s> World<'s> {
 
     /// The job of a command begins.
     fn take(&mut self, command: &Command)
-        requires may_begin { MayBegin command.now (setup_of self.old).devices }
+        requires may_begin { MayBegin command.now (setup_of self.old).devices (epoch_at self.old.desks.items (address_of command.now)) }
         ensures setup { setup_of self.new ≡ setup_of self.old }
         ensures takes { Takes self.old self.new command.now }
     {
         match *command {
             Command::Scan => self.take_scan(command),
+            Command::Start { addr, .. } => self.take_at(addr, command),
             Command::Round { addr } => self.take_at(addr, command),
+            Command::Stop { addr } => self.take_at(addr, command),
             Command::Path { addr, .. } => self.take_at(addr, command),
             Command::Ident { addr } => self.take_at(addr, command),
             _ => unreachable!(),
@@ -234,7 +264,7 @@ impl<'s> World<'s> {
 
     /// The job of a command begins at the address of a device.
     fn take_at(&mut self, addr: u8, command: &Command)
-        requires may_begin { MayBegin command.now (setup_of self.old).devices }
+        requires may_begin { MayBegin command.now (setup_of self.old).devices (epoch_at self.old.desks.items addr) }
         requires no_scan { command.now ≢ Command.Scan }
         requires address { address_of command.now ≡ addr }
         requires there { IsTrue (is_some (device_at (setup_of self.old).devices addr)) }
@@ -251,7 +281,7 @@ impl<'s> World<'s> {
         ensures setup { setup_of self.new ≡ setup_of self.old }
         ensures takes { Takes self.old self.new command.now }
     {
-        self.scan = Some(Job::begin(command, self.setup, 0));
+        self.scan = Some(Job::begin(command, self.setup, &EpochState::Idle));
     }
 
     /// The job at an address makes one attempt of one row.

@@ -30,7 +30,7 @@ returns-in-Ok-Begun-clause-opened g c written =
     let stage = at_setup c.loop-number.setup in
     let setup = c.read_opening.new.setup in
     let reads = subst (λ opened. Came held left left1 (λ bytes. GoesOn number stage bytes (opens (stage_of opened setup)) rest)) c.in-Ok-Begun.field-0-is c.in-Ok-Begun.ensures.reads in
-    going_opens (g.S.Source.left c.args.script.now) left left1 held rest number stage (at_steps setup 0) IsNothing written written (c.loop-number.invariant.going written) reads
+    going_opens (g.S.Source.left c.args.script.now) left left1 held rest number stage (at_steps setup) IsNothing written written (c.loop-number.invariant.going written) reads
 
 pub returns-in-Err-clause-ended : goal.returns-in-Err-clause-ended
 returns-in-Err-clause-ended g c written =

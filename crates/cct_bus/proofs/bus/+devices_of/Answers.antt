@@ -1,9 +1,8 @@
-use Rattle.std.proofs.Common.{◌∙◌, ◌≡◌, ◌-◌, length, take, drop, map, sym, ap, subst}
+use Rattle.std.proofs.Common.{◌∙◌, ◌≡◌, ◌-◌, [], length, take, drop, map, sym, ap, subst}
 use Rattle.std.specs.Prelude.{unwrap_or}
 use Rattle.std.specs.List.{All, position}
 use Rattle.cct_model.specs.Exchange.{by_address}
-use Rattle.cct_model.specs.Transcript.{opening}
-use Rattle.cct_bus.specs.Device.{Lived, Stands, setup_in}
+use Rattle.cct_bus.specs.Device.{Stands, setup_in}
 use Rattle.cct_bus.proofs.Buses.{first_apart, put_in_order}
 use Rattle.cct_bus.proofs.Places.{all_put, is_not_below}
 use Rattle.cct_bus.proofs.bus.+devices_of.Goals as goal
@@ -20,6 +19,5 @@ returns-in_ok-insert-in-len1-up-clause-order t c =
 
 pub returns-in_ok-insert-in-len1-up-clause-fresh : goal.returns-in_ok-insert-in-len1-up-clause-fresh
 returns-in_ok-insert-in-len1-up-clause-fresh t c =
-    let fresh : Stands (λ d. opening d.body) c.in_ok-device-in-len1-up.device = subst (λ d. Lived c.in_ok-device-in-len1-up.device (opening d.body)) (sym c.in_ok-device-in-len1-up.ensures.setup) c.in_ok-device-in-len1-up.ensures.fresh in
-    subst (λ ds. All (Stands (λ d. opening d.body)) ds) (sym c.in_ok-insert-in-len1-up.ensures.items)
-    (all_put (Stands (λ d. opening d.body)) _ _ c.rank_of-place.result fresh c.in_ok-devices-in-len1-up.ensures.fresh)
+    subst (λ ds. All (Stands (λ d. [])) ds) (sym c.in_ok-insert-in-len1-up.ensures.items)
+    (all_put (Stands (λ d. [])) _ _ c.rank_of-place.result c.in_ok-device-in-len1-up.ensures.fresh c.in_ok-devices-in-len1-up.ensures.fresh)

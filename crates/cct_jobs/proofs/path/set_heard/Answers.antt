@@ -1,41 +1,30 @@
-use Rattle.std.proofs.Common.{◌≡◌, true, false, ◌∷◌, sym, subst, Some, None}
+use Rattle.std.proofs.Common.{◌≡◌, true, false, refl, Some, None}
 use Rattle.std.specs.Prelude.{is_some}
-use Rattle.cct_model.specs.declared.entry.End.TheVariants.{NoAnswer}
-use Rattle.cct_model.specs.Job.{path_set}
-use Rattle.cct_model.specs.Line.{Line}
-use Rattle.cct_jobs.specs.declared.job.Job.TheVariants.{PathSets, PathReads, Done}
-use Rattle.cct_jobs.specs.Jobs.{Stands, after_failed, replied}
+use Rattle.cct_model.specs.declared.command.Command.TheVariants as command
+use Rattle.cct_model.specs.Job.{path_read, path_set}
+use Rattle.cct_jobs.specs.Jobs.{after_failed, replied}
 use Rattle.cct_jobs.proofs.Heard.{the_reply, no_reply}
-use Rattle.cct_jobs.proofs.Rows.{no_answer, set_again, set_heard, set_on}
+use Rattle.cct_jobs.proofs.Questions.{again_fits, set_again}
+use Rattle.cct_jobs.proofs.Rows.{asks_again, asks_next, asks_no_more}
 use Rattle.cct_jobs.proofs.path.set_heard.Goals as goal
 
 pub returns-then-has_replied : goal.returns-then-has_replied
-returns-then-has_replied c = λ d command since counter at is_ask.
+returns-then-has_replied c = λ d k since state at is_ask.
     let device = c.args.device in
-    let q = path_set c.args.place c.args.path in
-    let answered : is_some (replied device.kind device.addr q c.args.sent.now c.args.heard.now) ≡ true = cc in
-    let got = the_reply (replied device.kind device.addr q c.args.sent.now c.args.heard.now) answered in
-    let line_is = set_heard d device c.args.place c.args.path c.args.failed command since c.args.sent.now c.args.heard.now (Some got.0) at is_ask got.1 in
-    subst (λ (line : Line). Stands d (PathReads device c.args.place 0) command (line ∷ since) counter) (sym line_is)
-    (c.args.path, set_on d device c.args.place c.args.path c.args.failed command since got.0 at)
+    let answered : is_some (replied device.kind device.addr (path_set c.args.place c.args.path) c.args.sent.now c.args.heard.now) ≡ true = cc in
+    let got = the_reply (replied device.kind device.addr (path_set c.args.place c.args.path) c.args.sent.now c.args.heard.now) answered in
+    (c.args.path, asks_next d device (command.Path d.addr c.args.place c.args.path) 0 (path_set c.args.place c.args.path) (path_read c.args.place) c.args.failed k since state c.args.sent.now c.args.heard.now got.0 at (again_fits (path_set c.args.place c.args.path) (set_again c.args.place c.args.path)) is_ask got.1 (λ means. refl))
 
 pub returns-in-Some : goal.returns-in-Some
-returns-in-Some c = λ d command since counter at is_ask.
+returns-in-Some c = λ d k since state at is_ask.
     let device = c.args.device in
-    let q = path_set c.args.place c.args.path in
-    let n = c.in-Some.failed in
-    let unanswered : is_some (replied device.kind device.addr q c.args.sent.now c.args.heard.now) ≡ false = cc in
-    let line_is = set_heard d device c.args.place c.args.path c.args.failed command since c.args.sent.now c.args.heard.now None at is_ask (no_reply _ unanswered) in
-    let more : after_failed c.args.failed ≡ Some n = cc (c.after_failed.ensures at.trying.few) in
-    subst (λ (line : Line). Stands d (PathSets device c.args.place c.args.path n) command (line ∷ since) counter) (sym line_is)
-    (set_again d device c.args.place c.args.path c.args.failed n command since at more)
+    let unanswered : is_some (replied device.kind device.addr (path_set c.args.place c.args.path) c.args.sent.now c.args.heard.now) ≡ false = cc in
+    let more : after_failed c.args.failed ≡ Some c.in-Some.failed = cc (c.after_failed.ensures at.trying.few) in
+    asks_again d device (command.Path d.addr c.args.place c.args.path) 0 (path_set c.args.place c.args.path) c.args.failed c.in-Some.failed k since state c.args.sent.now c.args.heard.now at (set_again c.args.place c.args.path) is_ask (no_reply _ unanswered) more
 
 pub returns-in-None : goal.returns-in-None
-returns-in-None c = λ d command since counter at is_ask.
+returns-in-None c = λ d k since state at is_ask.
     let device = c.args.device in
-    let q = path_set c.args.place c.args.path in
-    let unanswered : is_some (replied device.kind device.addr q c.args.sent.now c.args.heard.now) ≡ false = cc in
-    let line_is = set_heard d device c.args.place c.args.path c.args.failed command since c.args.sent.now c.args.heard.now None at is_ask (no_reply _ unanswered) in
+    let unanswered : is_some (replied device.kind device.addr (path_set c.args.place c.args.path) c.args.sent.now c.args.heard.now) ≡ false = cc in
     let last : after_failed c.args.failed ≡ None = cc (c.after_failed.ensures at.trying.few) in
-    subst (λ (line : Line). Stands d (Done NoAnswer) command (line ∷ since) counter) (sym line_is)
-    (no_answer d command since counter q c.args.failed at.trying last)
+    asks_no_more d device (command.Path d.addr c.args.place c.args.path) 0 (path_set c.args.place c.args.path) c.args.failed k since state c.args.sent.now c.args.heard.now at (set_again c.args.place c.args.path) is_ask (no_reply _ unanswered) last

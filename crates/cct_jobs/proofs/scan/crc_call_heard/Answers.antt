@@ -16,7 +16,7 @@ returns-in-Ok c = λ since at is_ask.
     let echoed : after_echo c.args.sent.now c.args.heard.now ≡ Some rest = c.in-Ok.ensures.rest in
     let line_is = crc_heard 0 c.args.sent.now c.args.heard.now (Some rest) (omega arith) is_ask echoed in
     let listed : Listed = record { simple = c.new.result; crc = c.new-in-Ok.result } in
-    let lists = crc_called c.args.failed c.args.due c.note.new.due listed rest since at c.note.ensures c.new.ensures c.new-in-Ok.ensures in
+    let lists = crc_called c.args.failed c.args.due c.note.new.due listed rest since at c.note.ensures c.new.ensures.none c.new-in-Ok.ensures.none c.new.ensures.whole c.new-in-Ok.ensures.whole in
     subst (λ (line : Line). StandsScan c.next_poll.result (line ∷ since)) (sym line_is)
     (c.next_poll.ensures (scanned Crc 0 (Some rest) ∷ since) lists refl)
 

@@ -19,7 +19,7 @@ returns c = λ since at is_ask.
       | then-is_acknowledged w ↦
           let acked : is_acknowledged Crc addr rest ≡ true = cc in
           subst (λ (listed : Listed). Lists c.args.due listed after) (sym w.listed-is)
-          (crc_found addr rest c.args.due c.args.listed _ since at w.insert.ensures refl acked)
+          (crc_found addr rest c.args.due c.args.listed _ since at w.insert.ensures.one_more w.insert.ensures.whole refl acked)
       | else-is_acknowledged w ↦
           let unacked : is_acknowledged Crc addr rest ≡ false = cc in
           subst (λ (listed : Listed). Lists c.args.due listed after) (sym w.listed-is)

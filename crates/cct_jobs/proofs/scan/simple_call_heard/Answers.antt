@@ -13,7 +13,7 @@ returns-in-Ok c = λ since at is_ask.
     let rest = c.in-Ok.rest.now in
     let echoed : after_echo c.args.sent.now c.args.heard.now ≡ Some rest = c.in-Ok.ensures.rest in
     subst (λ (line : Line). StandsScan (ScanCallsCrc 0 c.note.new.due) (line ∷ since)) (sym (simple_heard 0 c.args.sent.now c.args.heard.now (Some rest) is_ask echoed))
-    (simple_called c.args.failed c.new-due.result c.note.new.due rest since at c.new-due.ensures c.note.ensures)
+    (simple_called c.args.failed c.new-due.result c.note.new.due rest since at c.new-due.ensures.none c.note.ensures)
 
 pub returns-in-Some : goal.returns-in-Some
 returns-in-Some c = λ since at is_ask.

@@ -14,7 +14,7 @@ returns-then-is_acknowledged c = λ since at is_ask.
     let rest = after_echo c.args.sent.now c.args.heard.now in
     let acked : is_acknowledged Simple addr rest ≡ true = cc in
     let listed = record c.args.listed { simple = c.insert.new.self } in
-    let lists = simple_found addr rest c.args.due c.remove.new.self c.args.listed listed since at c.remove.ensures c.insert.ensures refl acked in
+    let lists = simple_found addr rest c.args.due c.remove.new.self c.args.listed listed since at c.remove.ensures.one_less c.insert.ensures.one_more c.insert.ensures.whole refl acked in
     subst (λ (line : Line). StandsScan c.next_poll.result (line ∷ since)) (sym (simple_line addr c.args.sent.now c.args.heard.now is_ask))
     (c.next_poll.ensures (scanned Simple addr rest ∷ since) lists (after_found addr rest since acked))
 
@@ -24,4 +24,4 @@ returns-else-is_acknowledged c = λ since at is_ask.
     let rest = after_echo c.args.sent.now c.args.heard.now in
     let unacked : is_acknowledged Simple addr rest ≡ false = cc in
     subst (λ (line : Line). StandsScan (ScanPollsCrc addr c.remove.new.self c.args.listed) (line ∷ since)) (sym (simple_line addr c.args.sent.now c.args.heard.now is_ask))
-    (polls_again addr rest c.args.due c.remove.new.self c.args.listed since at c.remove.ensures unacked)
+    (polls_again addr rest c.args.due c.remove.new.self c.args.listed since at c.remove.ensures.one_less unacked)

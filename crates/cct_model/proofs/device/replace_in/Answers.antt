@@ -1,4 +1,4 @@
-use Rattle.std.proofs.Common.{◌<◌, length, get_or, sym, ap, ◌∙◌, arith}
+use Rattle.std.proofs.Common.{◌<◌, length, get_or, sym, ◌∙◌, arith}
 use Rattle.cct_model.proofs.Replaced.{renewed-here, renewed-there, replaces_more}
 use Rattle.cct_model.proofs.device.replace_in.Goals as goal
 use Rattle.cct_model.proofs.device.replace_in.Goals.{then-place-device, else-place-device}

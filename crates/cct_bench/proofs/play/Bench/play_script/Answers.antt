@@ -9,13 +9,13 @@ pub build-requires-clause-sound : goal.build-requires-clause-sound
 build-requires-clause-sound g c =
     let left0 = g.S.Source.left c.args.script.now in
     let old = g.K.Sink.written c.args.out.now in
-    (going_setup left0 (g.S.Source.left c.read_setup.new.script) c.read_setup.new.lines c.in-Ok.first 0 c.read_setup.new.setup IsNothing old old (c.in-Ok.ensures.opened old)).sound
+    (going_setup left0 (g.S.Source.left c.read_setup.new.script) c.read_setup.new.lines c.in-Ok.first c.read_setup.new.setup IsNothing old old (c.in-Ok.ensures.opened old)).sound
 
 pub build-requires-clause-acceptors : goal.build-requires-clause-acceptors
 build-requires-clause-acceptors g c =
     let left0 = g.S.Source.left c.args.script.now in
     let old = g.K.Sink.written c.args.out.now in
-    (going_setup left0 (g.S.Source.left c.read_setup.new.script) c.read_setup.new.lines c.in-Ok.first 0 c.read_setup.new.setup IsNothing old old (c.in-Ok.ensures.opened old)).acceptors
+    (going_setup left0 (g.S.Source.left c.read_setup.new.script) c.read_setup.new.lines c.in-Ok.first c.read_setup.new.setup IsNothing old old (c.in-Ok.ensures.opened old)).acceptors
 
 pub returns-in-Ok-build-clause-played : goal.returns-in-Ok-build-clause-played
 returns-in-Ok-build-clause-played g c =
@@ -25,10 +25,10 @@ returns-in-Ok-build-clause-played g c =
     let first = c.in-Ok.first in
     let world = c.in-Ok-build.world in
     let old = g.K.Sink.written c.args.out.now in
-    let going = subst (λ setup. Going left0 left lines first (at_steps setup 0) IsNothing old old) (sym c.in-Ok-build.ensures.setup) (c.in-Ok.ensures.opened old) in
+    let going = subst (λ setup. Going left0 left lines first (at_steps setup) IsNothing old old) (sym c.in-Ok-build.ensures.setup) (c.in-Ok.ensures.opened old) in
     c.play_steps.ensures.played left0
     (
-    going_stands left0 left lines first (at_steps (setup_of world) 0) IsNothing (StandsFor world) old old
+    going_stands left0 left lines first (at_steps (setup_of world)) IsNothing (StandsFor world) old old
     (λ past nothing. subst (StandsFor world) (sym nothing) c.in-Ok-build.ensures.fresh) going
     )
 
@@ -36,4 +36,4 @@ pub returns-in-Err-build-clause-played : goal.returns-in-Err-build-clause-played
 returns-in-Err-build-clause-played g c =
     let left0 = g.S.Source.left c.args.script.now in
     let old = g.K.Sink.written c.args.out.now in
-    played_none left0 (g.S.Source.left c.read_setup.new.script) c.read_setup.new.lines c.in-Ok.first (at_steps c.read_setup.new.setup 0) old (c.in-Ok.ensures.opened old)
+    played_none left0 (g.S.Source.left c.read_setup.new.script) c.read_setup.new.lines c.in-Ok.first (at_steps c.read_setup.new.setup) old (c.in-Ok.ensures.opened old)

@@ -5,14 +5,14 @@ use Rattle.cct_bench.specs.Going.{Going}
 use Rattle.cct_bench.proofs.Going.{Runs}
 use Rattle.cct_bench.proofs.play.Desk.play_steps.Given as goal
 
-abbrev pub invariant-loop-step : goal.invariant-loop-step
-invariant-loop-step g l =
+abbrev pub invariant-loop-self : goal.invariant-loop-self
+invariant-loop-self g l =
     let source = g.S.Source in
     let sink = g.K.Sink in
-    Runs (λ left0. Going left0 (source.left l.fn.script) l.fn.self.lines l.fn.first (at_steps (setup_of l.fn.world) 0) (StandsFor l.fn.world) (sink.written l.fn.out) (sink.written l.fn.out))
-    (λ left0. Going left0 (source.left l.script) l.self.lines l.number (at_steps (setup_of l.world) l.coin_lines) (StandsFor l.world) (sink.written l.fn.out) (sink.written l.out))
+    Runs (λ left0. Going left0 (source.left l.fn.script) l.fn.self.lines l.fn.first (at_steps (setup_of l.fn.world)) (StandsFor l.fn.world) (sink.written l.fn.out) (sink.written l.fn.out))
+    (λ left0. Going left0 (source.left l.script) l.self.lines l.number (at_steps (setup_of l.world)) (StandsFor l.world) (sink.written l.fn.out) (sink.written l.out))
     (source.left l.fn.script) (source.left l.script) (source.faults l.fn.script) (source.faults l.script)
-    (sink.written l.fn.out) (sink.written l.out) (sink.faults l.fn.out) (sink.faults l.out) l.number l.coin_lines
+    (sink.written l.fn.out) (sink.written l.out) (sink.faults l.fn.out) (sink.faults l.out) l.number
 
-abbrev pub decreases-loop-step : goal.decreases-loop-step
-decreases-loop-step g l = 1048578 - l.number
+abbrev pub decreases-loop-self : goal.decreases-loop-self
+decreases-loop-self g l = 1048578 - l.number

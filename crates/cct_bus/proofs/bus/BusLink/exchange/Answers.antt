@@ -22,7 +22,7 @@ all_hear-requires c =
 pub returns : goal.returns
 returns c =
     let setup = c.args.self.now.setup.now in
-    let fault = c.replace-fault.result in
+    let fault = c.args.self.now.fault in
     let sent = c.args.sent.now in
     let piece = c.heard_by_devices-piece.result.now in
     let old = c.args.self.now.devices.items in
@@ -39,14 +39,14 @@ returns c =
     (λ history stand. c.all_hear.ensures.answers history (subst (λ ds. All (Stands history) ds) (sym lent) stand) ∙ ap (λ front. front ++ flat_map (answer_of piece history) (setups_in c.deref_mut.result.now)) echo ∙ ap (λ ds. sent ++ flat_map (answer_of piece history) (setups_in ds)) lent) in (
       refl,
       λ past addr stands.
-          let same : fault ≡ pending past = c.replace-fault.ensures.value ∙ stands.fault in
+          let same : fault ≡ pending past = stands.fault in
           let hears : All (Stands (hearing piece (λ d. met d past))) new = c.all_hear.ensures.stand (λ d. met d past) (subst (λ ds. All (Stands (λ d. met d past)) ds) (sym lent) stands.devices) in (
             exchanged setup past fault old sent piece told heard same stands.order reached says makes stands.devices,
             record {
               sound = stands.sound;
               order = ap setups_in (sym back) ∙ c.all_hear.ensures.setups ∙ ap setups_in lent ∙ stands.order;
               devices = subst (λ ds. All (Stands (λ d. met d (entry.Wire addr sent heard ∷ past))) ds) back (exchange_stands past fault new addr sent piece heard same reached hears);
-              fault = c.replace-fault.ensures.after;
+              fault = c.use_up.ensures;
             },
           ),
     )

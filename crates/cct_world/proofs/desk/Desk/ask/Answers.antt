@@ -8,6 +8,6 @@ pub returns-clause-attempts : goal.returns-clause-attempts
 returns-clause-attempts c past keeps stands =
     let report = c.args.report.now in
     let none = ap (λ others. others.items) c.converse-job.ensures.others ∙ no_others report.asked report.sent.items report.heard.items report.others.items c.requires.report in
-    ask_attempts c.args.bus.now c.converse-job.new.bus (device_of c.args.self.now) c.args.job c.converse-job.result c.settled-self.result c.args.self.now.recorded c.args.self.now.recorded past
+    ask_attempts c.args.bus.now c.converse-job.new.bus (device_of c.args.self.now) c.args.job c.converse-job.result c.settled-self.result c.args.self.now.epoch c.args.self.now.epoch past
     _ _ _ c.requires.asks keeps refl stands c.converse-job.ensures.bus c.converse-job.ensures.device
     (settles_wire _ _ _ _ _ _ _ _ none c.settled-self.ensures.settled)

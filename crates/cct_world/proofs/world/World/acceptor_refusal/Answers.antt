@@ -18,7 +18,7 @@ pub returns-then-is_acceptor-clause-value : goal.returns-then-is_acceptor-clause
 returns-then-is_acceptor-clause-value c past stands =
     let y = c.index-desk.result.now in
     let found : position (is_at c.args.addr) c.args.self.now.desks.items ≡ Some c.in-Some.index = sym c.place_of.ensures.first ∙ c.in-Some.is in
-    some_acceptor _ (device_of y) y.job y.recorded past _ (device_found _ _ _ y _ c.args.self.now.places found c.index-desk.ensures).0 (sym c.is_acceptor.ensures ∙ c.if-is_acceptor.true)
+    some_acceptor _ (device_of y) y.job y.epoch past _ (device_found _ _ _ y _ c.args.self.now.places found c.index-desk.ensures).0 (sym c.is_acceptor.ensures ∙ c.if-is_acceptor.true)
     c.busy.ensures (one_of (Sits past) _ _ y c.in-Some.ensures.within c.index-desk.ensures stands.desks)
 
 pub returns-else-is_acceptor-clause-value : goal.returns-else-is_acceptor-clause-value

@@ -1,6 +1,5 @@
 use Rattle.std.proofs.Common.{◌∙◌, [], ◌∷◌, ap, refl, subst}
 use Rattle.cct_model.specs.Exchange.{device_at}
-use Rattle.cct_model.specs.Legal.{OfAcceptor}
 use Rattle.cct_world.specs.Report.{entries_of}
 use Rattle.cct_world.proofs.Steps.{CoinGoes, coin_goes, one_entry}
 use Rattle.cct_world.proofs.world.World.coin.Goals as goal

@@ -18,5 +18,5 @@ pub returns-in-Some-clause-value : goal.returns-in-Some-clause-value
 returns-in-Some-clause-value c past stands =
     let y = c.index.result.now in
     let found : position (is_at c.args.addr) c.args.self.now.desks.items ≡ Some c.in-Some.index = sym c.place_of.ensures.first ∙ c.in-Some.is in
-    some_device _ (device_of y) y.job y.recorded past _ (device_found _ _ _ y _ c.args.self.now.places found c.index.ensures).0
+    some_device _ (device_of y) y.job y.epoch past _ (device_found _ _ _ y _ c.args.self.now.places found c.index.ensures).0
     c.busy.ensures (one_of (Sits past) _ _ y c.in-Some.ensures.within c.index.ensures stands.desks)

@@ -1,4 +1,4 @@
-use Rattle.std.proofs.Common.{◌∙◌, ap, reverse, sym, subst}
+use Rattle.std.proofs.Common.{◌∙◌, reverse, subst}
 use Rattle.cct_model.specs.Job as model
 use Rattle.cct_model.specs.Legal.{NextEntries}
 use Rattle.cct_model.specs.Setup.{IsSoundSetup}

@@ -2,10 +2,16 @@ use Rattle.std.proofs.Common.{◌∙◌, [], ◌∷◌, ap, subst}
 use Rattle.cct_model.specs.declared.entry.Entry.TheVariants as entry
 use Rattle.cct_model.specs.Exchange.{device_at}
 use Rattle.cct_model.specs.Setup.{IsSoundSetup}
+use Rattle.cct_jobs.specs.Jobs.{MayBegin}
 use Rattle.cct_world.specs.Desk.{Sits}
-use Rattle.cct_world.proofs.Places.{device_found, one_of, places_kept}
+use Rattle.cct_world.proofs.Places.{device_found, epoch_found, one_of, places_kept}
 use Rattle.cct_world.proofs.Steps.{device_taken_at, taken_wire, turn}
 use Rattle.cct_world.proofs.world.World.take_at.Goals as goal
+
+pub begin-requires-clause-may_begin : goal.begin-requires-clause-may_begin
+begin-requires-clause-may_begin c =
+    subst (λ state. MayBegin c.args.command.now c.args.self.now.setup.now.devices state)
+    (epoch_found _ _ c.index_mut.result.now c.args.addr c.index_of-index.ensures.first c.index_mut.ensures.value) c.requires.may_begin
 
 pub begin-requires-clause-there : goal.begin-requires-clause-there
 begin-requires-clause-there c =

@@ -1,0 +1,13 @@
+//! Readings of a coin acceptor in an epoch: how many events came between two event counters, and what a reading means
+//! beside the inhibit mask and the event counter that are recorded.
+#![tactic(auto)]
+
+mod judging;
+mod laws;
+
+pub use cct_model::{EpochState, Judged};
+pub use judging::{distance, judge};
+pub use laws::the_event_counter_tells_the_events_that_came;
+
+#[cfg(test)]
+mod tests;

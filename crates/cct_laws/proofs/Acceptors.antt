@@ -1,0 +1,172 @@
+-- What holds of an acceptor is kept by all that can come over an honest wire.
+use Rattle.std.proofs.Common.{◌≡◌, ℕ, zero, suc, ◌==◌, cond, Bool, true, false, List, [], ◌∷◌, length, refl, sym, subst, Option, Some, None, le_refl, rules}
+use Rattle.std.specs.Prelude.{⊤}
+use Rattle.cct_model.specs.declared.device.DeviceBody.{DeviceBody}
+use Rattle.cct_model.specs.declared.device.DeviceBody.TheVariants.{Acceptor, Hopper}
+use Rattle.cct_model.specs.declared.device.DeviceSetup.{DeviceSetup}
+use Rattle.cct_model.specs.declared.request.Request.{Request}
+use Rattle.cct_model.specs.declared.request.Request.TheVariants.{SimplePoll, AddressPoll}
+use Rattle.cct_model.specs.declared.record.Record.{Record}
+use Rattle.cct_model.specs.declared.record.Judged.{Judged}
+use Rattle.cct_model.specs.declared.command.Command.{Command}
+use Rattle.cct_model.specs.declared.command.Command.TheVariants as command
+use Rattle.cct_model.specs.declared.entry.End.TheVariants.{Told}
+use Rattle.cct_model.specs.Reply.{Reply}
+use Rattle.cct_model.specs.Reply as reply
+use Rattle.cct_model.specs.Script.{IsCommand}
+use Rattle.cct_model.specs.History.{Met, heard}
+use Rattle.cct_model.specs.Device.{IsAcceptor}
+use Rattle.cct_model.specs.Line.{Line, exchange, put}
+use Rattle.cct_model.specs.Job.{works, job, sends, puts, ident_requests, row, row_at, done, epoch, credits_read, judged_in, is_once, end_of, end_of_answer, end_of_path}
+use Rattle.cct_laws.proofs.Rows.{IfSends, Each, each_row}
+use Rattle.cct_laws.specs.Kept.{Fate, IsForOthers, with_ended, IsKept}
+use Rattle.cct_model.specs.Claims.{mark, base, InOrder, Covers, Pace}
+use Rattle.cct_laws.proofs.World.{world, closed}
+use Rattle.cct_laws.proofs.Fits.{book, StateOf, Fits}
+use Rattle.cct_laws.proofs.Moves.{Keeps, KeepsAsk, FitsBehind, IfOther, IsMild, keeps_accepted, keeps_inhibited, keeps_alien, keeps_reset, keeps_taken, keeps_with_ended, keeps_exchange, other_if, on_heard, fits_at, by_fate}
+use Rattle.cct_laws.proofs.Starts.{start_asks, start_puts}
+use Rattle.cct_laws.proofs.Rounds.{round_asks, round_puts}
+use Rattle.cct_laws.proofs.Stops.{stop_asks, stop_puts}
+
+-- a job without records
+
+abbrev pub IsPlain : Command → Type 0
+IsPlain (command.Start addr mask) = ⊥
+IsPlain (command.Round addr) = ⊥
+IsPlain (command.Stop addr) = ⊥
+IsPlain c = ⊤
+
+-- what it asks is tried again, and opens no place
+abbrev pub IsPlainRequest : Request → Type 0
+IsPlainRequest q = (is_once q ≡ false) × IsMild q
+
+plain_ident : (body : DeviceBody) → Each IsPlainRequest (ident_requests body)
+plain_ident (Acceptor accepts values ids) = search rules
+plain_ident (Hopper life value) = search rules
+
+plain_if : (b : Bool) (q r : Request) → IsPlainRequest q → IsPlainRequest r → IsPlainRequest (cond b q r)
+plain_if true q r plain other = plain
+plain_if false q r plain other = other
+
+pub plain_row : (body : DeviceBody) (c : Command) (rows : ℕ) (judged : Judged) → IsPlain c → IfSends IsPlainRequest (row_at body c rows judged)
+plain_row body (command.Start addr mask) rows judged plain = absurd plain
+plain_row body (command.Round addr) rows judged plain = absurd plain
+plain_row body (command.Stop addr) rows judged plain = absurd plain
+plain_row body (command.Ident addr) rows judged plain = each_row IsPlainRequest (ident_requests body) rows (plain_ident body)
+plain_row body (command.Path addr place path) zero judged plain = plain_if (place == 0) _ _ (refl, tt) (refl, tt)
+plain_row body (command.Path addr place path) (suc zero) judged plain = plain_if (place == 0) _ _ (refl, tt) (refl, tt)
+plain_row body (command.Path addr place path) (suc (suc rows)) judged plain = tt
+plain_row body c rows judged plain = tt
+
+-- it needs nothing, and its ends are no items
+plain_fits : (now : List Met) (lines : List Line) (c : Command) (since : List Line) → IsPlain c → FitsBehind now lines c since
+plain_fits now lines (command.Start addr mask) since plain = absurd plain
+plain_fits now lines (command.Round addr) since plain = absurd plain
+plain_fits now lines (command.Stop addr) since plain = absurd plain
+plain_fits now lines c since plain = tt
+
+path_end : (place rows : ℕ) (y : Reply) → IfOther (end_of_path place rows y)
+path_end place zero y = tt
+path_end place (suc zero) y = tt
+path_end place (suc (suc zero)) (reply.path number) = tt
+path_end place (suc (suc zero)) y = tt
+path_end place (suc (suc (suc rows))) y = tt
+
+plain_end : (body : DeviceBody) (c : Command) (rows : ℕ) (y : Reply) (judged : Judged) → IsPlain c → IfOther (end_of_answer body c rows y judged)
+plain_end body (command.Start addr mask) rows y judged plain = absurd plain
+plain_end body (command.Round addr) rows y judged plain = absurd plain
+plain_end body (command.Ident addr) rows y judged plain = other_if (length (ident_requests body) == rows) Told tt
+plain_end body (command.Path addr place path) rows y judged plain = path_end place rows y
+plain_end body c rows y judged plain = tt
+
+plain_asks : (d : DeviceSetup) (past : List Met) (lines : List Line) (c : Command) (since : List Line) (q : Request) (asked : Option Request) (got : Option Reply) → IsPlain c →
+    job lines ≡ works c since → row d c since (epoch lines) ≡ sends q → Keeps past lines → Fate d past q asked got → KeepsAsk d past lines c since q asked got
+plain_asks d past lines c since q asked got plain is_job row_is keeps fate =
+    let now = heard (Some q) ∷ past in
+    let asks : IsPlainRequest q = subst (IfSends IsPlainRequest) row_is (plain_row d.body c (done since) (judged_in c since (epoch lines)) plain) in
+    by_fate d past lines c since q asked got asks.0 asks.1 is_job keeps (λ y gives.
+    let line = exchange (Some q) (Some y) in
+    keeps_with_ended now (line ∷ lines) _ (plain_end d.body c _ y _ plain)
+    (keeps_exchange past now lines c since (Some q) (Some y) is_job (on_heard past lines q asks.1) keeps.sound (plain_fits now (line ∷ lines) c (line ∷ since) plain))) fate
+
+-- a job at the acceptor asks something
+
+keeps_asks : (d : DeviceSetup) (past : List Met) (lines : List Line) (c : Command) (since : List Line) (q : Request) (asked : Option Request) (got : Option Reply) → IsAcceptor d.body →
+    IsCommand c → job lines ≡ works c since → row d c since (epoch lines) ≡ sends q → Fate d past q asked got → Keeps past lines → KeepsAsk d past lines c since q asked got
+keeps_asks d past lines (command.Start addr mask) since q asked got accepting in_range is_job row_is fate keeps =
+    start_asks d past lines addr mask since q asked got (done since) accepting in_range is_job refl (fits_at past lines (command.Start addr mask) since is_job keeps) row_is keeps fate
+keeps_asks d past lines (command.Round addr) since q asked got accepting in_range is_job row_is fate keeps =
+    let c = command.Round addr in
+    round_asks d past lines addr since (judged_in c since (epoch lines)) q asked got (done since) accepting is_job refl (fits_at past lines c since is_job keeps) row_is keeps fate
+keeps_asks d past lines (command.Stop addr) since q asked got accepting in_range is_job row_is fate keeps =
+    let c = command.Stop addr in
+    stop_asks d past lines addr since (judged_in c since (epoch lines)) q asked got (done since) accepting is_job refl (fits_at past lines c since is_job keeps) row_is keeps fate
+keeps_asks d past lines c since q asked got accepting in_range is_job row_is fate keeps = plain_asks d past lines c since q asked got tt is_job row_is keeps fate
+
+-- it puts a record
+
+keeps_puts : (d : DeviceSetup) (past : List Met) (lines : List Line) (c : Command) (since : List Line) (r : Record) → IsCommand c →
+    job lines ≡ works c since → row d c since (epoch lines) ≡ puts r → Keeps past lines → Keeps past (with_ended (end_of d c (put r) since (epoch lines)) (put r ∷ lines))
+keeps_puts d past lines (command.Start addr mask) since r in_range is_job row_is keeps =
+    start_puts past lines addr mask since r (done since) in_range is_job refl (fits_at past lines (command.Start addr mask) since is_job keeps) row_is keeps
+keeps_puts d past lines (command.Round addr) since r in_range is_job row_is keeps =
+    let c = command.Round addr in
+    round_puts past lines addr (credits_read since) (judged_in c since (epoch lines)) r (done since) (fits_at past lines c since is_job keeps) row_is keeps
+keeps_puts d past lines (command.Stop addr) since r in_range is_job row_is keeps =
+    let c = command.Stop addr in
+    stop_puts past lines addr since (judged_in c since (epoch lines)) r (done since) is_job refl (fits_at past lines c since is_job keeps) row_is keeps
+keeps_puts d past lines c since r in_range is_job row_is keeps =
+    absurd (subst (IfSends IsPlainRequest) row_is (plain_row d.body c (done since) (judged_in c since (epoch lines)) tt))
+
+-- a piece that changes nothing
+
+keeps_same : (past now : List Met) (lines : List Line) → world now lines ≡ world past lines → Keeps past lines → Keeps now lines
+keeps_same past now lines same keeps = record {
+  sound = record {
+    in_order = keeps.sound.in_order;
+    covers = keeps.sound.covers;
+    marked = keeps.sound.marked;
+    state = subst (λ w. StateOf w (mark lines) (base lines) (epoch lines)) (sym same) keeps.sound.state;
+  };
+  fits = subst (λ w. Fits w (book lines) (job lines)) (sym same) keeps.fits;
+}
+
+keeps_passed : (past : List Met) (lines : List Line) (asked : Option Request) → IsForOthers asked → Keeps past lines → Keeps (heard asked ∷ past) lines
+keeps_passed past lines None others keeps = keeps_same past (heard None ∷ past) lines refl keeps
+keeps_passed past lines (Some AddressPoll) others keeps = keeps_same past (heard (Some AddressPoll) ∷ past) lines refl keeps
+keeps_passed past lines (Some SimplePoll) others keeps = keeps_same past (heard (Some SimplePoll) ∷ past) lines refl keeps
+keeps_passed past lines (Some q) others keeps = absurd others
+
+-- before anything came
+keeps_start : Keeps [] []
+keeps_start = record {
+  sound = record {
+    in_order = tt;
+    covers = λ _. tt;
+    marked = le_refl 0;
+    state = record { shut = closed (world [] []) refl; marked = refl };
+  };
+  fits = tt;
+}
+
+-- it holds after all that can come
+pub keeps_kept : (d : DeviceSetup) → IsAcceptor d.body → IsKept d Keeps
+keeps_kept d accepting = record {
+  starts = keeps_start;
+  accepts = λ past lines place least most is keeps. keeps_accepted past lines place least is keeps;
+  inhibits = λ past lines place is keeps. keeps_inhibited past lines place is keeps;
+  aliens = λ past lines keeps. keeps_alien past lines keeps;
+  resets = λ past lines keeps. keeps_reset past lines keeps;
+  elsewhere = λ past lines asked others keeps. keeps_passed past lines asked others keeps;
+  takes = λ past lines c no_job here in_range played fine keeps. keeps_taken d past lines c played fine keeps;
+  asks = λ past lines c since q asked got at row_is fate keeps. keeps_asks d past lines c since q asked got accepting at.in_range at.job_is row_is fate keeps;
+  puts = λ past lines c since r at row_is keeps. keeps_puts d past lines c since r at.in_range at.job_is row_is keeps;
+}
+
+-- posts are accepted coins in their order, none twice
+pub kept_in_order : (past : List Met) (lines : List Line) → Keeps past lines → InOrder lines
+kept_in_order past lines keeps = keeps.sound.in_order
+
+-- under the pace no coin is lost in silence
+pub kept_covers : (past : List Met) (lines : List Line) → Keeps past lines → Pace lines → Covers lines
+kept_covers past lines keeps = keeps.sound.covers
