@@ -1,20 +1,22 @@
--- How a script goes on after the bytes that the reader of lines found.
-use Rattle.std.proofs.Common.{◌≡◌, ◌≢◌, ℕ, ◌+◌, ◌<◌, ◌≤◌, Bool, true, false, ltb, List, [], ◌∷◌, ◌++◌, length, take, drop, Option, None, Some, refl, ap, sym, ◌∙◌, subst, arith, lit<}
+-- How a script goes on by what the reader of lines answers.
+use Rattle.std.proofs.Common.{◌≡◌, ℕ, ◌+◌, ◌<◌, ◌≤◌, Bool, true, false, ltb, List, [], ◌∷◌, ◌++◌, length, take, drop, Option, None, Some, Result, Ok, Err, refl, ap, sym, ◌∙◌, subst, append_assoc, arith, lit<}
 use Rattle.std.specs.Prelude.{IfSome, if◌then◌else◌, ◌&&◌}
 use Rattle.std.specs.List.{slice_split, position}
 use Rattle.std.specs.Io.KnownBytes.{IsAtEnd}
 use Rattle.std.proofs.lemmas.Bool.Decides.{nat_tests}
-use Rattle.std.proofs.lemmas.List.{append-nil, length-append, length-take-le}
-use Rattle.std.proofs.lemmas.List.Quantifiers.{position-Some}
+use Rattle.std.proofs.lemmas.List.{append-nil, length-append}
 use Rattle.cct_model.specs.declared.device.Setup.{Setup}
 use Rattle.cct_model.specs.declared.entry.LineKind.{LineKind}
 use Rattle.cct_model.specs.declared.entry.LineKind.TheVariants as kind
 use Rattle.cct_model.specs.Script.{is_line_feed, Stage, at_end, is_over, setup_at, Read, refuses, read_line, read_form, unfinished, most_lines, stage_after, goes_on, script_from, closed_script}
-use Rattle.cct_script.proofs.Splits.{Begins, split_at, split_at_alone, split_none, split_some, split_front_none}
-use Rattle.cct_script.specs.Window.{Finds}
-use Rattle.cct_script.specs.declared.buffer.Held.{Held}
-use Rattle.cct_script.specs.declared.buffer.Held.TheVariants as window
-use Rattle.cct_bench.specs.Lines.{said_from, FindsLine, GoesOn, IsClosed}
+use Rattle.cct_script.proofs.Splits.{Begins, split_behind, split_at, split_none, split_some, split_front_none}
+use Rattle.cct_script.specs.Giving.{Standing, Waits, Gives}
+use Rattle.cct_script.specs.Window.{Fills}
+use Rattle.cct_script.specs.declared.lines.LinesNo.{LinesNo}
+use Rattle.cct_script.specs.declared.lines.LinesNo.TheVariants as no
+use Rattle.cct_bench.specs.declared.lines.Stop.{Stop}
+use Rattle.cct_bench.specs.declared.lines.Stop.TheVariants as stop
+use Rattle.cct_bench.specs.Lines.{said_from, IsNext, before_end, behind_end, GoesOn, IsClosed, StopsAt, Came}
 
 -- a whole line, and more lines behind it
 whole_line : (number : ℕ) (stage : Stage) (line : List ℕ) (lines : List (List ℕ)) → Begins lines →
@@ -33,34 +35,25 @@ by_form number stage line going few short =
     let b : ltb 1200 (length line) ≡ false = grind (arith, nat_tests) in
     rw (going, a, b) refl
 
-taken_short : (held : List ℕ) (len : ℕ) → position is_line_feed held ≡ Some len → len ≤ 1200 → length (take len held) ≤ 1200
-taken_short held len at short =
-    let inside = (position-Some is_line_feed held len 0 at).0 in
-    omega (arith, length-take-le len held (omega (arith, inside)))
-
 -- what is read of a line goes on with the script
-pub line_goes : (number : ℕ) (stage : Stage) (held : List ℕ) (len : ℕ) (read : Read) → is_over stage ≡ false → FindsLine number held len →
-    read_form stage (take len held) ≡ read → GoesOn number stage held read (drop (len + 1) held)
-line_goes number stage held len read going found read_is more =
-    let rest = slice_split is_line_feed (drop (len + 1) held ++ more) in
-    let is = by_form number stage (take len held) going found.few (taken_short held len found.at found.short) ∙ read_is in
-    ap (script_from number stage) (split_at is_line_feed held more len 0 found.at)
+line_goes : (number : ℕ) (stage : Stage) (line rest : List ℕ) (read : Read) → is_over stage ≡ false → number ≤ 1048576 → length line ≤ 1200 → position is_line_feed line ≡ None →
+    read_form stage line ≡ read → GoesOn number stage (line ++ 10 ∷ rest) read rest
+line_goes number stage line rest read going few short alone read_is more =
+    let parts = slice_split is_line_feed (rest ++ more) in
+    let is = by_form number stage line going few short ∙ read_is in
+    ap (said_from number stage) (append_assoc line (10 ∷ rest) more)
     ∙ (
-    whole_line number stage (take len held) rest (split_some is_line_feed (drop (len + 1) held ++ more))
-    ∙ ap (λ r. goes_on number stage r (script_from (number + 1) (stage_after stage r) rest)) is
+    ap (script_from number stage) (split_behind is_line_feed line 10 (rest ++ more) alone refl)
+    ∙ (
+    whole_line number stage line parts (split_some is_line_feed (rest ++ more))
+    ∙ ap (λ r. goes_on number stage r (script_from (number + 1) (stage_after stage r) parts)) is
+    )
     )
 
 -- what holds of whatever follows holds of what follows
 whatever : (P : List ℕ → Type 0) (left : Option (List ℕ)) → ((more : List ℕ) → P more) → IfSome left P
 whatever P None h = tt
 whatever P (Some more) h = h more
-
--- a line that is refused closes the script
-pub line_closes : (number : ℕ) (stage : Stage) (held : List ℕ) (len : ℕ) (why : LineKind) (left : Option (List ℕ)) → is_over stage ≡ false → FindsLine number held len →
-    read_form stage (take len held) ≡ refuses why → IsClosed number stage (Some why) left held
-line_closes number stage held len why left going found read_is =
-    whatever (λ more. said_from number stage (held ++ more) ≡ closed_script number (setup_at stage) (Some why)) left
-    (line_goes number stage held len (refuses why) going found read_is)
 
 -- the first part, refused whether it is a whole line or the last bytes
 first_refused : (number : ℕ) (stage : Stage) (why : LineKind) (part : List ℕ) (parts : List (List ℕ)) → read_line number stage part ≡ refuses why →
@@ -74,11 +67,11 @@ alone_by : (xs part : List ℕ) (at : Option ℕ) → position is_line_feed xs �
 alone_by xs part None none one = let e : part ∷ [] ≡ xs ∷ [] = sym one ∙ split_none is_line_feed xs none in cc
 alone_by xs part (Some n) at one =
     let more = split_some is_line_feed (drop (n + 1) xs) in
-    let e : part ∷ [] ≡ take n xs ∷ more.0 ∷ more.1 = sym one ∙ (split_at_alone is_line_feed xs n 0 at ∙ ap (λ parts. take n xs ∷ parts) more.2) in
+    let e : part ∷ [] ≡ take n xs ∷ more.0 ∷ more.1 = sym one ∙ (split_at is_line_feed xs n 0 at ∙ ap (λ parts. take n xs ∷ parts) more.2) in
     cc
 
 -- a byte that may not stand here
-pub byte_closes : (number : ℕ) (stage : Stage) (why : LineKind) (held : List ℕ) (left : Option (List ℕ)) → 1 ≤ length held → ((line : List ℕ) → read_line number stage line ≡ refuses why) →
+byte_closes : (number : ℕ) (stage : Stage) (why : LineKind) (held : List ℕ) (left : Option (List ℕ)) → 1 ≤ length held → ((line : List ℕ) → read_line number stage line ≡ refuses why) →
     ((rest : List ℕ) → 1 ≤ length rest → unfinished number stage rest ≡ Some why) → IsClosed number stage (Some why) left held
 byte_closes number stage why held left some lines rests =
     whatever (λ more. said_from number stage (held ++ more) ≡ closed_script number (setup_at stage) (Some why)) left
@@ -103,14 +96,12 @@ many_rest number stage rest going many some =
     let b : ltb 0 (length rest) ≡ true = grind (arith, nat_tests) in
     rw (going, a, b) refl
 
-pub many_closes : (number : ℕ) (stage : Stage) (held : List ℕ) (left : Option (List ℕ)) → is_over stage ≡ false → 1048576 < number → held ≢ [] → IsClosed number stage (Some kind.Lines) left held
-many_closes number stage [] left going many some = absurd (some refl)
-many_closes number stage (byte ∷ bytes) left going many some =
-    byte_closes number stage kind.Lines (byte ∷ bytes) left (omega arith) (λ line. many_line number stage line going many)
-    (λ rest more. many_rest number stage rest going many more)
+many_closes : (number : ℕ) (stage : Stage) (held : List ℕ) (left : Option (List ℕ)) → is_over stage ≡ false → 1048576 < number → 1 ≤ length held → IsClosed number stage (Some kind.Lines) left held
+many_closes number stage held left going many some =
+    byte_closes number stage kind.Lines held left some (λ line. many_line number stage line going many) (λ rest more. many_rest number stage rest going many more)
 
 -- a byte behind the end
-pub trailing_closes : (number : ℕ) (setup : Setup) (held : List ℕ) (left : Option (List ℕ)) → 1 ≤ length held → IsClosed number (at_end setup) (Some kind.Trailing) left held
+trailing_closes : (number : ℕ) (setup : Setup) (held : List ℕ) (left : Option (List ℕ)) → 1 ≤ length held → IsClosed number (at_end setup) (Some kind.Trailing) left held
 trailing_closes number setup held left some =
     byte_closes number (at_end setup) kind.Trailing held left some (λ line. refl)
     (λ rest more. let a : ltb 0 (length rest) ≡ true = grind (arith, nat_tests) in rw a refl)
@@ -130,7 +121,7 @@ long_rest number stage rest going few long =
     let b : ltb 1200 (length rest) ≡ true = grind (arith, nat_tests) in
     rw (going, a, b) refl
 
-pub long_closes : (number : ℕ) (stage : Stage) (held : List ℕ) (left : Option (List ℕ)) → is_over stage ≡ false → number ≤ 1048576 → position is_line_feed held ≡ None → length held ≡ 1201 →
+long_closes : (number : ℕ) (stage : Stage) (held : List ℕ) (left : Option (List ℕ)) → is_over stage ≡ false → number ≤ 1048576 → position is_line_feed held ≡ None → length held ≡ 1201 →
     IsClosed number stage (Some kind.Long) left held
 long_closes number stage held left going few none full =
     whatever (λ more. said_from number stage (held ++ more) ≡ closed_script number (setup_at stage) (Some kind.Long)) left
@@ -165,25 +156,88 @@ cut_rest number stage (byte ∷ bytes) going short few =
     let b : ltb 1200 (length (byte ∷ bytes)) ≡ false = grind (arith, nat_tests) in
     rw (going, a, b) refl
 
-pub cut_closes : (number : ℕ) (stage : Stage) (held : List ℕ) (left : Option (List ℕ)) → is_over stage ≡ false → position is_line_feed held ≡ None → length held < 1201 →
+cut_closes : (number : ℕ) (stage : Stage) (held : List ℕ) (left : Option (List ℕ)) → is_over stage ≡ false → position is_line_feed held ≡ None → length held < 1201 →
     IsAtEnd left → (1048576 < number → held ≡ []) → IsClosed number stage (Some kind.Cut) left held
 cut_closes number stage held left going none short end few = closed_at_end number stage (Some kind.Cut) held left none end (cut_rest number stage held going short few)
 
 -- nothing stands behind the end
-pub end_closes : (number : ℕ) (setup : Setup) (held : List ℕ) (left : Option (List ℕ)) → held ≡ [] → IsAtEnd left → IsClosed number (at_end setup) None left held
+end_closes : (number : ℕ) (setup : Setup) (held : List ℕ) (left : Option (List ℕ)) → held ≡ [] → IsAtEnd left → IsClosed number (at_end setup) None left held
 end_closes number setup [] left none end = closed_at_end number (at_end setup) None [] left refl end refl
 end_closes number setup (byte ∷ bytes) left none end = cc none
 
--- a line past the most: nothing stands there at the end of the input, or a byte does
-none_left : (found : Held) (left : Option (List ℕ)) → Finds found [] left → IsAtEnd left
-none_left (window.Line len) left finds = cc finds
-none_left window.Long left finds = cc finds.1
-none_left window.Ended left finds = finds.2
+-- what an answer tells a script that hasn't ended: a line that it may have, or that it stops
+abbrev pub Reads : Standing → Standing → Option (List ℕ) → Option (List ℕ) → ℕ → Stage → Result (List ℕ) Stop → Type 0
+Reads old new left_before left number stage (Ok line) =
+    (number ≤ 1048576) × (new.given ≡ number) × (length line ≤ 1200) × (position is_line_feed line ≡ None) × Fills old.held (line ++ 10 ∷ new.held) left_before left
+Reads old new left_before left number stage (Err why) = Came old.held left_before left (StopsAt number stage why left)
 
-pub past_closes : (number : ℕ) (stage : Stage) (found : Held) (held seen : List ℕ) (left : Option (List ℕ)) (why : LineKind) → is_over stage ≡ false → 1048576 < number → Finds found held left → seen ≡ held →
-    (seen ≡ [] → why ≡ kind.Cut) → (seen ≢ [] → why ≡ kind.Lines) → IsClosed number stage (Some why) left held
-past_closes number stage found [] seen left why going many finds same none some =
-    subst (λ w. IsClosed number stage (Some w) left []) (sym (none same)) (cut_closes number stage [] left going refl (lit< tt) (none_left found left finds) (λ more. refl))
-past_closes number stage found (byte ∷ bytes) seen left why going many finds same none some =
-    subst (λ w. IsClosed number stage (Some w) left (byte ∷ bytes)) (sym (some (λ empty. let e = sym same ∙ empty in cc e)))
-    (many_closes number stage (byte ∷ bytes) left going many (λ e. cc e))
+-- what holds of the bytes held holds where more bytes came
+came_by : (old new : Standing) (left_before left : Option (List ℕ)) (P : List ℕ → Type 0) → Waits old new left_before left → P new.held → Came old.held left_before left P
+came_by old new left_before left P waits holds = let fills = waits.1 in (fills.0, fills.2, subst P fills.1 holds)
+
+reads_before_end : (old new : Standing) (left_before left : Option (List ℕ)) (answer : Result (Option (List ℕ)) LinesNo) (number : ℕ) (stage : Stage) → is_over stage ≡ false → IsNext number old →
+    Gives old new left_before left answer → Reads old new left_before left number stage (before_end answer)
+unfolding most_lines
+reads_before_end old new left_before left (Ok (Some line)) number stage going next gives = (omega (arith, next.0, gives.0), omega (arith, next.0, gives.1), gives.2, gives.3, gives.4)
+reads_before_end old new left_before left (Ok None) number stage going next gives =
+    came_by old new left_before left (IsClosed number stage (Some kind.Cut) left) gives.0
+    (subst (IsClosed number stage (Some kind.Cut) left) (sym gives.1) (cut_closes number stage [] left going refl (lit< tt) gives.2 (λ many. refl)))
+reads_before_end old new left_before left (Err no.TooMany) number stage going next gives =
+    came_by old new left_before left (IsClosed number stage (Some kind.Lines) left) gives.0 (many_closes number stage new.held left going (omega (arith, next.0, gives.1)) gives.2)
+reads_before_end old new left_before left (Err no.Long) number stage going next gives =
+    came_by old new left_before left (IsClosed number stage (Some kind.Long) left) gives.0
+    (long_closes number stage new.held left going (omega (arith, next.0, gives.1)) gives.2 gives.3)
+reads_before_end old new left_before left (Err no.Cut) number stage going next gives =
+    came_by old new left_before left (IsClosed number stage (Some kind.Cut) left) gives.0
+    (cut_closes number stage new.held left going gives.2 gives.4 gives.5 (λ many. absurd (omega (arith, next.0, gives.1, many))))
+reads_before_end old new left_before left (Err no.Read) number stage going next gives = came_by old new left_before left (StopsAt number stage stop.Unread left) gives.0 gives.1
+
+pub answer_reads : (old new : Standing) (left_before left : Option (List ℕ)) (answer : Result (Option (List ℕ)) LinesNo) (number : ℕ) (stage : Stage) (read : Result (List ℕ) Stop) → is_over stage ≡ false →
+    IsNext number old → Gives old new left_before left answer → before_end answer ≡ read → Reads old new left_before left number stage read
+answer_reads old new left_before left answer number stage read going next gives is =
+    subst (Reads old new left_before left number stage) is (reads_before_end old new left_before left answer number stage going next gives)
+
+-- behind a line that was given comes the next number
+pub given_next : (old new : Standing) (left_before left : Option (List ℕ)) (number : ℕ) (stage : Stage) (line : List ℕ) → Reads old new left_before left number stage (Ok line) → IsNext (number + 1) new
+given_next old new left_before left number stage line reads = (omega (arith, reads.1), omega (arith, reads.0))
+
+-- a line that was given goes on with the script as its form says
+pub given_goes : (old new : Standing) (left_before left : Option (List ℕ)) (number : ℕ) (stage : Stage) (line : List ℕ) (read : Read) → is_over stage ≡ false →
+    Reads old new left_before left number stage (Ok line) → read_form stage line ≡ read → Came old.held left_before left (λ held. GoesOn number stage held read new.held)
+given_goes old new left_before left number stage line read going reads read_is =
+    let fills = reads.4 in
+    (fills.0, fills.2, subst (λ held. GoesOn number stage held read new.held) fills.1 (line_goes number stage line new.held read going reads.0 reads.2 reads.3 read_is))
+
+-- a line that was given, and is refused, closes the script
+pub given_closes : (old new : Standing) (left_before left : Option (List ℕ)) (number : ℕ) (stage : Stage) (line : List ℕ) (why : LineKind) → is_over stage ≡ false →
+    Reads old new left_before left number stage (Ok line) → read_form stage line ≡ refuses why → Came old.held left_before left (StopsAt number stage (stop.Refused why) left)
+given_closes old new left_before left number stage line why going reads read_is =
+    let came = given_goes old new left_before left number stage line (refuses why) going reads read_is in
+    (came.0, came.1, whatever (λ more. said_from number stage ((old.held ++ came.0) ++ more) ≡ closed_script number (setup_at stage) (Some why)) left came.2)
+
+-- what an answer tells behind the line `end`: nothing follows, or the script stops
+abbrev pub Ends : Standing → Option (List ℕ) → Option (List ℕ) → ℕ → Setup → Result (Unit {0}) Stop → Type 0
+Ends old left_before left number setup (Ok done) = Came old.held left_before left (IsClosed number (at_end setup) None left)
+Ends old left_before left number setup (Err why) = Came old.held left_before left (StopsAt number (at_end setup) why left)
+
+trails : (old new : Standing) (left_before left : Option (List ℕ)) (number : ℕ) (setup : Setup) → Waits old new left_before left → 1 ≤ length new.held →
+    Ends old left_before left number setup (Err (stop.Refused kind.Trailing))
+trails old new left_before left number setup waits some =
+    came_by old new left_before left (IsClosed number (at_end setup) (Some kind.Trailing) left) waits (trailing_closes number setup new.held left some)
+
+reads_behind_end : (old new : Standing) (left_before left : Option (List ℕ)) (answer : Result (Option (List ℕ)) LinesNo) (number : ℕ) (setup : Setup) →
+    Gives old new left_before left answer → Ends old left_before left number setup (behind_end answer)
+reads_behind_end old new left_before left (Ok (Some line)) number setup gives =
+    let fills = gives.4 in
+    let some : 1 ≤ length (line ++ 10 ∷ new.held) = omega (arith, length-append line (10 ∷ new.held)) in
+    (fills.0, fills.2, subst (IsClosed number (at_end setup) (Some kind.Trailing) left) fills.1 (trailing_closes number setup (line ++ 10 ∷ new.held) left some))
+reads_behind_end old new left_before left (Ok None) number setup gives =
+    came_by old new left_before left (IsClosed number (at_end setup) None left) gives.0 (end_closes number setup new.held left gives.1 gives.2)
+reads_behind_end old new left_before left (Err no.TooMany) number setup gives = trails old new left_before left number setup gives.0 gives.2
+reads_behind_end old new left_before left (Err no.Long) number setup gives = trails old new left_before left number setup gives.0 (omega (arith, gives.3))
+reads_behind_end old new left_before left (Err no.Cut) number setup gives = trails old new left_before left number setup gives.0 gives.3
+reads_behind_end old new left_before left (Err no.Read) number setup gives = came_by old new left_before left (StopsAt number (at_end setup) stop.Unread left) gives.0 gives.1
+
+pub answer_ends : (old new : Standing) (left_before left : Option (List ℕ)) (answer : Result (Option (List ℕ)) LinesNo) (number : ℕ) (setup : Setup) (end : Result (Unit {0}) Stop) →
+    Gives old new left_before left answer → behind_end answer ≡ end → Ends old left_before left number setup end
+answer_ends old new left_before left answer number setup end gives is = subst (Ends old left_before left number setup) is (reads_behind_end old new left_before left answer number setup gives)

@@ -5,7 +5,7 @@ use Rattle.std.proofs.lemmas.List.{take_all}
 use Rattle.std.proofs.lemmas.Bool.{ltb-false}
 use Rattle.cct_model.specs.Grammar.{is_space}
 use Rattle.cct_model.specs.Script.{word_of}
-use Rattle.cct_script.proofs.Splits.{split_none, split_at_alone}
+use Rattle.cct_script.proofs.Splits.{split_none, split_at}
 
 place_by : (b : Bool) (n m : ℕ) → cond b (Some n) None ≡ Some m → n ≡ m
 place_by true n m e = cc e
@@ -30,7 +30,7 @@ fields_by : (line : List ℕ) (at : Option ℕ) → position is_space line ≡ a
 fields_by line None e = ([], split_none is_space line e ∙ ap (λ word. word ∷ []) (sym (word_alone line e)))
 fields_by line (Some at) e =
     let fields = slice_split is_space (drop (at + 1) line) in
-    (fields, split_at_alone is_space line at 0 e ∙ ap (λ word. word ∷ fields) (sym (word_before line at e)))
+    (fields, split_at is_space line at 0 e ∙ ap (λ word. word ∷ fields) (sym (word_before line at e)))
 
 pub word_first : (line : List ℕ) → (fields : List (List ℕ)) × (slice_split is_space line ≡ word_of line ∷ fields)
 word_first line = fields_by line _ refl

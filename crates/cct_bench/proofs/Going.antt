@@ -18,10 +18,11 @@ use Rattle.cct_model.specs.Text.{line_of, text}
 use Rattle.cct_model.specs.Transcript.{onto}
 use Rattle.cct_laws.specs.Law.{IsSetupOfToday}
 use Rattle.cct_laws.proofs.Scripts.{setup_of_today}
+use Rattle.cct_script.specs.Giving.{Standing}
 use Rattle.cct_bench.specs.declared.lines.Stop.{Stop}
 use Rattle.cct_bench.specs.declared.lines.Stop.TheVariants as stop
 use Rattle.cct_bench.specs.declared.play.Ending.TheVariants as ending
-use Rattle.cct_bench.specs.Lines.{said_from, GoesOn, IsClosed, StopsAt, Came}
+use Rattle.cct_bench.specs.Lines.{said_from, IsNext, GoesOn, IsClosed, StopsAt, Came}
 use Rattle.cct_bench.specs.Going.{AlsoSays, Going, IsNothing}
 use Rattle.cct_bench.specs.Playing.{PlaysOn}
 use Rattle.cct_bench.specs.Run.{Played, ending_at}
@@ -316,17 +317,17 @@ played_none (Some bytes) left held number stage old g =
     }
 
 -- what the loop over the setup lines keeps
-pub record Opens (left0 left : Option (List ℕ)) (faults0 faults : ℕ) (held : List ℕ) (number : ℕ) (setup : Setup) : Type 0 where
-  pub going : (written : Option (List ℕ)) → Going left0 left held number (at_setup setup) IsNothing written written
+pub record Opens (left0 left : Option (List ℕ)) (faults0 faults : ℕ) (standing : Standing) (number : ℕ) (setup : Setup) : Type 0 where
+  pub going : (written : Option (List ℕ)) → Going left0 left standing.held number (at_setup setup) IsNothing written written
   pub source : TellsAsBefore left0 left
   pub source_later : faults0 ≤ faults
-  pub counted : number ≤ 1048577
+  pub next : IsNext number standing
 
 -- what the loop over the steps keeps: from what was so at its start comes what is so now
-pub record Runs (Start Now : Option (List ℕ) → Type 0) (left0 left : Option (List ℕ)) (faults0 faults : ℕ) (old now : Option (List ℕ)) (failed0 failed : ℕ) (number : ℕ) : Type 0 where
+pub record Runs (Start Now : Option (List ℕ) → Type 0) (left0 left : Option (List ℕ)) (faults0 faults : ℕ) (old now : Option (List ℕ)) (failed0 failed : ℕ) (standing : Standing) (number : ℕ) : Type 0 where
   pub going : (first : Option (List ℕ)) → Start first → Now first
   pub source : TellsAsBefore left0 left
   pub sink : TellsAsBefore old now
   pub source_later : faults0 ≤ faults
   pub sink_later : failed0 ≤ failed
-  pub counted : number ≤ 1048577
+  pub next : IsNext number standing

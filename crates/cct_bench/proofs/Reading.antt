@@ -1,5 +1,5 @@
 -- What a whole line is to a script, by its word, its form and what it adds.
-use Rattle.std.proofs.Common.{◌≡◌, ℕ, true, false, List, Some, Result, Ok, Err, refl, ap, ◌∙◌, subst}
+use Rattle.std.proofs.Common.{◌≡◌, ℕ, true, false, List, Option, None, Some, Result, Ok, Err, refl, sym, ap, ◌∙◌, subst}
 use Rattle.std.specs.Prelude.{IfSome, IfOk, MatchResult, IsTrue}
 use Rattle.cct_model.specs.declared.device.Setup.{Setup}
 use Rattle.cct_model.specs.declared.device.SetupLine.{SetupLine}
@@ -12,9 +12,10 @@ use Rattle.cct_model.specs.Script.{word_of, is_setup_word, is_step_word, at_setu
 use Rattle.cct_model.specs.Legal.{is_played}
 use Rattle.cct_model.specs.declared.command.Step.TheVariants as step
 use Rattle.cct_bench.specs.Setup.{stage_of, opened_by}
-use Rattle.cct_bench.specs.declared.steps.Said.{Said}
-use Rattle.cct_bench.specs.declared.steps.Said.TheVariants as said
-use Rattle.cct_bench.specs.Playing.{read_as, step_of, IsFound, CanPlay}
+use Rattle.std.specs.Option.{option_map}
+use Rattle.cct_model.specs.declared.command.StepRef.{StepRef}
+use Rattle.cct_model.specs.Lent.{step_of}
+use Rattle.cct_bench.specs.Playing.{read_as, IsFound, CanPlay}
 use Rattle.cct_laws.proofs.Said.{IfSaid, IsToday, step_said}
 
 -- a word that is no setup word of today
@@ -79,22 +80,22 @@ of_today setup (step.Command c) e today = (today.1, today.0)
 of_today setup step.End e today = cc e
 of_today setup s e today = absurd today
 
-can_play : (setup : Setup) (line : List ℕ) (s : Step) (r : Said) → is_step_word (word_of line) ≡ true → step_line line ≡ Ok s →
-    read_step_line setup (Ok s) ≡ read_as setup (step_of r s) → IsFound setup s r → IfSome (step_of r s) (CanPlay setup)
-can_play setup line s said.End today e reads found = tt
-can_play setup line s said.Step today e reads found =
-    let plays = of_today setup s reads (subst (IfSaid IsToday) e (step_said line today)) in
-    record { in_range = plays.0; known = found; played = plays.1 }
+can_play : (setup : Setup) (line : List ℕ) (s : Step) (r : Option StepRef) → is_step_word (word_of line) ≡ true → step_line line ≡ Ok s →
+    read_step_line setup (Ok s) ≡ read_as setup (option_map step_of r) → IfSome r (λ x. IsFound setup s (step_of x)) → IfSome r (λ x. CanPlay setup (step_of x))
+can_play setup line s None today e reads found = tt
+can_play setup line s (Some x) today e reads found =
+    let plays = of_today setup s (reads ∙ ap (λ y. read_as setup (Some y)) found.same) (subst (IfSaid IsToday) e (step_said line today)) in
+    subst (CanPlay setup) (sym found.same) (record { in_range = plays.0; known = found.known; played = plays.1 })
 
 -- the same of what the line says, or why it is refused
-pub step_reads : (setup : Setup) (line : List ℕ) (s : Step) (r : Result Said LineKind) → is_step_word (word_of line) ≡ true → step_line line ≡ Ok s →
-    MatchResult r (λ said. read_step_line setup (Ok s) ≡ read_as setup (step_of said s)) (λ why. read_step_line setup (Ok s) ≡ refuses why) →
-    MatchResult r (λ said. read_form (at_steps setup) line ≡ read_as setup (step_of said s)) (λ why. read_form (at_steps setup) line ≡ refuses why)
-step_reads setup line s (Ok r) today e reads = step_form setup line (read_as setup (step_of r s)) today (ap (read_step_line setup) e ∙ reads)
+pub step_reads : (setup : Setup) (line : List ℕ) (s : Step) (r : Result (Option StepRef) LineKind) → is_step_word (word_of line) ≡ true → step_line line ≡ Ok s →
+    MatchResult r (λ said. read_step_line setup (Ok s) ≡ read_as setup (option_map step_of said)) (λ why. read_step_line setup (Ok s) ≡ refuses why) →
+    MatchResult r (λ said. read_form (at_steps setup) line ≡ read_as setup (option_map step_of said)) (λ why. read_form (at_steps setup) line ≡ refuses why)
+step_reads setup line s (Ok r) today e reads = step_form setup line (read_as setup (option_map step_of r)) today (ap (read_step_line setup) e ∙ reads)
 step_reads setup line s (Err why) today e reads = step_form setup line (refuses why) today (ap (read_step_line setup) e ∙ reads)
 
-pub found_can_play : (setup : Setup) (line : List ℕ) (s : Step) (r : Result Said LineKind) → is_step_word (word_of line) ≡ true → step_line line ≡ Ok s →
-    MatchResult r (λ said. read_step_line setup (Ok s) ≡ read_as setup (step_of said s)) (λ why. read_step_line setup (Ok s) ≡ refuses why) →
-    IfOk r (IsFound setup s) → IfOk r (λ said. IfSome (step_of said s) (CanPlay setup))
+pub found_can_play : (setup : Setup) (line : List ℕ) (s : Step) (r : Result (Option StepRef) LineKind) → is_step_word (word_of line) ≡ true → step_line line ≡ Ok s →
+    MatchResult r (λ said. read_step_line setup (Ok s) ≡ read_as setup (option_map step_of said)) (λ why. read_step_line setup (Ok s) ≡ refuses why) →
+    IfOk r (λ said. IfSome said (λ x. IsFound setup s (step_of x))) → IfOk r (λ said. IfSome said (λ x. CanPlay setup (step_of x)))
 found_can_play setup line s (Ok r) today e reads is = can_play setup line s r today e reads is
 found_can_play setup line s (Err why) today e reads is = tt

@@ -1,9 +1,14 @@
 -- How the lines of a script go on, and where they stop.
-use Rattle.std.specs.Prelude.{◌≡◌, ℕ, ◌+◌, ◌≤◌, List, ◌++◌, Option, Some, None, IfSome}
+use Rattle.std.specs.Prelude.{◌≡◌, ℕ, ◌+◌, ◌≤◌, List, ◌++◌, Option, Some, None, Result, Ok, Err, IfSome}
+use Rattle.std.specs.Borrow.{Bor}
 use Rattle.std.specs.List.{slice_split, position}
 use Rattle.std.specs.Io.KnownBytes.{Consumes}
 use Rattle.cct_model.specs.declared.entry.LineKind.{LineKind}
+use Rattle.cct_model.specs.declared.entry.LineKind.TheVariants as kind
 use Rattle.cct_model.specs.Script.{is_line_feed, Stage, setup_at, Read, stage_after, goes_on, Script, script_from, closed_script}
+use Rattle.cct_script.specs.declared.lines.LinesNo.{LinesNo}
+use Rattle.cct_script.specs.declared.lines.LinesNo.TheVariants as no
+use Rattle.cct_script.specs.Giving.{Standing}
 use Rattle.cct_bench.specs.declared.lines.Stop.{Stop}
 use Rattle.cct_bench.specs.declared.lines.Stop.TheVariants as stop
 
@@ -11,12 +16,29 @@ use Rattle.cct_bench.specs.declared.lines.Stop.TheVariants as stop
 abbrev pub said_from : ℕ → Stage → List ℕ → Script
 said_from number stage bytes = script_from number stage (slice_split is_line_feed bytes)
 
--- A whole line stands before the first line feed, it has so many bytes, and a script may have a line of this number and
--- of this length.
-pub record FindsLine (number : ℕ) (held : List ℕ) (len : ℕ) : Type 0 where
-  pub at : position is_line_feed held ≡ Some len
-  pub few : number ≤ 1048576
-  pub short : len ≤ 1200
+-- The next line has this number, one more than the lines given, and those are no more than a script may have.
+abbrev pub IsNext : ℕ → Standing → Type 0
+IsNext number standing = (number ≡ standing.given + 1) × (number ≤ 1048577)
+
+-- What an answer is to a script that hasn't ended: the line that is read next, or why it is read no further.
+abbrev pub before_end : Result (Option (List ℕ)) LinesNo → Result (List ℕ) Stop
+before_end (Ok (Some line)) = Ok line
+before_end (Ok None) = Err (stop.Refused kind.Cut)
+before_end (Err no.Cut) = Err (stop.Refused kind.Cut)
+before_end (Err no.Long) = Err (stop.Refused kind.Long)
+before_end (Err no.TooMany) = Err (stop.Refused kind.Lines)
+before_end (Err no.Read) = Err stop.Unread
+
+-- What an answer is behind the line `end`, where nothing may follow.
+abbrev pub behind_end : Result (Option (List ℕ)) LinesNo → Result (Unit {0}) Stop
+behind_end (Ok None) = Ok tt
+behind_end (Err no.Read) = Err stop.Unread
+behind_end answer = Err (stop.Refused kind.Trailing)
+
+-- The bytes of a line that is read.
+abbrev pub read_of : Result (Bor (List ℕ)) Stop → Result (List ℕ) Stop
+read_of (Ok line) = Ok line.now
+read_of (Err why) = Err why
 
 -- The first line of these bytes is this to the script, and the bytes behind it are the rest, whatever follows.
 abbrev pub GoesOn : ℕ → Stage → List ℕ → Read → List ℕ → Type 0

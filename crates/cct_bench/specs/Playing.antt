@@ -1,5 +1,5 @@
 -- The steps of a script that are played.
-use Rattle.std.specs.Prelude.{◌≡◌, ℕ, ◌≤◌, List, ◌++◌, reverse, Option, Some, None, Result, MatchResult, IsTrue, ⊤}
+use Rattle.std.specs.Prelude.{◌≡◌, ℕ, List, ◌++◌, reverse, Option, Some, None, Result, MatchResult, IsTrue}
 use Rattle.std.specs.Io.KnownBytes.{Appends}
 use Rattle.cct_edge.specs.Bytes.{AppendsFront}
 use Rattle.cct_edge.specs.declared.fault.Failed.{Failed}
@@ -9,8 +9,6 @@ use Rattle.cct_model.specs.declared.entry.Entry.{Entry}
 use Rattle.cct_model.specs.Legal.{Entries, is_played}
 use Rattle.cct_model.specs.Script.{Read, at_steps, at_end, opens, plays, is_known, IsInRange}
 use Rattle.cct_model.specs.Text.{text}
-use Rattle.cct_bench.specs.declared.steps.Said.{Said}
-use Rattle.cct_bench.specs.declared.steps.Said.TheVariants as said
 
 -- What a step line is to a script, `end` with no step.
 abbrev pub read_as : Setup → Option Step → Read
@@ -24,15 +22,10 @@ pub record CanPlay (setup : Setup) (s : Step) : Type 0 where
   pub known : IsTrue (is_known setup s)
   pub played : IsTrue (is_played s)
 
--- The step that a line says, none for `end`.
-abbrev pub step_of : Said → Step → Option Step
-step_of said.Step s = Some s
-step_of said.End s = None
-
--- Where a line says this step, its device is there.
-abbrev pub IsFound : Setup → Step → Said → Type 0
-IsFound setup s said.Step = IsTrue (is_known setup s)
-IsFound setup s said.End = ⊤
+-- A line that says a step says this one, and its device is there.
+pub record IsFound (setup : Setup) (s said : Step) : Type 0 where
+  pub same : said ≡ s
+  pub known : IsTrue (is_known setup s)
 
 -- A step gives these entries, oldest first, whatever is behind it: one past stands for the machine before, and the past
 -- with them for the machine after.

@@ -1,20 +1,12 @@
-//! The lines of a script, one after another: what the next one is, or why the script is read no further.
-ghost use Rattle.std.specs.Prelude.{◌≡◌, ◌≢◌, ℕ, ◌≤◌, [], false, IfOk, OnErr, IfSome, Err, None, position};
-ghost use Rattle.std.specs.Result.{IfErr};
-ghost use Rattle.cct_edge.specs.Bytes.{TellsAsBefore};
-ghost use Rattle.cct_edge.specs.Faults.{Rose};
-ghost use Rattle.cct_model.specs.declared.device.Setup.{Setup};
-ghost use Rattle.cct_model.specs.Script.{Stage, is_over, at_end, word_of};
+//! What the answers of the reader of lines are to a script: its next line, its end, or why it is read no further.
+ghost use Rattle.std.specs.Prelude.{◌≡◌, position};
+ghost use Rattle.cct_model.specs.Script.{word_of};
 ghost use Rattle.cct_model.specs.Grammar.{is_space};
-ghost use Rattle.cct_script.specs.Window.{Fills};
-ghost use Rattle.cct_bench.specs.Lines.{FindsLine, StopsAt, IsClosed, Came};
+ghost use Rattle.cct_script.specs.Giving.{line_of};
+ghost use Rattle.cct_bench.specs.Lines.{before_end, behind_end, read_of};
 
-use cct_edge::{Failed, Source};
 use cct_model::LineKind;
-use cct_script::{Held, LineBuffer};
-
-/// The most lines of a script.
-const MOST_LINES: u32 = 1_048_576;
+use cct_script::{Line, LinesNo};
 
 /// Why a script is read no further.
 #[derive(Clone, Copy, Debug, PartialEq, Eq)]
@@ -25,61 +17,28 @@ pub enum Stop {
     Refused(LineKind),
 }
 
-/// Finds the next line of a script that hasn't ended, and tells how many bytes at the front of the buffer it has.
-pub fn next_line<S: Source>(
-    lines: &mut LineBuffer,
-    number: u32,
-    script: &mut S,
-) -> Result<usize, Stop>
-    ensures fills { IfOk result (λ len. Fills lines.old lines.new (S.left script.old) (S.left script.new)) }
-    ensures finds { IfOk result (λ len. FindsLine number lines.new len) }
-    ensures stops { IfErr result (λ why. (stage : Stage) → is_over stage ≡ false
-        → Came lines.old (S.left script.old) (S.left script.new) (StopsAt number stage why (S.left script.new))) }
-    ensures tells { TellsAsBefore (S.left script.old) (S.left script.new) }
-    ensures later { S.faults script.old ≤ S.faults script.new }
-    ensures cause { result ≡ Err Stop.Unread → Rose (S.faults script.old) (S.faults script.new) }
+/// The next line of a script that hasn't ended, by what the reader of lines answers.
+pub fn before_end(answer: Result<Line<'_>, LinesNo>) -> Result<&[u8], Stop>
+    ensures { read_of result ≡ before_end (line_of answer.entry) }
 {
-    let found = match lines.seek(script) {
-        Ok(found) => found,
-        Err(Failed) => return Err(Stop::Unread),
-    };
-    if number > MOST_LINES {
-        return Err(Stop::Refused(past_the_most(lines.held())));
-    }
-    match found {
-        Held::Line(len) => Ok(len),
-        Held::Long => Err(Stop::Refused(LineKind::Long)),
-        Held::Ended => Err(Stop::Refused(LineKind::Cut)),
+    match answer {
+        Ok(Line::Text(line)) => Ok(line),
+        Ok(Line::End) => Err(Stop::Refused(LineKind::Cut)),
+        Err(LinesNo::Cut) => Err(Stop::Refused(LineKind::Cut)),
+        Err(LinesNo::Long) => Err(Stop::Refused(LineKind::Long)),
+        Err(LinesNo::TooMany) => Err(Stop::Refused(LineKind::Lines)),
+        Err(LinesNo::Read) => Err(Stop::Unread),
     }
 }
 
-/// Why a line past the most that a script may have is refused, of which these bytes are there.
-fn past_the_most(held: &[u8]) -> LineKind
-    ensures none { held.now ≡ [] → result ≡ LineKind.Cut }
-    ensures some { held.now ≢ [] → result ≡ LineKind.Lines }
+/// Whether nothing follows the line `end`, by what the reader of lines answers.
+pub fn behind_end(answer: Result<Line<'_>, LinesNo>) -> Result<(), Stop>
+    ensures { result ≡ behind_end (line_of answer.entry) }
 {
-    match held {
-        [] => LineKind::Cut,
-        _ => LineKind::Lines,
-    }
-}
-
-/// Looks whether anything follows the line `end`.
-pub fn read_end<S: Source>(lines: &mut LineBuffer, number: u32, script: &mut S) -> Result<(), Stop>
-    ensures ended { IfOk result (λ done. (setup : Setup)
-        → Came lines.old (S.left script.old) (S.left script.new) (IsClosed number (at_end setup) None (S.left script.new))) }
-    ensures stops { IfErr result (λ why. (setup : Setup)
-        → Came lines.old (S.left script.old) (S.left script.new) (StopsAt number (at_end setup) why (S.left script.new))) }
-    ensures tells { TellsAsBefore (S.left script.old) (S.left script.new) }
-    ensures later { S.faults script.old ≤ S.faults script.new }
-    ensures cause { result ≡ Err Stop.Unread → Rose (S.faults script.old) (S.faults script.new) }
-{
-    match lines.seek(script) {
-        Ok(_) => match lines.held() {
-            [] => Ok(()),
-            _ => Err(Stop::Refused(LineKind::Trailing)),
-        },
-        Err(Failed) => Err(Stop::Unread),
+    match answer {
+        Ok(Line::End) => Ok(()),
+        Err(LinesNo::Read) => Err(Stop::Unread),
+        _ => Err(Stop::Refused(LineKind::Trailing)),
     }
 }
 

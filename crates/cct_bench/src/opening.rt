@@ -1,16 +1,17 @@
 //! The setup of a script, line by line.
-ghost use Rattle.std.specs.Prelude.{◌≡◌, ℕ, ◌≤◌, ◌+◌, Err, Ok, IfOk, MatchResult};
+ghost use Rattle.std.specs.Prelude.{◌≡◌, ◌≤◌, ◌+◌, Err, Ok, IfOk, MatchResult};
 ghost use Rattle.std.specs.Result.{IfErr};
 ghost use Rattle.cct_edge.specs.Bytes.{TellsAsBefore};
 ghost use Rattle.cct_edge.specs.Faults.{Rose};
 ghost use Rattle.cct_model.specs.Script.{at_setup, opens, refuses, is_setup_word, read_form};
-ghost use Rattle.cct_bench.specs.Lines.{GoesOn, StopsAt, Came};
+ghost use Rattle.cct_script.specs.Giving.{standing_of};
+ghost use Rattle.cct_bench.specs.Lines.{IsNext, GoesOn, StopsAt, Came};
 ghost use Rattle.cct_bench.specs.Setup.{stage_of, opened_by};
 
-use crate::lines::{Stop, next_line, word_of};
+use crate::lines::{Stop, before_end, word_of};
 use cct_edge::Source;
 use cct_model::{LineKind, Setup, SetupLine};
-use cct_script::{LineBuffer, add, read_setup_line};
+use cct_script::{Lines, add, read_setup_line};
 
 /// What a setup line does to the setup.
 #[derive(Clone, Copy, Debug, PartialEq, Eq)]
@@ -61,29 +62,27 @@ fn take_setup_line(setup: &mut Setup, line: &[u8]) -> Result<Opened, LineKind>
 
 /// Reads the next setup line of a script into the setup.
 pub fn read_opening<S: Source>(
-    lines: &mut LineBuffer,
+    lines: &mut Lines,
     setup: &mut Setup,
     number: u32,
     script: &mut S,
 ) -> Result<Opened, Stop>
-    ensures reads { IfOk result (λ opened. Came lines.old (S.left script.old) (S.left script.new)
-        (λ held. GoesOn number (at_setup setup.old) held (opens (stage_of opened setup.new)) lines.new)) }
-    ensures stops { IfErr result (λ why.
-        Came lines.old (S.left script.old) (S.left script.new) (StopsAt number (at_setup setup.old) why (S.left script.new))) }
-    ensures counted { IfOk result (λ opened. number ≤ 1048576) }
+    requires { IsNext number (standing_of lines.old) }
+    ensures reads { IfOk result (λ opened. Came (standing_of lines.old).held (S.left script.old) (S.left script.new)
+        (λ held. GoesOn number (at_setup setup.old) held (opens (stage_of opened setup.new)) (standing_of lines.new).held)) }
+    ensures next { IfOk result (λ opened. IsNext (number + 1) (standing_of lines.new)) }
+    ensures stops { IfErr result (λ why. Came (standing_of lines.old).held (S.left script.old) (S.left script.new)
+        (StopsAt number (at_setup setup.old) why (S.left script.new))) }
     ensures tells { TellsAsBefore (S.left script.old) (S.left script.new) }
     ensures later { S.faults script.old ≤ S.faults script.new }
     ensures cause { result ≡ Err Stop.Unread → Rose (S.faults script.old) (S.faults script.new) }
 {
-    let len = match next_line(lines, number, script) {
-        Ok(len) => len,
+    let line = match before_end(lines.line(script)) {
+        Ok(line) => line,
         Err(why) => return Err(why),
     };
-    match take_setup_line(setup, &lines.held()[..len]) {
-        Ok(opened) => {
-            lines.advance(len + 1);
-            Ok(opened)
-        }
+    match take_setup_line(setup, line) {
+        Ok(opened) => Ok(opened),
         Err(kind) => Err(Stop::Refused(kind)),
     }
 }

@@ -1,29 +1,31 @@
 //! A run: the script is read a line at a time, and each step is played and its entries are written before the next line
 //! is read.
-ghost use Rattle.std.specs.Prelude.{◌≡◌, ◌≢◌, ◌⊎◌, ℕ, ◌+◌, ◌≤◌, List, [], ◌++◌, Option, IfSome, IfOk, IfErr, OnOk, OnErr, IsTrue, Err};
+ghost use Rattle.std.specs.Prelude.{◌≡◌, ◌≢◌, ◌⊎◌, ℕ, ◌+◌, ◌≤◌, List, [], ◌++◌, map, Option, IfSome, IfOk, IfErr, OnOk, OnErr, IsTrue, Err};
 ghost use Rattle.std.specs.Io.KnownBytes.{Appends};
 ghost use Rattle.cct_edge.specs.Bytes.{AppendsFront, TellsAsBefore};
 ghost use Rattle.cct_edge.specs.Faults.{HasCause, Rose};
 ghost use Rattle.cct_model.specs.declared.entry.Entry.{Entry};
-ghost use Rattle.cct_model.specs.Legal.{is_played};
 ghost use Rattle.cct_model.specs.declared.device.Setup.{Setup};
-ghost use Rattle.cct_model.specs.Script.{no_devices, at_steps, at_end, is_known, IsInRange};
+ghost use Rattle.cct_model.specs.Lent.{entry_of, step_of};
+ghost use Rattle.cct_model.specs.Script.{no_devices, at_steps, at_end};
 ghost use Rattle.cct_model.specs.Text.{line_of, text};
-ghost use Rattle.cct_world.specs.Report.{exchange_of, entries_of};
+ghost use Rattle.cct_script.specs.Giving.{none_given, standing_of};
+ghost use Rattle.cct_world.specs.Report.{on_wire, entries_of};
 ghost use Rattle.cct_world.specs.World.{StandsFor, setup_of};
+ghost use Rattle.cct_bench.specs.Lines.{IsNext};
 ghost use Rattle.cct_bench.specs.Going.{Going, IsNothing, IsAnything};
-ghost use Rattle.cct_bench.specs.Playing.{PlaysOn};
+ghost use Rattle.cct_bench.specs.Playing.{CanPlay, PlaysOn};
 ghost use Rattle.cct_bench.specs.Run.{Played, Ran, ClosedBy, ending_at};
 
-use crate::lines::{Stop, read_end};
+use crate::lines::{Stop, behind_end};
 use crate::opening::{Opened, read_opening};
 use crate::outcome::Status;
-use crate::steps::{Said, read_step};
+use crate::steps::read_step;
 use cct_edge::{Failed, Sink, Source};
-use cct_model::{Devices, Entry, LineKind, Setup, Step};
-use cct_script::LineBuffer;
-use cct_text::{TextLine, write_entry, write_wire};
-use cct_world::{Report, World};
+use cct_model::{Devices, Entry, LineKind, Note, Setup, StepRef};
+use cct_script::{Lines, MOST_HEARD};
+use cct_text::{TextLine, write_entry, write_fault, write_note, write_wire};
+use cct_world::{OnWire, Report, World};
 use std::alloc::Global;
 
 /// How the steps of a script came to their end.
@@ -51,35 +53,31 @@ fn ending_at(number: u32, why: Stop) -> Ending
     }
 }
 
-/// Writes the lines of entries, in their order.
-fn write_entries<K: Sink>(out: &mut K, line: &mut TextLine, entries: &[Entry]) -> Result<(), Failed>
-    ensures ok { OnOk result (Appends (K.written out.old) (K.written out.new) (text entries.now)) }
-    ensures err { OnErr result (AppendsFront (K.written out.old) (K.written out.new) (text entries.now)) }
+/// Writes the lines of notes, in their order.
+fn write_notes<K: Sink>(out: &mut K, line: &mut TextLine, notes: &[Note]) -> Result<(), Failed>
+    ensures ok { OnOk result (Appends (K.written out.old) (K.written out.new) (text (map entry_of notes.now))) }
+    ensures err { OnErr result (AppendsFront (K.written out.old) (K.written out.new) (text (map entry_of notes.now))) }
     ensures tells { TellsAsBefore (K.written out.old) (K.written out.new) }
     ensures cause { HasCause (K.faults out.old) (K.faults out.new) result }
 {
-    for entry in entries {
-        write_entry(out, line, entry)?;
+    for note in notes {
+        write_note(out, line, note)?;
     }
     Ok(())
 }
 
-/// Writes the line of a report's exchange, where it has one.
-fn write_exchange<K: Sink>(out: &mut K, line: &mut TextLine, report: &Report) -> Result<(), Failed>
-    ensures ok { OnOk result (Appends (K.written out.old) (K.written out.new) (text (exchange_of report.now))) }
-    ensures err { OnErr result (AppendsFront (K.written out.old) (K.written out.new) (text (exchange_of report.now))) }
+/// Writes the line of what a step does on the wire, where it does something.
+fn write_on_wire<K: Sink>(out: &mut K, line: &mut TextLine, report: &Report) -> Result<(), Failed>
+    ensures ok { OnOk result (Appends (K.written out.old) (K.written out.new) (text (on_wire report.now))) }
+    ensures err { OnErr result (AppendsFront (K.written out.old) (K.written out.new) (text (on_wire report.now))) }
     ensures tells { TellsAsBefore (K.written out.old) (K.written out.new) }
     ensures cause { HasCause (K.faults out.old) (K.faults out.new) result }
 {
-    match report.asked {
-        Some(addr) => write_wire(
-            out,
-            line,
-            addr,
-            report.sent.as_slice(),
-            report.heard.as_slice(),
-        ),
-        None => Ok(()),
+    let heard = report.heard.as_slice();
+    match report.wire {
+        OnWire::Nothing => Ok(()),
+        OnWire::Exchange { addr } => write_wire(out, line, addr, report.sent.as_slice(), heard),
+        OnWire::Fault(on) => write_fault(out, line, on, heard),
     }
 }
 
@@ -90,21 +88,21 @@ fn write_report<K: Sink>(out: &mut K, line: &mut TextLine, report: &Report) -> R
     ensures tells { TellsAsBefore (K.written out.old) (K.written out.new) }
     ensures cause { HasCause (K.faults out.old) (K.faults out.new) result }
 {
-    write_exchange(out, line, report)?;
-    write_entries(out, line, report.others.as_slice())
+    write_on_wire(out, line, report)?;
+    write_notes(out, line, report.notes.as_slice())
 }
 
 /// Reads the setup of a script, and gives the number of the line behind it; or tells how the run ends.
 fn read_setup<S: Source>(
-    lines: &mut LineBuffer,
+    lines: &mut Lines,
     setup: &mut Setup,
     script: &mut S,
 ) -> Result<u32, Ending>
-    requires lines { lines.old ≡ [] }
+    requires lines { standing_of lines.old ≡ none_given }
     requires setup { setup.old ≡ no_devices }
     ensures opened { (written : Option (List ℕ)) → IfOk result (λ number.
-        Going (S.left script.old) (S.left script.new) lines.new number (at_steps setup.new) IsNothing written written) }
-    ensures counted { IfOk result (λ number. number ≤ 1048577) }
+        Going (S.left script.old) (S.left script.new) (standing_of lines.new).held number (at_steps setup.new) IsNothing written written) }
+    ensures next { IfOk result (λ number. IsNext number (standing_of lines.new)) }
     ensures ended { (written : Option (List ℕ)) → IfErr result (λ how.
         IfSome (S.left script.old) (λ bytes. Played bytes how (S.left script.new) written written)) }
     ensures unread { result ≡ Err Ending.Unread → Rose (S.faults script.old) (S.faults script.new) }
@@ -122,33 +120,43 @@ fn read_setup<S: Source>(
     }
 }
 
-/// The buffers of a run that each of its lines uses.
+/// The buffers of what a run writes.
 #[derive(Drop)]
-struct Desk {
-    lines: LineBuffer,
-    /// The step of the line read last.
-    step: Step,
+struct Page {
     report: Report,
     line: TextLine,
 }
 
-impl Desk {
-    /// Plays the step that was read, and writes its entries.
-    fn play<K: Sink>(&mut self, world: &mut World<'_>, out: &mut K) -> Result<(), Failed>
-        requires known { IsTrue (is_known (setup_of world.old) self.old.step) }
-        requires in_range { IsInRange self.old.step }
-        requires played { IsTrue (is_played self.old.step) }
-        ensures plays { PlaysOn (StandsFor world.old) (StandsFor world.new) (setup_of world.old) self.old.step result
+impl Page {
+    /// Plays a step, and writes its entries.
+    fn play<K: Sink>(
+        &mut self,
+        step: StepRef<'_>,
+        world: &mut World<'_>,
+        out: &mut K,
+    ) -> Result<(), Failed>
+        requires { CanPlay (setup_of world.old) (step_of step) }
+        ensures plays { PlaysOn (StandsFor world.old) (StandsFor world.new) (setup_of world.old) (step_of step.entry) result
             (K.written out.old) (K.written out.new) }
         ensures setup { setup_of world.new ≡ setup_of world.old }
-        ensures lines { self.new.lines ≡ self.old.lines }
         ensures tells { TellsAsBefore (K.written out.old) (K.written out.new) }
         ensures cause { HasCause (K.faults out.old) (K.faults out.new) result }
     {
-        world.step(&self.step, &mut self.report);
+        world.step(step, &mut self.report);
         write_report(out, &mut self.line, &self.report)
     }
+}
 
+/// The buffers of a run that each of its lines uses.
+#[derive(Drop)]
+struct Desk {
+    lines: Lines,
+    /// The room for the piece of a wire fault.
+    room: [u8; MOST_HEARD],
+    page: Page,
+}
+
+impl Desk {
     /// Plays the steps of a script, from the line of this number on, each before the next line is read.
     fn play_steps<S: Source, K: Sink>(
         &mut self,
@@ -157,9 +165,9 @@ impl Desk {
         script: &mut S,
         out: &mut K,
     ) -> Ending
-        requires { first ≤ 1048577 }
+        requires { IsNext first (standing_of self.old.lines) }
         ensures played { (left0 : Option (List ℕ))
-            → Going left0 (S.left script.old) self.old.lines first (at_steps (setup_of world.old)) (StandsFor world.old) (K.written out.old) (K.written out.old)
+            → Going left0 (S.left script.old) (standing_of self.old.lines).held first (at_steps (setup_of world.old)) (StandsFor world.old) (K.written out.old) (K.written out.old)
             → IfSome left0 (λ bytes. Played bytes result (S.left script.new) (K.written out.old) (K.written out.new)) }
         ensures unread { result ≡ Ending.Unread → Rose (S.faults script.old) (S.faults script.new) }
         ensures unwritten { result ≡ Ending.Unwritten → Rose (K.faults out.old) (K.faults out.new) }
@@ -171,12 +179,12 @@ impl Desk {
     {
         let mut number = first;
         loop {
-            match read_step(&mut self.lines, world, number, script, &mut self.step) {
-                Ok(Said::Step) => match self.play(world, out) {
+            match read_step(&mut self.lines, world, number, script, &mut self.room) {
+                Ok(Some(step)) => match self.page.play(step, world, out) {
                     Ok(()) => number += 1,
                     Err(Failed) => return Ending::Unwritten,
                 },
-                Ok(Said::End) => return self.finish(number + 1, script),
+                Ok(None) => return self.finish(number + 1, script),
                 Err(why) => return ending_at(number, why),
             }
         }
@@ -185,14 +193,14 @@ impl Desk {
     /// Ends the steps of a script behind its line `end`: the next line has this number.
     fn finish<S: Source>(&mut self, number: u32, script: &mut S) -> Ending
         ensures ended { (left0 old now : Option (List ℕ)) (setup : Setup)
-            → Going left0 (S.left script.old) self.old.lines number (at_end setup) IsAnything old now
+            → Going left0 (S.left script.old) (standing_of self.old.lines).held number (at_end setup) IsAnything old now
             → IfSome left0 (λ bytes. Played bytes result (S.left script.new) old now) }
         ensures unread { result ≡ Ending.Unread → Rose (S.faults script.old) (S.faults script.new) }
         ensures other { (result ≢ Ending.Unwritten) × (result ≢ Ending.NoMemory) }
         ensures tells { TellsAsBefore (S.left script.old) (S.left script.new) }
         ensures later { S.faults script.old ≤ S.faults script.new }
     {
-        match read_end(&mut self.lines, number, script) {
+        match behind_end(self.lines.line(script)) {
             Ok(()) => Ending::Done,
             Err(why) => ending_at(number, why),
         }
@@ -209,7 +217,7 @@ pub struct Bench {
 impl Bench {
     /// No device, and empty buffers.
     pub fn new() -> Self
-        ensures lines { result.desk.lines ≡ [] }
+        ensures lines { standing_of result.desk.lines ≡ none_given }
         ensures setup { result.setup ≡ no_devices }
     {
         Bench {
@@ -217,10 +225,12 @@ impl Bench {
                 devices: Devices::new(),
             },
             desk: Desk {
-                lines: LineBuffer::new(),
-                step: Step::End,
-                report: Report::new(),
-                line: TextLine::new(),
+                lines: Lines::new(),
+                room: [0; MOST_HEARD],
+                page: Page {
+                    report: Report::new(),
+                    line: TextLine::new(),
+                },
             },
         }
     }
@@ -232,7 +242,7 @@ impl Bench {
         script: &mut S,
         out: &mut K,
     ) -> Ending
-        requires lines { self.old.desk.lines ≡ [] }
+        requires lines { standing_of self.old.desk.lines ≡ none_given }
         requires setup { self.old.setup ≡ no_devices }
         ensures played { IfSome (S.left script.old)
             (λ bytes. Played bytes result (S.left script.new) (K.written out.old) (K.written out.new)) }
@@ -254,7 +264,7 @@ impl Bench {
 
     /// Plays a script, and writes the last line of the run where its status has one.
     pub fn run<S: Source, K: Sink>(&mut self, alloc: Global, script: &mut S, out: &mut K) -> Status
-        requires lines { self.old.desk.lines ≡ [] }
+        requires lines { standing_of self.old.desk.lines ≡ none_given }
         requires setup { self.old.setup ≡ no_devices }
         ensures ran { IfSome (S.left script.old)
             (λ bytes. Ran bytes result (S.left script.new) (K.written out.old) (K.written out.new)) }
@@ -267,12 +277,12 @@ impl Bench {
             Ending::Done => Status::Done,
             Ending::Refused { number, kind } => {
                 let entry = Entry::Line { number, kind };
-                close(out, &mut self.desk.line, &entry, Status::ScriptRefused)
+                close(out, &mut self.desk.page.line, &entry, Status::ScriptRefused)
             }
             Ending::Unread => {
                 close(
                     out,
-                    &mut self.desk.line,
+                    &mut self.desk.page.line,
                     &Entry::ReadFault,
                     Status::ReadFault,
                 )

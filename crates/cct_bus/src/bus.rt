@@ -3,24 +3,25 @@ ghost use Rattle.std.specs.Prelude.{◌≡◌, ◌==◌, nat_le, ◌+◌, ◌<�
 ghost use Rattle.std.specs.List.{All, flat_map, position};
 ghost use Rattle.std.specs.Option.{option_map};
 ghost use Rattle.cct_model.specs.declared.device.DeviceSetup.{DeviceSetup};
-ghost use Rattle.cct_model.specs.declared.command.WireFault.TheVariants.{Clear, HostHears};
 ghost use Rattle.cct_model.specs.declared.entry.Entry.{Entry};
 ghost use Rattle.cct_model.specs.declared.entry.Entry.TheVariants as entry;
 ghost use Rattle.cct_model.specs.Device.{IsAcceptor, IsSound};
 ghost use Rattle.cct_model.specs.Exchange.{by_address, device_at};
 ghost use Rattle.cct_model.specs.Legal.{OfAcceptor, OfDevice, acceptor_there, coin_entry, hopper_there};
+ghost use Rattle.cct_model.specs.Lent.{fault_of};
+ghost use Rattle.cct_model.specs.Script.{IsFault};
 ghost use Rattle.cct_model.specs.Setup.{IsSoundSetup};
-ghost use Rattle.cct_model.specs.Transcript.{heard_by_devices, heard_by_host, met};
+ghost use Rattle.cct_model.specs.Transcript.{met};
 ghost use Rattle.cct_acceptor.specs.Acceptor.{inserted};
 ghost use Rattle.cct_bus.specs.Device.{Stands, setup_in, setups_in};
-ghost use Rattle.cct_bus.specs.Fault.{IsShort};
 ghost use Rattle.cct_bus.specs.Room.{most_answered};
 
 use crate::device::Device;
+use crate::fault::NextFault;
 use crate::hearing::all_hear;
 use arrayvec::ArrayVec;
 use cct_acceptor::Inserted;
-use cct_model::{DeviceBody, DeviceSetup, Setup, WireFault};
+use cct_model::{DeviceBody, DeviceSetup, FaultOn, Setup};
 use cct_wire::Link;
 use std::alloc::{AllocError, Global};
 
@@ -32,12 +33,11 @@ pub struct Bus<'s> {
     /// The devices in rising order of address.
     devices: Vec<Device<'s>>,
     /// What is wrong in the next exchange.
-    fault: WireFault,
+    fault: NextFault,
     /// The room for one answer.
     frame: ArrayVec<u8, 260>,
     ghost order: { setups_in devices.items ≡ by_address setup.now.devices },
     ghost room: { (piece : List ℕ) → most_answered piece setup.now.devices ≤ 260 },
-    ghost short: { (piece : List ℕ) → fault ≡ HostHears piece → length piece ≤ 260 },
 }
 
 impl<'s> Bus<'s> {
@@ -57,7 +57,7 @@ impl<'s> Bus<'s> {
         Ok(Bus {
             setup,
             devices,
-            fault: WireFault::Clear,
+            fault: NextFault::new(),
             frame: ArrayVec::new(),
         })
     }
@@ -125,13 +125,13 @@ impl<'s> Bus<'s> {
         self.devices[index].reset();
     }
 
-    /// Sets what is wrong in the next exchange, in the place of what was set before.
-    pub fn set_fault(&mut self, fault: WireFault)
-        requires short { IsShort fault }
+    /// Sets what is wrong in the next exchange, in the place of what was set before: a part of it is this piece.
+    pub fn set_fault(&mut self, on: FaultOn, piece: &[u8])
+        requires in_range { IsFault (fault_of on piece.now) }
         ensures setup { setup_of self.new ≡ setup_of self.old }
-        ensures stands { (past : List Entry) → StandsFor self.old past → StandsFor self.new (entry.Fault fault ∷ past) }
+        ensures stands { (past : List Entry) → StandsFor self.old past → StandsFor self.new (entry.Fault (fault_of on piece.now) ∷ past) }
     {
-        self.fault = fault;
+        self.fault.set(on, piece);
     }
 
     /// The index of the device at an address.
@@ -154,10 +154,10 @@ impl Link for Bus<'_> {
     fn exchange(&mut self, sent: &[u8], heard: &mut ArrayVec<u8, 520>) {
         heard.clear();
         heard.try_extend_from_slice(sent).unwrap();
-        let piece = heard_by_devices(&self.fault, sent);
+        let piece = self.fault.heard_by_devices(sent);
         all_hear(&mut self.devices, piece, &mut self.frame, heard);
-        heard_by_host(&self.fault, sent, heard);
-        use_up(&mut self.fault);
+        self.fault.heard_by_host(sent, heard);
+        self.fault.use_up();
     }
 }
 
@@ -214,47 +214,4 @@ fn setup_at(setup: &Setup, addr: u8) -> Option<&DeviceSetup>
         }
     }
     None
-}
-
-/// What the devices hear where the host sends a piece.
-fn heard_by_devices<'a>(fault: &'a WireFault, sent: &'a [u8]) -> &'a [u8]
-    ensures { result.now ≡ heard_by_devices fault.now sent.now }
-{
-    match fault {
-        WireFault::DevicesHear(piece) => piece.as_slice(),
-        WireFault::Clear | WireFault::HostHears(_) | WireFault::WholeHeard(_) => sent,
-    }
-}
-
-/// Makes of its echo and the answers behind it what the host hears.
-fn heard_by_host(fault: &WireFault, sent: &[u8], heard: &mut ArrayVec<u8, 520>)
-    requires echo { length sent.now ≤ 260 }
-    requires short { (piece : List ℕ) → fault.now ≡ HostHears piece → length piece ≤ 260 }
-    ensures { (answered : List ℕ) → heard.old.items ≡ sent.now ++ answered
-        → heard.new.items ≡ heard_by_host fault.now sent.now answered }
-{
-    match fault {
-        WireFault::Clear | WireFault::DevicesHear(_) => {}
-        WireFault::HostHears(piece) => put_from(sent.len(), piece.as_slice(), heard),
-        WireFault::WholeHeard(piece) => put_from(0, piece.as_slice(), heard),
-    }
-}
-
-/// Leaves no fault. Where none is set nothing is written, since a fault has room for a piece.
-fn use_up(fault: &mut WireFault)
-    ensures { fault.new ≡ Clear }
-{
-    match fault {
-        WireFault::Clear => {}
-        _ => *fault = WireFault::Clear,
-    }
-}
-
-/// Puts a piece in the place of what stands from an index on.
-fn put_from(index: usize, piece: &[u8], heard: &mut ArrayVec<u8, 520>)
-    requires { index + length piece.now ≤ 520 }
-    ensures { heard.new.items ≡ take index heard.old.items ++ piece.now }
-{
-    heard.truncate(index);
-    heard.try_extend_from_slice(piece).unwrap();
 }

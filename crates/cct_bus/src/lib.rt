@@ -3,6 +3,7 @@
 
 mod bus;
 mod device;
+mod fault;
 mod hearing;
 
 pub use bus::Bus;

@@ -8,9 +8,7 @@ ghost use Rattle.cct_model.specs.Setup.{IsSoundSetup};
 use super::*;
 use arrayvec::ArrayVec;
 use cct_acceptor::Inserted;
-use cct_model::{
-    CheckKind, Coin, DeviceBody, DeviceSetup, Devices, Name, Piece, Setup, Texts, WireFault,
-};
+use cct_model::{CheckKind, Coin, DeviceBody, DeviceSetup, Devices, FaultOn, Name, Setup, Texts};
 use cct_wire::Link;
 use std::test::*;
 
@@ -68,16 +66,6 @@ fn machine() -> Setup
     devices.push(device(2, CheckKind::Simple));
     devices.push(device(3, CheckKind::Crc));
     Setup { devices }
-}
-
-/// A piece of these bytes.
-fn piece(bytes: &[u8]) -> Piece
-    requires { length bytes.now ≤ 260 }
-    ensures { result ≡ bytes.now }
-{
-    let mut piece = Piece::new();
-    piece.extend_from_slice(bytes);
-    piece
 }
 
 /// Every acceptor hears that it shall accept every coin place.
@@ -185,7 +173,7 @@ fn a_fault_lasts_one_exchange(rt: HostRuntime) -> Result<(), Fail> {
     assert!(rt; bus.is_acceptor(2) && bus.is_acceptor(4));
 
     // The devices hear that 4 shall reset, in the place of a request for its events.
-    bus.set_fault(WireFault::DevicesHear(piece(b"\x04\x00\x01\x01\xfa")));
+    bus.set_fault(FaultOn::Devices, b"\x04\x00\x01\x01\xfa");
     bus.exchange(b"\x04\x00\x01\xe5\x16", &mut heard);
     assert_eq!(rt;
         heard.as_slice(),
@@ -194,7 +182,7 @@ fn a_fault_lasts_one_exchange(rt: HostRuntime) -> Result<(), Fail> {
     assert_eq!(rt; bus.coin(4, 5), Inserted::Inhibited);
 
     // The acknowledgement is lost, but 2 inhibits every coin.
-    bus.set_fault(WireFault::HostHears(piece(b"\xaa")));
+    bus.set_fault(FaultOn::Host, b"\xaa");
     bus.exchange(b"\x02\x02\x01\xe7\x00\x00\x14", &mut heard);
     assert_eq!(rt;
         heard.as_slice(),
@@ -203,7 +191,7 @@ fn a_fault_lasts_one_exchange(rt: HostRuntime) -> Result<(), Fail> {
     assert_eq!(rt; bus.coin(2, 5), Inserted::Inhibited);
 
     // The host hears nothing, but 2 accepts place 5 again.
-    bus.set_fault(WireFault::WholeHeard(piece(b"")));
+    bus.set_fault(FaultOn::Whole, b"");
     bus.exchange(b"\x02\x02\x01\xe7\x10\x00\x04", &mut heard);
     assert_eq!(rt; heard.as_slice(), b"".as_slice());
     assert_eq!(rt;
@@ -212,8 +200,10 @@ fn a_fault_lasts_one_exchange(rt: HostRuntime) -> Result<(), Fail> {
     );
 
     // A fault takes the place of the one before; none is left after its exchange.
-    bus.set_fault(WireFault::HostHears(piece(b"\xaa")));
-    bus.set_fault(WireFault::Clear);
+    bus.set_fault(FaultOn::Whole, b"");
+    bus.set_fault(FaultOn::Devices, b"\xaa");
+    bus.exchange(b"\x02\x00\x01\xe5\x18", &mut heard);
+    assert_eq!(rt; heard.as_slice(), b"\x02\x00\x01\xe5\x18".as_slice());
     bus.exchange(b"\x02\x00\x01\xe5\x18", &mut heard);
     assert_eq!(rt;
         heard.as_slice(),

@@ -1,5 +1,5 @@
 // A source and a sink in memory, whose calls fail where they are told to.
-ghost use Rattle.std.specs.Prelude.{◌≡◌, ◌⊎◌, ◌↔◌, ◌<◌, ◌≤◌, [], Some, IsTrue, IsErr, IfOk, OnOk, OnErr, Contains, length, take, min};
+ghost use Rattle.std.specs.Prelude.{◌≡◌, ◌⊎◌, ◌↔◌, ◌<◌, ◌≤◌, [], Some, IsTrue, IsErr, IfOk, MatchResult, OnOk, OnErr, Contains, length, take, min};
 ghost use Rattle.std.specs.Io.{ReadsAtMost};
 ghost use Rattle.std.specs.Io.KnownBytes.{ReadConsumes};
 ghost use Rattle.cct_edge.specs.Faults.{HasCause, next_count};
@@ -181,6 +181,9 @@ impl Sink for MemSink {
     ghost written = { λ s. Some s.written };
 
     ghost faults = { λ s. s.faults };
+
+    ghost puts = { λ before piece answer now.
+        MatchResult answer (λ _. now ≡ output_after piece before) (λ _. now ≡ output_after_fault before) };
 
     fn put(&mut self, piece: &[u8]) -> Result<(), Failed>
         ensures cause { HasCause self.old.faults self.new.faults result }

@@ -1,8 +1,9 @@
 // Where bytes go.
-ghost use Rattle.std.specs.Prelude.{ℕ, Option, List, OnOk, OnErr};
+ghost use Rattle.std.specs.Prelude.{ℕ, Option, List, Result, OnOk, OnErr};
 ghost use Rattle.std.specs.Io.KnownBytes.{Appends};
 ghost use Rattle.cct_edge.specs.Bytes.{AppendsFront, TellsAsBefore};
 ghost use Rattle.cct_edge.specs.Faults.{HasCause};
+ghost use Rattle.cct_edge.specs.declared.fault.Failed.{Failed};
 
 use crate::Failed;
 
@@ -14,8 +15,13 @@ pub trait Sink {
     /// How often the outside has failed: a count that never falls, and may stand still at 2^64 - 1.
     ghost faults: { Self → ℕ };
 
+    /// What one put of a piece does, by its answer, to the object before and after: so a caller can tell that it made
+    /// just one.
+    ghost puts: { Self → List ℕ → Result (Unit {0}) Failed → Self → Type 0 };
+
     /// Appends the whole piece. A call that fails has appended a front of it, which may be none or all of it.
     fn put(&mut self, piece: &[u8]) -> Result<(), Failed>
+        ensures one { puts self.old piece.now result self.new }
         ensures ok { OnOk result (Appends (written self.old) (written self.new) piece.now) }
         ensures err { OnErr result (AppendsFront (written self.old) (written self.new) piece.now) }
         ensures tells { TellsAsBefore (written self.old) (written self.new) }

@@ -72,6 +72,8 @@ impl<W: Write> Sink for StdSink<W> {
 
     ghost faults = { writer_faults };
 
+    ghost puts = { λ before piece answer now. HasCause (writer_faults before) (writer_faults now) answer };
+
     fn put(&mut self, piece: &[u8]) -> Result<(), Failed>
         ensures ok { OnOk result (Appends (W.contents (writer_of self.old))
             (W.contents (writer_of self.new)) piece.now) }

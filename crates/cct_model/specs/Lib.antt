@@ -19,3 +19,4 @@ pub mod DeviceSet
 pub mod Text
 pub mod Grammar
 pub mod Script
+pub mod Lent

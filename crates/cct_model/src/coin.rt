@@ -1,5 +1,6 @@
 //! Coins, and the credit buffer of a coin acceptor.
 ghost use Rattle.std.specs.Prelude.{◌≡◌, ◌<◌, ◌≤◌, List, [], ◌∷◌, ◌++◌, length};
+ghost use Rattle.cct_model.specs.Setting.{has_place};
 
 use arrayvec::ArrayVec;
 use std::marker::Model;
@@ -12,6 +13,16 @@ pub struct Coin {
     pub path: u8,
 }
 
+/// Whether an inhibit mask has a coin place, 1 to 16: bit 0 is place 1
+/// (ccTalk Generic Specification 4, part 2, header 231).
+pub fn has_place(mask: u16, place: u8) -> bool
+    requires low { 1 ≤ place }
+    requires high { place ≤ 16 }
+    ensures { result ≡ has_place mask place }
+{
+    (mask >> (place - 1)) & 1 == 1
+}
+
 /// One event of the credit buffer, as header 229 reports it. Where `a` is 1 to 255, it is a credit of coin place `a`
 /// by sorter path `b`; where `a` is 0, `b` is an error code, and 0 for no event.
 #[derive(Clone, Copy, Debug, Default, PartialEq, Eq)]
@@ -22,7 +33,7 @@ pub struct Pair {
 
 /// The answer to header 229: the event counter (0 after a reset, then 1 to 255, and 1 again) and the last five
 /// events, newest first.
-#[derive(Clone, Copy, Debug, Default, PartialEq, Eq)]
+#[derive(Clone, Copy, Debug, PartialEq, Eq)]
 pub struct Credits {
     pub counter: u8,
     pub pairs: [Pair; 5],

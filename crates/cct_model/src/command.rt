@@ -57,10 +57,9 @@ pub enum CommandNo {
 }
 
 /// What is wrong on the wire in the next exchange.
-#[derive(Clone, Debug, Default, Drop, PartialEq, Eq)]
+#[derive(Debug, Drop)]
 pub enum WireFault {
     /// Nothing.
-    #[default]
     Clear,
     /// The devices hear this piece, 260 bytes at the most, in the place of what the host sends.
     DevicesHear(Piece),
@@ -78,8 +77,9 @@ pub struct CrashAt {
     pub calls: u8,
 }
 
-/// One atomic step of a script.
-#[derive(Debug, Default, Drop)]
+/// One atomic step of a script, as contracts speak of it. Code passes it on as a [`StepRef`], which needs no room for a
+/// piece of its own.
+#[derive(Debug, Drop)]
 pub enum Step {
     /// A coin of this coin place, 1 to 16, falls into acceptor `addr`.
     Coin { addr: u8, place: u8 },
@@ -102,6 +102,32 @@ pub enum Step {
     /// The operator reads the balance.
     Balance,
     /// The end of the script. It is no step of a run.
-    #[default]
+    End,
+}
+
+/// Which part of the next exchange a wire fault puts its piece in the place of, as `WireFault` says it.
+#[derive(Clone, Copy, Debug, PartialEq, Eq)]
+pub enum FaultOn {
+    /// What the devices hear.
+    Devices,
+    /// What the host hears behind its echo.
+    Host,
+    /// All that the host hears.
+    Whole,
+}
+
+/// A [`Step`] whose piece is lent, where it is a wire fault. Each of the others is the step of its name.
+#[derive(Clone, Copy, Debug)]
+pub enum StepRef<'p> {
+    Coin { addr: u8, place: u8 },
+    Alien { addr: u8 },
+    Fall { addr: u8 },
+    Jam { addr: u8 },
+    Reset { addr: u8 },
+    Fault { on: FaultOn, piece: &'p [u8] },
+    Next { addr: u8 },
+    Command(Command),
+    Crash { at: Option<CrashAt>, choice: u64 },
+    Balance,
     End,
 }

@@ -55,6 +55,16 @@ pub struct DeviceSetup {
     pub body: DeviceBody,
 }
 
+impl DeviceSetup {
+    /// The same device once more. It takes no memory, so it can't fail as `clone` could.
+    pub fn copied(&self) -> DeviceSetup
+        ensures { result ≡ self.now }
+    {
+        let copy: Result<DeviceSetup, AllocError> = self.clone();
+        copy.unwrap()
+    }
+}
+
 /// The most devices of a setup.
 pub const DEVICES: usize = 16;
 
@@ -124,17 +134,9 @@ fn replace_in(devices: &mut [DeviceSetup], device: &DeviceSetup)
 {
     for place in devices.iter_mut() {
         if place.addr == device.addr {
-            *place = copy_of(device);
+            *place = device.copied();
         }
     }
-}
-
-/// The same device once more.
-fn copy_of(device: &DeviceSetup) -> DeviceSetup
-    ensures { result ≡ device.now }
-{
-    let copy: Result<DeviceSetup, AllocError> = device.clone();
-    copy.unwrap()
 }
 
 /// The machine that a script plays on.

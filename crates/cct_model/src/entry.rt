@@ -1,4 +1,5 @@
 //! The entries of a transcript.
+ghost use Rattle.std.specs.Prelude.{◌≡◌};
 
 use crate::{Coin, Command, CommandNo, DeviceSet, Piece, Record, Sent, WireFault};
 
@@ -43,7 +44,7 @@ pub enum End {
 }
 
 /// What the operator has, in units of value.
-#[derive(Clone, Copy, Debug, Default, PartialEq, Eq)]
+#[derive(Clone, Copy, Debug, PartialEq, Eq)]
 pub struct Totals {
     pub available: u64,
     pub reserved: u64,
@@ -90,7 +91,7 @@ pub enum SumOf {
 }
 
 /// One entry of a transcript, which is one line of text (`docs/TRANSCRIPT.md`).
-#[derive(Debug, Default, Drop)]
+#[derive(Debug, Drop)]
 pub enum Entry {
     /// An acceptor took a coin.
     Accepted {
@@ -166,7 +167,6 @@ pub enum Entry {
         kind: LineKind,
     },
     /// The words of the command line aren't in the grammar.
-    #[default]
     Words,
     /// The disk has so many bytes, and is to have another number.
     DiskSize {
@@ -214,4 +214,36 @@ pub enum Entry {
         what: SumOf,
         amount: u64,
     },
+}
+
+/// An [`Entry`] that a step gives and that has no piece, so it is small: any but an exchange and a wire fault. Each is the
+/// entry of its name.
+#[derive(Debug, Drop)]
+pub enum Note {
+    Accepted { addr: u8, coin: Coin },
+    Inhibited { addr: u8, place: u8 },
+    Alien { addr: u8 },
+    Fell { addr: u8 },
+    NoFall { addr: u8 },
+    Jammed { addr: u8 },
+    NoJam { addr: u8 },
+    Reset { addr: u8 },
+    Taken(Command),
+    No { command: Command, why: CommandNo },
+    Idle { addr: u8 },
+    Put(Record),
+    Kept(Record),
+    Crash { records: u32 },
+    Ended { addr: u8, end: End },
+    Balance(Totals),
+}
+
+impl Default for Note {
+    ghost use Rattle.cct_model.specs.declared.entry.Note.TheVariants.{Idle};
+
+    ghost is_default = { λ note. note ≡ Idle 0 };
+
+    fn default() -> Self {
+        Note::Idle { addr: 0 }
+    }
 }

@@ -11,11 +11,11 @@ mod record;
 mod request;
 mod wire;
 
-pub use coin::{Coin, Coins, Credits, Pair};
-pub use command::{Command, CommandNo, CrashAt, Step, WireFault};
+pub use coin::{Coin, Coins, Credits, Pair, has_place};
+pub use command::{Command, CommandNo, CrashAt, FaultOn, Step, StepRef, WireFault};
 pub use device::{DEVICES, DeviceBody, DeviceSetup, Devices, Setup, SetupLine, Texts};
 pub use device_set::DeviceSet;
-pub use entry::{End, Entry, LineKind, Listed, SumOf, Totals};
+pub use entry::{End, Entry, LineKind, Listed, Note, SumOf, Totals};
 pub use record::{EpochState, Judged, OpenOrder, Record};
 pub use request::{Reply, ReplyForm, Request};
 pub use wire::{Bytes, CheckKind, Name, Piece, Sent};

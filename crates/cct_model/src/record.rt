@@ -68,10 +68,9 @@ pub enum Judged {
 }
 
 /// What is recorded of an acceptor.
-#[derive(Clone, Copy, Debug, Default, PartialEq, Eq)]
+#[derive(Clone, Copy, Debug, PartialEq, Eq)]
 pub enum EpochState {
     /// No epoch runs.
-    #[default]
     Idle,
     /// An epoch runs with this inhibit mask; the event counter is that of the last reading recorded in it, or 0.
     Running { mask: u16, counter: u8 },
@@ -79,7 +78,7 @@ pub enum EpochState {
 
 /// An order that is open: its id, its hopper, how many coins it is for, and the life count of the hopper, below 2^24,
 /// that was read before.
-#[derive(Clone, Copy, Debug, Default, PartialEq, Eq)]
+#[derive(Clone, Copy, Debug, PartialEq, Eq)]
 pub struct OpenOrder {
     pub id: u32,
     pub addr: u8,

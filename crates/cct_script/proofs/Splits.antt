@@ -1,7 +1,7 @@
 -- A list cut at the elements that pass a test, told by where the first of them stands.
-use Rattle.std.proofs.Common.{◌≡◌, ℕ, suc, ◌+◌, ◌<◌, ◌≤◌, Bool, true, false, List, [], ◌∷◌, ◌++◌, length, get_or, take, drop, Some, None, refl, ap, sym, ◌∙◌, arith, append_assoc, cond, ltb}
+use Rattle.std.proofs.Common.{◌≡◌, ℕ, suc, ◌+◌, ◌<◌, ◌≤◌, Bool, true, false, List, [], ◌∷◌, ◌++◌, length, get_or, take, drop, Some, None, refl, ap, sym, ◌∙◌, arith, cond, ltb}
 use Rattle.std.specs.List.{slice_split, onto_first, position, position_or_len, All}
-use Rattle.std.proofs.lemmas.List.{append-nil, take-append-drop, drop_more, length-take-le, get_or-take, get_or_default}
+use Rattle.std.proofs.lemmas.List.{take-append-drop, drop_more, length-take-le, get_or-take, get_or_default}
 use Rattle.std.proofs.lemmas.List.Splits.{slice_split_at, slice_split_none, slice_split-cons_no}
 use Rattle.std.proofs.lemmas.List.Sums.{fails_before_first}
 use Rattle.std.proofs.lemmas.List.Quantifiers.{position-Some}
@@ -24,13 +24,12 @@ module _ {X : Type 0} where
       let k_below : k < n = omega (arith, length-take-le n xs (omega arith)) in
       ap p (get_or-take n xs k e k_below ∙ get_or_default xs k e d (omega arith)) ∙ fails k k_below
 
-  -- the first part ends at the first element that passes, whatever follows the list
-  pub split_at : (p : X → Bool) (xs more : List X) (n : ℕ) (d : X) → position p xs ≡ Some n → slice_split p (xs ++ more) ≡ take n xs ∷ slice_split p (drop (n + 1) xs ++ more)
-  split_at p xs more n d e =
+  -- the first part ends at the first element that passes
+  pub split_at : (p : X → Bool) (xs : List X) (n : ℕ) (d : X) → position p xs ≡ Some n → slice_split p xs ≡ take n xs ∷ slice_split p (drop (n + 1) xs)
+  split_at p xs n d e =
       let h = position-Some p xs n d e in
-      ap (λ ys. slice_split p (ys ++ more)) (split_place xs n d h.0)
-      ∙ ap (slice_split p) (append_assoc (take n xs) (get_or xs n d ∷ drop (n + 1) xs) more)
-      ∙ slice_split_at p (take n xs) (get_or xs n d) (drop (n + 1) xs ++ more) (fails_in_front p xs n d h.0 h.2) h.1
+      ap (slice_split p) (split_place xs n d h.0)
+      ∙ slice_split_at p (take n xs) (get_or xs n d) (drop (n + 1) xs) (fails_in_front p xs n d h.0 h.2) h.1
 
   fails_everywhere : (p : X → Bool) (xs : List X) → position p xs ≡ None → All (λ x. p x ≡ false) xs
   fails_everywhere p xs e k d inside =
@@ -38,10 +37,9 @@ module _ {X : Type 0} where
       let past : length xs ≤ position_or_len p xs = ltb-false _ _ last in
       fails_before_first p xs k d (omega arith)
 
-  -- the same of the list alone
-  pub split_at_alone : (p : X → Bool) (xs : List X) (n : ℕ) (d : X) → position p xs ≡ Some n → slice_split p xs ≡ take n xs ∷ slice_split p (drop (n + 1) xs)
-  split_at_alone p xs n d e =
-      ap (slice_split p) (sym (append-nil xs)) ∙ split_at p xs [] n d e ∙ ap (λ ys. take n xs ∷ slice_split p ys) (append-nil (drop (n + 1) xs))
+  -- a part that ends at an element that passes
+  pub split_behind : (p : X → Bool) (xs : List X) (x : X) (ys : List X) → position p xs ≡ None → p x ≡ true → slice_split p (xs ++ x ∷ ys) ≡ xs ∷ slice_split p ys
+  split_behind p xs x ys none passes = slice_split_at p xs x ys (fails_everywhere p xs none) passes
 
   -- where no element passes, the list is the one part
   pub split_none : (p : X → Bool) (xs : List X) → position p xs ≡ None → slice_split p xs ≡ xs ∷ []

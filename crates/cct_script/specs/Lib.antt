@@ -1,3 +1,4 @@
+pub mod Fault
 pub mod Fields
 pub mod Window
 pub mod Giving

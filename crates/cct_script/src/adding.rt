@@ -44,14 +44,6 @@ fn device_at(devices: &[DeviceSetup], addr: u8) -> Option<&DeviceSetup>
     None
 }
 
-/// The same device once more.
-fn copy_of(device: &DeviceSetup) -> DeviceSetup
-    ensures { result ≡ device.now }
-{
-    let copy: Result<DeviceSetup, AllocError> = device.clone();
-    copy.unwrap()
-}
-
 /// The same texts once more.
 fn texts_of(texts: &Texts) -> Texts
     ensures { result ≡ texts.now }
@@ -70,7 +62,7 @@ fn add_device(setup: &mut Setup, device: &DeviceSetup) -> Result<(), LineKind>
     if devices.len() >= DEVICES || device_at(devices, device.addr).is_some() {
         return Err(LineKind::Device);
     }
-    setup.devices.push(copy_of(device));
+    setup.devices.push(device.copied());
     Ok(())
 }
 
@@ -92,7 +84,7 @@ fn add_value(
     match device_at(setup.devices.as_slice(), addr) {
         None => Err(LineKind::Device),
         Some(device) => {
-            let mut device = copy_of(device);
+            let mut device = device.copied();
             give_value(&mut device, place, value, id)?;
             setup.devices.replace(&device);
             Ok(())
@@ -144,7 +136,7 @@ fn add_texts(setup: &mut Setup, addr: u8, texts: &Texts) -> Result<(), LineKind>
             if device.named {
                 return Err(LineKind::Again);
             }
-            let mut device = copy_of(device);
+            let mut device = device.copied();
             device.texts = texts_of(texts);
             device.named = true;
             setup.devices.replace(&device);

@@ -15,7 +15,7 @@ const ROOM: usize = 1201;
 
 /// What the reader found at the front of the bytes that it holds.
 #[derive(Clone, Copy, Debug, PartialEq, Eq)]
-pub enum Held {
+pub(crate) enum Held {
     /// A whole line of so many bytes, and behind it its line feed.
     Line(usize),
     /// A line longer than a line may be.
@@ -26,7 +26,7 @@ pub enum Held {
 
 /// The bytes of a script that were taken and not yet read: one line's worth.
 #[derive(Drop)]
-pub struct LineBuffer {
+pub(crate) struct LineBuffer {
     bytes: [u8; ROOM],
     start: usize,
     end: usize,
@@ -44,7 +44,7 @@ impl Model for LineBuffer {
 
 impl LineBuffer {
     /// No byte is held.
-    pub fn new() -> Self
+    pub(crate) fn new() -> Self
         ensures { result ≡ [] }
     {
         LineBuffer {
@@ -55,7 +55,7 @@ impl LineBuffer {
     }
 
     /// The bytes held.
-    pub fn held(&self) -> &[u8]
+    pub(crate) fn held(&self) -> &[u8]
         ensures value { result.now ≡ self.now }
         ensures fits { length result.now ≤ 1201 }
     {
@@ -63,7 +63,7 @@ impl LineBuffer {
     }
 
     /// Gives up the first bytes held.
-    pub fn advance(&mut self, count: usize)
+    pub(crate) fn advance(&mut self, count: usize)
         requires { count ≤ length self.old }
         ensures { self.new ≡ drop count self.old }
     {
@@ -90,7 +90,7 @@ impl LineBuffer {
 
     /// Takes from the source until a whole line is held, or there is none.
     #[tactic(auto, using(crate::proofs::Giving::line_within))]
-    pub fn seek<S: Source>(&mut self, source: &mut S) -> Result<Held, Failed>
+    pub(crate) fn seek<S: Source>(&mut self, source: &mut S) -> Result<Held, Failed>
         ensures fills { Fills self.old self.new (S.left source.old) (S.left source.new) }
         ensures finds { IfOk result (λ found. Finds found self.new (S.left source.new)) }
         ensures short { IfOk result IsShort }

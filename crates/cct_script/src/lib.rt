@@ -13,10 +13,10 @@ mod step;
 mod words;
 
 pub use adding::add;
-pub use buffer::{Held, LineBuffer};
 pub use lines::{Line, Lines, LinesNo};
 pub use setup::read_setup_line;
-pub use step::{read_step, read_step_line};
+pub use step::read_step_line;
+pub use words::MOST_HEARD;
 
 #[cfg(test)]
 mod tests;

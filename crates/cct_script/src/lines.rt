@@ -52,11 +52,11 @@ impl Lines {
     ghost use Rattle.std.specs.Borrow.{sem, follows_so};
     ghost use mathlib.Core.Option.{none};
     ghost use Rattle.cct_script.specs.contracts.lines.Lines.{the_row};
-    ghost use Rattle.cct_script.specs.Giving.{Gives, line_in, line_of, standing_of};
+    ghost use Rattle.cct_script.specs.Giving.{Gives, line_in, line_of, none_given, standing_of};
 
     /// No byte is held, and no line was given.
     pub fn new() -> Self
-        ensures { standing_of result ≡ record { held = []; given = 0 } }
+        ensures { standing_of result ≡ none_given }
     {
         Lines {
             buffer: LineBuffer::new(),

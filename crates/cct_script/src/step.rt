@@ -1,14 +1,16 @@
 //! The step lines of a script (`docs/SCRIPT.md`).
-ghost use Rattle.std.specs.Prelude.{◌≡◌, ℕ, Some, None, Ok, Err, IfOk, MatchOption, MatchResult};
+ghost use Rattle.std.specs.Prelude.{◌≡◌, ◌≤◌, ℕ, Some, None, Ok, Err, IfOk, MatchOption, MatchResult};
 ghost use Rattle.cct_model.specs.declared.command.Step.{Step};
 ghost use Rattle.cct_model.specs.Grammar.{address_in, choice_in, coin_step, step_at, fault_step, start_step, pay_step, path_step, vend_step, crash_step, step_line};
+ghost use Rattle.cct_model.specs.Lent.{step_of};
 ghost use Rattle.cct_model.specs.Script.{IsInRange};
+ghost use Rattle.cct_script.specs.Fault.{most_of, part_in};
 ghost use Rattle.cct_script.specs.Fields.{fields_behind};
 
 use crate::fields::{alone, first_field, one, three, two};
 use crate::numbers::{ranged, ranged_u8, ranged_u32};
-use crate::words::{mask_in, piece_in};
-use cct_model::{Command, CrashAt, LineKind, Step, WireFault};
+use crate::words::{MOST_HEARD, mask_in, piece_in};
+use cct_model::{Command, CrashAt, FaultOn, LineKind, StepRef};
 
 const COIN: &[u8] = b"coin";
 
@@ -59,9 +61,6 @@ const WHOLE: &[u8] = b"whole";
 /// The most bytes of a fault that stands for one side's message.
 const MOST_SENT: usize = 260;
 
-/// The most bytes of a fault that stands for all that the host hears.
-const MOST_HEARD: usize = 520;
-
 /// The address that a field of a step line spells, 0 to 255.
 fn address_in(field: &[u8]) -> Option<u8>
     ensures { result ≡ address_in field.now }
@@ -90,24 +89,40 @@ fn coin_in(rest: Option<&[u8]>) -> Option<(u8, u8)>
 
 /// `fault devices PIECE`, `fault host PIECE`, `fault whole PIECE`
 #[tactic(auto, using(crate::proofs::Forms::no_fault))]
-fn fault_in(rest: Option<&[u8]>) -> Option<WireFault>
+fn fault_in<'p>(rest: Option<&[u8]>, room: &'p mut [u8; MOST_HEARD]) -> Option<StepRef<'p>>
     ensures { MatchOption result (fault_step (fields_behind rest.entry) ≡ None)
-        (λ fault. (fault_step (fields_behind rest.entry) ≡ Some (Step.Fault fault)) × IsInRange (Step.Fault fault)) }
+        (λ s. (fault_step (fields_behind rest.entry) ≡ Some (step_of s)) × IsInRange (step_of s)) }
 {
     let (whom, piece) = two(rest)?;
-    if whom == DEVICES {
-        let piece = piece_in(MOST_SENT, piece)?;
-        return Some(WireFault::DevicesHear(piece));
+    let on = part_in(whom)?;
+    let piece = piece_in(most_of(on), piece, room)?;
+    Some(StepRef::Fault { on, piece })
+}
+
+/// The part of an exchange that a field names.
+fn part_in(field: &[u8]) -> Option<FaultOn>
+    ensures { result ≡ part_in field.now }
+{
+    if field == DEVICES {
+        Some(FaultOn::Devices)
+    } else if field == HOST {
+        Some(FaultOn::Host)
+    } else if field == WHOLE {
+        Some(FaultOn::Whole)
+    } else {
+        None
     }
-    if whom == HOST {
-        let piece = piece_in(MOST_SENT, piece)?;
-        return Some(WireFault::HostHears(piece));
+}
+
+/// The most bytes of the piece that is this part of an exchange: one side's message, or all that the host hears.
+fn most_of(on: FaultOn) -> usize
+    ensures value { result ≡ most_of on }
+    ensures fits { result ≤ 520 }
+{
+    match on {
+        FaultOn::Devices | FaultOn::Host => MOST_SENT,
+        FaultOn::Whole => MOST_HEARD,
     }
-    if whom == WHOLE {
-        let piece = piece_in(MOST_HEARD, piece)?;
-        return Some(WireFault::WholeHeard(piece));
-    }
-    None
 }
 
 /// `start A MASK`
@@ -178,17 +193,6 @@ fn crash_in(rest: Option<&[u8]>) -> Option<(Option<CrashAt>, u64)>
     Some((at, choice))
 }
 
-/// Reads what a line says of a fault. It stands apart, so that the room for its piece is taken for no other line.
-fn fault_step(rest: Option<&[u8]>, step: &mut Step) -> Result<(), LineKind>
-    ensures { MatchResult result
-        (λ done. (fault_step (fields_behind rest.entry) ≡ Some step.new) × IsInRange step.new)
-        (λ why. (why ≡ LineKind.Form) × (fault_step (fields_behind rest.entry) ≡ None) × (step.new ≡ step.old)) }
-{
-    let fault = fault_in(rest).ok_or(LineKind::Form)?;
-    *step = Step::Fault(fault);
-    Ok(())
-}
-
 /// The address alone behind a word.
 #[tactic(auto, using(crate::proofs::Forms::no_step_at))]
 fn addr(rest: Option<&[u8]>) -> Result<u8, LineKind>
@@ -202,64 +206,46 @@ fn addr(rest: Option<&[u8]>) -> Result<u8, LineKind>
     }
 }
 
-/// Reads what a step line says, without its line feed. `Word` where the first field is no word of a step line, else
-/// `Form` where the line isn't in a form of its word; the step then stays as it was.
+/// What a step line says, without its line feed; the piece of a wire fault is read into the room. `Word` where the first
+/// field is no word of a step line, else `Form` where the line isn't in a form of its word.
 #[tactic(auto, unfolding(cct_model::specs::Grammar::step_line))]
-pub fn read_step(line: &[u8], step: &mut Step) -> Result<(), LineKind>
+pub fn read_step_line<'p>(
+    line: &[u8],
+    room: &'p mut [u8; MOST_HEARD],
+) -> Result<StepRef<'p>, LineKind>
     ensures reads { MatchResult result
-        (λ done. step_line line.now ≡ Ok step.new)
-        (λ why. (step_line line.now ≡ Err why) × (step.new ≡ step.old)) }
-    ensures ranged { IfOk result (λ done. IsInRange step.new) }
+        (λ s. step_line line.now ≡ Ok (step_of s))
+        (λ why. step_line line.now ≡ Err why) }
+    ensures ranged { IfOk result (λ s. IsInRange (step_of s)) }
 {
     let (word, rest) = first_field(line);
     match word {
         _ if word == COIN => {
             let (addr, place) = coin_in(rest).ok_or(LineKind::Form)?;
-            *step = Step::Coin { addr, place };
+            Ok(StepRef::Coin { addr, place })
         }
-        _ if word == ALIEN => *step = Step::Alien { addr: addr(rest)? },
-        _ if word == FALL => *step = Step::Fall { addr: addr(rest)? },
-        _ if word == JAM => *step = Step::Jam { addr: addr(rest)? },
-        _ if word == RESET => *step = Step::Reset { addr: addr(rest)? },
-        _ if word == NEXT => *step = Step::Next { addr: addr(rest)? },
-        _ if word == FAULT => fault_step(rest, step)?,
-        _ if word == START => *step = Step::Command(start_in(rest).ok_or(LineKind::Form)?),
-        _ if word == ROUND => *step = Step::Command(Command::Round { addr: addr(rest)? }),
-        _ if word == STOP => *step = Step::Command(Command::Stop { addr: addr(rest)? }),
-        _ if word == SETTLE => *step = Step::Command(Command::Settle { addr: addr(rest)? }),
-        _ if word == HALT => *step = Step::Command(Command::Halt { addr: addr(rest)? }),
-        _ if word == IDENT => *step = Step::Command(Command::Ident { addr: addr(rest)? }),
-        _ if word == PAY => *step = Step::Command(pay_in(rest).ok_or(LineKind::Form)?),
-        _ if word == SCAN => {
-            alone((), rest).ok_or(LineKind::Form)?;
-            *step = Step::Command(Command::Scan);
-        }
-        _ if word == PATH => *step = Step::Command(path_in(rest).ok_or(LineKind::Form)?),
-        _ if word == VEND => *step = Step::Command(vend_in(rest).ok_or(LineKind::Form)?),
+        _ if word == ALIEN => Ok(StepRef::Alien { addr: addr(rest)? }),
+        _ if word == FALL => Ok(StepRef::Fall { addr: addr(rest)? }),
+        _ if word == JAM => Ok(StepRef::Jam { addr: addr(rest)? }),
+        _ if word == RESET => Ok(StepRef::Reset { addr: addr(rest)? }),
+        _ if word == NEXT => Ok(StepRef::Next { addr: addr(rest)? }),
+        _ if word == FAULT => fault_in(rest, room).ok_or(LineKind::Form),
+        _ if word == START => Ok(StepRef::Command(start_in(rest).ok_or(LineKind::Form)?)),
+        _ if word == ROUND => Ok(StepRef::Command(Command::Round { addr: addr(rest)? })),
+        _ if word == STOP => Ok(StepRef::Command(Command::Stop { addr: addr(rest)? })),
+        _ if word == SETTLE => Ok(StepRef::Command(Command::Settle { addr: addr(rest)? })),
+        _ if word == HALT => Ok(StepRef::Command(Command::Halt { addr: addr(rest)? })),
+        _ if word == IDENT => Ok(StepRef::Command(Command::Ident { addr: addr(rest)? })),
+        _ if word == PAY => Ok(StepRef::Command(pay_in(rest).ok_or(LineKind::Form)?)),
+        _ if word == SCAN => alone(StepRef::Command(Command::Scan), rest).ok_or(LineKind::Form),
+        _ if word == PATH => Ok(StepRef::Command(path_in(rest).ok_or(LineKind::Form)?)),
+        _ if word == VEND => Ok(StepRef::Command(vend_in(rest).ok_or(LineKind::Form)?)),
         _ if word == CRASH => {
             let (at, choice) = crash_in(rest).ok_or(LineKind::Form)?;
-            *step = Step::Crash { at, choice };
+            Ok(StepRef::Crash { at, choice })
         }
-        _ if word == BALANCE => {
-            alone((), rest).ok_or(LineKind::Form)?;
-            *step = Step::Balance;
-        }
-        _ if word == END => {
-            alone((), rest).ok_or(LineKind::Form)?;
-            *step = Step::End;
-        }
-        _ => return Err(LineKind::Word),
+        _ if word == BALANCE => alone(StepRef::Balance, rest).ok_or(LineKind::Form),
+        _ if word == END => alone(StepRef::End, rest).ok_or(LineKind::Form),
+        _ => Err(LineKind::Word),
     }
-    Ok(())
-}
-
-/// What a step line says, without its line feed. `Word` where the first field is no word of a step line, else `Form`
-/// where the line isn't in a form of its word.
-pub fn read_step_line(line: &[u8]) -> Result<Step, LineKind>
-    ensures value { result ≡ step_line line.now }
-    ensures ranged { IfOk result IsInRange }
-{
-    let mut step = Step::End;
-    read_step(line, &mut step)?;
-    Ok(step)
 }

@@ -15,12 +15,9 @@ fn step_lines_say_their_steps(rt: HostRuntime) -> Result<(), Fail> {
         ("jam 3", "Jam { addr: 3 }"),
         ("reset 0", "Reset { addr: 0 }"),
         ("next 255", "Next { addr: 255 }"),
-        ("fault devices -", "Fault(DevicesHear(Bytes { bytes: [] }))"),
-        ("fault host 0A", "Fault(HostHears(Bytes { bytes: [10] }))"),
-        (
-            "fault whole fFb1",
-            "Fault(WholeHeard(Bytes { bytes: [255, 177] }))",
-        ),
+        ("fault devices -", "Fault { on: Devices, piece: [] }"),
+        ("fault host 0A", "Fault { on: Host, piece: [10] }"),
+        ("fault whole fFb1", "Fault { on: Whole, piece: [255, 177] }"),
         ("start 2 00fF", "Command(Start { addr: 2, mask: 255 })"),
         ("start 2 8000", "Command(Start { addr: 2, mask: 32768 })"),
         ("round 2", "Command(Round { addr: 2 })"),
@@ -58,8 +55,9 @@ fn step_lines_say_their_steps(rt: HostRuntime) -> Result<(), Fail> {
         ("balance", "Balance"),
         ("end", "End"),
     ];
+    let mut room = [0; MOST_HEARD];
     for (line, wanted) in said {
-        let step = read_step_line(line.as_bytes());
+        let step = read_step_line(line.as_bytes(), &mut room);
         let text = format!(in rt.alloc(); "{step:?}")?;
         let wanted = format!(in rt.alloc(); "Ok({wanted})")?;
         assert_eq!(rt; text.as_str(), wanted.as_str(), "{line}");
@@ -69,6 +67,7 @@ fn step_lines_say_their_steps(rt: HostRuntime) -> Result<(), Fail> {
 
 #[test]
 fn step_lines_are_refused(rt: HostRuntime) {
+    let mut room = [0; MOST_HEARD];
     let words = [
         "",
         " coin 2 1",
@@ -80,7 +79,7 @@ fn step_lines_are_refused(rt: HostRuntime) {
     ];
     for line in words {
         assert_eq!(rt;
-            read_step_line(line.as_bytes()).err(),
+            read_step_line(line.as_bytes(), &mut room).err(),
             Some(LineKind::Word),
             "{line}"
         );
@@ -141,7 +140,7 @@ fn step_lines_are_refused(rt: HostRuntime) {
     ];
     for line in forms {
         assert_eq!(rt;
-            read_step_line(line.as_bytes()).err(),
+            read_step_line(line.as_bytes(), &mut room).err(),
             Some(LineKind::Form),
             "{line}"
         );
@@ -159,15 +158,19 @@ fn fault_line(alloc: Global, front: &str, count: u16) -> Result<Vec<u8>, Fail> {
 
 #[test]
 fn the_pieces_of_faults_have_a_most(rt: HostRuntime) -> Result<(), Fail> {
+    let mut room = [0; MOST_HEARD];
     for (front, most) in [
         ("fault devices ", 260),
         ("fault host ", 260),
         ("fault whole ", 520),
     ] {
         let longest = fault_line(rt.alloc(), front, most)?;
-        assert!(rt; read_step_line(&longest).is_ok());
+        assert!(rt; read_step_line(&longest, &mut room).is_ok());
         let longer = fault_line(rt.alloc(), front, most + 1)?;
-        assert_eq!(rt; read_step_line(&longer).err(), Some(LineKind::Form));
+        assert_eq!(rt;
+            read_step_line(&longer, &mut room).err(),
+            Some(LineKind::Form)
+        );
     }
     Ok(())
 }

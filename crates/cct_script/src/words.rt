@@ -1,10 +1,10 @@
 //! Fields that are texts, names of checks, and bytes in hexadecimal.
-ghost use Rattle.std.specs.Prelude.{◌≡◌, ◌≤◌, length, IsTrue, IfSome};
+ghost use Rattle.std.specs.Prelude.{◌≡◌, ◌≤◌, length, IsTrue, IfSome, MatchOption, Some, None};
 ghost use Rattle.std.specs.List.{list_all, All};
 ghost use Rattle.cct_model.specs.Device.{IsPrinting, IsWord, IsId};
 ghost use Rattle.cct_model.specs.Grammar.{is_printing, check_in, word_in, id_in, piece_in, mask_in};
 
-use cct_model::{CheckKind, Name, Piece};
+use cct_model::{CheckKind, Name};
 
 const SIMPLE: &[u8] = b"simple";
 
@@ -13,7 +13,7 @@ const CRC: &[u8] = b"crc";
 const NO_BYTE: &[u8] = b"-";
 
 /// The most bytes of a piece, an echo and what follows it.
-const MOST_HEARD: usize = 520;
+pub const MOST_HEARD: usize = 520;
 
 /// The check that a field names.
 pub(crate) fn check_in(field: &[u8]) -> Option<CheckKind>
@@ -73,25 +73,26 @@ pub(crate) fn id_in(field: &[u8]) -> Option<[u8; 6]>
     Some(id)
 }
 
-/// The piece of up to `most` bytes that a field spells: a hyphen is the empty piece, else it is in hexadecimal of either
-/// case, two digits a byte.
+/// The piece of up to `most` bytes that a field spells, read into the room: a hyphen is the empty piece, else it is in
+/// hexadecimal of either case, two digits a byte.
 #[tactic(auto, unfolding(cct_model::specs::Grammar::piece_in))]
-pub(crate) fn piece_in(most: usize, field: &[u8]) -> Option<Piece>
+pub(crate) fn piece_in<'p>(
+    most: usize,
+    field: &[u8],
+    room: &'p mut [u8; MOST_HEARD],
+) -> Option<&'p [u8]>
     requires { most ≤ 520 }
-    ensures reads { result ≡ piece_in most field.now }
-    ensures few { IfSome result (λ piece. length piece ≤ most) }
+    ensures reads { MatchOption result (piece_in most field.now ≡ None) (λ piece. piece_in most field.now ≡ Some piece.now) }
+    ensures few { IfSome result (λ piece. length piece.now ≤ most) }
 {
     if field == NO_BYTE {
-        return Some(Piece::new());
+        return Some(&[]);
     }
     if field.is_empty() || field.len() > 2 * most {
         return None;
     }
-    let mut bytes = [0; MOST_HEARD];
-    let bytes = &mut bytes[..field.len() / 2];
-    hex::decode_to_slice(field, bytes).ok()?;
-    let mut piece = Piece::new();
-    piece.extend_from_slice(bytes);
+    let piece = &mut room[..field.len() / 2];
+    hex::decode_to_slice(field, piece).ok()?;
     Some(piece)
 }
 

@@ -1,9 +1,10 @@
 //! The table of coins (ccTalk Generic Specification 4, part 2): headers 231 and 230 set and tell the inhibit mask, 228
 //! and 227 the master inhibit, 210 and 209 the sorter path of a coin place, 189 and 188 the default path.
 ghost use Rattle.std.specs.Prelude.{◌≡◌, ◌≤◌, ◌↔◌, ◌&&◌, List, [], ◌∷◌, IsErrOf, IsOk, IsTrue, OnErr, not};
-ghost use Rattle.cct_model.specs.Setting.{Setting, mask_set, master_set, path_set, default_set, is_place, is_path, mask_in, is_normal_in, default_in, path_in, has_place, accepts_in};
+ghost use Rattle.cct_model.specs.Setting.{Setting, mask_set, master_set, path_set, default_set, is_place, is_path, mask_in, is_normal_in, default_in, path_in, accepts_in};
 ghost use Rattle.cct_sorter.specs.Table.{Holds};
 
+use cct_model::has_place;
 use thiserror::Error;
 
 /// The highest coin place; the lowest is 1.
@@ -148,13 +149,4 @@ fn is_path(path: u8) -> bool
     ensures { result ≡ is_path path }
 {
     1 <= path && path <= PATHS
-}
-
-/// Whether a mask has the bit of a coin place.
-fn has_place(mask: u16, place: u8) -> bool
-    requires low { 1 ≤ place }
-    requires high { place ≤ 16 }
-    ensures { result ≡ has_place mask place }
-{
-    (mask >> (place - 1)) & 1 == 1
 }

@@ -1,15 +1,16 @@
 //! The line of each entry.
 ghost use Rattle.std.specs.Prelude.{◌≡◌, ℕ, ◌+◌, ◌<◌, ◌≤◌, List, [], ◌∷◌, ◌++◌, length, decimal};
-ghost use Rattle.cct_model.specs.declared.entry.Entry.TheVariants.{Accepted, Taken, No, Wire, Balance, Line, JournalLost, Listing};
+ghost use Rattle.cct_model.specs.declared.entry.Entry.TheVariants.{Accepted, Fault, Taken, No, Wire, Balance, Line, JournalLost, Listing};
+ghost use Rattle.cct_model.specs.Lent.{entry_of, fault_of};
 ghost use Rattle.cct_model.specs.Text.{record_fields, fields_of, line_of, kind_field, sum_field};
 ghost use Rattle.cct_text.specs.Joined.{behind, joined};
 
-use crate::commands::{write_command, write_fault, write_reason};
+use crate::commands::{write_command, write_fault, write_fault_on, write_reason};
 use crate::ends::write_end;
 use crate::fields::{write_address, write_number, write_numbers, write_pair, write_piece};
 use crate::records::write_record;
 use crate::text::TextLine;
-use cct_model::{Coin, Command, CommandNo, Entry, LineKind, Record, SumOf, Totals};
+use cct_model::{Coin, Command, CommandNo, Entry, FaultOn, LineKind, Note, Record, SumOf, Totals};
 
 /// Makes the line buffer the line of an entry.
 #[tactic(auto, using(crate::proofs::Texts::joined_is), unfolding(cct_model::specs::Text::line_of))]
@@ -31,6 +32,53 @@ pub(crate) fn write_exchange_line(line: &mut TextLine, addr: u8, sent: &[u8], he
     line.clear();
     write_exchange(line, addr, sent, heard);
     line.push(b"\n");
+}
+
+/// Makes the line buffer the line of a wire fault.
+#[tactic(auto, using(crate::proofs::Texts::joined_is), unfolding(cct_model::specs::Text::line_of))]
+pub(crate) fn write_fault_line(line: &mut TextLine, on: FaultOn, piece: &[u8])
+    requires { length piece.now ≤ 520 }
+    ensures { line.new ≡ line_of (Fault (fault_of on piece.now)) }
+{
+    line.clear();
+    write_fault_on(line, on, piece);
+    line.push(b"\n");
+}
+
+/// Makes the line buffer the line of an entry without a piece.
+#[tactic(auto, using(crate::proofs::Texts::joined_is), unfolding(cct_model::specs::Text::line_of))]
+pub(crate) fn write_note_line(line: &mut TextLine, note: &Note)
+    ensures { line.new ≡ line_of (entry_of note.now) }
+{
+    line.clear();
+    write_note_fields(line, note);
+    line.push(b"\n");
+}
+
+/// Writes the fields of an entry without a piece.
+fn write_note_fields(line: &mut TextLine, note: &Note)
+    requires { line.old ≡ [] }
+    ensures text { line.new ≡ joined 32 (fields_of (entry_of note.now)) }
+    ensures room { length line.new < 3000 }
+{
+    match note {
+        Note::Accepted { addr, coin } => write_accepted(line, *addr, *coin),
+        Note::Inhibited { addr, place } => write_pair(line, b"inhibited", *addr, *place),
+        Note::Alien { addr } => write_address(line, b"alien", *addr),
+        Note::Fell { addr } => write_address(line, b"fell", *addr),
+        Note::NoFall { addr } => write_address(line, b"nofall", *addr),
+        Note::Jammed { addr } => write_address(line, b"jammed", *addr),
+        Note::NoJam { addr } => write_address(line, b"nojam", *addr),
+        Note::Reset { addr } => write_address(line, b"reset", *addr),
+        Note::Taken(command) => write_taken(line, command),
+        Note::No { command, why } => write_refusal(line, command, why),
+        Note::Idle { addr } => write_address(line, b"idle", *addr),
+        Note::Put(entry) => write_journal(line, b"put", entry),
+        Note::Kept(entry) => write_journal(line, b"kept", entry),
+        Note::Crash { records } => write_numbers(line, b"crash", &[u64::from(*records)]),
+        Note::Ended { addr, end } => write_end(line, *addr, end),
+        Note::Balance(totals) => write_balance(line, *totals),
+    }
 }
 
 /// Writes the fields of an entry.

@@ -1,11 +1,11 @@
 //! The line of each entry, worked out by hand from `docs/TRANSCRIPT.md`.
 ghost use Rattle.std.specs.Prelude.{◌≤◌, length};
 
-use crate::{TextLine, put_entry, write_entry, write_wire};
+use crate::{TextLine, put_entry, write_entry, write_fault, write_note, write_wire};
 use cct_edge::MemSink;
 use cct_model::{
-    Coin, Coins, Command, CommandNo, DeviceSet, End, Entry, LineKind, Listed, Piece, Record, Sent,
-    SumOf, Totals, WireFault,
+    Coin, Coins, Command, CommandNo, DeviceSet, End, Entry, FaultOn, LineKind, Listed, Note, Piece,
+    Record, Sent, SumOf, Totals, WireFault,
 };
 use std::alloc::Global;
 use std::test::Fail;
@@ -371,6 +371,61 @@ fn writes_all_others(rt: HostRuntime) -> Result<(), Fail> {
     Ok(())
 }
 
+#[test]
+fn writes_the_notes_of_a_step(rt: HostRuntime) -> Result<(), Fail> {
+    let alloc = rt.alloc();
+    let command = Command::Ident { addr: 2 };
+    let end = End::Told;
+    let cases: [(Note, &[u8]); 16] = [
+        (
+            Note::Accepted {
+                addr: 2,
+                coin: Coin { place: 16, path: 8 },
+            },
+            b"accepted 2 16 8\n",
+        ),
+        (Note::Inhibited { addr: 2, place: 5 }, b"inhibited 2 5\n"),
+        (Note::Alien { addr: 2 }, b"alien 2\n"),
+        (Note::Fell { addr: 3 }, b"fell 3\n"),
+        (Note::NoFall { addr: 3 }, b"nofall 3\n"),
+        (Note::Jammed { addr: 255 }, b"jammed 255\n"),
+        (Note::NoJam { addr: 3 }, b"nojam 3\n"),
+        (Note::Reset { addr: 2 }, b"reset 2\n"),
+        (Note::Taken(command), b"ok ident 2\n"),
+        (
+            Note::No {
+                command,
+                why: CommandNo::Busy,
+            },
+            b"no ident 2 busy\n",
+        ),
+        (Note::Idle { addr: 0 }, b"idle 0\n"),
+        (Note::Put(Record::EpochEnd { addr: 2 }), b"put epochend 2\n"),
+        (
+            Note::Kept(Record::Sold { id: 8, price: 100 }),
+            b"kept sold 8 100\n",
+        ),
+        (Note::Crash { records: 4 }, b"crash 4\n"),
+        (Note::Ended { addr: 2, end }, b"told 2\n"),
+        (
+            Note::Balance(Totals {
+                available: 70,
+                reserved: 20,
+                paid: 10,
+                sold: 5,
+            }),
+            b"balance 70 20 10 5\n",
+        ),
+    ];
+    let mut line = TextLine::new();
+    for (note, wanted) in &cases {
+        let mut sink = MemSink::new(alloc, 4096, vec![in alloc]?)?;
+        write_note(&mut sink, &mut line, note)?;
+        assert_eq!(rt; sink.bytes(), *wanted);
+    }
+    Ok(())
+}
+
 /// One line buffer serves all lines, also behind a put that failed.
 #[test]
 fn lends_one_line(rt: HostRuntime) -> Result<(), Fail> {
@@ -385,7 +440,12 @@ fn lends_one_line(rt: HostRuntime) -> Result<(), Fail> {
     assert!(rt; write_entry(&mut sink, &mut line, &exchange).is_ok());
     assert!(rt; write_entry(&mut sink, &mut line, &Entry::Words).is_err());
     assert!(rt; write_wire(&mut sink, &mut line, 255, &[], &[0x00, 0xAB]).is_ok());
-    let wanted: &[u8] = b"wire 2 020001feff -\nwire 255 - 00ab\n";
+    assert!(rt; write_note(&mut sink, &mut line, &Note::Idle { addr: 2 }).is_ok());
+    for on in [FaultOn::Devices, FaultOn::Host, FaultOn::Whole] {
+        assert!(rt; write_fault(&mut sink, &mut line, on, &[0xC5]).is_ok());
+    }
+    let wanted: &[u8] =
+        b"wire 2 020001feff -\nwire 255 - 00ab\nidle 2\nfault devices c5\nfault host c5\nfault whole c5\n";
     assert_eq!(rt; sink.bytes(), wanted);
     Ok(())
 }

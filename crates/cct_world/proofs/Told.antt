@@ -1,9 +1,12 @@
 -- What a report tells, by what was added to it.
-use Rattle.std.proofs.Common.{◌≡◌, ℕ, List, [], ◌∷◌, ◌++◌, ap, subst, ◌∙◌, Option, Some, None}
+use Rattle.std.proofs.Common.{◌≡◌, ℕ, List, [], ◌∷◌, ◌++◌, ap, subst, ◌∙◌, Option}
 use Rattle.cct_model.specs.declared.entry.Entry.{Entry}
 use Rattle.cct_model.specs.declared.entry.Entry.TheVariants as entry
+use Rattle.cct_model.specs.Lent.{fault_of}
 use Rattle.cct_jobs.specs.declared.job.Job.{Job}
 use Rattle.cct_jobs.specs.declared.job.Need.{Need}
+use Rattle.cct_world.specs.declared.report.OnWire.{OnWire}
+use Rattle.cct_world.specs.declared.report.OnWire.TheVariants as wire
 use Rattle.cct_world.specs.Report.{wire_entries}
 use Rattle.cct_world.specs.Running.{Settles, SettlesScan}
 
@@ -11,9 +14,10 @@ cons_nil : (x : Entry) (xs : List Entry) → x ∷ xs ≡ [] → ⊥
 cons_nil x xs e = cc
 
 -- a report without entries has no others
-pub no_others : (asked : Option ℕ) (sent heard : List ℕ) (others : List Entry) → wire_entries asked sent heard ++ others ≡ [] → others ≡ []
-no_others (Some addr) sent heard others none = absurd (cons_nil (entry.Wire addr sent heard) others none)
-no_others None sent heard others none = none
+pub no_others : (w : OnWire) (sent heard : List ℕ) (others : List Entry) → wire_entries w sent heard ++ others ≡ [] → others ≡ []
+no_others wire.Nothing sent heard others none = none
+no_others (wire.Exchange addr) sent heard others none = absurd (cons_nil (entry.Wire addr sent heard) others none)
+no_others (wire.Fault part) sent heard others none = absurd (cons_nil (entry.Fault (fault_of part heard)) others none)
 
 -- what becomes of a job, after its exchange alone
 pub settles_wire : (n : Need) (job : Job) (addr : ℕ) (kept : Option Job) (sent heard : List ℕ) (others report : List Entry) → others ≡ []

@@ -16,11 +16,11 @@ ghost use Rattle.cct_world.specs.Report.{entries_of};
 ghost use Rattle.cct_world.specs.Running.{is_running, busy_by};
 
 use crate::exchange::{converse, settled};
-use crate::report::Report;
+use crate::report::{OnWire, Report};
 use crate::values::valueless;
 use cct_bus::Bus;
 use cct_jobs::{Job, Need};
-use cct_model::{Command, CommandNo, DeviceBody, DeviceSetup, Entry, EpochState, Record, Setup};
+use cct_model::{Command, CommandNo, DeviceBody, DeviceSetup, EpochState, Note, Record, Setup};
 
 /// The job at the address of a device, and the epoch that is recorded of an acceptor.
 #[derive(Drop)]
@@ -116,7 +116,7 @@ impl<'s> Desk<'s> {
             → Attempts (wires.setup_of bus.old) (device_of self.old) self.new.job self.new.epoch bus.new past (reverse (entries_of report.new)) }
     {
         match self.job.take() {
-            None => report.push(Entry::Idle {
+            None => report.push(Note::Idle {
                 addr: self.device.addr,
             }),
             Some(job) => self.attempt(job, bus, report),
@@ -150,7 +150,9 @@ impl<'s> Desk<'s> {
             → Attempts (wires.setup_of bus.old) (device_of self.old) self.new.job self.new.epoch bus.new past (reverse (entries_of report.new)) }
     {
         let job = converse(bus, job, report);
-        report.asked = Some(self.device.addr);
+        report.wire = OnWire::Exchange {
+            addr: self.device.addr,
+        };
         self.job = settled(job, self.device.addr, report);
     }
 
@@ -164,7 +166,7 @@ impl<'s> Desk<'s> {
             → Attempts (wires.setup_of bus) (device_of self.old) self.new.job self.new.epoch bus past (reverse (entries_of report.new)) }
     {
         self.epoch = epoch_by(&entry, self.epoch);
-        report.push(Entry::Put(entry));
+        report.push(Note::Put(entry));
         self.job = settled(job.was_put(), self.device.addr, report);
     }
 }

@@ -10,7 +10,7 @@ ghost use Rattle.cct_world.specs.Running.{is_polling, is_running, Settles, Settl
 use crate::report::Report;
 use cct_bus::Bus;
 use cct_jobs::{Job, Need};
-use cct_model::Entry;
+use cct_model::Note;
 use cct_msg::encode_request;
 use cct_wire::Link;
 
@@ -24,7 +24,7 @@ pub(crate) fn converse(bus: &mut Bus<'_>, job: Job, report: &mut Report) -> Job
     ensures bus { Exchanges bus.old report.new.sent.items report.new.heard.items bus.new }
     ensures device { HearsAtDevice job report.new.sent.items report.new.heard.items result }
     ensures scan { HearsAtScan job report.new.sent.items report.new.heard.items result }
-    ensures others { report.new.others ≡ report.old.others }
+    ensures notes { report.new.notes ≡ report.old.notes }
 {
     let (sending, job) = job.sending();
     encode_request(sending.kind, sending.to, &sending.request, &mut report.sent);
@@ -42,7 +42,7 @@ pub(crate) fn settled(job: Job, addr: u8, report: &mut Report) -> Option<Job>
         Need::Exchange => Some(job),
         Need::Put(_) => Some(job),
         Need::Done(end) => {
-            report.push(Entry::Ended { addr, end });
+            report.push(Note::Ended { addr, end });
             None
         }
     }
@@ -58,7 +58,7 @@ pub(crate) fn settled_scan(job: Job, report: &mut Report) -> Option<Job>
         Need::Exchange => Some(job),
         Need::Put(_) => None,
         Need::Done(end) => {
-            report.push(Entry::Ended { addr: SCAN, end });
+            report.push(Note::Ended { addr: SCAN, end });
             None
         }
     }

@@ -7,7 +7,7 @@ mod report;
 mod values;
 mod world;
 
-pub use report::Report;
+pub use report::{OnWire, Report};
 pub use world::World;
 
 #[cfg(test)]

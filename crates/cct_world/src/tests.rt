@@ -3,13 +3,14 @@ ghost use Rattle.std.specs.Prelude.{◌≡◌, ◌≤◌, IfSome, IsTrue};
 ghost use Rattle.std.specs.List.{All};
 ghost use Rattle.cct_model.specs.Device.{IsAcceptor, IsPrinting, IsSound, IsSoundBody, IsWord};
 ghost use Rattle.cct_model.specs.Legal.{is_played};
+ghost use Rattle.cct_model.specs.Lent.{step_of};
 ghost use Rattle.cct_model.specs.Script.{IsInRange};
 ghost use Rattle.cct_model.specs.Setup.{IsSoundSetup};
 
 use super::*;
 use cct_model::{
-    CheckKind, Coin, Command, CommandNo, DeviceBody, DeviceSetup, Devices, End, Entry, Name, Piece,
-    Record, Setup, Step, Texts, WireFault,
+    CheckKind, Coin, Command, CommandNo, DeviceBody, DeviceSetup, Devices, End, FaultOn, Name,
+    Note, Record, Setup, StepRef, Texts,
 };
 use std::test::*;
 
@@ -290,47 +291,51 @@ const LOST: [Row; 6] = [
 fn plays(world: &mut World<'_>, report: &mut Report, row: &Row) -> bool {
     let (act, gives, end) = row;
     match step_of(*act) {
-        Some(step) if world.knows(&step) => world.step(&step, report),
+        Some(step) if world.knows(step) => world.step(step, report),
         _ => return false,
     }
     has_given(report, *gives) && ended(report) == *end
 }
 
 /// The step of a row, where it is in range.
-fn step_of(act: Act) -> Option<Step>
-    ensures in_range { IfSome result (λ step. IsInRange step) }
-    ensures played { IfSome result (λ step. IsTrue (is_played step)) }
+fn step_of(act: Act) -> Option<StepRef<'static>>
+    ensures in_range { IfSome result (λ step. IsInRange (step_of step)) }
+    ensures played { IfSome result (λ step. IsTrue (is_played (step_of step))) }
 {
     match act {
         Act::Start(_, 0) => None,
-        Act::Start(addr, mask) => Some(Step::Command(Command::Start { addr, mask })),
-        Act::Round(addr) => Some(Step::Command(Command::Round { addr })),
-        Act::Stop(addr) => Some(Step::Command(Command::Stop { addr })),
-        Act::Ident(addr) => Some(Step::Command(Command::Ident { addr })),
-        Act::Coin(place) if 1 <= place && place <= 16 => Some(Step::Coin { addr: 2, place }),
+        Act::Start(addr, mask) => Some(StepRef::Command(Command::Start { addr, mask })),
+        Act::Round(addr) => Some(StepRef::Command(Command::Round { addr })),
+        Act::Stop(addr) => Some(StepRef::Command(Command::Stop { addr })),
+        Act::Ident(addr) => Some(StepRef::Command(Command::Ident { addr })),
+        Act::Coin(place) if 1 <= place && place <= 16 => Some(StepRef::Coin { addr: 2, place }),
         Act::Coin(_) => None,
-        Act::Alien => Some(Step::Alien { addr: 2 }),
-        Act::Reset => Some(Step::Reset { addr: 2 }),
-        Act::Lose => Some(Step::Fault(WireFault::HostHears(Piece::new()))),
-        Act::Next(addr) => Some(Step::Next { addr }),
+        Act::Alien => Some(StepRef::Alien { addr: 2 }),
+        Act::Reset => Some(StepRef::Reset { addr: 2 }),
+        Act::Lose => Some(StepRef::Fault {
+            on: FaultOn::Host,
+            piece: &[],
+        }),
+        Act::Next(addr) => Some(StepRef::Next { addr }),
     }
 }
 
 /// Whether the first entry of the step is this.
 fn has_given(report: &Report, gives: Gives) -> bool {
-    match (gives, report.others.as_slice()) {
+    match (gives, report.notes.as_slice()) {
         (Gives::Wire(sent, replied), _) => has_exchanged(report, 2, sent, replied),
-        (Gives::Taken, [Entry::Taken(_)]) => true,
-        (Gives::No(wanted), [Entry::No { why, .. }]) => *why == wanted,
-        (Gives::Accepted(place), [Entry::Accepted { addr: 2, coin }]) => {
+        (Gives::Taken, [Note::Taken(_)]) => true,
+        (Gives::No(wanted), [Note::No { why, .. }]) => *why == wanted,
+        (Gives::Accepted(place), [Note::Accepted { addr: 2, coin }]) => {
             *coin == Coin { place, path: 1 }
         }
-        (Gives::Inhibited(wanted), [Entry::Inhibited { addr: 2, place }]) => *place == wanted,
-        (Gives::Alien, [Entry::Alien { addr: 2 }]) => true,
-        (Gives::Reset, [Entry::Reset { addr: 2 }]) => true,
-        (Gives::Fault, [Entry::Fault(_)]) => true,
-        (Gives::Idle, [Entry::Idle { addr: 2 }]) => true,
-        (gives, [Entry::Put(record), ..]) => report.asked.is_none() && has_put(record, gives),
+        (Gives::Inhibited(wanted), [Note::Inhibited { addr: 2, place }]) => *place == wanted,
+        (Gives::Alien, [Note::Alien { addr: 2 }]) => true,
+        (Gives::Reset, [Note::Reset { addr: 2 }]) => true,
+        (Gives::Fault, []) => report.wire == OnWire::Fault(FaultOn::Host),
+        (Gives::Idle, [Note::Idle { addr: 2 }]) => true,
+        (gives, [Note::Put(record), ..]) => report.wire == OnWire::Nothing
+            && has_put(record, gives),
         _ => false,
     }
 }
@@ -364,15 +369,15 @@ fn has_put(record: &Record, gives: Gives) -> bool {
 
 /// Whether the step made just this exchange, the piece heard being the echo and a reply.
 fn has_exchanged(report: &Report, addr: u8, sent: &[u8], replied: &[u8]) -> bool {
-    report.asked == Some(addr)
+    report.wire == OnWire::Exchange { addr }
         && report.sent.as_slice() == sent
         && report.heard.as_slice().strip_prefix(sent) == Some(replied)
 }
 
 /// How a job ended in the step, if one did.
 fn ended(report: &Report) -> Option<End> {
-    match report.others.as_slice() {
-        [.., Entry::Ended { end, .. }] => Some(*end),
+    match report.notes.as_slice() {
+        [.., Note::Ended { end, .. }] => Some(*end),
         _ => None,
     }
 }
@@ -389,10 +394,10 @@ fn a_scan_lists_the_devices_of_both_checks(rt: HostRuntime) -> Result<(), Fail> 
         (b"\x03\x00\x01\xfe\xfe", b""),
         (b"\x03\x00\x81\xfe\x57", b"\x01\x00\x30\x00\x37"),
     ];
-    world.step(&Step::Command(Command::Scan), &mut report);
+    world.step(StepRef::Command(Command::Scan), &mut report);
     for (sent, replied) in polls {
         assert!(rt; ended(&report).is_none());
-        world.step(&Step::Next { addr: 0 }, &mut report);
+        world.step(StepRef::Next { addr: 0 }, &mut report);
         assert!(rt; has_exchanged(&report, 0, sent, replied));
     }
     let Some(End::Listed(listed)) = ended(&report) else {
@@ -452,13 +457,16 @@ fn three_lost_replies_end_a_job(rt: HostRuntime) -> Result<(), Fail> {
     let setup = machine();
     let mut world = World::build(rt.alloc(), &setup)?;
     let mut report = Report::new();
-    world.step(&Step::Command(Command::Ident { addr: 3 }), &mut report);
+    world.step(StepRef::Command(Command::Ident { addr: 3 }), &mut report);
     for tries in 1..=3 {
         world.step(
-            &Step::Fault(WireFault::WholeHeard(Piece::new())),
+            StepRef::Fault {
+                on: FaultOn::Whole,
+                piece: &[],
+            },
             &mut report,
         );
-        world.step(&Step::Next { addr: 3 }, &mut report);
+        world.step(StepRef::Next { addr: 3 }, &mut report);
         assert!(rt;
             ended(&report)
                 == (if tries == 3 {

@@ -2,8 +2,9 @@
 ghost use Rattle.std.specs.Prelude.{◌≡◌, ◌≤◌, ◌==◌, ◌&&◌, ◌-◌, ℕ, List, slice_index_or};
 ghost use Rattle.cct_model.specs.declared.device.DeviceBody.TheVariants as body;
 ghost use Rattle.cct_model.specs.Legal as legal;
-ghost use Rattle.cct_model.specs.Setting.{has_place};
 ghost use Rattle.cct_world.specs.CoinPlaces.{lacks};
+
+use cct_model::has_place;
 
 /// The highest coin place; the lowest is 1.
 const PLACES: u8 = 16;
@@ -28,13 +29,4 @@ fn lacks(values: &[u32; 16], mask: u16, place: u8) -> bool
     ensures { result ≡ lacks values.now mask place }
 {
     has_place(mask, place) && values[place as usize - 1] == 0
-}
-
-/// Whether a mask has a coin place: bit 0 is place 1.
-fn has_place(mask: u16, place: u8) -> bool
-    requires low { 1 ≤ place }
-    requires high { place ≤ 16 }
-    ensures { result ≡ has_place mask place }
-{
-    (mask >> (place - 1)) & 1 == 1
 }

@@ -8,11 +8,12 @@ ghost use Rattle.cct_model.specs.Exchange.{device_at};
 ghost use Rattle.cct_model.specs.Job as model;
 ghost use Rattle.cct_model.specs.Job.{address_of};
 ghost use Rattle.cct_model.specs.Legal.{acceptor_there, at_acceptor, at_device, busy, is_played, is_played_command, refusal, running_refusal, start_refusal, when_free};
-ghost use Rattle.cct_model.specs.Script.{IsInRange, is_known};
+ghost use Rattle.cct_model.specs.Lent as lent;
+ghost use Rattle.cct_model.specs.Lent.{fault_of, step_of};
+ghost use Rattle.cct_model.specs.Script.{IsFault, IsInRange, is_known};
 ghost use Rattle.cct_model.specs.Setup.{IsSoundSetup};
 ghost use Rattle.cct_model.specs.Transcript.{lines_of, scan_lines};
 ghost use Rattle.cct_bus.specs.Bus as wires;
-ghost use Rattle.cct_bus.specs.Fault.{IsShort};
 ghost use Rattle.cct_jobs.specs.Jobs.{IsRunning, MayBegin, sending_of};
 ghost use Rattle.cct_world.specs.Coin.{entry_of};
 ghost use Rattle.cct_world.specs.Desk.{Sits, device_of, devices_of, epoch_at};
@@ -21,11 +22,11 @@ ghost use Rattle.cct_world.specs.Running.{is_polling};
 
 use crate::desk::{Desk, busy_by};
 use crate::exchange::{SCAN, converse, settled_scan};
-use crate::report::Report;
+use crate::report::{OnWire, Report};
 use cct_acceptor::Inserted;
 use cct_bus::Bus;
 use cct_jobs::Job;
-use cct_model::{Command, CommandNo, DeviceSetup, Entry, EpochState, Setup, Step, WireFault};
+use cct_model::{Command, CommandNo, DeviceSetup, EpochState, FaultOn, Note, Setup, StepRef};
 use std::alloc::{AllocError, Global};
 
 /// The machine that a script plays on: the devices on their wire, and the host with a job at each address. Its contracts
@@ -67,45 +68,45 @@ impl<'s> World<'s> {
     }
 
     /// Whether the setup has the device that a step names, and of the kind that the step needs.
-    pub fn knows(&self, step: &Step) -> bool
-        ensures { result ≡ is_known (setup_of self.now) step.now }
+    pub fn knows(&self, step: StepRef<'_>) -> bool
+        ensures { result ≡ is_known (setup_of self.now) (step_of step.entry) }
     {
         match step {
-            Step::Coin { addr, .. } => self.bus.is_acceptor(*addr),
-            Step::Alien { addr } => self.bus.is_acceptor(*addr),
-            Step::Fall { addr } => self.bus.is_hopper(*addr),
-            Step::Jam { addr } => self.bus.is_hopper(*addr),
-            Step::Reset { addr } => self.bus.has_device(*addr),
-            Step::Fault(_) => true,
-            Step::Next { .. } => true,
-            Step::Command(_) => true,
-            Step::Crash { .. } => true,
-            Step::Balance => true,
-            Step::End => true,
+            StepRef::Coin { addr, .. } => self.bus.is_acceptor(addr),
+            StepRef::Alien { addr } => self.bus.is_acceptor(addr),
+            StepRef::Fall { addr } => self.bus.is_hopper(addr),
+            StepRef::Jam { addr } => self.bus.is_hopper(addr),
+            StepRef::Reset { addr } => self.bus.has_device(addr),
+            StepRef::Fault { .. } => true,
+            StepRef::Next { .. } => true,
+            StepRef::Command(_) => true,
+            StepRef::Crash { .. } => true,
+            StepRef::Balance => true,
+            StepRef::End => true,
         }
     }
 
     /// Plays one step. It can't fail; the report is replaced by the entries of the step.
-    pub fn step(&mut self, step: &Step, report: &mut Report)
-        requires known { IsTrue (is_known (setup_of self.old) step.now) }
-        requires in_range { IsInRange step.now }
-        requires played { IsTrue (is_played step.now) }
+    pub fn step(&mut self, step: StepRef<'_>, report: &mut Report)
+        requires known { IsTrue (is_known (setup_of self.old) (step_of step)) }
+        requires in_range { IsInRange (step_of step) }
+        requires played { IsTrue (is_played (step_of step)) }
         ensures setup { setup_of self.new ≡ setup_of self.old }
-        ensures plays { Plays self.old self.new step.now (entries_of report.new) }
+        ensures plays { Plays self.old self.new (step_of step.entry) (entries_of report.new) }
     {
         report.clear();
         match step {
-            Step::Coin { addr, place } => self.coin(*addr, *place, report),
-            Step::Alien { addr } => self.alien(*addr, report),
-            Step::Reset { addr } => self.reset(*addr, report),
-            Step::Fault(fault) => self.fault(fault, report),
-            Step::Command(command) => self.command(*command, report),
-            Step::Next { addr } => self.next(*addr, report),
-            Step::Fall { .. } => unreachable!(),
-            Step::Jam { .. } => unreachable!(),
-            Step::Crash { .. } => unreachable!(),
-            Step::Balance => unreachable!(),
-            Step::End => unreachable!(),
+            StepRef::Coin { addr, place } => self.coin(addr, place, report),
+            StepRef::Alien { addr } => self.alien(addr, report),
+            StepRef::Reset { addr } => self.reset(addr, report),
+            StepRef::Fault { on, piece } => self.fault(on, piece, report),
+            StepRef::Command(command) => self.command(command, report),
+            StepRef::Next { addr } => self.next(addr, report),
+            StepRef::Fall { .. } => unreachable!(),
+            StepRef::Jam { .. } => unreachable!(),
+            StepRef::Crash { .. } => unreachable!(),
+            StepRef::Balance => unreachable!(),
+            StepRef::End => unreachable!(),
         }
     }
 
@@ -119,7 +120,7 @@ impl<'s> World<'s> {
         ensures plays { Plays self.old self.new (step.Coin addr place) (entries_of report.new) }
     {
         let inserted = self.bus.coin(addr, place);
-        report.push(coin_entry(inserted, addr, place));
+        report.push(coin_note(inserted, addr, place));
     }
 
     /// A piece that is no coin falls into an acceptor.
@@ -130,7 +131,7 @@ impl<'s> World<'s> {
         ensures plays { Plays self.old self.new (step.Alien addr) (entries_of report.new) }
     {
         self.bus.alien(addr);
-        report.push(Entry::Alien { addr });
+        report.push(Note::Alien { addr });
     }
 
     /// A device starts again as after power-up.
@@ -141,18 +142,18 @@ impl<'s> World<'s> {
         ensures plays { Plays self.old self.new (step.Reset addr) (entries_of report.new) }
     {
         self.bus.reset(addr);
-        report.push(Entry::Reset { addr });
+        report.push(Note::Reset { addr });
     }
 
     /// The wire has a fault in the next exchange.
-    fn fault(&mut self, fault: &WireFault, report: &mut Report)
-        requires short { IsShort fault.now }
+    fn fault(&mut self, on: FaultOn, piece: &[u8], report: &mut Report)
+        requires in_range { IsFault (fault_of on piece.now) }
         requires report { entries_of report.old ≡ [] }
         ensures setup { setup_of self.new ≡ setup_of self.old }
-        ensures plays { Plays self.old self.new (step.Fault fault.now) (entries_of report.new) }
+        ensures plays { Plays self.old self.new (step.Fault (fault_of on piece.now)) (entries_of report.new) }
     {
-        self.bus.set_fault(same_fault(fault));
-        report.push(Entry::Fault(same_fault(fault)));
+        self.bus.set_fault(on, piece);
+        report.set_fault(on, piece);
     }
 
     /// The operator gives the host a command. A refused one changes nothing.
@@ -165,9 +166,9 @@ impl<'s> World<'s> {
         match self.refusal(&command) {
             None => {
                 self.take(&command);
-                report.push(Entry::Taken(command));
+                report.push(Note::Taken(command));
             }
-            Some(why) => report.push(Entry::No { command, why }),
+            Some(why) => report.push(Note::No { command, why }),
         }
     }
 
@@ -317,7 +318,7 @@ impl<'s> World<'s> {
         if addr == SCAN {
             self.next_scan(report);
         } else {
-            report.push(Entry::Idle { addr });
+            report.push(Note::Idle { addr });
         }
     }
 
@@ -328,7 +329,7 @@ impl<'s> World<'s> {
         ensures polls { (past : List Entry) → StandsFor self.old past → Polls (setup_of self.old) self.new past (entries_of report.new) }
     {
         match self.scan.take() {
-            None => report.push(Entry::Idle { addr: SCAN }),
+            None => report.push(Note::Idle { addr: SCAN }),
             Some(job) => self.poll(job, report),
         }
     }
@@ -342,7 +343,7 @@ impl<'s> World<'s> {
             → Scans (Some job) (model.job (scan_lines past)) → Polls (setup_of self.old) self.new past (entries_of report.new) }
     {
         let job = converse(&mut self.bus, job, report);
-        report.asked = Some(SCAN);
+        report.wire = OnWire::Exchange { addr: SCAN };
         self.scan = settled_scan(job, report);
     }
 
@@ -387,20 +388,12 @@ fn desks_of<'s>(alloc: Global, setups: &'s [DeviceSetup]) -> Result<Vec<Desk<'s>
     }
 }
 
-/// The entry of what becomes of a coin.
-fn coin_entry(inserted: Inserted, addr: u8, place: u8) -> Entry
-    ensures { result ≡ entry_of inserted addr place }
+/// The note of what becomes of a coin.
+fn coin_note(inserted: Inserted, addr: u8, place: u8) -> Note
+    ensures { lent.entry_of result ≡ entry_of inserted addr place }
 {
     match inserted {
-        Inserted::Accepted(coin) => Entry::Accepted { addr, coin },
-        Inserted::Inhibited => Entry::Inhibited { addr, place },
+        Inserted::Accepted(coin) => Note::Accepted { addr, coin },
+        Inserted::Inhibited => Note::Inhibited { addr, place },
     }
-}
-
-/// The same fault.
-fn same_fault(fault: &WireFault) -> WireFault
-    ensures { result ≡ fault.now }
-{
-    let copy: Result<WireFault, AllocError> = fault.clone();
-    copy.unwrap()
 }

@@ -1,8 +1,9 @@
-use Rattle.std.proofs.Common.{◌≤◌, [], refl, sym, ◌∙◌, subst, arith}
+use Rattle.std.proofs.Common.{[], refl, sym, ◌∙◌, subst, arith, lit≤}
 use Rattle.std.specs.Prelude.{IfSome}
 use Rattle.cct_model.specs.Script.{at_setup, at_steps, opens}
+use Rattle.cct_script.specs.Giving.{standing_of}
 use Rattle.cct_bench.specs.Setup.{stage_of}
-use Rattle.cct_bench.specs.Lines.{GoesOn, Came}
+use Rattle.cct_bench.specs.Lines.{IsNext, GoesOn, Came}
 use Rattle.cct_bench.specs.Going.{Going, IsNothing}
 use Rattle.cct_bench.specs.Run.{Played}
 use Rattle.cct_bench.proofs.Going.{going_begin, going_opens, played_stopped}
@@ -13,19 +14,19 @@ loop-number-init g c =
     let left = g.S.Source.left c.args.script.now in
     record {
       going = λ written.
-          subst (λ held. Going left left held 1 (at_setup c.args.setup.now) IsNothing written written) (sym c.requires.lines)
+          subst (λ standing. Going left left standing.held 1 (at_setup c.args.setup.now) IsNothing written written) (sym c.requires.lines)
           (subst (λ setup. Going left left [] 1 (at_setup setup) IsNothing written written) (sym c.requires.setup) (going_begin left written));
       source = refl;
       source_later = omega arith;
-      counted = omega arith;
+      next = subst (IsNext 1) (sym c.requires.lines) (refl, lit≤ tt);
     }
 
 pub returns-in-Ok-Begun-clause-opened : goal.returns-in-Ok-Begun-clause-opened
 returns-in-Ok-Begun-clause-opened g c written =
     let left = g.S.Source.left c.loop-number.script in
     let left1 = g.S.Source.left c.read_opening.new.script in
-    let held = c.loop-number.lines in
-    let rest = c.read_opening.new.lines in
+    let held = (standing_of c.loop-number.lines).held in
+    let rest = (standing_of c.read_opening.new.lines).held in
     let number = c.loop-number.number in
     let stage = at_setup c.loop-number.setup in
     let setup = c.read_opening.new.setup in
@@ -39,7 +40,7 @@ returns-in-Err-clause-ended g c written =
     let stage = at_setup c.loop-number.setup in
     subst (λ how. IfSome left0 (λ bytes. Played bytes how left1 written written)) (sym c.ending_at.ensures)
     (
-    played_stopped left0 (g.S.Source.left c.loop-number.script) left1 c.loop-number.lines c.loop-number.number stage c.in-Err.why IsNothing written written
+    played_stopped left0 (g.S.Source.left c.loop-number.script) left1 (standing_of c.loop-number.lines).held c.loop-number.number stage c.in-Err.why IsNothing written written
     (c.loop-number.invariant.going written) c.in-Err.ensures.stops
     )
 
@@ -47,18 +48,17 @@ pub loop-number-preserved : goal.loop-number-preserved
 loop-number-preserved g c =
     let left = g.S.Source.left c.loop-number.script in
     let left1 = g.S.Source.left c.read_opening.new.script in
-    let held = c.loop-number.lines in
-    let rest = c.read_opening.new.lines in
+    let held = (standing_of c.loop-number.lines).held in
+    let rest = (standing_of c.read_opening.new.lines).held in
     let number = c.loop-number.number in
     let stage = at_setup c.loop-number.setup in
     let setup = c.read_opening.new.setup in
     let runs = c.loop-number.invariant in
     let reads = subst (λ opened. Came held left left1 (λ bytes. GoesOn number stage bytes (opens (stage_of opened setup)) rest)) c.in-Ok-Added.field-0-is c.in-Ok-Added.ensures.reads in
-    let below : number ≤ 1048576 = c.in-Ok-Added.ensures.counted in
     record {
       going = λ written.
           going_opens (g.S.Source.left c.args.script.now) left left1 held rest number stage (at_setup setup) IsNothing written written (runs.going written) reads;
       source = c.in-Ok-Added.ensures.tells ∙ runs.source;
       source_later = omega (arith, runs.source_later, c.in-Ok-Added.ensures.later);
-      counted = omega arith;
+      next = c.in-Ok-Added.ensures.next;
     }

@@ -13,8 +13,8 @@ loop-place-preserved c =
     let inside : i < length now = omega arith in
     elim c.if-place-device.branch [
       | then-place-device w ↦
-          replaces_more device c.args.devices.now now _ i d w.copy_of.result inside c.loop-place.invariant w.devices-is
-          (w.copy_of.ensures ∙ sym (renewed-here device x w.if-place-device.true))
+          replaces_more device c.args.devices.now now _ i d w.copied.result inside c.loop-place.invariant w.devices-is
+          (w.copied.ensures ∙ sym (renewed-here device x w.if-place-device.true))
       | else-place-device w ↦
           replaces_more device c.args.devices.now now _ i d x inside c.loop-place.invariant w.devices-is
           (sym (renewed-there device x w.if-place-device.false))

@@ -3,7 +3,7 @@ use Rattle.std.specs.Io.KnownBytes.{Appends}
 use Rattle.cct_edge.specs.Bytes.{AppendsFront}
 use Rattle.cct_model.specs.Text.{text}
 use Rattle.cct_bench.proofs.Written.{match_both}
-use Rattle.cct_bench.proofs.play.Desk.play.Goals as goal
+use Rattle.cct_bench.proofs.play.Page.play.Goals as goal
 
 pub returns-clause-plays : goal.returns-clause-plays
 returns-clause-plays g c =

@@ -1,7 +1,7 @@
 use Rattle.std.proofs.Common.{◌-◌, ◌^◌, ◌/◌, eqb, ap}
 use Rattle.std.proofs.lemmas.Nat.{and_mask}
 use Rattle.cct_model.specs.Setting.{has_place}
-use Rattle.cct_sorter.proofs.table.has_place.Goals as goal
+use Rattle.cct_model.proofs.coin.has_place.Goals as goal
 
 pub returns : goal.returns
 unfolding has_place
