@@ -1,12 +1,12 @@
 -- The replies of an acceptor.
 use Rattle.std.proofs.Common.{◌≡◌, ℕ, ◌-◌, List, [], get_or, refl}
 use Rattle.std.proofs.lemmas.Option.{unwrap_or-slice_get}
-use Rattle.cct_model.specs.declared.device.DeviceBody.{DeviceBody}
-use Rattle.cct_model.specs.declared.device.DeviceBody.TheVariants as body
-use Rattle.cct_model.specs.declared.request.Request.{Request}
-use Rattle.cct_model.specs.Acceptor.{acceptor_reply, id_at}
-use Rattle.cct_model.specs.Device.{IsAcceptor, own_reply}
-use Rattle.cct_model.specs.History.{Met}
+use Rattle.cct_terms.specs.declared.device.DeviceBody.{DeviceBody}
+use Rattle.cct_terms.specs.declared.device.DeviceBody.TheVariants as body
+use Rattle.cct_terms.specs.declared.request.Request.{Request}
+use Rattle.cct_terms.specs.Acceptor.{acceptor_reply, id_at}
+use Rattle.cct_terms.specs.Device.{IsAcceptor, own_reply}
+use Rattle.cct_terms.specs.History.{Met}
 use Rattle.cct_acceptor.specs.Acceptor.{ids_of, start_of}
 
 -- What an acceptor's kind alone answers, it answers by its start and its identifications.

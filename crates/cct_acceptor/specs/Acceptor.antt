@@ -1,13 +1,13 @@
 -- A coin acceptor that stands for all that it met (ccTalk Generic Specification 4, part 2).
 use Rattle.std.specs.Prelude.{◌≡◌, ℕ, Bool, true, false, List, [], if◌then◌else◌}
-use Rattle.cct_model.specs.declared.device.DeviceBody.{DeviceBody}
-use Rattle.cct_model.specs.declared.device.DeviceBody.TheVariants as body
-use Rattle.cct_model.specs.declared.device.DeviceSetup.{DeviceSetup}
-use Rattle.cct_model.specs.declared.request.Request.{Request}
-use Rattle.cct_model.specs.declared.request.Request.TheVariants.{ResetDevice, SetMask, SetMaster, SetPath, SetDefault}
-use Rattle.cct_model.specs.Acceptor.{accept_count, accepts, events, path_of, settings}
-use Rattle.cct_model.specs.Device.{IsAcceptor}
-use Rattle.cct_model.specs.History.{Met}
+use Rattle.cct_terms.specs.declared.device.DeviceBody.{DeviceBody}
+use Rattle.cct_terms.specs.declared.device.DeviceBody.TheVariants as body
+use Rattle.cct_terms.specs.declared.device.DeviceSetup.{DeviceSetup}
+use Rattle.cct_terms.specs.declared.request.Request.{Request}
+use Rattle.cct_terms.specs.declared.request.Request.TheVariants.{ResetDevice, SetMask, SetMaster, SetPath, SetDefault}
+use Rattle.cct_terms.specs.Acceptor.{accept_count, accepts, events, path_of, settings}
+use Rattle.cct_terms.specs.Device.{IsAcceptor}
+use Rattle.cct_terms.specs.History.{Met}
 use Rattle.cct_ident.specs.Identity.{setup_of}
 use Rattle.cct_ring.specs.Ring as ring
 use Rattle.cct_sorter.specs.Table as sorter

@@ -1,26 +1,23 @@
 //! The coin acceptor as a device (ccTalk Generic Specification 4, part 2).
 ghost use Rattle.std.specs.Prelude.{◌≡◌, ◌<◌, ◌≤◌, ◌^◌, List, [], ◌∷◌, false, true, if◌then◌else◌, Some, IfOk, IfSome, MatchOption};
 ghost use Rattle.std.specs.Option.{option_map};
-ghost use Rattle.cct_model.specs.declared.device.DeviceSetup.{DeviceSetup};
-ghost use Rattle.cct_model.specs.Device.{IsAcceptor, IsSound, reply_of};
-ghost use Rattle.cct_model.specs.Acceptor.{acceptor_reply, id_at, path_of};
-ghost use Rattle.cct_model.specs.Exchange.{answer, answer_to, asks_of};
-ghost use Rattle.cct_model.specs.History.{Met, alien, coin, heard, reset};
-ghost use Rattle.cct_model.specs.Reply.{IsSayable, ack, coin_id, nak, path, reply_shown, text};
-ghost use Rattle.cct_model.specs.Setting.{is_place};
+ghost use Rattle.cct_terms.specs.declared.device.DeviceSetup.{DeviceSetup};
+ghost use Rattle.cct_terms.specs.Device.{IsAcceptor, IsSound, reply_of};
+ghost use Rattle.cct_terms.specs.Acceptor.{acceptor_reply, id_at, path_of};
+ghost use Rattle.cct_terms.specs.Exchange.{answer, answer_to, asks_of};
+ghost use Rattle.cct_terms.specs.History.{Met, alien, coin, heard, reset};
+ghost use Rattle.cct_terms.specs.Reply.{IsSayable, ack, coin_id, nak, path, reply_shown, text};
+ghost use Rattle.cct_terms.specs.Setting.{is_place};
 ghost use Rattle.cct_ident.specs.Identity.{setup_of, text_of};
 
 use crate::hearing::{Asked, listen};
 use arrayvec::ArrayVec;
 use cct_ident::{IdentText, Identity};
-use cct_model::{Coin, DeviceBody, DeviceSetup, Pair, Reply, Request};
 use cct_msg::encode_reply;
 use cct_ring::CreditRing;
-use cct_sorter::CoinTable;
+use cct_sorter::{CoinTable, is_place};
+use cct_terms::{COIN_PLACES, Coin, DeviceBody, DeviceSetup, MOST_SENT, Pair, Reply, Request};
 use std::alloc::{AllocError, Global};
-
-/// The highest coin place; the lowest is 1.
-const PLACES: u8 = 16;
 
 /// The accept counter has three bytes, and starts again at 0 behind its last number.
 const COUNTS: u32 = 1 << 24;
@@ -53,7 +50,7 @@ pub struct Acceptor<'s> {
     setup: &'s DeviceSetup,
     identity: Identity<'s>,
     /// The identifications of its coins, that of place 1 first.
-    ids: &'s [[u8; 6]; 16],
+    ids: &'s [[u8; 6]; COIN_PLACES],
     table: CoinTable,
     ring: CreditRing,
     /// How many coins were accepted, modulo [`COUNTS`].
@@ -90,7 +87,7 @@ impl<'s> Acceptor<'s> {
     /// A coin of a place, 1 to 16, falls in. It is an event either way.
     pub fn insert(&mut self, place: u8) -> Inserted
         requires low { 1 ≤ place }
-        requires high { place ≤ 16 }
+        requires high { place ≤ COIN_PLACES }
         ensures stands { (d : DeviceSetup) (past : List Met) → StandsFor self.old d past
             → StandsFor self.new d (coin place ∷ past) }
         ensures answer { (d : DeviceSetup) (past : List Met) → StandsFor self.old d past
@@ -127,7 +124,7 @@ impl<'s> Acceptor<'s> {
     /// where the acceptor is silent. It is silent to a piece that is no message under its check, to another address, to
     /// a request that no acceptor knows, and to every broadcast but the address poll, which asks nothing at its own
     /// address.
-    pub fn hear(&mut self, piece: &[u8], out: &mut ArrayVec<u8, 260>) -> bool
+    pub fn hear(&mut self, piece: &[u8], out: &mut ArrayVec<u8, MOST_SENT>) -> bool
         ensures stands { (d : DeviceSetup) (past : List Met) → StandsFor self.old d past
             → StandsFor self.new d (heard (asks_of d piece.now) ∷ past) }
         ensures answer { (d : DeviceSetup) (past : List Met) → StandsFor self.old d past
@@ -142,8 +139,8 @@ impl<'s> Acceptor<'s> {
     }
 
     /// Acts on a request of this acceptor, and answers the asker.
-    #[tactic(auto, unfolding(cct_model::specs::Device::reply_of, cct_model::specs::Device::common_reply, cct_model::specs::Acceptor::acceptor_reply), using(crate::proofs::Replies::own_is))]
-    fn answer(&mut self, request: Request, asker: u8, out: &mut ArrayVec<u8, 260>) -> bool
+    #[tactic(auto, unfolding(cct_terms::specs::Device::reply_of, cct_terms::specs::Device::common_reply, cct_terms::specs::Acceptor::acceptor_reply), using(crate::proofs::Replies::own_is))]
+    fn answer(&mut self, request: Request, asker: u8, out: &mut ArrayVec<u8, MOST_SENT>) -> bool
         requires { out.old.items ≡ [] }
         ensures stands { (d : DeviceSetup) (past : List Met) → StandsFor self.old d past
             → StandsFor self.new d (heard (Some request) ∷ past) }
@@ -165,7 +162,7 @@ impl<'s> Acceptor<'s> {
     }
 
     /// Acts on a request, and gives the reply, or none where no acceptor knows the request.
-    #[tactic(auto, unfolding(cct_model::specs::Device::reply_of, cct_model::specs::Device::common_reply, cct_model::specs::Acceptor::acceptor_reply), using(crate::proofs::Replies::own_is))]
+    #[tactic(auto, unfolding(cct_terms::specs::Device::reply_of, cct_terms::specs::Device::common_reply, cct_terms::specs::Acceptor::acceptor_reply), using(crate::proofs::Replies::own_is))]
     fn act(&mut self, request: Request) -> Option<Reply<'s>>
         ensures stands { (d : DeviceSetup) (past : List Met) → StandsFor self.old d past
             → StandsFor self.new d (heard (Some request) ∷ past) }
@@ -197,7 +194,7 @@ impl<'s> Acceptor<'s> {
     }
 
     /// The reply to a request that changes nothing.
-    #[tactic(auto, unfolding(cct_model::specs::Device::reply_of, cct_model::specs::Device::common_reply), using(crate::proofs::Replies::own_is))]
+    #[tactic(auto, unfolding(cct_terms::specs::Device::reply_of, cct_terms::specs::Device::common_reply), using(crate::proofs::Replies::own_is))]
     fn tell(&self, request: Request) -> Option<Reply<'s>>
         ensures answer { (d : DeviceSetup) (past : List Met) → StandsFor self.now d past → is_change request ≡ false
             → option_map reply_shown result ≡ reply_of d past request }
@@ -219,7 +216,7 @@ impl<'s> Acceptor<'s> {
     }
 
     /// The reply to a request for the acceptor's coins that changes nothing.
-    #[tactic(auto, unfolding(cct_model::specs::Acceptor::acceptor_reply))]
+    #[tactic(auto, unfolding(cct_terms::specs::Acceptor::acceptor_reply))]
     fn tell_coins(&self, request: Request) -> Option<Reply<'s>>
         ensures answer { (d : DeviceSetup) (past : List Met) → StandsFor self.now d past → is_change request ≡ false
             → option_map reply_shown result ≡ acceptor_reply (start_of d.body) (ids_of d.body) past request }
@@ -286,13 +283,6 @@ impl<'s> Acceptor<'s> {
             Reply::Nak
         }
     }
-}
-
-/// Whether a coin place is one of an acceptor's.
-fn is_place(place: u8) -> bool
-    ensures { result ≡ is_place place }
-{
-    1 <= place && place <= PLACES
 }
 
 /// The reply to a setting: it was taken, or refused.

@@ -1,17 +1,11 @@
 //! What a piece that a device hears asks of it.
 ghost use Rattle.std.specs.Prelude.{◌≡◌, None, Some, MatchOption};
 ghost use Rattle.cct_frame.specs.Frame.{message_of};
-ghost use Rattle.cct_model.specs.Exchange.{asked_of, asker, asks_of, to_all, to_one};
+ghost use Rattle.cct_terms.specs.Exchange.{asked_of, asker, asks_of, to_all, to_one};
 
 use cct_frame::{FrameView, read};
-use cct_model::{DeviceSetup, Request};
 use cct_msg::read_request;
-
-/// The address of the host, which is answered where a piece names no source.
-const HOST: u8 = 1;
-
-/// The address of all devices.
-const ALL: u8 = 0;
+use cct_terms::{BROADCAST, DeviceSetup, HOST, Request};
 
 /// What a device is asked, and whom it answers.
 #[derive(Clone, Copy, Debug, PartialEq, Eq)]
@@ -22,7 +16,7 @@ pub(crate) struct Asked {
 
 /// What a piece asks of the device of a setup, or nothing where it is no message under the device's check, or none that
 /// asks something of it.
-#[tactic(auto, unfolding(cct_model::specs::Exchange::asks_of, cct_model::specs::Exchange::asker))]
+#[tactic(auto, unfolding(cct_terms::specs::Exchange::asks_of, cct_terms::specs::Exchange::asker))]
 pub(crate) fn listen(setup: &DeviceSetup, piece: &[u8]) -> Option<Asked>
     ensures { MatchOption result (asks_of setup.now piece.now ≡ None)
         (λ asked. (asks_of setup.now piece.now ≡ Some asked.request) × (asker setup.now.kind piece.now ≡ asked.asker)) }
@@ -45,7 +39,7 @@ fn request_in(address: u8, view: &FrameView<'_>) -> Option<Request>
 {
     if view.to == address {
         to_one(read_request(view))
-    } else if view.to == ALL {
+    } else if view.to == BROADCAST {
         to_all(read_request(view))
     } else {
         None

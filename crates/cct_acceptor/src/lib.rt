@@ -5,6 +5,3 @@ mod acceptor;
 mod hearing;
 
 pub use acceptor::{Acceptor, Inserted};
-
-#[cfg(test)]
-mod tests;

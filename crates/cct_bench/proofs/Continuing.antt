@@ -1,22 +1,24 @@
 -- How a script goes on by what the reader of lines answers.
 use Rattle.std.proofs.Common.{◌≡◌, ℕ, ◌+◌, ◌<◌, ◌≤◌, Bool, true, false, ltb, List, [], ◌∷◌, ◌++◌, length, take, drop, Option, None, Some, Result, Ok, Err, refl, ap, sym, ◌∙◌, subst, append_assoc, arith, lit<}
-use Rattle.std.specs.Prelude.{IfSome, if◌then◌else◌, ◌&&◌}
+use Rattle.std.specs.Prelude.{IfSome, IfErr, IsErr, IsErrAnd, if◌then◌else◌, ◌&&◌}
+use Rattle.cct_bench.proofs.Reading.{passes_up}
 use Rattle.std.specs.List.{slice_split, position}
 use Rattle.std.specs.Io.KnownBytes.{IsAtEnd}
 use Rattle.std.proofs.lemmas.Bool.Decides.{nat_tests}
 use Rattle.std.proofs.lemmas.List.{append-nil, length-append}
-use Rattle.cct_model.specs.declared.device.Setup.{Setup}
-use Rattle.cct_model.specs.declared.entry.LineKind.{LineKind}
-use Rattle.cct_model.specs.declared.entry.LineKind.TheVariants as kind
-use Rattle.cct_model.specs.Script.{is_line_feed, Stage, at_end, is_over, setup_at, Read, refuses, read_line, read_form, unfinished, most_lines, stage_after, goes_on, script_from, closed_script}
+use Rattle.cct_model.specs.terms.device.Setup.{Setup}
+use Rattle.cct_model.specs.lines.entry.LineKind.{LineKind}
+use Rattle.cct_model.specs.lines.entry.LineKind.TheVariants as kind
+use Rattle.cct_model.specs.Script.{is_line_feed, Stage, at_end, is_over, setup_at, Read, opens, refuses, read_line, read_form, unfinished, most_lines, stage_after, goes_on, script_from, closed_script}
 use Rattle.cct_script.proofs.Splits.{Begins, split_behind, split_at, split_none, split_some, split_front_none}
 use Rattle.cct_script.specs.Giving.{Standing, Waits, Gives}
 use Rattle.cct_script.specs.Window.{Fills}
 use Rattle.cct_script.specs.declared.lines.LinesNo.{LinesNo}
 use Rattle.cct_script.specs.declared.lines.LinesNo.TheVariants as no
-use Rattle.cct_bench.specs.declared.lines.Stop.{Stop}
-use Rattle.cct_bench.specs.declared.lines.Stop.TheVariants as stop
-use Rattle.cct_bench.specs.Lines.{said_from, IsNext, before_end, behind_end, GoesOn, IsClosed, StopsAt, Came}
+use Rattle.cct_bench.specs.declared.lines.ScriptStop.{ScriptStop}
+use Rattle.cct_bench.specs.declared.lines.ScriptStop.TheVariants as stop
+use Rattle.cct_bench.specs.SetupLines.{OpensLine}
+use Rattle.cct_bench.specs.Lines.{said_from, IsNext, before_end, behind_end, ScriptGoesOn, IsClosed, StopsAt, Came}
 
 -- a whole line, and more lines behind it
 whole_line : (number : ℕ) (stage : Stage) (line : List ℕ) (lines : List (List ℕ)) → Begins lines →
@@ -37,7 +39,7 @@ by_form number stage line going few short =
 
 -- what is read of a line goes on with the script
 line_goes : (number : ℕ) (stage : Stage) (line rest : List ℕ) (read : Read) → is_over stage ≡ false → number ≤ 1048576 → length line ≤ 1200 → position is_line_feed line ≡ None →
-    read_form stage line ≡ read → GoesOn number stage (line ++ 10 ∷ rest) read rest
+    read_form stage line ≡ read → ScriptGoesOn number stage (line ++ 10 ∷ rest) read rest
 line_goes number stage line rest read going few short alone read_is more =
     let parts = slice_split is_line_feed (rest ++ more) in
     let is = by_form number stage line going few short ∙ read_is in
@@ -166,7 +168,7 @@ end_closes number setup [] left none end = closed_at_end number (at_end setup) N
 end_closes number setup (byte ∷ bytes) left none end = cc none
 
 -- what an answer tells a script that hasn't ended: a line that it may have, or that it stops
-abbrev pub Reads : Standing → Standing → Option (List ℕ) → Option (List ℕ) → ℕ → Stage → Result (List ℕ) Stop → Type 0
+abbrev pub Reads : Standing → Standing → Option (List ℕ) → Option (List ℕ) → ℕ → Stage → Result (List ℕ) ScriptStop → Type 0
 Reads old new left_before left number stage (Ok line) =
     (number ≤ 1048576) × (new.given ≡ number) × (length line ≤ 1200) × (position is_line_feed line ≡ None) × Fills old.held (line ++ 10 ∷ new.held) left_before left
 Reads old new left_before left number stage (Err why) = Came old.held left_before left (StopsAt number stage why left)
@@ -192,10 +194,18 @@ reads_before_end old new left_before left (Err no.Cut) number stage going next g
     (cut_closes number stage new.held left going gives.2 gives.4 gives.5 (λ many. absurd (omega (arith, next.0, gives.1, many))))
 reads_before_end old new left_before left (Err no.Read) number stage going next gives = came_by old new left_before left (StopsAt number stage stop.Unread left) gives.0 gives.1
 
-pub answer_reads : (old new : Standing) (left_before left : Option (List ℕ)) (answer : Result (Option (List ℕ)) LinesNo) (number : ℕ) (stage : Stage) (read : Result (List ℕ) Stop) → is_over stage ≡ false →
+pub answer_reads : (old new : Standing) (left_before left : Option (List ℕ)) (answer : Result (Option (List ℕ)) LinesNo) (number : ℕ) (stage : Stage) (read : Result (List ℕ) ScriptStop) → is_over stage ≡ false →
     IsNext number old → Gives old new left_before left answer → before_end answer ≡ read → Reads old new left_before left number stage read
 answer_reads old new left_before left answer number stage read going next gives is =
     subst (Reads old new left_before left number stage) is (reads_before_end old new left_before left answer number stage going next gives)
+
+-- a refusal that is passed up stops the script
+pub stops_up : {T : Type 0} (old new : Standing) (left_before left : Option (List ℕ)) (answer : Result (Option (List ℕ)) LinesNo) (number : ℕ) (stage : Stage) (r : Result T ScriptStop) (why : ScriptStop) →
+    is_over stage ≡ false → IsNext number old → Gives old new left_before left answer → before_end answer ≡ Err why → IsErr r × IsErrAnd r (λ e. e ≡ why) →
+    IfErr r (λ e. Came old.held left_before left (StopsAt number stage e left))
+stops_up old new left_before left answer number stage r why going next gives is passed =
+    subst (λ x. IfErr x (λ e. Came old.held left_before left (StopsAt number stage e left))) (sym (passes_up r why passed))
+    (answer_reads old new left_before left answer number stage (Err why) going next gives is)
 
 -- behind a line that was given comes the next number
 pub given_next : (old new : Standing) (left_before left : Option (List ℕ)) (number : ℕ) (stage : Stage) (line : List ℕ) → Reads old new left_before left number stage (Ok line) → IsNext (number + 1) new
@@ -203,10 +213,16 @@ given_next old new left_before left number stage line reads = (omega (arith, rea
 
 -- a line that was given goes on with the script as its form says
 pub given_goes : (old new : Standing) (left_before left : Option (List ℕ)) (number : ℕ) (stage : Stage) (line : List ℕ) (read : Read) → is_over stage ≡ false →
-    Reads old new left_before left number stage (Ok line) → read_form stage line ≡ read → Came old.held left_before left (λ held. GoesOn number stage held read new.held)
+    Reads old new left_before left number stage (Ok line) → read_form stage line ≡ read → Came old.held left_before left (λ held. ScriptGoesOn number stage held read new.held)
 given_goes old new left_before left number stage line read going reads read_is =
     let fills = reads.4 in
-    (fills.0, fills.2, subst (λ held. GoesOn number stage held read new.held) fills.1 (line_goes number stage line new.held read going reads.0 reads.2 reads.3 read_is))
+    (fills.0, fills.2, subst (λ held. ScriptGoesOn number stage held read new.held) fills.1 (line_goes number stage line new.held read going reads.0 reads.2 reads.3 read_is))
+
+-- a setup line that was given opens what is behind it
+pub given_opens : (old new : Standing) (left_before left : Option (List ℕ)) (number : ℕ) (stage next : Stage) (line : List ℕ) → is_over stage ≡ false →
+    Reads old new left_before left number stage (Ok line) → read_form stage line ≡ opens next → OpensLine number stage next old.held new.held left_before left
+given_opens old new left_before left number stage next line going reads read_is =
+    record { line = line; fills = reads.4; alone = reads.3; reads = by_form number stage line going reads.0 reads.2 ∙ read_is }
 
 -- a line that was given, and is refused, closes the script
 pub given_closes : (old new : Standing) (left_before left : Option (List ℕ)) (number : ℕ) (stage : Stage) (line : List ℕ) (why : LineKind) → is_over stage ≡ false →
@@ -216,7 +232,7 @@ given_closes old new left_before left number stage line why going reads read_is 
     (came.0, came.1, whatever (λ more. said_from number stage ((old.held ++ came.0) ++ more) ≡ closed_script number (setup_at stage) (Some why)) left came.2)
 
 -- what an answer tells behind the line `end`: nothing follows, or the script stops
-abbrev pub Ends : Standing → Option (List ℕ) → Option (List ℕ) → ℕ → Setup → Result (Unit {0}) Stop → Type 0
+abbrev pub Ends : Standing → Option (List ℕ) → Option (List ℕ) → ℕ → Setup → Result (Unit {0}) ScriptStop → Type 0
 Ends old left_before left number setup (Ok done) = Came old.held left_before left (IsClosed number (at_end setup) None left)
 Ends old left_before left number setup (Err why) = Came old.held left_before left (StopsAt number (at_end setup) why left)
 
@@ -238,6 +254,6 @@ reads_behind_end old new left_before left (Err no.Long) number setup gives = tra
 reads_behind_end old new left_before left (Err no.Cut) number setup gives = trails old new left_before left number setup gives.0 gives.3
 reads_behind_end old new left_before left (Err no.Read) number setup gives = came_by old new left_before left (StopsAt number (at_end setup) stop.Unread left) gives.0 gives.1
 
-pub answer_ends : (old new : Standing) (left_before left : Option (List ℕ)) (answer : Result (Option (List ℕ)) LinesNo) (number : ℕ) (setup : Setup) (end : Result (Unit {0}) Stop) →
+pub answer_ends : (old new : Standing) (left_before left : Option (List ℕ)) (answer : Result (Option (List ℕ)) LinesNo) (number : ℕ) (setup : Setup) (end : Result (Unit {0}) ScriptStop) →
     Gives old new left_before left answer → behind_end answer ≡ end → Ends old left_before left number setup end
 answer_ends old new left_before left answer number setup end gives is = subst (Ends old left_before left number setup) is (reads_behind_end old new left_before left answer number setup gives)

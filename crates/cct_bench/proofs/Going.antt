@@ -1,37 +1,37 @@
 -- What a run keeps from line to line, and what it leaves where it stops.
-use Rattle.std.proofs.Common.{◌≡◌, ℕ, ◌+◌, ◌≤◌, List, [], ◌∷◌, ◌++◌, reverse, Option, None, Some, Ok, Err, refl, ap, sym, ◌∙◌, subst, append_assoc, arith}
+use Rattle.std.proofs.Common.{◌≡◌, ℕ, ◌+◌, ◌≤◌, List, [], ◌∷◌, ◌++◌, reverse, Option, None, Some, refl, inr, ap, sym, ◌∙◌, subst, append_assoc, arith}
 use Rattle.std.specs.Prelude.{IfSome}
 use Rattle.std.specs.List.{slice_split, position}
-use Rattle.std.specs.Io.KnownBytes.{Appends, Consumes}
+use Rattle.std.specs.Io.KnownBytes.{Consumes}
 use Rattle.std.proofs.lemmas.List.{append-nil}
-use Rattle.std.proofs.lemmas.List.Concat.{flat_map-append}
-use Rattle.cct_edge.specs.declared.fault.Failed.{Failed}
 use Rattle.cct_edge.specs.Bytes.{TellsAsBefore}
-use Rattle.cct_edge.proofs.Chains.{Consumes-nil, Consumes-trans, Appends-nil, Appends-trans}
-use Rattle.cct_model.specs.declared.device.Setup.{Setup}
-use Rattle.cct_model.specs.declared.command.Step.{Step}
-use Rattle.cct_model.specs.declared.entry.Entry.{Entry}
-use Rattle.cct_model.specs.declared.entry.LineKind.{LineKind}
+use Rattle.cct_edge.proofs.Chains.{Consumes-nil, Consumes-trans}
+use Rattle.cct_model.specs.terms.device.Setup.{Setup}
+use Rattle.cct_model.specs.lines.command.Step.{Step}
+use Rattle.cct_model.specs.lines.entry.Entry.{Entry}
+use Rattle.cct_model.specs.lines.entry.LineKind.{LineKind}
 use Rattle.cct_model.specs.Legal.{Entries, Legal, LegalFrom}
 use Rattle.cct_model.specs.Script.{is_line_feed, Stage, at_setup, at_steps, at_end, no_devices, setup_at, opens, plays, Script, script, closed_script, unfinished}
-use Rattle.cct_model.specs.Text.{line_of, text}
 use Rattle.cct_model.specs.Transcript.{onto}
 use Rattle.cct_laws.specs.Law.{IsSetupOfToday}
 use Rattle.cct_laws.proofs.Scripts.{setup_of_today}
 use Rattle.cct_script.specs.Giving.{Standing}
-use Rattle.cct_bench.specs.declared.lines.Stop.{Stop}
-use Rattle.cct_bench.specs.declared.lines.Stop.TheVariants as stop
+use Rattle.cct_bench.specs.declared.lines.ScriptStop.{ScriptStop}
+use Rattle.cct_bench.specs.declared.lines.ScriptStop.TheVariants as stop
 use Rattle.cct_bench.specs.declared.play.Ending.TheVariants as ending
-use Rattle.cct_bench.specs.Lines.{said_from, IsNext, GoesOn, IsClosed, StopsAt, Came}
-use Rattle.cct_bench.specs.Going.{AlsoSays, Going, IsNothing}
+use Rattle.cct_bench.specs.Lines.{said_from, IsNext, ScriptGoesOn, IsClosed, StopsAt, Came}
+use Rattle.cct_bench.specs.Going.{AlsoSays, Going}
+use Rattle.cct_bench.specs.SetupLines.{TookOpening}
+use Rattle.cct_bench.specs.Writing.{IsNothing, IsJust}
 use Rattle.cct_bench.specs.Playing.{PlaysOn}
-use Rattle.cct_bench.specs.Run.{Played, ending_at}
+use Rattle.cct_bench.specs.declared.play.Ending.{Ending}
+use Rattle.cct_bench.specs.Run.{Played, Stops, ending_at}
 use Rattle.cct_bench.proofs.Continuing.{ended}
 use Rattle.cct_bench.proofs.Staying.{IsDone, setup_stays}
 
-pub going_begin : (left written : Option (List ℕ)) → Going left left [] 1 (at_setup no_devices) IsNothing written written
+pub going_begin : (left : Option (List ℕ)) → Going left left [] 1 (at_setup no_devices) IsNothing IsNothing
 unfolding script
-going_begin left written = record {
+going_begin left = record {
   taken = [];
   played = [];
   transcript = [];
@@ -39,13 +39,13 @@ going_begin left written = record {
   says = λ more. record { setup = refl; steps = refl; refused = refl };
   legal = λ more. refl;
   stands = refl;
-  wrote = Appends-nil written;
+  wrote = refl;
 }
 
 -- a machine that stands for the past takes the place of another
-pub going_stands : (left0 left : Option (List ℕ)) (held : List ℕ) (number : ℕ) (stage : Stage) (Before After : List Entry → Type 0) (old now : Option (List ℕ)) →
-    ((past : List Entry) → Before past → After past) → Going left0 left held number stage Before old now → Going left0 left held number stage After old now
-going_stands left0 left held number stage Before After old now goes g = record {
+pub going_stands : (left0 left : Option (List ℕ)) (held : List ℕ) (number : ℕ) (stage : Stage) (Before After Written : List Entry → Type 0) →
+    ((past : List Entry) → Before past → After past) → Going left0 left held number stage Before Written → Going left0 left held number stage After Written
+going_stands left0 left held number stage Before After Written goes g = record {
   taken = g.taken;
   played = g.played;
   transcript = g.transcript;
@@ -54,6 +54,34 @@ going_stands left0 left held number stage Before After old now goes g = record {
   legal = g.legal;
   stands = goes (onto [] g.transcript) g.stands;
   wrote = g.wrote;
+}
+
+-- so does another way to tell what was written
+pub going_by : (left0 left : Option (List ℕ)) (held : List ℕ) (number : ℕ) (stage : Stage) (Stands Written Written1 : List Entry → Type 0) →
+    ((xs : List Entry) → Written xs → Written1 xs) → Going left0 left held number stage Stands Written → Going left0 left held number stage Stands Written1
+going_by left0 left held number stage Stands Written Written1 goes g = record {
+  taken = g.taken;
+  played = g.played;
+  transcript = g.transcript;
+  consumed = g.consumed;
+  says = g.says;
+  legal = g.legal;
+  stands = g.stands;
+  wrote = goes g.transcript g.wrote;
+}
+
+-- as that these entries were written, and no others
+pub going_just : (left0 left : Option (List ℕ)) (held : List ℕ) (number : ℕ) (stage : Stage) (Stands Written : List Entry → Type 0) →
+    (g : Going left0 left held number stage Stands Written) → Going left0 left held number stage Stands (IsJust g.transcript)
+going_just left0 left held number stage Stands Written g = record {
+  taken = g.taken;
+  played = g.played;
+  transcript = g.transcript;
+  consumed = g.consumed;
+  says = g.says;
+  legal = g.legal;
+  stands = g.stands;
+  wrote = refl;
 }
 
 -- more bytes came, and the line that they make goes on as this
@@ -72,10 +100,10 @@ legal_came : (taken came more : List ℕ) (played : List Step) (transcript : Lis
     Legal (script ((taken ++ came) ++ more)).setup played transcript
 legal_came taken came more played transcript h = subst (λ bytes. Legal (script bytes).setup played transcript) (sym (append_assoc taken came more)) h
 
-pub going_opens : (left0 left left1 : Option (List ℕ)) (held rest : List ℕ) (number : ℕ) (stage next : Stage) (Stands : List Entry → Type 0) (old now : Option (List ℕ)) →
-    Going left0 left held number stage Stands old now → Came held left left1 (λ bytes. GoesOn number stage bytes (opens next) rest) →
-    Going left0 left1 rest (number + 1) next Stands old now
-going_opens left0 left left1 held rest number stage next Stands old now g r = record {
+pub going_opens : (left0 left left1 : Option (List ℕ)) (held rest : List ℕ) (number : ℕ) (stage next : Stage) (Stands Written : List Entry → Type 0) →
+    Going left0 left held number stage Stands Written → Came held left left1 (λ bytes. ScriptGoesOn number stage bytes (opens next) rest) →
+    Going left0 left1 rest (number + 1) next Stands Written
+going_opens left0 left left1 held rest number stage next Stands Written g r = record {
   taken = g.taken ++ r.0;
   played = g.played;
   transcript = g.transcript;
@@ -116,13 +144,13 @@ also_plays whole rest played s h = record { setup = h.setup; steps = h.steps ∙
 -- a step that was read is one that the script says next
 step_says : (taken came held more rest : List ℕ) (number : ℕ) (stage next : Stage) (played : List Step) (s : Step) →
     AlsoSays (script (taken ++ (came ++ more))) played (said_from number stage (held ++ (came ++ more))) →
-    GoesOn number stage (held ++ came) (plays s next) rest → AlsoSays (script ((taken ++ came) ++ more)) (played ++ s ∷ []) (said_from (number + 1) next (rest ++ more))
+    ScriptGoesOn number stage (held ++ came) (plays s next) rest → AlsoSays (script ((taken ++ came) ++ more)) (played ++ s ∷ []) (said_from (number + 1) next (rest ++ more))
 step_says taken came held more rest number stage next played s h r =
     also_plays _ (said_from (number + 1) next (rest ++ more)) played s (also_goes taken came held more number stage played _ h (r more))
 
 -- the script has the setup of its steps, and goes on by legal entries
 step_legal : (taken came held more rest : List ℕ) (number : ℕ) (stage next : Stage) (setup : Setup) (played : List Step) (transcript report : List Entry) (s : Step) →
-    AlsoSays (script (taken ++ (came ++ more))) played (said_from number stage (held ++ (came ++ more))) → GoesOn number stage (held ++ came) (plays s next) rest → IsDone setup next →
+    AlsoSays (script (taken ++ (came ++ more))) played (said_from number stage (held ++ (came ++ more))) → ScriptGoesOn number stage (held ++ came) (plays s next) rest → IsDone setup next →
     Legal (script (taken ++ (came ++ more))).setup played transcript → Entries setup (onto [] transcript) s (reverse report) →
     Legal (script ((taken ++ came) ++ more)).setup (played ++ s ∷ []) (transcript ++ report)
 step_legal taken came held more rest number stage next setup played transcript report s h r done legal entries =
@@ -132,10 +160,11 @@ step_legal taken came held more rest number stage next setup played transcript r
     legal_more (script ((taken ++ came) ++ more)).setup played transcript report s (legal_came taken came more played transcript legal)
     (subst (λ by. Entries by (onto [] transcript) s (reverse report)) same entries)
 
-pub going_plays : (left0 left left1 : Option (List ℕ)) (held rest : List ℕ) (number : ℕ) (stage next : Stage) (setup : Setup) (Before After : List Entry → Type 0) (s : Step) (old now now1 : Option (List ℕ)) →
-    IsDone setup next → Going left0 left held number stage Before old now → Came held left left1 (λ bytes. GoesOn number stage bytes (plays s next) rest) →
-    PlaysOn Before After setup s (Ok tt) now now1 → Going left0 left1 rest (number + 1) next After old now1
-going_plays left0 left left1 held rest number stage next setup Before After s old now now1 done g r p =
+pub going_plays : (left0 left left1 : Option (List ℕ)) (held rest : List ℕ) (number : ℕ) (stage next : Stage) (setup : Setup) (Before After : List Entry → Type 0) (s : Step) (Written WritesThem Written1 : List Entry → Type 0) →
+    IsDone setup next → ((xs ys : List Entry) → Written xs → WritesThem ys → Written1 (xs ++ ys)) → Going left0 left held number stage Before Written →
+    Came held left left1 (λ bytes. ScriptGoesOn number stage bytes (plays s next) rest) → PlaysOn Before After setup s WritesThem →
+    Going left0 left1 rest (number + 1) next After Written1
+going_plays left0 left left1 held rest number stage next setup Before After s Written WritesThem Written1 done more g r p =
     let goes = p.1 (onto [] g.transcript) g.stands in
     record {
       taken = g.taken ++ r.0;
@@ -145,7 +174,7 @@ going_plays left0 left left1 held rest number stage next setup Before After s ol
       says = λ more. step_says g.taken r.0 held more rest number stage next g.played s (g.says (r.0 ++ more)) r.2;
       legal = λ more. step_legal g.taken r.0 held more rest number stage next setup g.played g.transcript p.0 s (g.says (r.0 ++ more)) r.2 done (g.legal (r.0 ++ more)) goes.0;
       stands = subst After (sym (transcript_on g.transcript p.0)) goes.1;
-      wrote = subst (Appends old now1) (sym (flat_map-append line_of g.transcript p.0)) (Appends-trans old now now1 (text g.transcript) (text p.0) g.wrote p.2);
+      wrote = more g.transcript p.0 g.wrote p.2;
     }
 
 -- what was told of the bytes of a script
@@ -169,11 +198,11 @@ legal_of : (bytes taken came rest : List ℕ) (played : List Step) (transcript :
 legal_of bytes taken came rest played transcript took h =
     subst (λ b. Legal (script b).setup played transcript) (sym took) (legal_came taken came rest played transcript h)
 
-pub played_done : (left0 left left1 : Option (List ℕ)) (held : List ℕ) (number : ℕ) (setup : Setup) (Stands : List Entry → Type 0) (old now : Option (List ℕ)) →
-    Going left0 left held number (at_end setup) Stands old now → Came held left left1 (IsClosed number (at_end setup) None left1) →
-    IfSome left0 (λ bytes. Played bytes ending.Done left1 old now)
-played_done None left left1 held number setup Stands old now g r = tt
-played_done (Some bytes) left left1 held number setup Stands old now g r =
+pub played_done : (left0 left left1 : Option (List ℕ)) (held : List ℕ) (number : ℕ) (setup : Setup) (Stands Written : List Entry → Type 0) →
+    (Breaks : List Entry → List Entry → Type 0) → Going left0 left held number (at_end setup) Stands Written →
+    Came held left left1 (IsClosed number (at_end setup) None left1) → IfSome left0 (λ bytes. Played bytes ending.Done left1 Written Breaks)
+played_done None left left1 held number setup Stands Written Breaks g r = tt
+played_done (Some bytes) left left1 held number setup Stands Written Breaks g r =
     let t = told_by bytes left1 (g.taken ++ r.0) (Consumes-trans (Some bytes) left left1 g.taken r.0 g.consumed r.1) in
     let says = closed_says bytes g.taken r.0 held t.0 number (at_end setup) None left1 g.played t.1 t.2 (g.says (r.0 ++ t.0)) r.2 in
     record {
@@ -189,11 +218,11 @@ played_done (Some bytes) left left1 held number setup Stands old now g r =
       stops = ((refl, says.refused, refl), g.wrote);
     }
 
-played_refused : (left0 left left1 : Option (List ℕ)) (held : List ℕ) (number : ℕ) (why : LineKind) (stage : Stage) (Stands : List Entry → Type 0) (old now : Option (List ℕ)) →
-    Going left0 left held number stage Stands old now → Came held left left1 (IsClosed number stage (Some why) left1) →
-    IfSome left0 (λ bytes. Played bytes (ending.Refused number why) left1 old now)
-played_refused None left left1 held number why stage Stands old now g r = tt
-played_refused (Some bytes) left left1 held number why stage Stands old now g r =
+played_refused : (left0 left left1 : Option (List ℕ)) (held : List ℕ) (number : ℕ) (why : LineKind) (stage : Stage) (Stands Written : List Entry → Type 0) →
+    (Breaks : List Entry → List Entry → Type 0) → Going left0 left held number stage Stands Written → Came held left left1 (IsClosed number stage (Some why) left1) →
+    IfSome left0 (λ bytes. Played bytes (ending.Refused number why) left1 Written Breaks)
+played_refused None left left1 held number why stage Stands Written Breaks g r = tt
+played_refused (Some bytes) left left1 held number why stage Stands Written Breaks g r =
     let t = told_by bytes left1 (g.taken ++ r.0) (Consumes-trans (Some bytes) left left1 g.taken r.0 g.consumed r.1) in
     let says = closed_says bytes g.taken r.0 held t.0 number stage (Some why) left1 g.played t.1 t.2 (g.says (r.0 ++ t.0)) r.2 in
     record {
@@ -220,11 +249,11 @@ unread_steps taken came held number stage played h none =
     let says = also_goes taken came held [] number stage played next h e in
     ap (λ bytes. (script bytes).steps) (sym (append-nil (taken ++ came))) ∙ (says.steps ∙ append-nil played)
 
-played_unread : (left0 left left1 : Option (List ℕ)) (held : List ℕ) (number : ℕ) (stage : Stage) (Stands : List Entry → Type 0) (old now : Option (List ℕ)) →
-    Going left0 left held number stage Stands old now → Came held left left1 (λ bytes. position is_line_feed bytes ≡ None) →
-    IfSome left0 (λ bytes. Played bytes ending.Unread left1 old now)
-played_unread None left left1 held number stage Stands old now g r = tt
-played_unread (Some bytes) left left1 held number stage Stands old now g r =
+played_unread : (left0 left left1 : Option (List ℕ)) (held : List ℕ) (number : ℕ) (stage : Stage) (Stands Written : List Entry → Type 0) →
+    (Breaks : List Entry → List Entry → Type 0) → Going left0 left held number stage Stands Written → Came held left left1 (λ bytes. position is_line_feed bytes ≡ None) →
+    IfSome left0 (λ bytes. Played bytes ending.Unread left1 Written Breaks)
+played_unread None left left1 held number stage Stands Written Breaks g r = tt
+played_unread (Some bytes) left left1 held number stage Stands Written Breaks g r =
     let t = told_by bytes left1 (g.taken ++ r.0) (Consumes-trans (Some bytes) left left1 g.taken r.0 g.consumed r.1) in
     let after = said_from number stage ((held ++ r.0) ++ t.0) in
     let says : AlsoSays (script bytes) g.played after =
@@ -243,28 +272,29 @@ played_unread (Some bytes) left left1 held number stage Stands old now g r =
     }
 
 -- a script that is read no further
-pub played_stopped : (left0 left left1 : Option (List ℕ)) (held : List ℕ) (number : ℕ) (stage : Stage) (why : Stop) (Stands : List Entry → Type 0) (old now : Option (List ℕ)) →
-    Going left0 left held number stage Stands old now → Came held left left1 (StopsAt number stage why left1) →
-    IfSome left0 (λ bytes. Played bytes (ending_at number why) left1 old now)
-played_stopped left0 left left1 held number stage stop.Unread Stands old now g r = played_unread left0 left left1 held number stage Stands old now g r
-played_stopped left0 left left1 held number stage (stop.Refused why) Stands old now g r = played_refused left0 left left1 held number why stage Stands old now g r
-
-breaks_text : (transcript report : List Entry) (front rest : List ℕ) → text report ≡ front ++ rest → text ((transcript ++ report) ++ []) ≡ (text transcript ++ front) ++ rest
-breaks_text transcript report front rest e =
-    ap text (append-nil (transcript ++ report))
-    ∙ (flat_map-append line_of transcript report ∙ (ap (λ t. text transcript ++ t) e ∙ sym (append_assoc (text transcript) front rest)))
+pub played_stopped : (left0 left left1 : Option (List ℕ)) (held : List ℕ) (number : ℕ) (stage : Stage) (why : ScriptStop) (Stands Written : List Entry → Type 0) →
+    (Breaks : List Entry → List Entry → Type 0) → Going left0 left held number stage Stands Written → Came held left left1 (StopsAt number stage why left1) →
+    IfSome left0 (λ bytes. Played bytes (ending_at number why) left1 Written Breaks)
+played_stopped left0 left left1 held number stage stop.Unread Stands Written Breaks g r = played_unread left0 left left1 held number stage Stands Written Breaks g r
+played_stopped left0 left left1 held number stage (stop.Refused why) Stands Written Breaks g r = played_refused left0 left left1 held number why stage Stands Written Breaks g r
 
 -- the sink failed within the entries of a step
-pub played_broke : (left0 left left1 : Option (List ℕ)) (held rest : List ℕ) (number : ℕ) (stage next : Stage) (setup : Setup) (Before After : List Entry → Type 0) (s : Step) (failed : Failed) (old now now1 : Option (List ℕ)) →
-    IsDone setup next → Going left0 left held number stage Before old now → Came held left left1 (λ bytes. GoesOn number stage bytes (plays s next) rest) →
-    PlaysOn Before After setup s (Err failed) now now1 → IfSome left0 (λ bytes. Played bytes ending.Unwritten left1 old now1)
-played_broke None left left1 held rest number stage next setup Before After s failed old now now1 done g r p = tt
-played_broke (Some bytes) left left1 held rest number stage next setup Before After s failed old now now1 done g r p =
+pub played_broke : (left0 left left1 : Option (List ℕ)) (held rest : List ℕ) (number : ℕ) (stage next : Stage) (setup : Setup) (Before After : List Entry → Type 0) (s : Step) (Written WritesThem Written1 : List Entry → Type 0) (Breaks : List Entry → List Entry → Type 0) →
+    IsDone setup next → ((xs ys : List Entry) → Written xs → WritesThem ys → Breaks xs ys) → Going left0 left held number stage Before Written →
+    Came held left left1 (λ bytes. ScriptGoesOn number stage bytes (plays s next) rest) → PlaysOn Before After setup s WritesThem →
+    IfSome left0 (λ bytes. Played bytes ending.Unwritten left1 Written1 Breaks)
+played_broke None left left1 held rest number stage next setup Before After s Written WritesThem Written1 Breaks done broke g r p = tt
+played_broke (Some bytes) left left1 held rest number stage next setup Before After s Written WritesThem Written1 Breaks done broke g r p =
     let t = told_by bytes left1 (g.taken ++ r.0) (Consumes-trans (Some bytes) left left1 g.taken r.0 g.consumed r.1) in
     let on = said_from (number + 1) next (rest ++ t.0) in
     let says : AlsoSays (script bytes) (g.played ++ s ∷ []) on =
     subst (λ b. AlsoSays (script b) (g.played ++ s ∷ []) on) (sym t.2) (step_says g.taken r.0 held t.0 rest number stage next g.played s (g.says (r.0 ++ t.0)) r.2) in
     let goes = p.1 (onto [] g.transcript) g.stands in
+    let same : setup ≡ (script bytes).setup =
+    sym (says.setup ∙ setup_stays (number + 1) setup next (slice_split is_line_feed (rest ++ t.0)) done) in
+    let entries : Entries (script bytes).setup (onto [] g.transcript) s (reverse p.0) =
+    subst (λ by. Entries by (onto [] g.transcript) s (reverse p.0)) same goes.0 in
+    let legal = legal_of bytes g.taken r.0 t.0 g.played g.transcript t.2 (g.legal (r.0 ++ t.0)) in
     record {
       taken = g.taken ++ r.0;
       rest = t.0;
@@ -274,34 +304,33 @@ played_broke (Some bytes) left left1 held rest number stage next setup Before Af
       took = t.2;
       left_is = t.1;
       steps_are = says.steps;
-      legal =
-          subst (λ b. Legal (script b).setup (g.played ++ s ∷ []) (g.transcript ++ p.0)) (sym t.2)
-          (step_legal g.taken r.0 held t.0 rest number stage next setup g.played g.transcript p.0 s (g.says (r.0 ++ t.0)) r.2 done (g.legal (r.0 ++ t.0)) goes.0);
+      legal = legal_more (script bytes).setup g.played g.transcript p.0 s legal entries;
       stops = record {
         before = g.played;
         last = s ∷ [];
         whole = g.transcript;
-        front = p.2.0;
-        rest = p.2.1;
+        cut = p.0;
         steps_are = refl;
         one_step = omega arith;
-        legal = legal_of bytes g.taken r.0 t.0 g.played g.transcript t.2 (g.legal (r.0 ++ t.0));
-        text_is = breaks_text g.transcript p.0 p.2.0 p.2.1 p.2.2;
-        wrote = Appends-trans old now now1 (text g.transcript) p.2.0 g.wrote p.2.3;
+        transcript_is = refl;
+        legal = legal;
+        goes_on = (reverse p.0, entries, transcript_on g.transcript p.0);
+        in_one = inr refl;
+        breaks = subst (Breaks g.transcript) (sym (append-nil p.0)) (broke g.transcript p.0 g.wrote p.2);
       };
     }
 
 -- the setup that was read is one of today
-pub going_setup : (left0 left : Option (List ℕ)) (held : List ℕ) (number : ℕ) (setup : Setup) (Stands : List Entry → Type 0) (old now : Option (List ℕ)) →
-    Going left0 left held number (at_steps setup) Stands old now → IsSetupOfToday setup
-going_setup left0 left held number setup Stands old now g =
+pub going_setup : (left0 left : Option (List ℕ)) (held : List ℕ) (number : ℕ) (setup : Setup) (Stands Written : List Entry → Type 0) →
+    Going left0 left held number (at_steps setup) Stands Written → IsSetupOfToday setup
+going_setup left0 left held number setup Stands Written g =
     subst IsSetupOfToday ((g.says []).setup ∙ setup_stays number setup (at_steps setup) (slice_split is_line_feed (held ++ [])) refl) (setup_of_today (g.taken ++ []))
 
 -- there was no memory before the first step
-pub played_none : (left0 left : Option (List ℕ)) (held : List ℕ) (number : ℕ) (stage : Stage) (old : Option (List ℕ)) → Going left0 left held number stage IsNothing old old →
-    IfSome left0 (λ bytes. Played bytes ending.NoMemory left old old)
-played_none None left held number stage old g = tt
-played_none (Some bytes) left held number stage old g =
+pub played_none : (left0 left : Option (List ℕ)) (held : List ℕ) (number : ℕ) (stage : Stage) (Stands Written : List Entry → Type 0) (Breaks : List Entry → List Entry → Type 0) →
+    Written [] → Going left0 left held number stage Stands IsNothing → IfSome left0 (λ bytes. Played bytes ending.NoMemory left Written Breaks)
+played_none None left held number stage Stands Written Breaks wrote g = tt
+played_none (Some bytes) left held number stage Stands Written Breaks wrote g =
     let t = told_by bytes left g.taken g.consumed in
     record {
       taken = g.taken;
@@ -313,12 +342,52 @@ played_none (Some bytes) left held number stage old g =
       left_is = t.1;
       steps_are = refl;
       legal = refl;
-      stops = (refl, Appends-nil old);
+      stops = (refl, wrote);
     }
+
+-- what is told of the writing in another way
+stops_by : (bytes taken : List ℕ) (played unplayed : List Step) (transcript : List Entry) (how : Ending) (Written Written1 : List Entry → Type 0) (Breaks Breaks1 : List Entry → List Entry → Type 0) →
+    ((xs : List Entry) → Written xs → Written1 xs) → ((xs ys : List Entry) → Breaks xs ys → Breaks1 xs ys) →
+    Stops how bytes taken played unplayed transcript Written Breaks → Stops how bytes taken played unplayed transcript Written1 Breaks1
+stops_by bytes taken played unplayed transcript ending.Done Written Written1 Breaks Breaks1 w b h = (h.0, w transcript h.1)
+stops_by bytes taken played unplayed transcript (ending.Refused number kind) Written Written1 Breaks Breaks1 w b h = (h.0, w transcript h.1)
+stops_by bytes taken played unplayed transcript ending.Unread Written Written1 Breaks Breaks1 w b h = (h.0, w transcript h.1)
+stops_by bytes taken played unplayed transcript ending.Unwritten Written Written1 Breaks Breaks1 w b h = record {
+  before = h.before;
+  last = h.last;
+  whole = h.whole;
+  cut = h.cut;
+  steps_are = h.steps_are;
+  one_step = h.one_step;
+  transcript_is = h.transcript_is;
+  legal = h.legal;
+  goes_on = h.goes_on;
+  in_one = h.in_one;
+  breaks = b h.whole (h.cut ++ []) h.breaks;
+}
+stops_by bytes taken played unplayed transcript ending.NoMemory Written Written1 Breaks Breaks1 w b h = (h.0, w [] h.1)
+
+pub played_by : (left0 left : Option (List ℕ)) (how : Ending) (Written Written1 : List Entry → Type 0) (Breaks Breaks1 : List Entry → List Entry → Type 0) →
+    ((xs : List Entry) → Written xs → Written1 xs) → ((xs ys : List Entry) → Breaks xs ys → Breaks1 xs ys) →
+    IfSome left0 (λ bytes. Played bytes how left Written Breaks) → IfSome left0 (λ bytes. Played bytes how left Written1 Breaks1)
+played_by None left how Written Written1 Breaks Breaks1 w b p = tt
+played_by (Some bytes) left how Written Written1 Breaks Breaks1 w b p = record {
+  taken = p.taken;
+  rest = p.rest;
+  played = p.played;
+  unplayed = p.unplayed;
+  transcript = p.transcript;
+  took = p.took;
+  left_is = p.left_is;
+  steps_are = p.steps_are;
+  legal = p.legal;
+  stops = stops_by bytes p.taken p.played p.unplayed p.transcript how Written Written1 Breaks Breaks1 w b p.stops;
+}
 
 -- what the loop over the setup lines keeps
 pub record Opens (left0 left : Option (List ℕ)) (faults0 faults : ℕ) (standing : Standing) (number : ℕ) (setup : Setup) : Type 0 where
-  pub going : (written : Option (List ℕ)) → Going left0 left standing.held number (at_setup setup) IsNothing written written
+  pub going : Going left0 left standing.held number (at_setup setup) IsNothing IsNothing
+  pub opening : TookOpening left0 left standing.held number (at_setup setup)
   pub source : TellsAsBefore left0 left
   pub source_later : faults0 ≤ faults
   pub next : IsNext number standing

@@ -2,7 +2,8 @@ pub mod Continuing
 pub mod Fields
 pub mod Reading
 pub mod Staying
-pub mod Written
+pub mod SetupLines
+pub mod Writing
 pub mod Going
 pub mod Closing
 pub mod Words

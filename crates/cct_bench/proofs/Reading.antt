@@ -1,21 +1,19 @@
 -- What a whole line is to a script, by its word, its form and what it adds.
 use Rattle.std.proofs.Common.{◌≡◌, ℕ, true, false, List, Option, None, Some, Result, Ok, Err, refl, sym, ap, ◌∙◌, subst}
-use Rattle.std.specs.Prelude.{IfSome, IfOk, MatchResult, IsTrue}
-use Rattle.cct_model.specs.declared.device.Setup.{Setup}
-use Rattle.cct_model.specs.declared.device.SetupLine.{SetupLine}
-use Rattle.cct_model.specs.declared.device.SetupLine.TheVariants as says
-use Rattle.cct_model.specs.declared.command.Step.{Step}
-use Rattle.cct_model.specs.declared.entry.LineKind.{LineKind}
-use Rattle.cct_model.specs.declared.entry.LineKind.TheVariants as kind
+use Rattle.std.specs.Prelude.{IfOk, MatchResult, IsTrue, IsErr, IsErrAnd}
+use Rattle.cct_model.specs.terms.device.Setup.{Setup}
+use Rattle.cct_model.specs.lines.setup.SetupLine.{SetupLine}
+use Rattle.cct_model.specs.lines.setup.SetupLine.TheVariants as says
+use Rattle.cct_model.specs.lines.command.Step.{Step}
+use Rattle.cct_model.specs.lines.entry.LineKind.{LineKind}
+use Rattle.cct_model.specs.lines.entry.LineKind.TheVariants as kind
 use Rattle.cct_model.specs.Grammar.{setup_line, step_line, added}
-use Rattle.cct_model.specs.Script.{word_of, is_setup_word, is_step_word, at_setup, at_steps, Read, opens, refuses, opened, read_setup_line, read_step_line, read_form, IsInRange}
+use Rattle.cct_model.specs.Script.{word_of, is_setup_word, is_step_word, is_known, at_setup, at_steps, Read, opens, plays, refuses, opened, read_known, read_setup_line, read_step_line, read_form, IsInRange}
 use Rattle.cct_model.specs.Legal.{is_played}
-use Rattle.cct_model.specs.declared.command.Step.TheVariants as step
+use Rattle.cct_model.specs.lines.command.Step.TheVariants as step
+use Rattle.cct_bench.specs.declared.opening.Opened.{Opened}
 use Rattle.cct_bench.specs.Setup.{stage_of, opened_by}
-use Rattle.std.specs.Option.{option_map}
-use Rattle.cct_model.specs.declared.command.StepRef.{StepRef}
-use Rattle.cct_model.specs.Lent.{step_of}
-use Rattle.cct_bench.specs.Playing.{read_as, IsFound, CanPlay}
+use Rattle.cct_bench.specs.Playing.{is_end, read_as, CanPlay}
 use Rattle.cct_laws.proofs.Said.{IfSaid, IsToday, step_said}
 
 -- a word that is no setup word of today
@@ -58,6 +56,19 @@ pub setup_adds_not : (setup : Setup) (line : List ℕ) (said : SetupLine) (why :
     added setup said ≡ Err why → read_form (at_setup setup) line ≡ refuses why
 setup_adds_not setup line said why today e not_added = setup_form setup line today ∙ (ap (read_setup_line setup) e ∙ added_refuses setup said why not_added)
 
+-- an error that is passed up is the one that came
+pub passes_up : {T E : Type 0} (r : Result T E) (why : E) → IsErr r × IsErrAnd r (λ e. e ≡ why) → r ≡ Err why
+passes_up (Ok x) why h = absurd h.1
+passes_up (Err e) why h = ap Err h.1
+
+-- a setup line that is refused for what is passed up
+pub setup_passes : (setup new : Setup) (line : List ℕ) (r : Result Opened LineKind) (why : LineKind) → IsErr r × IsErrAnd r (λ e. e ≡ why) →
+    read_form (at_setup setup) line ≡ refuses why →
+    MatchResult r (λ opened. read_form (at_setup setup) line ≡ opens (stage_of opened new)) (λ e. read_form (at_setup setup) line ≡ refuses e)
+setup_passes setup new line r why h refused =
+    subst (λ x. MatchResult x (λ opened. read_form (at_setup setup) line ≡ opens (stage_of opened new)) (λ e. read_form (at_setup setup) line ≡ refuses e))
+    (sym (passes_up r why h)) refused
+
 -- a word that is no step word of today
 pub other_step_word : (setup : Setup) (line : List ℕ) → is_step_word (word_of line) ≡ false → read_form (at_steps setup) line ≡ refuses kind.Word
 unfolding read_form
@@ -69,33 +80,43 @@ pub step_form : (setup : Setup) (line : List ℕ) (read : Read) → is_step_word
 unfolding read_form
 step_form setup line read today e = rw today e
 
--- a step of today that is read, and is no end
-of_today : (setup : Setup) (s : Step) → read_step_line setup (Ok s) ≡ read_as setup (Some s) → IsToday s → IsInRange s × IsTrue (is_played s)
-of_today setup (step.Coin addr place) e today = (today, refl)
-of_today setup (step.Alien addr) e today = (tt, refl)
-of_today setup (step.Reset addr) e today = (tt, refl)
-of_today setup (step.Fault f) e today = (today.0, refl)
-of_today setup (step.Next addr) e today = (tt, refl)
-of_today setup (step.Command c) e today = (today.1, today.0)
-of_today setup step.End e today = cc e
-of_today setup s e today = absurd today
+-- a step whose device is there is played
+known_plays : (setup : Setup) (s : Step) → is_known setup s ≡ true → read_known setup s ≡ plays s (at_steps setup)
+known_plays setup s known = rw known refl
 
-can_play : (setup : Setup) (line : List ℕ) (s : Step) (r : Option StepRef) → is_step_word (word_of line) ≡ true → step_line line ≡ Ok s →
-    read_step_line setup (Ok s) ≡ read_as setup (option_map step_of r) → IfSome r (λ x. IsFound setup s (step_of x)) → IfSome r (λ x. CanPlay setup (step_of x))
-can_play setup line s None today e reads found = tt
-can_play setup line s (Some x) today e reads found =
-    let plays = of_today setup s (reads ∙ ap (λ y. read_as setup (Some y)) found.same) (subst (IfSaid IsToday) e (step_said line today)) in
-    subst (CanPlay setup) (sym found.same) (record { in_range = plays.0; known = found.known; played = plays.1 })
+known_reads : (setup : Setup) (s : Step) → is_known setup s ≡ true → read_step_line setup (Ok s) ≡ read_as setup s
+known_reads setup step.End known = refl
+known_reads setup s known = known_plays setup s known
 
--- the same of what the line says, or why it is refused
-pub step_reads : (setup : Setup) (line : List ℕ) (s : Step) (r : Result (Option StepRef) LineKind) → is_step_word (word_of line) ≡ true → step_line line ≡ Ok s →
-    MatchResult r (λ said. read_step_line setup (Ok s) ≡ read_as setup (option_map step_of said)) (λ why. read_step_line setup (Ok s) ≡ refuses why) →
-    MatchResult r (λ said. read_form (at_steps setup) line ≡ read_as setup (option_map step_of said)) (λ why. read_form (at_steps setup) line ≡ refuses why)
-step_reads setup line s (Ok r) today e reads = step_form setup line (read_as setup (option_map step_of r)) today (ap (read_step_line setup) e ∙ reads)
-step_reads setup line s (Err why) today e reads = step_form setup line (refuses why) today (ap (read_step_line setup) e ∙ reads)
+-- and one whose device isn't is refused
+known_refuses : (setup : Setup) (s : Step) → is_known setup s ≡ false → read_known setup s ≡ refuses kind.Device
+known_refuses setup s unknown = rw unknown refl
 
-pub found_can_play : (setup : Setup) (line : List ℕ) (s : Step) (r : Result (Option StepRef) LineKind) → is_step_word (word_of line) ≡ true → step_line line ≡ Ok s →
-    MatchResult r (λ said. read_step_line setup (Ok s) ≡ read_as setup (option_map step_of said)) (λ why. read_step_line setup (Ok s) ≡ refuses why) →
-    IfOk r (λ said. IfSome said (λ x. IsFound setup s (step_of x))) → IfOk r (λ said. IfSome said (λ x. CanPlay setup (step_of x)))
-found_can_play setup line s (Ok r) today e reads is = can_play setup line s r today e reads is
-found_can_play setup line s (Err why) today e reads is = tt
+unknown_reads : (setup : Setup) (s : Step) → is_known setup s ≡ false → read_step_line setup (Ok s) ≡ refuses kind.Device
+unknown_reads setup step.End unknown = cc unknown
+unknown_reads setup s unknown = known_refuses setup s unknown
+
+pub step_unknown : (setup : Setup) (line : List ℕ) (s : Step) → is_step_word (word_of line) ≡ true → step_line line ≡ Ok s → is_known setup s ≡ false →
+    read_form (at_steps setup) line ≡ refuses kind.Device
+step_unknown setup line s today says unknown = step_form setup line (refuses kind.Device) today (ap (read_step_line setup) says ∙ unknown_reads setup s unknown)
+
+-- what a step line says
+pub step_reads : (setup : Setup) (line : List ℕ) (s : Step) → is_step_word (word_of line) ≡ true → step_line line ≡ Ok s → is_known setup s ≡ true →
+    read_form (at_steps setup) line ≡ read_as setup s
+step_reads setup line s today says known = step_form setup line (read_as setup s) today (ap (read_step_line setup) says ∙ known_reads setup s known)
+
+-- a step of today that is no end
+of_today : (s : Step) → is_end s ≡ false → IsToday s → IsInRange s × IsTrue (is_played s)
+of_today (step.Coin addr place) e today = (today, refl)
+of_today (step.Alien addr) e today = (tt, refl)
+of_today (step.Reset addr) e today = (tt, refl)
+of_today (step.Fault f) e today = (today.0, refl)
+of_today (step.Next addr) e today = (tt, refl)
+of_today (step.Command c) e today = (today.1, today.0)
+of_today step.End e today = cc e
+of_today s e today = absurd today
+
+pub step_can : (setup : Setup) (line : List ℕ) (s : Step) → is_step_word (word_of line) ≡ true → step_line line ≡ Ok s → is_known setup s ≡ true → is_end s ≡ false → CanPlay setup s
+step_can setup line s today says known going =
+    let plays = of_today s going (subst (IfSaid IsToday) says (step_said line today)) in
+    record { in_range = plays.0; known = known; played = plays.1 }

@@ -1,11 +1,10 @@
 -- What a run keeps from line to line.
 use Rattle.std.specs.Prelude.{◌≡◌, ℕ, List, [], ◌++◌, Option, ⊤}
-use Rattle.std.specs.Io.KnownBytes.{Appends, Consumes}
-use Rattle.cct_model.specs.declared.command.Step.{Step}
-use Rattle.cct_model.specs.declared.entry.Entry.{Entry}
+use Rattle.std.specs.Io.KnownBytes.{Consumes}
+use Rattle.cct_model.specs.lines.command.Step.{Step}
+use Rattle.cct_model.specs.lines.entry.Entry.{Entry}
 use Rattle.cct_model.specs.Legal.{Legal}
 use Rattle.cct_model.specs.Script.{Stage, Script, script}
-use Rattle.cct_model.specs.Text.{text}
 use Rattle.cct_model.specs.Transcript.{onto}
 use Rattle.cct_bench.specs.Lines.{said_from}
 
@@ -16,8 +15,8 @@ pub record AlsoSays (whole : Script) (played : List Step) (rest : Script) : Type
   pub refused : whole.refused ≡ rest.refused
 
 -- What was taken and played so far: whatever follows, the script says these steps and what the lines from here on say,
--- and the entries are those of these steps.
-pub record Going (left0 left : Option (List ℕ)) (held : List ℕ) (number : ℕ) (stage : Stage) (Stands : List Entry → Type 0) (old now : Option (List ℕ)) : Type 0 where
+-- and the entries are those of these steps; the machine stands for them, and they were written.
+pub record Going (left0 left : Option (List ℕ)) (held : List ℕ) (number : ℕ) (stage : Stage) (Stands Written : List Entry → Type 0) : Type 0 where
   pub taken : List ℕ
   pub played : List Step
   pub transcript : List Entry
@@ -25,11 +24,7 @@ pub record Going (left0 left : Option (List ℕ)) (held : List ℕ) (number : �
   pub says : (more : List ℕ) → AlsoSays (script (taken ++ more)) played (said_from number stage (held ++ more))
   pub legal : (more : List ℕ) → Legal (script (taken ++ more)).setup played transcript
   pub stands : Stands (onto [] transcript)
-  pub wrote : Appends old now (text transcript)
-
--- Nothing was played.
-abbrev pub IsNothing : List Entry → Type 0
-IsNothing past = past ≡ []
+  pub wrote : Written transcript
 
 -- Whatever was played.
 abbrev pub IsAnything : List Entry → Type 0

@@ -3,14 +3,14 @@ use Rattle.std.specs.Prelude.{◌≡◌, ℕ, ◌+◌, ◌≤◌, List, ◌++◌
 use Rattle.std.specs.Borrow.{Bor}
 use Rattle.std.specs.List.{slice_split, position}
 use Rattle.std.specs.Io.KnownBytes.{Consumes}
-use Rattle.cct_model.specs.declared.entry.LineKind.{LineKind}
-use Rattle.cct_model.specs.declared.entry.LineKind.TheVariants as kind
+use Rattle.cct_model.specs.lines.entry.LineKind.{LineKind}
+use Rattle.cct_model.specs.lines.entry.LineKind.TheVariants as kind
 use Rattle.cct_model.specs.Script.{is_line_feed, Stage, setup_at, Read, stage_after, goes_on, Script, script_from, closed_script}
 use Rattle.cct_script.specs.declared.lines.LinesNo.{LinesNo}
 use Rattle.cct_script.specs.declared.lines.LinesNo.TheVariants as no
 use Rattle.cct_script.specs.Giving.{Standing}
-use Rattle.cct_bench.specs.declared.lines.Stop.{Stop}
-use Rattle.cct_bench.specs.declared.lines.Stop.TheVariants as stop
+use Rattle.cct_bench.specs.declared.lines.ScriptStop.{ScriptStop}
+use Rattle.cct_bench.specs.declared.lines.ScriptStop.TheVariants as stop
 
 -- What the lines from this number on say.
 abbrev pub said_from : ℕ → Stage → List ℕ → Script
@@ -21,7 +21,7 @@ abbrev pub IsNext : ℕ → Standing → Type 0
 IsNext number standing = (number ≡ standing.given + 1) × (number ≤ 1048577)
 
 -- What an answer is to a script that hasn't ended: the line that is read next, or why it is read no further.
-abbrev pub before_end : Result (Option (List ℕ)) LinesNo → Result (List ℕ) Stop
+abbrev pub before_end : Result (Option (List ℕ)) LinesNo → Result (List ℕ) ScriptStop
 before_end (Ok (Some line)) = Ok line
 before_end (Ok None) = Err (stop.Refused kind.Cut)
 before_end (Err no.Cut) = Err (stop.Refused kind.Cut)
@@ -30,19 +30,19 @@ before_end (Err no.TooMany) = Err (stop.Refused kind.Lines)
 before_end (Err no.Read) = Err stop.Unread
 
 -- What an answer is behind the line `end`, where nothing may follow.
-abbrev pub behind_end : Result (Option (List ℕ)) LinesNo → Result (Unit {0}) Stop
+abbrev pub behind_end : Result (Option (List ℕ)) LinesNo → Result (Unit {0}) ScriptStop
 behind_end (Ok None) = Ok tt
 behind_end (Err no.Read) = Err stop.Unread
 behind_end answer = Err (stop.Refused kind.Trailing)
 
 -- The bytes of a line that is read.
-abbrev pub read_of : Result (Bor (List ℕ)) Stop → Result (List ℕ) Stop
+abbrev pub read_of : Result (Bor (List ℕ)) ScriptStop → Result (List ℕ) ScriptStop
 read_of (Ok line) = Ok line.now
 read_of (Err why) = Err why
 
 -- The first line of these bytes is this to the script, and the bytes behind it are the rest, whatever follows.
-abbrev pub GoesOn : ℕ → Stage → List ℕ → Read → List ℕ → Type 0
-GoesOn number stage held read rest =
+abbrev pub ScriptGoesOn : ℕ → Stage → List ℕ → Read → List ℕ → Type 0
+ScriptGoesOn number stage held read rest =
     (more : List ℕ) → said_from number stage (held ++ more) ≡ goes_on number stage read (said_from (number + 1) (stage_after stage read) (rest ++ more))
 
 -- The script says no more from here on, with these bytes and those to come: it has ended, or a line is refused.
@@ -50,7 +50,7 @@ abbrev pub IsClosed : ℕ → Stage → Option LineKind → Option (List ℕ) �
 IsClosed number stage why left held = IfSome left (λ more. said_from number stage (held ++ more) ≡ closed_script number (setup_at stage) why)
 
 -- Why these bytes are read no further: no line is whole yet, or the first line is refused.
-abbrev pub StopsAt : ℕ → Stage → Stop → Option (List ℕ) → List ℕ → Type 0
+abbrev pub StopsAt : ℕ → Stage → ScriptStop → Option (List ℕ) → List ℕ → Type 0
 StopsAt number stage stop.Unread left held = position is_line_feed held ≡ None
 StopsAt number stage (stop.Refused why) left held = IsClosed number stage (Some why) left held
 

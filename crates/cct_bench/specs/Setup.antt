@@ -1,7 +1,7 @@
 -- The setup of a script that is read.
-use Rattle.cct_model.specs.declared.device.Setup.{Setup}
-use Rattle.cct_model.specs.declared.device.SetupLine.{SetupLine}
-use Rattle.cct_model.specs.declared.device.SetupLine.TheVariants as says
+use Rattle.cct_model.specs.terms.device.Setup.{Setup}
+use Rattle.cct_model.specs.lines.setup.SetupLine.{SetupLine}
+use Rattle.cct_model.specs.lines.setup.SetupLine.TheVariants as says
 use Rattle.cct_model.specs.Script.{Stage, at_setup, at_steps}
 use Rattle.cct_bench.specs.declared.opening.Opened.{Opened}
 use Rattle.cct_bench.specs.declared.opening.Opened.TheVariants.{Added, Begun}

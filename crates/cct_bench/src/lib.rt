@@ -1,12 +1,16 @@
 //! The bench: plays a script over the machine, and writes the transcript.
 #![tactic(auto)]
 
-ghost use Rattle.std.specs.Prelude.{◌≡◌, ◌↔◌, [], ◌∷◌, IsTrue, IfSome};
+ghost use Rattle.std.specs.Prelude.{◌≡◌, ◌≤◌, ◌⊎◌, ◌↔◌, [], ◌∷◌, IsTrue, IfSome, Result};
+ghost use Rattle.cct_edge.specs.Bytes.{TellsAsBefore};
+ghost use Rattle.cct_edge.specs.declared.fault.Failed.{Failed};
 ghost use Rattle.cct_edge.specs.Faults.{Rose};
-ghost use Rattle.cct_model.specs.declared.entry.Entry.TheVariants.{Words};
+ghost use Rattle.cct_model.specs.lines.entry.Entry.TheVariants.{Words};
 ghost use Rattle.cct_model.specs.Script.{script as script_in};
 ghost use Rattle.cct_model.specs.Text.{line_of};
-ghost use Rattle.cct_bench.specs.Run.{IsRun, Ran, ClosedBy, Completes};
+ghost use Rattle.cct_bench.specs.SetupLines.{TookSetup};
+ghost use Rattle.cct_bench.specs.Writing.{Wrote, Broke};
+ghost use Rattle.cct_bench.specs.Run.{IsRun, Ran, ClosedBy, status_by, Completes};
 
 use cct_edge::{Sink, Source};
 use cct_model::Entry;
@@ -36,18 +40,32 @@ pub fn bench<S: Source, K: Sink>(
 ) -> Status
     // With the word `run`: what was taken, played and written, and that over an honest wire the posts of
     // each device are in order and cover its coins.
-    ensures ran { IsRun words.now → IfSome (S.left script.old)
-        (λ bytes. Ran bytes result (S.left script.new) (K.written out.old) (K.written out.new)) }
+    ensures ran { IsRun words.now → IfSome (S.left script.old) (λ bytes. Ran bytes result (S.left script.new)
+        (Wrote K.written K.puts out.old out.new) (Broke K.written K.puts out.old out.new)) }
 
     // Other words are refused, and no byte of the script is taken.
     ensures words { (IsRun words.now → ⊥) →
         ClosedBy result Status.WordsRefused (line_of Words) (K.written out.old) (K.written out.new) × (script.new ≡ script.old) }
+
+    // They are told by one put.
+    ensures words_put { (IsRun words.now → ⊥) → (answer : Result (Unit {0}) Failed)
+        × K.puts out.old (line_of Words) answer out.new × (result ≡ status_by answer Status.WordsRefused) }
 
     // Each status has its cause.
     ensures read_cause { result ≡ Status.ReadFault → Rose (S.faults script.old) (S.faults script.new) }
     ensures write_cause { result ≡ Status.WriteFault → Rose (K.faults out.old) (K.faults out.new) }
     ensures words_cause { result ≡ Status.WordsRefused → IsRun words.now → ⊥ }
     ensures memory_cause { result ≡ Status.OutOfMemory → out.new ≡ out.old }
+
+    // Memory is wanted only before the first byte of the script is taken, or just behind its line `begin`.
+    ensures memory_place { result ≡ Status.OutOfMemory →
+        (script.new ≡ script.old) ⊎ TookSetup (S.left script.old) (S.left script.new) }
+
+    // Source and sink go on telling, and no count of faults falls.
+    ensures source_tells { TellsAsBefore (S.left script.old) (S.left script.new) }
+    ensures sink_tells { TellsAsBefore (K.written out.old) (K.written out.new) }
+    ensures source_later { S.faults script.old ≤ S.faults script.new }
+    ensures sink_later { K.faults out.old ≤ K.faults out.new }
 
     // With no fault the script alone decides, but for want of memory.
     ensures complete { IsRun words.now → IfSome (S.left script.old) (λ bytes.

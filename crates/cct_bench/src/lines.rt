@@ -2,7 +2,7 @@
 ghost use Rattle.std.specs.Prelude.{◌≡◌, position};
 ghost use Rattle.cct_model.specs.Script.{word_of};
 ghost use Rattle.cct_model.specs.Grammar.{is_space};
-ghost use Rattle.cct_script.specs.Giving.{line_of};
+ghost use Rattle.cct_script.specs.Giving.{line_given};
 ghost use Rattle.cct_bench.specs.Lines.{before_end, behind_end, read_of};
 
 use cct_model::LineKind;
@@ -10,7 +10,7 @@ use cct_script::{Line, LinesNo};
 
 /// Why a script is read no further.
 #[derive(Clone, Copy, Debug, PartialEq, Eq)]
-pub enum Stop {
+pub enum ScriptStop {
     /// Reading failed.
     Unread,
     /// The line is refused.
@@ -18,27 +18,27 @@ pub enum Stop {
 }
 
 /// The next line of a script that hasn't ended, by what the reader of lines answers.
-pub fn before_end(answer: Result<Line<'_>, LinesNo>) -> Result<&[u8], Stop>
-    ensures { read_of result ≡ before_end (line_of answer.entry) }
+pub fn before_end(answer: Result<Line<'_>, LinesNo>) -> Result<&[u8], ScriptStop>
+    ensures { read_of result ≡ before_end (line_given answer.entry) }
 {
     match answer {
         Ok(Line::Text(line)) => Ok(line),
-        Ok(Line::End) => Err(Stop::Refused(LineKind::Cut)),
-        Err(LinesNo::Cut) => Err(Stop::Refused(LineKind::Cut)),
-        Err(LinesNo::Long) => Err(Stop::Refused(LineKind::Long)),
-        Err(LinesNo::TooMany) => Err(Stop::Refused(LineKind::Lines)),
-        Err(LinesNo::Read) => Err(Stop::Unread),
+        Ok(Line::End) => Err(ScriptStop::Refused(LineKind::Cut)),
+        Err(LinesNo::Cut) => Err(ScriptStop::Refused(LineKind::Cut)),
+        Err(LinesNo::Long) => Err(ScriptStop::Refused(LineKind::Long)),
+        Err(LinesNo::TooMany) => Err(ScriptStop::Refused(LineKind::Lines)),
+        Err(LinesNo::Read) => Err(ScriptStop::Unread),
     }
 }
 
 /// Whether nothing follows the line `end`, by what the reader of lines answers.
-pub fn behind_end(answer: Result<Line<'_>, LinesNo>) -> Result<(), Stop>
-    ensures { result ≡ behind_end (line_of answer.entry) }
+pub fn behind_end(answer: Result<Line<'_>, LinesNo>) -> Result<(), ScriptStop>
+    ensures { result ≡ behind_end (line_given answer.entry) }
 {
     match answer {
         Ok(Line::End) => Ok(()),
-        Err(LinesNo::Read) => Err(Stop::Unread),
-        _ => Err(Stop::Refused(LineKind::Trailing)),
+        Err(LinesNo::Read) => Err(ScriptStop::Unread),
+        _ => Err(ScriptStop::Refused(LineKind::Trailing)),
     }
 }
 

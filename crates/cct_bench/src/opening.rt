@@ -5,10 +5,11 @@ ghost use Rattle.cct_edge.specs.Bytes.{TellsAsBefore};
 ghost use Rattle.cct_edge.specs.Faults.{Rose};
 ghost use Rattle.cct_model.specs.Script.{at_setup, opens, refuses, is_setup_word, read_form};
 ghost use Rattle.cct_script.specs.Giving.{standing_of};
-ghost use Rattle.cct_bench.specs.Lines.{IsNext, GoesOn, StopsAt, Came};
+ghost use Rattle.cct_bench.specs.Lines.{IsNext, ScriptGoesOn, StopsAt, Came};
+ghost use Rattle.cct_bench.specs.SetupLines.{OpensLine};
 ghost use Rattle.cct_bench.specs.Setup.{stage_of, opened_by};
 
-use crate::lines::{Stop, before_end, word_of};
+use crate::lines::{ScriptStop, before_end, word_of};
 use cct_edge::Source;
 use cct_model::{LineKind, Setup, SetupLine};
 use cct_script::{Lines, add, read_setup_line};
@@ -50,14 +51,9 @@ fn take_setup_line(setup: &mut Setup, line: &[u8]) -> Result<Opened, LineKind>
     if !is_setup_word(word_of(line)) {
         return Err(LineKind::Word);
     }
-    let said = match read_setup_line(line) {
-        Ok(said) => said,
-        Err(why) => return Err(why),
-    };
-    match add(setup, &said) {
-        Ok(()) => Ok(opened_by(&said)),
-        Err(why) => Err(why),
-    }
+    let said = read_setup_line(line)?;
+    add(setup, &said)?;
+    Ok(opened_by(&said))
 }
 
 /// Reads the next setup line of a script into the setup.
@@ -66,23 +62,22 @@ pub fn read_opening<S: Source>(
     setup: &mut Setup,
     number: u32,
     script: &mut S,
-) -> Result<Opened, Stop>
+) -> Result<Opened, ScriptStop>
     requires { IsNext number (standing_of lines.old) }
     ensures reads { IfOk result (λ opened. Came (standing_of lines.old).held (S.left script.old) (S.left script.new)
-        (λ held. GoesOn number (at_setup setup.old) held (opens (stage_of opened setup.new)) (standing_of lines.new).held)) }
+        (λ held. ScriptGoesOn number (at_setup setup.old) held (opens (stage_of opened setup.new)) (standing_of lines.new).held)) }
+    ensures line { IfOk result (λ opened. OpensLine number (at_setup setup.old) (stage_of opened setup.new)
+        (standing_of lines.old).held (standing_of lines.new).held (S.left script.old) (S.left script.new)) }
     ensures next { IfOk result (λ opened. IsNext (number + 1) (standing_of lines.new)) }
     ensures stops { IfErr result (λ why. Came (standing_of lines.old).held (S.left script.old) (S.left script.new)
         (StopsAt number (at_setup setup.old) why (S.left script.new))) }
     ensures tells { TellsAsBefore (S.left script.old) (S.left script.new) }
     ensures later { S.faults script.old ≤ S.faults script.new }
-    ensures cause { result ≡ Err Stop.Unread → Rose (S.faults script.old) (S.faults script.new) }
+    ensures cause { result ≡ Err ScriptStop.Unread → Rose (S.faults script.old) (S.faults script.new) }
 {
-    let line = match before_end(lines.line(script)) {
-        Ok(line) => line,
-        Err(why) => return Err(why),
-    };
+    let line = before_end(lines.line(script))?;
     match take_setup_line(setup, line) {
         Ok(opened) => Ok(opened),
-        Err(kind) => Err(Stop::Refused(kind)),
+        Err(kind) => Err(ScriptStop::Refused(kind)),
     }
 }

@@ -1,31 +1,32 @@
 //! A run: the script is read a line at a time, and each step is played and its entries are written before the next line
 //! is read.
-ghost use Rattle.std.specs.Prelude.{◌≡◌, ◌≢◌, ◌⊎◌, ℕ, ◌+◌, ◌≤◌, List, [], ◌++◌, map, Option, IfSome, IfOk, IfErr, OnOk, OnErr, IsTrue, Err};
-ghost use Rattle.std.specs.Io.KnownBytes.{Appends};
-ghost use Rattle.cct_edge.specs.Bytes.{AppendsFront, TellsAsBefore};
+ghost use Rattle.std.specs.Prelude.{◌≡◌, ◌≢◌, ◌⊎◌, ℕ, ◌+◌, ◌≤◌, List, [], ◌∷◌, Option, Result, IfSome, IfOk, IfErr, Err};
+ghost use Rattle.cct_edge.specs.Bytes.{TellsAsBefore};
+ghost use Rattle.cct_edge.specs.declared.fault.Failed.{Failed};
 ghost use Rattle.cct_edge.specs.Faults.{HasCause, Rose};
-ghost use Rattle.cct_model.specs.declared.entry.Entry.{Entry};
-ghost use Rattle.cct_model.specs.declared.device.Setup.{Setup};
-ghost use Rattle.cct_model.specs.Lent.{entry_of, step_of};
+ghost use Rattle.cct_model.specs.lines.entry.Entry.{Entry};
+ghost use Rattle.cct_model.specs.terms.device.Setup.{Setup};
 ghost use Rattle.cct_model.specs.Script.{no_devices, at_steps, at_end};
-ghost use Rattle.cct_model.specs.Text.{line_of, text};
+ghost use Rattle.cct_model.specs.Text.{line_of};
 ghost use Rattle.cct_script.specs.Giving.{none_given, standing_of};
-ghost use Rattle.cct_world.specs.Report.{on_wire, entries_of};
 ghost use Rattle.cct_world.specs.World.{StandsFor, setup_of};
 ghost use Rattle.cct_bench.specs.Lines.{IsNext};
-ghost use Rattle.cct_bench.specs.Going.{Going, IsNothing, IsAnything};
+ghost use Rattle.cct_bench.specs.Going.{Going, IsAnything};
+ghost use Rattle.cct_bench.specs.SetupLines.{TookOpening, TookSetup};
+ghost use Rattle.cct_bench.specs.Writing.{Writes, Wrote, Broke, IsNothing, IsJust, NeverBroke};
 ghost use Rattle.cct_bench.specs.Playing.{CanPlay, PlaysOn};
-ghost use Rattle.cct_bench.specs.Run.{Played, Ran, ClosedBy, ending_at};
+ghost use Rattle.cct_bench.specs.Run.{Played, Ran, ClosedBy, status_by, ending_at};
 
-use crate::lines::{Stop, behind_end};
+use crate::lines::{ScriptStop, behind_end};
 use crate::opening::{Opened, read_opening};
 use crate::outcome::Status;
-use crate::steps::read_step;
+use crate::steps::{is_end, read_step};
+use arrayvec::ArrayVec;
 use cct_edge::{Failed, Sink, Source};
-use cct_model::{Devices, Entry, LineKind, Note, Setup, StepRef};
-use cct_script::{Lines, MOST_HEARD};
-use cct_text::{TextLine, write_entry, write_fault, write_note, write_wire};
-use cct_world::{OnWire, Report, World};
+use cct_model::{Devices, Entry, LineKind, Setup, Step};
+use cct_script::Lines;
+use cct_text::{TextLine, write_entry};
+use cct_world::World;
 use std::alloc::Global;
 
 /// How the steps of a script came to their end.
@@ -44,52 +45,25 @@ pub enum Ending {
 }
 
 /// How a run ends where its script is read no further at a line of this number.
-fn ending_at(number: u32, why: Stop) -> Ending
+fn ending_at(number: u32, why: ScriptStop) -> Ending
     ensures { result ≡ ending_at number why }
 {
     match why {
-        Stop::Unread => Ending::Unread,
-        Stop::Refused(kind) => Ending::Refused { number, kind },
-    }
-}
-
-/// Writes the lines of notes, in their order.
-fn write_notes<K: Sink>(out: &mut K, line: &mut TextLine, notes: &[Note]) -> Result<(), Failed>
-    ensures ok { OnOk result (Appends (K.written out.old) (K.written out.new) (text (map entry_of notes.now))) }
-    ensures err { OnErr result (AppendsFront (K.written out.old) (K.written out.new) (text (map entry_of notes.now))) }
-    ensures tells { TellsAsBefore (K.written out.old) (K.written out.new) }
-    ensures cause { HasCause (K.faults out.old) (K.faults out.new) result }
-{
-    for note in notes {
-        write_note(out, line, note)?;
-    }
-    Ok(())
-}
-
-/// Writes the line of what a step does on the wire, where it does something.
-fn write_on_wire<K: Sink>(out: &mut K, line: &mut TextLine, report: &Report) -> Result<(), Failed>
-    ensures ok { OnOk result (Appends (K.written out.old) (K.written out.new) (text (on_wire report.now))) }
-    ensures err { OnErr result (AppendsFront (K.written out.old) (K.written out.new) (text (on_wire report.now))) }
-    ensures tells { TellsAsBefore (K.written out.old) (K.written out.new) }
-    ensures cause { HasCause (K.faults out.old) (K.faults out.new) result }
-{
-    let heard = report.heard.as_slice();
-    match report.wire {
-        OnWire::Nothing => Ok(()),
-        OnWire::Exchange { addr } => write_wire(out, line, addr, report.sent.as_slice(), heard),
-        OnWire::Fault(on) => write_fault(out, line, on, heard),
+        ScriptStop::Unread => Ending::Unread,
+        ScriptStop::Refused(kind) => Ending::Refused { number, kind },
     }
 }
 
 /// Writes the lines of a report, in the order of its entries.
-fn write_report<K: Sink>(out: &mut K, line: &mut TextLine, report: &Report) -> Result<(), Failed>
-    ensures ok { OnOk result (Appends (K.written out.old) (K.written out.new) (text (entries_of report.now))) }
-    ensures err { OnErr result (AppendsFront (K.written out.old) (K.written out.new) (text (entries_of report.now))) }
+fn write_report<K: Sink>(out: &mut K, line: &mut TextLine, report: &[Entry]) -> Result<(), Failed>
+    ensures writes { Writes K.written K.puts out.old report.now result out.new }
     ensures tells { TellsAsBefore (K.written out.old) (K.written out.new) }
     ensures cause { HasCause (K.faults out.old) (K.faults out.new) result }
 {
-    write_on_wire(out, line, report)?;
-    write_notes(out, line, report.notes.as_slice())
+    for entry in report {
+        write_entry(out, line, entry)?;
+    }
+    Ok(())
 }
 
 /// Reads the setup of a script, and gives the number of the line behind it; or tells how the run ends.
@@ -100,11 +74,13 @@ fn read_setup<S: Source>(
 ) -> Result<u32, Ending>
     requires lines { standing_of lines.old ≡ none_given }
     requires setup { setup.old ≡ no_devices }
-    ensures opened { (written : Option (List ℕ)) → IfOk result (λ number.
-        Going (S.left script.old) (S.left script.new) (standing_of lines.new).held number (at_steps setup.new) IsNothing written written) }
+    ensures opened { IfOk result (λ number.
+        Going (S.left script.old) (S.left script.new) (standing_of lines.new).held number (at_steps setup.new) IsNothing IsNothing) }
+    ensures took { IfOk result (λ number.
+        TookOpening (S.left script.old) (S.left script.new) (standing_of lines.new).held number (at_steps setup.new)) }
     ensures next { IfOk result (λ number. IsNext number (standing_of lines.new)) }
-    ensures ended { (written : Option (List ℕ)) → IfErr result (λ how.
-        IfSome (S.left script.old) (λ bytes. Played bytes how (S.left script.new) written written)) }
+    ensures ended { IfErr result (λ how.
+        IfSome (S.left script.old) (λ bytes. Played bytes how (S.left script.new) IsNothing NeverBroke)) }
     ensures unread { result ≡ Err Ending.Unread → Rose (S.faults script.old) (S.faults script.new) }
     ensures other { (result ≢ Err Ending.Unwritten) × (result ≢ Err Ending.NoMemory) }
     ensures tells { TellsAsBefore (S.left script.old) (S.left script.new) }
@@ -123,7 +99,8 @@ fn read_setup<S: Source>(
 /// The buffers of what a run writes.
 #[derive(Drop)]
 struct Page {
-    report: Report,
+    /// The entries of the last step.
+    report: ArrayVec<Entry, 8>,
     line: TextLine,
 }
 
@@ -131,32 +108,32 @@ impl Page {
     /// Plays a step, and writes its entries.
     fn play<K: Sink>(
         &mut self,
-        step: StepRef<'_>,
+        step: &Step,
         world: &mut World<'_>,
         out: &mut K,
     ) -> Result<(), Failed>
-        requires { CanPlay (setup_of world.old) (step_of step) }
-        ensures plays { PlaysOn (StandsFor world.old) (StandsFor world.new) (setup_of world.old) (step_of step.entry) result
-            (K.written out.old) (K.written out.new) }
+        requires { CanPlay (setup_of world.old) step.now }
+        ensures plays { PlaysOn (StandsFor world.old) (StandsFor world.new) (setup_of world.old) step.now
+            (λ report. Writes K.written K.puts out.old report result out.new) }
         ensures setup { setup_of world.new ≡ setup_of world.old }
         ensures tells { TellsAsBefore (K.written out.old) (K.written out.new) }
         ensures cause { HasCause (K.faults out.old) (K.faults out.new) result }
     {
         world.step(step, &mut self.report);
-        write_report(out, &mut self.line, &self.report)
+        write_report(out, &mut self.line, self.report.as_slice())
     }
 }
 
 /// The buffers of a run that each of its lines uses.
 #[derive(Drop)]
-struct Desk {
+struct ScriptDesk {
     lines: Lines,
-    /// The room for the piece of a wire fault.
-    room: [u8; MOST_HEARD],
+    /// The step that was read last.
+    step: Step,
     page: Page,
 }
 
-impl Desk {
+impl ScriptDesk {
     /// Plays the steps of a script, from the line of this number on, each before the next line is read.
     fn play_steps<S: Source, K: Sink>(
         &mut self,
@@ -167,8 +144,10 @@ impl Desk {
     ) -> Ending
         requires { IsNext first (standing_of self.old.lines) }
         ensures played { (left0 : Option (List ℕ))
-            → Going left0 (S.left script.old) (standing_of self.old.lines).held first (at_steps (setup_of world.old)) (StandsFor world.old) (K.written out.old) (K.written out.old)
-            → IfSome left0 (λ bytes. Played bytes result (S.left script.new) (K.written out.old) (K.written out.new)) }
+            → Going left0 (S.left script.old) (standing_of self.old.lines).held first (at_steps (setup_of world.old))
+            (StandsFor world.old) (Wrote K.written K.puts out.old out.old)
+            → IfSome left0 (λ bytes. Played bytes result (S.left script.new)
+            (Wrote K.written K.puts out.old out.new) (Broke K.written K.puts out.old out.new)) }
         ensures unread { result ≡ Ending.Unread → Rose (S.faults script.old) (S.faults script.new) }
         ensures unwritten { result ≡ Ending.Unwritten → Rose (K.faults out.old) (K.faults out.new) }
         ensures memory { result ≢ Ending.NoMemory }
@@ -179,22 +158,25 @@ impl Desk {
     {
         let mut number = first;
         loop {
-            match read_step(&mut self.lines, world, number, script, &mut self.room) {
-                Ok(Some(step)) => match self.page.play(step, world, out) {
-                    Ok(()) => number += 1,
-                    Err(Failed) => return Ending::Unwritten,
-                },
-                Ok(None) => return self.finish(number + 1, script),
+            match read_step(&mut self.lines, world, number, script, &mut self.step) {
+                Ok(()) => {}
                 Err(why) => return ending_at(number, why),
+            }
+            if is_end(&self.step) {
+                return self.finish(number + 1, script);
+            }
+            match self.page.play(&self.step, world, out) {
+                Ok(()) => number += 1,
+                Err(Failed) => return Ending::Unwritten,
             }
         }
     }
 
     /// Ends the steps of a script behind its line `end`: the next line has this number.
     fn finish<S: Source>(&mut self, number: u32, script: &mut S) -> Ending
-        ensures ended { (left0 old now : Option (List ℕ)) (setup : Setup)
-            → Going left0 (S.left script.old) (standing_of self.old.lines).held number (at_end setup) IsAnything old now
-            → IfSome left0 (λ bytes. Played bytes result (S.left script.new) old now) }
+        ensures ended { (left0 : Option (List ℕ)) (setup : Setup) (written : List Entry)
+            → Going left0 (S.left script.old) (standing_of self.old.lines).held number (at_end setup) IsAnything (IsJust written)
+            → IfSome left0 (λ bytes. Played bytes result (S.left script.new) (IsJust written) NeverBroke) }
         ensures unread { result ≡ Ending.Unread → Rose (S.faults script.old) (S.faults script.new) }
         ensures other { (result ≢ Ending.Unwritten) × (result ≢ Ending.NoMemory) }
         ensures tells { TellsAsBefore (S.left script.old) (S.left script.new) }
@@ -211,7 +193,7 @@ impl Desk {
 #[derive(Drop)]
 pub struct Bench {
     setup: Setup,
-    desk: Desk,
+    desk: ScriptDesk,
 }
 
 impl Bench {
@@ -224,11 +206,11 @@ impl Bench {
             setup: Setup {
                 devices: Devices::new(),
             },
-            desk: Desk {
+            desk: ScriptDesk {
                 lines: Lines::new(),
-                room: [0; MOST_HEARD],
+                step: Step::End,
                 page: Page {
-                    report: Report::new(),
+                    report: ArrayVec::new(),
                     line: TextLine::new(),
                 },
             },
@@ -244,11 +226,13 @@ impl Bench {
     ) -> Ending
         requires lines { standing_of self.old.desk.lines ≡ none_given }
         requires setup { self.old.setup ≡ no_devices }
-        ensures played { IfSome (S.left script.old)
-            (λ bytes. Played bytes result (S.left script.new) (K.written out.old) (K.written out.new)) }
+        ensures played { IfSome (S.left script.old) (λ bytes. Played bytes result (S.left script.new)
+            (Wrote K.written K.puts out.old out.new) (Broke K.written K.puts out.old out.new)) }
         ensures unread { result ≡ Ending.Unread → Rose (S.faults script.old) (S.faults script.new) }
         ensures unwritten { result ≡ Ending.Unwritten → Rose (K.faults out.old) (K.faults out.new) }
-        ensures memory { result ≡ Ending.NoMemory → out.new ≡ out.old }
+        ensures memory { result ≡ Ending.NoMemory → (out.new ≡ out.old) × TookSetup (S.left script.old) (S.left script.new) }
+        ensures source { TellsAsBefore (S.left script.old) (S.left script.new) }
+        ensures sink { TellsAsBefore (K.written out.old) (K.written out.new) }
         ensures source_later { S.faults script.old ≤ S.faults script.new }
         ensures sink_later { K.faults out.old ≤ K.faults out.new }
     {
@@ -266,11 +250,15 @@ impl Bench {
     pub fn run<S: Source, K: Sink>(&mut self, alloc: Global, script: &mut S, out: &mut K) -> Status
         requires lines { standing_of self.old.desk.lines ≡ none_given }
         requires setup { self.old.setup ≡ no_devices }
-        ensures ran { IfSome (S.left script.old)
-            (λ bytes. Ran bytes result (S.left script.new) (K.written out.old) (K.written out.new)) }
+        ensures ran { IfSome (S.left script.old) (λ bytes. Ran bytes result (S.left script.new)
+            (Wrote K.written K.puts out.old out.new) (Broke K.written K.puts out.old out.new)) }
         ensures read_cause { result ≡ Status.ReadFault → Rose (S.faults script.old) (S.faults script.new) }
         ensures write_cause { result ≡ Status.WriteFault → Rose (K.faults out.old) (K.faults out.new) }
-        ensures memory_cause { result ≡ Status.OutOfMemory → out.new ≡ out.old }
+        ensures memory { result ≡ Status.OutOfMemory → (out.new ≡ out.old) × TookSetup (S.left script.old) (S.left script.new) }
+        ensures source { TellsAsBefore (S.left script.old) (S.left script.new) }
+        ensures sink { TellsAsBefore (K.written out.old) (K.written out.new) }
+        ensures source_later { S.faults script.old ≤ S.faults script.new }
+        ensures sink_later { K.faults out.old ≤ K.faults out.new }
         ensures other { result ≢ Status.WordsRefused }
     {
         match self.play_script(alloc, script, out) {
@@ -295,7 +283,10 @@ impl Bench {
 
 /// Writes a last line, and gives the status that it tells, or that of a fault in writing.
 pub fn close<K: Sink>(out: &mut K, line: &mut TextLine, entry: &Entry, status: Status) -> Status
+    ensures writes { (answer : Result (Unit {0}) Failed) × Writes K.written K.puts out.old (entry.now ∷ []) answer out.new × (result ≡ status_by answer status) }
+    ensures one { (answer : Result (Unit {0}) Failed) × K.puts out.old (line_of entry.now) answer out.new × (result ≡ status_by answer status) }
     ensures closed { ClosedBy result status (line_of entry.now) (K.written out.old) (K.written out.new) }
+    ensures tells { TellsAsBefore (K.written out.old) (K.written out.new) }
     ensures cause { result ≡ status ⊎ Rose (K.faults out.old) (K.faults out.new) }
     ensures later { K.faults out.old ≤ K.faults out.new }
 {

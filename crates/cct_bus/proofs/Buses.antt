@@ -4,16 +4,17 @@ use Rattle.std.specs.Prelude.{IsTrue, MatchBool, is_some, unwrap_or}
 use Rattle.std.specs.List.{All, flat_map, insert, position, position_or_len}
 use Rattle.std.proofs.lemmas.List.{take_all}
 use Rattle.std.proofs.lemmas.List.Elements.{All-get_or, All-weaker}
-use Rattle.cct_model.specs.declared.coin.Coin.{Coin}
-use Rattle.cct_model.specs.declared.command.WireFault.{WireFault}
-use Rattle.cct_model.specs.declared.device.DeviceSetup.{DeviceSetup}
-use Rattle.cct_model.specs.declared.device.Setup.{Setup}
-use Rattle.cct_model.specs.declared.entry.Entry.{Entry}
-use Rattle.cct_model.specs.declared.entry.Entry.TheVariants as entry
+use Rattle.cct_model.specs.terms.coin.Coin.{Coin}
+use Rattle.cct_model.specs.lines.command.WireFault.{WireFault}
+use Rattle.cct_model.specs.terms.device.DeviceSetup.{DeviceSetup}
+use Rattle.cct_model.specs.terms.device.Setup.{Setup}
+use Rattle.cct_model.specs.lines.entry.Entry.{Entry}
+use Rattle.cct_model.specs.lines.entry.Entry.TheVariants as entry
 use Rattle.cct_model.specs.Acceptor.{accepts}
-use Rattle.cct_model.specs.Exchange.{by_address, device_at, put_by_address}
+use Rattle.cct_model.specs.Exchange.{by_address, device_at, put_by_address, acceptor_there}
 use Rattle.cct_model.specs.History.{Met, coin}
-use Rattle.cct_model.specs.Legal.{OfAcceptor, acceptor_there, coin_entry, is_acceptor}
+use Rattle.cct_model.specs.Legal.{OfAcceptor, coin_entry}
+use Rattle.cct_model.specs.Device.{is_acceptor}
 use Rattle.cct_model.specs.Setup.{AreDistinct, IsSoundSetup}
 use Rattle.cct_model.specs.Transcript.{answers, at, heard_after, heard_by_devices, heard_by_host, meets, met, pending}
 use Rattle.cct_bus.specs.declared.device.Device.{Device}

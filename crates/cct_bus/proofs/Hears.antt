@@ -7,7 +7,7 @@ use Rattle.std.proofs.lemmas.List.Concat.{flat_map-cons}
 use Rattle.std.proofs.lemmas.List.Elements.{All-append, All-cons, All-drop, All-head, All-nil}
 use Rattle.std.proofs.lemmas.Grind.{drop_more_same}
 use Rattle.std.proofs.Math.Seq.{map-set_same}
-use Rattle.cct_model.specs.declared.device.DeviceSetup.{DeviceSetup}
+use Rattle.cct_model.specs.terms.device.DeviceSetup.{DeviceSetup}
 use Rattle.cct_model.specs.Exchange.{answer, asks_of}
 use Rattle.cct_model.specs.History.{Met, heard}
 use Rattle.cct_bus.specs.declared.device.Device.{Device}

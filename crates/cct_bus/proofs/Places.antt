@@ -6,7 +6,7 @@ use Rattle.std.proofs.lemmas.Bool.{eqb-true}
 use Rattle.std.proofs.lemmas.Bool.Decides.{nat_tests}
 use Rattle.std.proofs.lemmas.List.Elements.{All-append, All-cons, All-drop, All-head, All-nil, All-tail, All-take}
 use Rattle.std.proofs.lemmas.List.Quantifiers.{position-Some}
-use Rattle.cct_model.specs.declared.device.DeviceSetup.{DeviceSetup}
+use Rattle.cct_model.specs.terms.device.DeviceSetup.{DeviceSetup}
 use Rattle.std.proofs.lemmas.List.Sums.{fails_before_first}
 use Rattle.cct_model.specs.Exchange.{device_at, put_by_address}
 use Rattle.cct_model.specs.History.{Met}
@@ -15,11 +15,6 @@ use Rattle.cct_model.specs.Transcript.{at}
 use Rattle.cct_bus.specs.declared.device.Device.{Device}
 use Rattle.cct_bus.proofs.Orders.{other_of}
 use Rattle.cct_bus.specs.Device.{Lived, Stands, setup_in, setups_in}
-
--- the device at an address is the first whose address that is
-pub find_is : (devices : List DeviceSetup) (addr : ℕ) → find (λ d. d.addr == addr) devices ≡ device_at devices addr
-find_is [] addr = refl
-find_is (d ∷ ds) addr = ap (λ v. cond (d.addr == addr) (Some d) v) (find_is ds addr)
 
 -- the test of a device by its address
 abbrev pub is_at : ℕ → Device → Bool

@@ -1,6 +1,6 @@
 -- A device on the wire, and what it met.
 use Rattle.std.specs.Prelude.{List, map}
-use Rattle.cct_model.specs.declared.device.DeviceSetup.{DeviceSetup}
+use Rattle.cct_model.specs.terms.device.DeviceSetup.{DeviceSetup}
 use Rattle.cct_model.specs.History.{Met}
 use Rattle.cct_acceptor.specs.Acceptor as acceptor
 use Rattle.cct_bus.specs.declared.device.Device.{Device}

@@ -1,27 +1,27 @@
 //! The bus: devices on one wire, and the host's end of it.
 ghost use Rattle.std.specs.Prelude.{◌≡◌, ◌==◌, nat_le, ◌+◌, ◌<◌, ◌≤◌, ℕ, List, ◌∷◌, [], ◌++◌, take, IfOk, IfSome, IsTrue, Option, map, is_some, length, Some, unwrap_or};
 ghost use Rattle.std.specs.List.{All, flat_map, position};
-ghost use Rattle.std.specs.Option.{option_map};
-ghost use Rattle.cct_model.specs.declared.device.DeviceSetup.{DeviceSetup};
-ghost use Rattle.cct_model.specs.declared.entry.Entry.{Entry};
-ghost use Rattle.cct_model.specs.declared.entry.Entry.TheVariants as entry;
+ghost use Rattle.cct_model.specs.terms.wire.TheConstants.{MOST_SENT};
+ghost use Rattle.cct_model.specs.terms.device.DeviceSetup.{DeviceSetup};
+ghost use Rattle.cct_model.specs.lines.command.WireFault.TheVariants.{HostHears};
+ghost use Rattle.cct_model.specs.lines.entry.Entry.{Entry};
+ghost use Rattle.cct_model.specs.lines.entry.Entry.TheVariants as entry;
 ghost use Rattle.cct_model.specs.Device.{IsAcceptor, IsSound};
-ghost use Rattle.cct_model.specs.Exchange.{by_address, device_at};
-ghost use Rattle.cct_model.specs.Legal.{OfAcceptor, OfDevice, acceptor_there, coin_entry, hopper_there};
-ghost use Rattle.cct_model.specs.Lent.{fault_of};
-ghost use Rattle.cct_model.specs.Script.{IsFault};
+ghost use Rattle.cct_model.specs.Exchange.{by_address, device_at, acceptor_there, hopper_there};
+ghost use Rattle.cct_model.specs.Legal.{OfAcceptor, OfDevice, coin_entry};
 ghost use Rattle.cct_model.specs.Setup.{IsSoundSetup};
 ghost use Rattle.cct_model.specs.Transcript.{met};
 ghost use Rattle.cct_acceptor.specs.Acceptor.{inserted};
 ghost use Rattle.cct_bus.specs.Device.{Stands, setup_in, setups_in};
+ghost use Rattle.cct_bus.specs.Fault.{IsShort};
 ghost use Rattle.cct_bus.specs.Room.{most_answered};
 
 use crate::device::Device;
-use crate::fault::NextFault;
+use crate::fault::{heard_by_devices, heard_by_host};
 use crate::hearing::all_hear;
 use arrayvec::ArrayVec;
 use cct_acceptor::Inserted;
-use cct_model::{DeviceBody, DeviceSetup, FaultOn, Setup};
+use cct_model::{COIN_PLACES, DeviceSetup, MOST_HEARD, MOST_SENT, Setup, WireFault};
 use cct_wire::Link;
 use std::alloc::{AllocError, Global};
 
@@ -33,11 +33,12 @@ pub struct Bus<'s> {
     /// The devices in rising order of address.
     devices: Vec<Device<'s>>,
     /// What is wrong in the next exchange.
-    fault: NextFault,
+    fault: WireFault,
     /// The room for one answer.
-    frame: ArrayVec<u8, 260>,
+    frame: ArrayVec<u8, MOST_SENT>,
     ghost order: { setups_in devices.items ≡ by_address setup.now.devices },
-    ghost room: { (piece : List ℕ) → most_answered piece setup.now.devices ≤ 260 },
+    ghost room: { (piece : List ℕ) → most_answered piece setup.now.devices ≤ MOST_SENT },
+    ghost short: { (piece : List ℕ) → fault ≡ HostHears piece → length piece ≤ MOST_SENT },
 }
 
 impl<'s> Bus<'s> {
@@ -57,7 +58,7 @@ impl<'s> Bus<'s> {
         Ok(Bus {
             setup,
             devices,
-            fault: NextFault::new(),
+            fault: WireFault::Clear,
             frame: ArrayVec::new(),
         })
     }
@@ -66,8 +67,8 @@ impl<'s> Bus<'s> {
     pub fn is_acceptor(&self, addr: u8) -> bool
         ensures { result ≡ acceptor_there (device_at (setup_of self.now).devices addr) }
     {
-        match setup_at(self.setup, addr) {
-            Some(device) => matches!(device.body, DeviceBody::Acceptor { .. }),
+        match self.setup.device_at(addr) {
+            Some(device) => device.body.is_acceptor(),
             None => false,
         }
     }
@@ -76,8 +77,8 @@ impl<'s> Bus<'s> {
     pub fn is_hopper(&self, addr: u8) -> bool
         ensures { result ≡ hopper_there (device_at (setup_of self.now).devices addr) }
     {
-        match setup_at(self.setup, addr) {
-            Some(device) => matches!(device.body, DeviceBody::Hopper { .. }),
+        match self.setup.device_at(addr) {
+            Some(device) => !device.body.is_acceptor(),
             None => false,
         }
     }
@@ -86,7 +87,7 @@ impl<'s> Bus<'s> {
     pub fn has_device(&self, addr: u8) -> bool
         ensures { result ≡ is_some (device_at (setup_of self.now).devices addr) }
     {
-        setup_at(self.setup, addr).is_some()
+        self.setup.device_at(addr).is_some()
     }
 
     /// A coin of a place, 1 to 16, falls into the acceptor at an address.
@@ -94,7 +95,7 @@ impl<'s> Bus<'s> {
     pub fn coin(&mut self, addr: u8, place: u8) -> Inserted
         requires there { IsTrue (acceptor_there (device_at (setup_of self.old).devices addr)) }
         requires low { 1 ≤ place }
-        requires high { place ≤ 16 }
+        requires high { place ≤ COIN_PLACES }
         ensures setup { setup_of self.new ≡ setup_of self.old }
         ensures stands { (past : List Entry) → StandsFor self.old past
             → OfAcceptor (device_at (setup_of self.old).devices addr) (λ d. (result ≡ inserted (met d past) place)
@@ -125,13 +126,13 @@ impl<'s> Bus<'s> {
         self.devices[index].reset();
     }
 
-    /// Sets what is wrong in the next exchange, in the place of what was set before: a part of it is this piece.
-    pub fn set_fault(&mut self, on: FaultOn, piece: &[u8])
-        requires in_range { IsFault (fault_of on piece.now) }
+    /// Sets what is wrong in the next exchange, in the place of what was set before.
+    pub fn set_fault(&mut self, fault: WireFault)
+        requires short { IsShort fault }
         ensures setup { setup_of self.new ≡ setup_of self.old }
-        ensures stands { (past : List Entry) → StandsFor self.old past → StandsFor self.new (entry.Fault (fault_of on piece.now) ∷ past) }
+        ensures stands { (past : List Entry) → StandsFor self.old past → StandsFor self.new (entry.Fault fault ∷ past) }
     {
-        self.fault.set(on, piece);
+        self.fault = fault;
     }
 
     /// The index of the device at an address.
@@ -151,13 +152,13 @@ impl Link for Bus<'_> {
 
     /// Every device hears what is sent, or what the fault that is set has reach it, and acts on it. The host hears its
     /// echo and the answers in rising order of address, or what the fault makes of that. The fault is then used up.
-    fn exchange(&mut self, sent: &[u8], heard: &mut ArrayVec<u8, 520>) {
+    fn exchange(&mut self, sent: &[u8], heard: &mut ArrayVec<u8, MOST_HEARD>) {
         heard.clear();
         heard.try_extend_from_slice(sent).unwrap();
-        let piece = self.fault.heard_by_devices(sent);
+        let piece = heard_by_devices(&self.fault, sent);
         all_hear(&mut self.devices, piece, &mut self.frame, heard);
-        self.fault.heard_by_host(sent, heard);
-        self.fault.use_up();
+        heard_by_host(&self.fault, sent, heard);
+        self.fault = WireFault::Clear;
     }
 }
 
@@ -202,16 +203,4 @@ fn place_of(devices: &[Device<'_>], addr: u8) -> Option<usize>
     ensures within { IfSome result (λ place. place < length devices.now) }
 {
     devices.iter().position(|device| device.setup.addr == addr)
-}
-
-/// The setup of the device at an address, or none.
-fn setup_at(setup: &Setup, addr: u8) -> Option<&DeviceSetup>
-    ensures { option_map (λ d. d.now) result ≡ device_at setup.now.devices addr }
-{
-    for device in setup.devices.as_slice() {
-        if device.addr == addr {
-            return Some(device);
-        }
-    }
-    None
 }

@@ -1,6 +1,6 @@
 //! One device on the wire.
 ghost use Rattle.std.specs.Prelude.{◌≡◌, ◌≤◌, List, ◌∷◌, [], IfOk, length, unwrap_or};
-ghost use Rattle.cct_model.specs.declared.device.DeviceSetup.{DeviceSetup};
+ghost use Rattle.cct_model.specs.terms.device.DeviceSetup.{DeviceSetup};
 ghost use Rattle.cct_model.specs.Device.{IsAcceptor, IsSound};
 ghost use Rattle.cct_model.specs.Exchange.{answer, asks_of};
 ghost use Rattle.cct_model.specs.History.{Met, alien, coin, heard, reset};
@@ -9,7 +9,7 @@ ghost use Rattle.cct_bus.specs.Room.{most_said};
 
 use arrayvec::ArrayVec;
 use cct_acceptor::{Acceptor, Inserted};
-use cct_model::DeviceSetup;
+use cct_model::{COIN_PLACES, DeviceSetup, MOST_SENT};
 use std::alloc::{AllocError, Global};
 
 /// A coin acceptor on the wire, with its setup.
@@ -36,13 +36,13 @@ impl<'s> Device<'s> {
 
     /// The device hears a piece, acts on what it asks, and puts its answer in the place of what `said` holds: nothing
     /// where it is silent.
-    pub(crate) fn hear(&mut self, piece: &[u8], said: &mut ArrayVec<u8, 260>)
+    pub(crate) fn hear(&mut self, piece: &[u8], said: &mut ArrayVec<u8, MOST_SENT>)
         ensures setup { self.new.setup ≡ self.old.setup }
         ensures lived { (past : List Met) → Lived self.old past
             → Lived self.new (heard (asks_of (setup_in self.old) piece.now) ∷ past) }
         ensures answer { (past : List Met) → Lived self.old past
             → said.new.items ≡ unwrap_or (answer (setup_in self.old) past piece.now) [] }
-        ensures room { length said.new.items ≤ 260 → length said.new.items ≤ most_said (setup_in self.old).addr piece.now }
+        ensures room { length said.new.items ≤ MOST_SENT → length said.new.items ≤ most_said (setup_in self.old).addr piece.now }
     {
         self.acceptor.hear(piece, said);
     }
@@ -50,7 +50,7 @@ impl<'s> Device<'s> {
     /// A coin of a place, 1 to 16, falls in.
     pub(crate) fn coin(&mut self, place: u8) -> Inserted
         requires low { 1 ≤ place }
-        requires high { place ≤ 16 }
+        requires high { place ≤ COIN_PLACES }
         ensures setup { self.new.setup ≡ self.old.setup }
         ensures lived { (past : List Met) → Lived self.old past → Lived self.new (coin place ∷ past) }
         ensures answer { (past : List Met) → Lived self.old past → result ≡ inserted past place }

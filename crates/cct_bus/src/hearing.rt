@@ -1,7 +1,7 @@
 //! What the devices on the wire make of a piece, all together.
 ghost use Rattle.std.specs.Prelude.{◌≡◌, ◌+◌, ◌≤◌, List, ◌∷◌, [], ◌++◌, length, unwrap_or};
 ghost use Rattle.std.specs.List.{All, flat_map};
-ghost use Rattle.cct_model.specs.declared.device.DeviceSetup.{DeviceSetup};
+ghost use Rattle.cct_model.specs.terms.device.DeviceSetup.{DeviceSetup};
 ghost use Rattle.cct_model.specs.Exchange.{answer, asks_of};
 ghost use Rattle.cct_model.specs.History.{Met, heard};
 ghost use Rattle.cct_bus.specs.Device.{Stands, setups_in};
@@ -9,16 +9,17 @@ ghost use Rattle.cct_bus.specs.Room.{most_answered};
 
 use crate::device::Device;
 use arrayvec::ArrayVec;
+use cct_model::{MOST_HEARD, MOST_SENT};
 
 /// Every device hears a piece. What they answer goes behind what `answers` holds, in the order of the devices; `frame` is
 /// room for one answer.
 pub(crate) fn all_hear(
     devices: &mut [Device<'_>],
     piece: &[u8],
-    frame: &mut ArrayVec<u8, 260>,
-    answers: &mut ArrayVec<u8, 520>,
+    frame: &mut ArrayVec<u8, MOST_SENT>,
+    answers: &mut ArrayVec<u8, MOST_HEARD>,
 )
-    requires room { length answers.old.items + most_answered piece.now (setups_in devices.old) ≤ 520 }
+    requires room { length answers.old.items + most_answered piece.now (setups_in devices.old) ≤ MOST_HEARD }
     ensures setups { setups_in devices.new ≡ setups_in devices.old }
     ensures stand { (history : DeviceSetup → List Met) → All (Stands history) devices.old
         → All (Stands (λ d. heard (asks_of d piece.now) ∷ history d)) devices.new }

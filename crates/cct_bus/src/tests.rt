@@ -8,7 +8,9 @@ ghost use Rattle.cct_model.specs.Setup.{IsSoundSetup};
 use super::*;
 use arrayvec::ArrayVec;
 use cct_acceptor::Inserted;
-use cct_model::{CheckKind, Coin, DeviceBody, DeviceSetup, Devices, FaultOn, Name, Setup, Texts};
+use cct_model::{
+    CheckKind, Coin, DeviceBody, DeviceSetup, Devices, Name, Piece, Setup, Texts, WireFault,
+};
 use cct_wire::Link;
 use std::test::*;
 
@@ -98,26 +100,6 @@ fn devices_answer_in_rising_order(rt: HostRuntime) -> Result<(), Fail> {
 }
 
 #[test]
-fn an_acceptor_accepts_nothing_at_first(rt: HostRuntime) -> Result<(), Fail> {
-    let setup = machine();
-    let mut bus = Bus::new(rt.alloc(), &setup)?;
-    let mut heard = ArrayVec::new();
-    assert!(rt; bus.is_acceptor(2));
-    bus.exchange(b"\x02\x00\x01\xe5\x18", &mut heard);
-    assert_eq!(rt;
-        heard.as_slice(),
-        b"\x02\x00\x01\xe5\x18\x01\x0b\x02\x00\x00\x00\x00\x00\x00\x00\x00\x00\x00\x00\x00\xf2".as_slice()
-    );
-    assert_eq!(rt; bus.coin(2, 1), Inserted::Inhibited);
-    bus.exchange(b"\x02\x00\x01\xe5\x18", &mut heard);
-    assert_eq!(rt;
-        heard.as_slice(),
-        b"\x02\x00\x01\xe5\x18\x01\x0b\x02\x00\x01\x00\x02\x00\x00\x00\x00\x00\x00\x00\x00\xef".as_slice()
-    );
-    Ok(())
-}
-
-#[test]
 fn a_coin_falls_into_one_acceptor(rt: HostRuntime) -> Result<(), Fail> {
     let setup = machine();
     let mut bus = Bus::new(rt.alloc(), &setup)?;
@@ -164,25 +146,26 @@ fn a_coin_falls_into_one_acceptor(rt: HostRuntime) -> Result<(), Fail> {
     Ok(())
 }
 
+/// A piece of these bytes.
+fn piece(bytes: &[u8]) -> Piece
+    requires { length bytes.now ≤ 260 }
+    ensures { result ≡ bytes.now }
+{
+    let mut piece = Piece::new();
+    piece.extend_from_slice(bytes);
+    piece
+}
+
 #[test]
 fn a_fault_lasts_one_exchange(rt: HostRuntime) -> Result<(), Fail> {
     let setup = machine();
     let mut bus = Bus::new(rt.alloc(), &setup)?;
     let mut heard = ArrayVec::new();
     open(&mut bus);
-    assert!(rt; bus.is_acceptor(2) && bus.is_acceptor(4));
-
-    // The devices hear that 4 shall reset, in the place of a request for its events.
-    bus.set_fault(FaultOn::Devices, b"\x04\x00\x01\x01\xfa");
-    bus.exchange(b"\x04\x00\x01\xe5\x16", &mut heard);
-    assert_eq!(rt;
-        heard.as_slice(),
-        b"\x04\x00\x01\xe5\x16\x01\x00\x04\x00\xfb".as_slice()
-    );
-    assert_eq!(rt; bus.coin(4, 5), Inserted::Inhibited);
+    assert!(rt; bus.is_acceptor(2));
 
     // The acknowledgement is lost, but 2 inhibits every coin.
-    bus.set_fault(FaultOn::Host, b"\xaa");
+    bus.set_fault(WireFault::HostHears(piece(b"\xaa")));
     bus.exchange(b"\x02\x02\x01\xe7\x00\x00\x14", &mut heard);
     assert_eq!(rt;
         heard.as_slice(),
@@ -190,24 +173,17 @@ fn a_fault_lasts_one_exchange(rt: HostRuntime) -> Result<(), Fail> {
     );
     assert_eq!(rt; bus.coin(2, 5), Inserted::Inhibited);
 
-    // The host hears nothing, but 2 accepts place 5 again.
-    bus.set_fault(FaultOn::Whole, b"");
-    bus.exchange(b"\x02\x02\x01\xe7\x10\x00\x04", &mut heard);
-    assert_eq!(rt; heard.as_slice(), b"".as_slice());
-    assert_eq!(rt;
-        bus.coin(2, 5),
-        Inserted::Accepted(Coin { place: 5, path: 1 })
-    );
-
     // A fault takes the place of the one before; none is left after its exchange.
-    bus.set_fault(FaultOn::Whole, b"");
-    bus.set_fault(FaultOn::Devices, b"\xaa");
-    bus.exchange(b"\x02\x00\x01\xe5\x18", &mut heard);
-    assert_eq!(rt; heard.as_slice(), b"\x02\x00\x01\xe5\x18".as_slice());
-    bus.exchange(b"\x02\x00\x01\xe5\x18", &mut heard);
+    bus.set_fault(WireFault::DevicesHear(piece(b"\xaa")));
+    bus.set_fault(WireFault::WholeHeard(piece(b"\xbb")));
+    bus.exchange(b"\x02\x00\x01\xfe\xff", &mut heard);
+    assert_eq!(rt; heard.as_slice(), b"\xbb".as_slice());
+    bus.set_fault(WireFault::HostHears(piece(b"\xaa")));
+    bus.set_fault(WireFault::Clear);
+    bus.exchange(b"\x02\x00\x01\xfe\xff", &mut heard);
     assert_eq!(rt;
         heard.as_slice(),
-        b"\x02\x00\x01\xe5\x18\x01\x0b\x02\x00\x02\x05\x01\x00\x02\x00\x00\x00\x00\x00\x00\xe8".as_slice()
+        b"\x02\x00\x01\xfe\xff\x01\x00\x02\x00\xfd".as_slice()
     );
     Ok(())
 }

@@ -11,7 +11,8 @@ Consumes-nil None = tt
 Consumes-nil (Some us) = refl
 
 -- two calls take what the first took and then what the second took
-pub Consumes-trans : (a b c : Option (List ℕ)) (xs ys : List ℕ) → Consumes a b xs → Consumes b c ys → Consumes a c (xs ++ ys)
+pub Consumes-trans : (a b c : Option (List ℕ)) (xs ys : List ℕ) → Consumes a b xs → Consumes b c ys →
+    Consumes a c (xs ++ ys)
 Consumes-trans None b c xs ys h k = tt
 Consumes-trans (Some us) None c xs ys h k = absurd h
 Consumes-trans (Some us) (Some vs) None xs ys h k = absurd k
@@ -23,14 +24,16 @@ Appends-nil None = tt
 Appends-nil (Some us) = search rules
 
 -- two calls append what the first appended and then what the second appended
-pub Appends-trans : (a b c : Option (List ℕ)) (xs ys : List ℕ) → Appends a b xs → Appends b c ys → Appends a c (xs ++ ys)
+pub Appends-trans : (a b c : Option (List ℕ)) (xs ys : List ℕ) → Appends a b xs → Appends b c ys →
+    Appends a c (xs ++ ys)
 Appends-trans None b c xs ys h k = tt
 Appends-trans (Some us) None c xs ys h k = absurd h
 Appends-trans (Some us) (Some vs) None xs ys h k = absurd k
 Appends-trans (Some us) (Some vs) (Some ws) xs ys h k = rw (k, h, append_assoc)
 
 -- a whole piece and then a front of the next are a front of the two
-pub Appends-then_front : (a b c : Option (List ℕ)) (xs ys : List ℕ) → Appends a b xs → AppendsFront b c ys → AppendsFront a c (xs ++ ys)
+pub Appends-then_front : (a b c : Option (List ℕ)) (xs ys : List ℕ) → Appends a b xs → AppendsFront b c ys →
+    AppendsFront a c (xs ++ ys)
 Appends-then_front a b c xs ys h k =
     (xs ++ k.0, k.1, rw (k.2, append_assoc), Appends-trans a b c xs k.0 h k.3)
 

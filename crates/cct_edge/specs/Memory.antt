@@ -2,7 +2,8 @@
 use Rattle.std.specs.Prelude.{ℕ, ◌+◌, ◌<◌, List, ◌++◌, Contains, length, drop, min}
 use Rattle.cct_edge.specs.Faults.{next_count}
 
--- a source: the bytes still to come, the most that it gives in one call, the numbers of the calls that fail, and how many calls and faults there were
+-- a source: the bytes still to come, the most that it gives in one call, the numbers of the calls that fail, and how
+-- many calls and faults there were
 pub record MemoryInput : Type 0 where
   pub left : List ℕ
   pub most : ℕ
@@ -10,7 +11,8 @@ pub record MemoryInput : Type 0 where
   pub calls : ℕ
   pub faults : ℕ
 
--- a sink: the bytes written, how many it holds at most, the numbers of the calls that fail, and how many calls and faults there were
+-- a sink: the bytes written, how many it holds at most, the numbers of the calls that fail, and how many calls and
+-- faults there were
 pub record MemoryOutput : Type 0 where
   pub written : List ℕ
   pub room : ℕ

@@ -1,9 +1,11 @@
 // A source and a sink in memory, whose calls fail where they are told to.
-ghost use Rattle.std.specs.Prelude.{◌≡◌, ◌⊎◌, ◌↔◌, ◌<◌, ◌≤◌, [], Some, IsTrue, IsErr, IfOk, MatchResult, OnOk, OnErr, Contains, length, take, min};
+ghost use Rattle.std.specs.Prelude.{◌≡◌, ◌⊎◌, ◌↔◌, ◌<◌, ◌≤◌, [], Some, IsTrue, IsErr, IfOk, MatchResult, OnOk, OnErr};
+ghost use Rattle.std.specs.Prelude.{Contains, length, take, min};
 ghost use Rattle.std.specs.Io.{ReadsAtMost};
 ghost use Rattle.std.specs.Io.KnownBytes.{ReadConsumes};
 ghost use Rattle.cct_edge.specs.Faults.{HasCause, next_count};
-ghost use Rattle.cct_edge.specs.Memory.{FailsNext, PassesRoom, amount_into, input_after, input_after_fault, output_after, output_after_fault};
+ghost use Rattle.cct_edge.specs.Memory.{FailsNext, PassesRoom, amount_into, input_after, input_after_fault};
+ghost use Rattle.cct_edge.specs.Memory.{output_after, output_after_fault};
 
 use crate::fault::count_fault;
 use crate::{Failed, Sink, Source};
@@ -101,6 +103,10 @@ impl Source for MemSource {
     ghost left = { λ s. Some s.left };
 
     ghost faults = { λ s. s.faults };
+
+    ghost takes = { λ before room answer now. MatchResult answer
+        (λ n. (n ≡ amount_into room before) × (now ≡ input_after n before))
+        (λ _. now ≡ input_after_fault before) };
 
     fn take(&mut self, room: &mut [u8]) -> Result<usize, Failed>
         requires { 0 < length room.old }

@@ -1,5 +1,5 @@
-// A source over any reader and a sink over any writer. As a source and a sink they tell nothing of their bytes; their own
-// clauses say what the reader and the writer did, where those are known.
+// A source over any reader and a sink over any writer. As a source and a sink they tell nothing of their bytes; their
+// own clauses say what the reader and the writer did, where those are known.
 ghost use Rattle.std.specs.Prelude.{◌≡◌, None, OnOk, OnErr, MatchResult};
 ghost use Rattle.std.specs.Io.{ReadsAtMost};
 ghost use Rattle.std.specs.Io.KnownBytes.{Appends, ReadConsumes};
@@ -32,6 +32,10 @@ impl<R: Read> Source for StdSource<R> {
     ghost left = { λ _. None };
 
     ghost faults = { reader_faults };
+
+    ghost takes = { λ before _ answer now. MatchResult answer
+        (λ _. reader_faults now ≡ reader_faults before)
+        (λ _. reader_faults now ≡ next_count (reader_faults before)) };
 
     fn take(&mut self, room: &mut [u8]) -> Result<usize, Failed>
         ensures bound { ReadsAtMost result room.new }

@@ -36,15 +36,6 @@ fn a_source_in_memory_gives_pieces_and_fails_where_told(rt: HostRuntime) -> Resu
 }
 
 #[test]
-fn a_source_in_memory_gives_no_more_than_the_room(rt: HostRuntime) -> Result<(), Fail> {
-    let alloc = rt.alloc();
-    let mut source = MemSource::new([1, 2, 3, 4].to_vec(alloc)?, 9, Vec::new(alloc));
-    assert_eq!(rt; take_three(&mut source), Some((3, [1, 2, 3])));
-    assert_eq!(rt; take_three(&mut source), Some((1, [4, 0, 0])));
-    Ok(())
-}
-
-#[test]
 fn a_sink_in_memory_fails_where_told_and_past_its_room(rt: HostRuntime) -> Result<(), Fail> {
     let alloc = rt.alloc();
     let mut sink = MemSink::new(alloc, 5, [2].to_vec(alloc)?)?;
@@ -105,29 +96,11 @@ impl Write for Halting {
 }
 
 #[test]
-fn a_source_over_a_reader_gives_its_bytes(rt: HostRuntime) {
-    let mut source = StdSource::new([1, 2, 3, 4].as_slice());
-    assert_eq!(rt; take_three(&mut source), Some((3, [1, 2, 3])));
-    assert_eq!(rt; take_three(&mut source), Some((1, [4, 0, 0])));
-    assert_eq!(rt; take_three(&mut source), Some((0, [0, 0, 0])));
-}
-
-#[test]
 fn a_source_over_a_reader_fails_and_goes_on(rt: HostRuntime) {
     let mut source = StdSource::new(Halting::new(Vec::new(rt.alloc())));
     assert_eq!(rt; take_three(&mut source), Some((1, [1, 0, 0])));
     assert_eq!(rt; take_three(&mut source), None);
     assert_eq!(rt; take_three(&mut source), Some((1, [3, 0, 0])));
-}
-
-#[test]
-fn a_sink_over_a_writer_writes_whole_pieces(rt: HostRuntime) {
-    let mut bytes = Vec::new(rt.alloc());
-    let mut sink = StdSink::new(&mut bytes);
-    assert!(rt; is_put(&mut sink, &[1, 2]));
-    assert!(rt; is_put(&mut sink, &[]));
-    assert!(rt; is_put(&mut sink, &[3]));
-    assert_eq!(rt; bytes.as_slice(), [1, 2, 3].as_slice());
 }
 
 #[test]

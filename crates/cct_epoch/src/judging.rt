@@ -3,10 +3,10 @@
 ghost use Rattle.std.specs.Prelude.{◌≡◌, ◌≤◌, length};
 ghost use Rattle.cct_model.specs.Reading.{distance, posted_of, judge};
 
-use cct_model::{Coin, Coins, Credits, Judged, Pair, Record};
+use cct_model::{Coin, Coins, Credits, EVENTS, Judged, Pair, Record};
 
-/// How many events the credit buffer holds.
-const BUFFER: u8 = 5;
+/// How many values the cycle of an event counter has, 1 to 255.
+const CYCLE: u16 = 255;
 
 /// Judges a reading of the acceptor at an address, beside the inhibit mask and the event counter that are recorded of its
 /// epoch. The reading is the event counter, the credit buffer of the newest five events and the inhibit mask that was
@@ -38,7 +38,7 @@ pub fn judge(addr: u8, mask: u16, counter: u8, credits: &Credits, mask_seen: u16
     Judged::Reading(Record::Reading {
         addr,
         counter: counter_read,
-        lost: new_events.saturating_sub(BUFFER),
+        lost: new_events.saturating_sub(EVENTS as u8),
         posted,
     })
 }
@@ -56,16 +56,16 @@ pub fn distance(old: u8, new: u8) -> u8
     } else if new == 0 {
         0
     } else {
-        ((u16::from(new) + 255 - u16::from(old)) % 255) as u8
+        ((u16::from(new) + CYCLE - u16::from(old)) % CYCLE) as u8
     }
 }
 
 /// The coins of the newest so many events, oldest first.
-fn posted(new_events: u8, pairs: &[Pair; 5]) -> Coins
+fn posted(new_events: u8, pairs: &[Pair; EVENTS]) -> Coins
     ensures { result ≡ posted_of new_events pairs.now }
 {
     let mut coins = Coins::new();
-    let mut left = new_events.min(BUFFER) as usize;
+    let mut left = (new_events as usize).min(EVENTS);
     while left > 0 {
         left -= 1;
         let pair = pairs[left];

@@ -1,6 +1,6 @@
 //! The bytes by which a message is checked.
 ghost use Rattle.std.specs.Prelude.{◌≡◌, ◌++◌};
-ghost use Rattle.cct_model.specs.Message.{closing_byte, crc};
+ghost use Rattle.cct_terms.specs.Message.{closing_byte, crc};
 
 use cct_check::{crc16, crc16_step, simple_sum};
 

@@ -1,10 +1,10 @@
 //! A message is read where it stands.
 ghost use Rattle.std.specs.Prelude.{◌≡◌, ◌≢◌, ◌↔◌, ◌+◌, ◌-◌, ◌<◌, ◌≤◌, IfOk, IfErr, OnOk, OnErr, length, slice_index, slice_range, take};
-ghost use Rattle.cct_model.specs.Message.{closing_byte, crc, message};
+ghost use Rattle.cct_terms.specs.Message.{closing_byte, crc, message};
 ghost use Rattle.cct_frame.specs.Frame.{check_fault, crc_fault, crc_in, fault_in, message_of, source_in, sum_fault, under_crc};
 
 use crate::check::{closing, crc_of};
-use cct_model::CheckKind;
+use cct_terms::CheckKind;
 use thiserror::Error;
 
 /// A view of a message in the piece that carries it.

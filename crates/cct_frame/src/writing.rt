@@ -1,10 +1,10 @@
 //! A message is written into the bytes to be sent.
 ghost use Rattle.std.specs.Prelude.{◌≡◌, ◌≤◌, Option, ℕ, length};
-ghost use Rattle.cct_model.specs.Message.{spelling};
+ghost use Rattle.cct_terms.specs.Message.{spelling};
 
 use crate::check::{closing, crc_of};
 use arrayvec::ArrayVec;
-use cct_model::CheckKind;
+use cct_terms::{CheckKind, MOST_SENT};
 
 /// Writes one message in the place of what `out` holds. Under the CRC a message has no source, and `from` isn't used.
 pub fn write(
@@ -13,7 +13,7 @@ pub fn write(
     from: u8,
     header: u8,
     body: &[u8],
-    out: &mut ArrayVec<u8, 260>,
+    out: &mut ArrayVec<u8, MOST_SENT>,
 )
     requires { length body.now ≤ 255 }
     ensures { out.new.items ≡ spelling kind (record { to = to; from = Some from; header = header; body = body.now }) }
@@ -25,8 +25,8 @@ pub fn write(
 }
 
 /// Writes a message under the simple check.
-#[tactic(auto, unfolding(cct_model::specs::Message::spelling))]
-fn write_simple(to: u8, from: u8, header: u8, body: &[u8], out: &mut ArrayVec<u8, 260>)
+#[tactic(auto, unfolding(cct_terms::specs::Message::spelling))]
+fn write_simple(to: u8, from: u8, header: u8, body: &[u8], out: &mut ArrayVec<u8, MOST_SENT>)
     requires { length body.now ≤ 255 }
     ensures { out.new.items
         ≡ spelling CheckKind.Simple (record { to = to; from = Some from; header = header; body = body.now }) }
@@ -42,8 +42,8 @@ fn write_simple(to: u8, from: u8, header: u8, body: &[u8], out: &mut ArrayVec<u8
 }
 
 /// Writes a message under the CRC.
-#[tactic(auto, unfolding(cct_model::specs::Message::spelling))]
-fn write_crc(to: u8, header: u8, body: &[u8], out: &mut ArrayVec<u8, 260>)
+#[tactic(auto, unfolding(cct_terms::specs::Message::spelling))]
+fn write_crc(to: u8, header: u8, body: &[u8], out: &mut ArrayVec<u8, MOST_SENT>)
     requires { length body.now ≤ 255 }
     ensures { (from : Option ℕ) → out.new.items
         ≡ spelling CheckKind.Crc (record { to = to; from = from; header = header; body = body.now }) }

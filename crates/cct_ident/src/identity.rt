@@ -1,10 +1,10 @@
 //! What a device tells of itself (ccTalk Generic Specification 4, part 2): headers 246, 245, 244, 241 and 192 read its
 //! texts, and 242 its serial number.
 ghost use Rattle.std.specs.Prelude.{◌≡◌, ◌≤◌, codes, length};
-ghost use Rattle.cct_model.specs.Device.{category_of};
+ghost use Rattle.cct_terms.specs.Device.{category_of};
 ghost use Rattle.cct_ident.specs.Identity.{setup_of, text_of};
 
-use cct_model::{DeviceBody, DeviceSetup};
+use cct_terms::{DeviceBody, DeviceSetup, MOST_NAME};
 
 /// The texts by which a device names itself.
 #[derive(Clone, Copy, Debug, PartialEq, Eq)]
@@ -38,7 +38,7 @@ impl<'s> Identity<'s> {
     /// One of its texts, as bytes of ASCII. It lives as long as the setup.
     pub fn text(&self, which: IdentText) -> &'s [u8]
         ensures text { result.now ≡ text_of (setup_of self.now) which }
-        ensures fits { length result.now ≤ 24 }
+        ensures fits { length result.now ≤ MOST_NAME }
     {
         let texts = &self.setup.texts;
         match which {
@@ -61,7 +61,7 @@ impl<'s> Identity<'s> {
 /// The equipment category of a kind of device.
 fn category(body: &DeviceBody) -> &'static [u8]
     ensures category { result.now ≡ category_of body.now }
-    ensures fits { length result.now ≤ 24 }
+    ensures fits { length result.now ≤ MOST_NAME }
 {
     match body {
         DeviceBody::Acceptor { .. } => b"Coin Acceptor",

@@ -1,9 +1,9 @@
-pub mod Ends
+pub mod Begins
 pub mod Epochs
 pub mod Heard
+pub mod Needs
 pub mod Questions
-pub mod Rows
-pub mod Sets
 pub mod Scans
-pub mod Starts
+pub mod Sets
+pub mod Stages
 pub mod Tries

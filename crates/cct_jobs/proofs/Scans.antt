@@ -2,24 +2,24 @@
 use Rattle.std.proofs.Common.{◌≡◌, inl, inr, ℕ, suc, ◌<◌, ◌==◌, ◌&&◌, ◌||◌, not, Bool, true, false, cond, List, [], ◌∷◌, ◌++◌, length, refl, sym, ap, subst, ◌∙◌, Option, Some, None, arith, eq-eqb}
 use Rattle.std.specs.Prelude.{find, nat_le}
 use Rattle.std.specs.List.{list_any}
-use Rattle.std.proofs.lemmas.Bool.{and_parts, cases_eq, eqb-true, ne_eqb}
+use Rattle.std.proofs.lemmas.Bool.{and_parts, cases_eq, ne_eqb}
 use Rattle.std.proofs.lemmas.Bool.Decides.{nat_tests}
 use Rattle.std.proofs.lemmas.List.{append-nil}
 use Rattle.std.proofs.lemmas.List.Folds.{list_any-append}
-use Rattle.cct_model.specs.declared.wire.CheckKind.{CheckKind}
-use Rattle.cct_model.specs.declared.wire.CheckKind.TheVariants.{Simple, Crc}
-use Rattle.cct_model.specs.declared.device_set.DeviceSet.{DeviceSet}
-use Rattle.cct_model.specs.declared.entry.Listed.{Listed}
-use Rattle.cct_model.specs.declared.entry.End.TheVariants as ends_of
+use Rattle.cct_model.specs.terms.wire.CheckKind.{CheckKind}
+use Rattle.cct_model.specs.terms.wire.CheckKind.TheVariants.{Simple, Crc}
+use Rattle.cct_model.specs.lines.device_set.DeviceSet.{DeviceSet}
+use Rattle.cct_model.specs.lines.entry.Listed.{Listed}
+use Rattle.cct_model.specs.lines.entry.End.TheVariants as ends_of
 use Rattle.cct_model.specs.DeviceSet.{all_addresses, has}
 use Rattle.cct_model.specs.Exchange.{after_echo, ask}
 use Rattle.cct_model.specs.Line.{Line, scanned}
-use Rattle.cct_model.specs.Scan.{answers, echoes, is_acknowledged, is_due, next_due, noted, noted_by, poll_after, poll_due, poll_of, polls, same_check, scan_row, scan_tries, set_of}
+use Rattle.cct_model.specs.Scan.{answers, echoes, is_acknowledged, is_due, next_due, noted, noted_by, poll_after, poll_due, poll_of, polls, same_check, scan_row, scan_tries, set_of, end_by_row, end_of_scan, found, listed_in}
 use Rattle.cct_model.specs.Transcript.{scan_line}
 use Rattle.cct_model.proofs.Polls.{simple_poll_line, poll_line}
 use Rattle.cct_jobs.specs.Jobs.{after_failed}
 use Rattle.cct_jobs.specs.Scans.{CallsCrc, CallsSimple, HasDue, Lists, Polls, Unpolled}
-use Rattle.cct_model.specs.Scan.{end_of_scan, found, listed_in}
+use Rattle.cct_jobs.proofs.Stages.{one_more_try, third_try}
 use Rattle.cct_jobs.proofs.Sets.{find_same, found_passes, same_set}
 
 -- the line of a poll
@@ -29,25 +29,6 @@ simple_line addr sent heard is_ask = subst (λ p. scan_line p heard ≡ scanned 
 
 pub crc_line : (addr : ℕ) (sent heard : List ℕ) → addr < 256 → sent ≡ ask Crc addr (poll_of addr) → scan_line sent heard ≡ scanned Crc addr (after_echo sent heard)
 crc_line addr sent heard within is_ask = subst (λ p. scan_line p heard ≡ scanned Crc addr (after_echo p heard)) (sym is_ask) (poll_line Crc addr heard within)
-
--- tries of a call
-
-test_none : (b : Bool) (n : ℕ) → cond b None (Some n) ≡ None → b ≡ true
-test_none true n e = refl
-test_none false n e = absurd cc
-
-test_some : (b : Bool) (n m : ℕ) → cond b None (Some n) ≡ Some m → (b ≡ false) × (n ≡ m)
-test_some true n m e = absurd cc
-test_some false n m e = (refl, cc)
-
-more_few : (failed n : ℕ) → after_failed failed ≡ Some n → failed < 3 → (n ≡ suc failed) × (n < 3)
-more_few failed n more few =
-    let parts = test_some (suc failed == 3) (suc failed) n more in
-    let fewer : suc failed < 3 = grind (arith, nat_tests, parts.0) in
-    (sym parts.1, subst (λ k. k < 3) parts.1 fewer)
-
-third : (failed : ℕ) → after_failed failed ≡ None → suc failed ≡ 3
-third failed last = eqb-true _ _ (test_none (suc failed == 3) (suc failed) last)
 
 or_true : (b : Bool) → (b || true) ≡ true
 or_true true = refl
@@ -94,12 +75,13 @@ fresh_call Crc rest since fresh = record {
 
 pub simple_again : (failed n : ℕ) (since : List Line) → CallsSimple failed since → after_failed failed ≡ Some n → CallsSimple n (scanned Simple 0 None ∷ since)
 simple_again failed n since at more =
-    let counts = more_few failed n more at.few in
+    let counts = one_more_try failed n more at.few in
     record {
       no_simple = at.no_simple;
       no_crc = at.no_crc;
       nothing = at.nothing;
       fresh = fresh_call Simple None since at.fresh;
+      quiet = refl;
       counted = counts.0 ∙ ap suc at.counted;
       few = counts.1;
     }
@@ -107,17 +89,18 @@ simple_again failed n since at more =
 pub simple_unanswered : (failed : ℕ) (since : List Line) → CallsSimple failed since → after_failed failed ≡ None → end_of_scan (scanned Simple 0 None ∷ since) ≡ Some ends_of.NoAnswer
 unfolding end_of_scan
 simple_unanswered failed since at last =
-    let all : suc (scan_tries Simple since) ≡ 3 = ap suc (sym at.counted) ∙ third failed last in
+    let all : suc (scan_tries Simple since) ≡ 3 = ap suc (sym at.counted) ∙ third_try failed last in
     rw (eq-eqb _ _ all) refl
 
 pub crc_again : (failed n : ℕ) (due : DeviceSet) (since : List Line) → CallsCrc failed due since → after_failed failed ≡ Some n → CallsCrc n due (scanned Crc 0 None ∷ since)
 crc_again failed n due since at more =
-    let counts = more_few failed n more at.few in
+    let counts = one_more_try failed n more at.few in
     record {
       simple = at.simple;
       no_crc = at.no_crc;
       due_is = at.due_is;
       fresh = fresh_call Crc None since at.fresh;
+      quiet = refl;
       counted = counts.0 ∙ ap suc at.counted;
       few = counts.1;
     }
@@ -125,7 +108,7 @@ crc_again failed n due since at more =
 pub crc_unanswered : (failed : ℕ) (due : DeviceSet) (since : List Line) → CallsCrc failed due since → after_failed failed ≡ None → end_of_scan (scanned Crc 0 None ∷ since) ≡ Some ends_of.NoAnswer
 unfolding end_of_scan
 crc_unanswered failed due since at last =
-    let all : suc (scan_tries Crc since) ≡ 3 = ap suc (sym at.counted) ∙ third failed last in
+    let all : suc (scan_tries Crc since) ≡ 3 = ap suc (sym at.counted) ∙ third_try failed last in
     rw (eq-eqb _ _ all) refl
 
 -- what is noted behind a call
@@ -151,6 +134,7 @@ simple_called failed before due rest since at empty noted_now = record {
       ∙ due_first (nat_le 2 a) (among a rest) (list_any (polls a) (scanned Simple 0 (Some rest) ∷ since)) ((fresh_call Simple (Some rest) since at.fresh).unpolled a)
       ∙ ap (λ bytes. nat_le 2 a && among a bytes && not (list_any (polls a) (scanned Simple 0 (Some rest) ∷ since))) (sym (append-nil rest) ∙ ap (λ bytes. rest ++ bytes) (sym at.nothing));
   fresh = fresh_call Simple (Some rest) since at.fresh;
+  quiet = refl;
   counted = refl;
   few = omega arith;
 }
@@ -375,6 +359,29 @@ unfolding end_of_scan
 scan_ends due listed since at after first =
     let row_is : scan_row since ≡ None = lists_row due listed since at ∙ after ∙ ap poll_due (due_found due since at.due_is ∙ first) in
     rw (at.quiet_simple, at.quiet_crc, row_is) (ap (λ l. Some (ends_of.Listed l)) (listed_is due listed since at))
+
+-- a scan that sends something isn't done
+
+three_not : (n : ℕ) → n < 3 → (n == 3) ≡ false
+three_not n few = grind (arith, nat_tests)
+
+no_end : (since : List Line) (check : CheckKind) (addr : ℕ) → scan_tries Simple since < 3 → scan_tries Crc since < 3
+    → scan_row since ≡ Some (check, addr) → end_of_scan since ≡ None
+unfolding end_of_scan
+no_end since check addr simple crc is_row = rw (three_not _ simple, three_not _ crc) (ap (end_by_row since) is_row)
+
+pub calls_simple_on : (failed : ℕ) (since : List Line) → CallsSimple failed since → end_of_scan since ≡ None
+calls_simple_on failed since at =
+    no_end since Simple 0 (subst (λ n. n < 3) at.counted at.few) (omega (arith, at.quiet)) (calls_simple_row failed since at)
+
+pub calls_crc_on : (failed : ℕ) (due : DeviceSet) (since : List Line) → CallsCrc failed due since → end_of_scan since ≡ None
+calls_crc_on failed due since at =
+    no_end since Crc 0 (omega (arith, at.quiet)) (subst (λ n. n < 3) at.counted at.few) (calls_crc_row failed due since at)
+
+pub polls_on : (check : CheckKind) (addr : ℕ) (due : DeviceSet) (listed : Listed) (since : List Line)
+    → Polls check addr due listed since → end_of_scan since ≡ None
+polls_on check addr due listed since at =
+    no_end since check addr (omega (arith, at.lists.quiet_simple)) (omega (arith, at.lists.quiet_crc)) (polls_row check addr due listed since at)
 
 -- the line of a call, by what follows its echo
 pub simple_heard : (addr : ℕ) (sent heard : List ℕ) (rest : Option (List ℕ)) → sent ≡ ask Simple addr (poll_of addr) → after_echo sent heard ≡ rest → scan_line sent heard ≡ scanned Simple addr rest

@@ -4,7 +4,7 @@ use Rattle.std.specs.Prelude.{find}
 use Rattle.std.proofs.lemmas.Bool.{cases_eq}
 use Rattle.std.proofs.lemmas.List.{length-map, get_or-map, get_or_append_left, get_or_at, ext_get_or}
 use Rattle.std.proofs.lemmas.List.Folds.{find-append}
-use Rattle.cct_model.specs.declared.device_set.DeviceSet.{DeviceSet}
+use Rattle.cct_model.specs.lines.device_set.DeviceSet.{DeviceSet}
 use Rattle.cct_model.specs.DeviceSet.{addresses_below, all_addresses, has}
 use Rattle.cct_model.specs.Scan.{set_of}
 use Rattle.cct_model.proofs.Polls.{length_below}

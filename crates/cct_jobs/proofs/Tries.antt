@@ -1,22 +1,22 @@
 -- What the definitions say of failed tries.
 use Rattle.std.proofs.Common.{◌≡◌, ◌≢◌, ◌↔◌, ℕ, suc, zero, ◌==◌, Bool, true, false, cond, List, ◌∷◌, length, refl, ap, ◌∙◌, Some, None, arith}
 use Rattle.std.proofs.lemmas.Bool.{eqb-true, ne_eqb}
-use Rattle.cct_model.specs.declared.command.Command.{Command}
-use Rattle.cct_model.specs.declared.command.Command.TheVariants as command
-use Rattle.cct_model.specs.declared.device.DeviceBody.{DeviceBody}
-use Rattle.cct_model.specs.declared.device.DeviceSetup.{DeviceSetup}
-use Rattle.cct_model.specs.declared.entry.End.TheVariants.{NoAnswer, Told, Unquiet}
-use Rattle.cct_model.specs.declared.request.Request.{Request}
-use Rattle.cct_model.specs.declared.request.Request.TheVariants.{SetMask}
-use Rattle.cct_model.specs.declared.record.EpochState.{EpochState}
-use Rattle.cct_model.specs.declared.record.Judged.{Judged}
-use Rattle.cct_model.specs.declared.record.Judged.TheVariants.{Nothing, Reading, Broken}
+use Rattle.cct_model.specs.lines.command.Command.{Command}
+use Rattle.cct_model.specs.lines.command.Command.TheVariants as command
+use Rattle.cct_model.specs.terms.device.DeviceBody.{DeviceBody}
+use Rattle.cct_model.specs.terms.device.DeviceSetup.{DeviceSetup}
+use Rattle.cct_model.specs.lines.entry.End.TheVariants.{NoAnswer, Told, Unquiet}
+use Rattle.cct_model.specs.terms.request.Request.{Request}
+use Rattle.cct_model.specs.terms.request.Request.TheVariants.{SetMask}
+use Rattle.cct_model.specs.declared.judging.EpochState.{EpochState}
+use Rattle.cct_model.specs.declared.judging.Judged.{Judged}
+use Rattle.cct_model.specs.declared.judging.Judged.TheVariants.{Nothing, Reading, Broken}
 use Rattle.cct_model.specs.Job.{done, end_of, end_of_answer, end_of_failure, end_of_path, end_of_reading, end_of_round, end_of_start, end_of_tries, ident_requests, is_once, judged_in, tries}
 use Rattle.cct_model.specs.Line.{Line, exchange}
 use Rattle.cct_model.specs.Reply.{Reply}
 use Rattle.cct_model.specs.Reply as reply
 use Rattle.cct_model.specs.Request.{header_of}
-use Rattle.cct_jobs.proofs.Rows.{fails_by_tries, tried}
+use Rattle.cct_jobs.proofs.Stages.{fails_by_tries, tried}
 
 cond_some : (b : Bool) → cond b (Some NoAnswer) None ≡ Some NoAnswer → b ≡ true
 cond_some true e = refl
@@ -27,7 +27,8 @@ by_tries (SetMask mask) failed again e = absurd cc
 by_tries q failed again e = eqb-true _ _ (cond_some (failed == 3) e)
 
 -- the third failed try of what is sent again ends a job, and no other does
-pub third_ends : (d : DeviceSetup) (c : Command) (q : Request) (since : List Line) (state : EpochState) → is_once q ≡ false
+pub third_ends : (d : DeviceSetup) (c : Command) (q : Request) (since : List Line) (state : EpochState)
+    → is_once q ≡ false
     → (end_of d c (exchange (Some q) None) since state ≡ Some NoAnswer) ↔ (tries (header_of q) since ≡ 2)
 third_ends d c q since state again = (
   λ ends.
@@ -72,7 +73,8 @@ by_path place (suc (suc zero)) (reply.path number) e = cc
 by_path place (suc (suc zero)) y e = cc
 by_path place (suc (suc (suc rows))) y e = cc
 
-by_answer : (body : DeviceBody) (c : Command) (rows : ℕ) (y : Reply) (means : Judged) → end_of_answer body c rows y means ≢ Some NoAnswer
+by_answer : (body : DeviceBody) (c : Command) (rows : ℕ) (y : Reply) (means : Judged)
+    → end_of_answer body c rows y means ≢ Some NoAnswer
 by_answer body (command.Start addr mask) rows y means e = by_start rows y e
 by_answer body (command.Round addr) rows y means e = by_round rows means e
 by_answer body (command.Ident addr) rows y means e = by_all (length (ident_requests body) == rows) e
@@ -87,5 +89,6 @@ answer_goes_on d c q y since state e =
     by_answer d.body c (done (line ∷ since)) y (judged_in c (line ∷ since) state) e
 
 -- an exchange of another row begins the count anew
-pub other_clears : (q : Request) (header : ℕ) (since : List Line) → header_of q ≢ header → tries header (exchange (Some q) None ∷ since) ≡ 0
+pub other_clears : (q : Request) (header : ℕ) (since : List Line) → header_of q ≢ header
+    → tries header (exchange (Some q) None ∷ since) ≡ 0
 other_clears q header since other = rw (ne_eqb (header_of q) header other) refl

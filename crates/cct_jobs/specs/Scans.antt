@@ -1,17 +1,17 @@
 -- The lines of a scan, newest first, that a job stands for.
 use Rattle.std.specs.Prelude.{◌≡◌, ◌<◌, nat_le, ℕ, true, false, List, [], length, Some}
 use Rattle.std.specs.List.{list_any}
-use Rattle.cct_model.specs.declared.wire.CheckKind.{CheckKind}
-use Rattle.cct_model.specs.declared.wire.CheckKind.TheVariants.{Simple, Crc}
-use Rattle.cct_model.specs.declared.device_set.DeviceSet.{DeviceSet}
-use Rattle.cct_model.specs.declared.entry.Listed.{Listed}
+use Rattle.cct_model.specs.terms.wire.CheckKind.{CheckKind}
+use Rattle.cct_model.specs.terms.wire.CheckKind.TheVariants.{Simple, Crc}
+use Rattle.cct_model.specs.lines.device_set.DeviceSet.{DeviceSet}
+use Rattle.cct_model.specs.lines.entry.Listed.{Listed}
 use Rattle.cct_model.specs.DeviceSet.{has}
 use Rattle.cct_model.specs.Line.{Line}
 use Rattle.cct_model.specs.Scan.{echoes, end_of_scan, found, is_due, noted, poll_after, polls, scan_row, scan_tries}
 use Rattle.cct_jobs.specs.declared.job.Need.{Need}
 use Rattle.cct_jobs.specs.declared.job.Need.TheVariants as need
 use Rattle.cct_jobs.specs.declared.job.Job.{Job}
-use Rattle.cct_jobs.specs.declared.job.Job.TheVariants.{StartResets, StartReads, StartPuts, StartSets, RoundReads, RoundLooks, StopInhibits, StopReads, StopLooks, StopPuts, Puts, IdentAsks, PathSets, PathReads, ScanCallsSimple, ScanCallsCrc, ScanPollsSimple, ScanPollsCrc, Done}
+use Rattle.cct_jobs.specs.declared.job.Job.TheVariants.{ScanCallsSimple, ScanCallsCrc, ScanPollsSimple, ScanPollsCrc, Done}
 
 -- No device was polled.
 pub record Unpolled (since : List Line) : Type 0 where
@@ -24,6 +24,7 @@ pub record CallsSimple (failed : ℕ) (since : List Line) : Type 0 where
   pub no_crc : list_any (echoes Crc 0) since ≡ false
   pub nothing : noted since ≡ []
   pub fresh : Unpolled since
+  pub quiet : scan_tries Crc since ≡ 0
   pub counted : failed ≡ scan_tries Simple since
   pub few : failed < 3
 
@@ -37,6 +38,7 @@ pub record CallsCrc (failed : ℕ) (due : DeviceSet) (since : List Line) : Type 
   pub no_crc : list_any (echoes Crc 0) since ≡ false
   pub due_is : HasDue due since
   pub fresh : Unpolled since
+  pub quiet : scan_tries Simple since ≡ 0
   pub counted : failed ≡ scan_tries Crc since
   pub few : failed < 3
 
@@ -65,23 +67,16 @@ StandsScan (ScanCallsCrc failed due) since = CallsCrc failed due since
 StandsScan (ScanPollsSimple addr due listed) since = Polls Simple addr due listed since
 StandsScan (ScanPollsCrc addr due listed) since = Polls Crc addr due listed since
 StandsScan (Done end) since = end_of_scan since ≡ Some end
-StandsScan (StartResets device mask failed) since = ⊥
-StandsScan (StartReads device mask failed) since = ⊥
-StandsScan (StartPuts device mask) since = ⊥
-StandsScan (StartSets device mask) since = ⊥
-StandsScan (RoundReads device recorded failed) since = ⊥
-StandsScan (RoundLooks device recorded read failed) since = ⊥
-StandsScan (StopInhibits device recorded failed) since = ⊥
-StandsScan (StopReads device recorded failed) since = ⊥
-StandsScan (StopLooks device recorded read failed) since = ⊥
-StandsScan (StopPuts device entry) since = ⊥
-StandsScan (Puts entry end) since = ⊥
-StandsScan (IdentAsks device question failed) since = ⊥
-StandsScan (PathSets device place path failed) since = ⊥
-StandsScan (PathReads device place failed) since = ⊥
+StandsScan job since = ⊥
+
+-- A scan polls an address under a check next.
+pub record PollsNext (since : List Line) : Type 0 where
+  pub check : CheckKind
+  pub addr : ℕ
+  pub row_is : scan_row since ≡ Some (check, addr)
 
 -- What a scan needs, by its lines: it polls an address, or it ended so.
 abbrev pub NeedsScan : Need → List Line → Type 0
-NeedsScan need.Exchange since = (check : CheckKind) × (addr : ℕ) × (scan_row since ≡ Some (check, addr))
+NeedsScan need.Exchange since = PollsNext since
 NeedsScan (need.Put entry) since = ⊥
 NeedsScan (need.Done end) since = end_of_scan since ≡ Some end

@@ -1,54 +1,29 @@
 //! The identification: a device is asked for all that it tells of itself, one thing after the other (ccTalk Generic
 //! Specification 4, parts 2 and 3).
-ghost use Rattle.std.specs.Prelude.{◌≡◌, List, ℕ, suc, ◌∷◌, Some, slice_get};
-ghost use Rattle.cct_model.specs.declared.command.Command.{Command};
-ghost use Rattle.cct_model.specs.declared.device.DeviceBody.{DeviceBody};
-ghost use Rattle.cct_model.specs.declared.device.DeviceSetup.{DeviceSetup};
-ghost use Rattle.cct_model.specs.declared.record.EpochState.{EpochState};
-ghost use Rattle.cct_model.specs.Exchange.{ask};
-ghost use Rattle.cct_model.specs.Job.{ident_requests};
-ghost use Rattle.cct_model.specs.Legal.{is_acceptor};
-ghost use Rattle.cct_model.specs.Line.{Line};
-ghost use Rattle.cct_jobs.specs.Jobs.{IdentAsksAt, IsAnswer, Stands, line_heard, question_after};
+ghost use Rattle.std.specs.Prelude.{◌≡◌, ◌≤◌, List, ℕ, ◌∷◌, Some};
+ghost use Rattle.cct_model.specs.lines.command.Command.{Command};
+ghost use Rattle.cct_model.specs.terms.device.DeviceSetup.{DeviceSetup};
+ghost use Rattle.cct_model.specs.declared.judging.EpochState.{EpochState};
+ghost use Rattle.cct_model.specs.Line.{Line, exchange};
+ghost use Rattle.cct_model.specs.Reply.{Reply};
+ghost use Rattle.cct_jobs.specs.declared.stage.Stage.TheVariants.{IdentAsks};
+ghost use Rattle.cct_jobs.specs.Jobs.{Asking, Stands, may_put_of, question_after};
 
+use crate::asks::first_try;
 use crate::job::Job;
-use crate::target::{Target, after_failed};
-use cct_model::{End, Request};
-
-/// The last coin place of an acceptor.
-const LAST_PLACE: u8 = 16;
-
-/// The identification after it heard what followed its question.
-pub(crate) fn heard(device: Target, question: Request, failed: u8, sent: &[u8], heard: &[u8]) -> Job
-    ensures { (d : DeviceSetup) (c : Command) (since : List Line) (state : EpochState)
-        → IdentAsksAt d device question failed c since state → sent.now ≡ ask d.kind d.addr question
-        → Stands d result c (line_heard d sent.now heard.now ∷ since) state }
-{
-    if device.has_replied(question, sent, heard) {
-        return told(device, question);
-    }
-    match after_failed(failed) {
-        Some(failed) => Job::IdentAsks {
-            device,
-            question,
-            failed,
-        },
-        None => Job::Done(End::NoAnswer),
-    }
-}
+use crate::stage::Stage;
+use crate::target::Target;
+use cct_model::{COIN_PLACES, End, Request};
 
 /// The identification after this question was answered.
-fn told(device: Target, question: Request) -> Job
-    ensures { (d : DeviceSetup) (c : Command) (since : List Line) (state : EpochState) (failed : ℕ) (line : Line)
-        → IdentAsksAt d device question failed c since state → IsAnswer line question
-        → Stands d result c (line ∷ since) state }
+pub(crate) fn told(device: Target, question: Request) -> Job
+    ensures device { (d : DeviceSetup) (c : Command) (since : List Line) (state : EpochState) (failed : ℕ) (y : Reply)
+        → Asking d device (IdentAsks question) failed c since state
+        → Stands d result c (exchange (Some question) (Some y) ∷ since) state }
+    ensures may_put { may_put_of result ≤ 0 }
 {
     match question_after(question, device.is_acceptor) {
-        Some(question) => Job::IdentAsks {
-            device,
-            question,
-            failed: 0,
-        },
+        Some(question) => first_try(device, Stage::IdentAsks { question }),
         None => Job::Done(End::Told),
     }
 }
@@ -71,7 +46,7 @@ fn question_after(question: Request, is_acceptor: bool) -> Option<Request>
         Request::GetMaster => Some(Request::GetDefault),
         Request::GetDefault => Some(Request::AcceptCount),
         Request::AcceptCount => Some(Request::CoinId { place: 1 }),
-        Request::CoinId { place } if place < LAST_PLACE => Some(Request::CoinId {
+        Request::CoinId { place } if (place as usize) < COIN_PLACES => Some(Request::CoinId {
             place: place + 1,
         }),
         _ => None,

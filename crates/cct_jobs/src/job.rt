@@ -1,119 +1,57 @@
 //! A job, by the row at which it stands.
-ghost use Rattle.std.specs.Prelude.{◌≡◌, ◌≢◌, IsSome, List, ℕ, [], ◌∷◌, Some};
-ghost use Rattle.cct_model.specs.declared.command.Command.{Command};
-ghost use Rattle.cct_model.specs.declared.command.Command.TheVariants as command;
-ghost use Rattle.cct_model.specs.declared.device.DeviceSetup.{DeviceSetup};
-ghost use Rattle.cct_model.specs.declared.record.EpochState.{EpochState};
-ghost use Rattle.cct_model.specs.declared.record.Record.{Record};
-ghost use Rattle.cct_model.specs.declared.request.Request.{Request};
-ghost use Rattle.cct_model.specs.declared.wire.CheckKind.{CheckKind};
+ghost use Rattle.std.specs.Prelude.{◌≡◌, ◌≢◌, ◌≤◌, ◌<◌, List, ℕ, [], ◌∷◌, Some, None};
+ghost use Rattle.cct_model.specs.lines.command.Command.{Command};
+ghost use Rattle.cct_model.specs.lines.command.Command.TheVariants as command;
+ghost use Rattle.cct_model.specs.terms.device.DeviceSetup.{DeviceSetup};
+ghost use Rattle.cct_model.specs.declared.judging.EpochState.{EpochState};
+ghost use Rattle.cct_model.specs.lines.record.Record.{Record};
+ghost use Rattle.cct_model.specs.terms.request.Request.{Request};
+ghost use Rattle.cct_model.specs.terms.wire.CheckKind.{CheckKind};
 ghost use Rattle.cct_model.specs.Exchange.{ask, device_at};
-ghost use Rattle.cct_model.specs.Job.{address_of, puts, row, sends};
+ghost use Rattle.cct_model.specs.Job.{address_of, done, row, sends};
 ghost use Rattle.cct_model.specs.Line.{Line, put};
-ghost use Rattle.cct_model.specs.Scan.{poll_of, scan_row};
+ghost use Rattle.cct_model.specs.Scan.{end_of_scan, poll_of, scan_row};
 ghost use Rattle.cct_model.specs.Transcript.{scan_line};
-ghost use Rattle.cct_jobs.specs.Jobs.{IsPut, IsRunning, MayBegin, Needs, Stands, line_heard, need_of, runs, sending_of};
+ghost use Rattle.cct_jobs.specs.Jobs.{IsPut, IsRunning, MayBegin, Needs, Stands, after_put, end_of_job, line_heard, may_put_of, need_of, newest_end, puts_at, records_of, runs, sending_of};
 ghost use Rattle.cct_jobs.specs.Scans.{NeedsScan, StandsScan};
 
+use crate::asks::first_try;
+use crate::stage::{Recorded, Stage, Visit};
 use crate::target::{Target, target_at};
-use crate::{ident, path, round, scan, start, stop};
+use crate::{asks, scan};
 use cct_epoch::EpochState;
-use cct_model::{CheckKind, Command, Credits, DeviceSet, End, Listed, Record, Request, Setup};
+use cct_model::{BROADCAST, CheckKind, Command, DeviceSet, End, Listed, Record, Request, Setup};
 use std::alloc::AllocError;
 
-/// What is recorded of an epoch that runs: its inhibit mask, and the event counter of its last recorded reading, or 0.
-#[derive(Clone, Copy, Debug, PartialEq, Eq)]
-pub struct Recorded {
-    pub mask: u16,
-    pub counter: u8,
-}
-
-/// A job of the host, by the row at which it stands. A row that sends a request is tried three times in succession at
-/// the most: `failed` of its tries got no wanted reply so far. The mask that lets coins in is sent once alone.
+/// A job of the host, by the row at which it stands.
 #[derive(Debug, Drop)]
 pub enum Job {
-    /// A start resets its acceptor.
-    StartResets {
+    /// A row that asks the job's device is tried three times in succession at the most: `failed` of its tries got no
+    /// wanted reply so far.
+    Asks {
         device: Target,
-        mask: u16,
+        stage: Stage,
         failed: u8,
     },
-    /// It reads the credits, whose event counter has to be 0.
-    StartReads {
-        device: Target,
-        mask: u16,
-        failed: u8,
-    },
-    /// It puts that an epoch begins.
+    /// A start puts that an epoch begins.
     StartPuts {
         device: Target,
         mask: u16,
     },
-    /// It sets the inhibit mask, once.
-    StartSets {
-        device: Target,
-        mask: u16,
-    },
-    /// A round reads the credits of an acceptor, beside what is recorded of its epoch.
-    RoundReads {
-        device: Target,
-        recorded: Recorded,
-        failed: u8,
-    },
-    /// It looks at the inhibit mask after these credits were read.
-    RoundLooks {
-        device: Target,
-        recorded: Recorded,
-        credits: Credits,
-        failed: u8,
-    },
-    /// A stop inhibits every coin of its acceptor.
-    StopInhibits {
-        device: Target,
-        recorded: Recorded,
-        failed: u8,
-    },
-    /// It reads the credits.
-    StopReads {
-        device: Target,
-        recorded: Recorded,
-        failed: u8,
-    },
-    /// It looks at the inhibit mask after these credits were read.
-    StopLooks {
-        device: Target,
-        recorded: Recorded,
-        credits: Credits,
-        failed: u8,
-    },
-    /// It puts this last reading, after which it puts that the epoch ends.
-    StopPuts {
-        device: Target,
-        entry: Record,
-    },
-    /// A job puts its last record, and then ends so.
-    Puts {
+    /// A round puts what it judged, and then ends so.
+    RoundPuts {
         entry: Record,
         end: End,
     },
-    /// An identification asks a device for one of the things that it tells of itself.
-    IdentAsks {
+    /// A stop puts what it judged, and then ends so, or else puts that the epoch ends.
+    StopPuts {
         device: Target,
-        question: Request,
-        failed: u8,
+        entry: Record,
+        end: Option<End>,
     },
-    /// The sorter path of a coin place is set, or with place 0 the default path.
-    PathSets {
+    /// A stop puts that the epoch ends.
+    StopEnds {
         device: Target,
-        place: u8,
-        path: u8,
-        failed: u8,
-    },
-    /// It is read back.
-    PathReads {
-        device: Target,
-        place: u8,
-        failed: u8,
     },
     /// A scan polls all devices under the simple check.
     ScanCallsSimple {
@@ -168,77 +106,117 @@ impl Job {
         ensures device { (d : DeviceSetup) → device_at setup.now.devices (address_of command.now) ≡ Some d
             → command.now ≢ Command.Scan → Stands d result command.now [] epoch.now }
         ensures scan { command.now ≡ Command.Scan → StandsScan result [] }
+        ensures asks { need_of result ≡ Need.Exchange }
+        ensures may_put { may_put_of result ≡ records_of command.now }
     {
         match *command {
-            Command::Start { addr, mask } => Job::StartResets {
-                device: target_at(setup, addr),
-                mask,
-                failed: 0,
-            },
-            Command::Round { addr } => Job::RoundReads {
-                device: target_at(setup, addr),
-                recorded: recorded_in(epoch),
-                failed: 0,
-            },
-            Command::Stop { addr } => Job::StopInhibits {
-                device: target_at(setup, addr),
-                recorded: recorded_in(epoch),
-                failed: 0,
-            },
-            Command::Ident { addr } => Job::IdentAsks {
-                device: target_at(setup, addr),
-                question: Request::MakerId,
-                failed: 0,
-            },
-            Command::Path { addr, place, path } => Job::PathSets {
-                device: target_at(setup, addr),
-                place,
-                path,
-                failed: 0,
-            },
+            Command::Start { addr, mask } => {
+                first_try(target_at(setup, addr), Stage::StartResets { mask })
+            }
+            Command::Round { addr } => first_try(
+                target_at(setup, addr),
+                Stage::Reads {
+                    visit: Visit::Round,
+                    recorded: recorded_in(epoch),
+                },
+            ),
+            Command::Stop { addr } => first_try(
+                target_at(setup, addr),
+                Stage::StopInhibits {
+                    recorded: recorded_in(epoch),
+                },
+            ),
+            Command::Ident { addr } => first_try(
+                target_at(setup, addr),
+                Stage::IdentAsks {
+                    question: Request::MakerId,
+                },
+            ),
+            Command::Path { addr, place, path } => {
+                first_try(target_at(setup, addr), Stage::PathSets { place, path })
+            }
             Command::Scan => Job::ScanCallsSimple { failed: 0 },
             _ => unreachable!(),
         }
     }
 
     /// What the job needs next.
+    #[tactic(auto, using(crate::proofs::Needs::need_known, crate::proofs::Needs::scan_need_known, crate::proofs::Needs::put_allowed))]
     pub fn needs(&self) -> Need
         ensures value { result ≡ need_of self.now }
-        ensures asks { result ≡ Need.Exchange → IsSome (sending_of self.now) }
-        ensures puts { (entry : Record) → result ≡ Need.Put entry → IsPut self.now }
+        ensures may_put { (entry : Record) → result ≡ Need.Put entry → 1 ≤ may_put_of self.now }
         ensures row { (d : DeviceSetup) (c : Command) (since : List Line) (state : EpochState)
             → Stands d self.now c since state → Needs result d c since state }
         ensures scan { (since : List Line) → StandsScan self.now since → NeedsScan result since }
+    {
+        self.need()
+    }
+
+    /// What the job needs next, by its row.
+    fn need(&self) -> Need
+        ensures { result ≡ need_of self.now }
     {
         match self {
             Job::StartPuts { device, mask } => Need::Put(Record::Epoch {
                 addr: device.addr,
                 mask: *mask,
             }),
+            Job::RoundPuts { entry, .. } => Need::Put(copied(entry)),
             Job::StopPuts { entry, .. } => Need::Put(copied(entry)),
-            Job::Puts { entry, .. } => Need::Put(copied(entry)),
+            Job::StopEnds { device } => Need::Put(Record::EpochEnd { addr: device.addr }),
             Job::Done(end) => Need::Done(*end),
-            Job::StartResets { .. } => Need::Exchange,
-            Job::StartReads { .. } => Need::Exchange,
-            Job::StartSets { .. } => Need::Exchange,
-            Job::RoundReads { .. } => Need::Exchange,
-            Job::RoundLooks { .. } => Need::Exchange,
-            Job::StopInhibits { .. } => Need::Exchange,
-            Job::StopReads { .. } => Need::Exchange,
-            Job::StopLooks { .. } => Need::Exchange,
-            Job::IdentAsks { .. } => Need::Exchange,
-            Job::PathSets { .. } => Need::Exchange,
-            Job::PathReads { .. } => Need::Exchange,
-            Job::ScanCallsSimple { .. } => Need::Exchange,
-            Job::ScanCallsCrc { .. } => Need::Exchange,
-            Job::ScanPollsSimple { .. } => Need::Exchange,
-            Job::ScanPollsCrc { .. } => Need::Exchange,
+            _ => Need::Exchange,
+        }
+    }
+
+    /// The end of a job that is done, or none while it runs.
+    #[tactic(auto, using(crate::proofs::Needs::end_known, crate::proofs::Needs::scan_end_known))]
+    pub fn end(&self) -> Option<End>
+        ensures value { result ≡ end_of_job self.now }
+        ensures row { (d : DeviceSetup) (c : Command) (since : List Line) (state : EpochState)
+            → Stands d self.now c since state → result ≡ newest_end d c since state }
+        ensures scan { (since : List Line) → StandsScan self.now since → result ≡ end_of_scan since }
+    {
+        self.told_end()
+    }
+
+    /// The end that a job tells which is done.
+    fn told_end(&self) -> Option<End>
+        ensures { result ≡ end_of_job self.now }
+    {
+        match self {
+            Job::Done(end) => Some(*end),
+            _ => None,
+        }
+    }
+
+    /// How many records the job may still put. A put that ends a stop with a break leaves none of its two.
+    pub fn may_put(&self) -> u32
+        ensures value { result ≡ may_put_of self.now }
+        ensures row { (d : DeviceSetup) (c : Command) (since : List Line) (state : EpochState)
+            → Stands d self.now c since state → newest_end d c since state ≡ None
+            → result ≡ puts_at c (done since) (row d c since state) }
+    {
+        self.records()
+    }
+
+    /// How many records the job may still put, by its row.
+    fn records(&self) -> u32
+        ensures { result ≡ may_put_of self.now }
+    {
+        match self {
+            Job::Asks { stage, .. } => stage.may_put(),
+            Job::StartPuts { .. } => 1,
+            Job::RoundPuts { .. } => 1,
+            Job::StopPuts { .. } => 2,
+            Job::StopEnds { .. } => 1,
+            _ => 0,
         }
     }
 
     /// The request that the job sends next. The job stays at its row until it has heard what follows.
     pub fn sending(self) -> (Sending, Job)
-        requires { IsSome (sending_of self) }
+        requires asks { need_of self ≡ Need.Exchange }
         ensures same { result.1 ≡ self }
         ensures request { Some result.0 ≡ sending_of self }
         ensures row { (d : DeviceSetup) (c : Command) (since : List Line) (state : EpochState) (q : Request)
@@ -248,43 +226,26 @@ impl Job {
             → StandsScan self since → scan_row since ≡ Some (check, addr)
             → result.0 ≡ record { to = addr; kind = check; request = poll_of addr } }
     {
-        let sending = self.request().unwrap();
+        let sending = self.request();
         (sending, self)
     }
 
-    /// The request that the job sends next, where it sends one.
-    fn request(&self) -> Option<Sending>
-        ensures { result ≡ sending_of self.now }
+    /// The request that the job sends next.
+    fn request(&self) -> Sending
+        requires { need_of self.now ≡ Need.Exchange }
+        ensures { Some result ≡ sending_of self.now }
     {
         match self {
-            Job::StartResets { device, .. } => Some(device.asked(Request::ResetDevice)),
-            Job::StartReads { device, .. } => Some(device.asked(Request::ReadCredits)),
-            Job::StartSets { device, mask } => Some(device.asked(Request::SetMask { mask: *mask })),
-            Job::RoundReads { device, .. } => Some(device.asked(Request::ReadCredits)),
-            Job::RoundLooks { device, .. } => Some(device.asked(Request::GetMask)),
-            Job::StopInhibits { device, .. } => Some(device.asked(stop::INHIBIT)),
-            Job::StopReads { device, .. } => Some(device.asked(Request::ReadCredits)),
-            Job::StopLooks { device, .. } => Some(device.asked(Request::GetMask)),
-            Job::IdentAsks {
-                device,
-                question,
-                ..
-            } => Some(device.asked(*question)),
-            Job::PathSets {
-                device,
-                place,
-                path,
-                ..
-            } => Some(device.asked(path::setting(*place, *path))),
-            Job::PathReads { device, place, .. } => Some(device.asked(path::reading(*place))),
-            Job::ScanCallsSimple { .. } => Some(scan::poll(CheckKind::Simple, scan::ALL)),
-            Job::ScanCallsCrc { .. } => Some(scan::poll(CheckKind::Crc, scan::ALL)),
-            Job::ScanPollsSimple { addr, .. } => Some(scan::poll(CheckKind::Simple, *addr)),
-            Job::ScanPollsCrc { addr, .. } => Some(scan::poll(CheckKind::Crc, *addr)),
-            Job::StartPuts { .. } => None,
-            Job::StopPuts { .. } => None,
-            Job::Puts { .. } => None,
-            Job::Done(_) => None,
+            Job::Asks { device, stage, .. } => Sending {
+                to: device.addr,
+                kind: device.kind,
+                request: stage.request(),
+            },
+            Job::ScanCallsSimple { .. } => scan::poll(CheckKind::Simple, BROADCAST),
+            Job::ScanCallsCrc { .. } => scan::poll(CheckKind::Crc, BROADCAST),
+            Job::ScanPollsSimple { addr, .. } => scan::poll(CheckKind::Simple, *addr),
+            Job::ScanPollsCrc { addr, .. } => scan::poll(CheckKind::Crc, *addr),
+            _ => unreachable!(),
         }
     }
 
@@ -292,69 +253,21 @@ impl Job {
     /// after the third such try in succession the job ends with [`End::NoAnswer`]. The mask of a start is never sent
     /// again: it ends the job with [`End::Started`], or with [`End::StartUnsure`] where it isn't acknowledged.
     pub fn heard(self, sent: &[u8], heard: &[u8]) -> Job
-        requires { IsSome (sending_of self) }
+        requires asks { need_of self ≡ Need.Exchange }
         ensures device { (d : DeviceSetup) (c : Command) (since : List Line) (state : EpochState) (q : Request)
             → Stands d self c since state → row d c since state ≡ sends q → sent.now ≡ ask d.kind d.addr q
             → Stands d result c (line_heard d sent.now heard.now ∷ since) state }
         ensures scan { (since : List Line) (check : CheckKind) (addr : ℕ)
             → StandsScan self since → scan_row since ≡ Some (check, addr) → sent.now ≡ ask check addr (poll_of addr)
             → StandsScan result (scan_line sent.now heard.now ∷ since) }
+        ensures may_put { may_put_of result ≤ may_put_of self }
     {
         match self {
-            Job::StartResets {
+            Job::Asks {
                 device,
-                mask,
+                stage,
                 failed,
-            } => start::reset_heard(device, mask, failed, sent, heard),
-            Job::StartReads {
-                device,
-                mask,
-                failed,
-            } => start::credits_heard(device, mask, failed, sent, heard),
-            Job::StartSets { device, mask } => start::mask_heard(device, mask, sent, heard),
-            Job::RoundReads {
-                device,
-                recorded,
-                failed,
-            } => round::credits_heard(device, recorded, failed, sent, heard),
-            Job::RoundLooks {
-                device,
-                recorded,
-                credits,
-                failed,
-            } => round::mask_heard(device, recorded, &credits, failed, sent, heard),
-            Job::StopInhibits {
-                device,
-                recorded,
-                failed,
-            } => stop::inhibit_heard(device, recorded, failed, sent, heard),
-            Job::StopReads {
-                device,
-                recorded,
-                failed,
-            } => stop::credits_heard(device, recorded, failed, sent, heard),
-            Job::StopLooks {
-                device,
-                recorded,
-                credits,
-                failed,
-            } => stop::mask_heard(device, recorded, &credits, failed, sent, heard),
-            Job::IdentAsks {
-                device,
-                question,
-                failed,
-            } => ident::heard(device, question, failed, sent, heard),
-            Job::PathSets {
-                device,
-                place,
-                path,
-                failed,
-            } => path::set_heard(device, place, path, failed, sent, heard),
-            Job::PathReads {
-                device,
-                place,
-                failed,
-            } => path::read_heard(device, place, failed, sent, heard),
+            } => asks::heard(device, stage, failed, sent, heard),
             Job::ScanCallsSimple { failed } => scan::simple_call_heard(failed, sent, heard),
             Job::ScanCallsCrc { failed, due } => scan::crc_call_heard(failed, due, sent, heard),
             Job::ScanPollsSimple { addr, due, listed } => {
@@ -363,25 +276,35 @@ impl Job {
             Job::ScanPollsCrc { addr, due, listed } => {
                 scan::crc_poll_heard(addr, due, listed, sent, heard)
             }
-            Job::StartPuts { .. } => unreachable!(),
-            Job::StopPuts { .. } => unreachable!(),
-            Job::Puts { .. } => unreachable!(),
-            Job::Done(_) => unreachable!(),
+            _ => unreachable!(),
         }
     }
 
     /// The job after its record was put. What it does then no longer depends on the epoch, which the record has moved.
-    #[tactic(auto, using(crate::proofs::Epochs::start_sets, crate::proofs::Epochs::stop_closed, crate::proofs::Epochs::put_ends))]
+    #[tactic(auto, using(crate::proofs::Epochs::put_leaves, crate::proofs::Needs::fewer_after))]
     pub fn was_put(self) -> Job
-        requires { IsPut self }
-        ensures { (d : DeviceSetup) (c : Command) (since : List Line) (state after : EpochState) (entry : Record)
-            → Stands d self c since state → row d c since state ≡ puts entry
+        requires puts { IsPut (need_of self) }
+        ensures put { (d : DeviceSetup) (c : Command) (since : List Line) (state after : EpochState) (entry : Record)
+            → need_of self ≡ Need.Put entry → Stands d self c since state
             → Stands d result c (put entry ∷ since) after }
+        ensures may_put { may_put_of result < may_put_of self }
+    {
+        self.after_put()
+    }
+
+    /// The job after its record was put, by its row.
+    fn after_put(self) -> Job
+        requires { IsPut (need_of self) }
+        ensures { result ≡ after_put self }
     {
         match self {
-            Job::StartPuts { device, mask } => Job::StartSets { device, mask },
-            Job::StopPuts { device, .. } => stop::closes(&device),
-            Job::Puts { end, .. } => Job::Done(end),
+            Job::StartPuts { device, mask } => first_try(device, Stage::StartSets { mask }),
+            Job::RoundPuts { end, .. } => Job::Done(end),
+            Job::StopPuts { device, end, .. } => match end {
+                Some(end) => Job::Done(end),
+                None => Job::StopEnds { device },
+            },
+            Job::StopEnds { .. } => Job::Done(End::Stopped),
             _ => unreachable!(),
         }
     }

@@ -1,11 +1,11 @@
 //! What holds of the failed tries of every row of a job.
 ghost use Rattle.std.specs.Prelude.{◌≡◌, ◌≢◌, ◌↔◌, List, ℕ, suc, ◌∷◌, Bool, false, Some, None};
-ghost use Rattle.cct_model.specs.declared.command.Command.{Command};
-ghost use Rattle.cct_model.specs.declared.device.DeviceSetup.{DeviceSetup};
-ghost use Rattle.cct_model.specs.declared.entry.End.TheVariants.{NoAnswer, StartUnsure};
-ghost use Rattle.cct_model.specs.declared.record.EpochState.{EpochState};
-ghost use Rattle.cct_model.specs.declared.request.Request.{Request};
-ghost use Rattle.cct_model.specs.declared.request.Request.TheVariants.{SetMask};
+ghost use Rattle.cct_model.specs.lines.command.Command.{Command};
+ghost use Rattle.cct_model.specs.terms.device.DeviceSetup.{DeviceSetup};
+ghost use Rattle.cct_model.specs.lines.entry.End.TheVariants.{NoAnswer, StartUnsure};
+ghost use Rattle.cct_model.specs.declared.judging.EpochState.{EpochState};
+ghost use Rattle.cct_model.specs.terms.request.Request.{Request};
+ghost use Rattle.cct_model.specs.terms.request.Request.TheVariants.{SetMask};
 ghost use Rattle.cct_model.specs.Job.{end_of, is_once, tries};
 ghost use Rattle.cct_model.specs.Line.{Line, exchange};
 ghost use Rattle.cct_model.specs.Reply.{Reply};
@@ -16,7 +16,7 @@ use cct_model::Request;
 /// A job at a device ends with [`End::NoAnswer`](cct_model::End) at the third failed try in succession of one row, and at
 /// no other exchange: each failed try of a row counts, and a wanted reply or an exchange of another row begins the count
 /// anew. A request that is sent once alone is apart: a mask that isn't acknowledged ends its start unsure.
-#[tactic(auto, using(crate::proofs::Tries::third_ends, crate::proofs::Tries::answer_goes_on, crate::proofs::Tries::other_clears, crate::proofs::Rows::tried))]
+#[tactic(auto, using(crate::proofs::Tries::third_ends, crate::proofs::Tries::answer_goes_on, crate::proofs::Tries::other_clears, crate::proofs::Stages::tried))]
 pub fn no_answer_comes_at_the_third_failed_try()
     ensures third { (d : DeviceSetup) (c : Command) (q : Request) (since : List Line) (state : EpochState) → is_once q ≡ false
         → (end_of d c (exchange (Some q) None) since state ≡ Some NoAnswer) ↔ (tries (header_of q) since ≡ 2) }

@@ -2,19 +2,20 @@
 //! setting of a sorter path, and the scan. A job stands at one row: it sends one request, or puts one record, or is done.
 #![tactic(auto)]
 
-mod acceptor;
+mod asks;
 mod ident;
 mod job;
 mod laws;
 mod path;
-mod round;
+mod reading;
 mod scan;
+mod stage;
 mod start;
-mod stop;
 mod target;
 
-pub use job::{Job, Need, Recorded, Sending};
+pub use job::{Job, Need, Sending};
 pub use laws::no_answer_comes_at_the_third_failed_try;
+pub use stage::{Recorded, Stage, Visit};
 pub use target::Target;
 
 #[cfg(test)]

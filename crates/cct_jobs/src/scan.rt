@@ -1,23 +1,20 @@
 //! The scan: all devices are called under each check, and then each address that was noted is polled (ccTalk Generic
 //! Specification 4, part 3, headers 253 and 254).
-ghost use Rattle.std.specs.Prelude.{◌≡◌, ◌==◌, ◌&&◌, ◌||◌, nat_le, List, ℕ, ◌∷◌, Some};
+ghost use Rattle.std.specs.Prelude.{◌≡◌, ◌≤◌, ◌==◌, ◌&&◌, ◌||◌, nat_le, List, ℕ, ◌∷◌, Some};
 ghost use Rattle.std.specs.List.{list_any};
-ghost use Rattle.cct_model.specs.declared.wire.CheckKind.TheVariants.{Simple, Crc};
+ghost use Rattle.cct_model.specs.terms.wire.CheckKind.TheVariants.{Simple, Crc};
 ghost use Rattle.cct_model.specs.DeviceSet.{has};
 ghost use Rattle.cct_model.specs.Exchange.{after_echo, ask};
 ghost use Rattle.cct_model.specs.Line.{Line};
 ghost use Rattle.cct_model.specs.Scan.{is_acknowledged, next_due, poll_after, poll_due, poll_of};
 ghost use Rattle.cct_model.specs.Transcript.{scan_line};
-ghost use Rattle.cct_jobs.specs.Jobs.{asks_at};
+ghost use Rattle.cct_jobs.specs.Jobs.{asks_at, may_put_of};
 ghost use Rattle.cct_jobs.specs.Scans.{CallsCrc, CallsSimple, Lists, Polls, StandsScan};
 
 use crate::job::{Job, Sending};
 use crate::target::{after_failed, wanted_reply};
-use cct_model::{CheckKind, DeviceSet, End, Listed, ReplyForm, Request};
+use cct_model::{BROADCAST, CheckKind, DeviceSet, End, Listed, ReplyForm, Request};
 use cct_wire::bare_after_echo;
-
-/// The address of all devices.
-pub(crate) const ALL: u8 = 0;
 
 /// The least address that a device may have.
 const FIRST_DEVICE: u8 = 2;
@@ -29,7 +26,7 @@ pub(crate) fn poll(kind: CheckKind, addr: u8) -> Sending
     Sending {
         to: addr,
         kind,
-        request: if addr == ALL {
+        request: if addr == BROADCAST {
             Request::AddressPoll
         } else {
             Request::SimplePoll
@@ -39,8 +36,9 @@ pub(crate) fn poll(kind: CheckKind, addr: u8) -> Sending
 
 /// The scan after it heard what followed its call under the simple check. What follows a good echo is noted.
 pub(crate) fn simple_call_heard(failed: u8, sent: &[u8], heard: &[u8]) -> Job
-    ensures { (since : List Line) → CallsSimple failed since → sent.now ≡ ask Simple 0 (poll_of 0)
+    ensures scan { (since : List Line) → CallsSimple failed since → sent.now ≡ ask Simple 0 (poll_of 0)
         → StandsScan result (scan_line sent.now heard.now ∷ since) }
+    ensures may_put { may_put_of result ≤ 0 }
 {
     match bare_after_echo(sent, heard) {
         Ok(rest) => {
@@ -57,8 +55,9 @@ pub(crate) fn simple_call_heard(failed: u8, sent: &[u8], heard: &[u8]) -> Job
 
 /// The scan after it heard what followed its call under the CRC.
 pub(crate) fn crc_call_heard(failed: u8, mut due: DeviceSet, sent: &[u8], heard: &[u8]) -> Job
-    ensures { (since : List Line) → CallsCrc failed due since → sent.now ≡ ask Crc 0 (poll_of 0)
+    ensures scan { (since : List Line) → CallsCrc failed due since → sent.now ≡ ask Crc 0 (poll_of 0)
         → StandsScan result (scan_line sent.now heard.now ∷ since) }
+    ensures may_put { may_put_of result ≤ 0 }
 {
     match bare_after_echo(sent, heard) {
         Ok(rest) => {
@@ -85,8 +84,9 @@ pub(crate) fn simple_poll_heard(
     sent: &[u8],
     heard: &[u8],
 ) -> Job
-    ensures { (since : List Line) → Polls Simple addr due listed since → sent.now ≡ ask Simple addr (poll_of addr)
+    ensures scan { (since : List Line) → Polls Simple addr due listed since → sent.now ≡ ask Simple addr (poll_of addr)
         → StandsScan result (scan_line sent.now heard.now ∷ since) }
+    ensures may_put { may_put_of result ≤ 0 }
 {
     due.remove(addr);
     if is_acknowledged(CheckKind::Simple, addr, sent, heard) {
@@ -105,8 +105,9 @@ pub(crate) fn crc_poll_heard(
     sent: &[u8],
     heard: &[u8],
 ) -> Job
-    ensures { (since : List Line) → Polls Crc addr due listed since → sent.now ≡ ask Crc addr (poll_of addr)
+    ensures scan { (since : List Line) → Polls Crc addr due listed since → sent.now ≡ ask Crc addr (poll_of addr)
         → StandsScan result (scan_line sent.now heard.now ∷ since) }
+    ensures may_put { may_put_of result ≤ 0 }
 {
     if is_acknowledged(CheckKind::Crc, addr, sent, heard) {
         listed.crc.insert(addr);
@@ -115,7 +116,7 @@ pub(crate) fn crc_poll_heard(
 }
 
 /// Whether the device at an address acknowledged a poll.
-#[tactic(auto, unfolding(cct_model::specs::Exchange::got))]
+#[tactic(auto, unfolding(cct_terms::specs::Exchange::got))]
 fn is_acknowledged(kind: CheckKind, addr: u8, sent: &[u8], heard: &[u8]) -> bool
     ensures { result ≡ is_acknowledged kind addr (after_echo sent.now heard.now) }
 {
@@ -125,8 +126,9 @@ fn is_acknowledged(kind: CheckKind, addr: u8, sent: &[u8], heard: &[u8]) -> bool
 /// The scan goes on with the least address that is still to be polled, or ends with its list.
 #[tactic(auto, using(crate::proofs::Scans::polls_next, crate::proofs::Scans::scan_ends))]
 fn next_poll(due: DeviceSet, listed: Listed) -> Job
-    ensures { (since : List Line) → Lists due listed since → poll_after since ≡ poll_due (next_due since)
+    ensures scan { (since : List Line) → Lists due listed since → poll_after since ≡ poll_due (next_due since)
         → StandsScan result since }
+    ensures may_put { may_put_of result ≤ 0 }
 {
     match due.first() {
         Some(addr) => Job::ScanPollsSimple { addr, due, listed },

@@ -1,12 +1,11 @@
 //! The device that a job asks, and what it replies.
-ghost use Rattle.std.specs.Prelude.{◌≡◌, ◌<◌, Some, is_some, IsSome};
+ghost use Rattle.std.specs.Prelude.{◌≡◌, ◌<◌, Some, IsSome};
 ghost use Rattle.std.specs.Option.{option_map};
 ghost use Rattle.cct_model.specs.Exchange.{device_at, got};
 ghost use Rattle.cct_model.specs.Reply.{reply_shown};
 ghost use Rattle.cct_model.specs.Request.{form_of};
-ghost use Rattle.cct_jobs.specs.Jobs.{after_failed, asks_device, replied, target_of};
+ghost use Rattle.cct_jobs.specs.Jobs.{after_failed, replied, target_of};
 
-use crate::job::Sending;
 use cct_model::{CheckKind, DeviceBody, DeviceSetup, Reply, ReplyForm, Request, Setup};
 use cct_msg::read_reply;
 use cct_wire::{Heard, hear};
@@ -23,17 +22,6 @@ pub struct Target {
 }
 
 impl Target {
-    /// A request to this device.
-    pub(crate) fn asked(&self, request: Request) -> Sending
-        ensures { result ≡ asks_device self.now request }
-    {
-        Sending {
-            to: self.addr,
-            kind: self.kind,
-            request,
-        }
-    }
-
     /// The wanted reply to a request to this device, in what was heard after it.
     pub(crate) fn reply<'h>(
         &self,
@@ -48,20 +36,10 @@ impl Target {
             None => None,
         }
     }
-
-    /// Whether the wanted reply to a request to this device is in what was heard after it.
-    pub(crate) fn has_replied(&self, request: Request, sent: &[u8], heard: &[u8]) -> bool
-        ensures { result ≡ is_some (replied self.now.kind self.now.addr request sent.now heard.now) }
-    {
-        match self.reply(request, sent, heard) {
-            Some(_) => true,
-            None => false,
-        }
-    }
 }
 
 /// The reply in the form that is wanted from an address under a check, in what was heard after a request.
-#[tactic(auto, unfolding(cct_model::specs::Exchange::got))]
+#[tactic(auto, unfolding(cct_terms::specs::Exchange::got))]
 pub(crate) fn wanted_reply<'h>(
     kind: CheckKind,
     addr: u8,
@@ -83,7 +61,7 @@ pub(crate) fn wanted_reply<'h>(
 }
 
 /// The form of the reply that a request wants, where it wants one of header 0 in a message.
-#[tactic(auto, unfolding(cct_model::specs::Request::form_of))]
+#[tactic(auto, unfolding(cct_terms::specs::Request::form_of))]
 fn form_of(request: Request) -> Option<ReplyForm>
     ensures { result ≡ form_of request }
 {

@@ -1,16 +1,16 @@
 -- What holds of an acceptor is kept by all that can come over an honest wire.
 use Rattle.std.proofs.Common.{◌≡◌, ℕ, zero, suc, ◌==◌, cond, Bool, true, false, List, [], ◌∷◌, length, refl, sym, subst, Option, Some, None, le_refl, rules}
 use Rattle.std.specs.Prelude.{⊤}
-use Rattle.cct_model.specs.declared.device.DeviceBody.{DeviceBody}
-use Rattle.cct_model.specs.declared.device.DeviceBody.TheVariants.{Acceptor, Hopper}
-use Rattle.cct_model.specs.declared.device.DeviceSetup.{DeviceSetup}
-use Rattle.cct_model.specs.declared.request.Request.{Request}
-use Rattle.cct_model.specs.declared.request.Request.TheVariants.{SimplePoll, AddressPoll}
-use Rattle.cct_model.specs.declared.record.Record.{Record}
-use Rattle.cct_model.specs.declared.record.Judged.{Judged}
-use Rattle.cct_model.specs.declared.command.Command.{Command}
-use Rattle.cct_model.specs.declared.command.Command.TheVariants as command
-use Rattle.cct_model.specs.declared.entry.End.TheVariants.{Told}
+use Rattle.cct_model.specs.terms.device.DeviceBody.{DeviceBody}
+use Rattle.cct_model.specs.terms.device.DeviceBody.TheVariants.{Acceptor, Hopper}
+use Rattle.cct_model.specs.terms.device.DeviceSetup.{DeviceSetup}
+use Rattle.cct_model.specs.terms.request.Request.{Request}
+use Rattle.cct_model.specs.terms.request.Request.TheVariants.{SimplePoll, AddressPoll}
+use Rattle.cct_model.specs.lines.record.Record.{Record}
+use Rattle.cct_model.specs.declared.judging.Judged.{Judged}
+use Rattle.cct_model.specs.lines.command.Command.{Command}
+use Rattle.cct_model.specs.lines.command.Command.TheVariants as command
+use Rattle.cct_model.specs.lines.entry.End.TheVariants.{Told}
 use Rattle.cct_model.specs.Reply.{Reply}
 use Rattle.cct_model.specs.Reply as reply
 use Rattle.cct_model.specs.Script.{IsCommand}
@@ -18,8 +18,9 @@ use Rattle.cct_model.specs.History.{Met, heard}
 use Rattle.cct_model.specs.Device.{IsAcceptor}
 use Rattle.cct_model.specs.Line.{Line, exchange, put}
 use Rattle.cct_model.specs.Job.{works, job, sends, puts, ident_requests, row, row_at, done, epoch, credits_read, judged_in, is_once, end_of, end_of_answer, end_of_path}
-use Rattle.cct_laws.proofs.Rows.{IfSends, Each, each_row}
-use Rattle.cct_laws.specs.Kept.{Fate, IsForOthers, with_ended, IsKept}
+use Rattle.cct_laws.proofs.Rows.{IfSends, Each, CommandHolds, each_row}
+use Rattle.cct_laws.specs.Kept.{Fate, IsForOthers, with_ended}
+use Rattle.cct_laws.specs.Since.{IsKept}
 use Rattle.cct_model.specs.Claims.{mark, base, InOrder, Covers, Pace}
 use Rattle.cct_laws.proofs.World.{world, closed}
 use Rattle.cct_laws.proofs.Fits.{book, StateOf, Fits}
@@ -48,15 +49,20 @@ plain_if : (b : Bool) (q r : Request) → IsPlainRequest q → IsPlainRequest r 
 plain_if true q r plain other = plain
 plain_if false q r plain other = other
 
-pub plain_row : (body : DeviceBody) (c : Command) (rows : ℕ) (judged : Judged) → IsPlain c → IfSends IsPlainRequest (row_at body c rows judged)
-plain_row body (command.Start addr mask) rows judged plain = absurd plain
-plain_row body (command.Round addr) rows judged plain = absurd plain
-plain_row body (command.Stop addr) rows judged plain = absurd plain
-plain_row body (command.Ident addr) rows judged plain = each_row IsPlainRequest (ident_requests body) rows (plain_ident body)
-plain_row body (command.Path addr place path) zero judged plain = plain_if (place == 0) _ _ (refl, tt) (refl, tt)
-plain_row body (command.Path addr place path) (suc zero) judged plain = plain_if (place == 0) _ _ (refl, tt) (refl, tt)
-plain_row body (command.Path addr place path) (suc (suc rows)) judged plain = tt
-plain_row body c rows judged plain = tt
+plain_command : (body : DeviceBody) (c : Command) (judged : Judged) → IsPlain c →
+    CommandHolds IsPlainRequest (λ r. ⊥) body c judged
+plain_command body (command.Start addr mask) judged plain = absurd plain
+plain_command body (command.Round addr) judged plain = absurd plain
+plain_command body (command.Stop addr) judged plain = absurd plain
+plain_command body (command.Ident addr) judged plain = plain_ident body
+plain_command body (command.Path addr place path) judged plain =
+    (plain_if (place == 0) _ _ (refl, tt) (refl, tt), plain_if (place == 0) _ _ (refl, tt) (refl, tt))
+plain_command body c judged plain = tt
+
+pub plain_row : (body : DeviceBody) (c : Command) (rows : ℕ) (judged : Judged) → IsPlain c →
+    IfSends IsPlainRequest (row_at body c rows judged)
+plain_row body c rows judged plain =
+    each_row IsPlainRequest (λ r. ⊥) body c rows judged (plain_command body c judged plain)
 
 -- it needs nothing, and its ends are no items
 plain_fits : (now : List Met) (lines : List Line) (c : Command) (since : List Line) → IsPlain c → FitsBehind now lines c since
@@ -153,14 +159,14 @@ keeps_start = record {
 pub keeps_kept : (d : DeviceSetup) → IsAcceptor d.body → IsKept d Keeps
 keeps_kept d accepting = record {
   starts = keeps_start;
-  accepts = λ past lines place least most is keeps. keeps_accepted past lines place least is keeps;
-  inhibits = λ past lines place is keeps. keeps_inhibited past lines place is keeps;
-  aliens = λ past lines keeps. keeps_alien past lines keeps;
-  resets = λ past lines keeps. keeps_reset past lines keeps;
-  elsewhere = λ past lines asked others keeps. keeps_passed past lines asked others keeps;
-  takes = λ past lines c no_job here in_range played fine keeps. keeps_taken d past lines c played fine keeps;
-  asks = λ past lines c since q asked got at row_is fate keeps. keeps_asks d past lines c since q asked got accepting at.in_range at.job_is row_is fate keeps;
-  puts = λ past lines c since r at row_is keeps. keeps_puts d past lines c since r at.in_range at.job_is row_is keeps;
+  accepts = λ since past lines place least most is keeps. keeps_accepted past lines place least is keeps;
+  inhibits = λ since past lines place is keeps. keeps_inhibited past lines place is keeps;
+  aliens = λ since past lines keeps. keeps_alien past lines keeps;
+  resets = λ since past lines keeps. keeps_reset past lines keeps;
+  elsewhere = λ since past lines asked others keeps. keeps_passed past lines asked others keeps;
+  takes = λ since past lines c no_job here in_range played fine keeps. keeps_taken d past lines c played fine keeps;
+  asks = λ since past lines c work q asked got at row_is fate keeps. keeps_asks d past lines c work q asked got accepting at.in_range at.job_is row_is fate keeps;
+  puts = λ since past lines c work r at row_is keeps. keeps_puts d past lines c work r at.in_range at.job_is row_is keeps;
 }
 
 -- posts are accepted coins in their order, none twice

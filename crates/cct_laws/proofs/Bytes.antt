@@ -3,13 +3,13 @@ use Rattle.std.proofs.Common.{ℕ, zero, suc, ◌*◌, ◌/◌, ◌%◌, ◌<◌
 use Rattle.std.specs.Prelude.{⊤, unwrap_or, option_and_then, flat_map}
 use Rattle.std.proofs.lemmas.Nat.{xor_of_16}
 use Rattle.hex.specs.Hex.{IsBytes}
-use Rattle.cct_model.specs.declared.wire.CheckKind.{CheckKind}
-use Rattle.cct_model.specs.declared.wire.CheckKind.TheVariants.{Simple, Crc}
-use Rattle.cct_model.specs.declared.coin.Pair.{Pair}
-use Rattle.cct_model.specs.declared.request.Request.{Request}
-use Rattle.cct_model.specs.declared.request.Request.TheVariants.{SetMask, AddressPoll}
-use Rattle.cct_model.specs.declared.request.ReplyForm.{ReplyForm}
-use Rattle.cct_model.specs.declared.request.ReplyForm.TheVariants as form
+use Rattle.cct_model.specs.terms.wire.CheckKind.{CheckKind}
+use Rattle.cct_model.specs.terms.wire.CheckKind.TheVariants.{Simple, Crc}
+use Rattle.cct_model.specs.terms.coin.Pair.{Pair}
+use Rattle.cct_model.specs.terms.request.Request.{Request}
+use Rattle.cct_model.specs.terms.request.Request.TheVariants.{SetMask, AddressPoll}
+use Rattle.cct_model.specs.terms.request.ReplyForm.{ReplyForm}
+use Rattle.cct_model.specs.terms.request.ReplyForm.TheVariants as form
 use Rattle.cct_model.specs.Message.{Message, bits_of, crc_bit, crc, closing_byte, spelling, message}
 use Rattle.cct_model.specs.Request.{requests_with, open_requests, with_header, request_of}
 use Rattle.cct_model.specs.Reply.{Reply}

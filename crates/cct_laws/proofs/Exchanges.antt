@@ -1,14 +1,14 @@
 -- An exchange with a device of a setup: what is asked is heard by it alone, and what it replies is got, or nothing.
 use Rattle.std.proofs.Common.{◌≡◌, ◌≢◌, ℕ, ◌==◌, ◌≤◌, nat_le, cond, true, false, Bool, List, [], ◌∷◌, ◌++◌, length, slice_index, flat_map, refl, ap, sym, ◌∙◌, subst₂, Option, Some, None, option_and_then, unwrap_or, arith, eq-eqb, eqb-true, append-nil}
-use Rattle.cct_model.specs.declared.wire.CheckKind.{CheckKind}
-use Rattle.cct_model.specs.declared.wire.CheckKind.TheVariants.{Simple, Crc}
-use Rattle.cct_model.specs.declared.device.DeviceSetup.{DeviceSetup}
-use Rattle.cct_model.specs.declared.device.Setup.{Setup}
-use Rattle.cct_model.specs.declared.request.Request.{Request}
-use Rattle.cct_model.specs.declared.request.ReplyForm.{ReplyForm}
-use Rattle.cct_model.specs.declared.command.WireFault.{WireFault}
-use Rattle.cct_model.specs.declared.command.WireFault.TheVariants as fault
-use Rattle.cct_model.specs.declared.entry.Entry.{Entry}
+use Rattle.cct_model.specs.terms.wire.CheckKind.{CheckKind}
+use Rattle.cct_model.specs.terms.wire.CheckKind.TheVariants.{Simple, Crc}
+use Rattle.cct_model.specs.terms.device.DeviceSetup.{DeviceSetup}
+use Rattle.cct_model.specs.terms.device.Setup.{Setup}
+use Rattle.cct_model.specs.terms.request.Request.{Request}
+use Rattle.cct_model.specs.terms.request.ReplyForm.{ReplyForm}
+use Rattle.cct_model.specs.lines.command.WireFault.{WireFault}
+use Rattle.cct_model.specs.lines.command.WireFault.TheVariants as fault
+use Rattle.cct_model.specs.lines.entry.Entry.{Entry}
 use Rattle.cct_model.specs.Message.{message, spelling}
 use Rattle.cct_model.specs.Request.{header_of, data_of, request_of, form_of}
 use Rattle.cct_model.specs.Reply.{Reply, IsSayable}
@@ -22,7 +22,7 @@ use Rattle.cct_frame.specs.Frame.{carried}
 use Rattle.cct_frame.proofs.Spellings.{written_back}
 use Rattle.cct_msg.specs.Forms.{FitsItsBytes, IsWhole, form_shown}
 use Rattle.cct_msg.proofs.Exchanges.{asked_back, reply_heard}
-use Rattle.cct_laws.specs.Honest.{IsNoMessage, IsAddressPoll, IsHonestFault}
+use Rattle.cct_model.specs.Honest.{IsNoMessage, IsAddressPoll, IsHonestFault}
 use Rattle.cct_laws.specs.Kept.{Fate, unheard, silenced, answered}
 use Rattle.cct_laws.specs.Law.{IsOf}
 use Rattle.cct_laws.proofs.Pieces.{ask_to, asks_nothing, none_under, damaged_asks}

@@ -1,10 +1,10 @@
 -- How the items of an acceptor, its records and a clean end, keep what holds of it.
 use Rattle.std.proofs.Common.{◌≡◌, ℕ, ◌+◌, ◌-◌, ◌≤◌, List, [], ◌∷◌, length, take, refl, ap, Option, Some, None, arith, le_refl, length-take, inr}
-use Rattle.cct_model.specs.declared.coin.Coin.{Coin}
-use Rattle.cct_model.specs.declared.record.Record.TheVariants as record_of
-use Rattle.cct_model.specs.declared.record.EpochState.{EpochState}
-use Rattle.cct_model.specs.declared.record.EpochState.TheVariants.{Idle, Running}
-use Rattle.cct_model.specs.declared.entry.End.TheVariants.{Clean}
+use Rattle.cct_model.specs.terms.coin.Coin.{Coin}
+use Rattle.cct_model.specs.lines.record.Record.TheVariants as record_of
+use Rattle.cct_model.specs.declared.judging.EpochState.{EpochState}
+use Rattle.cct_model.specs.declared.judging.EpochState.TheVariants.{Idle, Running}
+use Rattle.cct_model.specs.lines.entry.End.TheVariants.{Clean}
 use Rattle.cct_model.specs.History.{Met}
 use Rattle.cct_model.specs.Line.{Line, accepted, put, ended}
 use Rattle.cct_model.specs.Job.{epoch, counted, credits_line}

@@ -19,7 +19,8 @@ pub mod Moves
 pub mod Rows
 pub mod Keeping
 pub mod Rounds
-pub mod Steps
+pub mod Brought
+pub mod Seen
 pub mod Whole
 pub mod Putting
 pub mod Masks
@@ -33,3 +34,5 @@ pub mod Posts
 pub mod Scripts
 pub mod Tries
 pub mod Scans
+pub mod Faults
+pub mod GivenUp

@@ -1,30 +1,29 @@
 -- Which inhibit mask an acceptor has while its epoch runs, by what it met since the epoch began.
 use Rattle.std.proofs.Common.{◌≡◌, ◌≢◌, ℕ, zero, suc, cond, List, [], ◌∷◌, refl, ap, sym, ◌∙◌, subst, Option, Some, None, inl, inr, eq-eqb}
 use Rattle.std.specs.Prelude.{⊤}
-use Rattle.cct_model.specs.declared.device.DeviceSetup.{DeviceSetup}
-use Rattle.cct_model.specs.declared.request.Request.{Request}
-use Rattle.cct_model.specs.declared.request.Request.TheVariants.{AddressPoll, SimplePoll, ResetDevice, SetMask, SetMaster, SetPath, SetDefault}
-use Rattle.cct_model.specs.declared.record.Record.{Record}
-use Rattle.cct_model.specs.declared.record.Record.TheVariants as record_of
-use Rattle.cct_model.specs.declared.record.Judged.{Judged}
-use Rattle.cct_model.specs.declared.record.Judged.TheVariants.{Nothing, Reading, Broken}
-use Rattle.cct_model.specs.declared.record.EpochState.{EpochState}
-use Rattle.cct_model.specs.declared.record.EpochState.TheVariants.{Idle, Running}
-use Rattle.cct_model.specs.declared.command.Command.{Command}
-use Rattle.cct_model.specs.declared.command.Command.TheVariants as command
-use Rattle.cct_model.specs.declared.entry.End.{End}
+use Rattle.cct_model.specs.terms.device.DeviceSetup.{DeviceSetup}
+use Rattle.cct_model.specs.terms.request.Request.{Request}
+use Rattle.cct_model.specs.terms.request.Request.TheVariants.{AddressPoll, SimplePoll, ResetDevice, SetMask, SetMaster, SetPath, SetDefault}
+use Rattle.cct_model.specs.lines.record.Record.{Record}
+use Rattle.cct_model.specs.lines.record.Record.TheVariants as record_of
+use Rattle.cct_model.specs.declared.judging.Judged.{Judged}
+use Rattle.cct_model.specs.declared.judging.EpochState.{EpochState}
+use Rattle.cct_model.specs.declared.judging.EpochState.TheVariants.{Idle, Running}
+use Rattle.cct_model.specs.lines.command.Command.{Command}
+use Rattle.cct_model.specs.lines.command.Command.TheVariants as command
+use Rattle.cct_model.specs.lines.entry.End.{End}
 use Rattle.cct_model.specs.Reply.{Reply}
 use Rattle.cct_model.specs.History.{Met, coin, alien, reset, heard}
 use Rattle.cct_model.specs.Acceptor.{mask_of, events}
 use Rattle.cct_model.specs.Claims.{mark, base}
 use Rattle.cct_model.specs.Reading.{coins_among}
-use Rattle.cct_model.specs.declared.coin.Coin.{Coin}
+use Rattle.cct_model.specs.terms.coin.Coin.{Coin}
 use Rattle.cct_model.specs.Device.{IsAcceptor}
 use Rattle.cct_model.specs.Line.{Line, exchange, put}
-use Rattle.cct_model.specs.Job.{works, job, Row, sends, puts, no_row, put_or, start_row, round_row, stop_row, row, done, epoch, counted, epoch_by, address_of, judged_in}
+use Rattle.cct_model.specs.Job.{works, job, Row, sends, puts, no_row, start_row, row, done, epoch, counted, epoch_by, address_of, judged_in}
 use Rattle.cct_laws.specs.Kept.{Fate, unheard, silenced, answered, IsForOthers, with_ended}
 use Rattle.cct_laws.specs.Since.{since_record, mask_set_in, IsMaskedBy, MayBreak, IsKeptSince}
-use Rattle.cct_laws.proofs.Rows.{IfSends}
+use Rattle.cct_laws.proofs.Rows.{IfSends, RowHolds, RoundHolds, each_row, any_judged}
 use Rattle.cct_laws.proofs.World.{World, Silent, IsLive, mask_at, world}
 use Rattle.cct_laws.proofs.Fits.{Book, book, StateOf, IsRunning, FitsStart}
 use Rattle.cct_laws.proofs.Moves.{Keeps, IsMild, fits_at}
@@ -78,37 +77,19 @@ reset_masked Idle since past = tt
 reset_masked (Running mask counter) since past = inr (refl, refl)
 
 -- what the rows of a job send
-
 abbrev IfAsks : EpochState → Row → Type 0
-IfAsks state (sends q) = Asks state q
-IfAsks state (puts r) = ⊤
-IfAsks state no_row = ⊤
+IfAsks state what = RowHolds (Asks state) (λ r. ⊤) what
 
-put_asks : (state : EpochState) (r : Record) (judged : Judged) → IfAsks state (put_or (puts r) judged) × IfAsks state (put_or no_row judged)
-put_asks state r Nothing = (tt, tt)
-put_asks state r (Reading entry) = (tt, tt)
-put_asks state r (Broken entry) = (tt, tt)
-
-start_asks : (w : World) (b : Book) (addr mask rows : ℕ) → FitsStart w b mask rows → IfAsks b.epoch (start_row addr mask rows)
+start_asks : (w : World) (b : Book) (addr mask rows : ℕ) → FitsStart w b mask rows →
+    IfAsks b.epoch (start_row addr mask rows)
 start_asks w b addr mask zero fits = tt
 start_asks w b addr mask (suc zero) fits = tt
 start_asks w b addr mask (suc (suc zero)) fits = tt
 start_asks w b addr mask (suc (suc (suc zero))) fits = fits.running
 start_asks w b addr mask (suc (suc (suc (suc rows)))) fits = tt
 
-round_asks : (state : EpochState) (addr rows : ℕ) (judged : Judged) → IfAsks state (round_row rows judged)
-round_asks state addr zero judged = tt
-round_asks state addr (suc zero) judged = tt
-round_asks state addr (suc (suc zero)) judged = (put_asks state (record_of.EpochEnd addr) judged).1
-round_asks state addr (suc (suc (suc rows))) judged = tt
-
-stop_asks : (state : EpochState) (addr rows : ℕ) (judged : Judged) → IfAsks state (stop_row addr rows judged)
-stop_asks state addr zero judged = tt
-stop_asks state addr (suc zero) judged = tt
-stop_asks state addr (suc (suc zero)) judged = tt
-stop_asks state addr (suc (suc (suc zero))) judged = (put_asks state (record_of.EpochEnd addr) judged).0
-stop_asks state addr (suc (suc (suc (suc zero)))) judged = tt
-stop_asks state addr (suc (suc (suc (suc (suc rows))))) judged = tt
+round_asks : (state : EpochState) (judged : Judged) → RoundHolds (Asks state) (λ r. ⊤) judged
+round_asks state judged = record { reads = tt; looks = tt; means = any_judged judged }
 
 mild_asks : (state : EpochState) (q : Request) → IsMild q → Asks state q
 mild_asks state (SetMask mask) mild = absurd mild
@@ -119,11 +100,19 @@ plain_asks state (sends q) plain = mild_asks state q plain.1
 plain_asks state (puts r) plain = absurd plain
 plain_asks state no_row plain = tt
 
-row_asks : (d : DeviceSetup) (past : List Met) (lines : List Line) (c : Command) (work : List Line) → job lines ≡ works c work → Keeps past lines → IfAsks (epoch lines) (row d c work (epoch lines))
+row_asks : (d : DeviceSetup) (past : List Met) (lines : List Line) (c : Command) (work : List Line) →
+    job lines ≡ works c work → Keeps past lines → IfAsks (epoch lines) (row d c work (epoch lines))
 row_asks d past lines (command.Start addr mask) work is_job keeps =
-    start_asks (world past lines) (book lines) addr mask (done work) (fits_at past lines (command.Start addr mask) work is_job keeps)
-row_asks d past lines (command.Round addr) work is_job keeps = round_asks (epoch lines) addr (done work) (judged_in (command.Round addr) work (epoch lines))
-row_asks d past lines (command.Stop addr) work is_job keeps = stop_asks (epoch lines) addr (done work) (judged_in (command.Stop addr) work (epoch lines))
+    start_asks (world past lines) (book lines) addr mask (done work)
+    (fits_at past lines (command.Start addr mask) work is_job keeps)
+row_asks d past lines (command.Round addr) work is_job keeps =
+    let judged = judged_in (command.Round addr) work (epoch lines) in
+    each_row (Asks (epoch lines)) (λ r. ⊤) d.body (command.Round addr) (done work) judged
+    (round_asks (epoch lines) judged)
+row_asks d past lines (command.Stop addr) work is_job keeps =
+    let judged = judged_in (command.Stop addr) work (epoch lines) in
+    each_row (Asks (epoch lines)) (λ r. ⊤) d.body (command.Stop addr) (done work) judged
+    (record { shuts = tt; round = round_asks (epoch lines) judged; over = tt })
 row_asks d past lines c work is_job keeps = plain_asks (epoch lines) (row d c work (epoch lines)) (plain_row d.body c (done work) (judged_in c work (epoch lines)) tt)
 
 -- an exchange of a job, and its end if there is one
@@ -159,22 +148,22 @@ masks_kept d accepting =
     record {
       starts = record { keeps = kept.starts; masked = tt };
       accepts = λ since past lines place low high test holds.
-          record { keeps = kept.accepts past lines place low high test holds.keeps; masked = same_masked (epoch lines) (coin place) since past refl refl holds.masked };
+          record { keeps = kept.accepts since past lines place low high test holds.keeps; masked = same_masked (epoch lines) (coin place) since past refl refl holds.masked };
       inhibits = λ since past lines place test holds.
-          record { keeps = kept.inhibits past lines place test holds.keeps; masked = same_masked (epoch lines) (coin place) since past refl refl holds.masked };
-      aliens = λ since past lines holds. record { keeps = kept.aliens past lines holds.keeps; masked = same_masked (epoch lines) alien since past refl refl holds.masked };
-      resets = λ since past lines holds. record { keeps = kept.resets past lines holds.keeps; masked = reset_masked (epoch lines) since past };
+          record { keeps = kept.inhibits since past lines place test holds.keeps; masked = same_masked (epoch lines) (coin place) since past refl refl holds.masked };
+      aliens = λ since past lines holds. record { keeps = kept.aliens since past lines holds.keeps; masked = same_masked (epoch lines) alien since past refl refl holds.masked };
+      resets = λ since past lines holds. record { keeps = kept.resets since past lines holds.keeps; masked = reset_masked (epoch lines) since past };
       elsewhere = λ since past lines asked others holds.
-          record { keeps = kept.elsewhere past lines asked others holds.keeps; masked = others_masked (epoch lines) asked since past others holds.masked };
+          record { keeps = kept.elsewhere since past lines asked others holds.keeps; masked = others_masked (epoch lines) asked since past others holds.masked };
       takes = λ since past lines c is_free here known played is_taken holds.
-          record { keeps = kept.takes past lines c is_free here known played is_taken holds.keeps; masked = holds.masked };
+          record { keeps = kept.takes since past lines c is_free here known played is_taken holds.keeps; masked = holds.masked };
       asks = λ since past lines c work q asked got at_work is_row fate holds. record {
-        keeps = kept.asks past lines c work q asked got at_work is_row fate holds.keeps;
+        keeps = kept.asks since past lines c work q asked got at_work is_row fate holds.keeps;
         masked = with_ended_masked _ (exchange (Some q) got ∷ lines) (heard asked ∷ since) (heard asked ∷ past)
             (fate_masked d (epoch lines) q asked got since past (subst (IfAsks (epoch lines)) is_row (row_asks d past lines c work at_work.job_is holds.keeps)) fate holds.masked);
       };
       puts = λ since past lines c work r at_work is_row holds. record {
-        keeps = kept.puts past lines c work r at_work is_row holds.keeps;
+        keeps = kept.puts since past lines c work r at_work is_row holds.keeps;
         masked = with_ended_masked _ (put r ∷ lines) (since_record d r since) past
             (put_masked d (epoch lines) r since past lines (row_puts d past lines c work r at_work.job_is at_work.is_here is_row holds.keeps) holds.masked);
       };

@@ -1,17 +1,17 @@
 -- What holds of an acceptor after every step, and how pieces, commands, ends and exchanges keep it.
 use Rattle.std.proofs.Common.{◌≡◌, ℕ, suc, ◌≤◌, ◌==◌, cond, Bool, true, false, List, ◌∷◌, length, refl, sym, subst, Option, Some, None, arith}
 use Rattle.std.specs.Prelude.{⊤}
-use Rattle.cct_model.specs.declared.coin.Coin.{Coin}
-use Rattle.cct_model.specs.declared.device.DeviceSetup.{DeviceSetup}
-use Rattle.cct_model.specs.declared.request.Request.{Request}
-use Rattle.cct_model.specs.declared.request.Request.TheVariants.{ResetDevice, SetMask, SetMaster, SetPath, SetDefault, Dispense}
-use Rattle.cct_model.specs.declared.record.Record.{Record}
-use Rattle.cct_model.specs.declared.record.EpochState.{EpochState}
-use Rattle.cct_model.specs.declared.record.EpochState.TheVariants.{Idle, Running}
-use Rattle.cct_model.specs.declared.command.Command.{Command}
-use Rattle.cct_model.specs.declared.command.Command.TheVariants as command
-use Rattle.cct_model.specs.declared.entry.End.{End}
-use Rattle.cct_model.specs.declared.entry.End.TheVariants.{Clean}
+use Rattle.cct_model.specs.terms.coin.Coin.{Coin}
+use Rattle.cct_model.specs.terms.device.DeviceSetup.{DeviceSetup}
+use Rattle.cct_model.specs.terms.request.Request.{Request}
+use Rattle.cct_model.specs.terms.request.Request.TheVariants.{ResetDevice, SetMask, SetMaster, SetPath, SetDefault, Dispense}
+use Rattle.cct_model.specs.lines.record.Record.{Record}
+use Rattle.cct_model.specs.declared.judging.EpochState.{EpochState}
+use Rattle.cct_model.specs.declared.judging.EpochState.TheVariants.{Idle, Running}
+use Rattle.cct_model.specs.lines.command.Command.{Command}
+use Rattle.cct_model.specs.lines.command.Command.TheVariants as command
+use Rattle.cct_model.specs.lines.entry.End.{End}
+use Rattle.cct_model.specs.lines.entry.End.TheVariants.{Clean}
 use Rattle.cct_model.specs.Reply.{Reply}
 use Rattle.cct_model.specs.History.{Met, heard}
 use Rattle.cct_model.specs.History as met

@@ -1,8 +1,8 @@
 -- The coins of the newest events, and what a credit buffer tells of them.
 use Rattle.std.proofs.Common.{◌≡◌, ℕ, ◌+◌, ◌-◌, ◌≤◌, min, cond, eqb, true, false, Bool, List, [], ◌∷◌, ◌++◌, length, take, drop, reverse, refl, ap, sym, ◌∙◌, arith, take-append-drop, take-take, length-append, length-drop, append_assoc, take_at, replicate}
 use Rattle.std.proofs.lemmas.List.{reverse-reverse, length-reverse, take-append-le}
-use Rattle.cct_model.specs.declared.coin.Pair.{Pair}
-use Rattle.cct_model.specs.declared.coin.Coin.{Coin}
+use Rattle.cct_model.specs.terms.coin.Pair.{Pair}
+use Rattle.cct_model.specs.terms.coin.Coin.{Coin}
 use Rattle.cct_model.specs.Reading.{coins_among, posted_of}
 use Rattle.cct_model.specs.Acceptor.{last_five, no_event}
 use Rattle.cct_model.specs.Claims.{AreNewest}

@@ -1,20 +1,20 @@
 -- What a piece asks of a device: its first byte tells whom it is for, and its fourth is its header.
 use Rattle.std.proofs.Common.{◌≡◌, ◌≢◌, ℕ, ◌==◌, cond, true, false, Bool, List, [], ◌∷◌, slice_index, refl, ap, sym, ◌∙◌, subst, Option, Some, None, option_and_then, eq-eqb}
 use Rattle.std.proofs.lemmas.Bool.{ne_eqb}
-use Rattle.cct_model.specs.declared.wire.CheckKind.{CheckKind}
-use Rattle.cct_model.specs.declared.wire.CheckKind.TheVariants.{Simple, Crc}
-use Rattle.cct_model.specs.declared.device.DeviceSetup.{DeviceSetup}
-use Rattle.cct_model.specs.declared.request.Request.{Request}
-use Rattle.cct_model.specs.declared.request.Request.TheVariants.{AddressPoll, SimplePoll}
-use Rattle.cct_model.specs.declared.command.WireFault.{WireFault}
-use Rattle.cct_model.specs.declared.command.WireFault.TheVariants as fault
+use Rattle.cct_model.specs.terms.wire.CheckKind.{CheckKind}
+use Rattle.cct_model.specs.terms.wire.CheckKind.TheVariants.{Simple, Crc}
+use Rattle.cct_model.specs.terms.device.DeviceSetup.{DeviceSetup}
+use Rattle.cct_model.specs.terms.request.Request.{Request}
+use Rattle.cct_model.specs.terms.request.Request.TheVariants.{AddressPoll, SimplePoll}
+use Rattle.cct_model.specs.lines.command.WireFault.{WireFault}
+use Rattle.cct_model.specs.lines.command.WireFault.TheVariants as fault
 use Rattle.cct_model.specs.Message.{Message, message, spelling}
 use Rattle.cct_model.specs.Request.{header_of, request_of}
 use Rattle.cct_model.specs.Exchange.{ask, asks_of, asked_of, to_one, to_all}
 use Rattle.cct_model.specs.Scan.{poll_of}
 use Rattle.cct_model.specs.Transcript.{heard_by_devices}
 use Rattle.cct_model.proofs.Requests.{request_header}
-use Rattle.cct_laws.specs.Honest.{IsNoMessage, IsHonestFault}
+use Rattle.cct_model.specs.Honest.{IsNoMessage, IsHonestFault}
 use Rattle.cct_laws.specs.Kept.{IsForOthers}
 
 passed : (fits : Bool) (x m : Message) → cond fits (Some x) None ≡ Some m → x ≡ m

@@ -1,17 +1,17 @@
 -- In every legal transcript over an honest wire posts are accepted coins in their order, and under the pace none is lost in
 -- silence.
 use Rattle.std.proofs.Common.{List, [], All}
-use Rattle.cct_model.specs.declared.device.DeviceSetup.{DeviceSetup}
-use Rattle.cct_model.specs.declared.device.Setup.{Setup}
-use Rattle.cct_model.specs.declared.command.Step.{Step}
-use Rattle.cct_model.specs.declared.entry.Entry.{Entry}
+use Rattle.cct_model.specs.terms.device.DeviceSetup.{DeviceSetup}
+use Rattle.cct_model.specs.terms.device.Setup.{Setup}
+use Rattle.cct_model.specs.lines.command.Step.{Step}
+use Rattle.cct_model.specs.lines.entry.Entry.{Entry}
 use Rattle.cct_model.specs.Claims.{InOrder, Covers, Pace}
 use Rattle.cct_model.specs.Device.{IsAcceptor}
 use Rattle.cct_model.specs.Setup.{IsSoundSetup}
 use Rattle.cct_model.specs.Legal.{Legal}
 use Rattle.cct_model.specs.Script.{IsInRange}
 use Rattle.cct_model.specs.Transcript.{met, onto}
-use Rattle.cct_laws.specs.Honest.{Honest}
+use Rattle.cct_model.specs.Honest.{Honest}
 use Rattle.cct_laws.specs.Law.{IsOf, lines_in}
 use Rattle.cct_laws.proofs.Moves.{Keeps}
 use Rattle.cct_laws.proofs.Acceptors.{keeps_kept, kept_in_order, kept_covers}

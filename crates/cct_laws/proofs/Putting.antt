@@ -1,16 +1,16 @@
 -- What a record that a job has to put tells of its acceptor.
 use Rattle.std.proofs.Common.{◌≡◌, ℕ, zero, suc, List, subst, Option}
 use Rattle.std.specs.Prelude.{⊤}
-use Rattle.cct_model.specs.declared.coin.Credits.{Credits}
-use Rattle.cct_model.specs.declared.device.DeviceSetup.{DeviceSetup}
-use Rattle.cct_model.specs.declared.record.Record.{Record}
-use Rattle.cct_model.specs.declared.record.Record.TheVariants as record_of
-use Rattle.cct_model.specs.declared.record.Judged.{Judged}
-use Rattle.cct_model.specs.declared.record.Judged.TheVariants.{Nothing, Reading, Broken}
-use Rattle.cct_model.specs.declared.record.EpochState.{EpochState}
-use Rattle.cct_model.specs.declared.record.EpochState.TheVariants.{Idle, Running}
-use Rattle.cct_model.specs.declared.command.Command.{Command}
-use Rattle.cct_model.specs.declared.command.Command.TheVariants as command
+use Rattle.cct_model.specs.terms.coin.Credits.{Credits}
+use Rattle.cct_model.specs.terms.device.DeviceSetup.{DeviceSetup}
+use Rattle.cct_model.specs.lines.record.Record.{Record}
+use Rattle.cct_model.specs.lines.record.Record.TheVariants as record_of
+use Rattle.cct_model.specs.declared.judging.Judged.{Judged}
+use Rattle.cct_model.specs.declared.judging.Judged.TheVariants.{Nothing, Reading, Broken}
+use Rattle.cct_model.specs.declared.judging.EpochState.{EpochState}
+use Rattle.cct_model.specs.declared.judging.EpochState.TheVariants.{Idle, Running}
+use Rattle.cct_model.specs.lines.command.Command.{Command}
+use Rattle.cct_model.specs.lines.command.Command.TheVariants as command
 use Rattle.cct_model.specs.History.{Met}
 use Rattle.cct_model.specs.Line.{Line}
 use Rattle.cct_model.specs.Job.{works, job, Row, puts, no_row, put_or, start_row, round_row, stop_row, row, done, epoch, credits_read, mask_read, address_of, judged_by, judged_in}

@@ -3,13 +3,13 @@ use Rattle.std.proofs.Common.{◌≡◌, ℕ, ◌+◌, ◌-◌, ◌<◌, ◌≤�
 use Rattle.std.proofs.lemmas.Bool.{le-leb}
 use Rattle.std.proofs.lemmas.Bool.Decides.{nat_tests}
 use Rattle.std.proofs.lemmas.List.{nil_from_length}
-use Rattle.cct_model.specs.declared.coin.Pair.{Pair}
-use Rattle.cct_model.specs.declared.coin.Coin.{Coin}
-use Rattle.cct_model.specs.declared.coin.Credits.{Credits}
-use Rattle.cct_model.specs.declared.record.Record.TheVariants as record_of
-use Rattle.cct_model.specs.declared.record.Judged.TheVariants.{Nothing, Reading, Broken}
-use Rattle.cct_model.specs.declared.record.EpochState.{EpochState}
-use Rattle.cct_model.specs.declared.record.EpochState.TheVariants.{Idle, Running}
+use Rattle.cct_model.specs.terms.coin.Pair.{Pair}
+use Rattle.cct_model.specs.terms.coin.Coin.{Coin}
+use Rattle.cct_model.specs.terms.coin.Credits.{Credits}
+use Rattle.cct_model.specs.lines.record.Record.TheVariants as record_of
+use Rattle.cct_model.specs.declared.judging.Judged.TheVariants.{Nothing, Reading, Broken}
+use Rattle.cct_model.specs.declared.judging.EpochState.{EpochState}
+use Rattle.cct_model.specs.declared.judging.EpochState.TheVariants.{Idle, Running}
 use Rattle.cct_model.specs.Reading.{coins_among, posted_of, distance, shows_break, judge}
 use Rattle.cct_model.specs.Acceptor.{counter, last_five, no_event}
 use Rattle.cct_model.specs.Job.{judged_by}

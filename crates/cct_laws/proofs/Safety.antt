@@ -1,15 +1,15 @@
 -- Where an acceptor is safe in every legal transcript over an honest wire: which mask it has, what its events then tell, and
 -- why its epoch breaks.
 use Rattle.std.proofs.Common.{◌≡◌, ℕ, false, List, [], ◌∷◌, ◌++◌, take, drop, take-append-drop, refl, ap, sym, ◌∙◌, subst, None, replicate, All}
-use Rattle.cct_model.specs.declared.coin.Coin.{Coin}
-use Rattle.cct_model.specs.declared.coin.Pair.{Pair}
-use Rattle.cct_model.specs.declared.device.DeviceSetup.{DeviceSetup}
-use Rattle.cct_model.specs.declared.device.Setup.{Setup}
-use Rattle.cct_model.specs.declared.record.Record.TheVariants as record_of
-use Rattle.cct_model.specs.declared.record.EpochState.TheVariants.{Idle, Running}
-use Rattle.cct_model.specs.declared.command.Command.{Command}
-use Rattle.cct_model.specs.declared.command.Step.{Step}
-use Rattle.cct_model.specs.declared.entry.Entry.{Entry}
+use Rattle.cct_model.specs.terms.coin.Coin.{Coin}
+use Rattle.cct_model.specs.terms.coin.Pair.{Pair}
+use Rattle.cct_model.specs.terms.device.DeviceSetup.{DeviceSetup}
+use Rattle.cct_model.specs.terms.device.Setup.{Setup}
+use Rattle.cct_model.specs.lines.record.Record.TheVariants as record_of
+use Rattle.cct_model.specs.declared.judging.EpochState.TheVariants.{Idle, Running}
+use Rattle.cct_model.specs.lines.command.Command.{Command}
+use Rattle.cct_model.specs.lines.command.Step.{Step}
+use Rattle.cct_model.specs.lines.entry.Entry.{Entry}
 use Rattle.cct_model.specs.Acceptor.{accepts, events, no_event, last_five, credits_of}
 use Rattle.cct_model.specs.Device.{IsAcceptor}
 use Rattle.cct_model.specs.Setup.{IsSoundSetup}
@@ -20,7 +20,7 @@ use Rattle.cct_model.specs.Legal.{Legal}
 use Rattle.cct_model.specs.Claims.{mark, base}
 use Rattle.cct_model.specs.Script.{IsInRange}
 use Rattle.cct_model.specs.Transcript.{met, onto}
-use Rattle.cct_laws.specs.Honest.{Honest}
+use Rattle.cct_model.specs.Honest.{Honest}
 use Rattle.cct_laws.specs.Law.{IsOf, lines_in}
 use Rattle.cct_laws.specs.Since.{since_epoch_in, mask_set_in, IsMaskedBy, MayBreak, HaveCauses}
 use Rattle.cct_laws.proofs.Newest.{coins_among-append}
@@ -28,7 +28,7 @@ use Rattle.cct_laws.proofs.Causes.{causes_go_on}
 use Rattle.cct_laws.proofs.Whole.{kept_since_legal, goes_on_legal}
 use Rattle.cct_laws.proofs.Fits.{StateOf}
 use Rattle.cct_laws.proofs.World.{world}
-use Rattle.cct_laws.proofs.Steps.{IsAt, job_at}
+use Rattle.cct_laws.proofs.Brought.{IsAt, job_at}
 use Rattle.cct_laws.proofs.Masks.{MaskedIn, Masks, masks_kept, masks_silent, masks_break}
 
 -- a credit buffer tells no coin where the events tell none
@@ -89,4 +89,4 @@ pub legal_causes : (setup : Setup) (steps : List Step) (transcript : List Entry)
     Legal setup steps transcript → Honest transcript → HaveCauses d (onto [] transcript)
 legal_causes setup steps transcript d sound own accepting in_range legal honest =
     goes_on_legal setup steps transcript d Masks (HaveCauses d) sound own accepting in_range legal honest (masks_kept d accepting)
-    (λ past news s told masks before. causes_go_on setup d past news s own told masks before) tt
+    (λ past news s told masks before. causes_go_on setup d past news s sound own told masks before) tt

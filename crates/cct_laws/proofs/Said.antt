@@ -10,18 +10,18 @@ use Rattle.std.proofs.lemmas.List.Sums.{AllPass-from_list_all}
 use Rattle.hex.specs.Hex.{IsBytes, decode_of, decode_pairs}
 use Rattle.hex.specs.declared.error.FromHexError.{FromHexError}
 use Rattle.hex.proofs.HexLemmas.{decode_pairs-ok}
-use Rattle.cct_model.specs.declared.wire.CheckKind.{CheckKind}
-use Rattle.cct_model.specs.declared.device.DeviceBody.{DeviceBody}
-use Rattle.cct_model.specs.declared.device.DeviceBody.TheVariants.{Acceptor, Hopper}
-use Rattle.cct_model.specs.declared.device.Texts.{Texts}
-use Rattle.cct_model.specs.declared.device.DeviceSetup.{DeviceSetup}
-use Rattle.cct_model.specs.declared.device.SetupLine.{SetupLine}
-use Rattle.cct_model.specs.declared.device.SetupLine.TheVariants as says
-use Rattle.cct_model.specs.declared.command.Command.TheVariants as command
-use Rattle.cct_model.specs.declared.command.Step.{Step}
-use Rattle.cct_model.specs.declared.command.Step.TheVariants as step
-use Rattle.cct_model.specs.declared.entry.LineKind.{LineKind}
-use Rattle.cct_model.specs.declared.entry.LineKind.TheVariants as kind
+use Rattle.cct_model.specs.terms.wire.CheckKind.{CheckKind}
+use Rattle.cct_model.specs.terms.device.DeviceBody.{DeviceBody}
+use Rattle.cct_model.specs.terms.device.DeviceBody.TheVariants.{Acceptor, Hopper}
+use Rattle.cct_model.specs.terms.device.Texts.{Texts}
+use Rattle.cct_model.specs.terms.device.DeviceSetup.{DeviceSetup}
+use Rattle.cct_model.specs.lines.setup.SetupLine.{SetupLine}
+use Rattle.cct_model.specs.lines.setup.SetupLine.TheVariants as says
+use Rattle.cct_model.specs.lines.command.Command.TheVariants as command
+use Rattle.cct_model.specs.lines.command.Step.{Step}
+use Rattle.cct_model.specs.lines.command.Step.TheVariants as step
+use Rattle.cct_model.specs.lines.entry.LineKind.{LineKind}
+use Rattle.cct_model.specs.lines.entry.LineKind.TheVariants as kind
 use Rattle.cct_model.specs.Device.{IsPrinting, IsWord, IsId, IsSound, IsSoundBody, IsAcceptor}
 use Rattle.cct_model.specs.Grammar.{◌>>=◌, is_space, number_in, within, ranged, three_byte_in, check_in, is_printing, word_in, id_in, bytes_in, piece_in, plain_acceptor, plain_device, acceptor_line, value_line, texts_line, alone, setup_fields, setup_line, mask_of_bytes, mask_in, address_in, step_at, coin_step, fault_step, start_step, path_step, step_fields, step_line, valued}
 use Rattle.cct_model.specs.Legal.{is_played_command}

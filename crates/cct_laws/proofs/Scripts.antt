@@ -3,15 +3,15 @@ use Rattle.std.proofs.Common.{◌≡◌, ℕ, ◌+◌, nat_lt, Bool, true, false
 use Rattle.std.specs.Prelude.{⊤}
 use Rattle.std.specs.List.{AllByRecursion, slice_split}
 use Rattle.std.proofs.lemmas.List.Elements.{All-from_recursion, All-weaker, All-nil}
-use Rattle.cct_model.specs.declared.device.DeviceSetup.{DeviceSetup}
-use Rattle.cct_model.specs.declared.device.Setup.{Setup}
-use Rattle.cct_model.specs.declared.device.SetupLine.{SetupLine}
-use Rattle.cct_model.specs.declared.device.SetupLine.TheVariants as says
-use Rattle.cct_model.specs.declared.command.Step.{Step}
-use Rattle.cct_model.specs.declared.command.Step.TheVariants as step
-use Rattle.cct_model.specs.declared.entry.Entry.{Entry}
-use Rattle.cct_model.specs.declared.entry.LineKind.{LineKind}
-use Rattle.cct_model.specs.declared.entry.LineKind.TheVariants as kind
+use Rattle.cct_model.specs.terms.device.DeviceSetup.{DeviceSetup}
+use Rattle.cct_model.specs.terms.device.Setup.{Setup}
+use Rattle.cct_model.specs.lines.setup.SetupLine.{SetupLine}
+use Rattle.cct_model.specs.lines.setup.SetupLine.TheVariants as says
+use Rattle.cct_model.specs.lines.command.Step.{Step}
+use Rattle.cct_model.specs.lines.command.Step.TheVariants as step
+use Rattle.cct_model.specs.lines.entry.Entry.{Entry}
+use Rattle.cct_model.specs.lines.entry.LineKind.{LineKind}
+use Rattle.cct_model.specs.lines.entry.LineKind.TheVariants as kind
 use Rattle.cct_model.specs.Claims.{InOrder, Covers, Pace}
 use Rattle.cct_model.specs.Device.{IsSound, IsAcceptor}
 use Rattle.cct_model.specs.Grammar.{setup_line, step_line, added}
@@ -20,7 +20,7 @@ use Rattle.cct_model.specs.Script.{Stage, at_setup, at_steps, at_end, setup_at, 
 use Rattle.cct_model.proofs.Added.{AreAll, KeepsEach, added_keeps}
 use Rattle.cct_model.specs.Text.{text}
 use Rattle.cct_text.proofs.Whole.{text_is_one}
-use Rattle.cct_laws.specs.Honest.{Honest}
+use Rattle.cct_model.specs.Honest.{Honest}
 use Rattle.cct_laws.specs.Law.{IsOf, HasBytes, AreOfToday, IsSetupOfToday, lines_in}
 use Rattle.cct_laws.proofs.Setups.{found_in}
 use Rattle.cct_laws.proofs.Said.{Fit, IsFitLine, IfSaid, IsToday, setup_said, step_said}

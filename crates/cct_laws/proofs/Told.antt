@@ -1,34 +1,34 @@
 -- What an entry of a legal transcript tells: numbers and bytes in range.
-use Rattle.std.proofs.Common.{ℕ, zero, suc, ◌+◌, ◌-◌, ◌%◌, ◌<◌, ◌≤◌, ◌==◌, min, nat_le, Bool, true, false, cond, List, [], ◌∷◌, ◌++◌, length, take, reverse, Option, Some, None, slice_get, arith, All, rules}
+use Rattle.std.proofs.Common.{ℕ, zero, suc, ◌+◌, ◌-◌, ◌%◌, ◌<◌, ◌≤◌, ◌==◌, min, nat_le, Bool, true, false, cond, List, [], ◌∷◌, ◌++◌, length, take, reverse, Option, Some, None, arith, All, rules}
 use Rattle.std.specs.Prelude.{⊤, unwrap_or, option_and_then, flat_map}
 use Rattle.std.proofs.lemmas.List.{reverse-append}
 use Rattle.std.proofs.lemmas.List.Elements.{All-head, All-tail, All-nil, All-cons, All-push}
-use Rattle.cct_model.specs.declared.coin.Coin.{Coin}
-use Rattle.cct_model.specs.declared.coin.Pair.{Pair}
-use Rattle.cct_model.specs.declared.coin.Credits.{Credits}
-use Rattle.cct_model.specs.declared.wire.CheckKind.{CheckKind}
-use Rattle.cct_model.specs.declared.device.DeviceBody.{DeviceBody}
-use Rattle.cct_model.specs.declared.device.DeviceBody.TheVariants.{Acceptor, Hopper}
-use Rattle.cct_model.specs.declared.device.DeviceSetup.{DeviceSetup}
-use Rattle.cct_model.specs.declared.device.Setup.{Setup}
-use Rattle.cct_model.specs.declared.request.Request.{Request}
-use Rattle.cct_model.specs.declared.request.Request.TheVariants.{ReadCredits, SetMask, GetMask}
-use Rattle.cct_model.specs.declared.record.Record.{Record}
-use Rattle.cct_model.specs.declared.record.Record.TheVariants as record_of
-use Rattle.cct_model.specs.declared.record.Judged.{Judged}
-use Rattle.cct_model.specs.declared.record.Judged.TheVariants.{Nothing, Reading, Broken}
-use Rattle.cct_model.specs.declared.record.EpochState.{EpochState}
-use Rattle.cct_model.specs.declared.record.EpochState.TheVariants.{Running}
-use Rattle.cct_model.specs.declared.command.Command.{Command}
-use Rattle.cct_model.specs.declared.command.Command.TheVariants as command
-use Rattle.cct_model.specs.declared.command.CommandNo.{CommandNo}
-use Rattle.cct_model.specs.declared.command.CommandNo.TheVariants as refusals
-use Rattle.cct_model.specs.declared.command.WireFault.{WireFault}
-use Rattle.cct_model.specs.declared.command.WireFault.TheVariants as fault
-use Rattle.cct_model.specs.declared.entry.End.{End}
-use Rattle.cct_model.specs.declared.entry.End.TheVariants as ends_of
-use Rattle.cct_model.specs.declared.entry.Entry.{Entry}
-use Rattle.cct_model.specs.declared.entry.Entry.TheVariants as entry
+use Rattle.cct_model.specs.terms.coin.Coin.{Coin}
+use Rattle.cct_model.specs.terms.coin.Pair.{Pair}
+use Rattle.cct_model.specs.terms.coin.Credits.{Credits}
+use Rattle.cct_model.specs.terms.wire.CheckKind.{CheckKind}
+use Rattle.cct_model.specs.terms.device.DeviceBody.{DeviceBody}
+use Rattle.cct_model.specs.terms.device.DeviceBody.TheVariants.{Acceptor, Hopper}
+use Rattle.cct_model.specs.terms.device.DeviceSetup.{DeviceSetup}
+use Rattle.cct_model.specs.terms.device.Setup.{Setup}
+use Rattle.cct_model.specs.terms.request.Request.{Request}
+use Rattle.cct_model.specs.terms.request.Request.TheVariants.{ReadCredits, SetMask, GetMask}
+use Rattle.cct_model.specs.lines.record.Record.{Record}
+use Rattle.cct_model.specs.lines.record.Record.TheVariants as record_of
+use Rattle.cct_model.specs.declared.judging.Judged.{Judged}
+use Rattle.cct_model.specs.declared.judging.Judged.TheVariants.{Nothing, Reading, Broken}
+use Rattle.cct_model.specs.declared.judging.EpochState.{EpochState}
+use Rattle.cct_model.specs.declared.judging.EpochState.TheVariants.{Running}
+use Rattle.cct_model.specs.lines.command.Command.{Command}
+use Rattle.cct_model.specs.lines.command.Command.TheVariants as command
+use Rattle.cct_model.specs.lines.command.CommandNo.{CommandNo}
+use Rattle.cct_model.specs.lines.command.CommandNo.TheVariants as refusals
+use Rattle.cct_model.specs.lines.command.WireFault.{WireFault}
+use Rattle.cct_model.specs.lines.command.WireFault.TheVariants as fault
+use Rattle.cct_model.specs.lines.entry.End.{End}
+use Rattle.cct_model.specs.lines.entry.End.TheVariants as ends_of
+use Rattle.cct_model.specs.lines.entry.Entry.{Entry}
+use Rattle.cct_model.specs.lines.entry.Entry.TheVariants as entry
 use Rattle.cct_model.specs.Request.{header_of, data_of, form_of}
 use Rattle.cct_model.specs.Reply.{Reply}
 use Rattle.cct_model.specs.Reply as reply
@@ -38,12 +38,12 @@ use Rattle.cct_model.specs.Exchange.{ask, asked, asking, answer, got, put_by_add
 use Rattle.cct_model.specs.Line.{Line, accepted, inhibited, fell, exchange, scanned, put, taken, ended, crashed}
 use Rattle.cct_model.specs.Line as line
 use Rattle.cct_model.specs.Reading.{coins_among, posted_of, distance, shows_break, judge}
-use Rattle.cct_model.specs.Job.{Job, free, works, job, begun, with_line, done, credits_reply, credits_line, credits_read, mask_reply, mask_line, mask_read, judged_by, judged_in, Row, sends, puts, no_row, put_or, send_row, ident_requests, start_row, round_row, stop_row, path_row, row, address_of, tries, end_of_put, end_of_start, end_of_reading, end_of_round, end_of_path, end_of_answer, end_of_tries, end_of_failure, end_of}
+use Rattle.cct_model.specs.Job.{Job, free, works, job, begun, with_line, done, credits_reply, credits_line, credits_read, mask_reply, mask_line, mask_read, judged_by, judged_in, Row, ident_requests, row, address_of, tries, end_of_put, end_of_start, end_of_reading, end_of_round, end_of_path, end_of_answer, end_of_tries, end_of_failure, end_of}
 use Rattle.cct_model.specs.Transcript.{pending, heard_by_devices, heard_by_host, met, answers, heard_after, got_by, owner, lines_of}
 use Rattle.cct_model.proofs.Requests.{request_short}
 use Rattle.cct_text.specs.Written.{IsNumber, IsCoin, IsCommand, IsReason, IsRecord, IsFault, IsEnd, IsWritten}
 use Rattle.cct_laws.proofs.Said.{IfThere}
-use Rattle.cct_laws.proofs.Rows.{IfSends, each_row}
+use Rattle.cct_laws.proofs.Rows.{Each, RowHolds, JudgedHolds, RoundHolds, CommandHolds, each_row}
 use Rattle.cct_laws.proofs.Bytes.{Bytes, bytes_are, are_bytes, bytes_more, spelled_bytes, FitsPairs, FitsReply, got_fits}
 use Rattle.cct_laws.proofs.Answering.{FitsMet, FitsAll, pairs_taken, there_or, answer_bytes, asks_fit}
 
@@ -314,9 +314,7 @@ mask_fits (l ∷ lines) h = there_or (λ mask. mask < 65536) (mask_line l) (mask
 
 -- what is judged
 abbrev FitsJudged : Judged → Type 0
-FitsJudged Nothing = ⊤
-FitsJudged (Reading r) = IsRecord r
-FitsJudged (Broken r) = IsRecord r
+FitsJudged judged = JudgedHolds IsRecord judged
 
 coins_if : (b : Bool) (c : Coin) (coins : List Coin) → IsCoin c → All IsCoin coins → All IsCoin (cond b coins (c ∷ coins))
 coins_if true c coins h k = k
@@ -367,63 +365,44 @@ judged_fits c since state h k = judged_there (address_of c) state (credits_read 
 
 -- the row of a job
 abbrev pub FitsRow : Row → Type 0
-FitsRow (sends q) = FitsAsk q
-FitsRow (puts r) = IsRecord r
-FitsRow no_row = ⊤
+FitsRow r = RowHolds FitsAsk IsRecord r
 
-put_or_fits : (other : Row) (judged : Judged) → FitsRow other → FitsJudged judged → FitsRow (put_or other judged)
-put_or_fits other Nothing h k = h
-put_or_fits other (Reading r) h k = k
-put_or_fits other (Broken r) h k = k
-
-start_fits : (addr mask rows : ℕ) → addr < 256 → mask < 65536 → FitsRow (start_row addr mask rows)
+ident_fits : (body : DeviceBody) → Each FitsAsk (ident_requests body)
 unfolding data_of
-start_fits addr mask zero h k = tt
-start_fits addr mask (suc zero) h k = tt
-start_fits addr mask (suc (suc zero)) h k = (byte_number addr h, omega (arith, k))
-start_fits addr mask (suc (suc (suc zero))) h k = (omega arith, (omega (arith, k), tt))
-start_fits addr mask (suc (suc (suc (suc rows)))) h k = tt
+ident_fits (Acceptor accepts values ids) = search rules
+ident_fits (Hopper life value) = search rules
 
-round_fits : (rows : ℕ) (judged : Judged) → FitsJudged judged → FitsRow (round_row rows judged)
+round_fits : (judged : Judged) → FitsJudged judged → RoundHolds FitsAsk IsRecord judged
 unfolding data_of
-round_fits zero judged h = tt
-round_fits (suc zero) judged h = tt
-round_fits (suc (suc zero)) judged h = put_or_fits no_row judged tt h
-round_fits (suc (suc (suc rows))) judged h = tt
+round_fits judged fits = record { reads = tt; looks = tt; means = fits }
 
-stop_fits : (addr rows : ℕ) (judged : Judged) → addr < 256 → FitsJudged judged → FitsRow (stop_row addr rows judged)
+command_fits : (d : DeviceSetup) (c : Command) (since : List Line) (state : EpochState) → FitsJob (works c since) →
+    CommandHolds FitsAsk IsRecord d.body c (judged_in c since state)
 unfolding data_of
-stop_fits addr zero judged h k = (omega arith, tt)
-stop_fits addr (suc zero) judged h k = tt
-stop_fits addr (suc (suc zero)) judged h k = tt
-stop_fits addr (suc (suc (suc zero))) judged h k = put_or_fits (puts (record_of.EpochEnd addr)) judged (byte_number addr h) k
-stop_fits addr (suc (suc (suc (suc zero)))) judged h k = byte_number addr h
-stop_fits addr (suc (suc (suc (suc (suc rows))))) judged h k = tt
+command_fits d (command.Start addr mask) since state h = record {
+  resets = tt;
+  reads = tt;
+  begins = (byte_number addr h.0.0, omega (arith, h.0.1));
+  opens = (omega arith, (omega (arith, h.0.1), tt));
+}
+command_fits d (command.Round addr) since state h =
+    round_fits (judged_in (command.Round addr) since state) (judged_fits (command.Round addr) since state h.0 h.1)
+command_fits d (command.Stop addr) since state h = record {
+  shuts = (omega arith, tt);
+  round = round_fits (judged_in (command.Stop addr) since state) (judged_fits (command.Stop addr) since state h.0 h.1);
+  over = byte_number addr h.0;
+}
+command_fits d (command.Ident addr) since state h = ident_fits d.body
+command_fits d (command.Path addr place path) since state h = (
+  poll_fits (place == 0) _ _ (omega (arith, h.0.2), tt) (omega (arith, h.0.1), (omega (arith, h.0.2), tt)),
+  poll_fits (place == 0) _ _ tt (omega (arith, h.0.1), tt),
+)
+command_fits d c since state h = tt
 
-sends_fit : (r : Row) → IfSends FitsAsk r → FitsRow r
-sends_fit (sends q) h = h
-sends_fit (puts r) h = absurd h
-sends_fit no_row h = tt
-
-ident_fits : (body : DeviceBody) (rows : ℕ) → IfSends FitsAsk (send_row (slice_get (ident_requests body) rows))
-unfolding data_of
-ident_fits (Acceptor accepts values ids) rows = each_row FitsAsk (ident_requests (Acceptor accepts values ids)) rows (search rules)
-ident_fits (Hopper life value) rows = each_row FitsAsk (ident_requests (Hopper life value)) rows (search rules)
-
-path_fits : (place path rows : ℕ) → place ≤ 16 → path ≤ 8 → FitsRow (path_row place path rows)
-unfolding data_of
-path_fits place path zero h k = poll_fits (place == 0) _ _ (omega (arith, k), tt) (omega (arith, h), (omega (arith, k), tt))
-path_fits place path (suc zero) h k = poll_fits (place == 0) _ _ tt (omega (arith, h), tt)
-path_fits place path (suc (suc rows)) h k = tt
-
-pub row_fits : (d : DeviceSetup) (c : Command) (since : List Line) (state : EpochState) → FitsJob (works c since) → FitsRow (row d c since state)
-row_fits d (command.Start addr mask) since state h = start_fits addr mask (done since) h.0.0 h.0.1
-row_fits d (command.Round addr) since state h = round_fits (done since) (judged_in (command.Round addr) since state) (judged_fits (command.Round addr) since state h.0 h.1)
-row_fits d (command.Stop addr) since state h = stop_fits addr (done since) (judged_in (command.Stop addr) since state) h.0 (judged_fits (command.Stop addr) since state h.0 h.1)
-row_fits d command.Scan since state h = tt
-row_fits d (command.Ident addr) since state h = sends_fit (send_row (slice_get (ident_requests d.body) (done since))) (ident_fits d.body (done since))
-row_fits d (command.Path addr place path) since state h = path_fits place path (done since) h.0.1 h.0.2
-row_fits d c since state h = absurd h.0
+pub row_fits : (d : DeviceSetup) (c : Command) (since : List Line) (state : EpochState) → FitsJob (works c since) →
+    FitsRow (row d c since state)
+row_fits d c since state h =
+    each_row FitsAsk IsRecord d.body c (done since) (judged_in c since state) (command_fits d c since state h)
 
 -- the end that a line brings
 ends_if : (addr : ℕ) (b : Bool) (end : End) → IsEnd addr end → IfThere (IsEnd addr) (cond b (Some end) None)

@@ -1,8 +1,8 @@
 -- What holds of an acceptor beside the coins and the pieces that its lines tell, and what moves keep it.
 use Rattle.std.proofs.Common.{◌≡◌, ◌≢◌, ℕ, suc, ◌+◌, ◌≤◌, ◌⊎◌, inl, inr, ◌&&◌, Bool, true, false, List, [], ◌∷◌, ◌++◌, length, refl, ap, sym, ◌∙◌, arith, ne_eqb}
 use Rattle.std.proofs.lemmas.Bool.Decides.{nat_tests}
-use Rattle.cct_model.specs.declared.coin.Pair.{Pair}
-use Rattle.cct_model.specs.declared.coin.Coin.{Coin}
+use Rattle.cct_model.specs.terms.coin.Pair.{Pair}
+use Rattle.cct_model.specs.terms.coin.Coin.{Coin}
 use Rattle.cct_model.specs.Setting.{Setting, master_set, path_set, default_set, has_place, mask_in, accepts_in}
 use Rattle.cct_model.specs.Reading.{coins_among}
 use Rattle.cct_model.specs.Acceptor.{counter, settings, events}

@@ -1,14 +1,14 @@
 -- What the laws speak of beside the definitions of the machine and of an honest wire.
-use Rattle.std.specs.Prelude.{◌≡◌, ◌<◌, true, List, [], Some, None, ⊤}
+use Rattle.std.specs.Prelude.{◌≡◌, ◌<◌, true, List, [], ◌∷◌, Some, None, ⊤}
 use Rattle.std.specs.List.{All}
-use Rattle.cct_model.specs.declared.device.DeviceSetup.{DeviceSetup}
-use Rattle.cct_model.specs.declared.device.Setup.{Setup}
-use Rattle.cct_model.specs.declared.request.Request.{Request}
-use Rattle.cct_model.specs.declared.command.Command.{Command}
-use Rattle.cct_model.specs.declared.command.Command.TheVariants as command
-use Rattle.cct_model.specs.declared.command.Step.{Step}
-use Rattle.cct_model.specs.declared.command.Step.TheVariants as step
-use Rattle.cct_model.specs.declared.entry.Entry.{Entry}
+use Rattle.cct_model.specs.terms.device.DeviceSetup.{DeviceSetup}
+use Rattle.cct_model.specs.terms.device.Setup.{Setup}
+use Rattle.cct_model.specs.terms.request.Request.{Request}
+use Rattle.cct_model.specs.lines.command.Command.{Command}
+use Rattle.cct_model.specs.lines.command.Command.TheVariants as command
+use Rattle.cct_model.specs.lines.command.Step.{Step}
+use Rattle.cct_model.specs.lines.command.Step.TheVariants as step
+use Rattle.cct_model.specs.lines.entry.Entry.{Entry}
 use Rattle.cct_model.specs.Reply.{Reply}
 use Rattle.cct_model.specs.Device.{IsAcceptor, reply_of}
 use Rattle.cct_model.specs.Exchange.{ask, device_at}
@@ -32,11 +32,17 @@ AreAcceptors setup = All (λ d. IsAcceptor d.body) setup.devices
 abbrev pub lines_in : DeviceSetup → List Entry → List Line
 lines_in d transcript = lines_of d (onto [] transcript)
 
+-- A fact of each entry and all that came before it.
+abbrev pub EachEntry : (List Entry → Entry → Type 0) → List Entry → Type 0
+EachEntry P [] = ⊤
+EachEntry P (e ∷ past) = P past e × EachEntry P past
+
 -- An exchange in which a device is asked something is answered: the device replies, and the host gets that reply in the
 -- form that the request wants.
 abbrev pub IsAnswered : Setup → DeviceSetup → List Entry → Request → Type 0
 IsAnswered setup d past q =
-    (y : Reply) × (reply_of d (met d past) q ≡ Some y) × (got_by d (ask d.kind d.addr q) (heard_after setup past (ask d.kind d.addr q)) ≡ Some y)
+    (y : Reply) × (reply_of d (met d past) q ≡ Some y) ×
+    (got_by d (ask d.kind d.addr q) (heard_after setup past (ask d.kind d.addr q)) ≡ Some y)
 
 -- In an exchange in which a device is asked something the host gets no reply.
 abbrev pub IsUnanswered : Setup → DeviceSetup → List Entry → Request → Type 0

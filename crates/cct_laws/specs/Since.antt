@@ -1,13 +1,14 @@
 -- What an acceptor met since its epoch began, and a fact of that which every step over an honest wire keeps.
 use Rattle.std.specs.Prelude.{◌≡◌, ◌≤◌, ◌⊎◌, ℕ, ◌==◌, Bool, true, false, List, [], ◌∷◌, ◌++◌, if◌then◌else◌, Option, Some, None, ⊤}
-use Rattle.cct_model.specs.declared.device.DeviceSetup.{DeviceSetup}
-use Rattle.cct_model.specs.declared.request.Request.{Request}
-use Rattle.cct_model.specs.declared.request.Request.TheVariants.{SetMask}
-use Rattle.cct_model.specs.declared.record.Record.{Record}
-use Rattle.cct_model.specs.declared.record.Record.TheVariants as record_of
-use Rattle.cct_model.specs.declared.command.Command.{Command}
-use Rattle.cct_model.specs.declared.entry.Entry.{Entry}
-use Rattle.cct_model.specs.declared.entry.Entry.TheVariants as entry
+use Rattle.cct_model.specs.terms.coin.TheConstants.{COIN_PLACES}
+use Rattle.cct_model.specs.terms.device.DeviceSetup.{DeviceSetup}
+use Rattle.cct_model.specs.terms.request.Request.{Request}
+use Rattle.cct_model.specs.terms.request.Request.TheVariants.{SetMask}
+use Rattle.cct_model.specs.lines.record.Record.{Record}
+use Rattle.cct_model.specs.lines.record.Record.TheVariants as record_of
+use Rattle.cct_model.specs.lines.command.Command.{Command}
+use Rattle.cct_model.specs.lines.entry.Entry.{Entry}
+use Rattle.cct_model.specs.lines.entry.Entry.TheVariants as entry
 use Rattle.cct_model.specs.Reply.{Reply}
 use Rattle.cct_model.specs.History.{Met, coin, alien, fall, jam, reset, heard, unless_reset}
 use Rattle.cct_model.specs.Acceptor.{mask_of, path_of}
@@ -18,6 +19,7 @@ use Rattle.cct_model.specs.Job.{free, job, epoch, row, sends, puts, end_of, addr
 use Rattle.cct_model.specs.Legal.{is_played_command}
 use Rattle.cct_model.specs.Script.{IsCommand}
 use Rattle.cct_model.specs.Transcript.{meets, onto}
+use Rattle.cct_laws.specs.Law.{EachEntry}
 use Rattle.cct_laws.specs.Kept.{Fate, IsForOthers, with_ended, IsTaken, WorksAt}
 
 -- What a device met since a record: nothing, where the record begins an epoch at its address.
@@ -52,8 +54,8 @@ mask_set_in (jam ∷ past) = mask_set_in past
 mask_set_in (reset ∷ past) = None
 mask_set_in (heard asked ∷ past) = mask_set_by asked (mask_set_in past)
 
--- An acceptor whose epoch runs with a mask has this inhibit mask, which was then set in the epoch, and no reset came after
--- that; or it has the mask 0, and none stands that was set in the epoch.
+-- An acceptor whose epoch runs with a mask has this inhibit mask, which was then set in the epoch, and no reset came
+-- after that; or it has the mask 0, and none stands that was set in the epoch.
 abbrev pub IsMaskedBy : ℕ → List Met → List Met → Type 0
 IsMaskedBy mask since past =
     ((mask_set_in since ≡ Some mask) × (mask_of past ≡ mask)) ⊎ ((mask_set_in since ≡ None) × (mask_of past ≡ 0))
@@ -100,26 +102,37 @@ HasCauseAt d past e = ⊤
 
 -- Each break of a device that was put had a cause.
 abbrev pub HaveCauses : DeviceSetup → List Entry → Type 0
-HaveCauses d [] = ⊤
-HaveCauses d (e ∷ past) = HasCauseAt d past e × HaveCauses d past
+HaveCauses d past = EachEntry (HasCauseAt d) past
 
 -- A fact of what an acceptor met since its epoch began, of all that it met, and of its lines, each newest first, holds
 -- before anything came, and is kept by each thing that can come over an honest wire.
 pub record IsKeptSince (d : DeviceSetup) (P : List Met → List Met → List Line → Type 0) : Type 0 where
   pub starts : P [] [] []
-  pub accepts : (since past : List Met) (lines : List Line) (place : ℕ) → 1 ≤ place → place ≤ 16 → acceptor.accepts past place ≡ true →
-      P since past lines → P (coin place ∷ since) (coin place ∷ past) (accepted (record { place = place; path = path_of past place }) ∷ lines)
+  pub accepts : (since past : List Met) (lines : List Line) (place : ℕ) → 1 ≤ place → place ≤ COIN_PLACES →
+      acceptor.accepts past place ≡ true →
+      P since past lines → P (coin place ∷ since) (coin place ∷ past)
+      (accepted (record { place = place; path = path_of past place }) ∷ lines)
   pub inhibits : (since past : List Met) (lines : List Line) (place : ℕ) → acceptor.accepts past place ≡ false →
       P since past lines → P (coin place ∷ since) (coin place ∷ past) (inhibited place ∷ lines)
-  pub aliens : (since past : List Met) (lines : List Line) → P since past lines → P (alien ∷ since) (alien ∷ past) (line.alien ∷ lines)
-  pub resets : (since past : List Met) (lines : List Line) → P since past lines → P (reset ∷ since) (reset ∷ past) (line.reset ∷ lines)
+  pub aliens : (since past : List Met) (lines : List Line) → P since past lines →
+      P (alien ∷ since) (alien ∷ past) (line.alien ∷ lines)
+  pub resets : (since past : List Met) (lines : List Line) → P since past lines →
+      P (reset ∷ since) (reset ∷ past) (line.reset ∷ lines)
   pub elsewhere : (since past : List Met) (lines : List Line) (asked : Option Request) → IsForOthers asked →
       P since past lines → P (heard asked ∷ since) (heard asked ∷ past) lines
-  pub takes : (since past : List Met) (lines : List Line) (c : Command) → job lines ≡ free → address_of c ≡ d.addr → IsCommand c →
+  pub takes : (since past : List Met) (lines : List Line) (c : Command) → job lines ≡ free → address_of c ≡ d.addr →
+      IsCommand c →
       is_played_command c ≡ true → IsTaken d c (epoch lines) → P since past lines → P since past (taken c ∷ lines)
-  pub asks : (since past : List Met) (lines : List Line) (c : Command) (work : List Line) (q : Request) (asked : Option Request) (got : Option Reply) →
+  pub asks : (since past : List Met) (lines : List Line) (c : Command) (work : List Line) (q : Request)
+      (asked : Option Request) (got : Option Reply) →
       WorksAt d lines c work → row d c work (epoch lines) ≡ sends q → Fate d past q asked got →
-      P since past lines → P (heard asked ∷ since) (heard asked ∷ past) (with_ended (end_of d c (exchange (Some q) got) work (epoch lines)) (exchange (Some q) got ∷ lines))
+      P since past lines → P (heard asked ∷ since) (heard asked ∷ past)
+      (with_ended (end_of d c (exchange (Some q) got) work (epoch lines)) (exchange (Some q) got ∷ lines))
   pub puts : (since past : List Met) (lines : List Line) (c : Command) (work : List Line) (r : Record) →
       WorksAt d lines c work → row d c work (epoch lines) ≡ puts r →
-      P since past lines → P (since_record d r since) past (with_ended (end_of d c (put r) work (epoch lines)) (put r ∷ lines))
+      P since past lines → P (since_record d r since) past (with_ended (end_of d c (put r) work (epoch lines))
+      (put r ∷ lines))
+
+-- The same of a fact without regard to the epoch.
+abbrev pub IsKept : DeviceSetup → (List Met → List Line → Type 0) → Type 0
+IsKept d P = IsKeptSince d (λ since past lines. P past lines)

@@ -1,8 +1,8 @@
 -- When a job ends for want of an answer.
 use Rattle.std.specs.Prelude.{◌≡◌, ◌<◌, ◌⊎◌, ℕ, suc, List, [], ◌∷◌, Option, Some, None, ⊤}
-use Rattle.cct_model.specs.declared.wire.CheckKind.TheVariants.{Simple, Crc}
-use Rattle.cct_model.specs.declared.request.Request.{Request}
-use Rattle.cct_model.specs.declared.entry.End.TheVariants.{NoAnswer}
+use Rattle.cct_model.specs.terms.wire.CheckKind.TheVariants.{Simple, Crc}
+use Rattle.cct_model.specs.terms.request.Request.{Request}
+use Rattle.cct_model.specs.lines.entry.End.TheVariants.{NoAnswer}
 use Rattle.cct_model.specs.Reply.{Reply}
 use Rattle.cct_model.specs.Request.{header_of}
 use Rattle.cct_model.specs.Line.{Line, exchange, put, ended}

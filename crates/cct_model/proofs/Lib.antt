@@ -1,9 +1,6 @@
-pub mod Messages
-mod Scripts
-mod Sets
-mod Words
-mod Vectors
-pub mod Requests
-pub mod Replaced
-pub mod Added
+pub use Rattle.cct_lines.proofs.Messages
+pub use Rattle.cct_lines.proofs.Requests
+pub use Rattle.cct_lines.proofs.Replaced
+pub use Rattle.cct_lines.proofs.Added
 pub mod Polls
+mod Vectors

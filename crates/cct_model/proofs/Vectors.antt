@@ -1,36 +1,12 @@
--- The definitions at published and worked values: the CRC's check value, messages, distances of event counters, and
--- what an acceptor answers.
-use Rattle.std.proofs.Common.{◌≡◌, [], ◌∷◌, Some, None, codes, refl}
-use Rattle.cct_model.specs.declared.wire.CheckKind.TheVariants.{Simple, Crc}
-use Rattle.cct_model.specs.Message.{crc, message, spelling}
-use Rattle.cct_model.specs.declared.device.DeviceSetup.{DeviceSetup}
-use Rattle.cct_model.specs.declared.request.Request.TheVariants.{SetMask, SetPath}
-use Rattle.cct_model.specs.Request.{request_of, requests_with}
-use Rattle.cct_model.specs.Reply.{reply_data}
-use Rattle.cct_model.specs.History.{coin, reset, heard}
-use Rattle.cct_model.specs.Setting.{has_place}
-use Rattle.cct_model.specs.Acceptor.{coin_event, credits_of, last_five, accept_count, acceptor_reply}
-use Rattle.cct_model.specs.Device.{common_reply, reply_of}
-use Rattle.cct_model.specs.Exchange.{answer, asker, asks_of}
+-- The distance of two event counters, and the polls of a scan, at worked values.
+use Rattle.std.proofs.Common.{◌≡◌, [], ◌∷◌, Some, None, refl}
+use Rattle.cct_model.specs.terms.wire.CheckKind.TheVariants.{Simple, Crc}
+use Rattle.cct_model.specs.Message.{message}
+use Rattle.cct_model.specs.Reply.{reply_in}
+use Rattle.cct_model.specs.DeviceSet.{all_addresses}
+use Rattle.cct_model.specs.Line.{scanned}
+use Rattle.cct_model.specs.Scan.{scan_row, next_due}
 use Rattle.cct_model.specs.Reading.{distance}
-use Rattle.cct_model.specs.Grammar.{plain_acceptor, plain_device}
-
-crc_of_digits : crc (codes "123456789") ≡ 12739
-unfolding crc
-crc_of_digits = refl
-
--- a simple poll of address 2, under either check
-simple_poll : spelling Simple (record { to = 2; from = Some 1; header = 254; body = [] }) ≡ 2 ∷ 0 ∷ 1 ∷ 254 ∷ 255 ∷ []
-unfolding spelling
-simple_poll = refl
-
-crc_poll : spelling Crc (record { to = 2; from = None; header = 254; body = [] }) ≡ 2 ∷ 0 ∷ 177 ∷ 254 ∷ 96 ∷ []
-unfolding spelling crc
-crc_poll = refl
-
-crc_poll_read : message Crc (2 ∷ 0 ∷ 177 ∷ 254 ∷ 96 ∷ []) ≡ Some (record { to = 2; from = None; header = 254; body = [] })
-unfolding message crc
-crc_poll_read = refl
 
 from_first : distance 0 254 ≡ 254
 unfolding distance
@@ -52,50 +28,28 @@ after_a_reset : distance 7 0 ≡ 0
 unfolding distance
 after_a_reset = refl
 
--- the acceptor at address 2 of which a script says no more
-abbrev the_acceptor : DeviceSetup
-the_acceptor = plain_device 2 Simple 1 (plain_acceptor 0)
+-- a scan that hears the bytes 2 and 9 behind its first address poll asks device 2, and then device 9 under both checks
+first_poll : scan_row [] ≡ Some (Simple, 0)
+unfolding scan_row
+first_poll = refl
 
--- an acceptor answers a poll, and a fresh one the request for its credits, for its product code, and for a path of a
--- place that it doesn't have
-answers_poll : answer the_acceptor [] (2 ∷ 0 ∷ 1 ∷ 254 ∷ 255 ∷ []) ≡ Some (1 ∷ 0 ∷ 2 ∷ 0 ∷ 253 ∷ [])
-unfolding asker asks_of message request_of requests_with reply_of common_reply reply_data spelling
-answers_poll = refl
+second_poll : scan_row (scanned Simple 0 (Some (2 ∷ 9 ∷ [])) ∷ []) ≡ Some (Crc, 0)
+unfolding scan_row
+second_poll = refl
 
-answers_fresh : answer the_acceptor [] (2 ∷ 0 ∷ 1 ∷ 229 ∷ 24 ∷ []) ≡ Some (1 ∷ 11 ∷ 2 ∷ 0 ∷ 0 ∷ 0 ∷ 0 ∷ 0 ∷ 0 ∷ 0 ∷ 0 ∷ 0 ∷ 0 ∷ 0 ∷ 0 ∷ 242 ∷ [])
-unfolding asker asks_of message request_of requests_with reply_of common_reply acceptor_reply reply_data spelling
-answers_fresh = refl
+first_device : scan_row (scanned Crc 0 (Some []) ∷ scanned Simple 0 (Some (2 ∷ 9 ∷ [])) ∷ []) ≡ Some (Simple, 2)
+unfolding scan_row next_due all_addresses
+first_device = refl
 
-answers_category : answer the_acceptor [] (2 ∷ 0 ∷ 1 ∷ 245 ∷ 8 ∷ []) ≡ Some (1 ∷ 13 ∷ 2 ∷ 0 ∷ 67 ∷ 111 ∷ 105 ∷ 110 ∷ 32 ∷ 65 ∷ 99 ∷ 99 ∷ 101 ∷ 112 ∷ 116 ∷ 111 ∷ 114 ∷ 22 ∷ [])
-unfolding asker asks_of message request_of requests_with reply_of common_reply reply_data spelling
-answers_category = refl
+-- the acknowledgement of device 2 is the piece 01 00 02 00 fd
+second_device : scan_row (scanned Simple 2 (Some (1 ∷ 0 ∷ 2 ∷ 0 ∷ 253 ∷ [])) ∷ scanned Crc 0 (Some []) ∷ scanned Simple 0 (Some (2 ∷ 9 ∷ [])) ∷ []) ≡ Some (Simple, 9)
+unfolding scan_row next_due all_addresses message reply_in
+second_device = refl
 
-refuses_place_17 : answer the_acceptor [] (2 ∷ 2 ∷ 1 ∷ 210 ∷ 17 ∷ 1 ∷ 23 ∷ []) ≡ Some (1 ∷ 0 ∷ 2 ∷ 5 ∷ 248 ∷ [])
-unfolding asker asks_of message request_of requests_with reply_of common_reply acceptor_reply reply_data spelling
-refuses_place_17 = refl
+other_check : scan_row (scanned Simple 9 (Some []) ∷ scanned Simple 2 (Some (1 ∷ 0 ∷ 2 ∷ 0 ∷ 253 ∷ [])) ∷ scanned Crc 0 (Some []) ∷ scanned Simple 0 (Some (2 ∷ 9 ∷ [])) ∷ []) ≡ Some (Crc, 9)
+unfolding scan_row message
+other_check = refl
 
--- an address poll is answered by the bare address, at address 0 alone
-answers_address_poll : answer the_acceptor [] (0 ∷ 0 ∷ 1 ∷ 253 ∷ 2 ∷ []) ≡ Some (2 ∷ [])
-unfolding asker asks_of message request_of requests_with reply_of common_reply acceptor_reply
-answers_address_poll = refl
-
-silent_to_its_own_address_poll : answer the_acceptor [] (2 ∷ 0 ∷ 1 ∷ 253 ∷ 0 ∷ []) ≡ None
-unfolding asker asks_of message request_of requests_with
-silent_to_its_own_address_poll = refl
-
-silent_to_a_hopper_s_request : answer the_acceptor [] (2 ∷ 0 ∷ 1 ∷ 161 ∷ 92 ∷ []) ≡ None
-unfolding asker asks_of message request_of requests_with reply_of common_reply acceptor_reply
-silent_to_a_hopper_s_request = refl
-
--- a coin of an accepted place falls by the path that was set for it, and after a reset it is inhibited
-accepted_by_path : coin_event (heard (Some (SetPath 5 3)) ∷ heard (Some (SetMask 65535)) ∷ []) 5 ≡ record { a = 5; b = 3 }
-unfolding has_place
-accepted_by_path = refl
-
-inhibited_after_reset : credits_of (coin 5 ∷ reset ∷ coin 5 ∷ heard (Some (SetMask 65535)) ∷ []) ≡ record { counter = 1; pairs = last_five (record { a = 0; b = 2 } ∷ []) }
-unfolding has_place
-inhibited_after_reset = refl
-
-counted_over_reset : accept_count 16777215 (coin 5 ∷ reset ∷ coin 5 ∷ heard (Some (SetMask 65535)) ∷ []) ≡ 0
-unfolding has_place
-counted_over_reset = refl
+nothing_left : scan_row (scanned Crc 9 (Some []) ∷ scanned Simple 9 (Some []) ∷ scanned Simple 2 (Some (1 ∷ 0 ∷ 2 ∷ 0 ∷ 253 ∷ [])) ∷ scanned Crc 0 (Some []) ∷ scanned Simple 0 (Some (2 ∷ 9 ∷ [])) ∷ []) ≡ None
+unfolding scan_row next_due all_addresses
+nothing_left = refl

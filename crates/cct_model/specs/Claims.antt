@@ -1,10 +1,10 @@
 -- What holds of the lines of an acceptor: its posts are accepted coins in their order, none twice, and none is lost
 -- in silence.
 use Rattle.std.specs.Prelude.{◌≡◌, ℕ, suc, ◌+◌, ◌-◌, ◌<◌, ◌≤◌, nat_le, List, [], ◌∷◌, ◌++◌, length, take, reverse, if◌then◌else◌, Option, Some, None, ⊤}
-use Rattle.cct_model.specs.declared.coin.Coin.{Coin}
-use Rattle.cct_model.specs.declared.record.Record.{Record}
-use Rattle.cct_model.specs.declared.record.Record.TheVariants as record_of
-use Rattle.cct_model.specs.declared.entry.End.TheVariants.{Clean}
+use Rattle.cct_model.specs.terms.coin.Coin.{Coin}
+use Rattle.cct_model.specs.lines.record.Record.{Record}
+use Rattle.cct_model.specs.lines.record.Record.TheVariants as record_of
+use Rattle.cct_model.specs.lines.entry.End.TheVariants.{Clean}
 use Rattle.cct_model.specs.Line.{Line, accepted, inhibited, alien, put, ended}
 use Rattle.cct_model.specs.Job.{credits_line, mask_line}
 

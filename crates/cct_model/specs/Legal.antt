@@ -1,44 +1,30 @@
 -- A legal transcript: the entries of a script's steps, one step after the other, and none besides.
-use Rattle.std.specs.Prelude.{◌≡◌, ℕ, ◌-◌, ◌==◌, ◌&&◌, not, Bool, true, false, List, [], ◌∷◌, ◌++◌, find, slice_index_or, if◌then◌else◌, Option, Some, None, MatchBool}
+use Rattle.std.specs.Prelude.{◌≡◌, ℕ, ◌==◌, ◌&&◌, Bool, true, false, List, [], ◌∷◌, ◌++◌, find, if◌then◌else◌, Option, Some, None, MatchBool}
 use Rattle.std.specs.Option.{option_map, option_or}
-use Rattle.cct_model.specs.declared.wire.CheckKind.{CheckKind}
-use Rattle.cct_model.specs.declared.device.DeviceBody.{DeviceBody}
-use Rattle.cct_model.specs.declared.device.DeviceBody.TheVariants.{Acceptor, Hopper}
-use Rattle.cct_model.specs.declared.device.DeviceSetup.{DeviceSetup}
-use Rattle.cct_model.specs.declared.device.Setup.{Setup}
-use Rattle.cct_model.specs.declared.command.Command.{Command}
-use Rattle.cct_model.specs.declared.command.Command.TheVariants as command
-use Rattle.cct_model.specs.declared.command.CommandNo.{CommandNo}
-use Rattle.cct_model.specs.declared.command.CommandNo.TheVariants.{NoDevice, WrongKind, Busy, EpochRuns, NoEpoch, NoValue}
-use Rattle.cct_model.specs.declared.command.Step.{Step}
-use Rattle.cct_model.specs.declared.command.Step.TheVariants as step
-use Rattle.cct_model.specs.declared.record.EpochState.{EpochState}
-use Rattle.cct_model.specs.declared.record.EpochState.TheVariants.{Idle, Running}
-use Rattle.cct_model.specs.declared.entry.End.{End}
-use Rattle.cct_model.specs.declared.entry.Entry.{Entry}
-use Rattle.cct_model.specs.declared.entry.Entry.TheVariants as entry
+use Rattle.cct_model.specs.terms.wire.TheConstants.{BROADCAST}
+use Rattle.cct_model.specs.terms.wire.CheckKind.{CheckKind}
+use Rattle.cct_model.specs.terms.device.DeviceBody.{DeviceBody}
+use Rattle.cct_model.specs.terms.device.DeviceSetup.{DeviceSetup}
+use Rattle.cct_model.specs.terms.device.Setup.{Setup}
+use Rattle.cct_model.specs.lines.command.Command.{Command}
+use Rattle.cct_model.specs.lines.command.Command.TheVariants as command
+use Rattle.cct_model.specs.lines.command.CommandNo.{CommandNo}
+use Rattle.cct_model.specs.lines.command.CommandNo.TheVariants.{NoDevice, WrongKind, Busy, EpochRuns, NoEpoch, NoValue}
+use Rattle.cct_model.specs.lines.command.Step.{Step}
+use Rattle.cct_model.specs.lines.command.Step.TheVariants as step
+use Rattle.cct_model.specs.declared.judging.EpochState.{EpochState}
+use Rattle.cct_model.specs.declared.judging.EpochState.TheVariants.{Idle, Running}
+use Rattle.cct_model.specs.lines.entry.End.{End}
+use Rattle.cct_model.specs.lines.entry.Entry.{Entry}
+use Rattle.cct_model.specs.lines.entry.Entry.TheVariants as entry
 use Rattle.cct_model.specs.Setting.{has_place}
 use Rattle.cct_model.specs.Acceptor.{accepts, path_of}
+use Rattle.cct_model.specs.Device.{is_acceptor, value_at}
 use Rattle.cct_model.specs.Exchange.{ask, asked, device_at}
 use Rattle.cct_model.specs.Line.{Line, exchange, put}
 use Rattle.cct_model.specs.Job.{Job, free, works, job, Row, sends, puts, no_row, row, epoch, end_of}
 use Rattle.cct_model.specs.Scan.{scan_row, end_of_scan, poll_of}
 use Rattle.cct_model.specs.Transcript.{met, lines_of, scan_lines, scan_line, heard_after, got_by, onto}
-
--- Whether a device is a coin acceptor.
-abbrev pub is_acceptor : DeviceBody → Bool
-is_acceptor (Acceptor accepts values ids) = true
-is_acceptor (Hopper life value) = false
-
--- Whether the device at an address is a coin acceptor.
-abbrev pub acceptor_there : Option DeviceSetup → Bool
-acceptor_there (Some d) = is_acceptor d.body
-acceptor_there None = false
-
--- Whether the device at an address is a hopper.
-abbrev pub hopper_there : Option DeviceSetup → Bool
-hopper_there (Some d) = not (is_acceptor d.body)
-hopper_there None = false
 
 -- The entry of a coin: accepted with its path where the acceptor accepts its place, else inhibited.
 abbrev pub coin_entry : DeviceSetup → List Entry → ℕ → Entry
@@ -69,11 +55,6 @@ when_free past further d = option_or (busy (job (lines_of d past))) (further d (
 -- The coin places.
 abbrev pub coin_places : List ℕ
 coin_places = 1 ∷ 2 ∷ 3 ∷ 4 ∷ 5 ∷ 6 ∷ 7 ∷ 8 ∷ 9 ∷ 10 ∷ 11 ∷ 12 ∷ 13 ∷ 14 ∷ 15 ∷ 16 ∷ []
-
--- The value of a coin place of a device, 0 where it has none.
-abbrev pub value_at : DeviceBody → ℕ → ℕ
-value_at (Acceptor accepts values ids) place = slice_index_or values (place - 1) 0
-value_at (Hopper life value) place = 0
 
 -- The least coin place of a mask that has no value, or none.
 abbrev pub valueless : DeviceBody → ℕ → Option ℕ
@@ -109,39 +90,39 @@ abbrev pub with_end : ℕ → Entry → Option End → List Entry
 with_end addr e None = e ∷ []
 with_end addr e (Some end) = entry.Ended addr end ∷ e ∷ []
 
--- The entries of one attempt of a row of a job at a device, newest first: one exchange, or one put, and its end.
-abbrev pub RowEntries : Setup → DeviceSetup → List Entry → Command → List Line → Row → List Entry → Type 0
-RowEntries setup d past c since (sends q) news =
+-- The entries of one attempt of a row of a job at a device, newest first: one exchange, or one put, and its end. What
+-- follows a piece that is sent is an argument.
+abbrev pub RowEntries : (List ℕ → List ℕ) → DeviceSetup → List Entry → Command → List Line → Row → List Entry → Type 0
+RowEntries hears d past c since (sends q) news =
     let sent = ask d.kind d.addr q in
-    let piece = heard_after setup past sent in
+    let piece = hears sent in
     news ≡ with_end d.addr (entry.Wire d.addr sent piece) (end_of d c (exchange (asked d.kind sent) (got_by d sent piece)) since (epoch (lines_of d past)))
-RowEntries setup d past c since (puts r) news =
+RowEntries hears d past c since (puts r) news =
     news ≡ with_end d.addr (entry.Put r) (end_of d c (put r) since (epoch (lines_of d past)))
-RowEntries setup d past c since no_row news = ⊥
+RowEntries hears d past c since no_row news = ⊥
 
 -- The entries of a `next` at a device, newest first: idle with no job, else those of its row.
-abbrev pub NextEntries : Setup → DeviceSetup → List Entry → Job → List Entry → Type 0
-NextEntries setup d past free news = news ≡ entry.Idle d.addr ∷ []
-NextEntries setup d past (works c since) news =
-    RowEntries setup d past c since (row d c since (epoch (lines_of d past))) news
+abbrev pub NextEntries : (List ℕ → List ℕ) → DeviceSetup → List Entry → Job → List Entry → Type 0
+NextEntries hears d past free news = news ≡ entry.Idle d.addr ∷ []
+NextEntries hears d past (works c since) news = RowEntries hears d past c since (row d c since (epoch (lines_of d past))) news
 
 -- The entries of one poll of a scan, newest first, and its end.
-abbrev pub PollEntries : Setup → List Entry → List Line → Option (CheckKind × ℕ) → List Entry → Type 0
-PollEntries setup past since None news = ⊥
-PollEntries setup past since (Some (check, addr)) news =
+abbrev pub PollEntries : (List ℕ → List ℕ) → List Line → Option (CheckKind × ℕ) → List Entry → Type 0
+PollEntries hears since None news = ⊥
+PollEntries hears since (Some (check, addr)) news =
     let sent = ask check addr (poll_of addr) in
-    let piece = heard_after setup past sent in
-    news ≡ with_end 0 (entry.Wire 0 sent piece) (end_of_scan (scan_line sent piece ∷ since))
+    let piece = hears sent in
+    news ≡ with_end BROADCAST (entry.Wire BROADCAST sent piece) (end_of_scan (scan_line sent piece ∷ since))
 
 -- The entries of a `next` at address 0, newest first: idle with no scan, else those of its next poll.
-abbrev pub ScanEntries : Setup → List Entry → Job → List Entry → Type 0
-ScanEntries setup past free news = news ≡ entry.Idle 0 ∷ []
-ScanEntries setup past (works c since) news = PollEntries setup past since (scan_row since) news
+abbrev pub ScanEntries : (List ℕ → List ℕ) → Job → List Entry → Type 0
+ScanEntries hears free news = news ≡ entry.Idle BROADCAST ∷ []
+ScanEntries hears (works c since) news = PollEntries hears since (scan_row since) news
 
 -- The entries of a `next` at an address without a device, newest first: a scan is at address 0 alone.
-abbrev pub BareNext : Setup → List Entry → ℕ → List Entry → Type 0
-BareNext setup past addr news =
-    MatchBool (addr == 0) (ScanEntries setup past (job (scan_lines past)) news) (news ≡ entry.Idle addr ∷ [])
+abbrev pub BareNext : (List ℕ → List ℕ) → List Entry → ℕ → List Entry → Type 0
+BareNext hears past addr news =
+    MatchBool (addr == BROADCAST) (ScanEntries hears (job (scan_lines past)) news) (news ≡ entry.Idle addr ∷ [])
 
 -- A fact of the device at an address; there has to be one.
 abbrev pub OfDevice : Option DeviceSetup → (DeviceSetup → Type 0) → Type 0
@@ -156,6 +137,11 @@ OfAcceptor found P = OfDevice found (λ d. MatchBool (is_acceptor d.body) (P d) 
 abbrev pub OfNext : Option DeviceSetup → (DeviceSetup → Type 0) → Type 0 → Type 0
 OfNext None P Q = Q
 OfNext (Some d) P Q = P d
+
+-- The entries of a `next` at an address, newest first.
+abbrev pub EntriesOfNext : (List ℕ → List ℕ) → Setup → List Entry → ℕ → List Entry → Type 0
+EntriesOfNext hears setup past addr news =
+    OfNext (device_at setup.devices addr) (λ d. NextEntries hears d past (job (lines_of d past)) news) (BareNext hears past addr news)
 
 -- A command that is played today.
 abbrev pub is_played_command : Command → Bool
@@ -174,8 +160,7 @@ Entries setup past (step.Alien addr) news = OfAcceptor (device_at setup.devices 
 Entries setup past (step.Reset addr) news = OfDevice (device_at setup.devices addr) (λ d. news ≡ entry.Reset addr ∷ [])
 Entries setup past (step.Fault f) news = news ≡ entry.Fault f ∷ []
 Entries setup past (step.Command c) news = MatchBool (is_played_command c) (news ≡ command_entry c (refusal setup past c) ∷ []) ⊥
-Entries setup past (step.Next addr) news =
-    OfNext (device_at setup.devices addr) (λ d. NextEntries setup d past (job (lines_of d past)) news) (BareNext setup past addr news)
+Entries setup past (step.Next addr) news = EntriesOfNext (heard_after setup past) setup past addr news
 Entries setup past s news = ⊥
 
 -- A step that is played today.

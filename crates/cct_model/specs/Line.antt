@@ -1,12 +1,12 @@
 -- The lines of one address, newest first, without bytes but those of a scan: an exchange is what was asked and what was
 -- got.
 use Rattle.std.specs.Prelude.{ℕ, List, Option}
-use Rattle.cct_model.specs.declared.coin.Coin.{Coin}
-use Rattle.cct_model.specs.declared.wire.CheckKind.{CheckKind}
-use Rattle.cct_model.specs.declared.request.Request.{Request}
-use Rattle.cct_model.specs.declared.record.Record.{Record}
-use Rattle.cct_model.specs.declared.command.Command.{Command}
-use Rattle.cct_model.specs.declared.entry.End.{End}
+use Rattle.cct_model.specs.terms.coin.Coin.{Coin}
+use Rattle.cct_model.specs.terms.wire.CheckKind.{CheckKind}
+use Rattle.cct_model.specs.terms.request.Request.{Request}
+use Rattle.cct_model.specs.lines.record.Record.{Record}
+use Rattle.cct_model.specs.lines.command.Command.{Command}
+use Rattle.cct_model.specs.lines.entry.End.{End}
 use Rattle.cct_model.specs.Reply.{Reply}
 
 -- A coin was accepted or inhibited, a piece that is no coin came, a coin fell out, the device was reset; an exchange was

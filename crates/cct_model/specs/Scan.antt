@@ -2,15 +2,16 @@
 -- and which devices it lists.
 use Rattle.std.specs.Prelude.{ℕ, suc, ◌==◌, ◌&&◌, ◌||◌, not, nat_le, Bool, true, false, List, [], ◌∷◌, ◌++◌, map, find, if◌then◌else◌, Option, Some, None, is_some, option_and_then}
 use Rattle.std.specs.List.{list_any}
-use Rattle.cct_model.specs.declared.wire.CheckKind.{CheckKind}
-use Rattle.cct_model.specs.declared.wire.CheckKind.TheVariants.{Simple, Crc}
-use Rattle.cct_model.specs.declared.request.Request.{Request}
-use Rattle.cct_model.specs.declared.request.Request.TheVariants.{SimplePoll, AddressPoll}
-use Rattle.cct_model.specs.declared.request.ReplyForm.TheVariants as form
-use Rattle.cct_model.specs.declared.device_set.DeviceSet.{DeviceSet}
-use Rattle.cct_model.specs.declared.entry.Listed.{Listed}
-use Rattle.cct_model.specs.declared.entry.End.{End}
-use Rattle.cct_model.specs.declared.entry.End.TheVariants as end_of
+use Rattle.cct_model.specs.terms.wire.TheConstants.{BROADCAST}
+use Rattle.cct_model.specs.terms.wire.CheckKind.{CheckKind}
+use Rattle.cct_model.specs.terms.wire.CheckKind.TheVariants.{Simple, Crc}
+use Rattle.cct_model.specs.terms.request.Request.{Request}
+use Rattle.cct_model.specs.terms.request.Request.TheVariants.{SimplePoll, AddressPoll}
+use Rattle.cct_model.specs.terms.request.ReplyForm.TheVariants as form
+use Rattle.cct_model.specs.lines.device_set.DeviceSet.{DeviceSet}
+use Rattle.cct_model.specs.lines.entry.Listed.{Listed}
+use Rattle.cct_model.specs.lines.entry.End.{End}
+use Rattle.cct_model.specs.lines.entry.End.TheVariants as end_of
 use Rattle.cct_model.specs.Message.{message}
 use Rattle.cct_model.specs.DeviceSet.{all_addresses}
 use Rattle.cct_model.specs.Exchange.{reply_from}
@@ -43,7 +44,7 @@ answers check addr line = false
 
 -- The bytes that a line notes: those that follow the echo of an address poll.
 abbrev pub noted_by : Line → List ℕ
-noted_by (scanned check addr (Some rest)) = if addr == 0 then rest else []
+noted_by (scanned check addr (Some rest)) = if addr == BROADCAST then rest else []
 noted_by line = []
 
 -- All bytes noted.
@@ -68,7 +69,7 @@ poll_due (Some addr) = Some (Simple, addr)
 -- due one under the simple check.
 abbrev pub poll_after : List Line → Option (CheckKind × ℕ)
 poll_after (scanned Simple addr rest ∷ since) =
-    if not (addr == 0) && not (is_acknowledged Simple addr rest) then Some (Crc, addr) else poll_due (next_due (scanned Simple addr rest ∷ since))
+    if not (addr == BROADCAST) && not (is_acknowledged Simple addr rest) then Some (Crc, addr) else poll_due (next_due (scanned Simple addr rest ∷ since))
 poll_after since = poll_due (next_due since)
 
 -- What a scan sends: the address poll under each check until its echo is good, then the polls of the noted addresses.
@@ -80,11 +81,11 @@ scan_row since =
 
 -- The request by which a scan polls an address: all devices at address 0, else one.
 abbrev pub poll_of : ℕ → Request
-poll_of addr = if addr == 0 then AddressPoll else SimplePoll
+poll_of addr = if addr == BROADCAST then AddressPoll else SimplePoll
 
 -- One failed try more, where an address poll under a check had no good echo; any other line ends what is counted.
 abbrev pub scan_tries : CheckKind → List Line → ℕ
-scan_tries check (scanned other addr None ∷ since) = if same_check check other && (addr == 0) then suc (scan_tries check since) else 0
+scan_tries check (scanned other addr None ∷ since) = if same_check check other && (addr == BROADCAST) then suc (scan_tries check since) else 0
 scan_tries check since = 0
 
 -- The set of the addresses that pass a test.

@@ -1,14 +1,15 @@
 -- A transcript, newest entry first: the wire's pending fault, what each device met, and the lines of each address.
 use Rattle.std.specs.Prelude.{ℕ, ◌==◌, List, [], ◌∷◌, ◌++◌, flat_map, if◌then◌else◌, Option, option_and_then, unwrap_or, slice_index, bytes_eq}
-use Rattle.cct_model.specs.declared.wire.CheckKind.TheVariants.{Simple, Crc}
-use Rattle.cct_model.specs.declared.device.DeviceSetup.{DeviceSetup}
-use Rattle.cct_model.specs.declared.device.Setup.{Setup}
-use Rattle.cct_model.specs.declared.command.WireFault.{WireFault}
-use Rattle.cct_model.specs.declared.command.WireFault.TheVariants as fault
-use Rattle.cct_model.specs.declared.record.Record.{Record}
-use Rattle.cct_model.specs.declared.record.Record.TheVariants as record_of
-use Rattle.cct_model.specs.declared.entry.Entry.{Entry}
-use Rattle.cct_model.specs.declared.entry.Entry.TheVariants as entry
+use Rattle.cct_model.specs.terms.wire.TheConstants.{BROADCAST, HOST}
+use Rattle.cct_model.specs.terms.wire.CheckKind.TheVariants.{Simple, Crc}
+use Rattle.cct_model.specs.terms.device.DeviceSetup.{DeviceSetup}
+use Rattle.cct_model.specs.terms.device.Setup.{Setup}
+use Rattle.cct_model.specs.lines.command.WireFault.{WireFault}
+use Rattle.cct_model.specs.lines.command.WireFault.TheVariants as fault
+use Rattle.cct_model.specs.lines.record.Record.{Record}
+use Rattle.cct_model.specs.lines.record.Record.TheVariants as record_of
+use Rattle.cct_model.specs.lines.entry.Entry.{Entry}
+use Rattle.cct_model.specs.lines.entry.Entry.TheVariants as entry
 use Rattle.cct_model.specs.Request.{form_of}
 use Rattle.cct_model.specs.Reply.{Reply}
 use Rattle.cct_model.specs.History.{Met, coin, alien, fall, jam, reset, heard}
@@ -93,7 +94,7 @@ owner past (record_of.EpochEnd addr) = addr
 owner past (record_of.Opened id addr count life) = addr
 owner past (record_of.Closed id paid unpaid) = opened_at id past
 owner past (record_of.Odd id before after) = opened_at id past
-owner past (record_of.Sold id price) = 1
+owner past (record_of.Sold id price) = HOST
 
 -- The line of a device's address that an entry is, or none.
 abbrev pub own : DeviceSetup → List Entry → Entry → List Line
@@ -117,7 +118,7 @@ lines_of d (e ∷ past) = own d past e ++ lines_of d past
 
 -- What stands at address 0, where scans are.
 abbrev pub at_scan : {A : Type 0} → ℕ → A → List A
-at_scan addr x = if addr == 0 then x ∷ [] else []
+at_scan addr x = if addr == BROADCAST then x ∷ [] else []
 
 -- The line of a scan that an exchange is: it polled the address that the piece sent is for, under the check of the two
 -- whose poll that piece is.

@@ -1,21 +1,15 @@
-//! The plain types that every crate shares, and in `specs/` the definitions that contracts cite: messages, what a
-//! device met, exchanges, jobs, readings, transcripts, and what holds of them.
+//! Jobs and transcripts: what a reading means, the lines of an address, the job and the epoch that they tell, what is a
+//! legal transcript, and what is claimed of one. All stands in `specs/`, over the definitions of what a wire, a device and
+//! a line are, which this crate passes on with their plain types.
 #![tactic(auto)]
 
-mod coin;
-mod command;
-mod device;
-mod device_set;
-mod entry;
-mod record;
-mod request;
-mod wire;
+mod judging;
 
-pub use coin::{Coin, Coins, Credits, Pair, has_place};
-pub use command::{Command, CommandNo, CrashAt, FaultOn, Step, StepRef, WireFault};
-pub use device::{DEVICES, DeviceBody, DeviceSetup, Devices, Setup, SetupLine, Texts};
-pub use device_set::DeviceSet;
-pub use entry::{End, Entry, LineKind, Listed, Note, SumOf, Totals};
-pub use record::{EpochState, Judged, OpenOrder, Record};
-pub use request::{Reply, ReplyForm, Request};
-pub use wire::{Bytes, CheckKind, Name, Piece, Sent};
+pub use cct_lines::{
+    BROADCAST, Bytes, COIN_PLACES, CheckKind, Coin, Coins, Command, CommandNo, CrashAt, Credits,
+    DEVICES, DeviceBody, DeviceSet, DeviceSetup, Devices, EVENTS, End, Entry, HOST, LineKind,
+    Listed, MOST_HEARD, MOST_LINE, MOST_LINES, MOST_NAME, MOST_SENT, MOST_TEXT, Name, PATHS, Pair,
+    Piece, Record, Reply, ReplyForm, Request, Sent, Setup, SetupLine, Step, SumOf, Texts, Totals,
+    WireFault, has_place,
+};
+pub use judging::{EpochState, Judged, OpenOrder};

@@ -1,13 +1,13 @@
 -- What the host makes of a message that may be the reply that it wants.
 use Rattle.std.specs.Prelude.{◌≡◌, ◌==◌, ◌&&◌, ⊤, ℕ, [], length, if◌then◌else◌, Option, Some, None, IsTrue}
-use Rattle.cct_model.specs.declared.request.Reply as code
-use Rattle.cct_model.specs.declared.request.Reply.TheVariants as shown
-use Rattle.cct_model.specs.declared.request.ReplyForm.{ReplyForm}
-use Rattle.cct_model.specs.Message.{Message}
-use Rattle.cct_model.specs.Reply.{Reply}
-use Rattle.cct_model.specs.Exchange.{is_for_host, reply_from}
-use Rattle.cct_msg.specs.declared.heard.NotWanted.{NotWanted}
-use Rattle.cct_msg.specs.declared.heard.NotWanted.TheVariants.{Nak, Busy, Other}
+use Rattle.cct_terms.specs.declared.request.Reply as code
+use Rattle.cct_terms.specs.declared.request.Reply.TheVariants as shown
+use Rattle.cct_terms.specs.declared.request.ReplyForm.{ReplyForm}
+use Rattle.cct_terms.specs.Message.{Message}
+use Rattle.cct_terms.specs.Reply.{Reply}
+use Rattle.cct_terms.specs.Exchange.{is_for_host, reply_from}
+use Rattle.cct_msg.specs.declared.reply_reading.NotWanted.{NotWanted}
+use Rattle.cct_msg.specs.declared.reply_reading.NotWanted.TheVariants.{Nak, Busy, Other}
 
 -- A message is for the host, comes from an address or from nobody named, and is this header without data.
 abbrev pub IsBare : ℕ → ℕ → Message → Type 0

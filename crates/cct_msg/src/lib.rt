@@ -2,26 +2,23 @@
 //! them, without a copy of a text and without memory of their own.
 #![tactic(auto)]
 
-mod asked;
-mod asking;
 mod header;
-mod heard;
 mod laws;
 mod number;
-mod replying;
+mod reply_reading;
+mod reply_writing;
+mod request_reading;
+mod request_writing;
 
-pub use asked::read_request;
-pub use asking::encode_request;
-pub use cct_model::{Reply, ReplyForm, Request};
-pub use heard::{NotWanted, read_reply};
+pub use cct_terms::{Reply, ReplyForm, Request};
 pub use laws::{
     a_reply_is_read_back, a_request_is_read_back, what_is_read_is_the_reply,
     what_is_read_is_the_request,
 };
-pub use replying::encode_reply;
-
-/// The address of the host.
-const HOST: u8 = 1;
+pub use reply_reading::{NotWanted, read_reply};
+pub use reply_writing::encode_reply;
+pub use request_reading::read_request;
+pub use request_writing::encode_request;
 
 #[cfg(test)]
 mod tests;

@@ -4,6 +4,3 @@
 mod ring;
 
 pub use ring::CreditRing;
-
-#[cfg(test)]
-mod tests;

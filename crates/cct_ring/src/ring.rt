@@ -1,14 +1,12 @@
 //! The credit buffer, which header 229 reads (ccTalk Generic Specification 4, part 2).
 ghost use Rattle.std.specs.Prelude.{◌≡◌, List, [], ◌∷◌, length, slice_get, unwrap_or, IfOk};
-ghost use Rattle.cct_model.specs.declared.coin.Pair.{Pair};
-ghost use Rattle.cct_model.specs.Acceptor.{counter, last_five, no_event};
+ghost use Rattle.cct_terms.specs.declared.coin.Pair.{Pair};
+ghost use Rattle.cct_terms.specs.declared.coin.TheConstants.{EVENTS};
+ghost use Rattle.cct_terms.specs.Acceptor.{counter, last_five, no_event};
 
-use cct_model::{Credits, Pair};
+use cct_terms::{Credits, EVENTS, Pair};
 use circular_buffer::HeapCircularBuffer;
 use std::alloc::{AllocError, Global};
-
-/// How many events a reading tells.
-const ROOM: usize = 5;
 
 /// What stands in a place for which there is no event yet.
 const NO_EVENT: Pair = Pair { a: 0, b: 0 };
@@ -20,7 +18,7 @@ const NO_EVENT: Pair = Pair { a: 0, b: 0 };
 pub struct CreditRing {
     counter: u8,
     newest: HeapCircularBuffer<Pair>,
-    ghost room: { newest.capacity ≡ 5 },
+    ghost room: { newest.capacity ≡ EVENTS },
 }
 
 impl CreditRing {
@@ -32,7 +30,7 @@ impl CreditRing {
     pub fn new(alloc: Global) -> Result<CreditRing, AllocError>
         ensures empty { IfOk result (λ ring. Holds ring []) }
     {
-        let newest = HeapCircularBuffer::with_capacity(alloc, ROOM)?;
+        let newest = HeapCircularBuffer::with_capacity(alloc, EVENTS)?;
         Ok(CreditRing { counter: 0, newest })
     }
 

@@ -1,8 +1,9 @@
 -- Numbers in decimal.
-use Rattle.std.proofs.Common.{◌≡◌, ℕ, ◌+◌, ◌-◌, ◌*◌, ◌<◌, Bool, true, false, cond, leb, ◌&&◌, List, [], ◌∷◌, Option, None, refl, arith}
+use Rattle.std.proofs.Common.{◌≡◌, ℕ, ◌+◌, ◌-◌, ◌*◌, ◌<◌, Bool, true, false, cond, leb, ◌&&◌, List, [], ◌∷◌, Option}
+use Rattle.std.proofs.Common.{None, refl, arith}
 use Rattle.std.specs.Prelude.{option_and_then}
 use Rattle.std.proofs.lemmas.Bool.Decides.{nat_tests}
-use Rattle.cct_model.specs.Grammar.{digits_from, within, is_digit}
+use Rattle.cct_lines.specs.Grammar.{digits_from, within, is_digit}
 
 not_both : (b : Bool) (x : Option ℕ) → cond (b && false) x None ≡ None
 not_both true x = refl

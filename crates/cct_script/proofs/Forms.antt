@@ -1,7 +1,8 @@
 -- A line with another number of fields than its word wants has no form.
 use Rattle.std.proofs.Common.{◌≡◌, ◌≢◌, ℕ, List, [], ◌∷◌, length, None, refl}
-use Rattle.cct_model.specs.Grammar.{acceptor_line, hopper_line, value_line, texts_line, is_space, alone, step_at, coin_step, fault_step, start_step, pay_step, path_step, vend_step, crash_step}
-use Rattle.cct_model.specs.declared.command.Step.{Step}
+use Rattle.cct_lines.specs.Grammar.{acceptor_line, hopper_line, value_line, texts_line, is_space, alone, step_at}
+use Rattle.cct_lines.specs.Grammar.{coin_step, fault_step, start_step, pay_step, path_step, vend_step, crash_step}
+use Rattle.cct_lines.specs.declared.command.Step.{Step}
 use Rattle.std.specs.List.{slice_split}
 use Rattle.cct_script.proofs.Splits.{split_some}
 

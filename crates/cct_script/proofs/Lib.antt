@@ -4,6 +4,7 @@ pub mod Printing
 pub mod Masks
 pub mod Forms
 pub mod Plain
+pub mod Steps
 pub mod Sound
 pub mod Window
 pub mod Giving

@@ -2,10 +2,10 @@
 use Rattle.std.proofs.Common.{◌≡◌, ℕ, ◌<◌, ◌≤◌, ◌^◌, List, length, refl, lit≤, true, codes}
 use Rattle.std.specs.List.{list_all}
 use Rattle.std.proofs.lemmas.List.Elements.{All-replicate}
-use Rattle.cct_model.specs.declared.wire.CheckKind.{CheckKind}
-use Rattle.cct_model.specs.declared.device.DeviceBody.{DeviceBody}
-use Rattle.cct_model.specs.Device.{IsId, IsWord, IsSound, IsSoundBody}
-use Rattle.cct_model.specs.Grammar.{plain_acceptor, plain_device, is_printing}
+use Rattle.cct_lines.specs.terms.wire.CheckKind.{CheckKind}
+use Rattle.cct_lines.specs.terms.device.DeviceBody.{DeviceBody}
+use Rattle.cct_lines.specs.Device.{IsId, IsWord, IsSound, IsSoundBody}
+use Rattle.cct_lines.specs.Grammar.{plain_acceptor, plain_device, is_printing}
 use Rattle.cct_script.proofs.Printing.{printing_all}
 
 word : (text : List ℕ) → 1 ≤ length text → length text ≤ 24 → list_all is_printing text ≡ true → IsWord text

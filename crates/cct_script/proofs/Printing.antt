@@ -3,8 +3,8 @@ use Rattle.std.proofs.Common.{◌≡◌, ℕ, true, List, get_or, arith}
 use Rattle.std.specs.List.{list_all, All}
 use Rattle.std.proofs.lemmas.Bool.Decides.{nat_tests}
 use Rattle.std.proofs.lemmas.List.Sums.{AllPass-from_list_all}
-use Rattle.cct_model.specs.Device.{IsPrinting}
-use Rattle.cct_model.specs.Grammar.{is_printing}
+use Rattle.cct_lines.specs.Device.{IsPrinting}
+use Rattle.cct_lines.specs.Grammar.{is_printing}
 
 printing_one : (byte : ℕ) → is_printing byte ≡ true → IsPrinting byte
 printing_one byte e = grind (arith, nat_tests)

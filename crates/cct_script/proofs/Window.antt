@@ -1,25 +1,27 @@
 -- The bytes that the reader of lines holds, as a part of its buffer.
-use Rattle.std.proofs.Common.{◌≡◌, ℕ, ◌+◌, ◌-◌, ◌≤◌, List, [], ◌++◌, length, take, drop, refl, ap, sym, ◌∙◌, arith, append_assoc}
+use Rattle.std.proofs.Common.{◌≡◌, ◌≢◌, ℕ, ◌+◌, ◌-◌, ◌≤◌, ◌<◌, subst, List, [], ◌++◌, length, take, drop, refl, ap}
+use Rattle.std.proofs.Common.{sym, ◌∙◌, arith, append_assoc, Option, Some, None, Result, Ok, Err}
 use Rattle.std.specs.Prelude.{slice_range}
-use Rattle.std.proofs.lemmas.List.{drop-take, length-take-le, take-append-le, drop-drop, length-drop}
+use Rattle.std.proofs.lemmas.List.{drop-take, length-take-le, take-append-le, drop-drop, length-drop, take_at}
+use Rattle.std.proofs.lemmas.List.{append-nil, length-append}
 use Rattle.std.proofs.Math.Seq.{take-append-add}
-use Rattle.std.proofs.lemmas.List.{take_at, append-nil}
 use Rattle.std.proofs.lemmas.Slice.{between_from_start}
 use Rattle.std.proofs.lemmas.Bool.{false≢true}
 use borrow.Rule.Slice.PartMut.{put_mid}
-use Rattle.std.proofs.Common.{Option, Some, None, Result, Ok, Err}
-use Rattle.std.specs.Result.{is_err}
+use Rattle.std.specs.Result.{IsErr, MatchResult}
 use Rattle.std.specs.List.{position}
-use Rattle.std.proofs.Common.{◌≢◌}
-use Rattle.cct_model.specs.Script.{is_line_feed}
+use Rattle.cct_lines.specs.declared.entry.TheConstants.{MOST_LINE}
+use Rattle.cct_lines.specs.Script.{is_line_feed}
 use Rattle.cct_edge.specs.Bytes.{TellsAsBefore}
-use Rattle.cct_edge.specs.Faults.{Rose, HasCause}
-use Rattle.cct_edge.proofs.Chains.{Consumes-nil, Consumes-trans, Rose-earlier}
+use Rattle.cct_edge.proofs.Chains.{Consumes-nil, Consumes-trans}
 use Rattle.std.specs.Io.KnownBytes.{Consumes, Keeps}
+use Rattle.cct_edge.specs.declared.fault.Failed.{Failed}
 use Rattle.cct_script.specs.Window.{Fills}
+use Rattle.cct_script.specs.Taking.{TakesOn, TakesUntilFault, no_take, take_more}
 
 -- bytes given up at the front
-pub held-drop : (bytes : List ℕ) (start count end : ℕ) → start + count ≤ end → slice_range bytes (start + count) end ≡ drop count (slice_range bytes start end)
+pub held-drop : (bytes : List ℕ) (start count end : ℕ) → start + count ≤ end →
+    slice_range bytes (start + count) end ≡ drop count (slice_range bytes start end)
 held-drop bytes start count end fits =
     let rest : ℕ = end - (start + count) in
     let e : end - start ≡ count + rest = omega arith in
@@ -29,51 +31,102 @@ take_front : (front more : List ℕ) (k n : ℕ) → length front ≡ k → take
 take_front front more k n e = rw (← e) (take-append-add front more n)
 
 -- bytes that came behind the held ones, which stand at the front
-pub held-filled : (copied room : List ℕ) (k size n : ℕ) → k ≤ length copied → n ≤ length room → slice_range (put_mid k size copied room) 0 (k + n) ≡ take k copied ++ take n room
+pub held-filled : (copied room : List ℕ) (k size n : ℕ) → k ≤ length copied → n ≤ length room →
+    slice_range (put_mid k size copied room) 0 (k + n) ≡ take k copied ++ take n room
 held-filled copied room k size n fits few =
-    between_from_start _ (k + n) ∙ take_front (take k copied) _ k n (length-take-le k copied fits) ∙ ap (λ xs. take k copied ++ xs) (take-append-le n room _ few)
+    between_from_start _ (k + n) ∙ take_front (take k copied) _ k n (length-take-le k copied fits)
+    ∙ ap (λ xs. take k copied ++ xs) (take-append-le n room _ few)
 
 -- the held bytes alone, with none behind them
-pub held-copied : (copied room : List ℕ) (k size : ℕ) → k ≤ length copied → slice_range (put_mid k size copied room) 0 k ≡ take k copied
+pub held-copied : (copied room : List ℕ) (k size : ℕ) → k ≤ length copied →
+    slice_range (put_mid k size copied room) 0 k ≡ take k copied
 held-copied copied room k size fits =
     between_from_start _ k ∙ take_at (take k copied) _ k (length-take-le k copied fits)
 
-pub length-held : (bytes : List ℕ) (start end : ℕ) → start ≤ end → end ≤ length bytes → length (slice_range bytes start end) ≡ end - start
-length-held bytes start end ordered fits = length-take-le (end - start) (drop start bytes) (omega (arith, length-drop start bytes))
+pub length-held : (bytes : List ℕ) (start end : ℕ) → start ≤ end → end ≤ length bytes →
+    length (slice_range bytes start end) ≡ end - start
+length-held bytes start end ordered fits =
+    length-take-le (end - start) (drop start bytes) (omega (arith, length-drop start bytes))
 
 -- what a search for a line keeps: the source gave what came, and told of it as before; a fault came only by its count
-pub record Seeks {S : Type 0} (left : S → Option (List ℕ)) (faults : S → ℕ) (held0 held : List ℕ) (source0 source : S) : Type 0 where
-  pub fills : Fills held0 held (left source0) (left source)
-  pub tells : TellsAsBefore (left source0) (left source)
-  pub later : faults source0 ≤ faults source
-  pub still : position is_line_feed held0 ≢ None → (source ≡ source0) × (held ≡ held0)
+module _ {S : Type 0} (left : S → Option (List ℕ)) (faults : S → ℕ) where
+  pub record Seeks (held0 held : List ℕ) (source0 source : S) : Type 0 where
+    pub fills : Fills held0 held (left source0) (left source)
+    pub tells : TellsAsBefore (left source0) (left source)
+    pub later : faults source0 ≤ faults source
+    pub still : position is_line_feed held0 ≢ None → (source ≡ source0) × (held ≡ held0)
 
-pub seeks-begin : {S : Type 0} (left : S → Option (List ℕ)) (faults : S → ℕ) (held : List ℕ) (source : S) → Seeks left faults held held source source
-seeks-begin left faults held source =
-    record { fills = ([], sym (append-nil held), Consumes-nil (left source)); tells = refl; later = omega arith; still = λ some. (refl, refl) }
+  pub seeks-begin : (held : List ℕ) (source : S) → Seeks held held source source
+  seeks-begin held source = record {
+    fills = ([], sym (append-nil held), Consumes-nil (left source));
+    tells = refl;
+    later = omega arith;
+    still = λ some. (refl, refl);
+  }
 
 pub fills-trans : (a b c : List ℕ) (x y z : Option (List ℕ)) → Fills a b x y → Fills b c y z → Fills a c x z
-fills-trans a b c x y z h k =
-    (h.0 ++ k.0, k.1 ∙ ap (λ xs. xs ++ k.0) h.1 ∙ append_assoc a h.0 k.0, Consumes-trans x y z h.0 k.0 h.2 k.2)
+fills-trans a b c x y z h k = (
+  h.0 ++ k.0,
+  k.1 ∙ ap (λ xs. xs ++ k.0) h.1 ∙ append_assoc a h.0 k.0,
+  Consumes-trans x y z h.0 k.0 h.2 k.2,
+)
 
-pub seeks-on : {S : Type 0} (left : S → Option (List ℕ)) (faults : S → ℕ) (held0 held1 held2 : List ℕ) (source0 source1 source2 : S) →
-    Seeks left faults held0 held1 source0 source1 → Fills held1 held2 (left source1) (left source2) → TellsAsBefore (left source1) (left source2) → faults source1 ≤ faults source2 → position is_line_feed held1 ≡ None →
-    Seeks left faults held0 held2 source0 source2
-seeks-on left faults held0 held1 held2 source0 source1 source2 h fills tells later none =
-    record { fills = fills-trans held0 held1 held2 _ _ _ h.fills fills; tells = tells ∙ h.tells; later = omega arith; still = λ some. absurd (some (ap (position is_line_feed) (sym (h.still some).1) ∙ none)) }
-
--- an answer that is no error needs no fault
-pub caused-ok : {T E : Type 0} (before now : ℕ) (x : T) → before ≤ now → HasCause {T = T} {E = E} before now (Ok x)
-caused-ok before now x later = record { later = later; failed = λ e. absurd (false≢true e) }
-
--- an error whose count rose later has its cause
-pub caused-err : {T U E : Type 0} (before middle now : ℕ) (r : Result T E) (s : Result U E) (e : E) → before ≤ middle → r ≡ Err e → HasCause middle now r → HasCause before now s
-caused-err before middle now r s e later was cause =
-    let rose : Rose middle now = cause.failed (ap is_err was) in
-    record { later = omega arith; failed = λ _. Rose-earlier before middle now later rose }
+module _ {S : Type 0} (left : S → Option (List ℕ)) (faults : S → ℕ) where
+  pub seeks-on : (held0 held1 held2 : List ℕ) (source0 source1 source2 : S) →
+      Seeks left faults held0 held1 source0 source1 → Fills held1 held2 (left source1) (left source2) →
+      TellsAsBefore (left source1) (left source2) → faults source1 ≤ faults source2 →
+      position is_line_feed held1 ≡ None → Seeks left faults held0 held2 source0 source2
+  seeks-on held0 held1 held2 source0 source1 source2 h fills tells later none = record {
+    fills = fills-trans held0 held1 held2 _ _ _ h.fills fills;
+    tells = tells ∙ h.tells;
+    later = omega arith;
+    still = λ some. absurd (some (ap (position is_line_feed) (sym (h.still some).1) ∙ none));
+  }
 
 -- a call that left the known bytes as they were took none
 pub consumes-keeps : (a b : Option (List ℕ)) → Keeps a b → Consumes a b []
 consumes-keeps None b h = tt
 consumes-keeps (Some xs) None h = absurd h
 consumes-keeps (Some xs) (Some ys) h = sym h
+
+module _ {S : Type 0} (takes : S → ℕ → Result ℕ Failed → S → Type 0) (left : S → Option (List ℕ)) where
+  -- one more take, of so many bytes, behind those that were made
+  pub takes-on : (held0 held1 held2 : List ℕ) (source0 source1 source2 : S) (n : ℕ) →
+      TakesOn takes left held0 source0 held1 source1 → position is_line_feed held1 ≡ None →
+      length held1 < MOST_LINE + 1 → takes source1 (MOST_LINE + 1 - length held1) (Ok n) source2 →
+      Fills held1 held2 (left source1) (left source2) → length held2 ≡ length held1 + n →
+      TakesOn takes left held0 source0 held2 source2
+  takes-on held0 held1 held2 source0 source1 source2 n h none room one fills count =
+      let whole : length held2 ≡ length held1 + length fills.0 = ap length fills.1 ∙ length-append held1 fills.0 in
+      let few : n ≡ length fills.0 = omega arith in
+      let brought = subst (λ k. takes source1 (MOST_LINE + 1 - length held1) (Ok k) source2) few one in
+      take_more held1 fills.0 held2 source1 source2 h none room brought fills.2 fills.1
+
+  -- a take that failed behind those that were made
+  pub takes-until : (held0 held1 held2 : List ℕ) (source0 source1 source2 : S) (why : Failed) →
+      TakesOn takes left held0 source0 held1 source1 → position is_line_feed held1 ≡ None →
+      length held1 < MOST_LINE + 1 → takes source1 (MOST_LINE + 1 - length held1) (Err why) source2 →
+      held2 ≡ held1 → TakesUntilFault takes left held0 source0 held2 source2
+  takes-until held0 held1 held2 source0 source1 source2 why h none room one same =
+      rw same (record { last = source1; before_it = h; none = none; room = room; why = why; fails = one })
+
+  -- a first take, where no byte was held
+  pub takes-first : (held held1 : List ℕ) (source source1 : S) (n : ℕ) → held ≡ [] →
+      takes source (MOST_LINE + 1 - length held) (Ok n) source1 → Fills held held1 (left source) (left source1) →
+      length held1 ≡ length held + n → TakesOn takes left held source held1 source1
+  takes-first held held1 source source1 n nothing =
+      takes-on held held held1 source source source1 n no_take
+      (ap (position is_line_feed) nothing) (omega (arith, ap length nothing))
+
+  -- a first take that failed, where no byte was held
+  pub until-first : (held held1 : List ℕ) (source source1 : S) (why : Failed) → held ≡ [] →
+      takes source (MOST_LINE + 1 - length held) (Err why) source1 → held1 ≡ held →
+      TakesUntilFault takes left held source held1 source1
+  until-first held held1 source source1 why nothing =
+      takes-until held held held1 source source source1 why no_take
+      (ap (position is_line_feed) nothing) (omega (arith, ap length nothing))
+
+-- an answer that is an error has what its errors have
+pub on-error : {T E : Type 0} (r : Result T E) (P : T → Type 0) (Q : Type 0) → IsErr r → Q → MatchResult r P (λ _. Q)
+on-error (Ok x) P Q err q = absurd (false≢true err)
+on-error (Err why) P Q err q = q

@@ -1,4 +1,5 @@
-pub mod Fault
 pub mod Fields
+pub mod Steps
 pub mod Window
 pub mod Giving
+pub mod Taking

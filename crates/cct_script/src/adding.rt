@@ -1,16 +1,17 @@
 //! What a setup line adds to a setup.
-ghost use Rattle.std.specs.Prelude.{◌≡◌, ◌≤◌, MatchOption, MatchResult};
-ghost use Rattle.cct_model.specs.Exchange.{device_at};
-ghost use Rattle.cct_model.specs.Setup.{IsSetupLine, IsSoundSetup};
-ghost use Rattle.cct_model.specs.Grammar.{add_device, change_device, valued, named, added};
+ghost use Rattle.std.specs.Prelude.{◌≡◌, ◌≤◌, MatchResult};
+ghost use Rattle.cct_lines.specs.Exchange.{device_at};
+ghost use Rattle.cct_lines.specs.Setup.{IsSoundSetup};
+ghost use Rattle.cct_lines.specs.SetupLine.{IsSetupLine};
+ghost use Rattle.cct_lines.specs.Grammar.{add_device, change_device, valued, named, added};
 
-use cct_model::{DEVICES, DeviceBody, DeviceSetup, LineKind, Setup, SetupLine, Texts};
+use cct_lines::{COIN_PLACES, DEVICES, DeviceBody, DeviceSetup, LineKind, Setup, SetupLine, Texts};
 use std::alloc::AllocError;
 
 /// Adds to a setup what a setup line says, `Begin` nothing. `Device` where the address of a new device is another's,
 /// where it would be the 17th device, where a value is for no acceptor, or where texts are for no device; `Again` where
 /// the coin place has a value, or the device was given texts. Nothing is changed then.
-#[tactic(auto, unfolding(cct_model::specs::Grammar::added))]
+#[tactic(auto, unfolding(cct_lines::specs::Grammar::added))]
 pub fn add(setup: &mut Setup, line: &SetupLine) -> Result<(), LineKind>
     requires { IsSetupLine line.now }
     ensures adds { MatchResult result
@@ -32,18 +33,6 @@ pub fn add(setup: &mut Setup, line: &SetupLine) -> Result<(), LineKind>
     }
 }
 
-/// The device at an address.
-fn device_at(devices: &[DeviceSetup], addr: u8) -> Option<&DeviceSetup>
-    ensures { MatchOption result (device_at devices.now addr ≡ None) (λ device. device_at devices.now addr ≡ Some device.now) }
-{
-    for device in devices {
-        if device.addr == addr {
-            return Some(device);
-        }
-    }
-    None
-}
-
 /// The same texts once more.
 fn texts_of(texts: &Texts) -> Texts
     ensures { result ≡ texts.now }
@@ -58,8 +47,7 @@ fn add_device(setup: &mut Setup, device: &DeviceSetup) -> Result<(), LineKind>
         (λ done. add_device setup.old device.now ≡ Ok setup.new)
         (λ why. (add_device setup.old device.now ≡ Err why) × (setup.new ≡ setup.old)) }
 {
-    let devices = setup.devices.as_slice();
-    if devices.len() >= DEVICES || device_at(devices, device.addr).is_some() {
+    if setup.devices.as_slice().len() >= DEVICES || setup.device_at(device.addr).is_some() {
         return Err(LineKind::Device);
     }
     setup.devices.push(device.copied());
@@ -75,13 +63,14 @@ fn add_value(
     id: [u8; 6],
 ) -> Result<(), LineKind>
     requires low { 1 ≤ place }
-    requires high { place ≤ 16 }
-    ensures { let wanted = change_device setup.old (device_at setup.old.devices addr) (λ d. valued d place value id d.body) in
+    requires high { place ≤ COIN_PLACES }
+    ensures { let wanted = change_device setup.old (device_at setup.old.devices addr)
+        (λ d. valued d place value id d.body) in
         MatchResult result
         (λ done. wanted ≡ Ok setup.new)
         (λ why. (wanted ≡ Err why) × (setup.new ≡ setup.old)) }
 {
-    match device_at(setup.devices.as_slice(), addr) {
+    match setup.device_at(addr) {
         None => Err(LineKind::Device),
         Some(device) => {
             let mut device = device.copied();
@@ -95,7 +84,7 @@ fn add_value(
 /// Gives the coin of a place of this acceptor its value and its identification.
 fn give_value(device: &mut DeviceSetup, place: u8, value: u32, id: [u8; 6]) -> Result<(), LineKind>
     requires low { 1 ≤ place }
-    requires high { place ≤ 16 }
+    requires high { place ≤ COIN_PLACES }
     ensures { MatchResult result
         (λ done. valued device.old place value id device.old.body ≡ Ok device.new)
         (λ why. valued device.old place value id device.old.body ≡ Err why) }
@@ -125,12 +114,13 @@ fn give_value(device: &mut DeviceSetup, place: u8, value: u32, id: [u8; 6]) -> R
 
 /// Gives a device its texts.
 fn add_texts(setup: &mut Setup, addr: u8, texts: &Texts) -> Result<(), LineKind>
-    ensures { let wanted = change_device setup.old (device_at setup.old.devices addr) (λ d. named d texts.now) in
+    ensures { let wanted = change_device setup.old (device_at setup.old.devices addr)
+        (λ d. named d texts.now) in
         MatchResult result
         (λ done. wanted ≡ Ok setup.new)
         (λ why. (wanted ≡ Err why) × (setup.new ≡ setup.old)) }
 {
-    match device_at(setup.devices.as_slice(), addr) {
+    match setup.device_at(addr) {
         None => Err(LineKind::Device),
         Some(device) => {
             if device.named {

@@ -1,17 +1,20 @@
 //! The lines of a script, taken from its source in whatever pieces it gives them.
-ghost use Rattle.std.specs.Prelude.{◌≡◌, ◌≢◌, ℕ, ◌+◌, ◌<◌, ◌≤◌, List, [], ◌∷◌, ◌++◌, ◌-◌, length, take, drop, position, slice_range, IfOk, OnErr, None, Ok, Err};
+ghost use Rattle.std.specs.Prelude.{◌≡◌, ◌≢◌, ℕ, ◌+◌, ◌<◌, ◌≤◌, List, [], ◌∷◌, ◌++◌, ◌-◌, length, take, drop};
+ghost use Rattle.std.specs.Prelude.{position, slice_range, IfOk, MatchResult, OnErr, None, Ok, Err};
 ghost use Rattle.std.specs.Io.KnownBytes.{Consumes, Keeps, IsAtEnd};
 ghost use Rattle.cct_edge.specs.Bytes.{TellsAsBefore};
 ghost use Rattle.cct_edge.specs.Faults.{HasCause};
-ghost use Rattle.cct_model.specs.Script.{is_line_feed};
+ghost use Rattle.cct_lines.specs.Script.{is_line_feed};
+ghost use Rattle.cct_script.specs.Taking.{TakesOn, TakesUntilFault};
 ghost use Rattle.cct_script.specs.Window.{Fills, Finds, IsShort};
 
 use crate::bytes::place_of;
 use cct_edge::{Failed, Source};
+use cct_lines::MOST_LINE;
 use std::marker::Model;
 
 /// The most bytes of a line, its line feed among them, and the first byte of one that is too long.
-const ROOM: usize = 1201;
+const ROOM: usize = MOST_LINE + 1;
 
 /// What the reader found at the front of the bytes that it holds.
 #[derive(Clone, Copy, Debug, PartialEq, Eq)]
@@ -39,7 +42,9 @@ impl Model for LineBuffer {
 
     ghost view = { λ s. slice_range s.bytes s.start s.end };
 
-    ghost invariant = { λ s. (s.start ≤ s.end) × (s.end ≤ 1201) };
+    ghost use Rattle.cct_script.specs.declared.buffer.TheConstants.{ROOM};
+
+    ghost invariant = { λ s. (s.start ≤ s.end) × (s.end ≤ ROOM) };
 }
 
 impl LineBuffer {
@@ -57,7 +62,7 @@ impl LineBuffer {
     /// The bytes held.
     pub(crate) fn held(&self) -> &[u8]
         ensures value { result.now ≡ self.now }
-        ensures fits { length result.now ≤ 1201 }
+        ensures fits { length result.now ≤ ROOM }
     {
         &self.bytes[self.start..self.end]
     }
@@ -72,13 +77,14 @@ impl LineBuffer {
 
     /// Takes more bytes from the source into all the room that is left, and tells how many.
     pub(crate) fn fill<S: Source>(&mut self, source: &mut S) -> Result<usize, Failed>
-        requires { length self.old < 1201 }
+        requires { length self.old < ROOM }
         ensures fills { Fills self.old self.new (S.left source.old) (S.left source.new) }
         ensures count { IfOk result (λ n. length self.new ≡ length self.old + n) }
         ensures end { result ≡ Ok 0 → IsAtEnd (S.left source.new) }
         ensures err { OnErr result (self.new ≡ self.old) }
         ensures tells { TellsAsBefore (S.left source.old) (S.left source.new) }
         ensures cause { HasCause (S.faults source.old) (S.faults source.new) result }
+        ensures one { S.takes source.old (ROOM - length self.old) result source.new }
     {
         move_to_front(&mut self.bytes, self.start, self.end);
         self.end -= self.start;
@@ -98,6 +104,9 @@ impl LineBuffer {
         ensures still { position is_line_feed self.old ≢ None → source.new ≡ source.old }
         ensures tells { TellsAsBefore (S.left source.old) (S.left source.new) }
         ensures cause { HasCause (S.faults source.old) (S.faults source.new) result }
+        ensures takes { MatchResult result
+            (λ _. TakesOn S.takes S.left self.old source.old self.new source.new)
+            (λ _. TakesUntilFault S.takes S.left self.old source.old self.new source.new) }
     {
         loop {
             let held = self.held();

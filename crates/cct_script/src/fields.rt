@@ -1,7 +1,7 @@
 //! The fields of a line, which single spaces part.
 ghost use Rattle.std.specs.Prelude.{◌≡◌, ◌≢◌, [], ◌∷◌, length, MatchOption};
 ghost use Rattle.std.specs.List.{slice_split};
-ghost use Rattle.cct_model.specs.Grammar.{is_space, alone};
+ghost use Rattle.cct_lines.specs.Grammar.{is_space, alone};
 ghost use Rattle.cct_script.specs.Fields.{fields_behind};
 
 use crate::bytes::place_of;
@@ -30,7 +30,8 @@ pub(crate) fn alone<T: Drop>(said: T, rest: Option<&[u8]>) -> Option<T>
 /// The one field behind a word.
 #[tactic(auto, using(crate::proofs::Splits::split_not_empty))]
 pub(crate) fn one(rest: Option<&[u8]>) -> Option<&[u8]>
-    ensures { MatchOption result (length (fields_behind rest.entry) ≢ 1) (λ field. fields_behind rest.entry ≡ field.now ∷ []) }
+    ensures { MatchOption result (length (fields_behind rest.entry) ≢ 1)
+        (λ field. fields_behind rest.entry ≡ field.now ∷ []) }
 {
     let (first, rest) = first_field(rest?);
     match rest {
@@ -41,7 +42,8 @@ pub(crate) fn one(rest: Option<&[u8]>) -> Option<&[u8]>
 
 /// The two fields behind a word.
 pub(crate) fn two(rest: Option<&[u8]>) -> Option<(&[u8], &[u8])>
-    ensures { MatchOption result (length (fields_behind rest.entry) ≢ 2) (λ fields. fields_behind rest.entry ≡ fields.0.now ∷ fields.1.now ∷ []) }
+    ensures { MatchOption result (length (fields_behind rest.entry) ≢ 2)
+        (λ fields. fields_behind rest.entry ≡ fields.0.now ∷ fields.1.now ∷ []) }
 {
     let (first, rest) = first_field(rest?);
     let second = one(rest)?;
@@ -50,7 +52,8 @@ pub(crate) fn two(rest: Option<&[u8]>) -> Option<(&[u8], &[u8])>
 
 /// The three fields behind a word.
 pub(crate) fn three(rest: Option<&[u8]>) -> Option<(&[u8], &[u8], &[u8])>
-    ensures { MatchOption result (length (fields_behind rest.entry) ≢ 3) (λ fields. fields_behind rest.entry ≡ fields.0.now ∷ fields.1.now ∷ fields.2.now ∷ []) }
+    ensures { MatchOption result (length (fields_behind rest.entry) ≢ 3)
+        (λ fields. fields_behind rest.entry ≡ fields.0.now ∷ fields.1.now ∷ fields.2.now ∷ []) }
 {
     let (first, rest) = first_field(rest?);
     let (second, third) = two(rest)?;
@@ -59,7 +62,8 @@ pub(crate) fn three(rest: Option<&[u8]>) -> Option<(&[u8], &[u8], &[u8])>
 
 /// The four fields behind a word.
 pub(crate) fn four(rest: Option<&[u8]>) -> Option<(&[u8], &[u8], &[u8], &[u8])>
-    ensures { MatchOption result (length (fields_behind rest.entry) ≢ 4) (λ fields. fields_behind rest.entry ≡ fields.0.now ∷ fields.1.now ∷ fields.2.now ∷ fields.3.now ∷ []) }
+    ensures { MatchOption result (length (fields_behind rest.entry) ≢ 4)
+        (λ fields. fields_behind rest.entry ≡ fields.0.now ∷ fields.1.now ∷ fields.2.now ∷ fields.3.now ∷ []) }
 {
     let (first, rest) = first_field(rest?);
     let (second, third, fourth) = three(rest)?;
@@ -68,7 +72,9 @@ pub(crate) fn four(rest: Option<&[u8]>) -> Option<(&[u8], &[u8], &[u8], &[u8])>
 
 /// The five fields behind a word.
 pub(crate) fn five(rest: Option<&[u8]>) -> Option<(&[u8], &[u8], &[u8], &[u8], &[u8])>
-    ensures { MatchOption result (length (fields_behind rest.entry) ≢ 5) (λ fields. fields_behind rest.entry ≡ fields.0.now ∷ fields.1.now ∷ fields.2.now ∷ fields.3.now ∷ fields.4.now ∷ []) }
+    ensures { MatchOption result (length (fields_behind rest.entry) ≢ 5)
+        (λ fields. fields_behind rest.entry ≡
+        fields.0.now ∷ fields.1.now ∷ fields.2.now ∷ fields.3.now ∷ fields.4.now ∷ []) }
 {
     let (first, rest) = first_field(rest?);
     let (second, third, fourth, fifth) = four(rest)?;

@@ -1,8 +1,9 @@
-//! The whole script reader: the lines of a script, taken from its source in whatever pieces it gives them; what each line
-//! says, or why it is refused; and what a setup line adds to a setup (`docs/SCRIPT.md`).
+//! The whole script reader: the lines of a script, taken from its source in whatever pieces it gives them; what each
+//! line says, or why it is refused; and what a setup line adds to a setup (`docs/SCRIPT.md`).
 #![tactic(auto)]
 
 mod adding;
+mod behind;
 mod buffer;
 mod bytes;
 mod fields;
@@ -13,10 +14,10 @@ mod step;
 mod words;
 
 pub use adding::add;
+pub use cct_lines::SetupLine;
 pub use lines::{Line, Lines, LinesNo};
 pub use setup::read_setup_line;
 pub use step::read_step_line;
-pub use words::MOST_HEARD;
 
 #[cfg(test)]
 mod tests;

@@ -2,14 +2,12 @@
 ghost use Rattle.std.specs.Prelude.{◌≡◌, ◌≢◌, ◌≤◌, ◌<◌, [], drop, length, position, None, Err, IfOk, IfSome};
 ghost use Rattle.cct_edge.specs.Bytes.{TellsAsBefore};
 ghost use Rattle.cct_edge.specs.Faults.{Rose};
-ghost use Rattle.cct_model.specs.Script.{is_line_feed};
+ghost use Rattle.cct_lines.specs.Script.{is_line_feed};
 
 use crate::buffer::{Held, LineBuffer};
 use cct_edge::{Failed, Source};
+use cct_lines::MOST_LINES;
 use thiserror::Error;
-
-/// The most lines of a script.
-const MOST_LINES: u32 = 1_048_576;
 
 /// A line, or the end of the input.
 #[derive(Clone, Copy, Debug)]
@@ -52,7 +50,8 @@ impl Lines {
     ghost use Rattle.std.specs.Borrow.{sem, follows_so};
     ghost use mathlib.Core.Option.{none};
     ghost use Rattle.cct_script.specs.contracts.lines.Lines.{the_row};
-    ghost use Rattle.cct_script.specs.Giving.{Gives, line_in, line_of, none_given, standing_of};
+    ghost use Rattle.cct_script.specs.Giving.{Gives, line_given, line_in, none_given, standing_of};
+    ghost use Rattle.cct_script.specs.Taking.{TakesForLine};
 
     /// No byte is held, and no line was given.
     pub fn new() -> Self
@@ -67,12 +66,15 @@ impl Lines {
 
     /// Finds the next line, and tells how many of the bytes at the front of the buffer it has.
     fn find<S: Source>(&mut self, source: &mut S) -> Result<Option<usize>, LinesNo>
-        ensures gives { Gives (standing_of self.old) (standing_of self.new) (S.left source.old) (S.left source.new) (line_in self.new.buffer result) }
+        ensures gives { Gives (standing_of self.old) (standing_of self.new)
+            (S.left source.old) (S.left source.new) (line_in self.new.buffer result) }
         ensures fits { IfOk result (λ found. IfSome found (λ len. len ≤ length self.new.buffer)) }
         ensures tells { TellsAsBefore (S.left source.old) (S.left source.new) }
         ensures later { S.faults source.old ≤ S.faults source.new }
         ensures cause { result ≡ Err LinesNo.Read → Rose (S.faults source.old) (S.faults source.new) }
         ensures still { position is_line_feed (standing_of self.old).held ≢ None → source.new ≡ source.old }
+        ensures takes { TakesForLine S.takes S.left (standing_of self.old).held
+            source.old source.new (line_in self.new.buffer result) }
     {
         self.give_up();
         if self.given >= MOST_LINES {
@@ -110,13 +112,16 @@ impl Lines {
     /// Whether a byte follows the last line that a script may have.
     fn find_no_more<S: Source>(&mut self, source: &mut S) -> Result<Option<usize>, LinesNo>
         requires spent { self.old.spent ≡ 0 }
-        requires many { 1048576 ≤ self.old.given }
-        ensures gives { Gives (standing_of self.old) (standing_of self.new) (S.left source.old) (S.left source.new) (line_in self.new.buffer result) }
+        requires many { MOST_LINES ≤ self.old.given }
+        ensures gives { Gives (standing_of self.old) (standing_of self.new)
+            (S.left source.old) (S.left source.new) (line_in self.new.buffer result) }
         ensures none { IfOk result (λ found. found ≡ None) }
         ensures tells { TellsAsBefore (S.left source.old) (S.left source.new) }
         ensures later { S.faults source.old ≤ S.faults source.new }
         ensures cause { result ≡ Err LinesNo.Read → Rose (S.faults source.old) (S.faults source.new) }
         ensures still { position is_line_feed self.old.buffer ≢ None → source.new ≡ source.old }
+        ensures takes { TakesForLine S.takes S.left self.old.buffer
+            source.old source.new (line_in self.new.buffer result) }
     {
         if !self.buffer.held().is_empty() {
             return Err(LinesNo::TooMany);
@@ -135,11 +140,14 @@ impl Lines {
     /// feed. What was taken stays held after a refusal.
     pub fn line<S: Source>(&mut self, source: &mut S) -> Result<Line<'_>, LinesNo>
         ensures* gives { sem 𝓛 (follows_so the_row the_row self.entry.ghost_name none (λ _ _. ⊤)
-            (λ new. Gives (standing_of self.old) (standing_of new) (S.left source.old) (S.left source.new) (line_of result))) }
+            (λ new. Gives (standing_of self.old) (standing_of new)
+            (S.left source.old) (S.left source.new) (line_given result))) }
         ensures tells { TellsAsBefore (S.left source.old) (S.left source.new) }
         ensures later { S.faults source.old ≤ S.faults source.new }
         ensures cause { result ≡ Err LinesNo.Read → Rose (S.faults source.old) (S.faults source.new) }
         ensures still { position is_line_feed (standing_of self.old).held ≢ None → source.new ≡ source.old }
+        ensures takes { TakesForLine S.takes S.left (standing_of self.old).held
+            source.old source.new (line_given result) }
     {
         match self.find(source) {
             Ok(Some(len)) => Ok(Line::Text(&self.buffer.held()[..len])),

@@ -1,9 +1,9 @@
 //! Numbers in decimal.
 ghost use Rattle.std.specs.Prelude.{◌≡◌, ◌≤◌, ◌^◌, ◌<◌, IfSome, option_and_then};
-ghost use Rattle.cct_model.specs.Grammar.{digits_from, number_in, within, ranged};
+ghost use Rattle.cct_lines.specs.Grammar.{digits_from, number_in, within, ranged};
 
 /// The number from `least` up to `most` that a field spells in decimal, without sign and without leading zeros.
-#[tactic(auto, unfolding(cct_model::specs::Grammar::ranged))]
+#[tactic(auto, unfolding(cct_lines::specs::Grammar::ranged))]
 pub(crate) fn ranged(least: u64, most: u64, field: &[u8]) -> Option<u64>
     ensures reads { result ≡ ranged least most field.now }
     ensures within { IfSome result (λ number. (least ≤ number) × (number ≤ most)) }

@@ -1,14 +1,15 @@
 //! The setup lines of a script (`docs/SCRIPT.md`).
 ghost use Rattle.std.specs.Prelude.{◌≡◌, ◌≤◌, ◌<◌, ◌^◌, IfOk, IfSome};
-ghost use Rattle.cct_model.specs.Device.{IsSound, IsSoundBody};
-ghost use Rattle.cct_model.specs.Setup.{IsSetupLine};
-ghost use Rattle.cct_model.specs.Grammar.{ranged, three_byte_in, plain_texts, plain_acceptor, plain_device, acceptor_line, hopper_line, value_line, texts_line, setup_line};
+ghost use Rattle.cct_lines.specs.Device.{IsSound, IsSoundBody};
+ghost use Rattle.cct_lines.specs.SetupLine.{IsSetupLine};
+ghost use Rattle.cct_lines.specs.Grammar.{ranged, three_byte_in, plain_texts, plain_acceptor, plain_device};
+ghost use Rattle.cct_lines.specs.Grammar.{acceptor_line, hopper_line, value_line, texts_line, setup_line};
 ghost use Rattle.cct_script.specs.Fields.{fields_behind};
 
 use crate::fields::{alone, first_field, five, four};
 use crate::numbers::{ranged_u8, ranged_u32};
 use crate::words::{check_in, id_in, name_of, word_in};
-use cct_model::{CheckKind, DeviceBody, DeviceSetup, LineKind, SetupLine, Texts};
+use cct_lines::{COIN_PLACES, CheckKind, DeviceBody, DeviceSetup, LineKind, SetupLine, Texts};
 
 const ACCEPTOR: &[u8] = b"acceptor";
 
@@ -64,8 +65,8 @@ fn plain_acceptor(accepts: u32) -> DeviceBody
 {
     DeviceBody::Acceptor {
         accepts,
-        values: [0; 16],
-        ids: [*b"......"; 16],
+        values: [0; COIN_PLACES],
+        ids: [*b"......"; COIN_PLACES],
     }
 }
 
@@ -124,7 +125,7 @@ fn value_line(rest: Option<&[u8]>) -> Option<SetupLine>
 {
     let (addr, place, value, id) = four(rest)?;
     let addr = address_in(addr)?;
-    let place = ranged_u8(1, 16, place)?;
+    let place = ranged_u8(1, COIN_PLACES as u8, place)?;
     let value = worth_in(value)?;
     let id = id_in(id)?;
     Some(SetupLine::Value {
@@ -158,7 +159,7 @@ fn texts_line(rest: Option<&[u8]>) -> Option<SetupLine>
 
 /// What a setup line says, without its line feed. `Word` where the first field is no word of a setup line, else `Form`
 /// where the line isn't in a form of its word.
-#[tactic(auto, unfolding(cct_model::specs::Grammar::setup_line))]
+#[tactic(auto, unfolding(cct_lines::specs::Grammar::setup_line))]
 pub fn read_setup_line(line: &[u8]) -> Result<SetupLine, LineKind>
     ensures value { result ≡ setup_line line.now }
     ensures said { IfOk result IsSetupLine }

@@ -1,19 +1,16 @@
 //! Fields that are texts, names of checks, and bytes in hexadecimal.
-ghost use Rattle.std.specs.Prelude.{◌≡◌, ◌≤◌, length, IsTrue, IfSome, MatchOption, Some, None};
+ghost use Rattle.std.specs.Prelude.{◌≡◌, ◌≤◌, length, IsTrue, IfSome};
 ghost use Rattle.std.specs.List.{list_all, All};
-ghost use Rattle.cct_model.specs.Device.{IsPrinting, IsWord, IsId};
-ghost use Rattle.cct_model.specs.Grammar.{is_printing, check_in, word_in, id_in, piece_in, mask_in};
+ghost use Rattle.cct_lines.specs.Device.{IsPrinting, IsWord, IsId};
+ghost use Rattle.cct_lines.specs.Grammar.{is_printing, check_in, word_in, id_in, piece_in, mask_in};
 
-use cct_model::{CheckKind, Name};
+use cct_lines::{CheckKind, MOST_HEARD, MOST_NAME, Name, Piece};
 
 const SIMPLE: &[u8] = b"simple";
 
 const CRC: &[u8] = b"crc";
 
 const NO_BYTE: &[u8] = b"-";
-
-/// The most bytes of a piece, an echo and what follows it.
-pub const MOST_HEARD: usize = 520;
 
 /// The check that a field names.
 pub(crate) fn check_in(field: &[u8]) -> Option<CheckKind>
@@ -39,7 +36,7 @@ fn are_printing(bytes: &[u8]) -> bool
 
 /// A name of these bytes.
 pub(crate) fn name_of(bytes: &[u8]) -> Name
-    requires { length bytes.now ≤ 24 }
+    requires { length bytes.now ≤ MOST_NAME }
     ensures { result ≡ bytes.now }
 {
     let mut name = Name::new();
@@ -48,19 +45,19 @@ pub(crate) fn name_of(bytes: &[u8]) -> Name
 }
 
 /// The text that a field is: 1 to 24 printing characters.
-#[tactic(auto, unfolding(cct_model::specs::Grammar::word_in))]
+#[tactic(auto, unfolding(cct_lines::specs::Grammar::word_in))]
 pub(crate) fn word_in(field: &[u8]) -> Option<Name>
     ensures reads { result ≡ word_in field.now }
     ensures word { IfSome result IsWord }
 {
-    if field.len() < 1 || field.len() > 24 || !are_printing(field) {
+    if field.len() < 1 || field.len() > MOST_NAME || !are_printing(field) {
         return None;
     }
     Some(name_of(field))
 }
 
 /// The identification of a coin that a field is: six printing characters.
-#[tactic(auto, unfolding(cct_model::specs::Grammar::id_in))]
+#[tactic(auto, unfolding(cct_lines::specs::Grammar::id_in))]
 pub(crate) fn id_in(field: &[u8]) -> Option<[u8; 6]>
     ensures reads { result ≡ id_in field.now }
     ensures id { IfSome result IsId }
@@ -73,32 +70,31 @@ pub(crate) fn id_in(field: &[u8]) -> Option<[u8; 6]>
     Some(id)
 }
 
-/// The piece of up to `most` bytes that a field spells, read into the room: a hyphen is the empty piece, else it is in
-/// hexadecimal of either case, two digits a byte.
-#[tactic(auto, unfolding(cct_model::specs::Grammar::piece_in))]
-pub(crate) fn piece_in<'p>(
-    most: usize,
-    field: &[u8],
-    room: &'p mut [u8; MOST_HEARD],
-) -> Option<&'p [u8]>
-    requires { most ≤ 520 }
-    ensures reads { MatchOption result (piece_in most field.now ≡ None) (λ piece. piece_in most field.now ≡ Some piece.now) }
-    ensures few { IfSome result (λ piece. length piece.now ≤ most) }
+/// The piece of up to `most` bytes that a field spells: a hyphen is the empty piece, else it is in hexadecimal of
+/// either case, two digits a byte.
+#[tactic(auto, unfolding(cct_lines::specs::Grammar::piece_in))]
+pub(crate) fn piece_in(most: usize, field: &[u8]) -> Option<Piece>
+    requires { most ≤ MOST_HEARD }
+    ensures reads { result ≡ piece_in most field.now }
+    ensures few { IfSome result (λ piece. length piece ≤ most) }
 {
     if field == NO_BYTE {
-        return Some(&[]);
+        return Some(Piece::new());
     }
     if field.is_empty() || field.len() > 2 * most {
         return None;
     }
-    let piece = &mut room[..field.len() / 2];
-    hex::decode_to_slice(field, piece).ok()?;
+    let mut room = [0; MOST_HEARD];
+    let bytes = &mut room[..field.len() / 2];
+    hex::decode_to_slice(field, bytes).ok()?;
+    let mut piece = Piece::new();
+    piece.extend_from_slice(bytes);
     Some(piece)
 }
 
 /// The inhibit mask that a field spells, bit 0 for coin place 1: four hexadecimal digits of either case, not all 0
 /// (ccTalk Generic Specification 4, part 2, header 231).
-#[tactic(auto, using(crate::proofs::Masks::mask_refused), unfolding(cct_model::specs::Grammar::mask_in))]
+#[tactic(auto, using(crate::proofs::Masks::mask_refused), unfolding(cct_lines::specs::Grammar::mask_in))]
 pub(crate) fn mask_in(field: &[u8]) -> Option<u16>
     ensures reads { result ≡ mask_in field.now }
     ensures some { IfSome result (λ mask. 1 ≤ mask) }

@@ -1,17 +1,11 @@
 //! The table of coins (ccTalk Generic Specification 4, part 2): headers 231 and 230 set and tell the inhibit mask, 228
 //! and 227 the master inhibit, 210 and 209 the sorter path of a coin place, 189 and 188 the default path.
 ghost use Rattle.std.specs.Prelude.{◌≡◌, ◌≤◌, ◌↔◌, ◌&&◌, List, [], ◌∷◌, IsErrOf, IsOk, IsTrue, OnErr, not};
-ghost use Rattle.cct_model.specs.Setting.{Setting, mask_set, master_set, path_set, default_set, is_place, is_path, mask_in, is_normal_in, default_in, path_in, accepts_in};
+ghost use Rattle.cct_terms.specs.Setting.{Setting, mask_set, master_set, path_set, default_set, is_place, is_path, mask_in, is_normal_in, default_in, path_in, accepts_in};
 ghost use Rattle.cct_sorter.specs.Table.{Holds};
 
-use cct_model::has_place;
+use cct_terms::{COIN_PLACES, PATHS, has_place};
 use thiserror::Error;
-
-/// The highest coin place; the lowest is 1.
-const PLACES: u8 = 16;
-
-/// The highest sorter path; the lowest is 1.
-const PATHS: u8 = 8;
 
 /// What an acceptor was told of coins since its last reset.
 #[derive(Clone, Copy, Debug, PartialEq, Eq)]
@@ -20,7 +14,7 @@ pub struct CoinTable {
     normal: bool,
     default_path: u8,
     /// The path that was set for each coin place, the first for place 1.
-    paths: [Option<u8>; 16],
+    paths: [Option<u8>; COIN_PLACES],
 }
 
 /// A sorter path that wasn't set: the coin place isn't 1 to 16, or the path isn't 1 to 8.
@@ -42,14 +36,14 @@ impl CoinTable {
             mask: 0,
             normal: true,
             default_path: 1,
-            paths: [None; PLACES as usize],
+            paths: [None; COIN_PLACES],
         }
     }
 
     /// Whether a coin of a place is accepted.
     pub fn accepts(&self, place: u8) -> bool
         requires low { 1 ≤ place }
-        requires high { place ≤ 16 }
+        requires high { place ≤ COIN_PLACES }
         ensures { (past : List Setting) → Holds self.now past → result ≡ accepts_in past place }
     {
         has_place(self.mask, place) && self.normal
@@ -58,7 +52,7 @@ impl CoinTable {
     /// The sorter path, 1 to 8, by which a coin of a place falls (header 209).
     pub fn path_of(&self, place: u8) -> u8
         requires low { 1 ≤ place }
-        requires high { place ≤ 16 }
+        requires high { place ≤ COIN_PLACES }
         ensures { (past : List Setting) → Holds self.now past → result ≡ path_in past place }
     {
         self.paths[place as usize - 1].unwrap_or(self.default_path)
@@ -137,14 +131,14 @@ impl CoinTable {
     }
 }
 
-/// Whether a coin place is one of an acceptor's.
-fn is_place(place: u8) -> bool
+/// Whether a coin place is one of an acceptor's: they are numbered from 1.
+pub fn is_place(place: u8) -> bool
     ensures { result ≡ is_place place }
 {
-    1 <= place && place <= PLACES
+    1 <= place && place as usize <= COIN_PLACES
 }
 
-/// Whether a sorter path is one of an acceptor's.
+/// Whether a sorter path is one of an acceptor's: they are numbered from 1.
 fn is_path(path: u8) -> bool
     ensures { result ≡ is_path path }
 {

@@ -7,13 +7,13 @@
 #![tactic(auto)]
 
 ghost use Rattle.std.specs.Prelude.{◌≤◌, length};
-ghost use Rattle.cct_model.specs.Device.{IsAcceptor, IsSound, IsSoundBody, IsWord};
+ghost use Rattle.cct_terms.specs.Device.{IsAcceptor, IsSound, IsSoundBody, IsWord};
 
 use arrayvec::ArrayVec;
 use cct_acceptor::Acceptor;
 use cct_check::crc16;
 use cct_frame::{read, write};
-use cct_model::{CheckKind, DeviceBody, DeviceSetup, Name, Texts};
+use cct_terms::{COIN_PLACES, CheckKind, DeviceBody, DeviceSetup, HOST, MOST_SENT, Name, Texts};
 use std::alloc::{AllocError, Global};
 use std::process::ExitCode;
 use std::rt::Env;
@@ -88,7 +88,7 @@ fn run(alloc: Global, task: Task) -> Result<u64, AllocError> {
 fn exchanges(alloc: Global, passes: u32) -> Result<u64, AllocError> {
     let setup = acceptor();
     let mut acceptor = Acceptor::new(alloc, &setup)?;
-    let first = request(1);
+    let first = request(HOST);
     let second = request(3);
     let frames = [first.as_slice(), second.as_slice()];
     let mut answer = ArrayVec::new();
@@ -101,7 +101,7 @@ fn exchanges(alloc: Global, passes: u32) -> Result<u64, AllocError> {
 }
 
 /// The request of an address for the credits of device 2.
-fn request(from: u8) -> ArrayVec<u8, 260> {
+fn request(from: u8) -> ArrayVec<u8, MOST_SENT> {
     let mut out = ArrayVec::new();
     write(CheckKind::Simple, 2, from, 229, &[], &mut out);
     out
@@ -134,8 +134,8 @@ fn body() -> DeviceBody
 {
     DeviceBody::Acceptor {
         accepts: 0,
-        values: [50; 16],
-        ids: [[b'5'; 6]; 16],
+        values: [50; COIN_PLACES],
+        ids: [[b'5'; 6]; COIN_PLACES],
     }
 }
 
@@ -148,8 +148,8 @@ fn name() -> Name
     name
 }
 
-/// The sum of the answers of all passes over frames. The sum so far tells which of two frames is the next, so no pass can be left
-/// out or taken for another.
+/// The sum of the answers of all passes over frames. The sum so far tells which of two frames is the next, so no pass
+/// can be left out or taken for another.
 fn readings(task: Task) -> u64 {
     let body = &DATA[..task.data as usize];
     let first = frame(task.work, 2, body);
@@ -163,7 +163,7 @@ fn readings(task: Task) -> u64 {
 }
 
 /// A message from an address to the host, under the check that the work reads.
-fn frame(work: Work, from: u8, body: &[u8]) -> ArrayVec<u8, 260>
+fn frame(work: Work, from: u8, body: &[u8]) -> ArrayVec<u8, MOST_SENT>
     requires { length body.now ≤ 255 }
 {
     let kind = match work {
@@ -171,7 +171,7 @@ fn frame(work: Work, from: u8, body: &[u8]) -> ArrayVec<u8, 260>
         Work::Nothing | Work::Crc16 | Work::Credits => CheckKind::Simple,
     };
     let mut out = ArrayVec::new();
-    write(kind, 1, from, 0, body, &mut out);
+    write(kind, HOST, from, 0, body, &mut out);
     out
 }
 

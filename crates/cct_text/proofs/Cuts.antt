@@ -7,7 +7,7 @@ use Rattle.std.proofs.lemmas.Fmt.{decimal_by_steps}
 use Rattle.std.proofs.lemmas.List.Elements.{All-nil, All-cons}
 use Rattle.std.proofs.lemmas.List.Splits.{slice_split_at, slice_split_none}
 use Rattle.hex.specs.Hex.{IsBytes, encode_lower, encode_with, lower_digits}
-use Rattle.cct_model.specs.Text.{piece_field, mask_field}
+use Rattle.cct_lines.specs.Text.{piece_field, mask_field}
 use Rattle.cct_text.specs.Reading.{parts_at}
 
 -- whether every byte of a text is above a number

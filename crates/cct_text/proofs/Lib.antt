@@ -4,3 +4,4 @@ pub mod Cuts
 pub mod Back
 pub mod Devices
 pub mod Whole
+pub mod ScriptLines

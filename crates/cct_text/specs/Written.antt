@@ -2,21 +2,21 @@
 use Rattle.std.specs.Prelude.{◌≡◌, ℕ, ◌^◌, ◌<◌, length, true, false}
 use Rattle.std.specs.List.{All}
 use Rattle.hex.specs.Hex.{IsBytes}
-use Rattle.cct_model.specs.declared.coin.Coin.{Coin}
-use Rattle.cct_model.specs.declared.record.Record.{Record}
-use Rattle.cct_model.specs.declared.record.Record.TheVariants as record_of
-use Rattle.cct_model.specs.declared.command.Command.{Command}
-use Rattle.cct_model.specs.declared.command.Command.TheVariants as command
-use Rattle.cct_model.specs.declared.command.CommandNo.{CommandNo}
-use Rattle.cct_model.specs.declared.command.CommandNo.TheVariants as refusal
-use Rattle.cct_model.specs.declared.command.WireFault.{WireFault}
-use Rattle.cct_model.specs.declared.command.WireFault.TheVariants as fault
-use Rattle.cct_model.specs.declared.entry.Listed.{Listed}
-use Rattle.cct_model.specs.declared.entry.End.{End}
-use Rattle.cct_model.specs.declared.entry.End.TheVariants as end_of
-use Rattle.cct_model.specs.declared.entry.Entry.{Entry}
-use Rattle.cct_model.specs.declared.entry.Entry.TheVariants as entry
-use Rattle.cct_model.specs.DeviceSet.{has}
+use Rattle.cct_lines.specs.terms.coin.Coin.{Coin}
+use Rattle.cct_lines.specs.declared.record.Record.{Record}
+use Rattle.cct_lines.specs.declared.record.Record.TheVariants as record_of
+use Rattle.cct_lines.specs.declared.command.Command.{Command}
+use Rattle.cct_lines.specs.declared.command.Command.TheVariants as command
+use Rattle.cct_lines.specs.declared.command.CommandNo.{CommandNo}
+use Rattle.cct_lines.specs.declared.command.CommandNo.TheVariants as refusal
+use Rattle.cct_lines.specs.declared.command.WireFault.{WireFault}
+use Rattle.cct_lines.specs.declared.command.WireFault.TheVariants as fault
+use Rattle.cct_lines.specs.declared.entry.Listed.{Listed}
+use Rattle.cct_lines.specs.declared.entry.End.{End}
+use Rattle.cct_lines.specs.declared.entry.End.TheVariants as end_of
+use Rattle.cct_lines.specs.declared.entry.Entry.{Entry}
+use Rattle.cct_lines.specs.declared.entry.Entry.TheVariants as entry
+use Rattle.cct_lines.specs.DeviceSet.{has}
 
 -- A number fits 64 bits.
 abbrev pub IsNumber : ℕ → Type 0

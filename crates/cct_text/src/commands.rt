@@ -1,17 +1,16 @@
 //! Commands, the reasons why they are refused, and wire faults.
 ghost use Rattle.std.specs.Prelude.{◌≡◌, ℕ, ◌+◌, ◌<◌, ◌≤◌, List, [], ◌∷◌, ◌++◌, length};
-ghost use Rattle.cct_model.specs.declared.entry.Entry.TheVariants.{Fault};
-ghost use Rattle.cct_model.specs.Lent.{fault_of};
-ghost use Rattle.cct_model.specs.Text.{command_fields, reason_fields, fields_of};
+ghost use Rattle.cct_lines.specs.declared.entry.Entry.TheVariants.{Fault};
+ghost use Rattle.cct_lines.specs.Text.{command_fields, reason_fields, fields_of};
 ghost use Rattle.cct_text.specs.Joined.{behind, joined};
 
 use crate::fields::{write_address, write_mask, write_numbers, write_piece};
 use crate::text::TextLine;
-use cct_model::{Command, CommandNo, FaultOn, WireFault};
+use cct_lines::{Command, CommandNo, MOST_TEXT, WireFault};
 
 /// Writes the fields of a command.
 pub(crate) fn write_command(line: &mut TextLine, command: &Command)
-    requires { length line.old + 80 ≤ 3000 }
+    requires { length line.old + 80 ≤ MOST_TEXT }
     ensures text { line.new ≡ line.old ++ behind 32 (command_fields command.now) }
     ensures len { length line.new ≤ length line.old + 80 }
 {
@@ -41,7 +40,7 @@ pub(crate) fn write_command(line: &mut TextLine, command: &Command)
 
 /// Writes the fields of a refusal's reason.
 pub(crate) fn write_reason(line: &mut TextLine, why: &CommandNo)
-    requires { length line.old + 80 ≤ 3000 }
+    requires { length line.old + 80 ≤ MOST_TEXT }
     ensures text { line.new ≡ line.old ++ behind 32 (reason_fields why.now) }
     ensures len { length line.new ≤ length line.old + 80 }
 {
@@ -69,27 +68,21 @@ pub(crate) fn write_reason(line: &mut TextLine, why: &CommandNo)
 pub(crate) fn write_fault(line: &mut TextLine, fault: &WireFault)
     requires { line.old ≡ [] }
     ensures text { line.new ≡ joined 32 (fields_of (Fault fault.now)) }
-    ensures room { length line.new < 3000 }
+    ensures room { length line.new + 1 < MOST_TEXT }
 {
     match fault {
         WireFault::Clear => line.push(b"fault clear"),
-        WireFault::DevicesHear(piece) => write_fault_on(line, FaultOn::Devices, piece.as_slice()),
-        WireFault::HostHears(piece) => write_fault_on(line, FaultOn::Host, piece.as_slice()),
-        WireFault::WholeHeard(piece) => write_fault_on(line, FaultOn::Whole, piece.as_slice()),
+        WireFault::DevicesHear(piece) => {
+            line.push(b"fault devices");
+            write_piece(line, piece.as_slice());
+        }
+        WireFault::HostHears(piece) => {
+            line.push(b"fault host");
+            write_piece(line, piece.as_slice());
+        }
+        WireFault::WholeHeard(piece) => {
+            line.push(b"fault whole");
+            write_piece(line, piece.as_slice());
+        }
     }
-}
-
-/// Writes the fields of a wire fault by which this part of an exchange is a piece.
-pub(crate) fn write_fault_on(line: &mut TextLine, on: FaultOn, piece: &[u8])
-    requires line { line.old ≡ [] }
-    requires piece { length piece.now ≤ 520 }
-    ensures text { line.new ≡ joined 32 (fields_of (Fault (fault_of on piece.now))) }
-    ensures room { length line.new < 3000 }
-{
-    match on {
-        FaultOn::Devices => line.push(b"fault devices"),
-        FaultOn::Host => line.push(b"fault host"),
-        FaultOn::Whole => line.push(b"fault whole"),
-    }
-    write_piece(line, piece);
 }

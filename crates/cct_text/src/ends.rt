@@ -1,17 +1,17 @@
 //! How jobs end, and the devices that a scan lists.
 ghost use Rattle.std.specs.Prelude.{◌≡◌, ℕ, ◌+◌, ◌*◌, ◌<◌, ◌≤◌, List, [], ◌∷◌, ◌++◌, length};
-ghost use Rattle.cct_model.specs.Text.{end_fields, listed_text, listed_field};
+ghost use Rattle.cct_lines.specs.Text.{end_fields, listed_text, listed_field};
 ghost use Rattle.cct_text.specs.Joined.{behind, joined, found, separator_past};
 
 use crate::fields::{write_address, write_number, write_pair};
 use crate::text::TextLine;
-use cct_model::{End, Listed};
+use cct_lines::{End, Listed, MOST_TEXT};
 
 /// Writes the fields of a job's end.
 pub(crate) fn write_end(line: &mut TextLine, addr: u8, end: &End)
     requires { line.old ≡ [] }
     ensures text { line.new ≡ joined 32 (end_fields addr end.now) }
-    ensures room { length line.new < 3000 }
+    ensures room { length line.new + 1 < MOST_TEXT }
 {
     match end {
         End::Started => write_address(line, b"started", addr),
@@ -56,7 +56,7 @@ fn write_listed(line: &mut TextLine, listed: &Listed)
 /// Writes a device behind a separator, where it is listed. Gives the separator of the next device: a comma once one is
 /// written.
 fn write_device(line: &mut TextLine, separator: u8, listed: &Listed, addr: u8) -> u8
-    requires { length line.old + 11 ≤ 3000 }
+    requires { length line.old + 11 ≤ MOST_TEXT }
     ensures text { line.new ≡ line.old ++ found separator (listed_text listed.now addr) }
     ensures len { length line.new ≤ length line.old + 11 }
     ensures next { result ≡ separator_past separator (listed_text listed.now addr) }

@@ -1,91 +1,35 @@
 //! The line of each entry.
 ghost use Rattle.std.specs.Prelude.{◌≡◌, ℕ, ◌+◌, ◌<◌, ◌≤◌, List, [], ◌∷◌, ◌++◌, length, decimal};
-ghost use Rattle.cct_model.specs.declared.entry.Entry.TheVariants.{Accepted, Fault, Taken, No, Wire, Balance, Line, JournalLost, Listing};
-ghost use Rattle.cct_model.specs.Lent.{entry_of, fault_of};
-ghost use Rattle.cct_model.specs.Text.{record_fields, fields_of, line_of, kind_field, sum_field};
+ghost use Rattle.cct_lines.specs.declared.entry.Entry.TheVariants.{Accepted, Taken, No, Wire, Balance, Line, JournalLost, Listing};
+ghost use Rattle.cct_lines.specs.Text.{record_fields, fields_of, line_of, kind_field, sum_field};
 ghost use Rattle.cct_text.specs.Joined.{behind, joined};
 
-use crate::commands::{write_command, write_fault, write_fault_on, write_reason};
+use crate::commands::{write_command, write_fault, write_reason};
 use crate::ends::write_end;
 use crate::fields::{write_address, write_number, write_numbers, write_pair, write_piece};
 use crate::records::write_record;
 use crate::text::TextLine;
-use cct_model::{Coin, Command, CommandNo, Entry, FaultOn, LineKind, Note, Record, SumOf, Totals};
+use cct_lines::{
+    Coin, Command, CommandNo, Entry, LineKind, MOST_HEARD, MOST_SENT, MOST_TEXT, Record, SumOf,
+    Totals,
+};
 
 /// Makes the line buffer the line of an entry.
-#[tactic(auto, using(crate::proofs::Texts::joined_is), unfolding(cct_model::specs::Text::line_of))]
+#[tactic(auto, using(crate::proofs::Texts::joined_is), unfolding(cct_lines::specs::Text::line_of))]
 pub(crate) fn write_line(line: &mut TextLine, entry: &Entry)
-    ensures { line.new ≡ line_of entry.now }
+    ensures line { line.new ≡ line_of entry.now }
+    ensures short { length line.new < MOST_TEXT }
 {
     line.clear();
     write_fields(line, entry);
     line.push(b"\n");
 }
 
-/// Makes the line buffer the line of an exchange.
-#[tactic(auto, using(crate::proofs::Texts::joined_is), unfolding(cct_model::specs::Text::line_of))]
-pub(crate) fn write_exchange_line(line: &mut TextLine, addr: u8, sent: &[u8], heard: &[u8])
-    requires sent { length sent.now ≤ 260 }
-    requires heard { length heard.now ≤ 520 }
-    ensures { line.new ≡ line_of (Wire addr sent.now heard.now) }
-{
-    line.clear();
-    write_exchange(line, addr, sent, heard);
-    line.push(b"\n");
-}
-
-/// Makes the line buffer the line of a wire fault.
-#[tactic(auto, using(crate::proofs::Texts::joined_is), unfolding(cct_model::specs::Text::line_of))]
-pub(crate) fn write_fault_line(line: &mut TextLine, on: FaultOn, piece: &[u8])
-    requires { length piece.now ≤ 520 }
-    ensures { line.new ≡ line_of (Fault (fault_of on piece.now)) }
-{
-    line.clear();
-    write_fault_on(line, on, piece);
-    line.push(b"\n");
-}
-
-/// Makes the line buffer the line of an entry without a piece.
-#[tactic(auto, using(crate::proofs::Texts::joined_is), unfolding(cct_model::specs::Text::line_of))]
-pub(crate) fn write_note_line(line: &mut TextLine, note: &Note)
-    ensures { line.new ≡ line_of (entry_of note.now) }
-{
-    line.clear();
-    write_note_fields(line, note);
-    line.push(b"\n");
-}
-
-/// Writes the fields of an entry without a piece.
-fn write_note_fields(line: &mut TextLine, note: &Note)
-    requires { line.old ≡ [] }
-    ensures text { line.new ≡ joined 32 (fields_of (entry_of note.now)) }
-    ensures room { length line.new < 3000 }
-{
-    match note {
-        Note::Accepted { addr, coin } => write_accepted(line, *addr, *coin),
-        Note::Inhibited { addr, place } => write_pair(line, b"inhibited", *addr, *place),
-        Note::Alien { addr } => write_address(line, b"alien", *addr),
-        Note::Fell { addr } => write_address(line, b"fell", *addr),
-        Note::NoFall { addr } => write_address(line, b"nofall", *addr),
-        Note::Jammed { addr } => write_address(line, b"jammed", *addr),
-        Note::NoJam { addr } => write_address(line, b"nojam", *addr),
-        Note::Reset { addr } => write_address(line, b"reset", *addr),
-        Note::Taken(command) => write_taken(line, command),
-        Note::No { command, why } => write_refusal(line, command, why),
-        Note::Idle { addr } => write_address(line, b"idle", *addr),
-        Note::Put(entry) => write_journal(line, b"put", entry),
-        Note::Kept(entry) => write_journal(line, b"kept", entry),
-        Note::Crash { records } => write_numbers(line, b"crash", &[u64::from(*records)]),
-        Note::Ended { addr, end } => write_end(line, *addr, end),
-        Note::Balance(totals) => write_balance(line, *totals),
-    }
-}
-
 /// Writes the fields of an entry.
 fn write_fields(line: &mut TextLine, entry: &Entry)
     requires { line.old ≡ [] }
     ensures text { line.new ≡ joined 32 (fields_of entry.now) }
-    ensures room { length line.new < 3000 }
+    ensures room { length line.new + 1 < MOST_TEXT }
 {
     match entry {
         Entry::Accepted { addr, coin } => write_accepted(line, *addr, *coin),
@@ -134,7 +78,7 @@ fn write_fields(line: &mut TextLine, entry: &Entry)
 fn write_accepted(line: &mut TextLine, addr: u8, coin: Coin)
     requires { line.old ≡ [] }
     ensures text { line.new ≡ joined 32 (fields_of (Accepted addr coin)) }
-    ensures room { length line.new < 3000 }
+    ensures room { length line.new + 1 < MOST_TEXT }
 {
     write_pair(line, b"accepted", addr, coin.place);
     write_number(line, u64::from(coin.path));
@@ -144,7 +88,7 @@ fn write_accepted(line: &mut TextLine, addr: u8, coin: Coin)
 fn write_taken(line: &mut TextLine, command: &Command)
     requires { line.old ≡ [] }
     ensures text { line.new ≡ joined 32 (fields_of (Taken command.now)) }
-    ensures room { length line.new < 3000 }
+    ensures room { length line.new + 1 < MOST_TEXT }
 {
     line.push(b"ok");
     write_command(line, command);
@@ -154,7 +98,7 @@ fn write_taken(line: &mut TextLine, command: &Command)
 fn write_refusal(line: &mut TextLine, command: &Command, why: &CommandNo)
     requires { line.old ≡ [] }
     ensures text { line.new ≡ joined 32 (fields_of (No command.now why.now)) }
-    ensures room { length line.new < 3000 }
+    ensures room { length line.new + 1 < MOST_TEXT }
 {
     line.push(b"no");
     write_command(line, command);
@@ -164,10 +108,10 @@ fn write_refusal(line: &mut TextLine, command: &Command, why: &CommandNo)
 /// Writes the fields of an exchange.
 fn write_exchange(line: &mut TextLine, addr: u8, sent: &[u8], heard: &[u8])
     requires line { line.old ≡ [] }
-    requires sent { length sent.now ≤ 260 }
-    requires heard { length heard.now ≤ 520 }
+    requires sent { length sent.now ≤ MOST_SENT }
+    requires heard { length heard.now ≤ MOST_HEARD }
     ensures text { line.new ≡ joined 32 (fields_of (Wire addr sent.now heard.now)) }
-    ensures room { length line.new < 3000 }
+    ensures room { length line.new + 1 < MOST_TEXT }
 {
     write_address(line, b"wire", addr);
     write_piece(line, sent);
@@ -176,7 +120,7 @@ fn write_exchange(line: &mut TextLine, addr: u8, sent: &[u8], heard: &[u8])
 
 /// Writes a word, and a record as the fields behind it.
 fn write_journal(line: &mut TextLine, word: &[u8], entry: &Record)
-    requires { length line.old + length word.now + 200 ≤ 3000 }
+    requires { length line.old + length word.now + 200 ≤ MOST_TEXT }
     ensures text { line.new ≡ line.old ++ word.now ++ behind 32 (record_fields entry.now) }
     ensures len { length line.new ≤ length line.old + length word.now + 200 }
 {
@@ -188,7 +132,7 @@ fn write_journal(line: &mut TextLine, word: &[u8], entry: &Record)
 fn write_balance(line: &mut TextLine, totals: Totals)
     requires { line.old ≡ [] }
     ensures text { line.new ≡ joined 32 (fields_of (Balance totals)) }
-    ensures room { length line.new < 3000 }
+    ensures room { length line.new + 1 < MOST_TEXT }
 {
     write_numbers(
         line,
@@ -201,7 +145,7 @@ fn write_balance(line: &mut TextLine, totals: Totals)
 fn write_refused(line: &mut TextLine, number: u32, kind: LineKind)
     requires { line.old ≡ [] }
     ensures text { line.new ≡ joined 32 (fields_of (Line number kind)) }
-    ensures room { length line.new < 3000 }
+    ensures room { length line.new + 1 < MOST_TEXT }
 {
     write_numbers(line, b"refused", &[u64::from(number)]);
     line.push(kind_word(kind));
@@ -211,7 +155,7 @@ fn write_refused(line: &mut TextLine, number: u32, kind: LineKind)
 fn write_lost(line: &mut TextLine, found: u32, put: u32)
     requires { line.old ≡ [] }
     ensures text { line.new ≡ joined 32 (fields_of (JournalLost found put)) }
-    ensures room { length line.new < 3000 }
+    ensures room { length line.new + 1 < MOST_TEXT }
 {
     write_numbers(line, b"journal lost", &[u64::from(found), u64::from(put)]);
 }
@@ -220,7 +164,7 @@ fn write_lost(line: &mut TextLine, found: u32, put: u32)
 fn write_listing(line: &mut TextLine, index: u32, entry: &Record)
     requires { line.old ≡ [] }
     ensures text { line.new ≡ joined 32 (fields_of (Listing index entry.now)) }
-    ensures room { length line.new < 3000 }
+    ensures room { length line.new + 1 < MOST_TEXT }
 {
     write_numbers(line, b"record", &[u64::from(index)]);
     write_record(line, entry);

@@ -1,13 +1,14 @@
 //! Fields of a line, each behind a space.
 ghost use Rattle.std.specs.Prelude.{◌≡◌, ℕ, ◌+◌, ◌*◌, ◌<◌, ◌≤◌, List, [], ◌∷◌, ◌++◌, length, map, decimal};
-ghost use Rattle.cct_model.specs.Text.{piece_field, mask_field};
+ghost use Rattle.cct_lines.specs.Text.{piece_field, mask_field};
 ghost use Rattle.cct_text.specs.Joined.{behind};
 
 use crate::text::TextLine;
+use cct_lines::MOST_TEXT;
 
 /// Writes a word, and numbers as the fields behind it.
 pub(crate) fn write_numbers(line: &mut TextLine, word: &[u8], numbers: &[u64])
-    requires { length line.old + length word.now + 21 * length numbers.now ≤ 3000 }
+    requires { length line.old + length word.now + 21 * length numbers.now ≤ MOST_TEXT }
     ensures text { line.new ≡ line.old ++ word.now ++ behind 32 (map decimal numbers.now) }
     ensures len { length line.new ≤ length line.old + length word.now + 21 * length numbers.now }
 {
@@ -19,7 +20,7 @@ pub(crate) fn write_numbers(line: &mut TextLine, word: &[u8], numbers: &[u64])
 
 /// Writes a word, and an address as the field behind it.
 pub(crate) fn write_address(line: &mut TextLine, word: &[u8], addr: u8)
-    requires { length line.old + length word.now + 21 ≤ 3000 }
+    requires { length line.old + length word.now + 21 ≤ MOST_TEXT }
     ensures text { line.new ≡ line.old ++ word.now ++ 32 ∷ decimal addr }
     ensures len { length line.new ≤ length line.old + length word.now + 21 }
 {
@@ -29,7 +30,7 @@ pub(crate) fn write_address(line: &mut TextLine, word: &[u8], addr: u8)
 
 /// Writes a word, and an address and one more byte as the fields behind it.
 pub(crate) fn write_pair(line: &mut TextLine, word: &[u8], addr: u8, byte: u8)
-    requires { length line.old + length word.now + 42 ≤ 3000 }
+    requires { length line.old + length word.now + 42 ≤ MOST_TEXT }
     ensures text { line.new ≡ line.old ++ word.now ++ 32 ∷ decimal addr ++ 32 ∷ decimal byte }
     ensures len { length line.new ≤ length line.old + length word.now + 42 }
 {
@@ -39,7 +40,7 @@ pub(crate) fn write_pair(line: &mut TextLine, word: &[u8], addr: u8, byte: u8)
 
 /// Writes a number as the next field.
 pub(crate) fn write_number(line: &mut TextLine, number: u64)
-    requires { length line.old + 21 ≤ 3000 }
+    requires { length line.old + 21 ≤ MOST_TEXT }
     ensures text { line.new ≡ line.old ++ 32 ∷ decimal number }
     ensures len { length line.new ≤ length line.old + 21 }
 {
@@ -49,7 +50,7 @@ pub(crate) fn write_number(line: &mut TextLine, number: u64)
 
 /// Writes a word, and behind it an address and an inhibit mask, which has four hexadecimal digits.
 pub(crate) fn write_mask(line: &mut TextLine, word: &[u8], addr: u8, mask: u16)
-    requires { length line.old + length word.now + 26 ≤ 3000 }
+    requires { length line.old + length word.now + 26 ≤ MOST_TEXT }
     ensures text { line.new ≡ line.old ++ word.now ++ 32 ∷ decimal addr ++ 32 ∷ mask_field mask }
     ensures len { length line.new ≤ length line.old + length word.now + 26 }
 {
@@ -60,7 +61,7 @@ pub(crate) fn write_mask(line: &mut TextLine, word: &[u8], addr: u8, mask: u16)
 
 /// Writes a piece as the next field: in hexadecimal, or a hyphen where it is empty.
 pub(crate) fn write_piece(line: &mut TextLine, piece: &[u8])
-    requires { length line.old + 2 * length piece.now + 2 ≤ 3000 }
+    requires { length line.old + 2 * length piece.now + 2 ≤ MOST_TEXT }
     ensures text { line.new ≡ line.old ++ 32 ∷ piece_field piece.now }
     ensures len { length line.new ≤ length line.old + 2 * length piece.now + 2 }
 {

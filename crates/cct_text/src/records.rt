@@ -1,16 +1,16 @@
 //! Records of the journal, and the coins in them.
 ghost use Rattle.std.specs.Prelude.{◌≡◌, ℕ, ◌+◌, ◌≤◌, List, [], ◌∷◌, ◌++◌, length, decimal};
-ghost use Rattle.cct_model.specs.declared.record.Record.TheVariants.{Odd};
-ghost use Rattle.cct_model.specs.Text.{coin_text, coins_field, record_fields};
+ghost use Rattle.cct_lines.specs.declared.record.Record.TheVariants.{Odd};
+ghost use Rattle.cct_lines.specs.Text.{coin_text, coins_field, record_fields};
 ghost use Rattle.cct_text.specs.Joined.{behind};
 
 use crate::fields::{write_address, write_mask, write_number, write_numbers, write_pair};
 use crate::text::TextLine;
-use cct_model::{Coin, Record};
+use cct_lines::{Coin, EVENTS, MOST_TEXT, Record};
 
 /// Writes the fields of a record.
 pub(crate) fn write_record(line: &mut TextLine, entry: &Record)
-    requires { length line.old + 200 ≤ 3000 }
+    requires { length line.old + 200 ≤ MOST_TEXT }
     ensures text { line.new ≡ line.old ++ behind 32 (record_fields entry.now) }
     ensures len { length line.new ≤ length line.old + 200 }
 {
@@ -60,7 +60,7 @@ pub(crate) fn write_record(line: &mut TextLine, entry: &Record)
 
 /// Writes a word, and an order's id and two bytes as the fields behind it.
 fn write_order(line: &mut TextLine, word: &[u8], id: u32, first: u8, second: u8)
-    requires { length line.old + length word.now + 63 ≤ 3000 }
+    requires { length line.old + length word.now + 63 ≤ MOST_TEXT }
     ensures text { line.new ≡ line.old ++ word.now ++ behind 32 (decimal id ∷ decimal first ∷ decimal second ∷ []) }
     ensures len { length line.new ≤ length line.old + length word.now + 63 }
 {
@@ -73,7 +73,7 @@ fn write_order(line: &mut TextLine, word: &[u8], id: u32, first: u8, second: u8)
 
 /// Writes the fields of an order whose life counts don't fit it.
 fn write_lives(line: &mut TextLine, id: u32, before: u32, after: u32)
-    requires { length line.old + 67 ≤ 3000 }
+    requires { length line.old + 67 ≤ MOST_TEXT }
     ensures text { line.new ≡ line.old ++ behind 32 (record_fields (Odd id before after)) }
     ensures len { length line.new ≤ length line.old + 67 }
 {
@@ -86,8 +86,8 @@ fn write_lives(line: &mut TextLine, id: u32, before: u32, after: u32)
 
 /// Writes coins as the next field: joined by commas, or a hyphen where there is none.
 fn write_coins(line: &mut TextLine, coins: &[Coin])
-    requires few { length coins.now ≤ 5 }
-    requires room { length line.old + 40 ≤ 3000 }
+    requires few { length coins.now ≤ EVENTS }
+    requires room { length line.old + 40 ≤ MOST_TEXT }
     ensures text { line.new ≡ line.old ++ 32 ∷ coins_field coins.now }
     ensures len { length line.new ≤ length line.old + 40 }
 {
@@ -106,7 +106,7 @@ fn write_coins(line: &mut TextLine, coins: &[Coin])
 
 /// Writes a coin as its place, a slash and its path.
 fn write_coin(line: &mut TextLine, coin: Coin)
-    requires { length line.old + 7 ≤ 3000 }
+    requires { length line.old + 7 ≤ MOST_TEXT }
     ensures text { line.new ≡ line.old ++ coin_text coin }
     ensures len { length line.new ≤ length line.old + 7 }
 {

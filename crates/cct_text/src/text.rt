@@ -2,28 +2,27 @@
 ghost use Rattle.std.specs.Prelude.{◌≡◌, ℕ, ◌+◌, ◌*◌, ◌≤◌, List, [], ◌∷◌, ◌++◌, length};
 ghost use Rattle.hex.specs.Hex.{encode_lower};
 
+use cct_lines::MOST_TEXT;
 use itoa::{Buffer, Integer};
 use std::marker::Model;
 
-/// The most bytes of a transcript line, its line feed among them.
-const ROOM: usize = 3000;
-
-/// One line of text, 3,000 bytes at the most, in a buffer that is made once and serves every line.
+/// One line of text, `MOST_TEXT` bytes at the most, in a buffer that is made once and serves every line.
 #[derive(Drop)]
 pub struct TextLine {
-    bytes: [u8; ROOM],
+    bytes: [u8; MOST_TEXT],
     len: usize,
     digits: Buffer,
 }
 
 impl Model for TextLine {
     ghost use Rattle.std.specs.Prelude.{◌≤◌, List, ℕ, take};
+    ghost use Rattle.cct_lines.specs.declared.entry.TheConstants.{MOST_TEXT};
 
     ghost Value = { List ℕ };
 
     ghost view = { λ t. take t.len t.bytes };
 
-    ghost invariant = { λ t. t.len ≤ 3000 };
+    ghost invariant = { λ t. t.len ≤ MOST_TEXT };
 }
 
 impl TextLine {
@@ -32,7 +31,7 @@ impl TextLine {
         ensures { result ≡ [] }
     {
         TextLine {
-            bytes: [0; ROOM],
+            bytes: [0; MOST_TEXT],
             len: 0,
             digits: Buffer::new(),
         }
@@ -54,7 +53,7 @@ impl TextLine {
 
     /// Adds bytes at the end.
     pub fn push(&mut self, text: &[u8])
-        requires { length self.old + length text.now ≤ 3000 }
+        requires { length self.old + length text.now ≤ MOST_TEXT }
         ensures { self.new ≡ self.old ++ text.now }
     {
         let end = self.len + text.len();
@@ -64,7 +63,7 @@ impl TextLine {
 
     /// Adds a number in decimal.
     pub fn push_number<I: Integer>(&mut self, number: I)
-        requires { length self.old + I.MAX_STR_LEN ≤ 3000 }
+        requires { length self.old + I.MAX_STR_LEN ≤ MOST_TEXT }
         ensures text { self.new ≡ self.old ++ I.text number }
         ensures len { length self.new ≤ length self.old + I.MAX_STR_LEN }
     {
@@ -76,7 +75,7 @@ impl TextLine {
 
     /// Adds bytes in hexadecimal, lower case.
     pub fn push_hex(&mut self, bytes: &[u8])
-        requires { length self.old + 2 * length bytes.now ≤ 3000 }
+        requires { length self.old + 2 * length bytes.now ≤ MOST_TEXT }
         ensures text { self.new ≡ self.old ++ encode_lower bytes.now }
         ensures len { length self.new ≡ length self.old + 2 * length bytes.now }
     {

@@ -2,6 +2,7 @@
 ghost use Rattle.std.specs.Prelude.{◌≤◌, ℕ, List, length};
 
 use arrayvec::ArrayVec;
+use cct_terms::{MOST_HEARD, MOST_SENT};
 
 /// The wire with whatever is at its other end.
 pub trait Link {
@@ -10,7 +11,7 @@ pub trait Link {
 
     /// Sends a piece, and puts all that the host then hears, its own echo first, in the place of what `heard` holds.
     /// An exchange can't fail: where nothing is heard, `heard` is empty.
-    fn exchange(&mut self, sent: &[u8], heard: &mut ArrayVec<u8, 520>)
-        requires { length sent.now ≤ 260 }
+    fn exchange(&mut self, sent: &[u8], heard: &mut ArrayVec<u8, MOST_HEARD>)
+        requires { length sent.now ≤ MOST_SENT }
         ensures { gives self.old sent.now heard.new.items self.new };
 }

@@ -11,6 +11,3 @@ pub use echo::{EchoBad, bare_after_echo};
 pub use exchange::Link;
 pub use hearing::{Heard, hear};
 pub use laws::an_echo_is_whole_or_damaged;
-
-#[cfg(test)]
-mod tests;

@@ -1,12 +1,8 @@
-pub mod Begins
+pub mod Attempts
 pub mod CoinPlaces
+pub mod Commands
+pub mod Keeps
 pub mod Lines
-pub mod Moves
 pub mod Places
-pub mod Polls
-pub mod Refusals
-pub mod Rows
-pub mod ScanEnds
 pub mod Steps
 pub mod Talks
-pub mod Told

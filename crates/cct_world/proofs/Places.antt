@@ -1,45 +1,64 @@
 -- The desk of the device at an address, by its index.
-use Rattle.std.proofs.Common.{◌≡◌, ◌≢◌, ℕ, zero, suc, ◌<◌, ◌==◌, nat_lt, Bool, true, false, cond, List, [], ◌∷◌, length, set, get_or, Option, Some, None, refl, sym, ap, subst, ◌∙◌, arith}
-use Rattle.std.specs.Prelude.{IsTrue, is_some}
+use Rattle.std.proofs.Common.{◌≡◌, ◌≢◌, ℕ, zero, suc, ◌<◌, ◌≤◌, ◌==◌, nat_lt, Bool, true, false, cond, List, [], ◌∷◌, ◌++◌, length, set, take, drop, get_or, Option, Some, None, refl, sym, ap, subst, ◌∙◌, arith}
 use Rattle.std.specs.List.{All, position, position_or_len}
 use Rattle.std.proofs.lemmas.Bool.{eqb-true}
 use Rattle.std.proofs.lemmas.Bool.Decides.{nat_tests}
-use Rattle.std.proofs.lemmas.List.Elements.{All-cons, All-get_or, All-head, All-nil, All-tail}
+use Rattle.std.proofs.Math.ListN.{length-set}
+use Rattle.std.proofs.lemmas.List.{take_at}
+use Rattle.std.proofs.lemmas.List.Elements.{All-get_or, All-head, All-tail}
 use Rattle.std.proofs.lemmas.List.Quantifiers.{position-Some}
 use Rattle.std.proofs.lemmas.List.Sums.{fails_before_first}
-use Rattle.cct_model.specs.declared.device.DeviceSetup.{DeviceSetup}
+use Rattle.cct_model.specs.terms.wire.TheConstants.{BROADCAST}
+use Rattle.cct_model.specs.terms.device.DeviceSetup.{DeviceSetup}
+use Rattle.cct_model.specs.terms.device.Setup.{Setup}
+use Rattle.cct_model.specs.lines.entry.Entry.{Entry}
+use Rattle.cct_model.specs.declared.judging.EpochState.TheVariants.{Idle}
+use Rattle.cct_model.specs.Device.{IsSound}
 use Rattle.cct_model.specs.Exchange.{device_at}
-use Rattle.cct_model.specs.Setup.{AreDistinct}
-use Rattle.cct_world.specs.declared.desk.Desk.{Desk}
-use Rattle.cct_world.specs.Desk.{device_of, devices_of, epoch_at}
+use Rattle.cct_model.specs.Job as model
+use Rattle.cct_model.specs.Setup.{AreDistinct, IsSoundSetup}
+use Rattle.cct_world.specs.declared.desk.JobDesk.{JobDesk}
+use Rattle.cct_world.specs.Desk.{AllSit, IsFree, Sits, Works}
+use Rattle.cct_world.specs.Place.{AreAt, Place, device, scans}
+use Rattle.cct_world.proofs.Keeps.{keeps_other, keeps_quiet}
+use Rattle.cct_world.proofs.Lines.{IsQuiet}
 
--- the test of a desk by its device's address
-abbrev pub is_at : ℕ → Desk → Bool
-is_at addr desk = (device_of desk).addr == addr
+-- the test of a device by its address
+abbrev pub is_at : ℕ → DeviceSetup → Bool
+is_at addr d = d.addr == addr
 
-none_here : (same : Bool) (d : DeviceSetup) (rest : Option DeviceSetup) → cond same (Some d) rest ≡ None → (same ≡ false) × (rest ≡ None)
+none_here : (same : Bool) (d : DeviceSetup) (rest : Option DeviceSetup) → cond same (Some d) rest ≡ None
+    → (same ≡ false) × (rest ≡ None)
 none_here true d rest e = absurd cc
 none_here false d rest e = (refl, e)
 
-at_place : (desks : List Desk) (i : ℕ) (x : Desk) (addr : ℕ) → i < length desks → is_at addr (get_or desks i x) ≡ true
-    → ((k : ℕ) → k < i → is_at addr (get_or desks k x) ≡ false) → device_at (devices_of desks) addr ≡ Some (device_of (get_or desks i x))
-at_place [] i x addr within here before = absurd (omega arith)
-at_place (e ∷ es) zero x addr within here before = ap (λ b. cond b (Some (device_of e)) (device_at (devices_of es) addr)) here
-at_place (e ∷ es) (suc i) x addr within here before =
-    ap (λ b. cond b (Some (device_of e)) (device_at (devices_of es) addr)) (before 0 (omega arith))
-    ∙ at_place es i x addr (omega arith) here (λ k below. before (suc k) (omega arith))
+at_index : (ds : List DeviceSetup) (i : ℕ) (x : DeviceSetup) (addr : ℕ) → i < length ds
+    → is_at addr (get_or ds i x) ≡ true
+    → ((k : ℕ) → k < i → is_at addr (get_or ds k x) ≡ false) → device_at ds addr ≡ Some (get_or ds i x)
+at_index [] i x addr within here before = absurd (omega arith)
+at_index (e ∷ es) zero x addr within here before = ap (λ b. cond b (Some e) (device_at es addr)) here
+at_index (e ∷ es) (suc i) x addr within here before =
+    ap (λ b. cond b (Some e) (device_at es addr)) (before 0 (omega arith))
+    ∙ at_index es i x addr (omega arith) here (λ k below. before (suc k) (omega arith))
 
 -- what the index of an address says
-pub place_found : (desks : List Desk) (i : ℕ) (x : Desk) (addr : ℕ) → position (is_at addr) desks ≡ Some i
-    → (i < length desks) × (device_at (devices_of desks) addr ≡ Some (device_of (get_or desks i x))) × ((device_of (get_or desks i x)).addr ≡ addr)
-place_found desks i x addr found =
-    let known : (i < length desks) × (is_at addr (get_or desks i x) ≡ true) × ((k : ℕ) → k < i → is_at addr (get_or desks k x) ≡ false) = position-Some (is_at addr) desks i x found in
-    (known.0, at_place desks i x addr known.0 known.1 known.2, eqb-true _ _ known.1)
+pub device_found : (ds : List DeviceSetup) (i : ℕ) (d : DeviceSetup) (addr : ℕ) → position (is_at addr) ds ≡ Some i
+    → d ≡ get_or ds i d
+    → (i < length ds) × (device_at ds addr ≡ Some d) × (d.addr ≡ addr)
+device_found ds i d addr found is =
+    let known : (i < length ds) × (is_at addr (get_or ds i d) ≡ true)
+    × ((k : ℕ) → k < i → is_at addr (get_or ds k d) ≡ false) = position-Some (is_at addr) ds i d found in (
+      known.0,
+      at_index ds i d addr known.0 known.1 known.2 ∙ ap Some (sym is),
+      ap (λ x. x.addr) is
+          ∙ eqb-true _ _ known.1,
+    )
 
-none_at_all : (desks : List Desk) (addr : ℕ) → ((k : ℕ) (x : Desk) → k < length desks → is_at addr (get_or desks k x) ≡ false) → device_at (devices_of desks) addr ≡ None
+none_at_all : (ds : List DeviceSetup) (addr : ℕ)
+    → ((k : ℕ) (x : DeviceSetup) → k < length ds → is_at addr (get_or ds k x) ≡ false) → device_at ds addr ≡ None
 none_at_all [] addr fails = refl
 none_at_all (e ∷ es) addr fails =
-    ap (λ b. cond b (Some (device_of e)) (device_at (devices_of es) addr)) (fails 0 e (omega arith))
+    ap (λ b. cond b (Some e) (device_at es addr)) (fails 0 e (omega arith))
     ∙ none_at_all es addr (λ k x below. fails (suc k) x (omega arith))
 
 past_all : (below : Bool) (i : ℕ) → cond below (Some i) None ≡ None → below ≡ false
@@ -47,83 +66,140 @@ past_all true i e = absurd cc
 past_all false i e = refl
 
 -- no index, no device
-pub none_found : (desks : List Desk) (addr : ℕ) → position (is_at addr) desks ≡ None → device_at (devices_of desks) addr ≡ None
-none_found desks addr none =
-    let test : nat_lt (position_or_len (is_at addr) desks) (length desks) ≡ false = past_all _ _ none in
-    none_at_all desks addr (λ k x below. fails_before_first (is_at addr) desks k x (grind (arith, nat_tests)))
+pub absent : (ds : List DeviceSetup) (addr : ℕ) (found : Option ℕ) → found ≡ position (is_at addr) ds → found ≡ None
+    → device_at ds addr ≡ None
+absent ds addr found is none =
+    let test : nat_lt (position_or_len (is_at addr) ds) (length ds) ≡ false = past_all _ _ (sym is ∙ none) in
+    none_at_all ds addr (λ k x below. fails_before_first (is_at addr) ds k x (grind (arith, nat_tests)))
 
-none_missing : (found : Option DeviceSetup) → found ≡ None → IsTrue (is_some found) → ⊥
-none_missing None none there = cc
-none_missing (Some d) none there = cc
+-- an index in a list that was lent
+pub found_in : (ds items : List DeviceSetup) (addr : ℕ) (found : Option ℕ) (i : ℕ) → items ≡ ds
+    → found ≡ position (is_at addr) items → found ≡ Some i → position (is_at addr) ds ≡ Some i
+found_in ds items addr found i lent is there = ap (position (is_at addr)) (sym lent) ∙ sym is ∙ there
 
-place_by : (found : Option ℕ) (desks : List Desk) (setups : List DeviceSetup) (addr : ℕ) → devices_of desks ≡ setups → IsTrue (is_some (device_at setups addr)) → position (is_at addr) desks ≡ found → IsTrue (is_some found)
-place_by (Some i) desks setups addr places there is = refl
-place_by None desks setups addr places there is =
-    absurd (none_missing (device_at setups addr) (ap (λ ds. device_at ds addr) (sym places) ∙ none_found desks addr is) there)
+-- the device at an index
+pub at_this : (ds : List DeviceSetup) (i : ℕ) → i < length ds → (d : DeviceSetup) × (d ≡ get_or ds i d)
+at_this [] i within = absurd (omega arith)
+at_this (e ∷ es) zero within = (e, refl)
+at_this (e ∷ es) (suc i) within = at_this es i (omega arith)
 
--- where there is a device at an address of the setup, there is its desk
-pub place_there : (desks : List Desk) (setups : List DeviceSetup) (addr : ℕ) → devices_of desks ≡ setups → IsTrue (is_some (device_at setups addr)) → IsTrue (is_some (position (is_at addr) desks))
-place_there desks setups addr places there = place_by (position (is_at addr) desks) desks setups addr places there refl
+-- the desk at an index of a list that was lent
+pub desk_lent : (ks items : List JobDesk) (i : ℕ) (y : JobDesk) → items ≡ ks → y ≡ get_or items i y
+    → get_or items i y ≡ get_or ks i (get_or items i y)
+desk_lent ks items i y lent is = ap (λ ls. get_or ls i y) lent ∙ ap (get_or ks i) is
 
--- the device of the setup that is at an index
-pub device_found : (desks : List Desk) (setups : List DeviceSetup) (i : ℕ) (y : Desk) (addr : ℕ) → devices_of desks ≡ setups → position (is_at addr) desks ≡ Some i → y ≡ get_or desks i y
-    → (device_at setups addr ≡ Some (device_of y)) × ((device_of y).addr ≡ addr)
-device_found desks setups i y addr places found is =
-    let place = place_found desks i y addr found in (
-      ap (λ ds. device_at ds addr) (sym places) ∙ place.1 ∙ ap (λ d. Some (device_of d)) (sym is),
-      ap (λ d. (device_of d).addr) is ∙ place.2,
-    )
-
-epoch_at_place : (desks : List Desk) (i : ℕ) (x : Desk) (addr : ℕ) → i < length desks → is_at addr (get_or desks i x) ≡ true
-    → ((k : ℕ) → k < i → is_at addr (get_or desks k x) ≡ false) → epoch_at desks addr ≡ (get_or desks i x).epoch
-epoch_at_place [] i x addr within here before = absurd (omega arith)
-epoch_at_place (e ∷ es) zero x addr within here before = ap (λ b. cond b e.epoch (epoch_at es addr)) here
-epoch_at_place (e ∷ es) (suc i) x addr within here before =
-    ap (λ b. cond b e.epoch (epoch_at es addr)) (before 0 (omega arith))
-    ∙ epoch_at_place es i x addr (omega arith) here (λ k below. before (suc k) (omega arith))
-
--- the epoch at an address is that of the desk at its index
-pub epoch_found : (desks : List Desk) (i : ℕ) (y : Desk) (addr : ℕ) → position (is_at addr) desks ≡ Some i → y ≡ get_or desks i y → epoch_at desks addr ≡ y.epoch
-epoch_found desks i y addr found is =
-    let known : (i < length desks) × (is_at addr (get_or desks i y) ≡ true) × ((k : ℕ) → k < i → is_at addr (get_or desks k y) ≡ false) = position-Some (is_at addr) desks i y found in
-    epoch_at_place desks i y addr known.0 known.1 known.2 ∙ sym (ap (λ desk. desk.epoch) is)
-
--- the desk at an index is one of all
-pub one_of : (P : Desk → Type 0) (desks : List Desk) (i : ℕ) (y : Desk) → i < length desks → y ≡ get_or desks i y → All P desks → P y
-one_of P desks i y within is all = subst P (sym is) (All-get_or P desks i y within all)
-
-apart : (es : List Desk) (i : ℕ) (x : Desk) (addr : ℕ) → i < length es → device_at (devices_of es) addr ≡ None → (device_of (get_or es i x)).addr ≢ addr
-apart [] i x addr within none = absurd (omega arith)
-apart (e ∷ es) zero x addr within none =
-    let test : is_at addr e ≡ false = (none_here (is_at addr e) (device_of e) _ none).0 in
-    grind (arith, nat_tests)
-apart (e ∷ es) (suc i) x addr within none = apart es i x addr (omega arith) (none_here (is_at addr e) (device_of e) _ none).1
+-- the desk at the index of a device is the device's
+pub desk_sits : (ds : List DeviceSetup) (ks : List JobDesk) (i : ℕ) (d : DeviceSetup) (k : JobDesk) (past : List Entry)
+    → i < length ds → d ≡ get_or ds i d → k ≡ get_or ks i k
+    → AllSit past ds ks → Sits past (device d) k
+desk_sits [] ks i d k past within is at all = absurd (omega arith)
+desk_sits (e ∷ es) [] i d k past within is at all = absurd all
+desk_sits (e ∷ es) (m ∷ ms) zero d k past within is at all =
+    subst (λ x. Sits past (device x) k) (sym is) (subst (λ x. Sits past (device e) x) (sym at) all.0)
+desk_sits (e ∷ es) (m ∷ ms) (suc i) d k past within is at all = desk_sits es ms i d k past (omega arith) is at all.1
 
 other_of : (a b : ℕ) → (a == b) ≡ false → a ≢ b
 other_of a b e = grind (arith, nat_tests)
 
-others : (P Q : Desk → Type 0) (addr : ℕ) (es : List Desk) → device_at (devices_of es) addr ≡ None → ((e : Desk) → (device_of e).addr ≢ addr → P e → Q e) → All P es → All Q es
-others P Q addr [] none goes all = All-nil Q
-others P Q addr (e ∷ es) none goes all =
-    let parts : (is_at addr e ≡ false) × (device_at (devices_of es) addr ≡ None) = none_here (is_at addr e) (device_of e) _ none in
-    All-cons Q e es (goes e (other_of _ _ parts.0) (All-head P e es all)) (others P Q addr es parts.1 goes (All-tail P e es all))
+-- entries of an address without a device
+desks_apart : (ds : List DeviceSetup) (ks : List JobDesk) (addr : ℕ) (past news : List Entry) → device_at ds addr ≡ None
+    → AreAt addr past news → AllSit past ds ks → AllSit (news ++ past) ds ks
+desks_apart [] [] addr past news none at all = tt
+desks_apart [] (m ∷ ms) addr past news none at all = absurd all
+desks_apart (e ∷ es) [] addr past news none at all = absurd all
+desks_apart (e ∷ es) (m ∷ ms) addr past news none at all =
+    let parts : ((e.addr == addr) ≡ false) × (device_at es addr ≡ None) = none_here (e.addr == addr) e _ none in (
+      keeps_other (device e) m.job m.epoch past news (at (device e) (other_of _ _ parts.0)) all.0,
+      desks_apart es ms addr
+          past news parts.1 at all.1,
+    )
 
--- one desk changes, and those of the devices at other addresses go on
-pub one_changed : (P Q : Desk → Type 0) (addr : ℕ) (desks : List Desk) (i : ℕ) (x : Desk) → i < length desks → AreDistinct (devices_of desks) → (device_of (get_or desks i x)).addr ≡ addr
-    → Q x → ((e : Desk) → (device_of e).addr ≢ addr → P e → Q e) → All P desks → All Q (set desks i x)
-one_changed P Q addr [] i x within distinct was_at here goes all = absurd (omega arith)
-one_changed P Q addr (e ∷ es) zero x within distinct was_at here goes all =
-    All-cons Q x es here (others P Q addr es (subst (λ a. device_at (devices_of es) a ≡ None) was_at distinct.0) goes (All-tail P e es all))
-one_changed P Q addr (e ∷ es) (suc i) x within distinct was_at here goes all =
-    let other : (device_of e).addr ≢ addr = (λ (same : (device_of e).addr ≡ addr). apart es i x (device_of e).addr (omega arith) distinct.0 (was_at ∙ sym same)) in
-    All-cons Q e (set es i x) (goes e other (All-head P e es all)) (one_changed P Q addr es i x (omega arith) distinct.1 was_at here goes (All-tail P e es all))
+apart : (es : List DeviceSetup) (i : ℕ) (d : DeviceSetup) (addr : ℕ) → i < length es → device_at es addr ≡ None
+    → (get_or es i d).addr ≢ addr
+apart [] i d addr within none = absurd (omega arith)
+apart (e ∷ es) zero d addr within none = other_of _ _ (none_here (e.addr == addr) e _ none).0
+apart (e ∷ es) (suc i) d addr within none = apart es i d addr (omega arith) (none_here (e.addr == addr) e _ none).1
 
--- the devices stay where one desk keeps its own
-pub places_kept : (desks : List Desk) (i : ℕ) (x y : Desk) → x.device ≡ y.device → y ≡ get_or desks i y → devices_of (set desks i x) ≡ devices_of desks
-places_kept [] i x y same is = refl
-places_kept (e ∷ es) zero x y same is = ap (λ d. d ∷ devices_of es) (ap (λ s. s.now) same ∙ ap device_of is)
-places_kept (e ∷ es) (suc i) x y same is = ap (λ ds. device_of e ∷ ds) (places_kept es i x y same is)
+-- entries of the address of one device: its desk changes
+desks_at : (ds : List DeviceSetup) (ks : List JobDesk) (i : ℕ) (x : JobDesk) (d : DeviceSetup) (addr : ℕ)
+    (past news : List Entry) → AreDistinct ds → i < length ds → d ≡ get_or ds i d → d.addr ≡ addr
+    → AreAt addr past news → Sits (news ++ past) (device d) x → AllSit past ds ks
+    → AllSit (news ++ past) ds (set ks i x)
+desks_at [] ks i x d addr past news distinct within is here at sits all = absurd (omega arith)
+desks_at (e ∷ es) [] i x d addr past news distinct within is here at sits all = absurd all
+desks_at (e ∷ es) (m ∷ ms) zero x d addr past news distinct within is here at sits all = (
+  subst (λ y. Sits (news ++ past) (device y) x) is sits,
+  desks_apart es ms addr past news (subst (λ a. device_at es a ≡ None) (ap (λ y. y.addr) (sym is) ∙ here) distinct.0) at
+      all.1,
+)
+desks_at (e ∷ es) (m ∷ ms) (suc i) x d addr past news distinct within is here at sits all =
+    let other : e.addr ≢ addr =
+    (λ (same : e.addr ≡ addr). apart es i d e.addr (omega arith) distinct.0
+    (ap (λ y. y.addr) (sym is) ∙ here ∙ sym same)) in (
+      keeps_other (device e) m.job m.epoch past news (at (device e) other) all.0,
+      desks_at es ms i x d addr past news
+          distinct.1 (omega arith) is here at sits all.1,
+    )
 
--- there is no device at an address without a desk
-pub absent : (desks : List Desk) (setups : List DeviceSetup) (addr : ℕ) (found : Option ℕ) → devices_of desks ≡ setups → found ≡ position (is_at addr) desks → found ≡ None → device_at setups addr ≡ None
-absent desks setups addr found places is none = ap (λ ds. device_at ds addr) (sym places) ∙ none_found desks addr (sym is ∙ none)
+above_zero : (a : ℕ) → 2 ≤ a → (a == BROADCAST) ≡ false
+above_zero a low = grind (arith, nat_tests)
+
+no_device_at_zero : (ds : List DeviceSetup) → All IsSound ds → device_at ds BROADCAST ≡ None
+no_device_at_zero [] sound = refl
+no_device_at_zero (e ∷ es) sound =
+    ap (λ b. cond b (Some e) (device_at es BROADCAST)) (above_zero e.addr (All-head IsSound e es sound).low)
+    ∙ no_device_at_zero es (All-tail IsSound e es sound)
+
+not_zero : (a : ℕ) → 2 ≤ a → BROADCAST ≢ a
+not_zero a low is = omega (arith, low, is)
+
+-- a list that was lent, where one desk changed
+pub refilled : (ks items : List JobDesk) (i : ℕ) (x : JobDesk) → items ≡ ks
+    → take (length ks) (set items i x ++ drop (length (set items i x)) ks) ≡ set ks i x
+refilled ks items i x lent =
+    let same : length (set items i x) ≡ length ks = simp length-set (ap length lent) in
+    take_at (set items i x) (drop (length (set items i x)) ks) (length ks) same ∙ ap (λ ls. set ls i x) lent
+
+-- the desk of a device changes, and all else goes on
+pub device_turn : (setup : Setup) (ks items : List JobDesk) (scan : JobDesk) (i : ℕ) (x : JobDesk) (d : DeviceSetup)
+    (addr : ℕ) (past news : List Entry) → IsSoundSetup setup → items ≡ ks
+    → position (is_at addr) setup.devices ≡ Some i → d ≡ get_or setup.devices i d → AreAt addr past news
+    → Sits (news ++ past) (device d) x → AllSit past setup.devices ks → Sits past scans scan
+    → AllSit (news ++ past) setup.devices (take (length ks) (set items i x ++ drop (length (set items i x)) ks))
+    × Sits (news ++ past) scans scan
+device_turn setup ks items scan i x d addr past news sound lent found is at sits all scanned =
+    let place = device_found setup.devices i d addr found is in
+    let low : 2 ≤ d.addr = (subst IsSound (sym is) (All-get_or IsSound setup.devices i d place.0 sound.devices)).low in
+    let other : BROADCAST ≢ addr = subst (λ a. BROADCAST ≢ a) place.2 (not_zero d.addr low) in (
+      subst (AllSit (news ++ past) setup.devices) (sym (refilled ks items i x lent))
+          (desks_at setup.devices ks i x d addr past news sound.distinct place.0 is place.2 at sits all),
+      keeps_other scans scan.job scan.epoch past news (at scans other) scanned,
+    )
+
+-- the desk of scans changes, and all else goes on
+pub scan_turn : (setup : Setup) (ks : List JobDesk) (past news : List Entry) → IsSoundSetup setup
+    → AreAt BROADCAST past news → AllSit past setup.devices ks → AllSit (news ++ past) setup.devices ks
+scan_turn setup ks past news sound at all = desks_apart setup.devices ks BROADCAST past news
+    (no_device_at_zero setup.devices sound.devices) at all
+
+-- an entry that changes no job and no epoch
+pub desks_quiet : (ds : List DeviceSetup) (ks : List JobDesk) (past : List Entry) (e : Entry) → IsQuiet past e
+    → AllSit past ds ks → AllSit (e ∷ past) ds ks
+desks_quiet [] [] past e quiet all = tt
+desks_quiet [] (m ∷ ms) past e quiet all = absurd all
+desks_quiet (d ∷ ds) [] past e quiet all = absurd all
+desks_quiet (d ∷ ds) (m ∷ ms) past e quiet all =
+    (keeps_quiet (device d) m.job m.epoch past e quiet all.0, desks_quiet ds ms past e quiet all.1)
+
+-- at first
+pub free_keeps : (place : Place) (k : JobDesk) → IsFree k → Sits [] place k
+free_keeps (device d) k free =
+    record { works = subst (λ j. Works (device d) j model.free Idle) (sym free.0) tt; knows = free.1 }
+free_keeps scans k free = record { works = subst (λ j. Works scans j model.free Idle) (sym free.0) tt; knows = tt }
+
+pub desks_free : (ds : List DeviceSetup) (ks : List JobDesk) → length ks ≡ length ds → All IsFree ks → AllSit [] ds ks
+desks_free [] [] many free = tt
+desks_free [] (m ∷ ms) many free = absurd (omega arith)
+desks_free (d ∷ ds) [] many free = absurd (omega arith)
+desks_free (d ∷ ds) (m ∷ ms) many free =
+    (free_keeps (device d) m (All-head IsFree m ms free), desks_free ds ms (omega arith) (All-tail IsFree m ms free))

@@ -1,133 +1,205 @@
--- What one step leaves of the whole machine.
-use Rattle.std.proofs.Common.{◌≡◌, ◌≢◌, ℕ, ◌==◌, Bool, true, false, cond, List, [], ◌∷◌, ◌++◌, reverse, set, get_or, refl, sym, ap, subst, ◌∙◌, Option, Some, None}
-use Rattle.std.specs.Prelude.{MatchBool}
-use Rattle.std.specs.List.{All, position}
-use Rattle.cct_model.specs.declared.coin.Coin.{Coin}
-use Rattle.cct_model.specs.declared.device.DeviceSetup.{DeviceSetup}
-use Rattle.cct_model.specs.declared.device.Setup.{Setup}
-use Rattle.cct_model.specs.declared.command.Command.{Command}
-use Rattle.cct_model.specs.declared.command.Command.TheVariants as command
-use Rattle.cct_model.specs.declared.entry.Entry.{Entry}
-use Rattle.cct_model.specs.declared.entry.Entry.TheVariants as entry
+-- What one step leaves of the host and the bus.
+use Rattle.std.proofs.Common.{◌≡◌, ℕ, Bool, true, false, cond, List, [], ◌∷◌, ◌++◌, reverse, refl, sym, ap, subst, ◌∙◌, Option, Some, None}
+use Rattle.std.specs.Prelude.{IsTrue, MatchBool, is_some}
+use Rattle.std.proofs.lemmas.List.{reverse-reverse}
+use Rattle.cct_model.specs.terms.wire.TheConstants.{BROADCAST}
+use Rattle.cct_model.specs.terms.coin.Coin.{Coin}
+use Rattle.cct_model.specs.terms.device.DeviceSetup.{DeviceSetup}
+use Rattle.cct_model.specs.terms.device.Setup.{Setup}
+use Rattle.cct_model.specs.lines.record.Record.{Record}
+use Rattle.cct_model.specs.lines.command.Command.{Command}
+use Rattle.cct_model.specs.lines.command.CommandNo.{CommandNo}
+use Rattle.cct_model.specs.lines.entry.End.{End}
+use Rattle.cct_model.specs.lines.entry.Entry.{Entry}
+use Rattle.cct_model.specs.lines.entry.Entry.TheVariants as entry
 use Rattle.cct_model.specs.Acceptor.{accepts}
-use Rattle.cct_model.specs.Device.{IsSound}
-use Rattle.cct_model.specs.Exchange.{device_at}
-use Rattle.cct_model.specs.Job as model
-use Rattle.cct_model.specs.Job.{address_of}
-use Rattle.cct_model.specs.Legal.{BareNext, OfAcceptor, OfNext, ScanEntries, coin_entry, is_acceptor}
-use Rattle.cct_model.specs.Setup.{IsSoundSetup}
-use Rattle.cct_model.specs.Transcript.{met, scan_lines}
+use Rattle.cct_model.specs.Device.{is_acceptor}
+use Rattle.cct_model.specs.Exchange.{acceptor_there}
+use Rattle.cct_model.specs.Legal.{BareNext, EntriesOfNext, OfAcceptor, OfDevice, OfNext, ScanEntries, coin_entry, command_entry, is_played_command, refusal, with_end}
+use Rattle.cct_model.specs.Job.{job}
+use Rattle.cct_model.specs.Transcript.{heard_after, met, scan_lines}
 use Rattle.cct_acceptor.specs.declared.acceptor.Inserted.{Inserted}
 use Rattle.cct_acceptor.specs.declared.acceptor.Inserted.TheVariants as taken
 use Rattle.cct_acceptor.specs.Acceptor.{inserted}
 use Rattle.cct_bus.specs.declared.bus.Bus.{Bus}
 use Rattle.cct_bus.specs.Bus as wires
-use Rattle.cct_jobs.specs.declared.job.Job.{Job}
-use Rattle.cct_jobs.specs.Scans.{StandsScan}
-use Rattle.cct_jobs.proofs.Rows.{address_there}
-use Rattle.cct_world.specs.declared.desk.Desk.{Desk}
+use Rattle.cct_world.specs.declared.host.Host.{Host}
+use Rattle.cct_world.specs.Attempt.{Attempt, HeardBy, Links, asked, idle, news_of, put}
 use Rattle.cct_world.specs.Coin.{entry_of}
-use Rattle.cct_world.specs.Desk.{AreAt, Keeps, Sits, device_of, devices_of}
-use Rattle.cct_world.specs.World.{Scans}
-use Rattle.cct_world.proofs.Lines.{IsQuiet, accepted_quiet, inhibited_quiet, taken_at}
-use Rattle.cct_world.proofs.Moves.{desks_at, desks_quiet, desks_scan, device_apart, scan_at, scan_quiet}
-use Rattle.cct_world.proofs.Places.{device_found, is_at, place_found}
+use Rattle.cct_world.specs.Host as hosts
+use Rattle.cct_world.specs.Place.{scans}
+use Rattle.cct_world.proofs.Keeps.{keeps_quiet}
+use Rattle.cct_world.proofs.Lines.{IsQuiet, accepted_quiet, inhibited_quiet}
+use Rattle.cct_world.proofs.Places.{desks_quiet}
 
--- the desk of a device changes, and all else goes on
-pub turn : (desks : List Desk) (setup : Setup) (i : ℕ) (x y : Desk) (addr : ℕ) (past news : List Entry) (scan : Option Job) → devices_of desks ≡ setup.devices → IsSoundSetup setup
-    → position (is_at addr) desks ≡ Some i → y ≡ get_or desks i y → AreAt addr past news → Sits (news ++ past) x → All (Sits past) desks → Scans scan (model.job (scan_lines past))
-    → All (Sits (news ++ past)) (set desks i x) × Scans scan (model.job (scan_lines (news ++ past)))
-turn desks setup i x y addr past news scan places sound found is apart here sit scans =
-    let at_y = (device_found desks setup.devices i y addr places found is).1 in
-    let other : addr ≢ 0 = subst (λ a. a ≢ 0) at_y (device_apart desks i y (place_found desks i y addr found).0 is (subst (λ ds. All IsSound ds) (sym places) sound.devices)) in (
-      desks_at desks setup.devices i x y addr past news places sound.distinct found is apart here sit,
-      scan_at scan addr past news other apart scans,
-    )
+-- an entry that changes no job and no epoch
+pub host_quiet : (host : Host) (past : List Entry) (e : Entry) → IsQuiet past e → hosts.StandsFor host past
+    → hosts.StandsFor host (e ∷ past)
+host_quiet host past e quiet stands = record {
+  sound = stands.sound;
+  desks = desks_quiet _ _ past e quiet stands.desks;
+  scan = keeps_quiet scans _ _ past e quiet stands.scan;
+}
 
--- the scan changes, and all desks go on
-pub scan_turn : (desks : List Desk) (setup : Setup) (past news : List Entry) → devices_of desks ≡ setup.devices → IsSoundSetup setup → AreAt 0 past news → All (Sits past) desks → All (Sits (news ++ past)) desks
-scan_turn desks setup past news places sound apart sit = desks_scan desks past news apart (subst (λ ds. All IsSound ds) (sym places) sound.devices) sit
+-- an end, an idle address, a record and a command change nothing on the wire
+ended_wire : (bus : Bus) (past : List Entry) (addr : ℕ) (end : End) → wires.StandsFor bus past
+    → wires.StandsFor bus (entry.Ended addr end ∷ past)
+ended_wire bus past addr end s = record { sound = s.sound; order = s.order; devices = s.devices; fault = s.fault }
 
--- a scan was taken
-pub scan_taken : (c : Command) (job : Job) (past : List Entry) → c ≡ command.Scan → StandsScan job [] → Scans (Some job) (model.job (scan_lines (entry.Taken c ∷ past)))
-scan_taken c job past is at = subst (λ k. Scans (Some job) (model.job (scan_lines (entry.Taken k ∷ past)))) (sym is) at
+idle_wire : (bus : Bus) (past : List Entry) (addr : ℕ) → wires.StandsFor bus past
+    → wires.StandsFor bus (entry.Idle addr ∷ past)
+idle_wire bus past addr s = record { sound = s.sound; order = s.order; devices = s.devices; fault = s.fault }
 
-pub scan_taken_at : (c : Command) (past : List Entry) → c ≡ command.Scan → AreAt 0 past (entry.Taken c ∷ [])
-scan_taken_at c past is = subst (λ a. AreAt a past (entry.Taken c ∷ [])) (ap address_of is) (taken_at c past)
+put_wire : (bus : Bus) (past : List Entry) (r : Record) → wires.StandsFor bus past
+    → wires.StandsFor bus (entry.Put r ∷ past)
+put_wire bus past r s = record { sound = s.sound; order = s.order; devices = s.devices; fault = s.fault }
 
-pub device_taken_at : (c : Command) (addr : ℕ) (past : List Entry) → address_of c ≡ addr → AreAt addr past (entry.Taken c ∷ [])
-device_taken_at c addr past is = subst (λ a. AreAt a past (entry.Taken c ∷ [])) is (taken_at c past)
+pub command_wire : (bus : Bus) (past : List Entry) (c : Command) (refused : Option CommandNo) → wires.StandsFor bus past
+    → wires.StandsFor bus (command_entry c refused ∷ past)
+command_wire bus past c None s = record { sound = s.sound; order = s.order; devices = s.devices; fault = s.fault }
+command_wire bus past c (Some why) s = record { sound = s.sound; order = s.order; devices = s.devices; fault = s.fault }
 
-pub taken_wire : (bus : Bus) (past : List Entry) (c : Command) → wires.StandsFor bus past → wires.StandsFor bus (entry.Taken c ∷ past)
-taken_wire bus past c s = record { sound = s.sound; order = s.order; devices = s.devices; fault = s.fault }
+with_end_wire : (bus : Bus) (past : List Entry) (addr : ℕ) (e : Entry) (end : Option End)
+    → wires.StandsFor bus (e ∷ past) → wires.StandsFor bus (with_end addr e end ++ past)
+with_end_wire bus past addr e None s = s
+with_end_wire bus past addr e (Some end) s = ended_wire bus (e ∷ past) addr end s
 
--- a next at a device
-pub of_next : (found : Option DeviceSetup) (d : DeviceSetup) (P : DeviceSetup → Type 0) (Q : Type 0) → found ≡ Some d → P d → OfNext found P Q
+-- what a step leaves that gave this report
+abbrev pub Left : Host → Bus → List Entry → List Entry → Type 0
+Left host bus past report = hosts.StandsFor host (reverse report ++ past) × wires.StandsFor bus (reverse report ++ past)
+
+-- an attempt on the bus
+pub link_setup : (bus after : Bus) (what : Attempt) → Links wires.Exchanges bus after what
+    → wires.setup_of after ≡ wires.setup_of bus
+link_setup bus after idle link = ap wires.setup_of link
+link_setup bus after (asked sent heard end) link = link.0
+link_setup bus after (put r end) link = ap wires.setup_of link
+
+-- what an attempt leaves on the bus, and that it heard what the bus gave
+linked : (bus after : Bus) (addr : ℕ) (past : List Entry) (what : Attempt) → Links wires.Exchanges bus after what
+    → wires.StandsFor bus past
+    → HeardBy (heard_after (wires.setup_of bus) past) what × wires.StandsFor after (news_of addr what ++ past)
+linked bus after addr past idle link stands =
+    (tt, subst (λ b. wires.StandsFor b (entry.Idle addr ∷ past)) (sym link) (idle_wire bus past addr stands))
+linked bus after addr past (asked sent heard end) link stands =
+    let wire = link.1 past addr stands in
+    (wire.0, with_end_wire after past addr (entry.Wire addr sent heard) end wire.1)
+linked bus after addr past (put r end) link stands = (
+  tt,
+  subst (λ b. wires.StandsFor b (with_end addr (entry.Put r) end ++ past)) (sym link)
+      (with_end_wire bus past addr (entry.Put r) end (put_wire bus past r stands)),
+)
+
+pub next_goes : (bus after : Bus) (host left : Host) (addr : ℕ) (past before report : List Entry) → before ≡ []
+    → hosts.Nexts wires.Exchanges bus after addr host left before report
+    → wires.setup_of bus ≡ hosts.setup_of host → hosts.StandsFor host past → wires.StandsFor bus past
+    → EntriesOfNext (heard_after (hosts.setup_of host) past) (hosts.setup_of host) past addr (reverse report)
+    × Left left after past report
+next_goes bus after host left addr past before report none next same stands wired =
+    let setup = hosts.setup_of host in
+    let news : reverse report ≡ news_of addr next.what =
+    ap reverse (next.reported_is ∙ ap (λ es. es ++ reverse (news_of addr next.what)) none)
+    ∙ reverse-reverse (news_of addr next.what) in
+    let wire = linked bus after addr past next.what next.link wired in
+    let heard = subst (λ s. HeardBy (heard_after s past) next.what) same wire.0 in
+    let goes = next.goes (heard_after setup past) past heard stands in
+    subst (λ ns. EntriesOfNext (heard_after setup past) setup past addr ns
+    × (hosts.StandsFor left (ns ++ past) × wires.StandsFor after (ns ++ past))) (sym news) (goes.0, (goes.1, wire.1))
+
+-- a next at an address with a device, and at one without
+pub of_next : (found : Option DeviceSetup) (d : DeviceSetup) (P : DeviceSetup → Type 0) (Q : Type 0) → found ≡ Some d
+    → P d → OfNext found P Q
 of_next found d P Q is fact = subst (λ f. OfNext f P Q) (sym is) fact
 
-pub of_none : (found : Option DeviceSetup) (P : DeviceSetup → Type 0) (Q : Type 0) → found ≡ None → Q → OfNext found P Q
-of_none found P Q is fact = subst (λ f. OfNext f P Q) (sym is) fact
-
-pub bare_scan : (setup : Setup) (past news : List Entry) (addr : ℕ) → addr ≡ 0 → ScanEntries setup past (model.job (scan_lines past)) news → BareNext setup past addr news
-bare_scan setup past news addr is polls = subst (λ a. BareNext setup past a news) (sym is) polls
-
-pub bare_idle : (setup : Setup) (past news : List Entry) (addr : ℕ) → (addr == 0) ≡ false → news ≡ entry.Idle addr ∷ [] → BareNext setup past addr news
-bare_idle setup past news addr other is = subst (λ b. MatchBool b (ScanEntries setup past (model.job (scan_lines past)) news) (news ≡ entry.Idle addr ∷ [])) (sym other) is
-
--- a coin
-
-coin_by : (took : Bool) (addr place : ℕ) (c : Coin) → entry_of (cond took (taken.Accepted c) taken.Inhibited) addr place
-    ≡ cond took (entry.Accepted addr c) (entry.Inhibited addr place)
-coin_by true addr place c = refl
-coin_by false addr place c = refl
-
-coin_is : (d : DeviceSetup) (addr place : ℕ) (past : List Entry) (result : Inserted) → d.addr ≡ addr → result ≡ inserted (met d past) place → entry_of result addr place ≡ coin_entry d past place
-coin_is d addr place past result is told =
-    ap (λ r. entry_of r addr place) told
-    ∙ ap (λ a. entry_of (inserted (met d past) place) a place) (sym is)
-    ∙ coin_by (accepts (met d past) place) d.addr place _
-
-coin_quiet_by : (took : Bool) (addr place : ℕ) (c : Coin) (past : List Entry) → IsQuiet past (cond took (entry.Accepted addr c) (entry.Inhibited addr place))
-coin_quiet_by true addr place c past = accepted_quiet past addr c
-coin_quiet_by false addr place c past = inhibited_quiet past addr place
-
-coin_quiet : (d : DeviceSetup) (place : ℕ) (past : List Entry) → IsQuiet past (coin_entry d past place)
-coin_quiet d place past = coin_quiet_by (accepts (met d past) place) d.addr place _ past
-
--- what a coin gives and leaves
-abbrev pub CoinGoes : Option DeviceSetup → List Desk → Option Job → Bus → List Entry → ℕ → List Entry → Type 0
-CoinGoes found desks scan bus past place report =
-    OfAcceptor found (λ d. reverse report ≡ coin_entry d past place ∷ [])
-    × wires.StandsFor bus (reverse report ++ past) × All (Sits (reverse report ++ past)) desks × Scans scan (model.job (scan_lines (reverse report ++ past)))
-
-coin_at : (devices : List DeviceSetup) (found : Option DeviceSetup) (kind : Bool) (d : DeviceSetup) (addr place : ℕ) (desks : List Desk) (scan : Option Job) (bus : Bus) (past report : List Entry) (result : Inserted)
-    → device_at devices addr ≡ Some d → is_acceptor d.body ≡ kind
-    → MatchBool kind ((result ≡ inserted (met d past) place) × wires.StandsFor bus (coin_entry d past place ∷ past)) ⊥
-    → report ≡ entry_of result addr place ∷ [] → All (Sits past) desks → Scans scan (model.job (scan_lines past))
-    → MatchBool kind (reverse report ≡ coin_entry d past place ∷ []) ⊥
-    × wires.StandsFor bus (reverse report ++ past) × All (Sits (reverse report ++ past)) desks × Scans scan (model.job (scan_lines (reverse report ++ past)))
-coin_at devices found true d addr place desks scan bus past report result is kind told said sit scans =
-    let e : entry_of result addr place ≡ coin_entry d past place = coin_is d addr place past result (address_there devices addr d is) told.0 in
-    let news : reverse report ≡ coin_entry d past place ∷ [] = ap reverse said ∙ ap (λ x. x ∷ []) e in
-    let quiet = coin_quiet d place past in (
-      news,
-      subst (λ ns. wires.StandsFor bus (ns ++ past)) (sym news) told.1,
-      subst (λ ns. All (Sits (ns ++ past)) desks) (sym news) (desks_quiet desks past (coin_entry d past place) quiet sit),
-      subst (λ ns. Scans scan (model.job (scan_lines (ns ++ past)))) (sym news) (scan_quiet scan past (coin_entry d past place) quiet scans),
-    )
-coin_at devices found false d addr place desks scan bus past report result is kind told said sit scans = absurd told
-
-pub coin_goes : (devices : List DeviceSetup) (found : Option DeviceSetup) (addr place : ℕ) (desks : List Desk) (scan : Option Job) (bus : Bus) (past report : List Entry) (result : Inserted)
-    → device_at devices addr ≡ found → OfAcceptor found (λ d. (result ≡ inserted (met d past) place) × wires.StandsFor bus (coin_entry d past place ∷ past))
-    → report ≡ entry_of result addr place ∷ [] → All (Sits past) desks → Scans scan (model.job (scan_lines past)) → CoinGoes found desks scan bus past place report
-coin_goes devices None addr place desks scan bus past report result is told said sit scans = absurd told
-coin_goes devices (Some d) addr place desks scan bus past report result is told said sit scans =
-    coin_at devices (Some d) (is_acceptor d.body) d addr place desks scan bus past report result is refl told said sit scans
+pub of_scan : (hears : List ℕ → List ℕ) (found : Option DeviceSetup) (P : DeviceSetup → Type 0) (past news : List Entry)
+    (addr : ℕ) → found ≡ None → addr ≡ BROADCAST
+    → ScanEntries hears (job (scan_lines past)) news → OfNext found P (BareNext hears past addr news)
+of_scan hears found P past news addr none is polls =
+    subst (λ f. OfNext f P (BareNext hears past addr news)) (sym none)
+    (subst (λ a. BareNext hears past a news) (sym is) polls)
 
 -- a report with one entry
 pub one_entry : (before after : List Entry) (e : Entry) → before ≡ [] → after ≡ before ++ e ∷ [] → after ≡ e ∷ []
 one_entry before after e none is = is ∙ ap (λ es. es ++ e ∷ []) none
 
--- a desk that keeps its device
-pub sits_as : (x y : Desk) (past : List Entry) → x.device ≡ y.device → Keeps (device_of y) x.job x.epoch past → Sits past x
-sits_as x y past same keeps = subst (λ d. Keeps d x.job x.epoch past) (sym (ap (λ s. s.now) same)) keeps
+-- a step of one entry that changes no job and no epoch
+pub one_goes : (host : Host) (bus : Bus) (past : List Entry) (e : Entry) (report : List Entry) → report ≡ e ∷ []
+    → IsQuiet past e → hosts.StandsFor host past → wires.StandsFor bus (e ∷ past)
+    → (reverse report ≡ e ∷ []) × Left host bus past report
+one_goes host bus past e report is quiet stands wired =
+    subst (λ r. (reverse r ≡ e ∷ []) × Left host bus past r) (sym is)
+    (refl, (host_quiet host past e quiet stands, wired))
+
+match_true : (test : Bool) (A : Type 0) → IsTrue test → A → MatchBool test A ⊥
+match_true true A holds a = a
+match_true false A holds a = absurd cc
+
+-- a fact of the device that is there
+pub of_acceptor : (found : Option DeviceSetup) (A : Type 0) → IsTrue (acceptor_there found) → A
+    → OfAcceptor found (λ d. A)
+of_acceptor None A there a = absurd cc
+of_acceptor (Some d) A there a = match_true (is_acceptor d.body) A there a
+
+pub of_device : (found : Option DeviceSetup) (A : Type 0) → IsTrue (is_some found) → A → OfDevice found (λ d. A)
+of_device None A there a = absurd cc
+of_device (Some d) A there a = a
+
+-- a command
+pub command_goes : (setup : Setup) (host : Host) (bus : Bus) (past : List Entry) (c : Command)
+    (refused : Option CommandNo) (report : List Entry) → IsTrue (is_played_command c) → refused ≡ refusal setup past c
+    → hosts.StandsFor host (command_entry c refused ∷ past) → wires.StandsFor bus past
+    → report ≡ command_entry c refused ∷ []
+    → MatchBool (is_played_command c) (reverse report ≡ command_entry c (refusal setup past c) ∷ []) ⊥
+    × Left host bus past report
+command_goes setup host bus past c refused report played answer stands wired is =
+    subst (λ r. MatchBool (is_played_command c) (reverse r ≡ command_entry c (refusal setup past c) ∷ []) ⊥
+    × Left host bus past r) (sym is) (
+      match_true (is_played_command c) _ played (ap (λ n. command_entry c n ∷ []) answer),
+      (stands, command_wire bus past c refused wired),
+    )
+
+-- a coin
+
+coin_by : (took : Bool) (addr place : ℕ) (c : Coin)
+    → entry_of (cond took (taken.Accepted c) taken.Inhibited) addr place ≡ cond took (entry.Accepted addr c)
+    (entry.Inhibited addr place)
+coin_by true addr place c = refl
+coin_by false addr place c = refl
+
+coin_is : (d : DeviceSetup) (addr place : ℕ) (past : List Entry) (result : Inserted) → d.addr ≡ addr
+    → result ≡ inserted (met d past) place → entry_of result addr place ≡ coin_entry d past place
+coin_is d addr place past result is told =
+    ap (λ r. entry_of r addr place) told
+    ∙ ap (λ a. entry_of (inserted (met d past) place) a place) (sym is)
+    ∙ coin_by (accepts (met d past) place) d.addr place _
+
+coin_quiet : (took : Bool) (addr place : ℕ) (c : Coin) (past : List Entry)
+    → IsQuiet past (cond took (entry.Accepted addr c) (entry.Inhibited addr place))
+coin_quiet true addr place c past = accepted_quiet past addr c
+coin_quiet false addr place c past = inhibited_quiet past addr place
+
+-- what a coin gives and leaves
+abbrev pub CoinGoes : Option DeviceSetup → Host → Bus → List Entry → ℕ → List Entry → Type 0
+CoinGoes found host bus past place report =
+    OfAcceptor found (λ d. reverse report ≡ coin_entry d past place ∷ []) × Left host bus past report
+
+coin_at : (kind : Bool) (d : DeviceSetup) (addr place : ℕ) (host : Host) (bus : Bus) (past report : List Entry)
+    (result : Inserted) → d.addr ≡ addr
+    → MatchBool kind ((result ≡ inserted (met d past) place) × wires.StandsFor bus (coin_entry d past place ∷ past)) ⊥
+    → report ≡ entry_of result addr place ∷ [] → hosts.StandsFor host past
+    → MatchBool kind (reverse report ≡ coin_entry d past place ∷ []) ⊥ × Left host bus past report
+coin_at true d addr place host bus past report result here told said stands =
+    one_goes host bus past (coin_entry d past place) report
+    (said ∙ ap (λ x. x ∷ []) (coin_is d addr place past result here told.0))
+    (coin_quiet (accepts (met d past) place) d.addr place _ past) stands told.1
+coin_at false d addr place host bus past report result here told said stands = absurd told
+
+pub coin_goes : (found : Option DeviceSetup) (addr place : ℕ) (host : Host) (bus : Bus) (past report : List Entry)
+    (result : Inserted) → ((d : DeviceSetup) → found ≡ Some d → d.addr ≡ addr)
+    → OfAcceptor found
+    (λ d. (result ≡ inserted (met d past) place) × wires.StandsFor bus (coin_entry d past place ∷ past))
+    → report ≡ entry_of result addr place ∷ [] → hosts.StandsFor host past
+    → CoinGoes found host bus past place report
+coin_goes None addr place host bus past report result there told said stands = absurd told
+coin_goes (Some d) addr place host bus past report result there told said stands =
+    coin_at (is_acceptor d.body) d addr place host bus past report result (there d refl) told said stands

@@ -1,7 +1,7 @@
 -- The entry of a coin.
 use Rattle.std.specs.Prelude.{ℕ}
-use Rattle.cct_model.specs.declared.entry.Entry.{Entry}
-use Rattle.cct_model.specs.declared.entry.Entry.TheVariants as entry
+use Rattle.cct_model.specs.lines.entry.Entry.{Entry}
+use Rattle.cct_model.specs.lines.entry.Entry.TheVariants as entry
 use Rattle.cct_acceptor.specs.declared.acceptor.Inserted.{Inserted}
 use Rattle.cct_acceptor.specs.declared.acceptor.Inserted.TheVariants as inserted
 

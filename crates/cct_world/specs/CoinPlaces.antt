@@ -1,7 +1,9 @@
 -- The coin places of a mask without a value.
-use Rattle.std.specs.Prelude.{ℕ, ◌-◌, ◌==◌, ◌&&◌, Bool, List, slice_index_or}
+use Rattle.std.specs.Prelude.{ℕ, ◌==◌, ◌&&◌, Bool}
+use Rattle.cct_model.specs.terms.device.DeviceBody.{DeviceBody}
 use Rattle.cct_model.specs.Setting.{has_place}
+use Rattle.cct_model.specs.Device.{value_at}
 
--- A mask has a coin place, which has no value; the values begin with that of place 1.
-abbrev pub lacks : List ℕ → ℕ → ℕ → Bool
-lacks values mask place = has_place mask place && (slice_index_or values (place - 1) 0 == 0)
+-- A mask has a coin place, which has no value at a device.
+abbrev pub lacks : DeviceBody → ℕ → ℕ → Bool
+lacks body mask place = has_place mask place && (value_at body place == 0)

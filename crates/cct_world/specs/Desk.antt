@@ -1,57 +1,78 @@
--- The host's desk for one device: its job and its epoch, beside what happened.
-use Rattle.std.specs.Prelude.{◌≡◌, ◌≢◌, ◌==◌, ℕ, List, [], ◌∷◌, ◌++◌, map, if◌then◌else◌, Option, Some, None, ⊤}
-use Rattle.cct_model.specs.declared.device.DeviceSetup.{DeviceSetup}
-use Rattle.cct_model.specs.declared.device.Setup.{Setup}
-use Rattle.cct_model.specs.declared.record.EpochState.{EpochState}
-use Rattle.cct_model.specs.declared.record.EpochState.TheVariants.{Idle}
-use Rattle.cct_model.specs.declared.entry.Entry.{Entry}
+-- The host's desk for one place: its job and its epoch, beside what happened.
+use Rattle.std.specs.Prelude.{◌≡◌, ℕ, List, [], ◌∷◌, ◌++◌, Option, Some, None, Result, Ok, Err, ⊤, reverse}
+use Rattle.cct_model.specs.terms.device.DeviceSetup.{DeviceSetup}
+use Rattle.cct_model.specs.terms.device.Setup.{Setup}
+use Rattle.cct_model.specs.lines.command.Command.{Command}
+use Rattle.cct_model.specs.lines.command.CommandNo.{CommandNo}
+use Rattle.cct_model.specs.lines.entry.Entry.{Entry}
+use Rattle.cct_model.specs.declared.judging.EpochState.{EpochState}
+use Rattle.cct_model.specs.declared.judging.EpochState.TheVariants.{Idle}
+use Rattle.cct_model.specs.Line.{Line}
 use Rattle.cct_model.specs.Job as model
-use Rattle.cct_model.specs.Legal.{NextEntries}
-use Rattle.cct_model.specs.Transcript.{lines_of, scan_lines}
-use Rattle.cct_bus.specs.declared.bus.Bus.{Bus}
-use Rattle.cct_bus.specs.Bus as wires
+use Rattle.cct_model.specs.Legal.{command_entry, refusal}
 use Rattle.cct_jobs.specs.declared.job.Job.{Job}
-use Rattle.cct_jobs.specs.Jobs.{Stands}
-use Rattle.cct_world.specs.declared.desk.Desk.{Desk}
+use Rattle.cct_world.specs.declared.desk.JobDesk.{JobDesk}
+use Rattle.cct_world.specs.Attempt.{Attempt, HeardBy, Links, news_of}
+use Rattle.cct_world.specs.Place.{AreAt, NextAt, Place, StandsAt, addr_of, device, lines_at, scans}
 
--- The setup of a desk's device.
-abbrev pub device_of : Desk → DeviceSetup
-device_of desk = desk.device.now
+-- What the host has at a place is the job that its lines tell, beside the epoch.
+abbrev pub Works : Place → Option Job → model.Job → EpochState → Type 0
+Works place None model.free state = ⊤
+Works place (Some job) (model.works c since) state = StandsAt place job c since state
+Works place None (model.works c since) state = ⊥
+Works place (Some job) model.free state = ⊥
 
--- The setups of the devices of desks, in their order.
-abbrev pub devices_of : List Desk → List DeviceSetup
-devices_of desks = map device_of desks
+-- What is recorded at a place is the epoch that its lines tell; of scans nothing is.
+abbrev pub Knows : Place → EpochState → List Line → Type 0
+Knows (device d) state lines = state ≡ model.epoch lines
+Knows scans state lines = ⊤
 
--- The epoch that the desk of the device at an address has, and none where no device is there.
-abbrev pub epoch_at : List Desk → ℕ → EpochState
-epoch_at [] addr = Idle
-epoch_at (desk ∷ desks) addr = if (device_of desk).addr == addr then desk.epoch else epoch_at desks addr
+-- A job and an epoch are those of a place, by its lines.
+pub record Keeps (place : Place) (job : Option Job) (state : EpochState) (lines : List Line) : Type 0 where
+  pub works : Works place job (model.job lines) (model.epoch lines)
+  pub knows : Knows place state lines
 
--- What the host has at a device is the job that its lines tell, beside the epoch.
-abbrev pub Works : DeviceSetup → Option Job → model.Job → EpochState → Type 0
-Works d None model.free state = ⊤
-Works d (Some job) (model.works c since) state = Stands d job c since state
-Works d None (model.works c since) state = ⊥
-Works d (Some job) model.free state = ⊥
+-- A desk has the job and the epoch of its place after all that happened, newest entry first.
+abbrev pub Sits : List Entry → Place → JobDesk → Type 0
+Sits past place desk = Keeps place desk.job desk.epoch (lines_at place past)
 
--- A job and an epoch are those of a device after all that happened, newest entry first.
-pub record Keeps (d : DeviceSetup) (job : Option Job) (state : EpochState) (past : List Entry) : Type 0 where
-  pub works : Works d job (model.job (lines_of d past)) (model.epoch (lines_of d past))
-  pub epoch_is : state ≡ model.epoch (lines_of d past)
+-- Each desk is that of the device at its index.
+abbrev pub AllSit : List Entry → List DeviceSetup → List JobDesk → Type 0
+AllSit past [] [] = ⊤
+AllSit past (d ∷ ds) (desk ∷ desks) = Sits past (device d) desk × AllSit past ds desks
+AllSit past [] (desk ∷ desks) = ⊥
+AllSit past (d ∷ ds) [] = ⊥
 
--- A desk has the job and the epoch of its device after all that happened, newest entry first.
-abbrev pub Sits : List Entry → Desk → Type 0
-Sits past desk = Keeps (device_of desk) desk.job desk.epoch past
+-- A desk at which nothing happened.
+abbrev pub IsFree : JobDesk → Type 0
+IsFree desk = (desk.job ≡ None) × (desk.epoch ≡ Idle)
 
--- Entries are of one address: they are lines of no device at another one, nor of a scan at another one.
-pub record AreAt (addr : ℕ) (past news : List Entry) : Type 0 where
-  pub devices : (d : DeviceSetup) → d.addr ≢ addr → lines_of d (news ++ past) ≡ lines_of d past
-  pub scans : addr ≢ 0 → scan_lines (news ++ past) ≡ scan_lines past
+-- Why a command was refused, if it was.
+abbrev pub no_of : Result Unit CommandNo → Option CommandNo
+no_of (Ok taken) = None
+no_of (Err why) = Some why
 
--- These entries, newest first, are those of a `next` at a device; they are of its address alone, and its desk and the bus
--- go on by them.
-pub record Attempts (setup : Setup) (d : DeviceSetup) (job : Option Job) (state : EpochState) (bus : Bus) (past news : List Entry) : Type 0 where
-  pub entries : NextEntries setup d past (model.job (lines_of d past)) news
-  pub at : AreAt d.addr past news
-  pub keeps : Keeps d job state (news ++ past)
-  pub wire : wires.StandsFor bus (news ++ past)
+-- A command at a place is taken or refused as it has to be, and the desk there goes on by its entry.
+abbrev pub Commands : Setup → Place → JobDesk → JobDesk → Command → Result Unit CommandNo → Type 0
+Commands setup place old new c result =
+    (past : List Entry) → Sits past place old → (no_of result ≡ refusal setup past c) × Sits
+    (command_entry c (no_of result) ∷ past) place new
+
+-- Entries of an attempt, newest first, are those of a `next` at a place and of its address alone, and its job and its
+-- epoch go on by them.
+pub record Goes (hears : List ℕ → List ℕ) (place : Place) (past news : List Entry) (job : Option Job)
+    (state : EpochState) : Type 0 where
+  pub entries : NextAt hears place past (model.job (lines_at place past)) news
+  pub at : AreAt (addr_of place) past news
+  pub keeps : Keeps place job state (lines_at place (news ++ past))
+
+-- A job and an epoch make one attempt over a link, and leave this desk. What it adds to the report are the entries of a
+-- `next` at its place, where what it heard is what follows the piece that it sent.
+pub record Attempts {L : Type 0} (gives : L → List ℕ → List ℕ → L → Type 0) (old new : L) (addr : ℕ) (job : Option Job)
+    (state : EpochState) (desk : JobDesk) (report reported : List Entry) : Type 0 where
+  pub what : Attempt
+  pub reported_is : reported ≡ report ++ reverse (news_of addr what)
+  pub link : Links gives old new what
+  pub goes : (hears : List ℕ → List ℕ) (place : Place) (past : List Entry) → HeardBy hears what → addr_of place ≡ addr
+      → Keeps place job state (lines_at place past)
+      → Goes hears place past (news_of addr what) desk.job desk.epoch

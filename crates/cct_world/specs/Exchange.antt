@@ -1,27 +1,41 @@
--- One exchange that a job makes on a bus.
-use Rattle.std.specs.Prelude.{◌≡◌, ℕ, List, ◌∷◌, Some}
-use Rattle.cct_model.specs.declared.wire.CheckKind.{CheckKind}
-use Rattle.cct_model.specs.declared.device.DeviceSetup.{DeviceSetup}
-use Rattle.cct_model.specs.declared.request.Request.{Request}
-use Rattle.cct_model.specs.declared.record.EpochState.{EpochState}
-use Rattle.cct_model.specs.declared.command.Command.{Command}
-use Rattle.cct_model.specs.Exchange.{ask}
+-- One exchange that a job makes over a link.
+use Rattle.std.specs.Prelude.{◌≡◌, ℕ, List, [], ◌∷◌, ◌++◌, Option}
+use Rattle.cct_model.specs.lines.command.Command.{Command}
+use Rattle.cct_model.specs.lines.entry.End.{End}
+use Rattle.cct_model.specs.lines.entry.Entry.{Entry}
+use Rattle.cct_model.specs.lines.entry.Entry.TheVariants as entry
+use Rattle.cct_model.specs.declared.judging.EpochState.{EpochState}
 use Rattle.cct_model.specs.Line.{Line}
-use Rattle.cct_model.specs.Job.{row, sends}
-use Rattle.cct_model.specs.Scan.{poll_of, scan_row}
-use Rattle.cct_model.specs.Transcript.{scan_line}
 use Rattle.cct_jobs.specs.declared.job.Job.{Job}
-use Rattle.cct_jobs.specs.Jobs.{Stands, line_heard}
-use Rattle.cct_jobs.specs.Scans.{StandsScan}
+use Rattle.cct_world.specs.Place.{Asks, AsksNext, Place, StandsAt, end_at, line_at}
 
--- A job at a device sends the request of its row, and goes on by the line of what it heard.
-abbrev pub HearsAtDevice : Job → List ℕ → List ℕ → Job → Type 0
-HearsAtDevice old sent heard new =
-    (d : DeviceSetup) (c : Command) (since : List Line) (state : EpochState) (q : Request) → Stands d old c since state → row d c since state ≡ sends q
-    → (sent ≡ ask d.kind d.addr q) × Stands d new c (line_heard d sent heard ∷ since) state
+-- Wherever a job is, and its row sends something next, it sends that, and goes on by the line of what it heard.
+abbrev pub Talks : Job → List ℕ → List ℕ → Job → Type 0
+Talks old sent heard new =
+    (place : Place) (c : Command) (since : List Line) (state : EpochState) → StandsAt place old c since state
+    → AsksNext place c since state
+    → Asks place c since state sent × StandsAt place new c (line_at place sent heard ∷ since) state
 
--- A scan sends its next poll, and goes on by the line of what it heard.
-abbrev pub HearsAtScan : Job → List ℕ → List ℕ → Job → Type 0
-HearsAtScan old sent heard new =
-    (since : List Line) (check : CheckKind) (addr : ℕ) → StandsScan old since → scan_row since ≡ Some (check, addr)
-    → (sent ≡ ask check addr (poll_of addr)) × StandsScan new (scan_line sent heard ∷ since)
+-- Wherever a job is, this is the end that its newest line brought it, if it brought one.
+abbrev pub Ends : Job → Option End → Type 0
+Ends job end =
+    (place : Place) (c : Command) (line : Line) (since : List Line) (state : EpochState)
+    → StandsAt place job c (line ∷ since) state → end ≡ end_at place c line since state
+
+-- A job made an exchange at an address over a link, and this is its entry.
+pub record Fills {L : Type 0} (gives : L → List ℕ → List ℕ → L → Type 0) (before after : L) (addr : ℕ) (old new : Job)
+    (said : Entry) : Type 0 where
+  pub sent : List ℕ
+  pub heard : List ℕ
+  pub said_is : said ≡ entry.Wire addr sent heard
+  pub goes : gives before sent heard after
+  pub talks : Talks old sent heard new
+
+-- A job made an exchange at an address over a link, and added its entry to a report.
+pub record Converses {L : Type 0} (gives : L → List ℕ → List ℕ → L → Type 0) (before after : L) (addr : ℕ)
+    (old new : Job) (report reported : List Entry) : Type 0 where
+  pub sent : List ℕ
+  pub heard : List ℕ
+  pub reported_is : reported ≡ report ++ entry.Wire addr sent heard ∷ []
+  pub goes : gives before sent heard after
+  pub talks : Talks old sent heard new

@@ -1,7 +1,10 @@
 pub mod Coin
 pub mod CoinPlaces
-pub mod Desk
+pub mod Place
+pub mod Attempt
 pub mod Exchange
-pub mod Report
 pub mod Running
+pub mod Desk
+pub mod Host
+pub mod Machine
 pub mod World

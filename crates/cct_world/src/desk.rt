@@ -1,94 +1,134 @@
-//! The host's desk for one device.
-ghost use Rattle.std.specs.Prelude.{◌≡◌, ◌≢◌, ◌≤◌, ℕ, IsNone, IsSome, List, [], true, ◌∷◌, ◌++◌, length, reverse, Some, None, IsTrue};
-ghost use Rattle.std.specs.Option.{option_map};
-ghost use Rattle.cct_model.specs.declared.entry.Entry.{Entry};
-ghost use Rattle.cct_model.specs.declared.entry.Entry.TheVariants as entry;
-ghost use Rattle.cct_model.specs.declared.command.CommandNo.{CommandNo};
+//! The host's desk for one place: a device, or the address of all devices, where scans are.
+ghost use Rattle.std.specs.Prelude.{◌≡◌, ◌≢◌, ◌<◌, ◌≤◌, ℕ, List, [], ◌∷◌, ◌++◌, length, Option, Some, None, true, IsTrue, OnErr};
+ghost use Rattle.arrayvec.specs.ArrayVec.{array_vec_len};
+ghost use Rattle.cct_model.specs.lines.entry.Entry.{Entry};
 ghost use Rattle.cct_model.specs.Exchange.{device_at};
 ghost use Rattle.cct_model.specs.Job.{address_of, counted, epoch_by};
-ghost use Rattle.cct_model.specs.Legal.{is_acceptor, running_refusal, start_refusal};
-ghost use Rattle.cct_model.specs.Legal as legal;
-ghost use Rattle.cct_bus.specs.Bus as wires;
-ghost use Rattle.cct_bus.specs.declared.bus.Bus.{Bus};
-ghost use Rattle.cct_jobs.specs.Jobs.{IsPut, MayBegin, Stands, need_of, sending_of};
-ghost use Rattle.cct_jobs.specs.declared.job.Need.TheVariants as need;
-ghost use Rattle.cct_world.specs.Report.{entries_of};
-ghost use Rattle.cct_world.specs.Running.{is_running, busy_by};
+ghost use Rattle.cct_model.specs.Legal.{is_played_command, running_refusal, start_refusal};
+ghost use Rattle.cct_jobs.specs.Jobs.{MayBegin};
+ghost use Rattle.cct_world.specs.Place as places;
+ghost use Rattle.cct_world.specs.Running.{acceptor_refusal, busy_by, is_running, refusal_beside};
 
 use crate::exchange::{converse, settled};
-use crate::report::{OnWire, Report};
 use crate::values::valueless;
-use cct_bus::Bus;
+use arrayvec::ArrayVec;
 use cct_jobs::{Job, Need};
-use cct_model::{Command, CommandNo, DeviceBody, DeviceSetup, EpochState, Note, Record, Setup};
+use cct_model::{Command, CommandNo, DeviceSetup, Entry, EpochState, Record, Setup};
+use cct_wire::Link;
 
-/// The job at the address of a device, and the epoch that is recorded of an acceptor.
+/// The job at a place, and the epoch that is recorded of an acceptor there.
 #[derive(Drop)]
-pub(crate) struct Desk<'s> {
-    pub(crate) device: &'s DeviceSetup,
+pub(crate) struct JobDesk {
     job: Option<Job>,
     epoch: EpochState,
-    ghost running: { is_running job ≡ true },
+    ghost runs: { is_running job ≡ true },
 }
 
-impl<'s> Desk<'s> {
-    ghost use Rattle.cct_world.specs.Desk.{Attempts, Keeps, Sits, device_of};
+impl Default for JobDesk {
+    ghost use Rattle.cct_world.specs.Desk.{IsFree};
 
-    /// A desk with no job, at which no epoch runs.
-    pub(crate) fn new(device: &'s DeviceSetup) -> Self
-        ensures device { device_of result ≡ device.now }
-        ensures fresh { Sits [] result }
-    {
-        Desk {
-            device,
+    ghost is_default = { IsFree };
+
+    fn default() -> Self {
+        JobDesk {
             job: None,
             epoch: EpochState::Idle,
         }
     }
+}
 
-    /// Why a command is refused because of the job: there is one.
-    pub(crate) fn busy(&self) -> Option<CommandNo>
-        ensures { result ≡ busy_by self.now.job }
+impl JobDesk {
+    ghost use Rattle.cct_world.specs.Desk.{Attempts, Commands, Keeps, Sits};
+
+    /// A command to the device of this desk is taken, or refused for the first reason that holds; a refused one changes
+    /// nothing.
+    pub(crate) fn command(
+        &mut self,
+        command: &Command,
+        device: &DeviceSetup,
+        setup: &Setup,
+    ) -> Result<(), CommandNo>
+        requires there { device_at setup.now.devices (address_of command.now) ≡ Some device.now }
+        requires played { IsTrue (is_played_command command.now) }
+        requires no_scan { command.now ≢ Command.Scan }
+        ensures stays { OnErr result (self.new ≡ self.old) }
+        ensures commands { Commands setup.now (places.device device.now) self.old self.new command.now result }
     {
-        busy_by(&self.job)
+        match self.refusal(command, device) {
+            Some(why) => Err(why),
+            None => {
+                self.job = Some(Job::begin(command, setup, &self.epoch));
+                Ok(())
+            }
+        }
     }
 
-    /// Whether its device is a coin acceptor.
-    pub(crate) fn is_acceptor(&self) -> bool
-        ensures { result ≡ is_acceptor (device_of self.now).body }
+    /// A scan is taken, or refused since one runs; a refused one changes nothing.
+    pub(crate) fn scan(&mut self, command: &Command, setup: &Setup) -> Result<(), CommandNo>
+        requires { command.now ≡ Command.Scan }
+        ensures stays { OnErr result (self.new ≡ self.old) }
+        ensures commands { Commands setup.now places.scans self.old self.new command.now result }
     {
-        matches!(self.device.body, DeviceBody::Acceptor { .. })
+        match self.busy() {
+            Some(why) => Err(why),
+            None => {
+                self.job = Some(Job::begin(command, setup, &self.epoch));
+                Ok(())
+            }
+        }
     }
 
-    /// Why a start with a mask is refused at an acceptor that no job is at: an epoch runs, or a place of the mask has no
-    /// value.
-    pub(crate) fn start_refusal(&self, mask: u16) -> Option<CommandNo>
-        requires acceptor { IsTrue (is_acceptor (device_of self.now).body) }
-        ensures { result ≡ start_refusal mask (device_of self.now) self.now.epoch }
+    /// Why a command to a device is refused, if it is.
+    fn refusal(&self, command: &Command, device: &DeviceSetup) -> Option<CommandNo>
+        ensures { result ≡ refusal_beside device.now self.now.job self.now.epoch command.now }
+    {
+        match *command {
+            Command::Start { mask, .. } => self.acceptor_refusal(
+                device,
+                self.start_refusal(device, mask),
+            ),
+            Command::Round { .. } => self.acceptor_refusal(device, self.running_refusal(device)),
+            Command::Stop { .. } => self.acceptor_refusal(device, self.running_refusal(device)),
+            Command::Path { .. } => self.acceptor_refusal(device, None),
+            Command::Ident { .. } => self.busy(),
+            _ => None,
+        }
+    }
+
+    /// Why a command to a coin acceptor is refused, if it is: a further reason is the last.
+    fn acceptor_refusal(
+        &self,
+        device: &DeviceSetup,
+        further: Option<CommandNo>,
+    ) -> Option<CommandNo>
+        ensures { result ≡ acceptor_refusal device.now self.now.job further }
+    {
+        if device.body.is_acceptor() {
+            match self.busy() {
+                Some(why) => Some(why),
+                None => further,
+            }
+        } else {
+            Some(CommandNo::WrongKind)
+        }
+    }
+
+    /// Why a start with a mask is refused beside the epoch: one runs, or a place of the mask has no value.
+    fn start_refusal(&self, device: &DeviceSetup, mask: u16) -> Option<CommandNo>
+        ensures { result ≡ start_refusal mask device.now self.now.epoch }
     {
         match self.epoch {
-            EpochState::Idle => self.value_refusal(mask),
+            EpochState::Idle => match valueless(&device.body, mask) {
+                None => None,
+                Some(place) => Some(CommandNo::NoValue { place }),
+            },
             EpochState::Running { .. } => Some(CommandNo::EpochRuns),
         }
     }
 
-    /// Why a start with a mask is refused because of its values: a place of the mask has none.
-    fn value_refusal(&self, mask: u16) -> Option<CommandNo>
-        requires acceptor { IsTrue (is_acceptor (device_of self.now).body) }
-        ensures { result ≡ option_map CommandNo.NoValue (legal.valueless (device_of self.now).body mask) }
-    {
-        match self.device.body {
-            DeviceBody::Acceptor { values, .. } => match valueless(values, mask) {
-                None => None,
-                Some(place) => Some(CommandNo::NoValue { place }),
-            },
-            DeviceBody::Hopper { .. } => unreachable!(),
-        }
-    }
-
-    /// Why a round or a stop is refused at an acceptor that no job is at: no epoch runs.
-    pub(crate) fn running_refusal(&self) -> Option<CommandNo>
-        ensures { result ≡ running_refusal (device_of self.now) self.now.epoch }
+    /// Why a round or a stop is refused beside the epoch: none runs.
+    fn running_refusal(&self, device: &DeviceSetup) -> Option<CommandNo>
+        ensures { result ≡ running_refusal device.now self.now.epoch }
     {
         match self.epoch {
             EpochState::Idle => Some(CommandNo::NoEpoch),
@@ -96,82 +136,58 @@ impl<'s> Desk<'s> {
         }
     }
 
-    /// Begins the job of a command.
-    pub(crate) fn begin(&mut self, command: &Command, setup: &Setup)
-        requires may_begin { MayBegin command.now setup.now.devices self.old.epoch }
-        requires there { device_at setup.now.devices (address_of command.now) ≡ Some (device_of self.old) }
-        requires no_scan { command.now ≢ Command.Scan }
-        ensures device { self.new.device ≡ self.old.device }
-        ensures begins { (past : List Entry) → Sits past self.old → Sits (entry.Taken command.now ∷ past) self.new }
+    /// Why a command is refused because of the job: there is one.
+    fn busy(&self) -> Option<CommandNo>
+        ensures { result ≡ busy_by self.now.job }
     {
-        self.job = Some(Job::begin(command, setup, &self.epoch));
+        match self.job {
+            None => None,
+            Some(_) => Some(CommandNo::Busy),
+        }
     }
 
-    /// The job makes one attempt of one row; with no job the address is idle.
-    pub(crate) fn next(&mut self, bus: &mut Bus<'_>, report: &mut Report)
-        requires report { entries_of report.old ≡ [] }
-        ensures device { self.new.device ≡ self.old.device }
-        ensures setup { wires.setup_of bus.new ≡ wires.setup_of bus.old }
-        ensures attempts { (past : List Entry) → Sits past self.old → wires.StandsFor bus.old past
-            → Attempts (wires.setup_of bus.old) (device_of self.old) self.new.job self.new.epoch bus.new past (reverse (entries_of report.new)) }
+    /// The job makes one attempt of one row over a link; with no job the address is idle.
+    pub(crate) fn next<L: Link>(&mut self, addr: u8, link: &mut L, report: &mut ArrayVec<Entry, 8>)
+        requires room { array_vec_len report.old ≤ 6 }
+        ensures { Attempts L.gives link.old link.new addr self.old.job self.old.epoch self.new
+            report.old.items report.new.items }
     {
         match self.job.take() {
-            None => report.push(Note::Idle {
-                addr: self.device.addr,
-            }),
-            Some(job) => self.attempt(job, bus, report),
+            None => report.push(Entry::Idle { addr }),
+            Some(job) => self.attempt(job, addr, link, report),
         }
     }
 
     /// A job that isn't done makes one attempt of its row.
-    fn attempt(&mut self, job: Job, bus: &mut Bus<'_>, report: &mut Report)
+    fn attempt<L: Link>(
+        &mut self,
+        job: Job,
+        addr: u8,
+        link: &mut L,
+        report: &mut ArrayVec<Entry, 8>,
+    )
         requires running { is_running (Some job) ≡ true }
-        requires report { entries_of report.old ≡ [] }
-        ensures device { self.new.device ≡ self.old.device }
-        ensures setup { wires.setup_of bus.new ≡ wires.setup_of bus.old }
-        ensures attempts { (past : List Entry) → Keeps (device_of self.old) (Some job) self.old.epoch past → wires.StandsFor bus.old past
-            → Attempts (wires.setup_of bus.old) (device_of self.old) self.new.job self.new.epoch bus.new past (reverse (entries_of report.new)) }
+        requires room { array_vec_len report.old ≤ 6 }
+        ensures { Attempts L.gives link.old link.new addr (Some job) self.old.epoch self.new
+            report.old.items report.new.items }
     {
         match job.needs() {
-            Need::Exchange => self.ask(job, bus, report),
-            Need::Put(entry) => self.put(job, entry, report),
+            Need::Exchange => {
+                let job = converse(job, addr, link, report);
+                self.job = settled(job, addr, report);
+            }
+            Need::Put(entry) => {
+                self.epoch = epoch_by(&entry, self.epoch);
+                report.push(Entry::Put(entry));
+                self.job = settled(job.was_put(), addr, report);
+            }
             Need::Done(_) => unreachable!(),
         }
     }
-
-    /// A job sends its request, and judges what it hears.
-    fn ask(&mut self, job: Job, bus: &mut Bus<'_>, report: &mut Report)
-        requires asks { need_of job ≡ need.Exchange }
-        requires sends { IsSome (sending_of job) }
-        requires report { entries_of report.old ≡ [] }
-        ensures device { self.new.device ≡ self.old.device }
-        ensures setup { wires.setup_of bus.new ≡ wires.setup_of bus.old }
-        ensures attempts { (past : List Entry) → Keeps (device_of self.old) (Some job) self.old.epoch past → wires.StandsFor bus.old past
-            → Attempts (wires.setup_of bus.old) (device_of self.old) self.new.job self.new.epoch bus.new past (reverse (entries_of report.new)) }
-    {
-        let job = converse(bus, job, report);
-        report.wire = OnWire::Exchange {
-            addr: self.device.addr,
-        };
-        self.job = settled(job, self.device.addr, report);
-    }
-
-    /// A job puts its record.
-    fn put(&mut self, job: Job, entry: Record, report: &mut Report)
-        requires puts { need_of job ≡ need.Put entry }
-        requires is_put { IsPut job }
-        requires report { entries_of report.old ≡ [] }
-        ensures device { self.new.device ≡ self.old.device }
-        ensures attempts { (bus : Bus) (past : List Entry) → Keeps (device_of self.old) (Some job) self.old.epoch past → wires.StandsFor bus past
-            → Attempts (wires.setup_of bus) (device_of self.old) self.new.job self.new.epoch bus past (reverse (entries_of report.new)) }
-    {
-        self.epoch = epoch_by(&entry, self.epoch);
-        report.push(Note::Put(entry));
-        self.job = settled(job.was_put(), self.device.addr, report);
-    }
 }
 
-/// The epoch after a record: it begins with event counter 0, a reading moves its counter, and a break or its end ends it.
+/// The epoch after a record: it begins with event counter 0, a reading moves its counter, and a break or its end ends
+/// it.
 fn epoch_by(entry: &Record, before: EpochState) -> EpochState
     ensures { result ≡ epoch_by entry.now before }
 {
@@ -194,15 +210,5 @@ fn counted(counter: u8, before: EpochState) -> EpochState
     match before {
         EpochState::Idle => EpochState::Idle,
         EpochState::Running { mask, .. } => EpochState::Running { mask, counter },
-    }
-}
-
-/// Why a command is refused because of a job: there is one.
-pub(crate) fn busy_by(job: &Option<Job>) -> Option<CommandNo>
-    ensures { result ≡ busy_by job.now }
-{
-    match job {
-        None => None,
-        Some(_) => Some(CommandNo::Busy),
     }
 }

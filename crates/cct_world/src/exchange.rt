@@ -1,64 +1,84 @@
-//! One exchange of a job on the bus, and what becomes of the job.
-ghost use Rattle.std.specs.Prelude.{◌≡◌, ◌≤◌, ℕ, IsSome, List, [], true, ◌∷◌, length};
-ghost use Rattle.cct_model.specs.declared.entry.Entry.{Entry};
-ghost use Rattle.cct_bus.specs.Bus.{Exchanges};
-ghost use Rattle.cct_jobs.specs.Jobs.{need_of, sending_of};
-ghost use Rattle.cct_world.specs.Exchange.{HearsAtDevice, HearsAtScan};
-ghost use Rattle.cct_world.specs.Report.{entries_of};
-ghost use Rattle.cct_world.specs.Running.{is_polling, is_running, Settles, SettlesScan};
+//! One exchange of a job over a link, and what becomes of the job.
+ghost use Rattle.std.specs.Prelude.{◌≡◌, ◌<◌, ◌≤◌, ℕ, List, [], true, ◌∷◌, length};
+ghost use Rattle.arrayvec.specs.ArrayVec.{array_vec_len};
+ghost use Rattle.cct_model.specs.lines.command.Command.{Command};
+ghost use Rattle.cct_model.specs.lines.entry.Entry.TheVariants as entry;
+ghost use Rattle.cct_model.specs.declared.judging.EpochState.{EpochState};
+ghost use Rattle.cct_model.specs.Line.{Line};
+ghost use Rattle.cct_jobs.specs.Jobs.{end_of_job, need_of};
+ghost use Rattle.cct_jobs.specs.declared.job.Need.TheVariants as need;
+ghost use Rattle.cct_world.specs.Exchange.{Converses, Ends, Fills, Talks};
+ghost use Rattle.cct_world.specs.Running.{Settles, is_running};
 
-use crate::report::Report;
-use cct_bus::Bus;
-use cct_jobs::{Job, Need};
-use cct_model::Note;
+use arrayvec::ArrayVec;
+use cct_jobs::Job;
+use cct_model::{Entry, Piece, Sent};
 use cct_msg::encode_request;
 use cct_wire::Link;
 
-/// The address of a scan.
-pub(crate) const SCAN: u8 = 0;
-
-/// A job sends its request on the bus, and hears what follows. Both pieces are those of the report, in the place of what
-/// they held.
-pub(crate) fn converse(bus: &mut Bus<'_>, job: Job, report: &mut Report) -> Job
-    requires { IsSome (sending_of job) }
-    ensures bus { Exchanges bus.old report.new.sent.items report.new.heard.items bus.new }
-    ensures device { HearsAtDevice job report.new.sent.items report.new.heard.items result }
-    ensures scan { HearsAtScan job report.new.sent.items report.new.heard.items result }
-    ensures notes { report.new.notes ≡ report.old.notes }
+/// A job sends its request over a link, and hears what follows. The exchange is a further entry.
+pub(crate) fn converse<L: Link>(
+    job: Job,
+    addr: u8,
+    link: &mut L,
+    report: &mut ArrayVec<Entry, 8>,
+) -> Job
+    requires asks { need_of job ≡ need.Exchange }
+    requires room { array_vec_len report.old < 8 }
+    ensures { Converses L.gives link.old link.new addr job result report.old.items report.new.items }
 {
-    let (sending, job) = job.sending();
-    encode_request(sending.kind, sending.to, &sending.request, &mut report.sent);
-    bus.exchange(report.sent.as_slice(), &mut report.heard);
-    job.heard(report.sent.as_slice(), report.heard.as_slice())
-}
-
-/// What stays of a job at an address of a device: nothing, where it is done, and then the report has its end.
-pub(crate) fn settled(job: Job, addr: u8, report: &mut Report) -> Option<Job>
-    requires { length (entries_of report.old) ≤ 1 }
-    ensures running { is_running result ≡ true }
-    ensures settled { Settles (need_of job) job addr result (entries_of report.old) (entries_of report.new) }
-{
-    match job.needs() {
-        Need::Exchange => Some(job),
-        Need::Put(_) => Some(job),
-        Need::Done(end) => {
-            report.push(Note::Ended { addr, end });
-            None
-        }
+    let index = report.len();
+    report.push(Entry::Wire {
+        addr,
+        sent: Sent::new(),
+        heard: Piece::new(),
+    });
+    match report.get_mut(index) {
+        Some(said) => fill(job, link, addr, said),
+        None => unreachable!(),
     }
 }
 
-/// What stays of a scan: nothing, where it is done, and then the report has its end. A scan puts no record.
-pub(crate) fn settled_scan(job: Job, report: &mut Report) -> Option<Job>
-    requires { length (entries_of report.old) ≤ 1 }
-    ensures polling { is_polling result ≡ true }
-    ensures settled { SettlesScan (need_of job) job result (entries_of report.old) (entries_of report.new) }
+/// A job sends its request over a link, and hears what follows. The pieces of an entry are filled where they stand.
+fn fill<L: Link>(job: Job, link: &mut L, addr: u8, said: &mut Entry) -> Job
+    requires asks { need_of job ≡ need.Exchange }
+    requires empty { said.old ≡ entry.Wire addr [] [] }
+    ensures { Fills L.gives link.old link.new addr job result said.new }
 {
-    match job.needs() {
-        Need::Exchange => Some(job),
-        Need::Put(_) => None,
-        Need::Done(end) => {
-            report.push(Note::Ended { addr: SCAN, end });
+    match said {
+        Entry::Wire { sent, heard, .. } => talk(job, link, sent, heard),
+        _ => unreachable!(),
+    }
+}
+
+/// A job sends its request over a link, and hears what follows. The two pieces are put in the place of what they hold.
+fn talk<L: Link>(job: Job, link: &mut L, sent: &mut Sent, heard: &mut Piece) -> Job
+    requires asks { need_of job ≡ need.Exchange }
+    ensures goes { L.gives link.old sent.new heard.new link.new }
+    ensures talks { Talks job sent.new heard.new result }
+{
+    let (sending, job) = job.sending();
+    encode_request(
+        sending.kind,
+        sending.to,
+        &sending.request,
+        sent.as_array_mut(),
+    );
+    link.exchange(sent.as_slice(), heard.as_array_mut());
+    job.heard(sent.as_slice(), heard.as_slice())
+}
+
+/// What stays of a job at an address: nothing, where it is done, and then the report has its end.
+pub(crate) fn settled(job: Job, addr: u8, report: &mut ArrayVec<Entry, 8>) -> Option<Job>
+    requires { array_vec_len report.old < 8 }
+    ensures running { is_running result ≡ true }
+    ensures ends { Ends job (end_of_job job) }
+    ensures settled { Settles (end_of_job job) job addr result report.old.items report.new.items }
+{
+    match job.end() {
+        None => Some(job),
+        Some(end) => {
+            report.push(Entry::Ended { addr, end });
             None
         }
     }

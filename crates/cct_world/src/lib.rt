@@ -1,13 +1,14 @@
-//! One step of the whole machine: the bus of devices, the host's job at each address, and the epochs of its acceptors.
+//! One step of the whole machine: the bus of devices, and the host with a job at each address and the epochs of its
+//! acceptors.
 #![tactic(auto)]
 
 mod desk;
 mod exchange;
-mod report;
+mod host;
 mod values;
 mod world;
 
-pub use report::{OnWire, Report};
+pub use host::Host;
 pub use world::World;
 
 #[cfg(test)]

@@ -1,32 +1,31 @@
 //! The values of an acceptor's coin places.
-ghost use Rattle.std.specs.Prelude.{◌≡◌, ◌≤◌, ◌==◌, ◌&&◌, ◌-◌, ℕ, List, slice_index_or};
-ghost use Rattle.cct_model.specs.declared.device.DeviceBody.TheVariants as body;
+ghost use Rattle.std.specs.Prelude.{◌≡◌, ◌≤◌, ◌==◌, ◌&&◌, ℕ};
 ghost use Rattle.cct_model.specs.Legal as legal;
 ghost use Rattle.cct_world.specs.CoinPlaces.{lacks};
 
-use cct_model::has_place;
+use cct_model::{COIN_PLACES, DeviceBody, has_place};
 
 /// The highest coin place; the lowest is 1.
-const PLACES: u8 = 16;
+const LAST_PLACE: u8 = COIN_PLACES as u8;
 
-/// The least coin place of an inhibit mask that has no value, or none.
+/// The least coin place of an inhibit mask that has no value at a device, or none.
 #[tactic(auto, using(crate::proofs::CoinPlaces::found_here, crate::proofs::CoinPlaces::found_behind))]
-pub(crate) fn valueless(values: [u32; 16], mask: u16) -> Option<u8>
-    ensures { (accepts : ℕ) (ids : List (List ℕ)) → result ≡ legal.valueless (body.Acceptor accepts values ids) mask }
+pub(crate) fn valueless(body: &DeviceBody, mask: u16) -> Option<u8>
+    ensures { result ≡ legal.valueless body.now mask }
 {
-    for place in 1..PLACES + 1 {
-        if lacks(&values, mask, place) {
+    for place in 1..LAST_PLACE + 1 {
+        if lacks(body, mask, place) {
             return Some(place);
         }
     }
     None
 }
 
-/// Whether a mask has a coin place that has no value.
-fn lacks(values: &[u32; 16], mask: u16, place: u8) -> bool
+/// Whether a mask has a coin place that has no value at a device.
+fn lacks(body: &DeviceBody, mask: u16, place: u8) -> bool
     requires low { 1 ≤ place }
-    requires high { place ≤ 16 }
-    ensures { result ≡ lacks values.now mask place }
+    requires high { place ≤ COIN_PLACES }
+    ensures { result ≡ lacks body.now mask place }
 {
-    has_place(mask, place) && values[place as usize - 1] == 0
+    has_place(mask, place) && body.value_at(place) == 0
 }

@@ -3,9 +3,12 @@ use Rattle.std.specs.Prelude.{IfSome}
 use Rattle.cct_model.specs.Script.{at_setup, at_steps, opens}
 use Rattle.cct_script.specs.Giving.{standing_of}
 use Rattle.cct_bench.specs.Setup.{stage_of}
-use Rattle.cct_bench.specs.Lines.{IsNext, GoesOn, Came}
-use Rattle.cct_bench.specs.Going.{Going, IsNothing}
+use Rattle.cct_bench.specs.Lines.{IsNext, ScriptGoesOn, Came}
+use Rattle.cct_bench.specs.SetupLines.{OpensLine, TookOpening}
+use Rattle.cct_bench.specs.Writing.{IsNothing, NeverBroke}
+use Rattle.cct_bench.specs.Going.{Going}
 use Rattle.cct_bench.specs.Run.{Played}
+use Rattle.cct_bench.proofs.SetupLines.{opening_begin, opening_more}
 use Rattle.cct_bench.proofs.Going.{going_begin, going_opens, played_stopped}
 use Rattle.cct_bench.proofs.play.read_setup.Goals as goal
 
@@ -13,16 +16,17 @@ pub loop-number-init : goal.loop-number-init
 loop-number-init g c =
     let left = g.S.Source.left c.args.script.now in
     record {
-      going = λ written.
-          subst (λ standing. Going left left standing.held 1 (at_setup c.args.setup.now) IsNothing written written) (sym c.requires.lines)
-          (subst (λ setup. Going left left [] 1 (at_setup setup) IsNothing written written) (sym c.requires.setup) (going_begin left written));
+      going = subst (λ standing. Going left left standing.held 1 (at_setup c.args.setup.now) IsNothing IsNothing) (sym c.requires.lines)
+          (subst (λ setup. Going left left [] 1 (at_setup setup) IsNothing IsNothing) (sym c.requires.setup) (going_begin left));
+      opening = subst (λ standing. TookOpening left left standing.held 1 (at_setup c.args.setup.now)) (sym c.requires.lines)
+          (subst (λ setup. TookOpening left left [] 1 (at_setup setup)) (sym c.requires.setup) (opening_begin left));
       source = refl;
       source_later = omega arith;
       next = subst (IsNext 1) (sym c.requires.lines) (refl, lit≤ tt);
     }
 
 pub returns-in-Ok-Begun-clause-opened : goal.returns-in-Ok-Begun-clause-opened
-returns-in-Ok-Begun-clause-opened g c written =
+returns-in-Ok-Begun-clause-opened g c =
     let left = g.S.Source.left c.loop-number.script in
     let left1 = g.S.Source.left c.read_opening.new.script in
     let held = (standing_of c.loop-number.lines).held in
@@ -30,22 +34,35 @@ returns-in-Ok-Begun-clause-opened g c written =
     let number = c.loop-number.number in
     let stage = at_setup c.loop-number.setup in
     let setup = c.read_opening.new.setup in
-    let reads = subst (λ opened. Came held left left1 (λ bytes. GoesOn number stage bytes (opens (stage_of opened setup)) rest)) c.in-Ok-Begun.field-0-is c.in-Ok-Begun.ensures.reads in
-    going_opens (g.S.Source.left c.args.script.now) left left1 held rest number stage (at_steps setup) IsNothing written written (c.loop-number.invariant.going written) reads
+    let reads = subst (λ opened. Came held left left1 (λ bytes. ScriptGoesOn number stage bytes (opens (stage_of opened setup)) rest)) c.in-Ok-Begun.field-0-is c.in-Ok-Begun.ensures.reads in
+    going_opens (g.S.Source.left c.args.script.now) left left1 held rest number stage (at_steps setup) IsNothing IsNothing c.loop-number.invariant.going reads
+
+pub returns-in-Ok-Begun-clause-took : goal.returns-in-Ok-Begun-clause-took
+returns-in-Ok-Begun-clause-took g c =
+    let left = g.S.Source.left c.loop-number.script in
+    let left1 = g.S.Source.left c.read_opening.new.script in
+    let held = (standing_of c.loop-number.lines).held in
+    let rest = (standing_of c.read_opening.new.lines).held in
+    let number = c.loop-number.number in
+    let stage = at_setup c.loop-number.setup in
+    let setup = c.read_opening.new.setup in
+    let line = subst (λ opened. OpensLine number stage (stage_of opened setup) held rest left left1) c.in-Ok-Begun.field-0-is c.in-Ok-Begun.ensures.line in
+    opening_more (g.S.Source.left c.args.script.now) left left1 held rest number stage (at_steps setup) c.loop-number.invariant.opening line
 
 pub returns-in-Err-clause-ended : goal.returns-in-Err-clause-ended
-returns-in-Err-clause-ended g c written =
+returns-in-Err-clause-ended g c =
     let left0 = g.S.Source.left c.args.script.now in
     let left1 = g.S.Source.left c.read_opening.new.script in
     let stage = at_setup c.loop-number.setup in
-    subst (λ how. IfSome left0 (λ bytes. Played bytes how left1 written written)) (sym c.ending_at.ensures)
+    subst (λ how. IfSome left0 (λ bytes. Played bytes how left1 IsNothing NeverBroke)) (sym c.ending_at.ensures)
     (
-    played_stopped left0 (g.S.Source.left c.loop-number.script) left1 (standing_of c.loop-number.lines).held c.loop-number.number stage c.in-Err.why IsNothing written written
-    (c.loop-number.invariant.going written) c.in-Err.ensures.stops
+    played_stopped left0 (g.S.Source.left c.loop-number.script) left1 (standing_of c.loop-number.lines).held c.loop-number.number stage c.in-Err.why IsNothing IsNothing NeverBroke
+    c.loop-number.invariant.going c.in-Err.ensures.stops
     )
 
 pub loop-number-preserved : goal.loop-number-preserved
 loop-number-preserved g c =
+    let left0 = g.S.Source.left c.args.script.now in
     let left = g.S.Source.left c.loop-number.script in
     let left1 = g.S.Source.left c.read_opening.new.script in
     let held = (standing_of c.loop-number.lines).held in
@@ -54,10 +71,11 @@ loop-number-preserved g c =
     let stage = at_setup c.loop-number.setup in
     let setup = c.read_opening.new.setup in
     let runs = c.loop-number.invariant in
-    let reads = subst (λ opened. Came held left left1 (λ bytes. GoesOn number stage bytes (opens (stage_of opened setup)) rest)) c.in-Ok-Added.field-0-is c.in-Ok-Added.ensures.reads in
+    let reads = subst (λ opened. Came held left left1 (λ bytes. ScriptGoesOn number stage bytes (opens (stage_of opened setup)) rest)) c.in-Ok-Added.field-0-is c.in-Ok-Added.ensures.reads in
+    let line = subst (λ opened. OpensLine number stage (stage_of opened setup) held rest left left1) c.in-Ok-Added.field-0-is c.in-Ok-Added.ensures.line in
     record {
-      going = λ written.
-          going_opens (g.S.Source.left c.args.script.now) left left1 held rest number stage (at_setup setup) IsNothing written written (runs.going written) reads;
+      going = going_opens left0 left left1 held rest number stage (at_setup setup) IsNothing IsNothing runs.going reads;
+      opening = opening_more left0 left left1 held rest number stage (at_setup setup) runs.opening line;
       source = c.in-Ok-Added.ensures.tells ∙ runs.source;
       source_later = omega (arith, runs.source_later, c.in-Ok-Added.ensures.later);
       next = c.in-Ok-Added.ensures.next;

@@ -1,26 +1,36 @@
-use Rattle.std.proofs.Common.{map, ap}
-use Rattle.cct_model.specs.Lent.{entry_of}
-use Rattle.cct_world.specs.Report.{on_wire, entries_of}
-use Rattle.cct_edge.specs.Bytes.{AppendsFront}
-use Rattle.cct_model.specs.Text.{text}
-use Rattle.cct_bench.proofs.Written.{on_err, err_goes, first_front, second_front}
+use Rattle.std.proofs.Common.{[], ◌∷◌, ◌++◌, take, Ok, Err, ap, sym, ◌∙◌, subst, arith}
+use Rattle.std.proofs.lemmas.List.{take_more}
+use Rattle.cct_bench.specs.Writing.{Writes}
+use Rattle.cct_bench.proofs.Reading.{passes_up}
+use Rattle.cct_bench.proofs.Writing.{writes_one, writes_next, writes_broke}
 use Rattle.cct_bench.proofs.play.write_report.Goals as goal
 
-pub returns-in_err-write_on_wire-clause-err : goal.returns-in_err-write_on_wire-clause-err
-returns-in_err-write_on_wire-clause-err g c =
-    let written = g.K.Sink.written in
-    on_err c.from_residual.result (AppendsFront (written c.args.out.now) (written c.write_on_wire.new.out) (text (entries_of c.args.report.now)))
-    (first_front (written c.args.out.now) (written c.write_on_wire.new.out) (on_wire c.args.report.now) (map entry_of c.args.report.now.notes.items) c.in_err-write_on_wire.ensures.err)
-
-pub returns-clause-err : goal.returns-clause-err
-returns-clause-err g c =
-    let written = g.K.Sink.written in
-    let report = c.args.report.now in
-    let old = written c.args.out.now in
-    let middle = written c.write_on_wire.new.out in
-    let new = written c.write_notes.new.out in
-    err_goes c.write_notes.result (AppendsFront middle new (text (map entry_of c.as_slice.result.now))) (AppendsFront old new (text (entries_of report)))
+pub returns-in_err-write_entry-clause-writes : goal.returns-in_err-write_entry-clause-writes
+returns-in_err-write_entry-clause-writes g c =
+    let sink = g.K.Sink in
+    let i = c.loop-entry.entry-index in
+    let e = c.entry-item.result in
+    let why = c.in_err-write_entry.field-0.0 in
+    let wrote = c.in_err-write_entry.ensures in
+    let out1 = c.loop-entry.out in
+    let out2 = c.write_entry.new.out in
+    subst (λ r. Writes sink.written sink.puts c.args.out.now c.args.report.now r out2) (sym (passes_up c.from_residual.result why c.from_residual.ensures))
     (
-    second_front old middle new (on_wire report) (map entry_of report.notes.items) (map entry_of c.as_slice.result.now) (ap (map entry_of) c.as_slice.ensures.value) c.in_ok-write_on_wire.ensures.ok
+    writes_broke sink.written sink.puts c.args.out.now out1 out2 c.args.report.now i e why (omega arith) c.entry-item.is c.loop-entry.invariant.0
+    (writes_one sink.written sink.puts out1 out2 e (Err why) wrote.one wrote.ok wrote.err)
     )
-    c.write_notes.ensures.err
+
+pub loop-entry-preserved : goal.loop-entry-preserved
+loop-entry-preserved g c =
+    let sink = g.K.Sink in
+    let i = c.loop-entry.entry-index in
+    let e = c.entry-item.result in
+    let wrote = c.in_ok-write_entry.ensures in
+    let out1 = c.loop-entry.out in
+    let out2 = c.write_entry.new.out in
+    let more = take_more c.args.report.now i e (omega arith) ∙ ap (λ x. take i c.args.report.now ++ x ∷ []) (sym c.entry-item.is) in (
+      writes_next sink.written sink.puts c.args.out.now out1 out2 c.args.report.now i e c.loop-entry.invariant.0
+          (writes_one sink.written sink.puts out1 out2 e (Ok c.in_ok-write_entry.field-0) wrote.one wrote.ok wrote.err) more,
+      wrote.tells ∙ c.loop-entry.invariant.1,
+      omega (arith, c.loop-entry.invariant.2, wrote.cause.later),
+    )

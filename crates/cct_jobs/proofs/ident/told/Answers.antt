@@ -1,14 +1,18 @@
-use Rattle.std.proofs.Common.{◌≡◌, Some, None}
-use Rattle.cct_jobs.specs.Jobs.{question_after}
-use Rattle.cct_jobs.proofs.Rows.{ident_on, ident_told}
+use Rattle.std.proofs.Common.{◌≡◌, ◌∷◌, Some, None, sym, subst}
+use Rattle.cct_model.specs.Line.{exchange}
+use Rattle.cct_jobs.specs.declared.job.Job.{Job}
+use Rattle.cct_jobs.specs.Jobs.{Stands, question_after}
+use Rattle.cct_jobs.proofs.Stages.{ident_on, ident_told}
 use Rattle.cct_jobs.proofs.ident.told.Goals as goal
 
-pub returns-in-Some : goal.returns-in-Some
-returns-in-Some c = λ d command since state failed line at answer.
+pub returns-in-Some-clause-device : goal.returns-in-Some-clause-device
+returns-in-Some-clause-device c = λ d command since state failed y at.
     let next : question_after c.args.device.is_acceptor c.args.question ≡ Some c.in-Some.question = cc in
-    ident_on d c.args.device c.args.question c.in-Some.question failed command since state line at next answer
+    subst (λ (job : Job). Stands d job command (exchange (Some c.args.question) (Some y) ∷ since) state)
+    (sym c.first_try.ensures)
+    (ident_on at c.in-Some.question y next)
 
-pub returns-in-None : goal.returns-in-None
-returns-in-None c = λ d command since state failed line at answer.
+pub returns-in-None-clause-device : goal.returns-in-None-clause-device
+returns-in-None-clause-device c = λ d command since state failed y at.
     let last : question_after c.args.device.is_acceptor c.args.question ≡ None = cc in
-    ident_told d c.args.device c.args.question failed command since state line at last answer
+    ident_told at y last

@@ -1,15 +1,17 @@
-use Rattle.cct_model.specs.declared.device.SetupLine.TheVariants as says
-use Rattle.cct_model.specs.Grammar.{added}
+use Rattle.cct_lines.specs.declared.setup.SetupLine.TheVariants as says
+use Rattle.cct_lines.specs.Grammar.{added}
 use Rattle.cct_script.proofs.Sound.{kept_sound}
 use Rattle.cct_script.proofs.adding.add.Goals as goal
 
 pub returns-in-Acceptor-clause-sound : goal.returns-in-Acceptor-clause-sound
 unfolding added
-returns-in-Acceptor-clause-sound c = kept_sound _ _ (says.Acceptor c.in-Acceptor.device) _ (rw c.in-Acceptor.is at c.requires) c.add_device.ensures
+returns-in-Acceptor-clause-sound c =
+    kept_sound _ _ (says.Acceptor c.in-Acceptor.device) _ (rw c.in-Acceptor.is at c.requires) c.add_device.ensures
 
 pub returns-in-Hopper-clause-sound : goal.returns-in-Hopper-clause-sound
 unfolding added
-returns-in-Hopper-clause-sound c = kept_sound _ _ (says.Hopper c.in-Hopper.device) _ (rw c.in-Hopper.is at c.requires) c.add_device-in-Hopper.ensures
+returns-in-Hopper-clause-sound c =
+    kept_sound _ _ (says.Hopper c.in-Hopper.device) _ (rw c.in-Hopper.is at c.requires) c.add_device-in-Hopper.ensures
 
 pub returns-in-Value-clause-sound : goal.returns-in-Value-clause-sound
 unfolding added
@@ -19,4 +21,5 @@ returns-in-Value-clause-sound c =
 
 pub returns-in-Named-clause-sound : goal.returns-in-Named-clause-sound
 unfolding added
-returns-in-Named-clause-sound c = kept_sound _ _ (says.Named c.in-Named.addr c.in-Named.texts) _ (rw c.in-Named.is at c.requires) c.add_texts.ensures
+returns-in-Named-clause-sound c =
+    kept_sound _ _ (says.Named c.in-Named.addr c.in-Named.texts) _ (rw c.in-Named.is at c.requires) c.add_texts.ensures

@@ -1,5 +1,5 @@
 use Rattle.std.proofs.Common.{◌++◌, ◌∷◌, ap, sym, ◌∙◌, decimal, codes}
-use Rattle.cct_model.specs.Text.{command_fields, mask_field}
+use Rattle.cct_lines.specs.Text.{command_fields, mask_field}
 use Rattle.cct_text.specs.Joined.{behind}
 use Rattle.cct_text.proofs.Texts.{masked}
 use Rattle.cct_text.proofs.commands.write_command.Goals as goal

@@ -3,6 +3,6 @@ use Rattle.cct_world.proofs.CoinPlaces.{found_nowhere}
 use Rattle.cct_world.proofs.values.valueless.Goals as goal
 
 pub returns : goal.returns
-returns c accepts ids =
+returns c =
     let last : c.loop-place.place ≡ 17 = omega arith in
-    found_nowhere c.args.values c.args.mask c.loop-place.place c.loop-place.invariant.0 last
+    found_nowhere c.args.body.now c.args.mask c.loop-place.place c.loop-place.invariant.0 last

@@ -3,4 +3,5 @@ use Rattle.cct_world.proofs.CoinPlaces.{found_from}
 use Rattle.cct_world.proofs.values.valueless.Given as goal
 
 abbrev pub invariant-loop-place : goal.invariant-loop-place
-invariant-loop-place l = (found_from l.values l.mask l.place ≡ found_from l.values l.mask 1) × (1 ≤ l.place) × (l.place ≤ 17)
+invariant-loop-place l =
+    (found_from l.body l.mask l.place ≡ found_from l.body l.mask 1) × (1 ≤ l.place) × (l.place ≤ 17)

@@ -10,6 +10,7 @@ pub invariant_of-self : goal.invariant_of-self
 invariant_of-self c = record {
   order = setups_kept _ _ _ _ c.coin.ensures.setup c.index_mut.ensures.value ∙ c.args.self.now.order;
   room = c.args.self.now.room;
+  short = c.args.self.now.short;
 }
 
 pub returns-clause-stands : goal.returns-clause-stands

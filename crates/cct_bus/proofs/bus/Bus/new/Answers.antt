@@ -7,4 +7,5 @@ pub invariant_of-result : goal.invariant_of-result
 invariant_of-result c = record {
   order = c.in_ok-devices.ensures.order ∙ ap by_address c.as_slice.ensures.value;
   room = λ piece. answers_short piece _ c.requires.sound.devices c.requires.sound.distinct (omega (arith, ap length c.as_slice.ensures.value));
+  short = λ piece is. absurd cc;
 }

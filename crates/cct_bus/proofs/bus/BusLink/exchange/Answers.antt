@@ -1,13 +1,13 @@
 use Rattle.std.proofs.Common.{◌≡◌, ◌∙◌, ◌≤◌, List, ℕ, ◌∷◌, ◌++◌, length, refl, sym, ap, subst, arith}
 use Rattle.std.specs.List.{All, flat_map}
-use Rattle.cct_model.specs.declared.device.DeviceSetup.{DeviceSetup}
+use Rattle.cct_model.specs.terms.device.DeviceSetup.{DeviceSetup}
 use Rattle.cct_model.specs.History.{Met}
 use Rattle.cct_model.specs.Transcript.{heard_by_devices, heard_by_host, met, pending}
 use Rattle.cct_bus.specs.Device.{Stands, setups_in}
 use Rattle.cct_bus.specs.Room.{most_answered}
 use Rattle.cct_bus.proofs.Buses.{exchange_stands, exchanged, room_in_order}
 use Rattle.cct_bus.proofs.Hears.{answer_of, hearing, ok_fact, refilled}
-use Rattle.cct_model.specs.declared.entry.Entry.TheVariants as entry
+use Rattle.cct_model.specs.lines.entry.Entry.TheVariants as entry
 use Rattle.cct_bus.proofs.bus.BusLink.exchange.Goals as goal
 
 pub all_hear-requires : goal.all_hear-requires
@@ -46,7 +46,7 @@ returns c =
               sound = stands.sound;
               order = ap setups_in (sym back) ∙ c.all_hear.ensures.setups ∙ ap setups_in lent ∙ stands.order;
               devices = subst (λ ds. All (Stands (λ d. met d (entry.Wire addr sent heard ∷ past))) ds) back (exchange_stands past fault new addr sent piece heard same reached hears);
-              fault = c.use_up.ensures;
+              fault = refl;
             },
           ),
     )

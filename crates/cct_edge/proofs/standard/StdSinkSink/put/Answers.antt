@@ -11,6 +11,7 @@ loop-rest-preserved g c =
     record {
       done = before.done ++ take c.in-Ok.count c.loop-rest.rest.now;
       piece_is = rest_moves c.args.piece.now before.done c.loop-rest.rest.now c.in-Ok.count before.piece_is;
-      written = Appends-trans _ _ _ before.done (take c.in-Ok.count c.loop-rest.rest.now) before.written c.in-Ok.ensures.bytes;
+      written = Appends-trans _ _ _ before.done (take c.in-Ok.count c.loop-rest.rest.now)
+          before.written c.in-Ok.ensures.bytes;
       no_fault = before.no_fault;
     }

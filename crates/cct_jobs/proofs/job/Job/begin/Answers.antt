@@ -1,22 +1,37 @@
-use Rattle.cct_jobs.proofs.Starts.{ident_begins, path_begins, round_begins, start_begins, stop_begins}
+use Rattle.std.proofs.Common.{refl}
+use Rattle.cct_jobs.specs.declared.stage.Stage.TheVariants.{StartResets, StopInhibits, Reads, IdentAsks, PathSets}
+use Rattle.cct_jobs.specs.declared.stage.Visit.TheVariants.{Round}
+use Rattle.cct_model.specs.terms.request.Request.TheVariants.{MakerId}
+use Rattle.cct_jobs.proofs.Begins.{first_question, first_stage}
 use Rattle.cct_jobs.proofs.job.Job.begin.Goals as goal
 
 pub returns-in-Start-clause-device : goal.returns-in-Start-clause-device
 returns-in-Start-clause-device c = λ d there other.
-    start_begins c.args.setup.now.devices c.in-Start.addr c.in-Start.mask d c.target_at.result c.args.command.now c.args.epoch.now c.in-Start.is there c.target_at.ensures
+    first_stage c.args.setup.now.devices c.in-Start.addr d c.target_at.result
+    (StartResets c.in-Start.mask) c.args.command.now c.args.epoch.now
+    c.first_try.result c.first_try.ensures c.in-Start.is refl there c.target_at.ensures refl tt
 
 pub returns-in-Round-clause-device : goal.returns-in-Round-clause-device
 returns-in-Round-clause-device c = λ d there other.
-    (round_begins c.args.setup.now.devices c.in-Round.addr d c.target_at-in-Round.result c.args.command.now c.args.epoch.now c.in-Round.is there c.target_at-in-Round.ensures, c.recorded_in.ensures)
+    first_stage c.args.setup.now.devices c.in-Round.addr d c.target_at-in-Round.result
+    (Reads Round c.recorded_in.result) c.args.command.now c.args.epoch.now
+    c.first_try-in-Round.result c.first_try-in-Round.ensures c.in-Round.is refl there c.target_at-in-Round.ensures refl c.recorded_in.ensures
 
 pub returns-in-Stop-clause-device : goal.returns-in-Stop-clause-device
 returns-in-Stop-clause-device c = λ d there other.
-    (stop_begins c.args.setup.now.devices c.in-Stop.addr d c.target_at-in-Stop.result c.args.command.now c.args.epoch.now c.in-Stop.is there c.target_at-in-Stop.ensures, c.recorded_in-in-Stop.ensures)
+    first_stage c.args.setup.now.devices c.in-Stop.addr d c.target_at-in-Stop.result
+    (StopInhibits c.recorded_in-in-Stop.result) c.args.command.now c.args.epoch.now
+    c.first_try-in-Stop.result c.first_try-in-Stop.ensures c.in-Stop.is refl there c.target_at-in-Stop.ensures refl c.recorded_in-in-Stop.ensures
 
 pub returns-in-Ident-clause-device : goal.returns-in-Ident-clause-device
 returns-in-Ident-clause-device c = λ d there other.
-    ident_begins c.args.setup.now.devices c.in-Ident.addr d c.target_at-in-Ident.result c.args.command.now c.args.epoch.now c.in-Ident.is there c.target_at-in-Ident.ensures
+    first_stage c.args.setup.now.devices c.in-Ident.addr d c.target_at-in-Ident.result
+    (IdentAsks MakerId) c.args.command.now c.args.epoch.now
+    c.first_try-in-Ident.result c.first_try-in-Ident.ensures c.in-Ident.is refl there c.target_at-in-Ident.ensures
+    (first_question d.body) tt
 
 pub returns-in-Path-clause-device : goal.returns-in-Path-clause-device
 returns-in-Path-clause-device c = λ d there other.
-    path_begins c.args.setup.now.devices c.in-Path.addr c.in-Path.place c.in-Path.path d c.target_at-in-Path.result c.args.command.now c.args.epoch.now c.in-Path.is there c.target_at-in-Path.ensures
+    first_stage c.args.setup.now.devices c.in-Path.addr d c.target_at-in-Path.result
+    (PathSets c.in-Path.place c.in-Path.path) c.args.command.now c.args.epoch.now
+    c.first_try-in-Path.result c.first_try-in-Path.ensures c.in-Path.is refl there c.target_at-in-Path.ensures refl tt

@@ -1,12 +1,15 @@
-use Rattle.std.proofs.Common.{◌≡◌, ◌≤◌, Some, position, sym, ◌∙◌, arith}
+use Rattle.std.proofs.Common.{◌≡◌, ℕ, ◌+◌, ◌≤◌, List, Some, drop, subst, position, sym, ◌∙◌, arith}
 use Rattle.std.proofs.lemmas.List.{length-take-le}
-use Rattle.cct_model.specs.Script.{is_line_feed, most_lines}
+use Rattle.cct_lines.specs.declared.entry.TheConstants.{MOST_LINE}
+use Rattle.cct_lines.specs.Script.{is_line_feed, most_lines}
+use Rattle.cct_script.specs.Giving.{standing_of}
+use Rattle.cct_script.specs.Taking.{TakesOn}
 use Rattle.cct_script.proofs.Giving.{line_alone, line_parts, line_within, not_empty}
 use Rattle.cct_script.proofs.lines.Lines.find.Goals as goal
 
 pub overflow_add-self : goal.overflow_add-self
 overflow_add-self g c =
-    let short : c.in-Ok-Line.len ≤ 1200 = rw c.in-Ok-Line.field-0-is at c.in-Ok-Line.ensures.short in
+    let short : c.in-Ok-Line.len ≤ MOST_LINE = rw c.in-Ok-Line.field-0-is at c.in-Ok-Line.ensures.short in
     omega arith
 
 pub returns-in-Ok-Line-clause-gives : goal.returns-in-Ok-Line-clause-gives
@@ -14,7 +17,7 @@ unfolding most_lines
 returns-in-Ok-Line-clause-gives g c =
     let len = c.in-Ok-Line.len in
     let held = c.seek.new.self in
-    let short : len ≤ 1200 = rw c.in-Ok-Line.field-0-is at c.in-Ok-Line.ensures.short in
+    let short : len ≤ MOST_LINE = rw c.in-Ok-Line.field-0-is at c.in-Ok-Line.ensures.short in
     let found : position is_line_feed held ≡ Some len = rw c.in-Ok-Line.field-0-is at c.in-Ok-Line.ensures.finds in
     let inside = line_within held len found in
     let fills = rw c.give_up.ensures.held at c.seek.ensures.fills in (
@@ -30,7 +33,12 @@ unfolding most_lines
 returns-in-Ok-Long-clause-gives g c =
     let finds = rw c.in-Ok-Long.field-0-is at c.in-Ok-Long.ensures.finds in
     let fills = rw c.give_up.ensures.held at c.seek.ensures.fills in
-    rw c.give_up.ensures.spent ((c.give_up.ensures.given, fills), omega (arith, c.give_up.ensures.given, c.if-self-ge-MOST_LINES.false), finds.0, finds.1)
+    rw c.give_up.ensures.spent (
+      (c.give_up.ensures.given, fills),
+      omega (arith, c.give_up.ensures.given, c.if-self-ge-MOST_LINES.false),
+      finds.0,
+      finds.1,
+    )
 
 pub returns-else-is_empty-clause-gives : goal.returns-else-is_empty-clause-gives
 unfolding most_lines
@@ -38,12 +46,33 @@ returns-else-is_empty-clause-gives g c =
     let finds = rw c.in-Ok-Ended.field-0-is at c.in-Ok-Ended.ensures.finds in
     let fills = rw c.give_up.ensures.held at c.seek.ensures.fills in
     let some = not_empty _ _ _ c.if-is_empty.false c.is_empty.ensures c.held.ensures.value in
-    rw c.give_up.ensures.spent
-    ((c.give_up.ensures.given, fills), omega (arith, c.give_up.ensures.given, c.if-self-ge-MOST_LINES.false), finds.0, some, finds.1, finds.2)
+    rw c.give_up.ensures.spent (
+      (c.give_up.ensures.given, fills),
+      omega (arith, c.give_up.ensures.given, c.if-self-ge-MOST_LINES.false),
+      finds.0,
+      some,
+      finds.1,
+      finds.2,
+    )
 
 pub returns-in-Err-clause-gives : goal.returns-in-Err-clause-gives
 unfolding most_lines
 returns-in-Err-clause-gives g c =
     let fills = rw c.give_up.ensures.held at c.seek.ensures.fills in
-    rw c.give_up.ensures.spent
-    ((c.give_up.ensures.given, fills), c.in-Err.ensures.partial, λ many. absurd (omega (arith, c.give_up.ensures.given, c.if-self-ge-MOST_LINES.false, many)))
+    rw c.give_up.ensures.spent (
+      (c.give_up.ensures.given, fills),
+      c.in-Err.ensures.partial,
+      λ many. absurd (omega (arith, c.give_up.ensures.given, c.if-self-ge-MOST_LINES.false, many)),
+    )
+
+pub returns-in-Ok-Line-clause-takes : goal.returns-in-Ok-Line-clause-takes
+returns-in-Ok-Line-clause-takes g c =
+    let len = c.in-Ok-Line.len in
+    let held = c.seek.new.self in
+    let before = (standing_of c.args.self.now).held in
+    let found : position is_line_feed held ≡ Some len = rw c.in-Ok-Line.field-0-is at c.in-Ok-Line.ensures.finds in
+    let Taken : List ℕ → Type 0 =
+    λ bytes. TakesOn g.S.Source.takes g.S.Source.left before c.args.source.now bytes c.seek.new.source in (
+      drop (len + 1) held,
+      subst Taken (line_parts held len found) (rw c.give_up.ensures.held at c.in-Ok-Line.ensures.takes),
+    )

@@ -1,0 +1,263 @@
+-- What a job needs, and that a put brings fewer to come.
+use Rattle.std.specs.Prelude.{⊤}
+use Rattle.std.proofs.Common.{◌≡◌, ◌≢◌, ℕ, ◌<◌, ◌≤◌, List, refl, sym, ap, subst, ◌∙◌, Option, Some, None, arith}
+use Rattle.cct_model.specs.terms.device.DeviceBody.{DeviceBody}
+use Rattle.cct_model.specs.terms.device.DeviceSetup.{DeviceSetup}
+use Rattle.cct_model.specs.lines.command.Command.{Command}
+use Rattle.cct_model.specs.lines.command.Command.TheVariants as command
+use Rattle.cct_model.specs.lines.entry.End.{End}
+use Rattle.cct_model.specs.lines.entry.End.TheVariants.{Stopped}
+use Rattle.cct_model.specs.declared.judging.EpochState.{EpochState}
+use Rattle.cct_model.specs.lines.record.Record.{Record}
+use Rattle.cct_model.specs.lines.record.Record.TheVariants.{Epoch, EpochEnd}
+use Rattle.cct_model.specs.terms.request.Request.{Request}
+use Rattle.cct_model.specs.terms.wire.CheckKind.{CheckKind}
+use Rattle.cct_model.specs.terms.wire.CheckKind.TheVariants.{Simple, Crc}
+use Rattle.cct_model.specs.Exchange.{ask}
+use Rattle.cct_model.specs.Job.{Row, address_of, done, end_of_put, sends, puts, row}
+use Rattle.cct_model.specs.Line.{Line}
+use Rattle.cct_model.specs.Scan.{end_of_scan, poll_of, scan_row}
+use Rattle.cct_jobs.specs.declared.job.Need.{Need}
+use Rattle.cct_jobs.specs.declared.job.Need.TheVariants as need
+use Rattle.cct_jobs.specs.declared.job.Sending.{Sending}
+use Rattle.cct_jobs.specs.declared.job.Job.{Job}
+use Rattle.cct_jobs.specs.declared.job.Job.TheVariants.{Asks, StartPuts, RoundPuts, StopPuts, StopEnds, ScanCallsSimple, ScanCallsCrc, ScanPollsSimple, ScanPollsCrc, Done}
+use Rattle.cct_jobs.specs.declared.stage.Stage.{Stage}
+use Rattle.cct_jobs.specs.declared.stage.Stage.TheVariants.{StartResets, StartReads, StartSets, Reads, Looks}
+use Rattle.cct_jobs.specs.declared.stage.Visit.TheVariants.{Round, Stop}
+use Rattle.cct_jobs.specs.declared.target.Target.{Target}
+use Rattle.cct_jobs.specs.Jobs.{Asking, IsAfter, IsPut, Needs, Putting, Stands, after_put, asks_at, end_of_job, may_put_of, need_of, newest_end, own_of, puts_at, request_of, sending_of, stage_puts}
+use Rattle.cct_jobs.specs.Scans.{NeedsScan, StandsScan}
+use Rattle.cct_jobs.proofs.Scans.{calls_simple_row, calls_crc_row, calls_simple_on, calls_crc_on, polls_row, polls_on}
+use Rattle.cct_jobs.proofs.Stages.{stage_row}
+
+-- what a job at a device needs
+
+needs_by : (d : DeviceSetup) (job : Job) (c : Command) (since : List Line) (state : EpochState)
+    → Stands d job c since state → Needs (need_of job) d c since state
+needs_by d (Asks device stage failed) c since state at = record {
+  request = request_of stage;
+  row_is = stage_row at;
+}
+needs_by d (StartPuts device mask) c since state (device_is, rows_are, at) = record {
+  is_here = ap address_of at.command_is;
+  row_is = at.row_is ∙ ap (λ (t : Target). puts (Epoch t.addr mask)) (sym device_is);
+}
+needs_by d (RoundPuts entry end) c since state at = record { is_here = ap address_of at.command_is; row_is = at.row_is }
+needs_by d (StopPuts device entry end) c since state (device_is, rows_are, apart, at) = record {
+  is_here = ap address_of at.command_is;
+  row_is = at.row_is;
+}
+needs_by d (StopEnds device) c since state (device_is, at) = record {
+  is_here = ap address_of at.command_is;
+  row_is = at.row_is ∙ ap (λ (t : Target). puts (EpochEnd t.addr)) (sym device_is);
+}
+needs_by d (Done end) c since state at = at
+needs_by d job c since state at = absurd at
+
+pub need_known : (d : DeviceSetup) (job : Job) (c : Command) (since : List Line) (state : EpochState) (n : Need)
+    → n ≡ need_of job → Stands d job c since state → Needs n d c since state
+need_known d job c since state n is at = subst (λ m. Needs m d c since state) (sym is) (needs_by d job c since state at)
+
+-- its end is what its newest line brought
+end_by : (d : DeviceSetup) (job : Job) (c : Command) (since : List Line) (state : EpochState)
+    → Stands d job c since state → end_of_job job ≡ newest_end d c since state
+end_by d (Asks device stage failed) c since state at = sym at.goes_on
+end_by d (StartPuts device mask) c since state at = sym at.2.goes_on
+end_by d (RoundPuts entry end) c since state at = sym at.goes_on
+end_by d (StopPuts device entry end) c since state at = sym at.3.goes_on
+end_by d (StopEnds device) c since state at = sym at.1.goes_on
+end_by d (Done end) c since state at = sym at
+end_by d job c since state at = absurd at
+
+pub end_known : (d : DeviceSetup) (job : Job) (c : Command) (since : List Line) (state : EpochState) (end : Option End)
+    → end ≡ end_of_job job → Stands d job c since state → end ≡ newest_end d c since state
+end_known d job c since state end is at = is ∙ end_by d job c since state at
+
+-- what a scan needs
+
+scan_needs_by : (job : Job) (since : List Line) → StandsScan job since → NeedsScan (need_of job) since
+scan_needs_by (ScanCallsSimple failed) since at =
+    record { check = Simple; addr = 0; row_is = calls_simple_row failed since at }
+scan_needs_by (ScanCallsCrc failed due) since at =
+    record { check = Crc; addr = 0; row_is = calls_crc_row failed due since at }
+scan_needs_by (ScanPollsSimple addr due listed) since at =
+    record { check = Simple; addr = addr; row_is = polls_row Simple addr due listed since at }
+scan_needs_by (ScanPollsCrc addr due listed) since at =
+    record { check = Crc; addr = addr; row_is = polls_row Crc addr due listed since at }
+scan_needs_by (Done end) since at = at
+scan_needs_by job since at = absurd at
+
+pub scan_need_known : (job : Job) (since : List Line) (n : Need) → n ≡ need_of job → StandsScan job since
+    → NeedsScan n since
+scan_need_known job since n is at = subst (λ m. NeedsScan m since) (sym is) (scan_needs_by job since at)
+
+scan_end_by : (job : Job) (since : List Line) → StandsScan job since → end_of_job job ≡ end_of_scan since
+scan_end_by (ScanCallsSimple failed) since at = sym (calls_simple_on failed since at)
+scan_end_by (ScanCallsCrc failed due) since at = sym (calls_crc_on failed due since at)
+scan_end_by (ScanPollsSimple addr due listed) since at = sym (polls_on Simple addr due listed since at)
+scan_end_by (ScanPollsCrc addr due listed) since at = sym (polls_on Crc addr due listed since at)
+scan_end_by (Done end) since at = sym at
+scan_end_by job since at = absurd at
+
+pub scan_end_known : (job : Job) (since : List Line) (end : Option End) → end ≡ end_of_job job → StandsScan job since
+    → end ≡ end_of_scan since
+scan_end_known job since end is at = is ∙ scan_end_by job since at
+
+-- what may still be put
+
+put_has_room : (job : Job) (entry : Record) → need_of job ≡ need.Put entry → 1 ≤ may_put_of job
+put_has_room (StartPuts device mask) entry e = omega arith
+put_has_room (RoundPuts own end) entry e = omega arith
+put_has_room (StopPuts device own end) entry e = omega arith
+put_has_room (StopEnds device) entry e = omega arith
+put_has_room job entry e = absurd cc
+
+pub put_allowed : (job : Job) (n : Need) (entry : Record) → n ≡ need_of job → n ≡ need.Put entry → 1 ≤ may_put_of job
+put_allowed job n entry is e = put_has_room job entry (sym is ∙ e)
+
+put_falls : (job : Job) → IsPut (need_of job) → may_put_of (after_put job) < may_put_of job
+put_falls (StartPuts device mask) put = omega arith
+put_falls (RoundPuts own end) put = omega arith
+put_falls (StopPuts device own None) put = omega arith
+put_falls (StopPuts device own (Some end)) put = omega arith
+put_falls (StopEnds device) put = omega arith
+put_falls job put = absurd put
+
+pub fewer_after : (job after : Job) → after ≡ after_put job → IsPut (need_of job) → may_put_of after < may_put_of job
+fewer_after job after is put = subst (λ j. may_put_of j < may_put_of job) (sym is) (put_falls job put)
+
+stage_may_put : (stage : Stage) (body : DeviceBody) (addr rows : ℕ) → IsAfter stage body rows
+    → stage_puts stage ≡ puts_at (own_of stage addr) rows (sends (request_of stage))
+stage_may_put (StartResets mask) body addr rows at = rw at refl
+stage_may_put (StartReads mask) body addr rows at = rw at refl
+stage_may_put (StartSets mask) body addr rows at = rw at refl
+stage_may_put (Reads Round recorded) body addr rows at = refl
+stage_may_put (Reads Stop recorded) body addr rows at = refl
+stage_may_put (Looks Round recorded read) body addr rows at = refl
+stage_may_put (Looks Stop recorded read) body addr rows at = refl
+stage_may_put stage body addr rows at = refl
+
+-- a record of a stop that isn't the epoch's end
+two_to_put : (addr rows : ℕ) (entry : Record) (end : Option End) → end_of_put (command.Stop addr) entry ≡ end
+    → end ≢ Some Stopped → puts_at (command.Stop addr) rows (puts entry) ≡ 2
+two_to_put addr rows (EpochEnd at) end ends apart = absurd (apart (sym ends))
+two_to_put addr rows entry end ends apart = refl
+
+put_row : (d : DeviceSetup) (own : Command) (entry : Record) (end : Option End) (c : Command) (since : List Line)
+    (state : EpochState) → Putting d own entry end c since state
+    → puts_at own (done since) (puts entry) ≡ puts_at c (done since) (row d c since state)
+put_row d own entry end c since state at =
+    ap (λ k. puts_at k (done since) (puts entry)) (sym at.command_is) ∙ ap (puts_at c (done since)) (sym at.row_is)
+
+may_put_by : (d : DeviceSetup) (job : Job) (c : Command) (since : List Line) (state : EpochState)
+    → Stands d job c since state → newest_end d c since state ≡ None
+    → may_put_of job ≡ puts_at c (done since) (row d c since state)
+may_put_by d (Asks device stage failed) c since state at on =
+    stage_may_put stage d.body d.addr (done since) at.is_after
+    ∙ ap (λ k. puts_at k (done since) (sends (request_of stage))) (sym at.command_is)
+    ∙ ap (puts_at c (done since)) (sym (stage_row at))
+may_put_by d (StartPuts device mask) c since state (device_is, rows_are, at) on =
+    sym (ap (λ n. puts_at (command.Start d.addr mask) n (puts (Epoch d.addr mask))) rows_are)
+    ∙ put_row d (command.Start d.addr mask) (Epoch d.addr mask) None c since state at
+may_put_by d (RoundPuts entry end) c since state at on =
+    put_row d (command.Round d.addr) entry (Some end) c since state at
+may_put_by d (StopPuts device entry end) c since state (device_is, rows_are, apart, at) on =
+    sym (two_to_put d.addr (done since) entry end at.ends apart)
+    ∙ put_row d (command.Stop d.addr) entry end c since state at
+may_put_by d (StopEnds device) c since state (device_is, at) on =
+    put_row d (command.Stop d.addr) (EpochEnd d.addr) (Some Stopped) c since state at
+may_put_by d (Done end) c since state at on = absurd cc
+may_put_by d job c since state at on = absurd at
+
+pub may_put_known : (d : DeviceSetup) (job : Job) (c : Command) (since : List Line) (state : EpochState) (n : ℕ)
+    → n ≡ may_put_of job → Stands d job c since state → newest_end d c since state ≡ None
+    → n ≡ puts_at c (done since) (row d c since state)
+may_put_known d job c since state n is at on = is ∙ may_put_by d job c since state at on
+
+-- what is sent
+
+same_request : (r : Row) (p q : Request) → r ≡ sends p → r ≡ sends q → p ≡ q
+same_request r p q first second =
+    let both : sends p ≡ sends q = sym first ∙ second in
+    cc
+
+-- the request of a row is that of its stage
+pub stage_asked : {d : DeviceSetup} {device : Target} {stage : Stage} {failed : ℕ} {c : Command} {since : List Line}
+    {state : EpochState} (q : Request) → Asking d device stage failed c since state → row d c since state ≡ sends q
+    → q ≡ request_of stage
+stage_asked q at is = same_request _ q _ is (stage_row at)
+
+-- what a job sends to its device
+pub sending_is : (d : DeviceSetup) (job : Job) (c : Command) (since : List Line) (state : EpochState) (q : Request)
+    (s : Sending) → Some s ≡ sending_of job → Stands d job c since state → row d c since state ≡ sends q
+    → s ≡ record { to = d.addr; kind = d.kind; request = q }
+sending_is d (Asks device stage failed) c since state q s e at is =
+    let sent : s ≡ record { to = device.addr; kind = device.kind; request = request_of stage } = cc in
+    sent
+    ∙ ap (λ (t : Target). record { to = t.addr; kind = t.kind; request = request_of stage }) at.device_is
+    ∙ ap (λ r. record { to = d.addr; kind = d.kind; request = r }) (sym (stage_asked q at is))
+sending_is d (StartPuts device mask) c since state q s e at is = absurd cc
+sending_is d (RoundPuts entry end) c since state q s e at is = absurd cc
+sending_is d (StopPuts device entry end) c since state q s e at is = absurd cc
+sending_is d (StopEnds device) c since state q s e at is = absurd cc
+sending_is d (Done end) c since state q s e at is = absurd cc
+sending_is d job c since state q s e at is = absurd at
+
+-- the poll of a row is the one that its scan sends
+
+abbrev pub SamePoll : CheckKind → ℕ → CheckKind → ℕ → Type 0
+SamePoll check addr other polled = (other ≡ check) × (polled ≡ addr)
+
+same_poll : (r : Option (CheckKind × ℕ)) (check other : CheckKind) (addr polled : ℕ) → r ≡ Some (check, addr)
+    → r ≡ Some (other, polled) → SamePoll check addr other polled
+same_poll r check other addr polled first second =
+    let both : Some (check, addr) ≡ Some (other, polled) = sym first ∙ second in
+    let pairs : (check, addr) ≡ (other, polled) = cc in
+    (sym (ap (λ (p : CheckKind × ℕ). p.0) pairs), sym (ap (λ (p : CheckKind × ℕ). p.1) pairs))
+
+-- the poll that a scan sends, and its check
+abbrev pub PollSent : Job → CheckKind → ℕ → Type 0
+PollSent (ScanCallsSimple failed) check addr = SamePoll Simple 0 check addr
+PollSent (ScanCallsCrc failed due) check addr = SamePoll Crc 0 check addr
+PollSent (ScanPollsSimple polled due listed) check addr = SamePoll Simple polled check addr
+PollSent (ScanPollsCrc polled due listed) check addr = SamePoll Crc polled check addr
+PollSent job check addr = ⊤
+
+pub poll_asked : (job : Job) (since : List Line) (check : CheckKind) (addr : ℕ) → StandsScan job since
+    → scan_row since ≡ Some (check, addr) → PollSent job check addr
+poll_asked (ScanCallsSimple failed) since check addr at is =
+    same_poll _ Simple check 0 addr (calls_simple_row failed since at) is
+poll_asked (ScanCallsCrc failed due) since check addr at is =
+    same_poll _ Crc check 0 addr (calls_crc_row failed due since at) is
+poll_asked (ScanPollsSimple polled due listed) since check addr at is =
+    same_poll _ Simple check polled addr (polls_row Simple polled due listed since at) is
+poll_asked (ScanPollsCrc polled due listed) since check addr at is =
+    same_poll _ Crc check polled addr (polls_row Crc polled due listed since at) is
+poll_asked job since check addr at is = tt
+
+polled_by : (own check : CheckKind) (polled addr : ℕ) (s : Sending) → SamePoll own polled check addr
+    → Some s ≡ Some (asks_at own polled) → s ≡ record { to = addr; kind = check; request = poll_of addr }
+polled_by own check polled addr s same is =
+    let sent : s ≡ asks_at own polled = cc in
+    sent ∙ ap (λ k. asks_at k polled) (sym same.0) ∙ ap (asks_at check) (sym same.1)
+
+pub poll_sent : (own check : CheckKind) (polled addr : ℕ) (sent : List ℕ) → SamePoll own polled check addr
+    → sent ≡ ask check addr (poll_of addr) → sent ≡ ask own polled (poll_of polled)
+poll_sent own check polled addr sent same is_ask =
+    is_ask ∙ ap (λ k. ask k addr (poll_of addr)) same.0 ∙ ap (λ a. ask own a (poll_of a)) same.1
+
+-- what a scan sends
+pub poll_is : (job : Job) (since : List Line) (check : CheckKind) (addr : ℕ) (s : Sending) → Some s ≡ sending_of job
+    → StandsScan job since → scan_row since ≡ Some (check, addr)
+    → s ≡ record { to = addr; kind = check; request = poll_of addr }
+poll_is (ScanCallsSimple failed) since check addr s e at is =
+    polled_by Simple check 0 addr s (poll_asked (ScanCallsSimple failed) since check addr at is) e
+poll_is (ScanCallsCrc failed due) since check addr s e at is =
+    polled_by Crc check 0 addr s (poll_asked (ScanCallsCrc failed due) since check addr at is) e
+poll_is (ScanPollsSimple polled due listed) since check addr s e at is =
+    polled_by Simple check polled addr s (poll_asked (ScanPollsSimple polled due listed) since check addr at is) e
+poll_is (ScanPollsCrc polled due listed) since check addr s e at is =
+    polled_by Crc check polled addr s (poll_asked (ScanPollsCrc polled due listed) since check addr at is) e
+poll_is (Done end) since check addr s e at is = absurd cc
+poll_is job since check addr s e at is = absurd at

@@ -1,0 +1,190 @@
+-- The stages of a job at a device: what an exchange makes of them.
+use Rattle.std.proofs.Common.{◌≡◌, ◌≢◌, ℕ, suc, ◌<◌, ◌==◌, Bool, true, false, cond, List, ◌∷◌, length, refl, sym, ap, subst, ◌∙◌, Some, None, arith, eq-eqb}
+use Rattle.std.specs.Prelude.{slice_get}
+use Rattle.std.proofs.lemmas.Bool.{eqb-true}
+use Rattle.std.proofs.lemmas.Bool.Decides.{nat_tests}
+use Rattle.cct_model.specs.terms.device.DeviceBody.{DeviceBody}
+use Rattle.cct_model.specs.terms.device.DeviceSetup.{DeviceSetup}
+use Rattle.cct_model.specs.terms.request.Request.{Request}
+use Rattle.cct_model.specs.terms.request.Request.TheVariants.{SetMask}
+use Rattle.cct_model.specs.declared.judging.EpochState.{EpochState}
+use Rattle.cct_model.specs.declared.judging.Judged.{Judged}
+use Rattle.cct_model.specs.lines.command.Command.{Command}
+use Rattle.cct_model.specs.lines.entry.End.TheVariants.{NoAnswer, Told}
+use Rattle.cct_model.specs.Request.{header_of}
+use Rattle.cct_model.specs.Reply.{Reply}
+use Rattle.cct_model.specs.Line.{Line, exchange}
+use Rattle.cct_model.specs.Job.{sends, row, row_at, judged_in, end_of, end_of_answer, end_of_failure, end_of_tries, done, tries, is_once, ident_requests}
+use Rattle.cct_msg.specs.Forms.{FitsItsBytes}
+use Rattle.cct_jobs.specs.declared.job.Job.{Job}
+use Rattle.cct_jobs.specs.declared.stage.Stage.{Stage}
+use Rattle.cct_jobs.specs.declared.stage.Stage.TheVariants.{StartResets, StartReads, StartSets, StopInhibits, Reads, Looks, IdentAsks, PathSets, PathReads}
+use Rattle.cct_jobs.specs.declared.stage.Visit.TheVariants.{Round, Stop}
+use Rattle.cct_jobs.specs.declared.target.Target.{Target}
+use Rattle.cct_jobs.specs.Jobs.{Asking, IsAfter, Knows, Stands, Trying, after_failed, newest_end, own_of, question_after, request_of}
+use Rattle.cct_jobs.proofs.Questions.{next_question, last_question, question_again, question_within, again_fits, read_again, set_again}
+
+-- the row of a stage
+
+row_of_stage : (stage : Stage) (body : DeviceBody) (addr rows : ℕ) (means : Judged) → IsAfter stage body rows
+    → row_at body (own_of stage addr) rows means ≡ sends (request_of stage)
+row_of_stage (StartResets mask) body addr rows means at = rw at refl
+row_of_stage (StartReads mask) body addr rows means at = rw at refl
+row_of_stage (StartSets mask) body addr rows means at = rw at refl
+row_of_stage (StopInhibits recorded) body addr rows means at = rw at refl
+row_of_stage (Reads Round recorded) body addr rows means at = rw at refl
+row_of_stage (Reads Stop recorded) body addr rows means at = rw at refl
+row_of_stage (Looks Round recorded read) body addr rows means at = rw at refl
+row_of_stage (Looks Stop recorded read) body addr rows means at = rw at refl
+row_of_stage (IdentAsks question) body addr rows means at = rw at refl
+row_of_stage (PathSets place path) body addr rows means at = rw at refl
+row_of_stage (PathReads place path) body addr rows means at = rw at refl
+
+-- its request fits its bytes
+
+mask_fits : (mask : ℕ) → FitsItsBytes (SetMask mask)
+mask_fits mask number count e = absurd cc
+
+fits_after : (stage : Stage) (body : DeviceBody) (rows : ℕ) → IsAfter stage body rows → FitsItsBytes (request_of stage)
+fits_after (StartSets mask) body rows at = mask_fits mask
+fits_after (IdentAsks question) body rows at = again_fits question (question_again body rows question at)
+fits_after (PathSets place path) body rows at = again_fits _ (set_again place path)
+fits_after (PathReads place path) body rows at = again_fits _ (read_again place)
+fits_after stage body rows at = again_fits (request_of stage) refl
+
+-- it is tried again, but for the mask of a start
+
+abbrev pub IsAgain : Stage → Type 0
+IsAgain stage = (mask : ℕ) → stage ≢ StartSets mask
+
+again_after : (stage : Stage) (body : DeviceBody) (rows : ℕ) → IsAgain stage → IsAfter stage body rows
+    → is_once (request_of stage) ≡ false
+again_after (StartSets mask) body rows again at = absurd (again mask refl)
+again_after (IdentAsks question) body rows again at = question_again body rows question at
+again_after (PathSets place path) body rows again at = set_again place path
+again_after (PathReads place path) body rows again at = read_again place
+again_after stage body rows again at = refl
+
+-- failed tries
+
+-- what is sent once alone is a mask that lets coins in, or coins paid out
+pub fails_by_tries : (q : Request) (failed : ℕ) → is_once q ≡ false → end_of_failure q failed ≡ end_of_tries failed
+fails_by_tries (SetMask mask) failed again = absurd cc
+fails_by_tries q failed again = refl
+
+-- tries of a row
+pub tried : (q : Request) (since : List Line)
+    → tries (header_of q) (exchange (Some q) None ∷ since) ≡ suc (tries (header_of q) since)
+tried q since = rw (eq-eqb (header_of q) (header_of q) refl) refl
+
+test_none : (b : Bool) (n : ℕ) → cond b None (Some n) ≡ None → b ≡ true
+test_none true n e = refl
+test_none false n e = absurd cc
+
+test_some : (b : Bool) (n m : ℕ) → cond b None (Some n) ≡ Some m → (b ≡ false) × (n ≡ m)
+test_some true n m e = absurd cc
+test_some false n m e = (refl, cc)
+
+-- one more failed try, and that it isn't the third, or is
+pub one_more_try : (failed n : ℕ) → after_failed failed ≡ Some n → failed < 3 → (n ≡ suc failed) × (n < 3)
+one_more_try failed n more few =
+    let parts = test_some (suc failed == 3) (suc failed) n more in
+    let fewer : suc failed < 3 = grind (arith, nat_tests, parts.0) in
+    (sym parts.1, subst (λ k. k < 3) parts.1 fewer)
+
+pub third_try : (failed : ℕ) → after_failed failed ≡ None → suc failed ≡ 3
+third_try failed last = eqb-true _ _ (test_none (suc failed == 3) (suc failed) last)
+
+tries_now : (q : Request) (failed n : ℕ) (since : List Line) → Trying q failed since → n ≡ suc failed
+    → n ≡ tries (header_of q) (exchange (Some q) None ∷ since)
+tries_now q failed n since at is = is ∙ ap suc at.counted ∙ sym (tried q since)
+
+still_knows : (stage : Stage) (since : List Line) (state : EpochState) → Knows stage since state
+    → Knows stage (exchange (Some (request_of stage)) None ∷ since) state
+still_knows (StopInhibits recorded) since state knows = knows
+still_knows (Reads visit recorded) since state knows = knows
+still_knows (Looks visit recorded read) since state knows = knows
+still_knows stage since state knows = tt
+
+module _ {d : DeviceSetup} {device : Target} {stage : Stage} {failed : ℕ} {c : Command} {since : List Line}
+    {state : EpochState} (at : Asking d device stage failed c since state) where
+  -- what a stage sends
+  pub stage_row : row d c since state ≡ sends (request_of stage)
+  stage_row =
+      ap (λ k. row_at d.body k (done since) (judged_in c since state)) at.command_is
+      ∙ row_of_stage stage d.body d.addr (done since) (judged_in c since state) at.is_after
+
+  pub stage_fits : FitsItsBytes (request_of stage)
+  stage_fits = fits_after stage d.body (done since) at.is_after
+
+  -- it is tried again
+  pub stage_again : (n : ℕ) → IsAgain stage → after_failed failed ≡ Some n
+      → Asking d device stage n c (exchange (Some (request_of stage)) None ∷ since) state
+  stage_again n is_again more =
+      let again = again_after stage d.body (done since) is_again at.is_after in
+      let count = one_more_try failed n more at.trying.few in
+      let now = tries_now (request_of stage) failed n since at.trying count.0 in
+      let not_third : (n == 3) ≡ false = grind (arith, nat_tests, count.1) in
+      record {
+        device_is = at.device_is;
+        command_is = at.command_is;
+        is_after = rw again at.is_after;
+        knows = still_knows stage since state at.knows;
+        trying = record { counted = now; few = count.1 };
+        goes_on =
+            fails_by_tries (request_of stage) _ again
+            ∙ ap end_of_tries (sym now)
+            ∙ ap (λ b. cond b (Some NoAnswer) None) not_third;
+      }
+
+  -- or ends the job after the third failed try
+  pub stage_no_answer : IsAgain stage → after_failed failed ≡ None
+      → newest_end d c (exchange (Some (request_of stage)) None ∷ since) state ≡ Some NoAnswer
+  stage_no_answer is_again last =
+      fails_by_tries (request_of stage) _ (again_after stage d.body (done since) is_again at.is_after)
+      ∙ ap end_of_tries (sym (tries_now (request_of stage) failed 3 since at.trying (sym (third_try failed last))))
+
+  -- the end that an answer brings, by the command and what was read
+  pub end_after : (y : Reply)
+      → newest_end d c (exchange (Some (request_of stage)) (Some y) ∷ since) state ≡ end_of_answer d.body
+      (own_of stage d.addr) (suc (done since)) y
+      (judged_in (own_of stage d.addr) (exchange (Some (request_of stage)) (Some y) ∷ since) state)
+  end_after y = ap (λ k. end_of d k (exchange (Some (request_of stage)) (Some y)) since state) at.command_is
+
+-- the questions of an identification
+
+module _ {d : DeviceSetup} {device : Target} {question : Request} {failed : ℕ} {c : Command} {since : List Line}
+    {state : EpochState} (at : Asking d device (IdentAsks question) failed c since state) where
+  next_is : slice_get (ident_requests d.body) (suc (done since)) ≡ question_after device.is_acceptor question
+  next_is =
+      next_question d.body (done since) question at.is_after
+      ∙ ap (λ (t : Target). question_after t.is_acceptor question) (sym at.device_is)
+
+  pub ident_on : (next : Request) (y : Reply) → question_after device.is_acceptor question ≡ Some next
+      → Asking d device (IdentAsks next) 0 c (exchange (Some question) (Some y) ∷ since) state
+  ident_on next y e =
+      let more : slice_get (ident_requests d.body) (suc (done since)) ≡ Some next = next_is ∙ e in
+      record {
+        device_is = at.device_is;
+        command_is = at.command_is;
+        is_after = more;
+        knows = tt;
+        trying = record { counted = refl; few = omega arith };
+        goes_on = end_after at y
+            ∙ ap (λ b. cond b (Some Told) None) (question_within (ident_requests d.body) (suc (done since)) next more);
+      }
+
+  pub ident_told : (y : Reply) → question_after device.is_acceptor question ≡ None
+      → newest_end d c (exchange (Some question) (Some y) ∷ since) state ≡ Some Told
+  ident_told y e =
+      let all : length (ident_requests d.body) ≡ suc (done since) =
+      last_question (ident_requests d.body) (done since) question at.is_after (next_is ∙ e) in
+      end_after at y ∙ ap (λ b. cond b (Some Told) None) (eq-eqb _ _ all)
+
+-- the line of an answer, by the stage and the reply
+pub as_answered : (d : DeviceSetup) (job : Job) (c : Command) (since : List Line) (state : EpochState) (p q : Request)
+    (x y : Reply) → p ≡ q → x ≡ y → Stands d job c (exchange (Some q) (Some y) ∷ since) state
+    → Stands d job c (exchange (Some p) (Some x) ∷ since) state
+as_answered d job c since state p q x y asked shown at =
+    subst (λ r. Stands d job c (exchange (Some r) (Some x) ∷ since) state) (sym asked)
+    (subst (λ r. Stands d job c (exchange (Some q) (Some r) ∷ since) state) (sym shown) at)

@@ -1,0 +1,32 @@
+use Rattle.std.proofs.Common.{◌∷◌, Some, sym, subst}
+use Rattle.cct_model.specs.terms.request.Request.TheVariants.{GetMask}
+use Rattle.cct_model.specs.Line.{exchange}
+use Rattle.cct_model.specs.Reply as reply
+use Rattle.cct_jobs.specs.declared.job.Job.{Job}
+use Rattle.cct_jobs.specs.declared.stage.Stage.TheVariants.{Looks}
+use Rattle.cct_jobs.specs.declared.stage.Visit.{Visit}
+use Rattle.cct_jobs.specs.Jobs.{Asking, Stands}
+use Rattle.cct_jobs.proofs.Epochs.{round_judges, stop_judges}
+use Rattle.cct_jobs.proofs.reading.judged.Goals as goal
+
+pub returns-in-Round-clause-device : goal.returns-in-Round-clause-device
+returns-in-Round-clause-device c = λ d command since state failed at.
+    let device = c.args.device in
+    let here =
+    subst (λ (v : Visit). Asking d device
+    (Looks v c.args.recorded c.args.credits.now) failed command since state) c.in-Round.is at in
+    subst (λ (job : Job). Stands d job command
+    (exchange (Some GetMask) (Some (reply.mask c.args.mask_seen)) ∷ since) state)
+    (sym c.round_judged.ensures.means)
+    (round_judges here c.args.mask_seen c.judge-meaning.result (sym c.judge-meaning.ensures))
+
+pub returns-in-Stop-clause-device : goal.returns-in-Stop-clause-device
+returns-in-Stop-clause-device c = λ d command since state failed at.
+    let device = c.args.device in
+    let here =
+    subst (λ (v : Visit). Asking d device
+    (Looks v c.args.recorded c.args.credits.now) failed command since state) c.in-Stop.is at in
+    subst (λ (job : Job). Stands d job command
+    (exchange (Some GetMask) (Some (reply.mask c.args.mask_seen)) ∷ since) state)
+    (sym c.stop_judged.ensures.means)
+    (stop_judges here c.args.mask_seen c.judge-meaning.result (sym c.judge-meaning.ensures))

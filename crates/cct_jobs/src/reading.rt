@@ -1,0 +1,107 @@
+//! The round, and the stop of an epoch: an acceptor's credits and then its inhibit mask are read, and what they mean is
+//! put; a stop inhibits every coin before, and puts the epoch's end behind (ccTalk Generic Specification 4, part 2,
+//! headers 228, 229 and 230).
+ghost use Rattle.std.specs.Prelude.{◌≡◌, ◌≤◌, List, ℕ, ◌∷◌, Some};
+ghost use Rattle.cct_model.specs.lines.command.Command.{Command};
+ghost use Rattle.cct_model.specs.terms.device.DeviceSetup.{DeviceSetup};
+ghost use Rattle.cct_model.specs.declared.judging.EpochState.{EpochState};
+ghost use Rattle.cct_model.specs.terms.request.ReplyForm.TheVariants as form;
+ghost use Rattle.cct_model.specs.terms.request.Request.TheVariants.{GetMask};
+ghost use Rattle.cct_model.specs.Line.{Line, exchange};
+ghost use Rattle.cct_model.specs.Reply as shown;
+ghost use Rattle.cct_model.specs.Reply.{reply_shown};
+ghost use Rattle.cct_msg.specs.Forms.{form_shown};
+ghost use Rattle.cct_jobs.specs.declared.stage.Stage.TheVariants.{Looks};
+ghost use Rattle.cct_jobs.specs.Jobs.{Asking, Stands, may_put_of, round_after, stop_after, visit_puts};
+
+use crate::job::Job;
+use crate::stage::{Recorded, Visit};
+use crate::target::Target;
+use cct_epoch::{Judged, judge};
+use cct_model::{Credits, End, Reply};
+
+/// The credits that the reply to the question for them is.
+pub(crate) fn credits_in(reply: &Reply<'_>) -> Credits
+    requires { form_shown (reply_shown reply.now) ≡ Some form.Credits }
+    ensures { reply_shown reply.now ≡ shown.credits result }
+{
+    match reply {
+        Reply::Credits(credits) => *credits,
+        _ => unreachable!(),
+    }
+}
+
+/// The inhibit mask that the reply to the question for it is.
+pub(crate) fn mask_in(reply: &Reply<'_>) -> u16
+    requires { form_shown (reply_shown reply.now) ≡ Some form.Mask }
+    ensures { reply_shown reply.now ≡ shown.mask result }
+{
+    match reply {
+        Reply::Mask { mask } => *mask,
+        _ => unreachable!(),
+    }
+}
+
+/// The round or the stop after it read these credits and this mask.
+pub(crate) fn judged(
+    device: Target,
+    visit: Visit,
+    recorded: Recorded,
+    credits: &Credits,
+    mask_seen: u16,
+) -> Job
+    ensures device { (d : DeviceSetup) (c : Command) (since : List Line) (state : EpochState) (failed : ℕ)
+        → Asking d device (Looks visit recorded credits.now) failed c since state
+        → Stands d result c (exchange (Some GetMask) (Some (shown.mask mask_seen)) ∷ since) state }
+    ensures may_put { may_put_of result ≤ visit_puts visit }
+{
+    let meaning = judge(
+        device.addr,
+        recorded.mask,
+        recorded.counter,
+        credits,
+        mask_seen,
+    );
+    match visit {
+        Visit::Round => round_judged(meaning),
+        Visit::Stop => stop_judged(device, meaning),
+    }
+}
+
+/// The round after it judged its reading.
+fn round_judged(meaning: Judged) -> Job
+    ensures means { result ≡ round_after meaning }
+    ensures may_put { may_put_of result ≤ 1 }
+{
+    match meaning {
+        Judged::Nothing => Job::Done(End::Clean),
+        Judged::Reading(entry) => Job::RoundPuts {
+            entry,
+            end: End::Posted,
+        },
+        Judged::Broken(entry) => Job::RoundPuts {
+            entry,
+            end: End::Broke,
+        },
+    }
+}
+
+/// The stop after it judged its reading.
+fn stop_judged(device: Target, meaning: Judged) -> Job
+    ensures means { result ≡ stop_after device meaning }
+    ensures may_put { may_put_of result ≤ 2 }
+{
+    match meaning {
+        Judged::Nothing => Job::StopEnds { device },
+        Judged::Reading(entry) => Job::StopPuts {
+            device,
+            entry,
+            end: None,
+        },
+        Judged::Broken(entry) => Job::StopPuts {
+            device,
+            entry,
+            end: Some(End::Broke),
+        },
+    }
+}

@@ -1,0 +1,119 @@
+//! The rows of jobs at which a device is asked.
+ghost use Rattle.std.specs.Prelude.{◌≡◌};
+ghost use Rattle.cct_jobs.specs.Jobs.{request_of, stage_puts, visit_puts};
+
+use crate::path;
+use cct_model::{Credits, Request};
+
+/// The request that inhibits every coin.
+const INHIBIT: Request = Request::SetMaster { value: 0 };
+
+/// What is recorded of an epoch that runs: its inhibit mask, and the event counter of its last recorded reading, or 0.
+#[derive(Clone, Copy, Debug, PartialEq, Eq)]
+pub struct Recorded {
+    pub mask: u16,
+    pub counter: u8,
+}
+
+/// For what the credits and the inhibit mask of an acceptor are read.
+#[derive(Clone, Copy, Debug, PartialEq, Eq)]
+pub enum Visit {
+    /// A round.
+    Round,
+    /// The stop of its epoch.
+    Stop,
+}
+
+/// A row of a job that asks a device, and what the job knows there.
+#[derive(Clone, Copy, Debug, PartialEq, Eq)]
+pub enum Stage {
+    /// A start resets its acceptor.
+    StartResets {
+        mask: u16,
+    },
+    /// It reads the credits, whose event counter has to be 0.
+    StartReads {
+        mask: u16,
+    },
+    /// It sets the inhibit mask, once.
+    StartSets {
+        mask: u16,
+    },
+    /// A stop inhibits every coin of its acceptor.
+    StopInhibits {
+        recorded: Recorded,
+    },
+    /// A round or a stop reads the credits, beside what is recorded of the epoch.
+    Reads {
+        visit: Visit,
+        recorded: Recorded,
+    },
+    /// It looks at the inhibit mask after these credits were read.
+    Looks {
+        visit: Visit,
+        recorded: Recorded,
+        credits: Credits,
+    },
+    /// An identification asks a device for one of the things that it tells of itself.
+    IdentAsks {
+        question: Request,
+    },
+    /// The sorter path of a coin place is set, or with place 0 the default path.
+    PathSets {
+        place: u8,
+        path: u8,
+    },
+    /// It is read back.
+    PathReads {
+        place: u8,
+        path: u8,
+    },
+}
+
+impl Stage {
+    /// The request that is sent there.
+    pub(crate) fn request(&self) -> Request
+        ensures { result ≡ request_of self.now }
+    {
+        match self {
+            Stage::StartResets { .. } => Request::ResetDevice,
+            Stage::StartReads { .. } => Request::ReadCredits,
+            Stage::StartSets { mask } => Request::SetMask { mask: *mask },
+            Stage::StopInhibits { .. } => INHIBIT,
+            Stage::Reads { .. } => Request::ReadCredits,
+            Stage::Looks { .. } => Request::GetMask,
+            Stage::IdentAsks { question } => *question,
+            Stage::PathSets { place, path } => path::setting(*place, *path),
+            Stage::PathReads { place, .. } => path::reading(*place),
+        }
+    }
+
+    /// How many records a job may still put that is there.
+    pub(crate) fn may_put(&self) -> u32
+        ensures { result ≡ stage_puts self.now }
+    {
+        match self {
+            Stage::StartResets { .. } => 1,
+            Stage::StartReads { .. } => 1,
+            Stage::StartSets { .. } => 0,
+            Stage::StopInhibits { .. } => 2,
+            Stage::Reads { visit, .. } => visit.may_put(),
+            Stage::Looks { visit, .. } => visit.may_put(),
+            Stage::IdentAsks { .. } => 0,
+            Stage::PathSets { .. } => 0,
+            Stage::PathReads { .. } => 0,
+        }
+    }
+}
+
+impl Visit {
+    /// How many records it still leads to: a stop puts the epoch's end too.
+    fn may_put(&self) -> u32
+        ensures { result ≡ visit_puts self.now }
+    {
+        match self {
+            Visit::Round => 1,
+            Visit::Stop => 2,
+        }
+    }
+}

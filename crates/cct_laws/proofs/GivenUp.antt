@@ -1,0 +1,303 @@
+-- A job that ends for want of an answer had a fault set for each of its last three exchanges.
+use Rattle.std.proofs.Common.{◌≡◌, ℕ, zero, suc, ◌==◌, ◌≤◌, cond, true, false, Bool, List, [], ◌∷◌, ◌++◌, refl, sym, subst, Option, Some, None, inl, inr, MatchBool, arith, All, eq-eqb, eqb-true}
+use Rattle.std.proofs.lemmas.Bool.{true≢false, false≢true}
+use Rattle.cct_model.specs.terms.wire.CheckKind.{CheckKind}
+use Rattle.cct_model.specs.terms.wire.CheckKind.TheVariants.{Simple, Crc}
+use Rattle.cct_model.specs.terms.device.DeviceSetup.{DeviceSetup}
+use Rattle.cct_model.specs.terms.device.Setup.{Setup}
+use Rattle.cct_model.specs.terms.request.Request.{Request}
+use Rattle.cct_model.specs.lines.command.Command.{Command}
+use Rattle.cct_model.specs.lines.command.Command.TheVariants as command
+use Rattle.cct_model.specs.lines.command.Step.{Step}
+use Rattle.cct_model.specs.lines.entry.End.{End}
+use Rattle.cct_model.specs.lines.entry.End.TheVariants.{NoAnswer}
+use Rattle.cct_model.specs.lines.entry.Entry.{Entry}
+use Rattle.cct_model.specs.lines.entry.Entry.TheVariants as entry
+use Rattle.cct_model.specs.Request.{header_of}
+use Rattle.cct_model.specs.Reply.{Reply}
+use Rattle.cct_model.specs.Device.{IsAcceptor}
+use Rattle.cct_model.specs.Setup.{IsSoundSetup}
+use Rattle.cct_model.specs.Exchange.{asked, after_echo}
+use Rattle.cct_model.specs.Line.{Line, accepted, inhibited, alien, fell, reset, exchange, scanned, put, taken, ended}
+use Rattle.cct_model.specs.Job.{Job, free, works, job, with_line, tries, address_of}
+use Rattle.cct_model.specs.Scan.{scan_tries}
+use Rattle.cct_model.specs.Claims.{AllPast}
+use Rattle.cct_model.specs.Legal.{Legal}
+use Rattle.cct_model.specs.Script.{IsInRange}
+use Rattle.cct_model.specs.Transcript.{own, owner, lines_of, scan_own, scan_lines, scan_line, got_by, onto}
+use Rattle.cct_laws.specs.Faults.{IsFaultSet, FailsByFault, EchoFailsByFault, begins, AreFaulted, EndsByFaults}
+use Rattle.cct_laws.specs.Law.{IsOf, EachEntry}
+use Rattle.cct_laws.specs.Tries.{failed_tries, failed_in, TriesAt, HasThreeTries, ScanTriesAt}
+use Rattle.cct_laws.proofs.Faults.{legal_fails, legal_echoes}
+use Rattle.cct_laws.proofs.Scans.{IsPoll, tries_more, scan_line_is, legal_scans}
+use Rattle.cct_laws.proofs.Tries.{tries_most, legal_tries}
+
+-- fewer of the newest exchanges
+fewer_by : (here : Bool) (P Q R S : Type 0) → (P → R) → (Q → S) → MatchBool here P Q → MatchBool here R S
+fewer_by true P Q R S first second holds = first holds
+fewer_by false P Q R S first second holds = second holds
+
+fewer : (addr few many : ℕ) (past : List Entry) → few ≤ many → AreFaulted addr many past → AreFaulted addr few past
+fewer addr zero many past less holds = tt
+fewer addr (suc few) zero past less holds = absurd (omega (arith, less))
+fewer addr (suc few) (suc many) [] less holds = absurd holds
+fewer addr (suc few) (suc many) (entry.Wire other sent piece ∷ past) less holds =
+    fewer_by (other == addr) _ _ _ _ (λ h. (h.0, fewer addr few many past (omega (arith, less)) h.1))
+    (fewer addr (suc few) (suc many) past less) holds
+fewer addr (suc few) (suc many) (entry.Taken c ∷ past) less holds =
+    fewer_by (begins addr c) _ _ _ _ (λ h. h) (fewer addr (suc few) (suc many) past less) holds
+fewer addr (suc few) (suc many) (e ∷ past) less holds = fewer addr (suc few) (suc many) past less holds
+
+-- what passes over an entry for each number passes for any
+over : (addr many : ℕ) (past : List Entry) (e : Entry) →
+    ((more : ℕ) → AreFaulted addr (suc more) past → AreFaulted addr (suc more) (e ∷ past)) → AreFaulted addr many past →
+    AreFaulted addr many (e ∷ past)
+over addr zero past e passes holds = tt
+over addr (suc many) past e passes holds = passes many holds
+
+-- an entry that is a line, or is none, by which no more tries of the job failed
+line_faulted : (failed : Job → ℕ) (addr : ℕ) (past : List Entry) (e : Entry) (here : Bool) (l : Line)
+    (lines : List Line) →
+    failed (job (l ∷ lines)) ≤ failed (job lines) →
+    ((more : ℕ) → AreFaulted addr (suc more) past → AreFaulted addr (suc more) (e ∷ past)) →
+    AreFaulted addr (failed (job lines)) past → AreFaulted addr (failed
+    (job (cond here (l ∷ []) [] ++ lines))) (e ∷ past)
+line_faulted failed addr past e true l lines less passes before =
+    over addr (failed (job (l ∷ lines))) past e passes
+    (fewer addr (failed (job (l ∷ lines))) (failed (job lines)) past less before)
+line_faulted failed addr past e false l lines less passes before = over addr (failed (job lines)) past e passes before
+
+-- a command that begins a job
+begun_faulted : (failed : Job → ℕ) (addr : ℕ) (past : List Entry) (c : Command) (here : Bool) (lines : List Line) →
+    begins addr c ≡ here → failed (job (taken c ∷ lines)) ≡ 0 → AreFaulted addr (failed (job lines)) past →
+    AreFaulted addr (failed (job (cond here (taken c ∷ []) [] ++ lines))) (entry.Taken c ∷ past)
+begun_faulted failed addr past c true lines test none before = rw none tt
+begun_faulted failed addr past c false lines test none before =
+    over addr (failed (job lines)) past (entry.Taken c)
+    (λ more h. subst (λ b. MatchBool b ⊥ (AreFaulted addr (suc more) past)) (sym test) h) before
+
+-- an exchange: a failed one had a fault
+wire_faulted : (addr other : ℕ) (past : List Entry) (sent piece : List ℕ) (here : Bool) (few many : ℕ) →
+    (other == addr) ≡ here → few ≤ suc many → (1 ≤ few → here ≡ true → IsFaultSet past) → (here ≡ false → few ≤ many) →
+    AreFaulted addr many past → AreFaulted addr few (entry.Wire other sent piece ∷ past)
+wire_faulted addr other past sent piece here zero many test less fails same before = tt
+wire_faulted addr other past sent piece true (suc few) many test less fails same before =
+    subst (λ b. MatchBool b (IsFaultSet past × AreFaulted addr few past) (AreFaulted addr (suc few) past)) (sym test)
+    (fails (omega arith) refl, fewer addr few many past (omega (arith, less)) before)
+wire_faulted addr other past sent piece false (suc few) many test less fails same before =
+    subst (λ b. MatchBool b (IsFaultSet past × AreFaulted addr few past) (AreFaulted addr (suc few) past)) (sym test)
+    (fewer addr (suc few) many past (same refl) before)
+
+-- the failed tries of a job at a device
+line_fewer : (l : Line) (j : Job) → ((since : List Line) → failed_tries (l ∷ since) ≤ failed_tries since) →
+    failed_in (with_line l j) ≤ failed_in j
+line_fewer l free less = omega arith
+line_fewer l (works c since) less = less since
+
+one_more : (asks : Option Request) (found : Option Reply) (j : Job) →
+    failed_in (with_line (exchange asks found) j) ≤ suc (failed_in j)
+one_more asks found free = omega arith
+one_more None found (works c since) = omega arith
+one_more (Some q) (Some y) (works c since) = omega arith
+one_more (Some q) None (works c since) = omega (arith, tries_most (header_of q) since)
+
+unanswered : (asks : Option Request) (found : Option Reply) (j : Job) →
+    1 ≤ failed_in (with_line (exchange asks found) j) →
+    found ≡ None
+unanswered asks found free some = absurd (omega (arith, some))
+unanswered None found (works c since) some = absurd (omega (arith, some))
+unanswered (Some q) (Some y) (works c since) some = absurd (omega (arith, some))
+unanswered (Some q) None (works c since) some = refl
+
+exchange_faulted : (d : DeviceSetup) (past : List Entry) (addr : ℕ) (sent piece : List ℕ) (here : Bool) →
+    (addr == d.addr) ≡ here →
+    FailsByFault d past (entry.Wire addr sent piece) → AreFaulted d.addr (failed_in (job (lines_of d past))) past →
+    AreFaulted d.addr (failed_in (job (cond here (exchange (asked d.kind sent) (got_by d sent piece) ∷ [])
+    [] ++ lines_of d past)))
+    (entry.Wire addr sent piece ∷ past)
+exchange_faulted d past addr sent piece true test fails before =
+    let j = job (lines_of d past) in
+    wire_faulted d.addr addr past sent piece true (failed_in
+    (with_line (exchange (asked d.kind sent) (got_by d sent piece)) j)) (failed_in j) test
+    (one_more (asked d.kind sent) (got_by d sent piece) j)
+    (λ some here. fails (eqb-true addr d.addr test) (unanswered (asked d.kind sent) (got_by d sent piece) j some))
+    (λ away. absurd (true≢false away)) before
+exchange_faulted d past addr sent piece false test fails before =
+    let many = failed_in (job (lines_of d past)) in
+    wire_faulted d.addr addr past sent piece false many many test (omega arith) (λ some here. absurd (false≢true here))
+    (λ away. omega arith) before
+
+-- each failed try of it had a fault
+faulted_at : (d : DeviceSetup) (past : List Entry) (e : Entry) → FailsByFault d past e →
+    AreFaulted d.addr (failed_in (job (lines_of d past))) past →
+    AreFaulted d.addr (failed_in (job (lines_of d (e ∷ past)))) (e ∷ past)
+faulted_at d past (entry.Accepted addr c) fails before =
+    line_faulted failed_in d.addr past _ (addr == d.addr) (accepted c) (lines_of d past) (omega arith) (λ more h. h)
+    before
+faulted_at d past (entry.Inhibited addr place) fails before =
+    line_faulted failed_in d.addr past _ (addr == d.addr) (inhibited place) (lines_of d past) (omega arith)
+    (λ more h. h) before
+faulted_at d past (entry.Alien addr) fails before =
+    line_faulted failed_in d.addr past _ (addr == d.addr) alien (lines_of d past) (omega arith) (λ more h. h) before
+faulted_at d past (entry.Fell addr) fails before =
+    line_faulted failed_in d.addr past _ (addr == d.addr) fell (lines_of d past) (omega arith) (λ more h. h) before
+faulted_at d past (entry.Reset addr) fails before =
+    line_faulted failed_in d.addr past _ (addr == d.addr) reset (lines_of d past) (omega arith) (λ more h. h) before
+faulted_at d past (entry.Taken (command.Halt addr)) fails before =
+    line_faulted failed_in d.addr past _ (addr == d.addr) (taken (command.Halt addr)) (lines_of d past)
+    (line_fewer (taken (command.Halt addr)) (job (lines_of d past)) (λ since. omega arith)) (λ more h. h) before
+faulted_at d past (entry.Taken c) fails before =
+    begun_faulted failed_in d.addr past c (address_of c == d.addr) (lines_of d past) refl refl before
+faulted_at d past (entry.Wire addr sent piece) fails before =
+    exchange_faulted d past addr sent piece (addr == d.addr) refl fails before
+faulted_at d past (entry.Put r) fails before =
+    line_faulted failed_in d.addr past _ (owner past r == d.addr) (put r) (lines_of d past)
+    (line_fewer (put r) (job (lines_of d past)) (λ since. omega arith)) (λ more h. h) before
+faulted_at d past (entry.Kept r) fails before =
+    line_faulted failed_in d.addr past _ (owner past r == d.addr) (put r) (lines_of d past)
+    (line_fewer (put r) (job (lines_of d past)) (λ since. omega arith)) (λ more h. h) before
+faulted_at d past (entry.Ended addr end) fails before =
+    line_faulted failed_in d.addr past _ (addr == d.addr) (ended end) (lines_of d past) (omega arith) (λ more h. h)
+    before
+faulted_at d past (entry.Crash records) fails before = tt
+faulted_at d past e fails before = over d.addr (failed_in (job (lines_of d past))) past e (λ more h. h) before
+
+-- what was before a front of lines
+older_lines : (P : List Line → Line → Type 0) (front lines : List Line) → AllPast P (front ++ lines) → AllPast P lines
+older_lines P [] lines all = all
+older_lines P (l ∷ front) lines all = older_lines P front lines all.1
+
+-- where its third failed try ends it, three faults were set
+third_there : (addr other : ℕ) (end : End) (P : List Line → Line → Type 0) (lines : List Line) → other ≡ addr →
+    AllPast P (cond (other == addr) (ended end ∷ []) [] ++ lines) → P lines (ended end)
+third_there addr other end P lines same all = by_here (other == addr) (eq-eqb other addr same) all
+  where
+    by_here : (here : Bool) → here ≡ true → AllPast P (cond here (ended end ∷ []) [] ++ lines) → P lines (ended end)
+    by_here true is all = all.0
+    by_here false is all = absurd cc
+
+ends_at : (d : DeviceSetup) (past : List Entry) (e : Entry) → AllPast TriesAt (lines_of d (e ∷ past)) →
+    AreFaulted d.addr (failed_in (job (lines_of d past))) past → EndsByFaults d.addr past e
+ends_at d past (entry.Ended addr NoAnswer) tries before =
+    λ same. subst (λ n. AreFaulted d.addr n past) (third_there d.addr addr NoAnswer TriesAt (lines_of d past)
+    same tries) before
+ends_at d past e tries before = tt
+
+-- both, along the entries
+record Ends (addr many : ℕ) (past : List Entry) : Type 0 where
+  faulted : AreFaulted addr many past
+  each : EachEntry (EndsByFaults addr) past
+
+all_ends : (d : DeviceSetup) (past : List Entry) → EachEntry (FailsByFault d) past → AllPast TriesAt (lines_of d past) →
+    Ends d.addr (failed_in (job (lines_of d past))) past
+all_ends d [] fails tries = record { faulted = tt; each = tt }
+all_ends d (e ∷ past) fails tries =
+    let before = all_ends d past fails.1 (older_lines TriesAt (own d past e) (lines_of d past) tries) in
+    record {
+      faulted = faulted_at d past e fails.0 before.faulted;
+      each = (ends_at d past e tries before.faulted, before.each);
+    }
+
+-- a job that ends for want of an answer had a fault at each of its last three exchanges
+pub legal_ends : (setup : Setup) (steps : List Step) (transcript : List Entry) (d : DeviceSetup) → IsSoundSetup setup →
+    IsOf setup d → IsAcceptor d.body → All IsInRange steps → Legal setup steps transcript →
+    EachEntry (EndsByFaults d.addr) (onto [] transcript)
+legal_ends setup steps transcript d sound own accepting in_range legal =
+    (all_ends d (onto [] transcript) (legal_fails setup steps transcript d sound own accepting in_range legal)
+    (legal_tries setup steps transcript d sound own legal)).each
+
+-- the failed tries of a scan under a check
+abbrev scan_failed : CheckKind → Job → ℕ
+scan_failed check free = 0
+scan_failed check (works c since) = scan_tries check since
+
+scan_fewer : (check : CheckKind) (c : Command) (j : Job) →
+    scan_failed check (with_line (taken c) j) ≤ scan_failed check j
+scan_fewer check c free = omega arith
+scan_fewer check c (works at_work since) = omega arith
+
+one_poll : (check other : CheckKind) (addr : ℕ) (rest : Option (List ℕ)) (j : Job) →
+    scan_failed check (with_line (scanned other addr rest) j) ≤ suc (scan_failed check j)
+one_poll check other addr rest free = omega arith
+one_poll check other addr rest (works c since) = tries_more check other addr rest since
+
+unheard_poll : (check other : CheckKind) (addr : ℕ) (rest : Option (List ℕ)) (j : Job) →
+    1 ≤ scan_failed check (with_line (scanned other addr rest) j) → rest ≡ None
+unheard_poll check other addr rest free some = absurd (omega (arith, some))
+unheard_poll check other addr None (works c since) some = refl
+unheard_poll check other addr (Some rest) (works c since) some = absurd (omega (arith, some))
+
+poll_faulted : (check : CheckKind) (past : List Entry) (addr : ℕ) (sent piece : List ℕ) (here : Bool) (l : Line) →
+    IsPoll (after_echo sent piece) l → (addr == 0) ≡ here → EchoFailsByFault past (entry.Wire addr sent piece) →
+    AreFaulted 0 (scan_failed check (job (scan_lines past))) past →
+    AreFaulted 0 (scan_failed check (job (cond here (l ∷ []) [] ++ scan_lines past)))
+    (entry.Wire addr sent piece ∷ past)
+poll_faulted check past addr sent piece true l is test fails before =
+    let j = job (scan_lines past) in
+    subst (λ x. AreFaulted 0 (scan_failed check (job (x ∷ scan_lines past))) (entry.Wire addr sent piece ∷ past))
+    (sym is.2)
+    (wire_faulted 0 addr past sent piece true (scan_failed check
+    (with_line (scanned is.0 is.1 (after_echo sent piece)) j))
+    (scan_failed check j) test (one_poll check is.0 is.1 (after_echo sent piece) j)
+    (λ some here. fails (unheard_poll check is.0 is.1 (after_echo sent piece) j some))
+    (λ away. absurd (true≢false away)) before)
+poll_faulted check past addr sent piece false l is test fails before =
+    let many = scan_failed check (job (scan_lines past)) in
+    wire_faulted 0 addr past sent piece false many many test (omega arith) (λ some here. absurd (false≢true here))
+    (λ away. omega arith) before
+
+scan_faulted_at : (check : CheckKind) (past : List Entry) (e : Entry) → EchoFailsByFault past e →
+    AreFaulted 0 (scan_failed check (job (scan_lines past))) past →
+    AreFaulted 0 (scan_failed check (job (scan_lines (e ∷ past)))) (e ∷ past)
+scan_faulted_at check past (entry.Taken (command.Halt addr)) fails before =
+    line_faulted (scan_failed check) 0 past _ (addr == 0) (taken (command.Halt addr)) (scan_lines past)
+    (scan_fewer check (command.Halt addr) (job (scan_lines past))) (λ more h. h) before
+scan_faulted_at check past (entry.Taken c) fails before =
+    begun_faulted (scan_failed check) 0 past c (address_of c == 0) (scan_lines past) refl refl before
+scan_faulted_at check past (entry.Wire addr sent piece) fails before =
+    poll_faulted check past addr sent piece (addr == 0) (scan_line sent piece) (scan_line_is sent piece)
+    refl fails before
+scan_faulted_at check past (entry.Ended addr end) fails before =
+    line_faulted (scan_failed check) 0 past _ (addr == 0) (ended end) (scan_lines past) (omega arith) (λ more h. h)
+    before
+scan_faulted_at check past (entry.Crash records) fails before = tt
+scan_faulted_at check past e fails before =
+    over 0 (scan_failed check (job (scan_lines past))) past e (λ more h. h) before
+
+-- where its third failed try ends it, three faults were set
+three_faulted : (past : List Entry) (j : Job) → HasThreeTries j → AreFaulted 0 (scan_failed Simple j) past →
+    AreFaulted 0 (scan_failed Crc j) past → AreFaulted 0 3 past
+three_faulted past free three simple crc = absurd three
+three_faulted past (works c since) (inl is) simple crc = subst (λ n. AreFaulted 0 n past) is simple
+three_faulted past (works c since) (inr is) simple crc = subst (λ n. AreFaulted 0 n past) is crc
+
+scan_ends_at : (past : List Entry) (e : Entry) → AllPast ScanTriesAt (scan_lines (e ∷ past)) →
+    AreFaulted 0 (scan_failed Simple (job (scan_lines past))) past →
+    AreFaulted 0 (scan_failed Crc (job (scan_lines past))) past → EndsByFaults 0 past e
+scan_ends_at past (entry.Ended addr NoAnswer) tries simple crc =
+    λ same. three_faulted past (job (scan_lines past))
+    (third_there 0 addr NoAnswer ScanTriesAt (scan_lines past) same tries) simple crc
+scan_ends_at past e tries simple crc = tt
+
+record ScanEnds (past : List Entry) : Type 0 where
+  simple : AreFaulted 0 (scan_failed Simple (job (scan_lines past))) past
+  crc : AreFaulted 0 (scan_failed Crc (job (scan_lines past))) past
+  each : EachEntry (EndsByFaults 0) past
+
+all_scan_ends : (past : List Entry) → EachEntry EchoFailsByFault past → AllPast ScanTriesAt (scan_lines past) →
+    ScanEnds past
+all_scan_ends [] fails tries = record { simple = tt; crc = tt; each = tt }
+all_scan_ends (e ∷ past) fails tries =
+    let before = all_scan_ends past fails.1 (older_lines ScanTriesAt (scan_own e) (scan_lines past) tries) in
+    record {
+      simple = scan_faulted_at Simple past e fails.0 before.simple;
+      crc = scan_faulted_at Crc past e fails.0 before.crc;
+      each = (scan_ends_at past e tries before.simple before.crc, before.each);
+    }
+
+-- a scan that ends for want of an answer had a fault at each of its last three polls
+pub legal_scan_ends : (setup : Setup) (steps : List Step) (transcript : List Entry) → IsSoundSetup setup →
+    Legal setup steps transcript → EachEntry (EndsByFaults 0) (onto [] transcript)
+legal_scan_ends setup steps transcript sound legal =
+    (all_scan_ends (onto [] transcript) (legal_echoes setup steps transcript legal)
+    (legal_scans setup steps transcript sound legal)).each

@@ -1,0 +1,5 @@
+use Rattle.cct_laws.proofs.Faults.{legal_fails, legal_echoes}
+use Rattle.cct_laws.proofs.a_failed_exchange_had_a_fault.Goals as goal
+
+pub returns : goal.returns
+returns c = record { replies = legal_fails; echoes = legal_echoes }

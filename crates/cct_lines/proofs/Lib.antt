@@ -1,0 +1,8 @@
+pub use Rattle.cct_terms.proofs.Messages
+pub use Rattle.cct_terms.proofs.Requests
+pub use Rattle.cct_terms.proofs.Replaced
+mod Scripts
+mod Sets
+mod Ordered
+mod Words
+pub mod Added

@@ -1,0 +1,84 @@
+-- The definitions of scripts and of scans at worked values.
+use Rattle.std.proofs.Common.{◌≡◌, [], ◌∷◌, ◌++◌, Some, None, codes, refl}
+use Rattle.std.specs.Prelude.{Ok, Err}
+use Rattle.cct_lines.specs.terms.wire.CheckKind.TheVariants.{Simple}
+use Rattle.cct_lines.specs.declared.setup.SetupLine.TheVariants as says
+use Rattle.cct_lines.specs.declared.command.Step.TheVariants as step
+use Rattle.cct_lines.specs.declared.command.Command.TheVariants as command
+use Rattle.cct_lines.specs.declared.command.WireFault.TheVariants as fault
+use Rattle.cct_lines.specs.declared.entry.LineKind.TheVariants as kind
+use Rattle.hex.specs.Hex.{decode_pairs}
+use Rattle.cct_lines.specs.Grammar.{setup_line, step_line, ranged, id_in, piece_in, mask_in, plain_device, plain_acceptor, added}
+use Rattle.cct_lines.specs.Script.{script, most_lines, read_form}
+
+acceptor_said : setup_line (codes "acceptor 2 simple 1 0") ≡ Ok (says.Acceptor (plain_device 2 Simple 1 (plain_acceptor 0)))
+unfolding setup_line ranged
+acceptor_said = refl
+
+address_one_refused : setup_line (codes "value 1 1 5 XX005A") ≡ Err kind.Form
+unfolding setup_line ranged
+address_one_refused = refl
+
+value_said : setup_line (codes "value 2 1 100 XX100A") ≡ Ok (says.Value 2 1 100 (codes "XX100A"))
+unfolding setup_line ranged id_in
+value_said = refl
+
+coin_said : step_line (codes "coin 2 16") ≡ Ok (step.Coin 2 16)
+unfolding step_line ranged
+coin_said = refl
+
+leading_zero_refused : step_line (codes "coin 02 5") ≡ Err kind.Form
+unfolding step_line ranged
+leading_zero_refused = refl
+
+two_spaces_refused : step_line (codes "coin  2 5") ≡ Err kind.Form
+unfolding step_line ranged
+two_spaces_refused = refl
+
+capitals_refused : step_line (codes "COIN 2 5") ≡ Err kind.Word
+unfolding step_line
+capitals_refused = refl
+
+empty_line_refused : step_line [] ≡ Err kind.Word
+unfolding step_line
+empty_line_refused = refl
+
+fault_said : step_line (codes "fault host 02fF") ≡ Ok (step.Fault (fault.HostHears (2 ∷ 255 ∷ [])))
+unfolding step_line piece_in decode_pairs
+fault_said = refl
+
+empty_piece_said : step_line (codes "fault whole -") ≡ Ok (step.Fault (fault.WholeHeard []))
+unfolding step_line piece_in decode_pairs
+empty_piece_said = refl
+
+start_said : step_line (codes "start 2 00Ff") ≡ Ok (step.Command (command.Start 2 255))
+unfolding step_line ranged mask_in decode_pairs
+start_said = refl
+
+mask_of_none_refused : step_line (codes "start 2 0000") ≡ Err kind.Form
+unfolding step_line ranged mask_in decode_pairs
+mask_of_none_refused = refl
+
+nothing_refused : (script (codes "begin" ++ 10 ∷ codes "end" ++ 10 ∷ [])).refused ≡ None
+unfolding script read_form setup_line step_line most_lines
+nothing_refused = refl
+
+cut_at_once : (script []).refused ≡ Some (record { number = 1; why = kind.Cut })
+unfolding script most_lines
+cut_at_once = refl
+
+trailing_refused : (script (codes "begin" ++ 10 ∷ codes "end" ++ 10 ∷ 10 ∷ [])).refused ≡ Some (record { number = 3; why = kind.Trailing })
+unfolding script read_form setup_line step_line most_lines
+trailing_refused = refl
+
+no_acceptor_refused : (script (codes "begin" ++ 10 ∷ codes "coin 2 5" ++ 10 ∷ [])).refused ≡ Some (record { number = 2; why = kind.Device })
+unfolding script read_form setup_line step_line ranged most_lines
+no_acceptor_refused = refl
+
+given_twice_refused : (script (codes "acceptor 2 simple 1 0" ++ 10 ∷ codes "value 2 1 5 XX005A" ++ 10 ∷ codes "value 2 1 5 XX005A" ++ 10 ∷ [])).refused ≡ Some (record { number = 3; why = kind.Again })
+unfolding script read_form setup_line step_line ranged id_in added most_lines
+given_twice_refused = refl
+
+later_word_refused : (script (codes "begin" ++ 10 ∷ codes "vend" ++ 10 ∷ [])).refused ≡ Some (record { number = 2; why = kind.Word })
+unfolding script read_form setup_line most_lines
+later_word_refused = refl

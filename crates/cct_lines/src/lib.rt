@@ -1,0 +1,20 @@
+//! What a line is: the steps and commands of a script, the records of the host's journal and the entries of a transcript,
+//! and in `specs/` the grammar of a script, what a whole script says, and the text of a transcript.
+#![tactic(auto)]
+
+mod command;
+mod device_set;
+mod entry;
+mod record;
+mod setup;
+
+pub use cct_terms::{
+    BROADCAST, Bytes, COIN_PLACES, CheckKind, Coin, Coins, Credits, DEVICES, DeviceBody,
+    DeviceSetup, Devices, EVENTS, HOST, MOST_HEARD, MOST_NAME, MOST_SENT, Name, PATHS, Pair, Piece,
+    Reply, ReplyForm, Request, Sent, Setup, Texts, has_place,
+};
+pub use command::{Command, CommandNo, CrashAt, Step, WireFault};
+pub use device_set::DeviceSet;
+pub use entry::{End, Entry, LineKind, Listed, MOST_LINE, MOST_LINES, MOST_TEXT, SumOf, Totals};
+pub use record::Record;
+pub use setup::SetupLine;

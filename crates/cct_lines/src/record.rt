@@ -1,0 +1,57 @@
+//! The records of the host's journal.
+
+use crate::Coins;
+
+/// A record of the host's journal. A record is the post: the coins in it are those that the machine counts.
+#[derive(Clone, Debug, Drop)]
+pub enum Record {
+    /// An epoch begins at acceptor `addr`: it is to accept the coin places of this inhibit mask.
+    Epoch {
+        addr: u8,
+        mask: u16,
+    },
+    /// A reading of acceptor `addr`: the event counter that was read, how many events were overrun and so are lost,
+    /// and the coins that are posted, oldest first.
+    Reading {
+        addr: u8,
+        counter: u8,
+        lost: u8,
+        posted: Coins,
+    },
+    /// A reading that shows that acceptor `addr` was reset or isn't set as it was: the inhibit mask and the event
+    /// counter that were read, and the coins that are posted, oldest first. It ends the epoch.
+    Broken {
+        addr: u8,
+        mask_seen: u16,
+        counter: u8,
+        posted: Coins,
+    },
+    /// The epoch of acceptor `addr` ends.
+    EpochEnd {
+        addr: u8,
+    },
+    /// An order is opened: hopper `addr`, whose life count was read, is to pay so many coins.
+    Opened {
+        id: u32,
+        addr: u8,
+        count: u8,
+        life: u32,
+    },
+    /// An order is closed: so many of its coins were paid, and so many were not.
+    Closed {
+        id: u32,
+        paid: u8,
+        unpaid: u8,
+    },
+    /// An order is closed whose life counts tell more coins than were ordered.
+    Odd {
+        id: u32,
+        life_before: u32,
+        life_after: u32,
+    },
+    /// Something was sold.
+    Sold {
+        id: u32,
+        price: u32,
+    },
+}

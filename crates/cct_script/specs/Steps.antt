@@ -1,0 +1,50 @@
+-- The words of step lines in groups of a few: what stands behind none of a group's words, the next group says.
+use Rattle.std.specs.Prelude.{ℕ, List, if◌then◌else◌, Result, Err, codes, bytes_eq}
+use Rattle.std.specs.Option.{ok_or}
+use Rattle.cct_lines.specs.declared.command.Command.TheVariants as command
+use Rattle.cct_lines.specs.declared.command.Step.{Step}
+use Rattle.cct_lines.specs.declared.command.Step.TheVariants as step
+use Rattle.cct_lines.specs.declared.entry.LineKind.{LineKind}
+use Rattle.cct_lines.specs.declared.entry.LineKind.TheVariants as kind
+use Rattle.cct_lines.specs.Grammar.{alone, coin_step, crash_step, fault_step, path_step, pay_step, start_step}
+use Rattle.cct_lines.specs.Grammar.{step_at, vend_step}
+
+-- The other commands, a power cut, and what the operator reads.
+unfoldable pub other_step : List ℕ → List (List ℕ) → Result Step LineKind
+other_step word fields =
+    if bytes_eq word (codes "path") then ok_or (path_step fields) kind.Form
+    else if bytes_eq word (codes "vend") then ok_or (vend_step fields) kind.Form
+    else if bytes_eq word (codes "crash") then ok_or (crash_step fields) kind.Form
+    else if bytes_eq word (codes "balance") then ok_or (alone step.Balance fields) kind.Form
+    else if bytes_eq word (codes "end") then ok_or (alone step.End fields) kind.Form
+    else Err kind.Word
+
+-- The commands to a hopper, and those that ask of devices; then the others.
+unfoldable pub order_step : List ℕ → List (List ℕ) → Result Step LineKind
+order_step word fields =
+    if bytes_eq word (codes "settle") then ok_or (step_at (λ a. step.Command (command.Settle a)) fields) kind.Form
+    else if bytes_eq word (codes "halt") then ok_or (step_at (λ a. step.Command (command.Halt a)) fields) kind.Form
+    else if bytes_eq word (codes "ident") then ok_or (step_at (λ a. step.Command (command.Ident a)) fields) kind.Form
+    else if bytes_eq word (codes "pay") then ok_or (pay_step fields) kind.Form
+    else if bytes_eq word (codes "scan") then ok_or (alone (step.Command command.Scan) fields) kind.Form
+    else other_step word fields
+
+-- The next attempt of a job, what is wrong on the wire, and the commands of an epoch; then the others.
+unfoldable pub epoch_step : List ℕ → List (List ℕ) → Result Step LineKind
+epoch_step word fields =
+    if bytes_eq word (codes "next") then ok_or (step_at step.Next fields) kind.Form
+    else if bytes_eq word (codes "fault") then ok_or (fault_step fields) kind.Form
+    else if bytes_eq word (codes "start") then ok_or (start_step fields) kind.Form
+    else if bytes_eq word (codes "round") then ok_or (step_at (λ a. step.Command (command.Round a)) fields) kind.Form
+    else if bytes_eq word (codes "stop") then ok_or (step_at (λ a. step.Command (command.Stop a)) fields) kind.Form
+    else order_step word fields
+
+-- What happens to a device; then the others.
+unfoldable pub device_step : List ℕ → List (List ℕ) → Result Step LineKind
+device_step word fields =
+    if bytes_eq word (codes "coin") then ok_or (coin_step fields) kind.Form
+    else if bytes_eq word (codes "alien") then ok_or (step_at step.Alien fields) kind.Form
+    else if bytes_eq word (codes "fall") then ok_or (step_at step.Fall fields) kind.Form
+    else if bytes_eq word (codes "jam") then ok_or (step_at step.Jam fields) kind.Form
+    else if bytes_eq word (codes "reset") then ok_or (step_at step.Reset fields) kind.Form
+    else epoch_step word fields

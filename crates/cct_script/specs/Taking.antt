@@ -1,0 +1,38 @@
+-- What the reader of lines takes from its source.
+use Rattle.std.specs.Prelude.{◌≡◌, ℕ, ◌+◌, ◌-◌, ◌<◌, List, [], ◌∷◌, ◌++◌, length, position, Option, Some, None}
+use Rattle.std.specs.Prelude.{Result, Ok, Err}
+use Rattle.std.specs.Io.KnownBytes.{Consumes}
+use Rattle.cct_edge.specs.declared.fault.Failed.{Failed}
+use Rattle.cct_lines.specs.declared.entry.TheConstants.{MOST_LINE}
+use Rattle.cct_lines.specs.Script.{is_line_feed}
+use Rattle.cct_script.specs.declared.lines.LinesNo.{LinesNo}
+use Rattle.cct_script.specs.declared.lines.LinesNo.TheVariants as no
+
+-- of a source of which is known what a take does, and which bytes it tells as left
+module _ {S : Type 0} (takes : S → ℕ → Result ℕ Failed → S → Type 0) (left : S → Option (List ℕ)) where
+  -- Takes from a source, each made while the bytes held had no line feed and left room for more, and into all of that
+  -- room; what each brought is held behind the rest.
+  pub data TakesOn (held : List ℕ) (before : S) : List ℕ → S → Type 0 where
+    no_take : TakesOn held before held before
+    take_more : (old piece new : List ℕ) (from to : S) → TakesOn held before old from →
+        position is_line_feed old ≡ None → length old < MOST_LINE + 1 →
+        takes from (MOST_LINE + 1 - length old) (Ok (length piece)) to →
+        Consumes (left from) (left to) piece → new ≡ old ++ piece →
+        TakesOn held before new to
+
+  -- Such takes, and behind them one that failed, made as they were.
+  pub record TakesUntilFault (held : List ℕ) (before : S) (taken : List ℕ) (now : S) : Type 0 where
+    pub last : S
+    pub before_it : TakesOn held before taken last
+    pub none : position is_line_feed taken ≡ None
+    pub room : length taken < MOST_LINE + 1
+    pub why : Failed
+    pub fails : takes last (MOST_LINE + 1 - length taken) (Err why) now
+
+  -- The takes that one line needed, or the end of the input, or a refusal: none was made once a line feed was held, and
+  -- none behind one that failed.
+  abbrev pub TakesForLine : List ℕ → S → S → Result (Option (List ℕ)) LinesNo → Type 0
+  TakesForLine held before now (Ok (Some line)) = (rest : List ℕ) × TakesOn held before (line ++ 10 ∷ rest) now
+  TakesForLine held before now (Ok None) = TakesOn held before [] now
+  TakesForLine held before now (Err no.Read) = (taken : List ℕ) × TakesUntilFault held before taken now
+  TakesForLine held before now (Err why) = (taken : List ℕ) × TakesOn held before taken now

@@ -1,0 +1,4 @@
+pub mod Messages
+mod Vectors
+pub mod Requests
+pub mod Replaced

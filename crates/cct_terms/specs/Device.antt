@@ -1,0 +1,93 @@
+-- A device of a setup: what it is, and what it replies after all that it met.
+use Rattle.std.specs.Prelude.{ℕ, ◌-◌, ◌<◌, ◌≤◌, ◌≡◌, ◌^◌, Bool, true, false, List, length, Option, Some, None, codes, slice_index_or, ⊤}
+use Rattle.std.specs.List.{All}
+use Rattle.std.specs.Option.{option_or}
+use Rattle.cct_terms.specs.declared.coin.TheConstants.{COIN_PLACES}
+use Rattle.cct_terms.specs.declared.wire.TheConstants.{MOST_NAME}
+use Rattle.cct_terms.specs.declared.device.DeviceBody.{DeviceBody}
+use Rattle.cct_terms.specs.declared.device.DeviceBody.TheVariants.{Acceptor, Hopper}
+use Rattle.cct_terms.specs.declared.device.DeviceSetup.{DeviceSetup}
+use Rattle.cct_terms.specs.declared.request.Request.{Request}
+use Rattle.cct_terms.specs.declared.request.Request.TheVariants.{SimplePoll, MakerId, Category, ProductCode, SerialNumber, SoftwareRevision, BuildCode, CommsRevision, ResetDevice}
+use Rattle.cct_terms.specs.Reply.{Reply}
+use Rattle.cct_terms.specs.Reply as reply
+use Rattle.cct_terms.specs.History.{Met}
+use Rattle.cct_terms.specs.Acceptor.{acceptor_reply}
+
+-- A printing character: a byte from 21 to 7e in hexadecimal.
+abbrev pub IsPrinting : ℕ → Type 0
+IsPrinting byte = (33 ≤ byte) × (byte ≤ 126)
+
+-- A text by which a device names itself: 1 to 24 printing characters.
+abbrev pub IsWord : List ℕ → Type 0
+IsWord text = (1 ≤ length text) × (length text ≤ MOST_NAME) × All IsPrinting text
+
+-- The identification of a coin: six printing characters.
+abbrev pub IsId : List ℕ → Type 0
+IsId id = (length id ≡ 6) × All IsPrinting id
+
+-- The numbers and the identifications of a kind of device are in their ranges; an acceptor has one of each for each of
+-- its coin places.
+abbrev pub IsSoundBody : DeviceBody → Type 0
+IsSoundBody (Acceptor accepts values ids) =
+    (accepts < 2 ^ 24) × All (λ value. value ≤ 1000000) values × All IsId ids × (length values ≡ COIN_PLACES) × (length ids ≡ COIN_PLACES)
+IsSoundBody (Hopper life value) = (life < 2 ^ 24) × (1 ≤ value) × (value ≤ 1000000)
+
+-- The numbers and the texts of a device are in their ranges.
+pub record IsSound (d : DeviceSetup) : Type 0 where
+  pub low : 2 ≤ d.addr
+  pub high : d.addr ≤ 255
+  pub serial : d.serial < 2 ^ 24
+  pub maker : IsWord d.texts.maker
+  pub product : IsWord d.texts.product
+  pub software : IsWord d.texts.software
+  pub build : IsWord d.texts.build
+  pub body : IsSoundBody d.body
+
+-- The device is a coin acceptor.
+abbrev pub IsAcceptor : DeviceBody → Type 0
+IsAcceptor (Acceptor accepts values ids) = ⊤
+IsAcceptor (Hopper life value) = ⊥
+
+-- The device is a hopper.
+abbrev pub IsHopper : DeviceBody → Type 0
+IsHopper (Acceptor accepts values ids) = ⊥
+IsHopper (Hopper life value) = ⊤
+
+-- Whether a device is a coin acceptor.
+abbrev pub is_acceptor : DeviceBody → Bool
+is_acceptor (Acceptor accepts values ids) = true
+is_acceptor (Hopper life value) = false
+
+-- The value of a coin place of a device, 0 where it has none.
+abbrev pub value_at : DeviceBody → ℕ → ℕ
+value_at (Acceptor accepts values ids) place = slice_index_or values (place - 1) 0
+value_at (Hopper life value) place = 0
+
+-- The equipment category of a device.
+abbrev pub category_of : DeviceBody → List ℕ
+category_of (Acceptor accepts values ids) = codes "Coin Acceptor"
+category_of (Hopper life value) = codes "Payout"
+
+-- The reply of a device to a request that every device answers, or none.
+unfoldable pub common_reply : DeviceSetup → Request → Option Reply
+common_reply d SimplePoll = Some reply.ack
+common_reply d MakerId = Some (reply.text d.texts.maker)
+common_reply d Category = Some (reply.text (category_of d.body))
+common_reply d ProductCode = Some (reply.text d.texts.product)
+common_reply d SerialNumber = Some (reply.serial d.serial)
+common_reply d SoftwareRevision = Some (reply.text d.texts.software)
+common_reply d BuildCode = Some (reply.text d.texts.build)
+common_reply d CommsRevision = Some (reply.revision 1 4 0)
+common_reply d ResetDevice = Some reply.ack
+common_reply d q = None
+
+-- The reply of a device that met all this to a request that its kind alone answers, or none. A hopper answers no such
+-- request yet.
+abbrev pub own_reply : DeviceBody → List Met → Request → Option Reply
+own_reply (Acceptor accepts values ids) past q = acceptor_reply accepts ids past q
+own_reply (Hopper life value) past q = None
+
+-- The reply of a device that met all this to a request, or none.
+unfoldable pub reply_of : DeviceSetup → List Met → Request → Option Reply
+reply_of d past q = option_or (common_reply d q) (own_reply d.body past q)

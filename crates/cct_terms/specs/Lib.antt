@@ -1,0 +1,10 @@
+pub mod Message
+pub mod Request
+pub mod Reply
+pub mod History
+pub mod Setting
+pub mod Acceptor
+pub mod Device
+pub mod Exchange
+pub mod Setup
+pub mod Lending

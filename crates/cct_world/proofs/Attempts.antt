@@ -1,0 +1,299 @@
+-- One attempt of a job at a place, and what it leaves.
+use Rattle.std.proofs.Common.{◌≡◌, ℕ, zero, suc, Bool, true, false, cond, List, [], ◌∷◌, ◌++◌, append_assoc, reverse, refl, sym, ap, subst, ◌∙◌, Option, Some, None}
+use Rattle.cct_model.specs.terms.coin.Credits.{Credits}
+use Rattle.cct_model.specs.terms.device.DeviceBody.{DeviceBody}
+use Rattle.cct_model.specs.terms.device.DeviceSetup.{DeviceSetup}
+use Rattle.cct_model.specs.terms.request.Request.{Request}
+use Rattle.cct_model.specs.lines.record.Record.{Record}
+use Rattle.cct_model.specs.lines.command.Command.{Command}
+use Rattle.cct_model.specs.lines.command.Command.TheVariants as command
+use Rattle.cct_model.specs.lines.entry.End.{End}
+use Rattle.cct_model.specs.lines.entry.Entry.{Entry}
+use Rattle.cct_model.specs.lines.entry.Entry.TheVariants as entry
+use Rattle.cct_model.specs.declared.judging.EpochState.{EpochState}
+use Rattle.cct_model.specs.declared.judging.EpochState.TheVariants.{Idle, Running}
+use Rattle.cct_model.specs.declared.judging.Judged.TheVariants.{Nothing, Reading, Broken}
+use Rattle.cct_model.specs.Exchange.{ask}
+use Rattle.cct_model.specs.Line.{Line}
+use Rattle.cct_model.specs.Line as line
+use Rattle.cct_model.specs.Job as model
+use Rattle.cct_model.specs.Legal.{PollEntries, RowEntries, with_end}
+use Rattle.cct_model.specs.Reading.{judge}
+use Rattle.cct_model.specs.Scan.{end_of_scan}
+use Rattle.cct_model.specs.Transcript.{lines_of, owner, scan_line}
+use Rattle.cct_jobs.specs.declared.job.Job.{Job}
+use Rattle.cct_jobs.specs.declared.job.Need.{Need}
+use Rattle.cct_jobs.specs.declared.job.Need.TheVariants as need
+use Rattle.cct_jobs.specs.Jobs.{Needs, PutsNext, Stands, line_heard}
+use Rattle.cct_jobs.specs.Scans.{NeedsScan, StandsScan}
+use Rattle.cct_world.specs.declared.desk.JobDesk.{JobDesk}
+use Rattle.cct_world.specs.Attempt as attempt
+use Rattle.cct_world.specs.Desk.{Attempts, Goes, Keeps, Knows, Works}
+use Rattle.cct_world.specs.Exchange.{Converses, Ends, Talks}
+use Rattle.cct_world.specs.Place.{Asks, AsksNext, NextAt, Place, StandsAt, addr_of, device, end_at, line_at, lines_at, scans}
+use Rattle.cct_world.specs.Running.{Settles}
+use Rattle.cct_world.proofs.Keeps.{asked_keeps, left_keeps, put_keeps}
+use Rattle.cct_world.proofs.Lines.{end_at_too, idle_at, idle_line, own_wire, put_at, wire_at}
+
+-- wherever a job is, its row sends something next; at a device it puts this record next, and goes on by it; and it is
+-- no scan
+abbrev AsksOn : Job → Type 0
+AsksOn job = (place : Place) (c : Command) (since : List Line) (n : EpochState) → StandsAt place job c since n
+    → AsksNext place c since n
+
+abbrev PutsOn : Job → Record → Type 0
+PutsOn job r = (d : DeviceSetup) (c : Command) (since : List Line) (n : EpochState) → Stands d job c since n
+    → PutsNext r d c since n
+
+abbrev GoesByPut : Job → Record → Job → Type 0
+GoesByPut old r new = (d : DeviceSetup) (c : Command) (since : List Line) (n after : EpochState)
+    → Stands d old c since n → Stands d new c (line.put r ∷ since) after
+
+abbrev IsNoScan : Job → Type 0
+IsNoScan job = (since : List Line) → StandsScan job since → ⊥
+
+-- what a job needs, wherever it is
+abbrev NeedsAt : Job → Need → Type 0
+NeedsAt job n = (d : DeviceSetup) (c : Command) (since : List Line) (state : EpochState) → Stands d job c since state
+    → Needs n d c since state
+
+abbrev NeedsScanning : Job → Need → Type 0
+NeedsScanning job n = (since : List Line) → StandsScan job since → NeedsScan n since
+
+-- what a report tells after an entry, and the end that it brought
+reported_with : (report told reported : List Entry) (addr : ℕ) (e : Entry) (end : Option End) (new : Job)
+    (kept : Option Job) → told ≡ report ++ e ∷ []
+    → Settles end new addr kept told reported → reported ≡ report ++ reverse (with_end addr e end)
+reported_with report told reported addr e None new kept told_is settled = settled.1 ∙ told_is
+reported_with report told reported addr e (Some end) new kept told_is settled =
+    settled.1 ∙ ap (λ es. es ++ entry.Ended addr end ∷ []) told_is
+    ∙ append_assoc report (e ∷ []) (entry.Ended addr end ∷ [])
+
+-- no job: the address is idle
+idle_by : (hears : List ℕ → List ℕ) (place : Place) (past : List Entry) (state : EpochState) (j : model.Job)
+    → Works place None j state → NextAt hears place past j (entry.Idle (addr_of place) ∷ [])
+idle_by hears (device d) past state model.free works = refl
+idle_by hears scans past state model.free works = refl
+idle_by hears place past state (model.works c since) works = absurd works
+
+idle_goes : (hears : List ℕ → List ℕ) (place : Place) (past : List Entry) (state : EpochState)
+    → Keeps place None state (lines_at place past)
+    → Goes hears place past (entry.Idle (addr_of place) ∷ []) None state
+idle_goes hears place past state keeps = record {
+  entries = idle_by hears place past _ (model.job (lines_at place past)) keeps.works;
+  at = idle_at (addr_of place) past;
+  keeps = subst (Keeps place None state) (sym (idle_line (addr_of place) place past)) keeps;
+}
+
+pub idle_attempts : {L : Type 0} (gives : L → List ℕ → List ℕ → L → Type 0) (link : L) (addr : ℕ) (state : EpochState)
+    (desk : JobDesk) (report reported : List Entry)
+    → desk.job ≡ None → desk.epoch ≡ state → reported ≡ report ++ entry.Idle addr ∷ []
+    → Attempts gives link link addr None state desk report reported
+idle_attempts gives link addr state desk report reported none same is = record {
+  what = attempt.idle;
+  reported_is = is;
+  link = refl;
+  goes = λ hears place past heard at keeps.
+      subst (λ a. Goes hears place past (entry.Idle a ∷ []) desk.job desk.epoch) at
+      (subst (λ j. Goes hears place past (entry.Idle (addr_of place) ∷ []) j desk.epoch) (sym none)
+      (subst (λ n. Goes hears place past (entry.Idle (addr_of place) ∷ []) None n) (sym same)
+      (idle_goes hears place past state keeps)));
+}
+
+-- the entries of an exchange
+device_entries : (hears : List ℕ → List ℕ) (d : DeviceSetup) (past : List Entry) (c : Command) (since : List Line)
+    (q : Request) (sent heard : List ℕ) (end : Option End)
+    → sent ≡ ask d.kind d.addr q → heard ≡ hears sent
+    → end ≡ model.end_of d c (line_heard d sent heard) since (model.epoch (lines_of d past))
+    → RowEntries hears d past c since (model.sends q) (with_end d.addr (entry.Wire d.addr sent heard) end)
+device_entries hears d past c since q sent heard end sent_is heard_is end_is =
+    let n = model.epoch (lines_of d past) in
+    subst (λ s. with_end d.addr (entry.Wire d.addr sent heard) end ≡ with_end d.addr (entry.Wire d.addr s (hears s))
+    (model.end_of d c (line_heard d s (hears s)) since n)) sent_is
+    (ap (with_end d.addr (entry.Wire d.addr sent heard)) end_is
+    ∙ ap (λ p. with_end d.addr (entry.Wire d.addr sent p) (model.end_of d c (line_heard d sent p) since n)) heard_is)
+
+asked_entries : (hears : List ℕ → List ℕ) (place : Place) (past : List Entry) (c : Command) (since : List Line)
+    (sent heard : List ℕ) (end : Option End)
+    → Asks place c since (model.epoch (lines_at place past)) sent → heard ≡ hears sent
+    → end ≡ end_at place c (line_at place sent heard) since (model.epoch (lines_at place past))
+    → NextAt hears place past (model.works c since)
+    (with_end (addr_of place) (entry.Wire (addr_of place) sent heard) end)
+asked_entries hears (device d) past c since sent heard end asks heard_is end_is =
+    subst (λ r. RowEntries hears d past c since r (with_end d.addr (entry.Wire d.addr sent heard) end)) (sym asks.1)
+    (device_entries hears d past c since asks.0 sent heard end asks.2 heard_is end_is)
+asked_entries hears scans past c since sent heard end asks heard_is end_is =
+    let a = addr_of scans in
+    subst (λ r. PollEntries hears since r (with_end a (entry.Wire a sent heard) end)) (sym asks.1)
+    (subst (λ s. with_end a (entry.Wire a sent heard) end ≡ with_end a (entry.Wire a s (hears s))
+    (end_of_scan (scan_line s (hears s) ∷ since))) asks.2
+    (ap (with_end a (entry.Wire a sent heard)) end_is
+    ∙ ap (λ p. with_end a (entry.Wire a sent p) (end_of_scan (scan_line sent p ∷ since))) heard_is))
+
+asked_by : (hears : List ℕ → List ℕ) (place : Place) (past : List Entry) (old new : Job) (state : EpochState)
+    (sent heard : List ℕ) (end : Option End) (kept : Option Job) (told reported : List Entry) (j : model.Job)
+    → model.job (lines_at place past) ≡ j → Works place (Some old) j (model.epoch (lines_at place past))
+    → Knows place state (lines_at place past)
+    → AsksOn old → Talks old sent heard new → Ends new end → heard ≡ hears sent
+    → Settles end new (addr_of place) kept told reported
+    → Goes hears place past (with_end (addr_of place) (entry.Wire (addr_of place) sent heard) end) kept state
+asked_by hears place past old new state sent heard end kept told reported model.free was works knows needs talks ends
+    heard_is settled = absurd works
+asked_by hears place past old new state sent heard end kept told reported (model.works c since) was works knows needs
+    talks ends heard_is settled =
+    let n = model.epoch (lines_at place past) in
+    let e = entry.Wire (addr_of place) sent heard in
+    let after = talks place c since n works (needs place c since n works) in
+    record {
+      entries = subst (λ k. NextAt hears place past k (with_end (addr_of place) e end)) (sym was)
+          (asked_entries hears place past c since sent heard end after.0 heard_is
+          (ends place c (line_at place sent heard) since n after.1));
+      at = end_at_too (addr_of place) past e end (wire_at (addr_of place) past sent heard);
+      keeps = left_keeps place kept new state past e end told reported settled
+          (subst (Keeps place (Some new) state) (sym (own_wire place sent heard past))
+          (asked_keeps place c since state sent heard new (lines_at place past) after.1 was knows));
+    }
+
+-- a job asks
+pub ask_attempts : {L : Type 0} (gives : L → List ℕ → List ℕ → L → Type 0) (before after : L) (addr : ℕ) (old new : Job)
+    (state : EpochState) (desk : JobDesk) (end : Option End) (report told reported : List Entry)
+    → AsksOn old → Converses gives before after addr old new report told → Ends new end
+    → Settles end new addr desk.job told reported
+    → desk.epoch ≡ state
+    → Attempts gives before after addr (Some old) state desk report reported
+ask_attempts gives before after addr old new state desk end report told reported needs talk ends settled same = record {
+  what = attempt.asked talk.sent talk.heard end;
+  reported_is = reported_with report told reported addr (entry.Wire addr talk.sent talk.heard) end new desk.job
+      talk.reported_is settled;
+  link = talk.goes;
+  goes = λ hears place past heard_is at keeps.
+      subst (λ n. Goes hears place past (with_end addr (entry.Wire addr talk.sent talk.heard) end) desk.job n)
+      (sym same)
+      (subst (λ a. Settles end new a desk.job told reported
+      → Goes hears place past (with_end a (entry.Wire a talk.sent talk.heard) end) desk.job state) at
+      (λ s. asked_by hears place past old new state talk.sent talk.heard end desk.job told reported
+      (model.job (lines_at place past)) refl keeps.works keeps.knows needs talk.talks ends heard_is s) settled);
+}
+
+-- whose record a job puts
+
+owner_chosen : (b z : Bool) (past : List Entry) (r s e : Record) (other : model.Row) (addr : ℕ) → owner past r ≡ addr
+    → owner past s ≡ addr → (other ≡ model.puts e → owner past e ≡ addr)
+    → model.put_or other (cond b (Broken r) (cond z Nothing (Reading s))) ≡ model.puts e → owner past e ≡ addr
+owner_chosen true z past r s e other addr own_r own_s own_other h =
+    let same : r ≡ e = cc in
+    ap (owner past) (sym same) ∙ own_r
+owner_chosen false true past r s e other addr own_r own_s own_other h = own_other h
+owner_chosen false false past r s e other addr own_r own_s own_other h =
+    let same : s ≡ e = cc in
+    ap (owner past) (sym same) ∙ own_s
+
+owner_judged : (addr : ℕ) (state : EpochState) (credits : Option Credits) (seen : Option ℕ) (other : model.Row)
+    (past : List Entry) (e : Record) → (other ≡ model.puts e → owner past e ≡ addr)
+    → model.put_or other (model.judged_by addr state credits seen) ≡ model.puts e → owner past e ≡ addr
+unfolding judge
+owner_judged addr (Running mask counter) (Some c) (Some seen) other past e own_other h =
+    owner_chosen _ _ past _ _ e other addr refl refl own_other h
+owner_judged addr (Running mask counter) (Some c) None other past e own_other h = own_other h
+owner_judged addr (Running mask counter) None seen other past e own_other h = own_other h
+owner_judged addr Idle credits seen other past e own_other h = own_other h
+
+own_put : (past : List Entry) (r e : Record) (addr : ℕ) → owner past r ≡ addr → model.puts r ≡ model.puts e
+    → owner past e ≡ addr
+own_put past r e addr own h =
+    let same : r ≡ e = cc in
+    ap (owner past) (sym same) ∙ own
+
+send_never_puts : (found : Option Request) (r : Record) → model.send_row found ≡ model.puts r → ⊥
+send_never_puts None r e = cc
+send_never_puts (Some q) r e = cc
+
+row_owner : (body : DeviceBody) (c : Command) (rows : ℕ) (state : EpochState) (credits : Option Credits)
+    (seen : Option ℕ) (past : List Entry) (e : Record)
+    → model.row_at body c rows (model.judged_by (model.address_of c) state credits seen) ≡ model.puts e
+    → owner past e ≡ model.address_of c
+row_owner body (command.Start addr mask) zero state credits seen past e h = absurd cc
+row_owner body (command.Start addr mask) (suc zero) state credits seen past e h = absurd cc
+row_owner body (command.Start addr mask) (suc (suc zero)) state credits seen past e h = own_put past _ e addr refl h
+row_owner body (command.Start addr mask) (suc (suc (suc zero))) state credits seen past e h = absurd cc
+row_owner body (command.Start addr mask) (suc (suc (suc (suc rows)))) state credits seen past e h = absurd cc
+row_owner body (command.Round addr) zero state credits seen past e h = absurd cc
+row_owner body (command.Round addr) (suc zero) state credits seen past e h = absurd cc
+row_owner body (command.Round addr) (suc (suc zero)) state credits seen past e h =
+    owner_judged addr state credits seen model.no_row past e (λ n. absurd cc) h
+row_owner body (command.Round addr) (suc (suc (suc rows))) state credits seen past e h = absurd cc
+row_owner body (command.Stop addr) zero state credits seen past e h = absurd cc
+row_owner body (command.Stop addr) (suc zero) state credits seen past e h = absurd cc
+row_owner body (command.Stop addr) (suc (suc zero)) state credits seen past e h = absurd cc
+row_owner body (command.Stop addr) (suc (suc (suc zero))) state credits seen past e h =
+    owner_judged addr state credits seen _ past e (λ n. own_put past _ e addr refl n) h
+row_owner body (command.Stop addr) (suc (suc (suc (suc zero)))) state credits seen past e h =
+    own_put past _ e addr refl h
+row_owner body (command.Stop addr) (suc (suc (suc (suc (suc rows))))) state credits seen past e h = absurd cc
+row_owner body (command.Ident addr) rows state credits seen past e h = absurd (send_never_puts _ e h)
+row_owner body (command.Path addr place path) zero state credits seen past e h = absurd cc
+row_owner body (command.Path addr place path) (suc zero) state credits seen past e h = absurd cc
+row_owner body (command.Path addr place path) (suc (suc rows)) state credits seen past e h = absurd cc
+row_owner body c rows state credits seen past e h = absurd cc
+
+-- what a put leaves
+put_by : (hears : List ℕ → List ℕ) (place : Place) (past : List Entry) (old new : Job) (r : Record)
+    (state last : EpochState) (end : Option End) (kept : Option Job) (told reported : List Entry) (j : model.Job)
+    → model.job (lines_at place past) ≡ j → Works place (Some old) j (model.epoch (lines_at place past))
+    → Knows place state (lines_at place past) → last ≡ model.epoch_by r state
+    → PutsOn old r → IsNoScan old → GoesByPut old r new → Ends new end
+    → Settles end new (addr_of place) kept told reported
+    → Goes hears place past (with_end (addr_of place) (entry.Put r) end) kept last
+put_by hears place past old new r state last end kept told reported model.free was works knows moved needs no_scan goes
+    ends settled = absurd works
+put_by hears scans past old new r state last end kept told reported (model.works c since) was works knows moved needs
+    no_scan goes ends settled = absurd (no_scan since works)
+put_by hears (device d) past old new r state last end kept told reported (model.works c since) was works knows moved
+    needs no_scan goes ends settled =
+    let n = model.epoch (lines_of d past) in
+    let puts = needs d c since n works in
+    let own : owner past r ≡ d.addr = row_owner d.body c (model.done since) n (model.credits_read since)
+    (model.mask_read since) past r puts.row_is ∙ puts.is_here in
+    let end_is : end ≡ model.end_of d c (line.put r) since n =
+    ends (device d) c (line.put r) since n (goes d c since n n works) in
+    record {
+      entries = subst (λ k. NextAt hears (device d) past k (with_end d.addr (entry.Put r) end)) (sym was)
+          (subst (λ x. RowEntries hears d past c since x (with_end d.addr (entry.Put r) end)) (sym puts.row_is)
+          (ap (with_end d.addr (entry.Put r)) end_is));
+      at = end_at_too d.addr past (entry.Put r) end (put_at d.addr past r own);
+      keeps = left_keeps (device d) kept new last past (entry.Put r) end told reported settled
+          (put_keeps d c since r past last new own (λ after. goes d c since n after works) was
+          (moved ∙ ap (model.epoch_by r) knows));
+    }
+
+-- a job puts its record
+pub put_attempts : {L : Type 0} (gives : L → List ℕ → List ℕ → L → Type 0) (link : L) (addr : ℕ) (old new : Job)
+    (r : Record) (state : EpochState) (desk : JobDesk) (end : Option End) (report told reported : List Entry)
+    → PutsOn old r → IsNoScan old → GoesByPut old r new → Ends new end
+    → told ≡ report ++ entry.Put r ∷ [] → Settles end new addr desk.job told reported
+    → desk.epoch ≡ model.epoch_by r state
+    → Attempts gives link link addr (Some old) state desk report reported
+put_attempts gives link addr old new r state desk end report told reported needs no_scan after ends told_is settled
+    moved = record {
+      what = attempt.put r end;
+      reported_is = reported_with report told reported addr (entry.Put r) end new desk.job told_is settled;
+      link = refl;
+      goes = λ hears place past heard_is at keeps.
+          subst (λ a. Settles end new a desk.job told reported
+          → Goes hears place past (with_end a (entry.Put r) end) desk.job desk.epoch) at
+          (λ s. put_by hears place past old new r state desk.epoch end desk.job told reported
+          (model.job (lines_at place past)) refl keeps.works keeps.knows moved needs no_scan after ends s) settled;
+    }
+
+-- what a job needs, wherever it is
+pub asks_next : (n : Need) (job : Job) → n ≡ need.Exchange → NeedsAt job n → NeedsScanning job n → AsksOn job
+asks_next n job is row scan (device d) c since state stands =
+    subst (λ k. Needs k d c since state) is (row d c since state stands)
+asks_next n job is row scan scans c since state stands = subst (λ k. NeedsScan k since) is (scan since stands)
+
+pub puts_next : (n : Need) (job : Job) (r : Record) → n ≡ need.Put r → NeedsAt job n → PutsOn job r
+puts_next n job r is row d c since state stands =
+    subst (λ k. Needs k d c since state) is (row d c since state stands)
+
+pub no_scan : (n : Need) (job : Job) (r : Record) → n ≡ need.Put r → NeedsScanning job n → IsNoScan job
+no_scan n job r is scan since stands = subst (λ k. NeedsScan k since) is (scan since stands)

@@ -1,0 +1,27 @@
+use Rattle.std.proofs.Common.{sym}
+use Rattle.cct_model.specs.Exchange.{device_at}
+use Rattle.cct_world.specs.Place.{scans}
+use Rattle.cct_world.proofs.Places.{scan_turn}
+use Rattle.cct_world.proofs.Steps.{of_scan}
+use Rattle.cct_world.proofs.host.Host.bare_next.Goals as goal
+
+pub returns-then-addr-eq-BROADCAST-clause-nexts : goal.returns-then-addr-eq-BROADCAST-clause-nexts
+returns-then-addr-eq-BROADCAST-clause-nexts g c =
+    let setup = c.args.self.now.setup.now in
+    let attempt = c.next.ensures in
+    record {
+      what = attempt.what;
+      reported_is = attempt.reported_is;
+      link = attempt.link;
+      goes = λ hears past heard stands.
+          let goes = attempt.goes hears scans past heard (sym c.if-addr-eq-BROADCAST.true) stands.scan in (
+            of_scan hears (device_at setup.devices c.args.addr) _ past _ c.args.addr c.requires.bare
+                c.if-addr-eq-BROADCAST.true goes.entries,
+            record {
+              sound = stands.sound;
+              desks = scan_turn setup _ past _ stands.sound goes.at stands.desks;
+              scan =
+                  goes.keeps;
+            },
+          );
+    }

@@ -1,0 +1,28 @@
+use Rattle.std.proofs.Common.{[], ◌∷◌, ap, refl, subst}
+use Rattle.cct_model.specs.Job.{address_of}
+use Rattle.cct_model.specs.Legal.{command_entry}
+use Rattle.cct_world.specs.Desk.{no_of}
+use Rattle.cct_world.specs.Place.{AreAt}
+use Rattle.cct_world.proofs.Commands.{stays_by}
+use Rattle.cct_world.proofs.Lines.{command_at}
+use Rattle.cct_world.proofs.Places.{scan_turn}
+use Rattle.cct_world.proofs.host.Host.command.Goals as goal
+
+pub returns-in-Scan-clause-stays : goal.returns-in-Scan-clause-stays
+returns-in-Scan-clause-stays c = stays_by _ _ _ _ _ _ _ c.scan.ensures.stays (λ same. refl) (λ same. same)
+
+pub returns-in-Scan-clause-answers : goal.returns-in-Scan-clause-answers
+returns-in-Scan-clause-answers c past stands =
+    let refused = no_of c.scan.result in
+    let answered = c.scan.ensures.commands past stands.scan in
+    let news = command_entry c.args.command.now refused ∷ [] in
+    let at = subst (λ a. AreAt a past news) (ap address_of c.in-Scan.is)
+    (command_at past c.args.command.now refused) in (
+      answered.0,
+      record {
+        sound = stands.sound;
+        desks =
+            scan_turn c.args.self.now.setup.now _ past news stands.sound at stands.desks;
+        scan = answered.1;
+      },
+    )

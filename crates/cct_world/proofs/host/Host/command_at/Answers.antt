@@ -1,0 +1,62 @@
+use Rattle.std.proofs.Common.{◌∙◌, [], ◌∷◌, get_or, set, ap, refl, subst, sym}
+use Rattle.std.specs.List.{position}
+use Rattle.std.proofs.lemmas.List.{set-get_or}
+use Rattle.cct_model.specs.lines.command.CommandNo.TheVariants.{NoDevice}
+use Rattle.cct_model.specs.Exchange.{device_at}
+use Rattle.cct_model.specs.Legal.{command_entry}
+use Rattle.cct_world.specs.Desk.{no_of}
+use Rattle.cct_world.specs.Place.{AreAt}
+use Rattle.cct_world.proofs.Commands.{absent_refused, stays_by}
+use Rattle.cct_world.proofs.Lines.{command_at, refused_quiet}
+use Rattle.cct_world.proofs.Places.{absent, desk_lent, desk_sits, device_found, device_turn, found_in, is_at, refilled}
+use Rattle.cct_world.proofs.Steps.{host_quiet}
+use Rattle.cct_world.proofs.host.Host.command_at.Goals as goal
+
+pub command-requires-clause-there : goal.command-requires-clause-there
+command-requires-clause-there c =
+    let devices = c.args.self.now.setup.now.devices in
+    let lent = c.as_slice-devices.ensures.value in
+    let d = c.index-devices-index.result in
+    let found = found_in devices _ c.args.addr _ c.in-Some.index lent c.index_of.ensures.first c.in-Some.is in
+    let is = c.index-devices-index.is ∙ ap (λ ds. get_or ds c.in-Some.index d) lent in
+    ap (device_at devices) c.requires.address ∙ (device_found devices c.in-Some.index d c.args.addr found is).1
+
+pub returns-in-None-clause-answers : goal.returns-in-None-clause-answers
+returns-in-None-clause-answers c past stands =
+    let setup = c.args.self.now.setup.now in
+    let first = c.index_of.ensures.first ∙ ap (position (is_at c.args.addr)) c.as_slice-devices.ensures.value in
+    let none = absent setup.devices c.args.addr _ first c.in-None.is in
+    let bare = ap (device_at setup.devices) c.requires.address ∙ none in (
+      absent_refused setup past c.args.command.now c.requires.played c.requires.no_scan bare,
+      host_quiet c.args.self.now past _ (refused_quiet past c.args.command.now NoDevice) stands,
+    )
+
+pub returns-in-Some-clause-stays : goal.returns-in-Some-clause-stays
+returns-in-Some-clause-stays c =
+    let ks = c.args.self.now.desks.items in
+    let i = c.in-Some.index in
+    let y = c.index-deref_mut-index.result in
+    let lent = c.deref_mut.ensures.value in
+    stays_by _ _ _ _ _ _ _ c.command.ensures.stays
+    (λ same. refilled ks _ i c.command.new.self lent ∙ ap (set ks i) (same ∙ ap (λ ls. get_or ls i y) lent)
+    ∙ set-get_or ks i y) (λ same. refl)
+
+pub returns-in-Some-clause-answers : goal.returns-in-Some-clause-answers
+returns-in-Some-clause-answers c past stands =
+    let setup = c.args.self.now.setup.now in
+    let ks = c.args.self.now.desks.items in
+    let i = c.in-Some.index in
+    let d = c.index-devices-index.result in
+    let lent = c.as_slice-devices.ensures.value in
+    let kept = c.deref_mut.ensures.value in
+    let found = found_in setup.devices _ c.args.addr _ i lent c.index_of.ensures.first c.in-Some.is in
+    let is = c.index-devices-index.is ∙ ap (λ ds. get_or ds i d) lent in
+    let y = desk_lent ks _ i c.index-deref_mut-index.result kept c.index-deref_mut-index.is in
+    let within = (device_found setup.devices i d c.args.addr found is).0 in
+    let sits = desk_sits setup.devices ks i d _ past within is y stands.desks in
+    let answered = c.command.ensures.commands past sits in
+    let news = command_entry c.args.command.now (no_of c.command.result) ∷ [] in
+    let at = subst (λ a. AreAt a past news) c.requires.address (command_at past c.args.command.now _) in
+    let turned = device_turn setup ks _ c.args.self.now.scan i c.command.new.self d c.args.addr past news stands.sound
+    kept found is at answered.1 stands.desks stands.scan in
+    (answered.0, record { sound = stands.sound; desks = turned.0; scan = turned.1 })

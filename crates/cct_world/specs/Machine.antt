@@ -1,0 +1,26 @@
+-- A host and a bus that stand for all that happened on them.
+use Rattle.std.specs.Prelude.{List, ◌++◌, reverse}
+use Rattle.cct_model.specs.terms.device.Setup.{Setup}
+use Rattle.cct_model.specs.lines.command.Step.{Step}
+use Rattle.cct_model.specs.lines.entry.Entry.{Entry}
+use Rattle.cct_model.specs.Legal.{Entries}
+use Rattle.cct_bus.specs.Bus as wires
+use Rattle.cct_world.specs.declared.world.Machine.{Machine}
+use Rattle.cct_world.specs.Host as hosts
+
+-- The setup of a machine.
+abbrev pub setup_of : Machine → Setup
+setup_of machine = hosts.setup_of machine.host
+
+-- A machine stands for a transcript, newest entry first: its host and its bus do.
+pub record StandsFor (machine : Machine) (past : List Entry) : Type 0 where
+  pub host : hosts.StandsFor machine.host past
+  pub bus : wires.StandsFor machine.bus past
+
+-- These entries, oldest first, are those of a step after a past, and a machine goes on by them.
+abbrev pub Goes : Setup → Machine → List Entry → Step → List Entry → Type 0
+Goes setup new past s report = Entries setup past s (reverse report) × StandsFor new (reverse report ++ past)
+
+-- A step gives these entries, oldest first, whatever is behind it.
+abbrev pub Plays : Machine → Machine → Step → List Entry → Type 0
+Plays old new s report = (past : List Entry) → StandsFor old past → Goes (setup_of old) new past s report

@@ -1,0 +1,70 @@
+-- Where the host may have a job: at each device, and at the address of all devices, where scans are.
+use Rattle.std.specs.Prelude.{◌≡◌, ◌≢◌, ℕ, List, ◌∷◌, ◌++◌, Option, Some}
+use Rattle.cct_model.specs.terms.wire.TheConstants.{BROADCAST}
+use Rattle.cct_model.specs.terms.wire.CheckKind.{CheckKind}
+use Rattle.cct_model.specs.terms.device.DeviceSetup.{DeviceSetup}
+use Rattle.cct_model.specs.terms.request.Request.{Request}
+use Rattle.cct_model.specs.lines.command.Command.{Command}
+use Rattle.cct_model.specs.lines.entry.End.{End}
+use Rattle.cct_model.specs.lines.entry.Entry.{Entry}
+use Rattle.cct_model.specs.declared.judging.EpochState.{EpochState}
+use Rattle.cct_model.specs.Exchange.{ask}
+use Rattle.cct_model.specs.Line.{Line}
+use Rattle.cct_model.specs.Job as model
+use Rattle.cct_model.specs.Scan.{end_of_scan, poll_of, scan_row}
+use Rattle.cct_model.specs.Legal.{NextEntries, ScanEntries}
+use Rattle.cct_model.specs.Transcript.{lines_of, scan_line, scan_lines}
+use Rattle.cct_jobs.specs.declared.job.Job.{Job}
+use Rattle.cct_jobs.specs.Jobs.{SendsNext, Stands, line_heard}
+use Rattle.cct_jobs.specs.Scans.{PollsNext, StandsScan}
+
+-- A device of the setup, or the place of scans.
+pub data Place : Type 0 where
+  device : (d : DeviceSetup) → Place
+  scans : Place
+
+-- The address of a place.
+abbrev pub addr_of : Place → ℕ
+addr_of (device d) = d.addr
+addr_of scans = BROADCAST
+
+-- The lines of a place.
+abbrev pub lines_at : Place → List Entry → List Line
+lines_at (device d) past = lines_of d past
+lines_at scans past = scan_lines past
+
+-- The line of a place that an exchange of its job is.
+abbrev pub line_at : Place → List ℕ → List ℕ → Line
+line_at (device d) sent heard = line_heard d sent heard
+line_at scans sent heard = scan_line sent heard
+
+-- The end that a line brings to a job at a place, if it brings one.
+abbrev pub end_at : Place → Command → Line → List Line → EpochState → Option End
+end_at (device d) c line since state = model.end_of d c line since state
+end_at scans c line since state = end_of_scan (line ∷ since)
+
+-- The row of a job at a place sends something next.
+abbrev pub AsksNext : Place → Command → List Line → EpochState → Type 0
+AsksNext (device d) c since state = SendsNext d c since state
+AsksNext scans c since state = PollsNext since
+
+-- This piece is what the row of a job at a place sends.
+abbrev pub Asks : Place → Command → List Line → EpochState → List ℕ → Type 0
+Asks (device d) c since state sent =
+    (q : Request) × (model.row d c since state ≡ model.sends q) × (sent ≡ ask d.kind d.addr q)
+Asks scans c since state sent =
+    (poll : CheckKind × ℕ) × (scan_row since ≡ Some poll) × (sent ≡ ask poll.0 poll.1 (poll_of poll.1))
+
+-- A job stands for the lines of a place since its command was taken.
+abbrev pub StandsAt : Place → Job → Command → List Line → EpochState → Type 0
+StandsAt (device d) job c since state = Stands d job c since state
+StandsAt scans job c since state = StandsScan job since
+
+-- The entries of a `next` at a place, newest first, by the job there. What follows a piece that is sent is an argument.
+abbrev pub NextAt : (List ℕ → List ℕ) → Place → List Entry → model.Job → List Entry → Type 0
+NextAt hears (device d) past job news = NextEntries hears d past job news
+NextAt hears scans past job news = ScanEntries hears job news
+
+-- Entries are of one address: they are lines of no place at another one.
+abbrev pub AreAt : ℕ → List Entry → List Entry → Type 0
+AreAt addr past news = (place : Place) → addr_of place ≢ addr → lines_at place (news ++ past) ≡ lines_at place past
