@@ -10,10 +10,10 @@ use Rattle.cct_terms.specs.History.{Met}
 use Rattle.cct_acceptor.specs.Acceptor.{ids_of, start_of}
 
 -- What an acceptor's kind alone answers, it answers by its start and its identifications.
-pub own_is : (b : DeviceBody) (past : List Met) (q : Request)
-    → IsAcceptor b → own_reply b past q ≡ acceptor_reply (start_of b) (ids_of b) past q
-own_is (body.Acceptor start values ids) past q kind = refl
-own_is (body.Hopper life value) past q kind = absurd kind
+pub own_is : (serial : ℕ) (b : DeviceBody) (past : List Met) (q : Request)
+    → IsAcceptor b → own_reply serial b past q ≡ acceptor_reply (start_of b) (ids_of b) past q
+own_is serial (body.Acceptor start values ids) past q kind = refl
+own_is serial (body.Hopper life value) past q kind = absurd kind
 
 -- The identification of the coin of a place stands at the index of one less.
 pub id_read : (ids : List (List ℕ)) (place : ℕ) → id_at ids place ≡ get_or ids (place - 1) []

@@ -1,17 +1,20 @@
 -- What a run keeps from line to line, and what it leaves where it stops.
-use Rattle.std.proofs.Common.{◌≡◌, ℕ, ◌+◌, ◌≤◌, List, [], ◌∷◌, ◌++◌, reverse, Option, None, Some, refl, inr, ap, sym, ◌∙◌, subst, append_assoc, arith}
+use Rattle.std.proofs.Common.{◌≡◌, ℕ, ◌+◌, ◌≤◌, List, [], ◌∷◌, ◌++◌, reverse, Option, None, Some, Result, refl, inr, ap}
+use Rattle.std.proofs.Common.{sym, ◌∙◌, subst, append_assoc, arith}
 use Rattle.std.specs.Prelude.{IfSome}
 use Rattle.std.specs.List.{slice_split, position}
 use Rattle.std.specs.Io.KnownBytes.{Consumes}
 use Rattle.std.proofs.lemmas.List.{append-nil}
 use Rattle.cct_edge.specs.Bytes.{TellsAsBefore}
+use Rattle.cct_edge.specs.declared.fault.Failed.{Failed}
 use Rattle.cct_edge.proofs.Chains.{Consumes-nil, Consumes-trans}
 use Rattle.cct_model.specs.terms.device.Setup.{Setup}
 use Rattle.cct_model.specs.lines.command.Step.{Step}
 use Rattle.cct_model.specs.lines.entry.Entry.{Entry}
 use Rattle.cct_model.specs.lines.entry.LineKind.{LineKind}
 use Rattle.cct_model.specs.Legal.{Entries, Legal, LegalFrom}
-use Rattle.cct_model.specs.Script.{is_line_feed, Stage, at_setup, at_steps, at_end, no_devices, setup_at, opens, plays, Script, script, closed_script, unfinished}
+use Rattle.cct_model.specs.Script.{is_line_feed, Stage, at_setup, at_steps, at_end, no_devices, setup_at, opens, plays}
+use Rattle.cct_model.specs.Script.{Script, script, closed_script, unfinished}
 use Rattle.cct_model.specs.Transcript.{onto}
 use Rattle.cct_laws.specs.Law.{IsSetupOfToday}
 use Rattle.cct_laws.proofs.Scripts.{setup_of_today}
@@ -43,8 +46,10 @@ going_begin left = record {
 }
 
 -- a machine that stands for the past takes the place of another
-pub going_stands : (left0 left : Option (List ℕ)) (held : List ℕ) (number : ℕ) (stage : Stage) (Before After Written : List Entry → Type 0) →
-    ((past : List Entry) → Before past → After past) → Going left0 left held number stage Before Written → Going left0 left held number stage After Written
+pub going_stands : (left0 left : Option (List ℕ)) (held : List ℕ) (number : ℕ) (stage : Stage)
+    (Before After Written : List Entry → Type 0) →
+    ((past : List Entry) → Before past → After past) → Going left0 left held number stage Before Written
+    → Going left0 left held number stage After Written
 going_stands left0 left held number stage Before After Written goes g = record {
   taken = g.taken;
   played = g.played;
@@ -57,8 +62,10 @@ going_stands left0 left held number stage Before After Written goes g = record {
 }
 
 -- so does another way to tell what was written
-pub going_by : (left0 left : Option (List ℕ)) (held : List ℕ) (number : ℕ) (stage : Stage) (Stands Written Written1 : List Entry → Type 0) →
-    ((xs : List Entry) → Written xs → Written1 xs) → Going left0 left held number stage Stands Written → Going left0 left held number stage Stands Written1
+pub going_by : (left0 left : Option (List ℕ)) (held : List ℕ) (number : ℕ) (stage : Stage)
+    (Stands Written Written1 : List Entry → Type 0) →
+    ((xs : List Entry) → Written xs → Written1 xs) → Going left0 left held number stage Stands Written
+    → Going left0 left held number stage Stands Written1
 going_by left0 left held number stage Stands Written Written1 goes g = record {
   taken = g.taken;
   played = g.played;
@@ -71,8 +78,10 @@ going_by left0 left held number stage Stands Written Written1 goes g = record {
 }
 
 -- as that these entries were written, and no others
-pub going_just : (left0 left : Option (List ℕ)) (held : List ℕ) (number : ℕ) (stage : Stage) (Stands Written : List Entry → Type 0) →
-    (g : Going left0 left held number stage Stands Written) → Going left0 left held number stage Stands (IsJust g.transcript)
+pub going_just : (left0 left : Option (List ℕ)) (held : List ℕ) (number : ℕ) (stage : Stage)
+    (Stands Written : List Entry → Type 0) →
+    (g : Going left0 left held number stage Stands Written)
+    → Going left0 left held number stage Stands (IsJust g.transcript)
 going_just left0 left held number stage Stands Written g = record {
   taken = g.taken;
   played = g.played;
@@ -96,12 +105,16 @@ also_goes taken came held more number stage played next h e =
     h
     )
 
-legal_came : (taken came more : List ℕ) (played : List Step) (transcript : List Entry) → Legal (script (taken ++ (came ++ more))).setup played transcript →
-    Legal (script ((taken ++ came) ++ more)).setup played transcript
-legal_came taken came more played transcript h = subst (λ bytes. Legal (script bytes).setup played transcript) (sym (append_assoc taken came more)) h
+legal_came : (taken came more : List ℕ) (played : List Step) (transcript : List Entry)
+    → Legal None (script (taken ++ (came ++ more))).setup played transcript →
+    Legal None (script ((taken ++ came) ++ more)).setup played transcript
+legal_came taken came more played transcript h =
+    subst (λ bytes. Legal None (script bytes).setup played transcript) (sym (append_assoc taken came more)) h
 
-pub going_opens : (left0 left left1 : Option (List ℕ)) (held rest : List ℕ) (number : ℕ) (stage next : Stage) (Stands Written : List Entry → Type 0) →
-    Going left0 left held number stage Stands Written → Came held left left1 (λ bytes. ScriptGoesOn number stage bytes (opens next) rest) →
+pub going_opens : (left0 left left1 : Option (List ℕ)) (held rest : List ℕ) (number : ℕ) (stage next : Stage)
+    (Stands Written : List Entry → Type 0) →
+    Going left0 left held number stage Stands Written
+    → Came held left left1 (λ bytes. ScriptGoesOn number stage bytes (opens next) rest) →
     Going left0 left1 rest (number + 1) next Stands Written
 going_opens left0 left left1 held rest number stage next Stands Written g r = record {
   taken = g.taken ++ r.0;
@@ -122,49 +135,67 @@ onto-append past (x ∷ xs) ys = onto-append (x ∷ past) xs ys
 onto_is : (past xs : List Entry) → onto past xs ≡ reverse xs ++ past
 onto_is past [] = refl
 onto_is past (x ∷ xs) =
-    onto_is (x ∷ past) xs ∙ (sym (append_assoc (reverse xs) (x ∷ []) past) ∙ ap (λ ys. ys ++ past) (sym (onto_is (x ∷ []) xs)))
+    onto_is (x ∷ past) xs ∙ (sym (append_assoc (reverse xs) (x ∷ []) past)
+    ∙ ap (λ ys. ys ++ past) (sym (onto_is (x ∷ []) xs)))
 
 -- one step more
 legal_from : (setup : Setup) (past : List Entry) (steps : List Step) (end : List Entry) (s : Step) (news : List Entry) →
-    LegalFrom setup past steps end → Entries setup end s news → LegalFrom setup past (steps ++ s ∷ []) (news ++ end)
-legal_from setup past [] end s news h e = (news, subst (λ before. Entries setup before s news) h e, ap (λ before. news ++ before) h)
+    LegalFrom None setup past steps end → Entries None setup end s news → LegalFrom None setup past (steps ++ s ∷ []) (news ++ end)
+legal_from setup past [] end s news h e =
+    (news, subst (λ before. Entries None setup before s news) h e, ap (λ before. news ++ before) h)
 legal_from setup past (x ∷ steps) end s news h e = (h.0, h.1, legal_from setup (h.0 ++ past) steps end s news h.2 e)
 
 transcript_on : (transcript report : List Entry) → onto [] (transcript ++ report) ≡ reverse report ++ onto [] transcript
 transcript_on transcript report = onto-append [] transcript report ∙ onto_is (onto [] transcript) report
 
 legal_more : (setup : Setup) (played : List Step) (transcript report : List Entry) (s : Step) →
-    Legal setup played transcript → Entries setup (onto [] transcript) s (reverse report) → Legal setup (played ++ s ∷ []) (transcript ++ report)
+    Legal None setup played transcript → Entries None setup (onto [] transcript) s (reverse report)
+    → Legal None setup (played ++ s ∷ []) (transcript ++ report)
 legal_more setup played transcript report s h e =
-    subst (LegalFrom setup [] (played ++ s ∷ [])) (sym (transcript_on transcript report)) (legal_from setup [] played (onto [] transcript) s (reverse report) h e)
+    subst (LegalFrom None setup [] (played ++ s ∷ [])) (sym (transcript_on transcript report))
+    (legal_from setup [] played (onto [] transcript) s (reverse report) h e)
 
-also_plays : (whole rest : Script) (played : List Step) (s : Step) → AlsoSays whole played (record { setup = rest.setup; steps = s ∷ rest.steps; refused = rest.refused }) → AlsoSays whole (played ++ s ∷ []) rest
-also_plays whole rest played s h = record { setup = h.setup; steps = h.steps ∙ sym (append_assoc played (s ∷ []) rest.steps); refused = h.refused }
+also_plays : (whole rest : Script) (played : List Step) (s : Step)
+    → AlsoSays whole played (record { setup = rest.setup; steps = s ∷ rest.steps; refused = rest.refused })
+    → AlsoSays whole (played ++ s ∷ []) rest
+also_plays whole rest played s h =
+    record { setup = h.setup; steps = h.steps ∙ sym (append_assoc played (s ∷ []) rest.steps); refused = h.refused }
 
 -- a step that was read is one that the script says next
 step_says : (taken came held more rest : List ℕ) (number : ℕ) (stage next : Stage) (played : List Step) (s : Step) →
     AlsoSays (script (taken ++ (came ++ more))) played (said_from number stage (held ++ (came ++ more))) →
-    ScriptGoesOn number stage (held ++ came) (plays s next) rest → AlsoSays (script ((taken ++ came) ++ more)) (played ++ s ∷ []) (said_from (number + 1) next (rest ++ more))
+    ScriptGoesOn number stage (held ++ came) (plays s next) rest
+    → AlsoSays (script ((taken ++ came) ++ more)) (played ++ s ∷ []) (said_from (number + 1) next (rest ++ more))
 step_says taken came held more rest number stage next played s h r =
-    also_plays _ (said_from (number + 1) next (rest ++ more)) played s (also_goes taken came held more number stage played _ h (r more))
+    also_plays _ (said_from (number + 1) next (rest ++ more)) played s
+    (also_goes taken came held more number stage played _ h (r more))
 
 -- the script has the setup of its steps, and goes on by legal entries
-step_legal : (taken came held more rest : List ℕ) (number : ℕ) (stage next : Stage) (setup : Setup) (played : List Step) (transcript report : List Entry) (s : Step) →
-    AlsoSays (script (taken ++ (came ++ more))) played (said_from number stage (held ++ (came ++ more))) → ScriptGoesOn number stage (held ++ came) (plays s next) rest → IsDone setup next →
-    Legal (script (taken ++ (came ++ more))).setup played transcript → Entries setup (onto [] transcript) s (reverse report) →
-    Legal (script ((taken ++ came) ++ more)).setup (played ++ s ∷ []) (transcript ++ report)
+step_legal : (taken came held more rest : List ℕ) (number : ℕ) (stage next : Stage) (setup : Setup) (played : List Step)
+    (transcript report : List Entry) (s : Step) →
+    AlsoSays (script (taken ++ (came ++ more))) played (said_from number stage (held ++ (came ++ more)))
+    → ScriptGoesOn number stage (held ++ came) (plays s next) rest → IsDone setup next →
+    Legal None (script (taken ++ (came ++ more))).setup played transcript
+    → Entries None setup (onto [] transcript) s (reverse report) →
+    Legal None (script ((taken ++ came) ++ more)).setup (played ++ s ∷ []) (transcript ++ report)
 step_legal taken came held more rest number stage next setup played transcript report s h r done legal entries =
     let says = step_says taken came held more rest number stage next played s h r in
     let same : setup ≡ (script ((taken ++ came) ++ more)).setup =
     sym (says.setup ∙ setup_stays (number + 1) setup next (slice_split is_line_feed (rest ++ more)) done) in
-    legal_more (script ((taken ++ came) ++ more)).setup played transcript report s (legal_came taken came more played transcript legal)
-    (subst (λ by. Entries by (onto [] transcript) s (reverse report)) same entries)
+    legal_more (script ((taken ++ came) ++ more)).setup played transcript report s
+    (legal_came taken came more played transcript legal)
+    (subst (λ by. Entries None by (onto [] transcript) s (reverse report)) same entries)
 
-pub going_plays : (left0 left left1 : Option (List ℕ)) (held rest : List ℕ) (number : ℕ) (stage next : Stage) (setup : Setup) (Before After : List Entry → Type 0) (s : Step) (Written WritesThem Written1 : List Entry → Type 0) →
-    IsDone setup next → ((xs ys : List Entry) → Written xs → WritesThem ys → Written1 (xs ++ ys)) → Going left0 left held number stage Before Written →
-    Came held left left1 (λ bytes. ScriptGoesOn number stage bytes (plays s next) rest) → PlaysOn Before After setup s WritesThem →
+pub going_plays : (left0 left left1 : Option (List ℕ)) (held rest : List ℕ) (number : ℕ) (stage next : Stage)
+    (setup : Setup) (Before After : List Entry → Type 0) (s : Step) (Written WritesThem Written1 : List Entry → Type 0)
+    →
+    IsDone setup next → ((xs ys : List Entry) → Written xs → WritesThem ys → Written1 (xs ++ ys))
+    → Going left0 left held number stage Before Written →
+    Came held left left1 (λ bytes. ScriptGoesOn number stage bytes (plays s next) rest)
+    → PlaysOn Before After setup s WritesThem →
     Going left0 left1 rest (number + 1) next After Written1
-going_plays left0 left left1 held rest number stage next setup Before After s Written WritesThem Written1 done more g r p =
+going_plays left0 left left1 held rest number stage next setup Before After s Written WritesThem Written1 done more g r
+    p =
     let goes = p.1 (onto [] g.transcript) g.stands in
     record {
       taken = g.taken ++ r.0;
@@ -172,13 +203,15 @@ going_plays left0 left left1 held rest number stage next setup Before After s Wr
       transcript = g.transcript ++ p.0;
       consumed = Consumes-trans left0 left left1 g.taken r.0 g.consumed r.1;
       says = λ more. step_says g.taken r.0 held more rest number stage next g.played s (g.says (r.0 ++ more)) r.2;
-      legal = λ more. step_legal g.taken r.0 held more rest number stage next setup g.played g.transcript p.0 s (g.says (r.0 ++ more)) r.2 done (g.legal (r.0 ++ more)) goes.0;
+      legal = λ more. step_legal g.taken r.0 held more rest number stage next setup g.played g.transcript p.0 s
+          (g.says (r.0 ++ more)) r.2 done (g.legal (r.0 ++ more)) goes.0;
       stands = subst After (sym (transcript_on g.transcript p.0)) goes.1;
       wrote = more g.transcript p.0 g.wrote p.2;
     }
 
 -- what was told of the bytes of a script
-told_by : (bytes : List ℕ) (left : Option (List ℕ)) (taken : List ℕ) → Consumes (Some bytes) left taken → (rest : List ℕ) × (left ≡ Some rest) × (bytes ≡ taken ++ rest)
+told_by : (bytes : List ℕ) (left : Option (List ℕ)) (taken : List ℕ) → Consumes (Some bytes) left taken
+    → (rest : List ℕ) × (left ≡ Some rest) × (bytes ≡ taken ++ rest)
 told_by bytes None taken h = absurd h
 told_by bytes (Some rest) taken h = (rest, refl, h)
 
@@ -186,25 +219,36 @@ of_some : (P : List ℕ → Type 0) (left : Option (List ℕ)) (rest : List ℕ)
 of_some P left rest e h = subst (λ known. IfSome known P) e h
 
 -- a script that says no more
-closed_says : (bytes taken came held rest : List ℕ) (number : ℕ) (stage : Stage) (why : Option LineKind) (left : Option (List ℕ)) (played : List Step) →
-    left ≡ Some rest → bytes ≡ (taken ++ came) ++ rest → AlsoSays (script (taken ++ (came ++ rest))) played (said_from number stage (held ++ (came ++ rest))) →
-    IsClosed number stage why left (held ++ came) → AlsoSays (script bytes) played (closed_script number (setup_at stage) why)
+closed_says : (bytes taken came held rest : List ℕ) (number : ℕ) (stage : Stage) (why : Option LineKind)
+    (left : Option (List ℕ)) (played : List Step) →
+    left ≡ Some rest → bytes ≡ (taken ++ came) ++ rest
+    → AlsoSays (script (taken ++ (came ++ rest))) played (said_from number stage (held ++ (came ++ rest))) →
+    IsClosed number stage why left (held ++ came)
+    → AlsoSays (script bytes) played (closed_script number (setup_at stage) why)
 closed_says bytes taken came held rest number stage why left played left_is took h closed =
-    let closes = of_some (λ more. said_from number stage ((held ++ came) ++ more) ≡ closed_script number (setup_at stage) why) left rest left_is closed in
-    subst (λ b. AlsoSays (script b) played (closed_script number (setup_at stage) why)) (sym took) (also_goes taken came held rest number stage played _ h closes)
+    let closes =
+    of_some (λ more. said_from number stage ((held ++ came) ++ more) ≡ closed_script number (setup_at stage) why)
+    left rest left_is closed in
+    subst (λ b. AlsoSays (script b) played (closed_script number (setup_at stage) why)) (sym took)
+    (also_goes taken came held rest number stage played _ h closes)
 
-legal_of : (bytes taken came rest : List ℕ) (played : List Step) (transcript : List Entry) → bytes ≡ (taken ++ came) ++ rest →
-    Legal (script (taken ++ (came ++ rest))).setup played transcript → Legal (script bytes).setup played transcript
+legal_of : (bytes taken came rest : List ℕ) (played : List Step) (transcript : List Entry)
+    → bytes ≡ (taken ++ came) ++ rest →
+    Legal None (script (taken ++ (came ++ rest))).setup played transcript → Legal None (script bytes).setup played transcript
 legal_of bytes taken came rest played transcript took h =
-    subst (λ b. Legal (script b).setup played transcript) (sym took) (legal_came taken came rest played transcript h)
+    subst (λ b. Legal None (script b).setup played transcript) (sym took) (legal_came taken came rest played transcript h)
 
-pub played_done : (left0 left left1 : Option (List ℕ)) (held : List ℕ) (number : ℕ) (setup : Setup) (Stands Written : List Entry → Type 0) →
+pub played_done : (left0 left left1 : Option (List ℕ)) (held : List ℕ) (number : ℕ) (setup : Setup)
+    (Stands Written : List Entry → Type 0) →
     (Breaks : List Entry → List Entry → Type 0) → Going left0 left held number (at_end setup) Stands Written →
-    Came held left left1 (IsClosed number (at_end setup) None left1) → IfSome left0 (λ bytes. Played bytes ending.Done left1 Written Breaks)
+    Came held left left1 (IsClosed number (at_end setup) None left1)
+    → IfSome left0 (λ bytes. Played bytes ending.Done left1 Written Breaks)
 played_done None left left1 held number setup Stands Written Breaks g r = tt
 played_done (Some bytes) left left1 held number setup Stands Written Breaks g r =
     let t = told_by bytes left1 (g.taken ++ r.0) (Consumes-trans (Some bytes) left left1 g.taken r.0 g.consumed r.1) in
-    let says = closed_says bytes g.taken r.0 held t.0 number (at_end setup) None left1 g.played t.1 t.2 (g.says (r.0 ++ t.0)) r.2 in
+    let says =
+    closed_says bytes g.taken r.0 held t.0 number (at_end setup) None left1 g.played t.1 t.2 (g.says (r.0 ++ t.0))
+    r.2 in
     record {
       taken = g.taken ++ r.0;
       rest = t.0;
@@ -218,13 +262,17 @@ played_done (Some bytes) left left1 held number setup Stands Written Breaks g r 
       stops = ((refl, says.refused, refl), g.wrote);
     }
 
-played_refused : (left0 left left1 : Option (List ℕ)) (held : List ℕ) (number : ℕ) (why : LineKind) (stage : Stage) (Stands Written : List Entry → Type 0) →
-    (Breaks : List Entry → List Entry → Type 0) → Going left0 left held number stage Stands Written → Came held left left1 (IsClosed number stage (Some why) left1) →
+played_refused : (left0 left left1 : Option (List ℕ)) (held : List ℕ) (number : ℕ) (why : LineKind) (stage : Stage)
+    (Stands Written : List Entry → Type 0) →
+    (Breaks : List Entry → List Entry → Type 0) → Going left0 left held number stage Stands Written
+    → Came held left left1 (IsClosed number stage (Some why) left1) →
     IfSome left0 (λ bytes. Played bytes (ending.Refused number why) left1 Written Breaks)
 played_refused None left left1 held number why stage Stands Written Breaks g r = tt
 played_refused (Some bytes) left left1 held number why stage Stands Written Breaks g r =
     let t = told_by bytes left1 (g.taken ++ r.0) (Consumes-trans (Some bytes) left left1 g.taken r.0 g.consumed r.1) in
-    let says = closed_says bytes g.taken r.0 held t.0 number stage (Some why) left1 g.played t.1 t.2 (g.says (r.0 ++ t.0)) r.2 in
+    let says =
+    closed_says bytes g.taken r.0 held t.0 number stage (Some why) left1 g.played t.1 t.2 (g.says (r.0 ++ t.0)) r.2
+    in
     record {
       taken = g.taken ++ r.0;
       rest = t.0;
@@ -249,15 +297,18 @@ unread_steps taken came held number stage played h none =
     let says = also_goes taken came held [] number stage played next h e in
     ap (λ bytes. (script bytes).steps) (sym (append-nil (taken ++ came))) ∙ (says.steps ∙ append-nil played)
 
-played_unread : (left0 left left1 : Option (List ℕ)) (held : List ℕ) (number : ℕ) (stage : Stage) (Stands Written : List Entry → Type 0) →
-    (Breaks : List Entry → List Entry → Type 0) → Going left0 left held number stage Stands Written → Came held left left1 (λ bytes. position is_line_feed bytes ≡ None) →
+played_unread : (left0 left left1 : Option (List ℕ)) (held : List ℕ) (number : ℕ) (stage : Stage)
+    (Stands Written : List Entry → Type 0) →
+    (Breaks : List Entry → List Entry → Type 0) → Going left0 left held number stage Stands Written
+    → Came held left left1 (λ bytes. position is_line_feed bytes ≡ None) →
     IfSome left0 (λ bytes. Played bytes ending.Unread left1 Written Breaks)
 played_unread None left left1 held number stage Stands Written Breaks g r = tt
 played_unread (Some bytes) left left1 held number stage Stands Written Breaks g r =
     let t = told_by bytes left1 (g.taken ++ r.0) (Consumes-trans (Some bytes) left left1 g.taken r.0 g.consumed r.1) in
     let after = said_from number stage ((held ++ r.0) ++ t.0) in
     let says : AlsoSays (script bytes) g.played after =
-    subst (λ b. AlsoSays (script b) g.played after) (sym t.2) (also_goes g.taken r.0 held t.0 number stage g.played after (g.says (r.0 ++ t.0)) refl) in
+    subst (λ b. AlsoSays (script b) g.played after) (sym t.2)
+    (also_goes g.taken r.0 held t.0 number stage g.played after (g.says (r.0 ++ t.0)) refl) in
     record {
       taken = g.taken ++ r.0;
       rest = t.0;
@@ -272,28 +323,39 @@ played_unread (Some bytes) left left1 held number stage Stands Written Breaks g 
     }
 
 -- a script that is read no further
-pub played_stopped : (left0 left left1 : Option (List ℕ)) (held : List ℕ) (number : ℕ) (stage : Stage) (why : ScriptStop) (Stands Written : List Entry → Type 0) →
-    (Breaks : List Entry → List Entry → Type 0) → Going left0 left held number stage Stands Written → Came held left left1 (StopsAt number stage why left1) →
+pub played_stopped : (left0 left left1 : Option (List ℕ)) (held : List ℕ) (number : ℕ) (stage : Stage)
+    (why : ScriptStop) (Stands Written : List Entry → Type 0) →
+    (Breaks : List Entry → List Entry → Type 0) → Going left0 left held number stage Stands Written
+    → Came held left left1 (StopsAt number stage why left1) →
     IfSome left0 (λ bytes. Played bytes (ending_at number why) left1 Written Breaks)
-played_stopped left0 left left1 held number stage stop.Unread Stands Written Breaks g r = played_unread left0 left left1 held number stage Stands Written Breaks g r
-played_stopped left0 left left1 held number stage (stop.Refused why) Stands Written Breaks g r = played_refused left0 left left1 held number why stage Stands Written Breaks g r
+played_stopped left0 left left1 held number stage stop.Unread Stands Written Breaks g r =
+    played_unread left0 left left1 held number stage Stands Written Breaks g r
+played_stopped left0 left left1 held number stage (stop.Refused why) Stands Written Breaks g r =
+    played_refused left0 left left1 held number why stage Stands Written Breaks g r
 
 -- the sink failed within the entries of a step
-pub played_broke : (left0 left left1 : Option (List ℕ)) (held rest : List ℕ) (number : ℕ) (stage next : Stage) (setup : Setup) (Before After : List Entry → Type 0) (s : Step) (Written WritesThem Written1 : List Entry → Type 0) (Breaks : List Entry → List Entry → Type 0) →
-    IsDone setup next → ((xs ys : List Entry) → Written xs → WritesThem ys → Breaks xs ys) → Going left0 left held number stage Before Written →
-    Came held left left1 (λ bytes. ScriptGoesOn number stage bytes (plays s next) rest) → PlaysOn Before After setup s WritesThem →
+pub played_broke : (left0 left left1 : Option (List ℕ)) (held rest : List ℕ) (number : ℕ) (stage next : Stage)
+    (setup : Setup) (Before After : List Entry → Type 0) (s : Step) (Written WritesThem Written1 : List Entry → Type 0)
+    (Breaks : List Entry → List Entry → Type 0) →
+    IsDone setup next → ((xs ys : List Entry) → Written xs → WritesThem ys → Breaks xs ys)
+    → Going left0 left held number stage Before Written →
+    Came held left left1 (λ bytes. ScriptGoesOn number stage bytes (plays s next) rest)
+    → PlaysOn Before After setup s WritesThem →
     IfSome left0 (λ bytes. Played bytes ending.Unwritten left1 Written1 Breaks)
-played_broke None left left1 held rest number stage next setup Before After s Written WritesThem Written1 Breaks done broke g r p = tt
-played_broke (Some bytes) left left1 held rest number stage next setup Before After s Written WritesThem Written1 Breaks done broke g r p =
+played_broke None left left1 held rest number stage next setup Before After s Written WritesThem Written1 Breaks done
+    broke g r p = tt
+played_broke (Some bytes) left left1 held rest number stage next setup Before After s Written WritesThem Written1 Breaks
+    done broke g r p =
     let t = told_by bytes left1 (g.taken ++ r.0) (Consumes-trans (Some bytes) left left1 g.taken r.0 g.consumed r.1) in
     let on = said_from (number + 1) next (rest ++ t.0) in
     let says : AlsoSays (script bytes) (g.played ++ s ∷ []) on =
-    subst (λ b. AlsoSays (script b) (g.played ++ s ∷ []) on) (sym t.2) (step_says g.taken r.0 held t.0 rest number stage next g.played s (g.says (r.0 ++ t.0)) r.2) in
+    subst (λ b. AlsoSays (script b) (g.played ++ s ∷ []) on) (sym t.2)
+    (step_says g.taken r.0 held t.0 rest number stage next g.played s (g.says (r.0 ++ t.0)) r.2) in
     let goes = p.1 (onto [] g.transcript) g.stands in
     let same : setup ≡ (script bytes).setup =
     sym (says.setup ∙ setup_stays (number + 1) setup next (slice_split is_line_feed (rest ++ t.0)) done) in
-    let entries : Entries (script bytes).setup (onto [] g.transcript) s (reverse p.0) =
-    subst (λ by. Entries by (onto [] g.transcript) s (reverse p.0)) same goes.0 in
+    let entries : Entries None (script bytes).setup (onto [] g.transcript) s (reverse p.0) =
+    subst (λ by. Entries None by (onto [] g.transcript) s (reverse p.0)) same goes.0 in
     let legal = legal_of bytes g.taken r.0 t.0 g.played g.transcript t.2 (g.legal (r.0 ++ t.0)) in
     record {
       taken = g.taken ++ r.0;
@@ -321,14 +383,19 @@ played_broke (Some bytes) left left1 held rest number stage next setup Before Af
     }
 
 -- the setup that was read is one of today
-pub going_setup : (left0 left : Option (List ℕ)) (held : List ℕ) (number : ℕ) (setup : Setup) (Stands Written : List Entry → Type 0) →
+pub going_setup : (left0 left : Option (List ℕ)) (held : List ℕ) (number : ℕ) (setup : Setup)
+    (Stands Written : List Entry → Type 0) →
     Going left0 left held number (at_steps setup) Stands Written → IsSetupOfToday setup
 going_setup left0 left held number setup Stands Written g =
-    subst IsSetupOfToday ((g.says []).setup ∙ setup_stays number setup (at_steps setup) (slice_split is_line_feed (held ++ [])) refl) (setup_of_today (g.taken ++ []))
+    subst IsSetupOfToday ((g.says []).setup
+    ∙ setup_stays number setup (at_steps setup) (slice_split is_line_feed (held ++ [])) refl)
+    (setup_of_today (g.taken ++ []))
 
 -- there was no memory before the first step
-pub played_none : (left0 left : Option (List ℕ)) (held : List ℕ) (number : ℕ) (stage : Stage) (Stands Written : List Entry → Type 0) (Breaks : List Entry → List Entry → Type 0) →
-    Written [] → Going left0 left held number stage Stands IsNothing → IfSome left0 (λ bytes. Played bytes ending.NoMemory left Written Breaks)
+pub played_none : (left0 left : Option (List ℕ)) (held : List ℕ) (number : ℕ) (stage : Stage)
+    (Stands Written : List Entry → Type 0) (Breaks : List Entry → List Entry → Type 0) →
+    Written [] → Going left0 left held number stage Stands IsNothing
+    → IfSome left0 (λ bytes. Played bytes ending.NoMemory left Written Breaks)
 played_none None left held number stage Stands Written Breaks wrote g = tt
 played_none (Some bytes) left held number stage Stands Written Breaks wrote g =
     let t = told_by bytes left g.taken g.consumed in
@@ -346,12 +413,17 @@ played_none (Some bytes) left held number stage Stands Written Breaks wrote g =
     }
 
 -- what is told of the writing in another way
-stops_by : (bytes taken : List ℕ) (played unplayed : List Step) (transcript : List Entry) (how : Ending) (Written Written1 : List Entry → Type 0) (Breaks Breaks1 : List Entry → List Entry → Type 0) →
+stops_by : (bytes taken : List ℕ) (played unplayed : List Step) (transcript : List Entry) (how : Ending)
+    (Written Written1 : List Entry → Type 0) (Breaks Breaks1 : List Entry → List Entry → Type 0) →
     ((xs : List Entry) → Written xs → Written1 xs) → ((xs ys : List Entry) → Breaks xs ys → Breaks1 xs ys) →
-    Stops how bytes taken played unplayed transcript Written Breaks → Stops how bytes taken played unplayed transcript Written1 Breaks1
-stops_by bytes taken played unplayed transcript ending.Done Written Written1 Breaks Breaks1 w b h = (h.0, w transcript h.1)
-stops_by bytes taken played unplayed transcript (ending.Refused number kind) Written Written1 Breaks Breaks1 w b h = (h.0, w transcript h.1)
-stops_by bytes taken played unplayed transcript ending.Unread Written Written1 Breaks Breaks1 w b h = (h.0, w transcript h.1)
+    Stops how bytes taken played unplayed transcript Written Breaks
+    → Stops how bytes taken played unplayed transcript Written1 Breaks1
+stops_by bytes taken played unplayed transcript ending.Done Written Written1 Breaks Breaks1 w b h =
+    (h.0, w transcript h.1)
+stops_by bytes taken played unplayed transcript (ending.Refused number kind) Written Written1 Breaks Breaks1 w b h =
+    (h.0, w transcript h.1)
+stops_by bytes taken played unplayed transcript ending.Unread Written Written1 Breaks Breaks1 w b h =
+    (h.0, w transcript h.1)
 stops_by bytes taken played unplayed transcript ending.Unwritten Written Written1 Breaks Breaks1 w b h = record {
   before = h.before;
   last = h.last;
@@ -367,9 +439,11 @@ stops_by bytes taken played unplayed transcript ending.Unwritten Written Written
 }
 stops_by bytes taken played unplayed transcript ending.NoMemory Written Written1 Breaks Breaks1 w b h = (h.0, w [] h.1)
 
-pub played_by : (left0 left : Option (List ℕ)) (how : Ending) (Written Written1 : List Entry → Type 0) (Breaks Breaks1 : List Entry → List Entry → Type 0) →
+pub played_by : (left0 left : Option (List ℕ)) (how : Ending) (Written Written1 : List Entry → Type 0)
+    (Breaks Breaks1 : List Entry → List Entry → Type 0) →
     ((xs : List Entry) → Written xs → Written1 xs) → ((xs ys : List Entry) → Breaks xs ys → Breaks1 xs ys) →
-    IfSome left0 (λ bytes. Played bytes how left Written Breaks) → IfSome left0 (λ bytes. Played bytes how left Written1 Breaks1)
+    IfSome left0 (λ bytes. Played bytes how left Written Breaks)
+    → IfSome left0 (λ bytes. Played bytes how left Written1 Breaks1)
 played_by None left how Written Written1 Breaks Breaks1 w b p = tt
 played_by (Some bytes) left how Written Written1 Breaks Breaks1 w b p = record {
   taken = p.taken;
@@ -385,15 +459,17 @@ played_by (Some bytes) left how Written Written1 Breaks Breaks1 w b p = record {
 }
 
 -- what the loop over the setup lines keeps
-pub record Opens (left0 left : Option (List ℕ)) (faults0 faults : ℕ) (standing : Standing) (number : ℕ) (setup : Setup) : Type 0 where
-  pub going : Going left0 left standing.held number (at_setup setup) IsNothing IsNothing
-  pub opening : TookOpening left0 left standing.held number (at_setup setup)
-  pub source : TellsAsBefore left0 left
-  pub source_later : faults0 ≤ faults
-  pub next : IsNext number standing
+module _ {S : Type 0} (takes : S → ℕ → Result ℕ Failed → S → Type 0) (left : S → Option (List ℕ)) (faults : S → ℕ) where
+  pub record Opens (source0 source : S) (standing : Standing) (number : ℕ) (setup : Setup) : Type 0 where
+    pub going : Going (left source0) (left source) standing.held number (at_setup setup) IsNothing IsNothing
+    pub opening : TookOpening takes left source0 source standing.held number (at_setup setup)
+    pub tells : TellsAsBefore (left source0) (left source)
+    pub later : faults source0 ≤ faults source
+    pub next : IsNext number standing
 
 -- what the loop over the steps keeps: from what was so at its start comes what is so now
-pub record Runs (Start Now : Option (List ℕ) → Type 0) (left0 left : Option (List ℕ)) (faults0 faults : ℕ) (old now : Option (List ℕ)) (failed0 failed : ℕ) (standing : Standing) (number : ℕ) : Type 0 where
+pub record Runs (Start Now : Option (List ℕ) → Type 0) (left0 left : Option (List ℕ)) (faults0 faults : ℕ)
+    (old now : Option (List ℕ)) (failed0 failed : ℕ) (standing : Standing) (number : ℕ) : Type 0 where
   pub going : (first : Option (List ℕ)) → Start first → Now first
   pub source : TellsAsBefore left0 left
   pub sink : TellsAsBefore old now

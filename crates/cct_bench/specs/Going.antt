@@ -1,5 +1,5 @@
 -- What a run keeps from line to line.
-use Rattle.std.specs.Prelude.{◌≡◌, ℕ, List, [], ◌++◌, Option, ⊤}
+use Rattle.std.specs.Prelude.{◌≡◌, ℕ, List, [], ◌++◌, Option, None, ⊤}
 use Rattle.std.specs.Io.KnownBytes.{Consumes}
 use Rattle.cct_model.specs.lines.command.Step.{Step}
 use Rattle.cct_model.specs.lines.entry.Entry.{Entry}
@@ -16,13 +16,14 @@ pub record AlsoSays (whole : Script) (played : List Step) (rest : Script) : Type
 
 -- What was taken and played so far: whatever follows, the script says these steps and what the lines from here on say,
 -- and the entries are those of these steps; the machine stands for them, and they were written.
-pub record Going (left0 left : Option (List ℕ)) (held : List ℕ) (number : ℕ) (stage : Stage) (Stands Written : List Entry → Type 0) : Type 0 where
+pub record Going (left0 left : Option (List ℕ)) (held : List ℕ) (number : ℕ) (stage : Stage)
+    (Stands Written : List Entry → Type 0) : Type 0 where
   pub taken : List ℕ
   pub played : List Step
   pub transcript : List Entry
   pub consumed : Consumes left0 left taken
   pub says : (more : List ℕ) → AlsoSays (script (taken ++ more)) played (said_from number stage (held ++ more))
-  pub legal : (more : List ℕ) → Legal (script (taken ++ more)).setup played transcript
+  pub legal : (more : List ℕ) → Legal None (script (taken ++ more)).setup played transcript
   pub stands : Stands (onto [] transcript)
   pub wrote : Written transcript
 

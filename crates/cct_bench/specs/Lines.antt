@@ -5,7 +5,8 @@ use Rattle.std.specs.List.{slice_split, position}
 use Rattle.std.specs.Io.KnownBytes.{Consumes}
 use Rattle.cct_model.specs.lines.entry.LineKind.{LineKind}
 use Rattle.cct_model.specs.lines.entry.LineKind.TheVariants as kind
-use Rattle.cct_model.specs.Script.{is_line_feed, Stage, setup_at, Read, stage_after, goes_on, Script, script_from, closed_script}
+use Rattle.cct_model.specs.Script.{is_line_feed, Stage, setup_at, Read, stage_after, goes_on, Script, script_from}
+use Rattle.cct_model.specs.Script.{closed_script}
 use Rattle.cct_script.specs.declared.lines.LinesNo.{LinesNo}
 use Rattle.cct_script.specs.declared.lines.LinesNo.TheVariants as no
 use Rattle.cct_script.specs.Giving.{Standing}
@@ -43,11 +44,13 @@ read_of (Err why) = Err why
 -- The first line of these bytes is this to the script, and the bytes behind it are the rest, whatever follows.
 abbrev pub ScriptGoesOn : ℕ → Stage → List ℕ → Read → List ℕ → Type 0
 ScriptGoesOn number stage held read rest =
-    (more : List ℕ) → said_from number stage (held ++ more) ≡ goes_on number stage read (said_from (number + 1) (stage_after stage read) (rest ++ more))
+    (more : List ℕ) → said_from number stage (held ++ more) ≡ goes_on number stage read
+    (said_from (number + 1) (stage_after stage read) (rest ++ more))
 
 -- The script says no more from here on, with these bytes and those to come: it has ended, or a line is refused.
 abbrev pub IsClosed : ℕ → Stage → Option LineKind → Option (List ℕ) → List ℕ → Type 0
-IsClosed number stage why left held = IfSome left (λ more. said_from number stage (held ++ more) ≡ closed_script number (setup_at stage) why)
+IsClosed number stage why left held =
+    IfSome left (λ more. said_from number stage (held ++ more) ≡ closed_script number (setup_at stage) why)
 
 -- Why these bytes are read no further: no line is whole yet, or the first line is refused.
 abbrev pub StopsAt : ℕ → Stage → ScriptStop → Option (List ℕ) → List ℕ → Type 0

@@ -1,5 +1,5 @@
 -- The steps of a script that are played.
-use Rattle.std.specs.Prelude.{◌≡◌, ℕ, List, ◌++◌, reverse, Bool, true, false, if◌then◌else◌, IsTrue}
+use Rattle.std.specs.Prelude.{List, ◌++◌, None, reverse, Bool, true, false, if◌then◌else◌, IsTrue}
 use Rattle.cct_model.specs.lines.command.Step.{Step}
 use Rattle.cct_model.specs.lines.command.Step.TheVariants as step
 use Rattle.cct_model.specs.terms.device.Setup.{Setup}
@@ -27,7 +27,7 @@ pub record CanPlay (setup : Setup) (s : Step) : Type 0 where
 -- with them for the machine after.
 abbrev pub Plays : (List Entry → Type 0) → (List Entry → Type 0) → Setup → Step → List Entry → Type 0
 Plays Before After setup s report =
-    (past : List Entry) → Before past → Entries setup past s (reverse report) × After (reverse report ++ past)
+    (past : List Entry) → Before past → Entries None setup past s (reverse report) × After (reverse report ++ past)
 
 -- A step was played, and its entries were written so, which holds by the answer.
 abbrev pub PlaysOn : (List Entry → Type 0) → (List Entry → Type 0) → Setup → Step → (List Entry → Type 0) → Type 0

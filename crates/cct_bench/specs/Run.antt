@@ -1,5 +1,6 @@
 -- What a run of the bench leaves: what it took, played and wrote, by its status.
-use Rattle.std.specs.Prelude.{◌≡◌, ℕ, ◌≤◌, ◌⊎◌, List, [], ◌∷◌, ◌++◌, length, map, Option, Some, None, Result, Ok, Err, codes, String, string_bytes}
+use Rattle.std.specs.Prelude.{◌≡◌, ℕ, ◌≤◌, ◌⊎◌, List, [], ◌∷◌, ◌++◌, length, map, Option, Some, None, Result, Ok, Err}
+use Rattle.std.specs.Prelude.{codes, String, string_bytes}
 use Rattle.std.specs.Io.KnownBytes.{Appends}
 use Rattle.cct_model.specs.lines.command.Step.{Step}
 use Rattle.std.specs.declared.alloc.Global.{Global}
@@ -31,15 +32,18 @@ IsRun words = map string_bytes words ≡ codes "run" ∷ []
 abbrev pub Closes : Status → List ℕ → List ℕ → List Step → List Step → List Entry → Type 0
 Closes status.Done bytes taken played unplayed tail = (unplayed ≡ []) × ((script bytes).refused ≡ None) × (tail ≡ [])
 Closes status.ScriptRefused bytes taken played unplayed tail =
-    (line : Refusal) × (unplayed ≡ []) × ((script bytes).refused ≡ Some line) × (tail ≡ entry.Line line.number line.why ∷ [])
-Closes status.ReadFault bytes taken played unplayed tail = ((script taken).steps ≡ played) × (tail ≡ entry.ReadFault ∷ [])
+    (line : Refusal) × (unplayed ≡ []) × ((script bytes).refused ≡ Some line)
+    × (tail ≡ entry.Line line.number line.why ∷ [])
+Closes status.ReadFault bytes taken played unplayed tail = ((script taken).steps ≡ played)
+    × (tail ≡ entry.ReadFault ∷ [])
 Closes status.WriteFault bytes taken played unplayed tail = ⊥
 Closes status.WordsRefused bytes taken played unplayed tail = ⊥
 Closes status.OutOfMemory bytes taken played unplayed tail = ⊥
 
 -- Writing broke off in the lines of the last step played or in the last line, and all lines before were written whole:
 -- they are a front of the transcript, and the entries of the other steps.
-pub record BreaksOff (setup : Setup) (played : List Step) (transcript tail : List Entry) (Breaks : List Entry → List Entry → Type 0) : Type 0 where
+pub record BreaksOff (setup : Setup) (played : List Step) (transcript tail : List Entry)
+    (Breaks : List Entry → List Entry → Type 0) : Type 0 where
   pub before : List Step
   pub last : List Step
   pub whole : List Entry
@@ -47,14 +51,15 @@ pub record BreaksOff (setup : Setup) (played : List Step) (transcript tail : Lis
   pub steps_are : played ≡ before ++ last
   pub one_step : length last ≤ 1
   pub transcript_is : transcript ≡ whole ++ cut
-  pub legal : Legal setup before whole
-  pub goes_on : LegalFrom setup (onto [] whole) last (onto [] transcript)
+  pub legal : Legal None setup before whole
+  pub goes_on : LegalFrom None setup (onto [] whole) last (onto [] transcript)
   pub in_one : (last ≡ []) ⊎ (tail ≡ [])
   pub breaks : Breaks whole (cut ++ tail)
 
 -- What is written, by the status: the lines of the transcript and the last line, or some of them where the sink failed.
 -- Nothing is played and written where there was no memory.
-abbrev pub Ends : Status → List ℕ → List ℕ → List Step → List Step → List Entry → (List Entry → Type 0) → (List Entry → List Entry → Type 0) → Type 0
+abbrev pub Ends : Status → List ℕ → List ℕ → List Step → List Step → List Entry → (List Entry → Type 0)
+    → (List Entry → List Entry → Type 0) → Type 0
 Ends status.WriteFault bytes taken played unplayed transcript Written Breaks =
     (tail : List Entry) × ((tail ≡ []) ⊎ ((s : Status) × Closes s bytes taken played unplayed tail))
     × BreaksOff (script bytes).setup played transcript tail Breaks
@@ -63,9 +68,11 @@ Ends s bytes taken played unplayed transcript Written Breaks =
     (tail : List Entry) × Closes s bytes taken played unplayed tail × Written (transcript ++ tail)
 
 -- A run over a script of these bytes: what it took of them, the steps that it played, and their transcript; and what it
--- wrote, where `Written` holds of entries that were written whole, and `Breaks` where a put failed in the second list. Where the wire was honest, the posts of each device are its accepted coins in order, none twice; and at each
+-- wrote, where `Written` holds of entries that were written whole, and `Breaks` where a put failed in the second list.
+-- Where the wire was honest, the posts of each device are its accepted coins in order, none twice; and at each
 -- device that kept the pace, none is lost in silence.
-pub record Ran (bytes : List ℕ) (s : Status) (left : Option (List ℕ)) (Written : List Entry → Type 0) (Breaks : List Entry → List Entry → Type 0) : Type 0 where
+pub record Ran (bytes : List ℕ) (s : Status) (left : Option (List ℕ)) (Written : List Entry → Type 0)
+    (Breaks : List Entry → List Entry → Type 0) : Type 0 where
   pub taken : List ℕ
   pub rest : List ℕ
   pub played : List Step
@@ -74,9 +81,10 @@ pub record Ran (bytes : List ℕ) (s : Status) (left : Option (List ℕ)) (Writt
   pub took : bytes ≡ taken ++ rest
   pub left_is : left ≡ Some rest
   pub steps_are : (script bytes).steps ≡ played ++ unplayed
-  pub legal : Legal (script bytes).setup played transcript
+  pub legal : Legal None (script bytes).setup played transcript
   pub in_order : (d : DeviceSetup) → IsOf (script bytes).setup d → Honest transcript → InOrder (lines_in d transcript)
-  pub covers : (d : DeviceSetup) → IsOf (script bytes).setup d → Honest transcript → Pace (lines_in d transcript) → Covers (lines_in d transcript)
+  pub covers : (d : DeviceSetup) → IsOf (script bytes).setup d → Honest transcript → Pace (lines_in d transcript)
+      → Covers (lines_in d transcript)
   pub ends : Ends s bytes taken played unplayed transcript Written Breaks
 
 -- How a run ends where a script is read no further.
@@ -86,7 +94,8 @@ ending_at number (stop.Refused why) = ending.Refused number why
 
 -- The transcript is whole up to the last line, or it breaks off where the sink failed, by how the steps came to their
 -- end.
-abbrev pub Stops : Ending → List ℕ → List ℕ → List Step → List Step → List Entry → (List Entry → Type 0) → (List Entry → List Entry → Type 0) → Type 0
+abbrev pub Stops : Ending → List ℕ → List ℕ → List Step → List Step → List Entry → (List Entry → Type 0)
+    → (List Entry → List Entry → Type 0) → Type 0
 Stops ending.Done bytes taken played unplayed transcript Written Breaks =
     Closes status.Done bytes taken played unplayed [] × Written transcript
 Stops (ending.Refused number kind) bytes taken played unplayed transcript Written Breaks =
@@ -98,7 +107,8 @@ Stops ending.Unwritten bytes taken played unplayed transcript Written Breaks =
 Stops ending.NoMemory bytes taken played unplayed transcript Written Breaks = (played ≡ []) × Written []
 
 -- The steps of a script of these bytes were played up to this end.
-pub record Played (bytes : List ℕ) (how : Ending) (left : Option (List ℕ)) (Written : List Entry → Type 0) (Breaks : List Entry → List Entry → Type 0) : Type 0 where
+pub record Played (bytes : List ℕ) (how : Ending) (left : Option (List ℕ)) (Written : List Entry → Type 0)
+    (Breaks : List Entry → List Entry → Type 0) : Type 0 where
   pub taken : List ℕ
   pub rest : List ℕ
   pub played : List Step
@@ -107,12 +117,13 @@ pub record Played (bytes : List ℕ) (how : Ending) (left : Option (List ℕ)) (
   pub took : bytes ≡ taken ++ rest
   pub left_is : left ≡ Some rest
   pub steps_are : (script bytes).steps ≡ played ++ unplayed
-  pub legal : Legal (script bytes).setup played transcript
+  pub legal : Legal None (script bytes).setup played transcript
   pub stops : Stops how bytes taken played unplayed transcript Written Breaks
 
 -- A last line was written, and the run ends with its status; or, where the sink failed, a front of the line.
 abbrev pub ClosedBy : Status → Status → List ℕ → Option (List ℕ) → Option (List ℕ) → Type 0
-ClosedBy result wanted line old new = ((result ≡ wanted) × Appends old new line) ⊎ ((result ≡ status.WriteFault) × AppendsFront old new line)
+ClosedBy result wanted line old new = ((result ≡ wanted) × Appends old new line)
+    ⊎ ((result ≡ status.WriteFault) × AppendsFront old new line)
 
 -- The status of a run by the answer of the put of its last line.
 abbrev pub status_by : Result (Unit {0}) Failed → Status → Status

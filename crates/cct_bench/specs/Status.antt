@@ -1,7 +1,8 @@
 -- The exit statuses.
 use Rattle.std.specs.Prelude.{ℕ}
 use Rattle.cct_bench.specs.declared.outcome.Status.{Status}
-use Rattle.cct_bench.specs.declared.outcome.Status.TheVariants.{Done, ScriptRefused, WordsRefused, ReadFault, WriteFault, OutOfMemory}
+use Rattle.cct_bench.specs.declared.outcome.Status.TheVariants.{Done, ScriptRefused, WordsRefused, ReadFault}
+use Rattle.cct_bench.specs.declared.outcome.Status.TheVariants.{WriteFault, OutOfMemory}
 
 -- The exit status of the program, by how it ended.
 abbrev pub code_of : Status → ℕ

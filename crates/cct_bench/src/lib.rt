@@ -45,7 +45,8 @@ pub fn bench<S: Source, K: Sink>(
 
     // Other words are refused, and no byte of the script is taken.
     ensures words { (IsRun words.now → ⊥) →
-        ClosedBy result Status.WordsRefused (line_of Words) (K.written out.old) (K.written out.new) × (script.new ≡ script.old) }
+        ClosedBy result Status.WordsRefused (line_of Words) (K.written out.old) (K.written out.new)
+        × (script.new ≡ script.old) }
 
     // They are told by one put.
     ensures words_put { (IsRun words.now → ⊥) → (answer : Result (Unit {0}) Failed)
@@ -57,9 +58,10 @@ pub fn bench<S: Source, K: Sink>(
     ensures words_cause { result ≡ Status.WordsRefused → IsRun words.now → ⊥ }
     ensures memory_cause { result ≡ Status.OutOfMemory → out.new ≡ out.old }
 
-    // Memory is wanted only before the first byte of the script is taken, or just behind its line `begin`.
+    // Memory is wanted only before the first byte of the script is taken, or once its line `begin` is held whole: from
+    // then on no byte was taken.
     ensures memory_place { result ≡ Status.OutOfMemory →
-        (script.new ≡ script.old) ⊎ TookSetup (S.left script.old) (S.left script.new) }
+        (script.new ≡ script.old) ⊎ TookSetup S.takes S.left script.old script.new }
 
     // Source and sink go on telling, and no count of faults falls.
     ensures source_tells { TellsAsBefore (S.left script.old) (S.left script.new) }

@@ -65,9 +65,11 @@ pub fn read_opening<S: Source>(
 ) -> Result<Opened, ScriptStop>
     requires { IsNext number (standing_of lines.old) }
     ensures reads { IfOk result (λ opened. Came (standing_of lines.old).held (S.left script.old) (S.left script.new)
-        (λ held. ScriptGoesOn number (at_setup setup.old) held (opens (stage_of opened setup.new)) (standing_of lines.new).held)) }
-    ensures line { IfOk result (λ opened. OpensLine number (at_setup setup.old) (stage_of opened setup.new)
-        (standing_of lines.old).held (standing_of lines.new).held (S.left script.old) (S.left script.new)) }
+        (λ held. ScriptGoesOn number (at_setup setup.old) held (opens (stage_of opened setup.new))
+        (standing_of lines.new).held)) }
+    ensures line { IfOk result (λ opened.
+        OpensLine S.takes S.left number (at_setup setup.old) (stage_of opened setup.new)
+        (standing_of lines.old).held (standing_of lines.new).held script.old script.new) }
     ensures next { IfOk result (λ opened. IsNext (number + 1) (standing_of lines.new)) }
     ensures stops { IfErr result (λ why. Came (standing_of lines.old).held (S.left script.old) (S.left script.new)
         (StopsAt number (at_setup setup.old) why (S.left script.new))) }

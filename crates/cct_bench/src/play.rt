@@ -1,6 +1,7 @@
 //! A run: the script is read a line at a time, and each step is played and its entries are written before the next line
 //! is read.
-ghost use Rattle.std.specs.Prelude.{◌≡◌, ◌≢◌, ◌⊎◌, ℕ, ◌+◌, ◌≤◌, List, [], ◌∷◌, Option, Result, IfSome, IfOk, IfErr, Err};
+ghost use Rattle.std.specs.Prelude.{◌≡◌, ◌≢◌, ◌⊎◌, ℕ, ◌+◌, ◌≤◌, List, [], ◌∷◌, Option, Result, IfSome, IfOk};
+ghost use Rattle.std.specs.Prelude.{IfErr, Err};
 ghost use Rattle.cct_edge.specs.Bytes.{TellsAsBefore};
 ghost use Rattle.cct_edge.specs.declared.fault.Failed.{Failed};
 ghost use Rattle.cct_edge.specs.Faults.{HasCause, Rose};
@@ -75,9 +76,10 @@ fn read_setup<S: Source>(
     requires lines { standing_of lines.old ≡ none_given }
     requires setup { setup.old ≡ no_devices }
     ensures opened { IfOk result (λ number.
-        Going (S.left script.old) (S.left script.new) (standing_of lines.new).held number (at_steps setup.new) IsNothing IsNothing) }
+        Going (S.left script.old) (S.left script.new) (standing_of lines.new).held number (at_steps setup.new)
+        IsNothing IsNothing) }
     ensures took { IfOk result (λ number.
-        TookOpening (S.left script.old) (S.left script.new) (standing_of lines.new).held number (at_steps setup.new)) }
+        TookOpening S.takes S.left script.old script.new (standing_of lines.new).held number (at_steps setup.new)) }
     ensures next { IfOk result (λ number. IsNext number (standing_of lines.new)) }
     ensures ended { IfErr result (λ how.
         IfSome (S.left script.old) (λ bytes. Played bytes how (S.left script.new) IsNothing NeverBroke)) }
@@ -175,7 +177,8 @@ impl ScriptDesk {
     /// Ends the steps of a script behind its line `end`: the next line has this number.
     fn finish<S: Source>(&mut self, number: u32, script: &mut S) -> Ending
         ensures ended { (left0 : Option (List ℕ)) (setup : Setup) (written : List Entry)
-            → Going left0 (S.left script.old) (standing_of self.old.lines).held number (at_end setup) IsAnything (IsJust written)
+            → Going left0 (S.left script.old) (standing_of self.old.lines).held number (at_end setup) IsAnything
+            (IsJust written)
             → IfSome left0 (λ bytes. Played bytes result (S.left script.new) (IsJust written) NeverBroke) }
         ensures unread { result ≡ Ending.Unread → Rose (S.faults script.old) (S.faults script.new) }
         ensures other { (result ≢ Ending.Unwritten) × (result ≢ Ending.NoMemory) }
@@ -230,7 +233,8 @@ impl Bench {
             (Wrote K.written K.puts out.old out.new) (Broke K.written K.puts out.old out.new)) }
         ensures unread { result ≡ Ending.Unread → Rose (S.faults script.old) (S.faults script.new) }
         ensures unwritten { result ≡ Ending.Unwritten → Rose (K.faults out.old) (K.faults out.new) }
-        ensures memory { result ≡ Ending.NoMemory → (out.new ≡ out.old) × TookSetup (S.left script.old) (S.left script.new) }
+        ensures memory { result ≡ Ending.NoMemory →
+            (out.new ≡ out.old) × TookSetup S.takes S.left script.old script.new }
         ensures source { TellsAsBefore (S.left script.old) (S.left script.new) }
         ensures sink { TellsAsBefore (K.written out.old) (K.written out.new) }
         ensures source_later { S.faults script.old ≤ S.faults script.new }
@@ -254,7 +258,8 @@ impl Bench {
             (Wrote K.written K.puts out.old out.new) (Broke K.written K.puts out.old out.new)) }
         ensures read_cause { result ≡ Status.ReadFault → Rose (S.faults script.old) (S.faults script.new) }
         ensures write_cause { result ≡ Status.WriteFault → Rose (K.faults out.old) (K.faults out.new) }
-        ensures memory { result ≡ Status.OutOfMemory → (out.new ≡ out.old) × TookSetup (S.left script.old) (S.left script.new) }
+        ensures memory { result ≡ Status.OutOfMemory →
+            (out.new ≡ out.old) × TookSetup S.takes S.left script.old script.new }
         ensures source { TellsAsBefore (S.left script.old) (S.left script.new) }
         ensures sink { TellsAsBefore (K.written out.old) (K.written out.new) }
         ensures source_later { S.faults script.old ≤ S.faults script.new }
@@ -283,8 +288,10 @@ impl Bench {
 
 /// Writes a last line, and gives the status that it tells, or that of a fault in writing.
 pub fn close<K: Sink>(out: &mut K, line: &mut TextLine, entry: &Entry, status: Status) -> Status
-    ensures writes { (answer : Result (Unit {0}) Failed) × Writes K.written K.puts out.old (entry.now ∷ []) answer out.new × (result ≡ status_by answer status) }
-    ensures one { (answer : Result (Unit {0}) Failed) × K.puts out.old (line_of entry.now) answer out.new × (result ≡ status_by answer status) }
+    ensures writes { (answer : Result (Unit {0}) Failed)
+        × Writes K.written K.puts out.old (entry.now ∷ []) answer out.new × (result ≡ status_by answer status) }
+    ensures one { (answer : Result (Unit {0}) Failed)
+        × K.puts out.old (line_of entry.now) answer out.new × (result ≡ status_by answer status) }
     ensures closed { ClosedBy result status (line_of entry.now) (K.written out.old) (K.written out.new) }
     ensures tells { TellsAsBefore (K.written out.old) (K.written out.new) }
     ensures cause { result ≡ status ⊎ Rose (K.faults out.old) (K.faults out.new) }

@@ -70,7 +70,8 @@ pub fn read_step<S: Source>(
 ) -> Result<(), ScriptStop>
     requires { IsNext number (standing_of lines.old) }
     ensures reads { OnOk result (Came (standing_of lines.old).held (S.left script.old) (S.left script.new)
-        (λ held. ScriptGoesOn number (at_steps (setup_of world.now)) held (read_as (setup_of world.now) step.new) (standing_of lines.new).held)) }
+        (λ held. ScriptGoesOn number (at_steps (setup_of world.now)) held (read_as (setup_of world.now) step.new)
+        (standing_of lines.new).held)) }
     ensures can { OnOk result (is_end step.new ≡ false → CanPlay (setup_of world.now) step.new) }
     ensures next { OnOk result (IsNext (number + 1) (standing_of lines.new)) }
     ensures stops { IfErr result (λ why. Came (standing_of lines.old).held (S.left script.old) (S.left script.new)

@@ -12,6 +12,7 @@ use Rattle.cct_model.specs.terms.device.DeviceSetup.{DeviceSetup}
 use Rattle.cct_model.specs.terms.request.Request.{Request}
 use Rattle.cct_model.specs.terms.request.Request.TheVariants.{AddressPoll}
 use Rattle.cct_model.specs.Acceptor.{acceptor_reply}
+use Rattle.cct_model.specs.Hopper.{hopper_reply}
 use Rattle.cct_model.specs.Device.{common_reply, own_reply, reply_of}
 use Rattle.cct_model.specs.Exchange.{answer, answer_to, asked_of, asker, asks_of, reply_bytes, to_all, to_one}
 use Rattle.cct_model.specs.History.{Met}
@@ -66,15 +67,16 @@ asked_where : (d : DeviceSetup) (piece : List ℕ) (q : Request) → asks_of d p
 unfolding asks_of
 asked_where d piece q e = asked_of_message d.addr d.kind piece (message d.kind piece) q refl e
 
-poll_own : (b : DeviceBody) (past : List Met) → own_reply b past AddressPoll ≡ None
-unfolding acceptor_reply
-poll_own (body.Acceptor accepts values ids) past = refl
-poll_own (body.Hopper life value) past = refl
+poll_own : (serial : ℕ) (b : DeviceBody) (past : List Met) → own_reply serial b past AddressPoll ≡ None
+unfolding acceptor_reply hopper_reply
+poll_own serial (body.Acceptor accepts values ids) past = refl
+poll_own serial (body.Hopper life value) past = refl
 
 -- an address poll is answered by the address
 poll_answer : (d : DeviceSetup) (past : List Met) (to : ℕ) → answer_to d past to (Some AddressPoll) ≡ Some (d.addr ∷ [])
 unfolding reply_of common_reply
-poll_answer d past to = ap (λ y. option_or (option_map (reply_bytes d to) y) (Some (d.addr ∷ []))) (poll_own d.body past)
+poll_answer d past to =
+    ap (λ y. option_or (option_map (reply_bytes d to) y) (Some (d.addr ∷ []))) (poll_own d.serial d.body past)
 
 room_to_one : (addr : ℕ) (piece said : List ℕ) → slice_index piece 0 ≡ addr → length said ≤ 260 → length said ≤ most_said addr piece
 room_to_one addr piece said here fits = grind (arith, nat_tests)

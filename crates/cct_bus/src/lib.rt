@@ -7,6 +7,3 @@ mod fault;
 mod hearing;
 
 pub use bus::Bus;
-
-#[cfg(test)]
-mod tests;

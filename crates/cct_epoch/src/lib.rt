@@ -8,6 +8,3 @@ mod laws;
 pub use cct_model::{EpochState, Judged};
 pub use judging::{distance, judge};
 pub use laws::the_event_counter_tells_the_events_that_came;
-
-#[cfg(test)]
-mod tests;

@@ -1,7 +1,6 @@
 -- How a job begins.
 use Rattle.std.proofs.Common.{◌≡◌, ℕ, ◌==◌, Bool, true, false, cond, List, [], ◌∷◌, refl, sym, ap, subst, ◌∙◌, Some, arith}
 use Rattle.std.specs.Prelude.{slice_get}
-use Rattle.std.specs.Option.{option_map}
 use Rattle.std.proofs.lemmas.Bool.{eqb-true}
 use Rattle.cct_model.specs.lines.command.Command.{Command}
 use Rattle.cct_model.specs.terms.device.DeviceBody.{DeviceBody}
@@ -32,13 +31,6 @@ address_there [] addr d e = absurd cc
 address_there (x ∷ devices) addr d e =
     address_by (x.addr == addr) x devices addr d refl (address_there devices addr d) e
 
-device_found : (devices : List DeviceSetup) (addr : ℕ) (d : DeviceSetup) (device : Target)
-    → device_at devices addr ≡ Some d → Some device ≡ option_map target_of (device_at devices addr)
-    → device ≡ target_of d
-device_found devices addr d device there e =
-    let found : Some device ≡ Some (target_of d) = e ∙ ap (option_map target_of) there in
-    cc
-
 -- the first question of an identification
 pub first_question : (body : DeviceBody) → slice_get (ident_requests body) 0 ≡ Some MakerId
 first_question (Acceptor accepts values ids) = refl
@@ -48,13 +40,13 @@ first_question (Hopper life value) = refl
 pub first_stage : (devices : List DeviceSetup) (addr : ℕ) (d : DeviceSetup) (device : Target) (stage : Stage)
     (c : Command) (state : EpochState) (job : Job) → job ≡ Asks device stage 0 → c ≡ own_of stage addr
     → address_of (own_of stage addr) ≡ addr → device_at devices (address_of c) ≡ Some d
-    → Some device ≡ option_map target_of (device_at devices addr) → IsAfter stage d.body 0 → Knows stage [] state
-    → Stands d job c [] state
-first_stage devices addr d device stage c state job begun is here there e after knows =
+    → ((x : DeviceSetup) → device_at devices addr ≡ Some x → device ≡ target_of x)
+    → IsAfter stage d.body 0 → Knows stage [] state → Stands d job c [] state
+first_stage devices addr d device stage c state job begun is here there known after knows =
     let at : device_at devices addr ≡ Some d = ap (device_at devices) (sym (ap address_of is ∙ here)) ∙ there in
     subst (λ j. Stands d j c [] state) (sym begun)
     (record {
-      device_is = device_found devices addr d device at e;
+      device_is = known d at;
       command_is = is ∙ ap (own_of stage) (sym (address_there devices addr d at));
       is_after = after;
       knows = knows;

@@ -13,7 +13,7 @@ use Rattle.cct_model.specs.lines.command.Command.TheVariants as command
 use Rattle.cct_model.specs.lines.entry.End.{End}
 use Rattle.cct_model.specs.lines.entry.End.TheVariants.{Broke, Posted, Stopped, Unquiet}
 use Rattle.cct_model.specs.Line.{Line, exchange, put}
-use Rattle.cct_model.specs.Job.{puts, row, row_at, judged_in, judged_by, address_of, credits_read, done, end_of_answer, end_of_credits, end_of_put, end_of_start, start_row, stop_row}
+use Rattle.cct_model.specs.Job.{puts, Payment, payment_in, row, row_at, judged_in, judged_by, address_of, credits_read, done, end_of_answer, end_of_credits, end_of_put, end_of_start, start_row, stop_row}
 use Rattle.cct_model.specs.Reading.{judge}
 use Rattle.cct_model.specs.Reply as reply
 use Rattle.cct_jobs.specs.declared.stage.Recorded.{Recorded}
@@ -44,7 +44,8 @@ module _ {d : DeviceSetup} {device : Target} {mask failed : ℕ} {c : Command} {
         rows_are,
         record {
           command_is = at.command_is;
-          row_is = ap (λ k. row d k (line ∷ since) state) at.command_is ∙ ap (start_row d.addr mask) rows_are;
+          row_is = λ owed. ap (λ k. row d k (line ∷ since) state owed) at.command_is
+              ∙ ap (start_row d.addr mask) rows_are;
           ends = refl;
           goes_on = read_end ∙ ap (λ b. cond b None (Some (Unquiet read.counter))) quiet;
         },
@@ -124,16 +125,17 @@ module _ {d : DeviceSetup} {device : Target} {visit : Visit} {recorded : Recorde
 
   -- a record that is put
   put_at : (entry : Record) (end : Option End)
-      → row_at d.body (visiting visit d.addr) (suc (suc (rows_before visit))) means ≡ puts entry
+      → ((p : Payment) → row_at d (visiting visit d.addr) (suc (suc (rows_before visit))) means p ≡ puts entry)
       → end_of_answer d.body (visiting visit d.addr) (suc (suc (rows_before visit))) (reply.mask seen) means ≡ None
       → end_of_put (visiting visit d.addr) entry ≡ end
       → Putting d (visiting visit d.addr) entry end c (looked seen ∷ since) state
   put_at entry end is_row on ends = record {
     command_is = at.command_is;
     row_is =
-        ap (λ k. row d k (looked seen ∷ since) state) at.command_is
-        ∙ ap₂ (row_at d.body (visiting visit d.addr)) (ap suc at.is_after) judged_is
-        ∙ is_row;
+        λ owed. let p = payment_in (looked seen ∷ since) owed in
+        ap (λ k. row d k (looked seen ∷ since) state owed) at.command_is
+        ∙ ap₂ (λ n m. row_at d (visiting visit d.addr) n m p) (ap suc at.is_after) judged_is
+        ∙ is_row p;
     ends = ends;
     goes_on = looked_end ∙ on;
   }
@@ -144,27 +146,27 @@ pub round_judges : {d : DeviceSetup} {device : Target} {recorded : Recorded} {re
     → Stands d (round_after means) c (looked seen ∷ since) state
 round_judges at seen Nothing e = looked_end at seen Nothing e
 round_judges {d} {read = read} at seen (Reading entry) e =
-    put_at at seen (Reading entry) e entry (Some Posted) refl refl (reading_posts d.addr _ _ _ read seen entry e)
+    put_at at seen (Reading entry) e entry (Some Posted) (λ p. refl) refl (reading_posts d.addr _ _ _ read seen entry e)
 round_judges {d} {read = read} at seen (Broken entry) e =
-    put_at at seen (Broken entry) e entry (Some Broke) refl refl (break_ends_round d.addr _ _ _ read seen entry e)
+    put_at at seen (Broken entry) e entry (Some Broke) (λ p. refl) refl (break_ends_round d.addr _ _ _ read seen entry e)
 
 pub stop_judges : {d : DeviceSetup} {device : Target} {recorded : Recorded} {read : Credits} {failed : ℕ} {c : Command}
     {since : List Line} {state : EpochState} → Asking d device (Looks visit_of.Stop recorded read) failed c since state
     → (seen : ℕ) (means : Judged) → judge device.addr recorded.mask recorded.counter read seen ≡ means
     → Stands d (stop_after device means) c (looked seen ∷ since) state
 stop_judges {d} at seen Nothing e =
-    (at.device_is, put_at at seen Nothing e (EpochEnd d.addr) (Some Stopped) refl refl refl)
+    (at.device_is, put_at at seen Nothing e (EpochEnd d.addr) (Some Stopped) (λ p. refl) refl refl)
 stop_judges {d} {read = read} at seen (Reading entry) e = (
   at.device_is,
   ap suc at.is_after,
   λ e. cc,
-  put_at at seen (Reading entry) e entry None refl refl (reading_goes_on d.addr _ _ _ read seen entry e),
+  put_at at seen (Reading entry) e entry None (λ p. refl) refl (reading_goes_on d.addr _ _ _ read seen entry e),
 )
 stop_judges {d} {read = read} at seen (Broken entry) e = (
   at.device_is,
   ap suc at.is_after,
   λ e. cc,
-  put_at at seen (Broken entry) e entry (Some Broke) refl refl (break_ends_stop d.addr _ _ _ read seen entry e),
+  put_at at seen (Broken entry) e entry (Some Broke) (λ p. refl) refl (break_ends_stop d.addr _ _ _ read seen entry e),
 )
 
 -- what a put leaves, whatever the epoch is then
@@ -193,7 +195,7 @@ stop_closes d device entry c since state after (device_is, rows_are, apart, at) 
   record {
     command_is = at.command_is;
     row_is =
-        ap (λ k. row d k (put entry ∷ since) after) at.command_is
+        λ owed. ap (λ k. row d k (put entry ∷ since) after owed) at.command_is
         ∙ ap (λ n. stop_row d.addr n (judged_in (command.Stop d.addr) (put entry ∷ since) after)) (ap suc rows_are);
     ends = refl;
     goes_on = put_ends d (command.Stop d.addr) entry None c since state after at;

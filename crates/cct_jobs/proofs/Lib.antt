@@ -2,6 +2,7 @@ pub mod Begins
 pub mod Epochs
 pub mod Heard
 pub mod Needs
+pub mod Owners
 pub mod Questions
 pub mod Scans
 pub mod Sets

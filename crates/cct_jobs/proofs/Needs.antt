@@ -8,13 +8,14 @@ use Rattle.cct_model.specs.lines.command.Command.TheVariants as command
 use Rattle.cct_model.specs.lines.entry.End.{End}
 use Rattle.cct_model.specs.lines.entry.End.TheVariants.{Stopped}
 use Rattle.cct_model.specs.declared.judging.EpochState.{EpochState}
+use Rattle.cct_model.specs.declared.judging.OpenOrder.{OpenOrder}
 use Rattle.cct_model.specs.lines.record.Record.{Record}
 use Rattle.cct_model.specs.lines.record.Record.TheVariants.{Epoch, EpochEnd}
 use Rattle.cct_model.specs.terms.request.Request.{Request}
 use Rattle.cct_model.specs.terms.wire.CheckKind.{CheckKind}
 use Rattle.cct_model.specs.terms.wire.CheckKind.TheVariants.{Simple, Crc}
 use Rattle.cct_model.specs.Exchange.{ask}
-use Rattle.cct_model.specs.Job.{Row, address_of, done, end_of_put, sends, puts, row}
+use Rattle.cct_model.specs.Job.{Row, address_of, credits_read, done, end_of_put, mask_read, sends, puts, puts_at, row}
 use Rattle.cct_model.specs.Line.{Line}
 use Rattle.cct_model.specs.Scan.{end_of_scan, poll_of, scan_row}
 use Rattle.cct_jobs.specs.declared.job.Need.{Need}
@@ -26,8 +27,9 @@ use Rattle.cct_jobs.specs.declared.stage.Stage.{Stage}
 use Rattle.cct_jobs.specs.declared.stage.Stage.TheVariants.{StartResets, StartReads, StartSets, Reads, Looks}
 use Rattle.cct_jobs.specs.declared.stage.Visit.TheVariants.{Round, Stop}
 use Rattle.cct_jobs.specs.declared.target.Target.{Target}
-use Rattle.cct_jobs.specs.Jobs.{Asking, IsAfter, IsPut, Needs, Putting, Stands, after_put, asks_at, end_of_job, may_put_of, need_of, newest_end, own_of, puts_at, request_of, sending_of, stage_puts}
+use Rattle.cct_jobs.specs.Jobs.{Asking, IsAfter, IsPut, Needs, Putting, Stands, after_put, asks_at, end_of_job, may_put_of, need_of, newest_end, own_of, request_of, sending_of, stage_puts}
 use Rattle.cct_jobs.specs.Scans.{NeedsScan, StandsScan}
+use Rattle.cct_jobs.proofs.Owners.{round_owner, stop_owner}
 use Rattle.cct_jobs.proofs.Scans.{calls_simple_row, calls_crc_row, calls_simple_on, calls_crc_on, polls_row, polls_on}
 use Rattle.cct_jobs.proofs.Stages.{stage_row}
 
@@ -41,16 +43,25 @@ needs_by d (Asks device stage failed) c since state at = record {
 }
 needs_by d (StartPuts device mask) c since state (device_is, rows_are, at) = record {
   is_here = ap address_of at.command_is;
-  row_is = at.row_is ∙ ap (λ (t : Target). puts (Epoch t.addr mask)) (sym device_is);
+  row_is = λ owed. at.row_is owed ∙ ap (λ (t : Target). puts (Epoch t.addr mask)) (sym device_is);
+  owned = λ past. ap (λ (t : Target). t.addr) device_is;
 }
-needs_by d (RoundPuts entry end) c since state at = record { is_here = ap address_of at.command_is; row_is = at.row_is }
+needs_by d (RoundPuts entry end) c since state at = record {
+  is_here = ap address_of at.command_is;
+  row_is = at.row_is;
+  owned = λ past. round_owner d.addr (done since) state (credits_read since) (mask_read since) past entry
+      (ap (λ k. row d k since state None) (sym at.command_is) ∙ at.row_is None);
+}
 needs_by d (StopPuts device entry end) c since state (device_is, rows_are, apart, at) = record {
   is_here = ap address_of at.command_is;
   row_is = at.row_is;
+  owned = λ past. stop_owner d.addr (done since) state (credits_read since) (mask_read since) past entry
+      (ap (λ k. row d k since state None) (sym at.command_is) ∙ at.row_is None);
 }
 needs_by d (StopEnds device) c since state (device_is, at) = record {
   is_here = ap address_of at.command_is;
-  row_is = at.row_is ∙ ap (λ (t : Target). puts (EpochEnd t.addr)) (sym device_is);
+  row_is = λ owed. at.row_is owed ∙ ap (λ (t : Target). puts (EpochEnd t.addr)) (sym device_is);
+  owned = λ past. ap (λ (t : Target). t.addr) device_is;
 }
 needs_by d (Done end) c since state at = at
 needs_by d job c since state at = absurd at
@@ -145,35 +156,37 @@ two_to_put addr rows (EpochEnd at) end ends apart = absurd (apart (sym ends))
 two_to_put addr rows entry end ends apart = refl
 
 put_row : (d : DeviceSetup) (own : Command) (entry : Record) (end : Option End) (c : Command) (since : List Line)
-    (state : EpochState) → Putting d own entry end c since state
-    → puts_at own (done since) (puts entry) ≡ puts_at c (done since) (row d c since state)
-put_row d own entry end c since state at =
-    ap (λ k. puts_at k (done since) (puts entry)) (sym at.command_is) ∙ ap (puts_at c (done since)) (sym at.row_is)
+    (state : EpochState) (owed : Option OpenOrder) → Putting d own entry end c since state
+    → puts_at own (done since) (puts entry) ≡ puts_at c (done since) (row d c since state owed)
+put_row d own entry end c since state owed at =
+    ap (λ k. puts_at k (done since) (puts entry)) (sym at.command_is) ∙ ap (puts_at c (done since)) (sym (at.row_is owed))
 
 may_put_by : (d : DeviceSetup) (job : Job) (c : Command) (since : List Line) (state : EpochState)
+    (owed : Option OpenOrder)
     → Stands d job c since state → newest_end d c since state ≡ None
-    → may_put_of job ≡ puts_at c (done since) (row d c since state)
-may_put_by d (Asks device stage failed) c since state at on =
+    → may_put_of job ≡ puts_at c (done since) (row d c since state owed)
+may_put_by d (Asks device stage failed) c since state owed at on =
     stage_may_put stage d.body d.addr (done since) at.is_after
     ∙ ap (λ k. puts_at k (done since) (sends (request_of stage))) (sym at.command_is)
-    ∙ ap (puts_at c (done since)) (sym (stage_row at))
-may_put_by d (StartPuts device mask) c since state (device_is, rows_are, at) on =
+    ∙ ap (puts_at c (done since)) (sym (stage_row at owed))
+may_put_by d (StartPuts device mask) c since state owed (device_is, rows_are, at) on =
     sym (ap (λ n. puts_at (command.Start d.addr mask) n (puts (Epoch d.addr mask))) rows_are)
-    ∙ put_row d (command.Start d.addr mask) (Epoch d.addr mask) None c since state at
-may_put_by d (RoundPuts entry end) c since state at on =
-    put_row d (command.Round d.addr) entry (Some end) c since state at
-may_put_by d (StopPuts device entry end) c since state (device_is, rows_are, apart, at) on =
+    ∙ put_row d (command.Start d.addr mask) (Epoch d.addr mask) None c since state owed at
+may_put_by d (RoundPuts entry end) c since state owed at on =
+    put_row d (command.Round d.addr) entry (Some end) c since state owed at
+may_put_by d (StopPuts device entry end) c since state owed (device_is, rows_are, apart, at) on =
     sym (two_to_put d.addr (done since) entry end at.ends apart)
-    ∙ put_row d (command.Stop d.addr) entry end c since state at
-may_put_by d (StopEnds device) c since state (device_is, at) on =
-    put_row d (command.Stop d.addr) (EpochEnd d.addr) (Some Stopped) c since state at
-may_put_by d (Done end) c since state at on = absurd cc
-may_put_by d job c since state at on = absurd at
+    ∙ put_row d (command.Stop d.addr) entry end c since state owed at
+may_put_by d (StopEnds device) c since state owed (device_is, at) on =
+    put_row d (command.Stop d.addr) (EpochEnd d.addr) (Some Stopped) c since state owed at
+may_put_by d (Done end) c since state owed at on = absurd cc
+may_put_by d job c since state owed at on = absurd at
 
-pub may_put_known : (d : DeviceSetup) (job : Job) (c : Command) (since : List Line) (state : EpochState) (n : ℕ)
+pub may_put_known : (d : DeviceSetup) (job : Job) (c : Command) (since : List Line) (state : EpochState)
+    (owed : Option OpenOrder) (n : ℕ)
     → n ≡ may_put_of job → Stands d job c since state → newest_end d c since state ≡ None
-    → n ≡ puts_at c (done since) (row d c since state)
-may_put_known d job c since state n is at on = is ∙ may_put_by d job c since state at on
+    → n ≡ puts_at c (done since) (row d c since state owed)
+may_put_known d job c since state owed n is at on = is ∙ may_put_by d job c since state owed at on
 
 -- what is sent
 
@@ -184,25 +197,26 @@ same_request r p q first second =
 
 -- the request of a row is that of its stage
 pub stage_asked : {d : DeviceSetup} {device : Target} {stage : Stage} {failed : ℕ} {c : Command} {since : List Line}
-    {state : EpochState} (q : Request) → Asking d device stage failed c since state → row d c since state ≡ sends q
+    {state : EpochState} (owed : Option OpenOrder) (q : Request) → Asking d device stage failed c since state
+    → row d c since state owed ≡ sends q
     → q ≡ request_of stage
-stage_asked q at is = same_request _ q _ is (stage_row at)
+stage_asked owed q at is = same_request _ q _ is (stage_row at owed)
 
 -- what a job sends to its device
-pub sending_is : (d : DeviceSetup) (job : Job) (c : Command) (since : List Line) (state : EpochState) (q : Request)
-    (s : Sending) → Some s ≡ sending_of job → Stands d job c since state → row d c since state ≡ sends q
+pub sending_is : (d : DeviceSetup) (job : Job) (c : Command) (since : List Line) (state : EpochState)
+    (owed : Option OpenOrder) (q : Request) (s : Sending) → Some s ≡ sending_of job → Stands d job c since state → row d c since state owed ≡ sends q
     → s ≡ record { to = d.addr; kind = d.kind; request = q }
-sending_is d (Asks device stage failed) c since state q s e at is =
+sending_is d (Asks device stage failed) c since state owed q s e at is =
     let sent : s ≡ record { to = device.addr; kind = device.kind; request = request_of stage } = cc in
     sent
     ∙ ap (λ (t : Target). record { to = t.addr; kind = t.kind; request = request_of stage }) at.device_is
-    ∙ ap (λ r. record { to = d.addr; kind = d.kind; request = r }) (sym (stage_asked q at is))
-sending_is d (StartPuts device mask) c since state q s e at is = absurd cc
-sending_is d (RoundPuts entry end) c since state q s e at is = absurd cc
-sending_is d (StopPuts device entry end) c since state q s e at is = absurd cc
-sending_is d (StopEnds device) c since state q s e at is = absurd cc
-sending_is d (Done end) c since state q s e at is = absurd cc
-sending_is d job c since state q s e at is = absurd at
+    ∙ ap (λ r. record { to = d.addr; kind = d.kind; request = r }) (sym (stage_asked owed q at is))
+sending_is d (StartPuts device mask) c since state owed q s e at is = absurd cc
+sending_is d (RoundPuts entry end) c since state owed q s e at is = absurd cc
+sending_is d (StopPuts device entry end) c since state owed q s e at is = absurd cc
+sending_is d (StopEnds device) c since state owed q s e at is = absurd cc
+sending_is d (Done end) c since state owed q s e at is = absurd cc
+sending_is d job c since state owed q s e at is = absurd at
 
 -- the poll of a row is the one that its scan sends
 

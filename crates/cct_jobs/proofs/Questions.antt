@@ -6,9 +6,10 @@ use Rattle.std.specs.List.{list_all}
 use Rattle.cct_model.specs.terms.device.DeviceBody.{DeviceBody}
 use Rattle.cct_model.specs.terms.device.DeviceBody.TheVariants.{Acceptor, Hopper}
 use Rattle.cct_model.specs.terms.request.Request.{Request}
-use Rattle.cct_model.specs.terms.request.Request.TheVariants.{SetDefault, SetPath, GetDefault, GetPath}
-use Rattle.cct_model.specs.Job.{ident_requests, is_once, path_set, path_read}
+use Rattle.cct_model.specs.terms.request.Request.TheVariants.{SetDefault, SetPath, GetDefault, GetPath, GetStatus, StopNow}
+use Rattle.cct_model.specs.Job.{ident_requests, is_once, answer_ends, path_set, path_read}
 use Rattle.cct_model.specs.Device.{is_acceptor}
+use Rattle.cct_model.specs.Reply.{Reply}
 use Rattle.cct_msg.specs.Forms.{FitsItsBytes}
 use Rattle.cct_jobs.specs.Jobs.{question_after}
 
@@ -72,20 +73,59 @@ both_true : (a b : Bool) → (a && b) ≡ true → (a ≡ true) × (b ≡ true)
 both_true true b e = (refl, e)
 both_true false b e = absurd cc
 
-again_at : (xs : List Request) (n : ℕ) (q : Request) → list_all is_again xs ≡ true → slice_get xs n ≡ Some q → is_again q ≡ true
-again_at [] n q e at = absurd cc
-again_at (x ∷ xs) zero q e at =
+-- a test of all of a list is one of each
+all_at : (test : Request → Bool) (xs : List Request) (n : ℕ) (q : Request) → list_all test xs ≡ true
+    → slice_get xs n ≡ Some q → test q ≡ true
+all_at test [] n q e at = absurd cc
+all_at test (x ∷ xs) zero q e at =
     let is : x ≡ q = cc in
-    subst (λ r. is_again r ≡ true) is (both_true (is_again x) (list_all is_again xs) e).0
-again_at (x ∷ xs) (suc n) q e at = again_at xs n q (both_true (is_again x) (list_all is_again xs) e).1 at
+    subst (λ r. test r ≡ true) is (both_true (test x) (list_all test xs) e).0
+all_at test (x ∷ xs) (suc n) q e at = all_at test xs n q (both_true (test x) (list_all test xs) e).1 at
 
 each_again : (body : DeviceBody) → list_all is_again (ident_requests body) ≡ true
 each_again (Acceptor accepts values ids) = refl
 each_again (Hopper life value) = refl
 
 -- so is every question
-pub question_again : (body : DeviceBody) (n : ℕ) (q : Request) → slice_get (ident_requests body) n ≡ Some q → is_once q ≡ false
-question_again body n q at = not_true (is_once q) (again_at (ident_requests body) n q (each_again body) at)
+pub question_again : (body : DeviceBody) (n : ℕ) (q : Request) → slice_get (ident_requests body) n ≡ Some q
+    → is_once q ≡ false
+question_again body n q at =
+    not_true (is_once q) (all_at is_again (ident_requests body) n q (each_again body) at)
+
+-- a request whose row any answer ends
+abbrev is_settled : Request → Bool
+is_settled GetStatus = false
+is_settled StopNow = false
+is_settled q = true
+
+settled_ends : (q : Request) (y : Reply) → is_settled q ≡ true → answer_ends q y ≡ true
+settled_ends GetStatus y settled = absurd cc
+settled_ends StopNow y settled = absurd cc
+settled_ends q y settled = refl
+
+each_settled : (body : DeviceBody) → list_all is_settled (ident_requests body) ≡ true
+each_settled (Acceptor accepts values ids) = refl
+each_settled (Hopper life value) = refl
+
+-- the answer to a question ends its row
+pub question_ends : (body : DeviceBody) (n : ℕ) (q : Request) (y : Reply) → slice_get (ident_requests body) n ≡ Some q
+    → answer_ends q y ≡ true
+question_ends body n q y at = settled_ends q y (all_at is_settled (ident_requests body) n q (each_settled body) at)
+
+set_settles : (b : Bool) (place path : ℕ) → is_settled (cond b (SetDefault path) (SetPath place path)) ≡ true
+set_settles true place path = refl
+set_settles false place path = refl
+
+read_settles : (b : Bool) (place : ℕ) → is_settled (cond b GetDefault (GetPath place)) ≡ true
+read_settles true place = refl
+read_settles false place = refl
+
+-- and so do those to a path that is set and to one that is read back
+pub set_ends : (place path : ℕ) (y : Reply) → answer_ends (path_set place path) y ≡ true
+set_ends place path y = settled_ends (path_set place path) y (set_settles (place == 0) place path)
+
+pub read_ends : (place : ℕ) (y : Reply) → answer_ends (path_read place) y ≡ true
+read_ends place y = settled_ends (path_read place) y (read_settles (place == 0) place)
 
 set_by : (b : Bool) (place path : ℕ) → is_once (cond b (SetDefault path) (SetPath place path)) ≡ false
 set_by true place path = refl

@@ -1,20 +1,21 @@
 -- The stages of a job at a device: what an exchange makes of them.
-use Rattle.std.proofs.Common.{◌≡◌, ◌≢◌, ℕ, suc, ◌<◌, ◌==◌, Bool, true, false, cond, List, ◌∷◌, length, refl, sym, ap, subst, ◌∙◌, Some, None, arith, eq-eqb}
+use Rattle.std.proofs.Common.{◌≡◌, ◌≢◌, ℕ, suc, ◌<◌, ◌==◌, Bool, true, false, cond, List, ◌∷◌, length, refl, sym, ap, subst, ◌∙◌, Option, Some, None, arith, eq-eqb}
 use Rattle.std.specs.Prelude.{slice_get}
 use Rattle.std.proofs.lemmas.Bool.{eqb-true}
 use Rattle.std.proofs.lemmas.Bool.Decides.{nat_tests}
 use Rattle.cct_model.specs.terms.device.DeviceBody.{DeviceBody}
 use Rattle.cct_model.specs.terms.device.DeviceSetup.{DeviceSetup}
 use Rattle.cct_model.specs.terms.request.Request.{Request}
-use Rattle.cct_model.specs.terms.request.Request.TheVariants.{SetMask}
+use Rattle.cct_model.specs.terms.request.Request.TheVariants.{SetMask, Dispense}
 use Rattle.cct_model.specs.declared.judging.EpochState.{EpochState}
+use Rattle.cct_model.specs.declared.judging.OpenOrder.{OpenOrder}
 use Rattle.cct_model.specs.declared.judging.Judged.{Judged}
 use Rattle.cct_model.specs.lines.command.Command.{Command}
 use Rattle.cct_model.specs.lines.entry.End.TheVariants.{NoAnswer, Told}
 use Rattle.cct_model.specs.Request.{header_of}
 use Rattle.cct_model.specs.Reply.{Reply}
 use Rattle.cct_model.specs.Line.{Line, exchange}
-use Rattle.cct_model.specs.Job.{sends, row, row_at, judged_in, end_of, end_of_answer, end_of_failure, end_of_tries, done, tries, is_once, ident_requests}
+use Rattle.cct_model.specs.Job.{sends, Payment, payment_in, row, row_at, judged_in, end_of, end_of_answer, end_of_failure, end_of_tries, done, tries, is_once, answer_ends, ident_requests}
 use Rattle.cct_msg.specs.Forms.{FitsItsBytes}
 use Rattle.cct_jobs.specs.declared.job.Job.{Job}
 use Rattle.cct_jobs.specs.declared.stage.Stage.{Stage}
@@ -22,23 +23,23 @@ use Rattle.cct_jobs.specs.declared.stage.Stage.TheVariants.{StartResets, StartRe
 use Rattle.cct_jobs.specs.declared.stage.Visit.TheVariants.{Round, Stop}
 use Rattle.cct_jobs.specs.declared.target.Target.{Target}
 use Rattle.cct_jobs.specs.Jobs.{Asking, IsAfter, Knows, Stands, Trying, after_failed, newest_end, own_of, question_after, request_of}
-use Rattle.cct_jobs.proofs.Questions.{next_question, last_question, question_again, question_within, again_fits, read_again, set_again}
+use Rattle.cct_jobs.proofs.Questions.{next_question, last_question, question_again, question_within, question_ends, again_fits, read_again, read_ends, set_again, set_ends}
 
 -- the row of a stage
 
-row_of_stage : (stage : Stage) (body : DeviceBody) (addr rows : ℕ) (means : Judged) → IsAfter stage body rows
-    → row_at body (own_of stage addr) rows means ≡ sends (request_of stage)
-row_of_stage (StartResets mask) body addr rows means at = rw at refl
-row_of_stage (StartReads mask) body addr rows means at = rw at refl
-row_of_stage (StartSets mask) body addr rows means at = rw at refl
-row_of_stage (StopInhibits recorded) body addr rows means at = rw at refl
-row_of_stage (Reads Round recorded) body addr rows means at = rw at refl
-row_of_stage (Reads Stop recorded) body addr rows means at = rw at refl
-row_of_stage (Looks Round recorded read) body addr rows means at = rw at refl
-row_of_stage (Looks Stop recorded read) body addr rows means at = rw at refl
-row_of_stage (IdentAsks question) body addr rows means at = rw at refl
-row_of_stage (PathSets place path) body addr rows means at = rw at refl
-row_of_stage (PathReads place path) body addr rows means at = rw at refl
+row_of_stage : (stage : Stage) (d : DeviceSetup) (addr rows : ℕ) (means : Judged) (p : Payment)
+    → IsAfter stage d.body rows → row_at d (own_of stage addr) rows means p ≡ sends (request_of stage)
+row_of_stage (StartResets mask) d addr rows means p at = rw at refl
+row_of_stage (StartReads mask) d addr rows means p at = rw at refl
+row_of_stage (StartSets mask) d addr rows means p at = rw at refl
+row_of_stage (StopInhibits recorded) d addr rows means p at = rw at refl
+row_of_stage (Reads Round recorded) d addr rows means p at = rw at refl
+row_of_stage (Reads Stop recorded) d addr rows means p at = rw at refl
+row_of_stage (Looks Round recorded read) d addr rows means p at = rw at refl
+row_of_stage (Looks Stop recorded read) d addr rows means p at = rw at refl
+row_of_stage (IdentAsks question) d addr rows means p at = rw at refl
+row_of_stage (PathSets place path) d addr rows means p at = rw at refl
+row_of_stage (PathReads place path) d addr rows means p at = rw at refl
 
 -- its request fits its bytes
 
@@ -65,11 +66,20 @@ again_after (PathSets place path) body rows again at = set_again place path
 again_after (PathReads place path) body rows again at = read_again place
 again_after stage body rows again at = refl
 
+-- its answer ends its row
+ends_after : (stage : Stage) (body : DeviceBody) (rows : ℕ) (y : Reply) → IsAfter stage body rows
+    → answer_ends (request_of stage) y ≡ true
+ends_after (IdentAsks question) body rows y at = question_ends body rows question y at
+ends_after (PathSets place path) body rows y at = set_ends place path y
+ends_after (PathReads place path) body rows y at = read_ends place y
+ends_after stage body rows y at = refl
+
 -- failed tries
 
 -- what is sent once alone is a mask that lets coins in, or coins paid out
 pub fails_by_tries : (q : Request) (failed : ℕ) → is_once q ≡ false → end_of_failure q failed ≡ end_of_tries failed
 fails_by_tries (SetMask mask) failed again = absurd cc
+fails_by_tries (Dispense serial count) failed again = absurd cc
 fails_by_tries q failed again = refl
 
 -- tries of a row
@@ -109,10 +119,10 @@ still_knows stage since state knows = tt
 module _ {d : DeviceSetup} {device : Target} {stage : Stage} {failed : ℕ} {c : Command} {since : List Line}
     {state : EpochState} (at : Asking d device stage failed c since state) where
   -- what a stage sends
-  pub stage_row : row d c since state ≡ sends (request_of stage)
-  stage_row =
-      ap (λ k. row_at d.body k (done since) (judged_in c since state)) at.command_is
-      ∙ row_of_stage stage d.body d.addr (done since) (judged_in c since state) at.is_after
+  pub stage_row : (owed : Option OpenOrder) → row d c since state owed ≡ sends (request_of stage)
+  stage_row owed =
+      ap (λ k. row_at d k (done since) (judged_in c since state) (payment_in since owed)) at.command_is
+      ∙ row_of_stage stage d d.addr (done since) (judged_in c since state) (payment_in since owed) at.is_after
 
   pub stage_fits : FitsItsBytes (request_of stage)
   stage_fits = fits_after stage d.body (done since) at.is_after
@@ -144,12 +154,19 @@ module _ {d : DeviceSetup} {device : Target} {stage : Stage} {failed : ℕ} {c :
       fails_by_tries (request_of stage) _ (again_after stage d.body (done since) is_again at.is_after)
       ∙ ap end_of_tries (sym (tries_now (request_of stage) failed 3 since at.trying (sym (third_try failed last))))
 
+  -- so many rows are done then
+  pub rows_after : (y : Reply) → done (exchange (Some (request_of stage)) (Some y) ∷ since) ≡ suc (done since)
+  rows_after y = ap (λ b. cond b (suc (done since)) (done since)) (ends_after stage d.body (done since) y at.is_after)
+
   -- the end that an answer brings, by the command and what was read
   pub end_after : (y : Reply)
       → newest_end d c (exchange (Some (request_of stage)) (Some y) ∷ since) state ≡ end_of_answer d.body
       (own_of stage d.addr) (suc (done since)) y
       (judged_in (own_of stage d.addr) (exchange (Some (request_of stage)) (Some y) ∷ since) state)
-  end_after y = ap (λ k. end_of d k (exchange (Some (request_of stage)) (Some y)) since state) at.command_is
+  end_after y =
+      ap (λ k. end_of d k (exchange (Some (request_of stage)) (Some y)) since state) at.command_is
+      ∙ ap (λ n. end_of_answer d.body (own_of stage d.addr) n y
+      (judged_in (own_of stage d.addr) (exchange (Some (request_of stage)) (Some y) ∷ since) state)) (rows_after y)
 
 -- the questions of an identification
 
@@ -167,7 +184,7 @@ module _ {d : DeviceSetup} {device : Target} {question : Request} {failed : ℕ}
       record {
         device_is = at.device_is;
         command_is = at.command_is;
-        is_after = more;
+        is_after = ap (slice_get (ident_requests d.body)) (rows_after at y) ∙ more;
         knows = tt;
         trying = record { counted = refl; few = omega arith };
         goes_on = end_after at y

@@ -7,7 +7,7 @@ use Rattle.cct_model.specs.terms.device.DeviceBody.{DeviceBody}
 use Rattle.cct_model.specs.terms.device.DeviceSetup.{DeviceSetup}
 use Rattle.cct_model.specs.lines.entry.End.TheVariants.{NoAnswer, Told, Unquiet}
 use Rattle.cct_model.specs.terms.request.Request.{Request}
-use Rattle.cct_model.specs.terms.request.Request.TheVariants.{SetMask}
+use Rattle.cct_model.specs.terms.request.Request.TheVariants.{SetMask, Dispense}
 use Rattle.cct_model.specs.declared.judging.EpochState.{EpochState}
 use Rattle.cct_model.specs.declared.judging.Judged.{Judged}
 use Rattle.cct_model.specs.declared.judging.Judged.TheVariants.{Nothing, Reading, Broken}
@@ -24,6 +24,7 @@ cond_some false e = absurd cc
 
 by_tries : (q : Request) (failed : ℕ) → is_once q ≡ false → end_of_failure q failed ≡ Some NoAnswer → failed ≡ 3
 by_tries (SetMask mask) failed again e = absurd cc
+by_tries (Dispense serial count) failed again e = absurd cc
 by_tries q failed again e = eqb-true _ _ (cond_some (failed == 3) e)
 
 -- the third failed try of what is sent again ends a job, and no other does

@@ -13,18 +13,20 @@ use Rattle.cct_model.specs.declared.judging.Judged.{Judged}
 use Rattle.cct_model.specs.declared.judging.Judged.TheVariants.{Nothing, Reading, Broken}
 use Rattle.cct_model.specs.declared.judging.EpochState.{EpochState}
 use Rattle.cct_model.specs.declared.judging.EpochState.TheVariants.{Idle, Running}
+use Rattle.cct_model.specs.declared.judging.OpenOrder.{OpenOrder}
 use Rattle.cct_model.specs.lines.command.Command.{Command}
 use Rattle.cct_model.specs.lines.command.Command.TheVariants as command
 use Rattle.cct_model.specs.lines.entry.End.{End}
+use Rattle.cct_model.specs.lines.entry.Entry.{Entry}
 use Rattle.cct_model.specs.lines.entry.End.TheVariants.{Broke, Clean, Posted, Stopped}
 use Rattle.cct_model.specs.Request.{header_of, form_of}
 use Rattle.cct_model.specs.Reply.{Reply}
 use Rattle.cct_model.specs.Exchange.{asked, device_at, got, acceptor_there}
 use Rattle.cct_model.specs.Device.{is_acceptor}
 use Rattle.cct_model.specs.Line.{Line, exchange}
-use Rattle.cct_model.specs.Job.{Row, address_of, sends, puts, row, credits_read, end_of, end_of_put, done, tries, ident_requests, path_set, path_read}
+use Rattle.cct_model.specs.Job.{address_of, sends, puts, row, credits_read, end_of, end_of_put, done, tries, ident_requests, path_set, path_read}
 use Rattle.cct_model.specs.Scan.{poll_of}
-use Rattle.cct_model.specs.Transcript.{got_by}
+use Rattle.cct_model.specs.Transcript.{got_by, owner}
 use Rattle.cct_jobs.specs.declared.target.Target.{Target}
 use Rattle.cct_jobs.specs.declared.stage.Recorded.{Recorded}
 use Rattle.cct_jobs.specs.declared.stage.Visit.{Visit}
@@ -52,6 +54,26 @@ request_of (Looks visit recorded read) = GetMask
 request_of (IdentAsks question) = question
 request_of (PathSets place path) = path_set place path
 request_of (PathReads place path) = path_read place
+
+-- The stage is one of a start.
+abbrev pub IsOfStart : Stage → Type 0
+IsOfStart (StartResets mask) = ⊤
+IsOfStart (StartReads mask) = ⊤
+IsOfStart (StartSets mask) = ⊤
+IsOfStart stage = ⊥
+
+-- The stage is one of a round or a stop.
+abbrev pub IsOfVisit : Stage → Type 0
+IsOfVisit (StopInhibits recorded) = ⊤
+IsOfVisit (Reads visit recorded) = ⊤
+IsOfVisit (Looks visit recorded read) = ⊤
+IsOfVisit stage = ⊥
+
+-- The stage is one of the setting of a sorter path.
+abbrev pub IsOfPath : Stage → Type 0
+IsOfPath (PathSets place path) = ⊤
+IsOfPath (PathReads place path) = ⊤
+IsOfPath stage = ⊥
 
 -- The command whose job reads an acceptor at an address.
 abbrev pub visiting : Visit → ℕ → Command
@@ -175,15 +197,6 @@ records_of (command.Round addr) = 1
 records_of (command.Stop addr) = 2
 records_of c = 0
 
--- How many records a job may still put after so many rows, at a row: a start and a round one up to their put, and a
--- stop the epoch's end too.
-abbrev pub puts_at : Command → ℕ → Row → ℕ
-puts_at (command.Start addr mask) rows next = if nat_lt rows 3 then 1 else 0
-puts_at (command.Round addr) rows next = 1
-puts_at (command.Stop addr) rows (puts (record_of.EpochEnd at)) = 1
-puts_at (command.Stop addr) rows next = 2
-puts_at c rows next = 0
-
 -- An epoch runs with this inhibit mask and event counter recorded.
 abbrev pub runs : Recorded → EpochState
 runs recorded = Running recorded.mask recorded.counter
@@ -258,11 +271,12 @@ pub record Asking (d : DeviceSetup) (device : Target) (stage : Stage) (failed : 
   pub trying : Trying (request_of stage) failed since
   pub goes_on : newest_end d c since state ≡ None
 
--- A job of a command puts a record, which ends it so, or doesn't.
+-- A job of a command puts a record, which ends it so, or doesn't. Its row, as that of each job of today, is the same
+-- whatever order is open.
 pub record Putting (d : DeviceSetup) (own : Command) (entry : Record) (end : Option End) (c : Command)
     (since : List Line) (state : EpochState) : Type 0 where
   pub command_is : c ≡ own
-  pub row_is : row d c since state ≡ puts entry
+  pub row_is : (owed : Option OpenOrder) → row d c since state owed ≡ puts entry
   pub ends : end_of_put own entry ≡ end
   pub goes_on : newest_end d c since state ≡ None
 
@@ -284,13 +298,14 @@ Stands d job c since state = ⊥
 -- A job at a device sends a request next.
 pub record SendsNext (d : DeviceSetup) (c : Command) (since : List Line) (state : EpochState) : Type 0 where
   pub request : Request
-  pub row_is : row d c since state ≡ sends request
+  pub row_is : (owed : Option OpenOrder) → row d c since state owed ≡ sends request
 
--- A job at a device puts this record next.
+-- A job at a device puts this record next, which is one of the device's address.
 pub record PutsNext (entry : Record) (d : DeviceSetup) (c : Command) (since : List Line)
     (state : EpochState) : Type 0 where
   pub is_here : address_of c ≡ d.addr
-  pub row_is : row d c since state ≡ puts entry
+  pub row_is : (owed : Option OpenOrder) → row d c since state owed ≡ puts entry
+  pub owned : (past : List Entry) → owner past entry ≡ d.addr
 
 -- What a job at a device needs, by its lines: its row sends a request or puts this record, or its newest line ended it
 -- so.

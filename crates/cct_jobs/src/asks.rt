@@ -11,10 +11,9 @@ ghost use Rattle.cct_msg.specs.Forms.{form_shown};
 ghost use Rattle.cct_jobs.specs.Jobs.{Asking, Stands, line_heard, may_put_of, request_of, stage_puts};
 
 use crate::job::Job;
-use crate::reading::{credits_in, judged, mask_in};
-use crate::stage::{Stage, Visit};
+use crate::stage::Stage;
 use crate::target::{Target, after_failed};
-use crate::{ident, path, start};
+use crate::{ident, path, reading, start};
 use cct_model::{End, Reply};
 
 /// A job that comes to a stage.
@@ -62,7 +61,7 @@ fn unanswered(device: Target, stage: Stage, failed: u8) -> Job
     }
 }
 
-/// The job after its stage got the wanted reply.
+/// The job after its stage got the wanted reply: each kind of job has its own.
 fn answered(device: Target, stage: Stage, reply: &Reply<'_>) -> Job
     requires wanted { form_shown (reply_shown reply.now) ≡ form_of (request_of stage) }
     ensures device { (d : DeviceSetup) (c : Command) (since : List Line) (state : EpochState) (failed : ℕ)
@@ -71,34 +70,14 @@ fn answered(device: Target, stage: Stage, reply: &Reply<'_>) -> Job
     ensures may_put { may_put_of result ≤ stage_puts stage }
 {
     match stage {
-        Stage::StartResets { mask } => first_try(device, Stage::StartReads { mask }),
-        Stage::StartReads { mask } => start::after_reset(device, mask, &credits_in(reply)),
-        Stage::StartSets { .. } => Job::Done(End::Started),
-        Stage::StopInhibits { recorded } => first_try(
-            device,
-            Stage::Reads {
-                visit: Visit::Stop,
-                recorded,
-            },
-        ),
-        Stage::Reads { visit, recorded } => first_try(
-            device,
-            Stage::Looks {
-                visit,
-                recorded,
-                credits: credits_in(reply),
-            },
-        ),
-        Stage::Looks {
-            visit,
-            recorded,
-            credits,
-        } => judged(device, visit, recorded, &credits, mask_in(reply)),
+        Stage::StartResets { .. } => start::answered(device, stage, reply),
+        Stage::StartReads { .. } => start::answered(device, stage, reply),
+        Stage::StartSets { .. } => start::answered(device, stage, reply),
+        Stage::StopInhibits { .. } => reading::answered(device, stage, reply),
+        Stage::Reads { .. } => reading::answered(device, stage, reply),
+        Stage::Looks { .. } => reading::answered(device, stage, reply),
         Stage::IdentAsks { question } => ident::told(device, question),
-        Stage::PathSets { place, path } => first_try(device, Stage::PathReads { place, path }),
-        Stage::PathReads { place, .. } => Job::Done(End::PathSet {
-            place,
-            path: path::path_in(reply),
-        }),
+        Stage::PathSets { .. } => path::answered(device, stage, reply),
+        Stage::PathReads { .. } => path::answered(device, stage, reply),
     }
 }

@@ -1,5 +1,5 @@
 //! A job, by the row at which it stands.
-ghost use Rattle.std.specs.Prelude.{◌≡◌, ◌≢◌, ◌≤◌, ◌<◌, List, ℕ, [], ◌∷◌, Some, None};
+ghost use Rattle.std.specs.Prelude.{◌≡◌, ◌≢◌, ◌≤◌, ◌<◌, List, ℕ, [], ◌∷◌, Option, Some, None};
 ghost use Rattle.cct_model.specs.lines.command.Command.{Command};
 ghost use Rattle.cct_model.specs.lines.command.Command.TheVariants as command;
 ghost use Rattle.cct_model.specs.terms.device.DeviceSetup.{DeviceSetup};
@@ -8,11 +8,12 @@ ghost use Rattle.cct_model.specs.lines.record.Record.{Record};
 ghost use Rattle.cct_model.specs.terms.request.Request.{Request};
 ghost use Rattle.cct_model.specs.terms.wire.CheckKind.{CheckKind};
 ghost use Rattle.cct_model.specs.Exchange.{ask, device_at};
-ghost use Rattle.cct_model.specs.Job.{address_of, done, row, sends};
+ghost use Rattle.cct_model.specs.declared.judging.OpenOrder.{OpenOrder};
+ghost use Rattle.cct_model.specs.Job.{address_of, done, puts_at, row, sends};
 ghost use Rattle.cct_model.specs.Line.{Line, put};
 ghost use Rattle.cct_model.specs.Scan.{end_of_scan, poll_of, scan_row};
 ghost use Rattle.cct_model.specs.Transcript.{scan_line};
-ghost use Rattle.cct_jobs.specs.Jobs.{IsPut, IsRunning, MayBegin, Needs, Stands, after_put, end_of_job, line_heard, may_put_of, need_of, newest_end, puts_at, records_of, runs, sending_of};
+ghost use Rattle.cct_jobs.specs.Jobs.{IsPut, IsRunning, MayBegin, Needs, Stands, after_put, end_of_job, line_heard, may_put_of, need_of, newest_end, records_of, runs, sending_of};
 ghost use Rattle.cct_jobs.specs.Scans.{NeedsScan, StandsScan};
 
 use crate::asks::first_try;
@@ -194,8 +195,8 @@ impl Job {
     pub fn may_put(&self) -> u32
         ensures value { result ≡ may_put_of self.now }
         ensures row { (d : DeviceSetup) (c : Command) (since : List Line) (state : EpochState)
-            → Stands d self.now c since state → newest_end d c since state ≡ None
-            → result ≡ puts_at c (done since) (row d c since state) }
+            (owed : Option OpenOrder) → Stands d self.now c since state → newest_end d c since state ≡ None
+            → result ≡ puts_at c (done since) (row d c since state owed) }
     {
         self.records()
     }
@@ -219,8 +220,8 @@ impl Job {
         requires asks { need_of self ≡ Need.Exchange }
         ensures same { result.1 ≡ self }
         ensures request { Some result.0 ≡ sending_of self }
-        ensures row { (d : DeviceSetup) (c : Command) (since : List Line) (state : EpochState) (q : Request)
-            → Stands d self c since state → row d c since state ≡ sends q
+        ensures row { (d : DeviceSetup) (c : Command) (since : List Line) (state : EpochState)
+            (owed : Option OpenOrder) (q : Request) → Stands d self c since state → row d c since state owed ≡ sends q
             → result.0 ≡ record { to = d.addr; kind = d.kind; request = q } }
         ensures scan { (since : List Line) (check : CheckKind) (addr : ℕ)
             → StandsScan self since → scan_row since ≡ Some (check, addr)
@@ -254,8 +255,8 @@ impl Job {
     /// again: it ends the job with [`End::Started`], or with [`End::StartUnsure`] where it isn't acknowledged.
     pub fn heard(self, sent: &[u8], heard: &[u8]) -> Job
         requires asks { need_of self ≡ Need.Exchange }
-        ensures device { (d : DeviceSetup) (c : Command) (since : List Line) (state : EpochState) (q : Request)
-            → Stands d self c since state → row d c since state ≡ sends q → sent.now ≡ ask d.kind d.addr q
+        ensures device { (d : DeviceSetup) (c : Command) (since : List Line) (state : EpochState)
+            (owed : Option OpenOrder) (q : Request) → Stands d self c since state → row d c since state owed ≡ sends q → sent.now ≡ ask d.kind d.addr q
             → Stands d result c (line_heard d sent.now heard.now ∷ since) state }
         ensures scan { (since : List Line) (check : CheckKind) (addr : ℕ)
             → StandsScan self since → scan_row since ≡ Some (check, addr) → sent.now ≡ ask check addr (poll_of addr)

@@ -17,6 +17,3 @@ pub use job::{Job, Need, Sending};
 pub use laws::no_answer_comes_at_the_third_failed_try;
 pub use stage::{Recorded, Stage, Visit};
 pub use target::Target;
-
-#[cfg(test)]
-mod tests;

@@ -1,16 +1,45 @@
 //! The setting of a sorter path: it is set, and then read back (ccTalk Generic Specification 4, part 2, headers 210, 209,
 //! 189 and 188).
-ghost use Rattle.std.specs.Prelude.{◌≡◌, Some};
+ghost use Rattle.std.specs.Prelude.{◌≡◌, ◌≤◌, List, ℕ, ◌∷◌, Some};
+ghost use Rattle.cct_model.specs.lines.command.Command.{Command};
+ghost use Rattle.cct_model.specs.terms.device.DeviceSetup.{DeviceSetup};
+ghost use Rattle.cct_model.specs.declared.judging.EpochState.{EpochState};
+ghost use Rattle.cct_model.specs.Line.{Line, exchange};
+ghost use Rattle.cct_model.specs.Request.{form_of};
+ghost use Rattle.cct_jobs.specs.Jobs.{Asking, IsOfPath, Stands, may_put_of, request_of, stage_puts};
 ghost use Rattle.cct_model.specs.Job.{path_read, path_set};
 ghost use Rattle.cct_model.specs.Reply as shown;
 ghost use Rattle.cct_model.specs.Reply.{reply_shown};
 ghost use Rattle.cct_model.specs.terms.request.ReplyForm.TheVariants as form;
 ghost use Rattle.cct_msg.specs.Forms.{form_shown};
 
-use cct_model::{Reply, Request};
+use crate::asks::first_try;
+use crate::job::Job;
+use crate::stage::Stage;
+use crate::target::Target;
+use cct_model::{End, Reply, Request};
 
 /// The place that stands for the default path.
 const DEFAULT: u8 = 0;
+
+/// The setting of a path after its stage got the wanted reply.
+pub(crate) fn answered(device: Target, stage: Stage, reply: &Reply<'_>) -> Job
+    requires row { IsOfPath stage }
+    requires wanted { form_shown (reply_shown reply.now) ≡ form_of (request_of stage) }
+    ensures device { (d : DeviceSetup) (c : Command) (since : List Line) (state : EpochState) (failed : ℕ)
+        → Asking d device stage failed c since state
+        → Stands d result c (exchange (Some (request_of stage)) (Some (reply_shown reply.now)) ∷ since) state }
+    ensures may_put { may_put_of result ≤ stage_puts stage }
+{
+    match stage {
+        Stage::PathSets { place, path } => first_try(device, Stage::PathReads { place, path }),
+        Stage::PathReads { place, .. } => Job::Done(End::PathSet {
+            place,
+            path: path_in(reply),
+        }),
+        _ => unreachable!(),
+    }
+}
 
 /// The request that sets a sorter path.
 pub(crate) fn setting(place: u8, path: u8) -> Request
@@ -35,7 +64,7 @@ pub(crate) fn reading(place: u8) -> Request
 }
 
 /// The sorter path that the reply to the question for it is.
-pub(crate) fn path_in(reply: &Reply<'_>) -> u8
+fn path_in(reply: &Reply<'_>) -> u8
     requires { form_shown (reply_shown reply.now) ≡ Some form.Path }
     ensures { reply_shown reply.now ≡ shown.path result }
 {

@@ -10,15 +10,52 @@ ghost use Rattle.cct_model.specs.terms.request.Request.TheVariants.{GetMask};
 ghost use Rattle.cct_model.specs.Line.{Line, exchange};
 ghost use Rattle.cct_model.specs.Reply as shown;
 ghost use Rattle.cct_model.specs.Reply.{reply_shown};
+ghost use Rattle.cct_model.specs.Request.{form_of};
 ghost use Rattle.cct_msg.specs.Forms.{form_shown};
 ghost use Rattle.cct_jobs.specs.declared.stage.Stage.TheVariants.{Looks};
-ghost use Rattle.cct_jobs.specs.Jobs.{Asking, Stands, may_put_of, round_after, stop_after, visit_puts};
+ghost use Rattle.cct_jobs.specs.Jobs.{Asking, IsOfVisit, Stands, may_put_of, request_of, round_after, stage_puts};
+ghost use Rattle.cct_jobs.specs.Jobs.{stop_after, visit_puts};
 
+use crate::asks::first_try;
 use crate::job::Job;
-use crate::stage::{Recorded, Visit};
+use crate::stage::{Recorded, Stage, Visit};
 use crate::target::Target;
 use cct_epoch::{Judged, judge};
 use cct_model::{Credits, End, Reply};
+
+/// The round or the stop after its stage got the wanted reply.
+pub(crate) fn answered(device: Target, stage: Stage, reply: &Reply<'_>) -> Job
+    requires row { IsOfVisit stage }
+    requires wanted { form_shown (reply_shown reply.now) ≡ form_of (request_of stage) }
+    ensures device { (d : DeviceSetup) (c : Command) (since : List Line) (state : EpochState) (failed : ℕ)
+        → Asking d device stage failed c since state
+        → Stands d result c (exchange (Some (request_of stage)) (Some (reply_shown reply.now)) ∷ since) state }
+    ensures may_put { may_put_of result ≤ stage_puts stage }
+{
+    match stage {
+        Stage::StopInhibits { recorded } => first_try(
+            device,
+            Stage::Reads {
+                visit: Visit::Stop,
+                recorded,
+            },
+        ),
+        Stage::Reads { visit, recorded } => first_try(
+            device,
+            Stage::Looks {
+                visit,
+                recorded,
+                credits: credits_in(reply),
+            },
+        ),
+        Stage::Looks {
+            visit,
+            recorded,
+            credits,
+        } => judged(device, visit, recorded, &credits, mask_in(reply)),
+        _ => unreachable!(),
+    }
+}
 
 /// The credits that the reply to the question for them is.
 pub(crate) fn credits_in(reply: &Reply<'_>) -> Credits
@@ -32,7 +69,7 @@ pub(crate) fn credits_in(reply: &Reply<'_>) -> Credits
 }
 
 /// The inhibit mask that the reply to the question for it is.
-pub(crate) fn mask_in(reply: &Reply<'_>) -> u16
+fn mask_in(reply: &Reply<'_>) -> u16
     requires { form_shown (reply_shown reply.now) ≡ Some form.Mask }
     ensures { reply_shown reply.now ≡ shown.mask result }
 {
@@ -43,7 +80,7 @@ pub(crate) fn mask_in(reply: &Reply<'_>) -> u16
 }
 
 /// The round or the stop after it read these credits and this mask.
-pub(crate) fn judged(
+fn judged(
     device: Target,
     visit: Visit,
     recorded: Recorded,

@@ -1,12 +1,13 @@
 //! The device that a job asks, and what it replies.
 ghost use Rattle.std.specs.Prelude.{◌≡◌, ◌<◌, Some, IsSome};
 ghost use Rattle.std.specs.Option.{option_map};
+ghost use Rattle.cct_model.specs.terms.device.DeviceSetup.{DeviceSetup};
 ghost use Rattle.cct_model.specs.Exchange.{device_at, got};
 ghost use Rattle.cct_model.specs.Reply.{reply_shown};
 ghost use Rattle.cct_model.specs.Request.{form_of};
 ghost use Rattle.cct_jobs.specs.Jobs.{after_failed, replied, target_of};
 
-use cct_model::{CheckKind, DeviceBody, DeviceSetup, Reply, ReplyForm, Request, Setup};
+use cct_model::{CheckKind, DeviceSetup, Reply, ReplyForm, Request, Setup};
 use cct_msg::read_reply;
 use cct_wire::{Heard, hear};
 
@@ -96,24 +97,12 @@ fn form_of(request: Request) -> Option<ReplyForm>
     }
 }
 
-/// The device of a setup at an address.
+/// What a job knows of the device of a setup at an address.
 pub(crate) fn target_at(setup: &Setup, addr: u8) -> Target
     requires { IsSome (device_at setup.now.devices addr) }
-    ensures { Some result ≡ option_map target_of (device_at setup.now.devices addr) }
+    ensures { (d : DeviceSetup) → device_at setup.now.devices addr ≡ Some d → result ≡ target_of d }
 {
-    target_among(setup.devices.as_slice(), addr).unwrap()
-}
-
-/// The first device of a list at an address.
-fn target_among(devices: &[DeviceSetup], addr: u8) -> Option<Target>
-    ensures { result ≡ option_map target_of (device_at devices.now addr) }
-{
-    for device in devices {
-        if device.addr == addr {
-            return Some(target_of(device));
-        }
-    }
-    None
+    target_of(setup.device_at(addr).unwrap())
 }
 
 /// What a job knows of a device.
@@ -123,10 +112,7 @@ fn target_of(device: &DeviceSetup) -> Target
     Target {
         addr: device.addr,
         kind: device.kind,
-        is_acceptor: match device.body {
-            DeviceBody::Acceptor { .. } => true,
-            DeviceBody::Hopper { .. } => false,
-        },
+        is_acceptor: device.body.is_acceptor(),
     }
 }
 

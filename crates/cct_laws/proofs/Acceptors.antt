@@ -7,24 +7,28 @@ use Rattle.cct_model.specs.terms.device.DeviceSetup.{DeviceSetup}
 use Rattle.cct_model.specs.terms.request.Request.{Request}
 use Rattle.cct_model.specs.terms.request.Request.TheVariants.{SimplePoll, AddressPoll}
 use Rattle.cct_model.specs.lines.record.Record.{Record}
+use Rattle.cct_model.specs.lines.record.Record.TheVariants as record_of
 use Rattle.cct_model.specs.declared.judging.Judged.{Judged}
 use Rattle.cct_model.specs.lines.command.Command.{Command}
 use Rattle.cct_model.specs.lines.command.Command.TheVariants as command
-use Rattle.cct_model.specs.lines.entry.End.TheVariants.{Told}
+use Rattle.cct_model.specs.lines.entry.End.{End}
+use Rattle.cct_model.specs.lines.entry.End.TheVariants.{Clean, Told}
 use Rattle.cct_model.specs.Reply.{Reply}
 use Rattle.cct_model.specs.Reply as reply
 use Rattle.cct_model.specs.Script.{IsCommand}
 use Rattle.cct_model.specs.History.{Met, heard}
 use Rattle.cct_model.specs.Device.{IsAcceptor}
-use Rattle.cct_model.specs.Line.{Line, exchange, put}
-use Rattle.cct_model.specs.Job.{works, job, sends, puts, ident_requests, row, row_at, done, epoch, credits_read, judged_in, is_once, end_of, end_of_answer, end_of_path}
+use Rattle.cct_model.specs.Line.{Line, exchange, put, crashed}
+use Rattle.cct_model.specs.Order.{order}
+use Rattle.cct_model.specs.Job.{works, job, sends, puts, ident_requests, Payment, payment_in, row, row_at, done, epoch, credits_read, judged_in, is_once, end_of, end_of_answer, end_of_path, end_of_put}
 use Rattle.cct_laws.proofs.Rows.{IfSends, Each, CommandHolds, each_row}
-use Rattle.cct_laws.specs.Kept.{Fate, IsForOthers, with_ended}
+use Rattle.cct_laws.specs.Kept.{Fate, IsForOthers, is_for_acceptor, with_ended}
+use Rattle.cct_laws.proofs.EitherKind.{for_acceptor}
 use Rattle.cct_laws.specs.Since.{IsKept}
 use Rattle.cct_model.specs.Claims.{mark, base, InOrder, Covers, Pace}
 use Rattle.cct_laws.proofs.World.{world, closed}
 use Rattle.cct_laws.proofs.Fits.{book, StateOf, Fits}
-use Rattle.cct_laws.proofs.Moves.{Keeps, KeepsAsk, FitsBehind, IfOther, IsMild, keeps_accepted, keeps_inhibited, keeps_alien, keeps_reset, keeps_taken, keeps_with_ended, keeps_exchange, other_if, on_heard, fits_at, by_fate}
+use Rattle.cct_laws.proofs.Moves.{Sound, sound_line, Keeps, KeepsAsk, FitsBehind, IfOther, IsMild, keeps_accepted, keeps_inhibited, keeps_alien, keeps_reset, keeps_taken, keeps_with_ended, keeps_exchange, other_if, on_heard, fits_at, by_fate}
 use Rattle.cct_laws.proofs.Starts.{start_asks, start_puts}
 use Rattle.cct_laws.proofs.Rounds.{round_asks, round_puts}
 use Rattle.cct_laws.proofs.Stops.{stop_asks, stop_puts}
@@ -32,10 +36,9 @@ use Rattle.cct_laws.proofs.Stops.{stop_asks, stop_puts}
 -- a job without records
 
 abbrev pub IsPlain : Command → Type 0
-IsPlain (command.Start addr mask) = ⊥
-IsPlain (command.Round addr) = ⊥
-IsPlain (command.Stop addr) = ⊥
-IsPlain c = ⊤
+IsPlain (command.Ident addr) = ⊤
+IsPlain (command.Path addr place path) = ⊤
+IsPlain c = ⊥
 
 -- what it asks is tried again, and opens no place
 abbrev pub IsPlainRequest : Request → Type 0
@@ -49,27 +52,24 @@ plain_if : (b : Bool) (q r : Request) → IsPlainRequest q → IsPlainRequest r 
 plain_if true q r plain other = plain
 plain_if false q r plain other = other
 
-plain_command : (body : DeviceBody) (c : Command) (judged : Judged) → IsPlain c →
-    CommandHolds IsPlainRequest (λ r. ⊥) body c judged
-plain_command body (command.Start addr mask) judged plain = absurd plain
-plain_command body (command.Round addr) judged plain = absurd plain
-plain_command body (command.Stop addr) judged plain = absurd plain
-plain_command body (command.Ident addr) judged plain = plain_ident body
-plain_command body (command.Path addr place path) judged plain =
+plain_command : (d : DeviceSetup) (c : Command) (judged : Judged) (p : Payment) → IsPlain c →
+    CommandHolds IsPlainRequest (λ r. ⊥) d c judged p
+plain_command d (command.Ident addr) judged p plain = plain_ident d.body
+plain_command d (command.Path addr place path) judged p plain =
     (plain_if (place == 0) _ _ (refl, tt) (refl, tt), plain_if (place == 0) _ _ (refl, tt) (refl, tt))
-plain_command body c judged plain = tt
+plain_command d c judged p plain = absurd plain
 
-pub plain_row : (body : DeviceBody) (c : Command) (rows : ℕ) (judged : Judged) → IsPlain c →
-    IfSends IsPlainRequest (row_at body c rows judged)
-plain_row body c rows judged plain =
-    each_row IsPlainRequest (λ r. ⊥) body c rows judged (plain_command body c judged plain)
+pub plain_row : (d : DeviceSetup) (c : Command) (rows : ℕ) (judged : Judged) (p : Payment) → IsPlain c →
+    IfSends IsPlainRequest (row_at d c rows judged p)
+plain_row d c rows judged p plain =
+    each_row IsPlainRequest (λ r. ⊥) d c rows judged p (plain_command d c judged p plain)
 
 -- it needs nothing, and its ends are no items
-plain_fits : (now : List Met) (lines : List Line) (c : Command) (since : List Line) → IsPlain c → FitsBehind now lines c since
-plain_fits now lines (command.Start addr mask) since plain = absurd plain
-plain_fits now lines (command.Round addr) since plain = absurd plain
-plain_fits now lines (command.Stop addr) since plain = absurd plain
-plain_fits now lines c since plain = tt
+plain_fits : (now : List Met) (lines : List Line) (c : Command) (since : List Line) → IsPlain c →
+    FitsBehind now lines c since
+plain_fits now lines (command.Ident addr) since plain = tt
+plain_fits now lines (command.Path addr place path) since plain = tt
+plain_fits now lines c since plain = absurd plain
 
 path_end : (place rows : ℕ) (y : Reply) → IfOther (end_of_path place rows y)
 path_end place zero y = tt
@@ -78,51 +78,146 @@ path_end place (suc (suc zero)) (reply.path number) = tt
 path_end place (suc (suc zero)) y = tt
 path_end place (suc (suc (suc rows))) y = tt
 
-plain_end : (body : DeviceBody) (c : Command) (rows : ℕ) (y : Reply) (judged : Judged) → IsPlain c → IfOther (end_of_answer body c rows y judged)
-plain_end body (command.Start addr mask) rows y judged plain = absurd plain
-plain_end body (command.Round addr) rows y judged plain = absurd plain
+plain_end : (body : DeviceBody) (c : Command) (rows : ℕ) (y : Reply) (judged : Judged) → IsPlain c →
+    IfOther (end_of_answer body c rows y judged)
 plain_end body (command.Ident addr) rows y judged plain = other_if (length (ident_requests body) == rows) Told tt
 plain_end body (command.Path addr place path) rows y judged plain = path_end place rows y
-plain_end body c rows y judged plain = tt
+plain_end body c rows y judged plain = absurd plain
 
-plain_asks : (d : DeviceSetup) (past : List Met) (lines : List Line) (c : Command) (since : List Line) (q : Request) (asked : Option Request) (got : Option Reply) → IsPlain c →
-    job lines ≡ works c since → row d c since (epoch lines) ≡ sends q → Keeps past lines → Fate d past q asked got → KeepsAsk d past lines c since q asked got
+plain_asks : (d : DeviceSetup) (past : List Met) (lines : List Line) (c : Command) (since : List Line) (q : Request)
+    (asked : Option Request) (got : Option Reply) → IsPlain c → job lines ≡ works c since →
+    row d c since (epoch lines) (order lines) ≡ sends q → Keeps past lines → Fate d past q asked got →
+    KeepsAsk d past lines c since q asked got
 plain_asks d past lines c since q asked got plain is_job row_is keeps fate =
     let now = heard (Some q) ∷ past in
-    let asks : IsPlainRequest q = subst (IfSends IsPlainRequest) row_is (plain_row d.body c (done since) (judged_in c since (epoch lines)) plain) in
+    let judged = judged_in c since (epoch lines) in
+    let asks : IsPlainRequest q =
+    subst (IfSends IsPlainRequest) row_is (plain_row d c (done since) judged (payment_in since (order lines)) plain) in
     by_fate d past lines c since q asked got asks.0 asks.1 is_job keeps (λ y gives.
     let line = exchange (Some q) (Some y) in
     keeps_with_ended now (line ∷ lines) _ (plain_end d.body c _ y _ plain)
-    (keeps_exchange past now lines c since (Some q) (Some y) is_job (on_heard past lines q asks.1) keeps.sound (plain_fits now (line ∷ lines) c (line ∷ since) plain))) fate
+    (keeps_exchange past now lines c since (Some q) (Some y) is_job (on_heard past lines q asks.1) keeps.sound
+    (plain_fits now (line ∷ lines) c (line ∷ since) plain))) fate
 
 -- a job at the acceptor asks something
 
-keeps_asks : (d : DeviceSetup) (past : List Met) (lines : List Line) (c : Command) (since : List Line) (q : Request) (asked : Option Request) (got : Option Reply) → IsAcceptor d.body →
-    IsCommand c → job lines ≡ works c since → row d c since (epoch lines) ≡ sends q → Fate d past q asked got → Keeps past lines → KeepsAsk d past lines c since q asked got
-keeps_asks d past lines (command.Start addr mask) since q asked got accepting in_range is_job row_is fate keeps =
-    start_asks d past lines addr mask since q asked got (done since) accepting in_range is_job refl (fits_at past lines (command.Start addr mask) since is_job keeps) row_is keeps fate
-keeps_asks d past lines (command.Round addr) since q asked got accepting in_range is_job row_is fate keeps =
+keeps_asks : (d : DeviceSetup) (past : List Met) (lines : List Line) (c : Command) (since : List Line) (q : Request)
+    (asked : Option Request) (got : Option Reply) → IsAcceptor d.body → is_for_acceptor c ≡ true → IsCommand c →
+    job lines ≡ works c since → row d c since (epoch lines) (order lines) ≡ sends q → Fate d past q asked got →
+    Keeps past lines → KeepsAsk d past lines c since q asked got
+keeps_asks d past lines (command.Start addr mask) since q asked got accepting suited in_range is_job row_is fate keeps =
+    start_asks d past lines addr mask since q asked got (done since) accepting in_range is_job refl
+    (fits_at past lines (command.Start addr mask) since is_job keeps) row_is keeps fate
+keeps_asks d past lines (command.Round addr) since q asked got accepting suited in_range is_job row_is fate keeps =
     let c = command.Round addr in
-    round_asks d past lines addr since (judged_in c since (epoch lines)) q asked got (done since) accepting is_job refl (fits_at past lines c since is_job keeps) row_is keeps fate
-keeps_asks d past lines (command.Stop addr) since q asked got accepting in_range is_job row_is fate keeps =
+    round_asks d past lines addr since (judged_in c since (epoch lines)) q asked got (done since) accepting is_job refl
+    (fits_at past lines c since is_job keeps) row_is keeps fate
+keeps_asks d past lines (command.Stop addr) since q asked got accepting suited in_range is_job row_is fate keeps =
     let c = command.Stop addr in
-    stop_asks d past lines addr since (judged_in c since (epoch lines)) q asked got (done since) accepting is_job refl (fits_at past lines c since is_job keeps) row_is keeps fate
-keeps_asks d past lines c since q asked got accepting in_range is_job row_is fate keeps = plain_asks d past lines c since q asked got tt is_job row_is keeps fate
+    stop_asks d past lines addr since (judged_in c since (epoch lines)) q asked got (done since) accepting is_job refl
+    (fits_at past lines c since is_job keeps) row_is keeps fate
+keeps_asks d past lines (command.Ident addr) since q asked got accepting suited in_range is_job row_is fate keeps =
+    plain_asks d past lines (command.Ident addr) since q asked got tt is_job row_is keeps fate
+keeps_asks d past lines (command.Path addr place path) since q asked got accepting suited in_range is_job row_is fate
+    keeps =
+    plain_asks d past lines (command.Path addr place path) since q asked got tt is_job row_is keeps fate
+keeps_asks d past lines c since q asked got accepting suited in_range is_job row_is fate keeps = absurd cc
 
 -- it puts a record
+pub plain_puts : (d : DeviceSetup) (lines : List Line) (c : Command) (since : List Line) (r : Record) → IsPlain c →
+    row d c since (epoch lines) (order lines) ≡ puts r → ⊥
+plain_puts d lines c since r plain row_is =
+    subst (IfSends IsPlainRequest) row_is
+    (plain_row d c (done since) (judged_in c since (epoch lines)) (payment_in since (order lines)) plain)
 
-keeps_puts : (d : DeviceSetup) (past : List Met) (lines : List Line) (c : Command) (since : List Line) (r : Record) → IsCommand c →
-    job lines ≡ works c since → row d c since (epoch lines) ≡ puts r → Keeps past lines → Keeps past (with_ended (end_of d c (put r) since (epoch lines)) (put r ∷ lines))
-keeps_puts d past lines (command.Start addr mask) since r in_range is_job row_is keeps =
-    start_puts past lines addr mask since r (done since) in_range is_job refl (fits_at past lines (command.Start addr mask) since is_job keeps) row_is keeps
-keeps_puts d past lines (command.Round addr) since r in_range is_job row_is keeps =
+keeps_puts : (d : DeviceSetup) (past : List Met) (lines : List Line) (c : Command) (since : List Line) (r : Record) →
+    is_for_acceptor c ≡ true → IsCommand c →
+    job lines ≡ works c since → row d c since (epoch lines) (order lines) ≡ puts r → Keeps past lines →
+    Keeps past (with_ended (end_of d c (put r) since (epoch lines)) (put r ∷ lines))
+keeps_puts d past lines (command.Start addr mask) since r suited in_range is_job row_is keeps =
+    start_puts past lines addr mask since r (done since) in_range is_job refl
+    (fits_at past lines (command.Start addr mask) since is_job keeps) row_is keeps
+keeps_puts d past lines (command.Round addr) since r suited in_range is_job row_is keeps =
     let c = command.Round addr in
-    round_puts past lines addr (credits_read since) (judged_in c since (epoch lines)) r (done since) (fits_at past lines c since is_job keeps) row_is keeps
-keeps_puts d past lines (command.Stop addr) since r in_range is_job row_is keeps =
+    round_puts past lines addr (credits_read since) (judged_in c since (epoch lines)) r (done since)
+    (fits_at past lines c since is_job keeps) row_is keeps
+keeps_puts d past lines (command.Stop addr) since r suited in_range is_job row_is keeps =
     let c = command.Stop addr in
-    stop_puts past lines addr since (judged_in c since (epoch lines)) r (done since) is_job refl (fits_at past lines c since is_job keeps) row_is keeps
-keeps_puts d past lines c since r in_range is_job row_is keeps =
-    absurd (subst (IfSends IsPlainRequest) row_is (plain_row d.body c (done since) (judged_in c since (epoch lines)) tt))
+    stop_puts past lines addr since (judged_in c since (epoch lines)) r (done since) is_job refl
+    (fits_at past lines c since is_job keeps) row_is keeps
+keeps_puts d past lines (command.Ident addr) since r suited in_range is_job row_is keeps =
+    absurd (plain_puts d lines (command.Ident addr) since r tt row_is)
+keeps_puts d past lines (command.Path addr place path) since r suited in_range is_job row_is keeps =
+    absurd (plain_puts d lines (command.Path addr place path) since r tt row_is)
+keeps_puts d past lines c since r suited in_range is_job row_is keeps = absurd cc
+
+-- the host loses its power
+keeps_crashed : (past : List Met) (lines : List Line) → Keeps past lines → Keeps past (crashed ∷ lines)
+keeps_crashed past lines keeps = record {
+  sound = sound_line past past lines crashed tt (λ _. tt) keeps.sound.marked keeps.sound.state keeps.sound;
+  fits = tt;
+}
+
+-- no put ends a job clean
+put_other : (c : Command) (r : Record) → IfOther (end_of_put c r)
+put_other (command.Round at) (record_of.Reading addr counter lost posted) = tt
+put_other (command.Round at) (record_of.Broken addr seen counter posted) = tt
+put_other (command.Stop at) (record_of.Broken addr seen counter posted) = tt
+put_other (command.Stop at) (record_of.EpochEnd addr) = tt
+put_other (command.Pay at id count) (record_of.Closed closed paid unpaid) = tt
+put_other (command.Pay at id count) (record_of.Odd closed life_before life_after) = tt
+put_other (command.Settle at) (record_of.Closed closed paid unpaid) = tt
+put_other (command.Settle at) (record_of.Odd closed life_before life_after) = tt
+put_other (command.Vend id price) (record_of.Sold used at) = tt
+put_other c r = tt
+
+-- what holds behind another end held before it
+unended : (past : List Met) (lines : List Line) (end : Option End) → IfOther end → Keeps past (with_ended end lines) →
+    Sound past lines
+unended past lines None other keeps = keeps.sound
+unended past lines (Some Clean) other keeps = absurd other
+unended past lines (Some end) other keeps = record {
+  in_order = keeps.sound.in_order.1;
+  covers = λ pace. (keeps.sound.covers (tt, pace)).1;
+  marked = keeps.sound.marked;
+  state = keeps.sound.state;
+}
+
+-- a record behind a loss of power tells what it would have told before it
+sound_kept : (past : List Met) (lines : List Line) (r : Record) → Sound past (put r ∷ lines) →
+    Sound past (put r ∷ crashed ∷ lines)
+sound_kept past lines (record_of.Epoch addr mask) sound = record {
+  in_order = (sound.in_order.0, (tt, sound.in_order.1));
+  covers = λ pace. let before = sound.covers (pace.0, pace.1.1) in (before.0, (tt, before.1));
+  marked = sound.marked;
+  state = sound.state;
+}
+sound_kept past lines (record_of.Reading addr counter lost posted) sound = record {
+  in_order = (sound.in_order.0, (tt, sound.in_order.1));
+  covers = λ pace. let before = sound.covers (pace.0, pace.1.1) in (before.0, (tt, before.1));
+  marked = sound.marked;
+  state = sound.state;
+}
+sound_kept past lines (record_of.Broken addr seen counter posted) sound = record {
+  in_order = (sound.in_order.0, (tt, sound.in_order.1));
+  covers = λ pace. let before = sound.covers (pace.0, pace.1.1) in (before.0, (tt, before.1));
+  marked = sound.marked;
+  state = sound.state;
+}
+sound_kept past lines r sound = record {
+  in_order = (sound.in_order.0, (tt, sound.in_order.1));
+  covers = λ pace. let before = sound.covers (pace.0, pace.1.1) in (before.0, (tt, before.1));
+  marked = sound.marked;
+  state = sound.state;
+}
+
+keeps_kept_record : (d : DeviceSetup) (past : List Met) (lines : List Line) (c : Command) (since : List Line)
+    (r : Record) → Keeps past (with_ended (end_of d c (put r) since (epoch lines)) (put r ∷ lines)) →
+    Keeps past (put r ∷ crashed ∷ lines)
+keeps_kept_record d past lines c since r keeps = record {
+  sound = sound_kept past lines r (unended past (put r ∷ lines) (end_of_put c r) (put_other c r) keeps);
+  fits = tt;
+}
 
 -- a piece that changes nothing
 
@@ -164,9 +259,16 @@ keeps_kept d accepting = record {
   aliens = λ since past lines keeps. keeps_alien past lines keeps;
   resets = λ since past lines keeps. keeps_reset past lines keeps;
   elsewhere = λ since past lines asked others keeps. keeps_passed past lines asked others keeps;
-  takes = λ since past lines c no_job here in_range played fine keeps. keeps_taken d past lines c played fine keeps;
-  asks = λ since past lines c work q asked got at row_is fate keeps. keeps_asks d past lines c work q asked got accepting at.in_range at.job_is row_is fate keeps;
-  puts = λ since past lines c work r at row_is keeps. keeps_puts d past lines c work r at.in_range at.job_is row_is keeps;
+  takes = λ since past lines c no_job here in_range suited fine keeps. keeps_taken d past lines c suited fine keeps;
+  asks = λ since past lines c work q asked got at row_is fate keeps.
+      keeps_asks d past lines c work q asked got accepting (for_acceptor d.body c accepting at.suited) at.in_range at.job_is
+      row_is fate keeps;
+  crashes = λ since past lines keeps. keeps_crashed past lines keeps;
+  keeps = λ since past lines c work r at row_is keeps.
+      keeps_kept_record d past lines c work r
+      (keeps_puts d past lines c work r (for_acceptor d.body c accepting at.suited) at.in_range at.job_is row_is keeps);
+  puts = λ since past lines c work r at row_is keeps.
+      keeps_puts d past lines c work r (for_acceptor d.body c accepting at.suited) at.in_range at.job_is row_is keeps;
 }
 
 -- posts are accepted coins in their order, none twice

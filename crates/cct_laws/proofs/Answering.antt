@@ -1,5 +1,5 @@
 -- What a device of a sound setup answers is bytes, whatever bytes it met.
-use Rattle.std.proofs.Common.{◌≡◌, ℕ, zero, suc, ◌+◌, ◌-◌, ◌*◌, ◌%◌, ◌<◌, ◌≤◌, ◌==◌, ◌&&◌, ◌++◌, rules, Bool, true, false, cond, List, [], ◌∷◌, length, take, replicate, refl, Option, Some, None, option_map, slice_get, arith, All, codes}
+use Rattle.std.proofs.Common.{◌≡◌, ℕ, zero, suc, ◌+◌, ◌-◌, ◌*◌, ◌%◌, ◌<◌, ◌≤◌, ◌==◌, ◌&&◌, not, ◌++◌, rules, Bool, true, false, cond, List, [], ◌∷◌, length, take, replicate, refl, Option, Some, None, option_map, slice_get, arith, All, codes}
 use Rattle.std.specs.Prelude.{⊤, unwrap_or, flat_map}
 use Rattle.std.specs.Option.{option_or}
 use Rattle.std.proofs.lemmas.Bool.Decides.{nat_tests}
@@ -9,18 +9,20 @@ use Rattle.cct_model.specs.terms.device.DeviceBody.{DeviceBody}
 use Rattle.cct_model.specs.terms.device.DeviceBody.TheVariants.{Acceptor, Hopper}
 use Rattle.cct_model.specs.terms.device.DeviceSetup.{DeviceSetup}
 use Rattle.cct_model.specs.terms.request.Request.{Request}
-use Rattle.cct_model.specs.terms.request.Request.TheVariants.{SimplePoll, AddressPoll, MakerId, Category, ProductCode, SerialNumber, SoftwareRevision, BuildCode, CommsRevision, ResetDevice, SetMask, GetMask, SetMaster, GetMaster, ReadCredits, SetPath, GetPath, SetDefault, GetDefault, CoinId, AcceptCount}
+use Rattle.cct_model.specs.terms.request.Request.TheVariants.{SimplePoll, AddressPoll, MakerId, Category, ProductCode, SerialNumber, SoftwareRevision, BuildCode, CommsRevision, ResetDevice, SetMask, GetMask, SetMaster, GetMaster, ReadCredits, SetPath, GetPath, SetDefault, GetDefault, CoinId, AcceptCount, Enable, Dispense, CipherDispense, GetStatus, GetLife, StopNow, TestHopper, PumpRng, CipherKey}
 use Rattle.cct_model.specs.Message.{message}
 use Rattle.cct_model.specs.Request.{request_of}
 use Rattle.cct_model.specs.Reply.{Reply, pair_bytes, reply_data, reply_header}
 use Rattle.cct_model.specs.Reply as reply
 use Rattle.cct_model.specs.History.{Met, coin, alien, fall, jam, reset, heard, unless_reset}
 use Rattle.cct_model.specs.Setting.{Setting, mask_set, master_set, path_set, default_set, is_place, is_path, mask_in, is_normal_in, default_in, own_path_in}
-use Rattle.cct_model.specs.Acceptor.{settings_after, settings, mask_of, path_of, accepts, events, no_event, credits_of, accept_count, master_of, id_at, acceptor_reply}
+use Rattle.cct_model.specs.Acceptor.{settings_after, settings, mask_of, path_of, accepts, events, no_event, credits_of, counter, accept_count, master_of, id_at, acceptor_reply}
+use Rattle.cct_model.specs.Hopper.{enabled, Payout, left, paid, unpaid, taken_count, with_met, payout_by, payout, remaining, taken_of, last_paid, last_unpaid, payouts, life_count, register_of, dispense_reply, hopper_reply}
 use Rattle.cct_model.specs.Device.{IsPrinting, IsWord, IsId, IsSoundBody, IsSound, category_of, common_reply, own_reply, reply_of}
 use Rattle.cct_model.specs.Exchange.{asked_of, asks_of, asker, replying, reply_bytes, bare_answer, answer_to, answer, to_all, to_one}
+use Rattle.cct_model.proofs.Hoppers.{payout_adds, register_bits}
 use Rattle.cct_laws.proofs.Said.{IfThere}
-use Rattle.cct_laws.proofs.Bytes.{Bytes, spelled_bytes, there_then, IsOfBytes, message_bytes, asker_fits, FitsRequest, request_fits, to_one_fits, to_all_fits, FitsPairs}
+use Rattle.cct_laws.proofs.Bytes.{Bytes, spelled_bytes, there_then, IsOfBytes, message_bytes, asker_fits, FitsRequest, request_fits, to_one_fits, to_all_fits}
 
 -- settings, and what they make of a coin
 abbrev FitsSettings : List Setting → Type 0
@@ -78,7 +80,7 @@ abbrev pub FitsAll : List Met → Type 0
 FitsAll [] = ⊤
 FitsAll (m ∷ past) = FitsMet m × FitsAll past
 
-pub path_small : (past : List Met) (place : ℕ) → path_of past place < 256
+path_small : (past : List Met) (place : ℕ) → path_of past place < 256
 path_small past place = small_or (own_path_in (settings past) place) (default_in (settings past)) (own_fits (settings past) place) (default_fits (settings past))
 
 heard_settings : (asks : Option Request) (before : List Setting) → IfThere FitsRequest asks → FitsSettings before → FitsSettings (settings_after asks before)
@@ -99,8 +101,56 @@ settings_fit (jam ∷ past) h = settings_fit past h.1
 settings_fit (reset ∷ past) h = tt
 settings_fit (heard asks ∷ past) h = heard_settings asks (settings past) h.0 (settings_fit past h.1)
 
+-- what a hopper was asked to pay, and has left, paid or not paid of it
+abbrev FitsPayout : Payout → Type 0
+FitsPayout last = last.count < 256
+
+met_fits : (m : Met) (last : Option Payout) → IfThere FitsPayout last → IfThere FitsPayout (with_met m last)
+met_fits m None h = tt
+met_fits m (Some last) h = h
+
+payout_heard : (took : Option ℕ) (asks : Option Request) (last : Option Payout) → IfThere IsSmall took →
+    IfThere FitsPayout last → IfThere FitsPayout (payout_by took asks last)
+payout_heard (Some count) asks last small h = small
+payout_heard None None last small h = met_fits (heard None) last h
+payout_heard None (Some ResetDevice) last small h = tt
+payout_heard None (Some q) last small h = met_fits (heard (Some q)) last h
+
+count_if : (b : Bool) (count : ℕ) → count < 256 → IfThere IsSmall (cond b (Some count) None)
+count_if true count h = h
+count_if false count h = tt
+
+count_fits : (own : ℕ) (on : Bool) (remains : ℕ) (asks : Option Request) → IfThere FitsRequest asks →
+    IfThere IsSmall (taken_count own on remains asks)
+count_fits own on remains None h = tt
+count_fits own on remains (Some (Dispense serial count)) h =
+    count_if (on && (remains == 0) && (serial == own) && not (count == 0)) count h
+count_fits own on remains (Some q) h = tt
+
+payout_fits : (own : ℕ) (past : List Met) → FitsAll past → IfThere FitsPayout (payout own past)
+payout_fits own [] h = tt
+payout_fits own (coin place ∷ past) h = met_fits (coin place) (payout own past) (payout_fits own past h.1)
+payout_fits own (alien ∷ past) h = met_fits alien (payout own past) (payout_fits own past h.1)
+payout_fits own (fall ∷ past) h = met_fits fall (payout own past) (payout_fits own past h.1)
+payout_fits own (jam ∷ past) h = met_fits jam (payout own past) (payout_fits own past h.1)
+payout_fits own (reset ∷ past) h = tt
+payout_fits own (heard asks ∷ past) h =
+    payout_heard (taken_of own past asks) asks (payout own past)
+    (count_fits own (enabled past) (remaining own past) asks h.0) (payout_fits own past h.1)
+
+parts_fit : (last : Option Payout) → IfThere FitsPayout last →
+    (left last < 256) × (paid last < 256) × (unpaid last < 256)
+parts_fit None h = (omega arith, omega arith, omega arith)
+parts_fit (Some last) h =
+    let whole = payout_adds last in
+    (omega (arith, whole, h), omega (arith, whole, h), omega (arith, whole, h))
+
 abbrev FitsPair : Pair → Type 0
 FitsPair pair = (pair.a < 256) × (pair.b < 256)
+
+abbrev FitsPairs : List Pair → Type 0
+FitsPairs [] = ⊤
+FitsPairs (pair ∷ pairs) = FitsPair pair × FitsPairs pairs
 
 coin_fits : (b : Bool) (place path : ℕ) → place < 256 → path < 256 → FitsPair (cond b (record { a = place; b = path }) (record { a = 0; b = 2 }))
 coin_fits true place path h k = (h, k)
@@ -127,7 +177,7 @@ filled [] h =
     (one, (one, (one, (one, (one, tt)))))
 filled (pair ∷ pairs) h = (h.0, filled pairs h.1)
 
-pub pairs_taken : (n : ℕ) (pairs : List Pair) → FitsPairs pairs → FitsPairs (take n pairs)
+pairs_taken : (n : ℕ) (pairs : List Pair) → FitsPairs pairs → FitsPairs (take n pairs)
 pairs_taken zero pairs h = tt
 pairs_taken (suc n) [] h = tt
 pairs_taken (suc n) (pair ∷ pairs) h = (h.0, pairs_taken n pairs h.1)
@@ -215,6 +265,25 @@ says_category : (body : DeviceBody) → Says (reply.text (category_of body))
 says_category (Acceptor accepts values ids) = says_text (codes "Coin Acceptor") (omega arith) (search rules)
 says_category (Hopper life value) = says_text (codes "Payout") (omega arith) (search rules)
 
+says_status : (events remains paid unpaid : ℕ) → events < 256 → (remains < 256) × (paid < 256) × (unpaid < 256) →
+    Says (reply.status events remains paid unpaid)
+unfolding reply_data
+says_status events remains paid unpaid h k =
+    record { header = omega arith; short = omega arith; bytes = (h, (k.0, (k.1, (k.2, tt)))) }
+
+says_life : (n : ℕ) → Says (reply.life n)
+unfolding reply_data
+says_life n =
+    record { header = omega arith; short = omega arith; bytes = (omega arith, (omega arith, (omega arith, tt))) }
+
+says_remaining : (n : ℕ) → n < 256 → Says (reply.remaining n)
+unfolding reply_data
+says_remaining n h = record { header = omega arith; short = omega arith; bytes = (h, tt) }
+
+says_register : (n : ℕ) → n < 256 → Says (reply.register n)
+unfolding reply_data
+says_register n h = record { header = omega arith; short = omega arith; bytes = (h, tt) }
+
 says_id : (id : List ℕ) → length id ≤ 6 → Bytes id → Says (reply.coin_id id)
 unfolding reply_data
 says_id id h k = record { header = omega arith; short = omega (arith, h); bytes = k }
@@ -258,9 +327,31 @@ acceptor_says start ids past (CoinId place) of_ids h = says_if (is_place place) 
 acceptor_says start ids past AcceptCount of_ids h = says_count (accept_count start past)
 acceptor_says start ids past q of_ids h = tt
 
-own_says : (body : DeviceBody) (past : List Met) (q : Request) → IsSoundBody body → FitsAll past → IfThere Says (own_reply body past q)
-own_says (Acceptor accepts values ids) past q sound h = acceptor_says accepts ids past q sound.2 h
-own_says (Hopper life value) past q sound h = tt
+dispense_says : (took : Option ℕ) → Says (dispense_reply took)
+dispense_says None = says_nak
+dispense_says (Some count) = says_ack
+
+hopper_says : (own start : ℕ) (past : List Met) (q : Request) → FitsAll past →
+    IfThere Says (hopper_reply own start past q)
+unfolding hopper_reply
+hopper_says own start past (Enable code) h = says_ack
+hopper_says own start past (Dispense serial count) h = dispense_says (taken_of own past (Some (Dispense serial count)))
+hopper_says own start past CipherDispense h = says_nak
+hopper_says own start past GetStatus h =
+    says_status (counter (payouts own past)) (remaining own past) (last_paid own past) (last_unpaid own past)
+    (counter_by (payouts own past == 0) (payouts own past)) (parts_fit (payout own past) (payout_fits own past h))
+hopper_says own start past GetLife h = says_life (life_count own start past)
+hopper_says own start past StopNow h =
+    says_remaining (remaining own past) (parts_fit (payout own past) (payout_fits own past h)).0
+hopper_says own start past TestHopper h = says_register (register_of own past) (register_bits own past).3
+hopper_says own start past PumpRng h = says_nak
+hopper_says own start past CipherKey h = says_nak
+hopper_says own start past q h = tt
+
+own_says : (serial : ℕ) (body : DeviceBody) (past : List Met) (q : Request) → IsSoundBody body → FitsAll past →
+    IfThere Says (own_reply serial body past q)
+own_says serial (Acceptor accepts values ids) past q sound h = acceptor_says accepts ids past q sound.2 h
+own_says serial (Hopper life value) past q sound h = hopper_says serial life past q h
 
 pub there_or : {A : Type 0} (P : A → Type 0) (first second : Option A) → IfThere P first → IfThere P second → IfThere P (option_or first second)
 there_or P None second h k = k
@@ -268,7 +359,9 @@ there_or P (Some x) second h k = h
 
 reply_says : (d : DeviceSetup) (past : List Met) (q : Request) → IsSound d → FitsAll past → IfThere Says (reply_of d past q)
 unfolding reply_of
-reply_says d past q sound h = there_or Says (common_reply d q) (own_reply d.body past q) (common_says d q sound) (own_says d.body past q sound.body h)
+reply_says d past q sound h =
+    there_or Says (common_reply d q) (own_reply d.serial d.body past q) (common_says d q sound)
+    (own_says d.serial d.body past q sound.body h)
 
 -- what a device answers
 spelled_reply : (d : DeviceSetup) (to : ℕ) (y : Reply) → IsSound d → to < 256 → Says y → Bytes (reply_bytes d to y)

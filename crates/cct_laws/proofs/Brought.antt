@@ -1,53 +1,76 @@
 -- What one step of a machine brought: the one view of a legal step by which each law goes by cases.
-use Rattle.std.proofs.Common.{◌≡◌, ℕ, ◌==◌, cond, true, false, Bool, List, [], ◌∷◌, ◌++◌, refl, ap, sym, ◌∙◌, subst, Option, Some, None, MatchBool, eqb-true}
+use Rattle.std.proofs.Common.{◌≡◌, inl, inr, ℕ, zero, suc, ◌==◌, cond, true, false, Bool, List, [], ◌∷◌, ◌++◌, refl, ap, sym, ◌∙◌, subst, Option, Some, None, MatchBool, eqb-true}
 use Rattle.std.specs.Prelude.{⊤}
 use Rattle.std.specs.Option.{option_or}
 use Rattle.cct_model.specs.terms.wire.CheckKind.{CheckKind}
-use Rattle.cct_model.specs.terms.wire.TheConstants.{BROADCAST}
+use Rattle.cct_model.specs.terms.wire.TheConstants.{BROADCAST, HOST}
+use Rattle.cct_model.specs.terms.device.DeviceBody.{DeviceBody}
+use Rattle.cct_model.specs.terms.device.DeviceBody.TheVariants.{Acceptor, Hopper}
 use Rattle.cct_model.specs.terms.device.DeviceSetup.{DeviceSetup}
 use Rattle.cct_model.specs.terms.device.Setup.{Setup}
 use Rattle.cct_model.specs.terms.request.Request.{Request}
 use Rattle.cct_model.specs.lines.record.Record.{Record}
+use Rattle.cct_model.specs.lines.record.Record.TheVariants as record_of
 use Rattle.cct_model.specs.lines.command.Command.{Command}
 use Rattle.cct_model.specs.lines.command.Command.TheVariants as command
 use Rattle.cct_model.specs.lines.command.CommandNo.{CommandNo}
-use Rattle.cct_model.specs.lines.command.CommandNo.TheVariants.{WrongKind}
+use Rattle.cct_model.specs.lines.command.CommandNo.TheVariants.{WrongKind, NoPayout}
+use Rattle.cct_model.specs.lines.command.CrashAt.{CrashAt}
 use Rattle.cct_model.specs.lines.command.WireFault.{WireFault}
 use Rattle.cct_model.specs.lines.command.Step.{Step}
 use Rattle.cct_model.specs.lines.command.Step.TheVariants as step
 use Rattle.cct_model.specs.lines.entry.End.{End}
+use Rattle.cct_model.specs.lines.entry.End.TheVariants.{Sold}
 use Rattle.cct_model.specs.lines.entry.Entry.{Entry}
 use Rattle.cct_model.specs.lines.entry.Entry.TheVariants as entry
+use Rattle.cct_model.specs.declared.judging.OpenOrder.{OpenOrder}
 use Rattle.cct_model.specs.History.{Met}
 use Rattle.cct_model.specs.History as history
 use Rattle.cct_model.specs.Acceptor.{accepts, path_of}
-use Rattle.cct_model.specs.Exchange.{ask, asked, device_at}
+use Rattle.cct_model.specs.Device.{IsAcceptor, IsHopper, is_acceptor}
+use Rattle.cct_model.specs.Hopper.{remaining}
+use Rattle.cct_model.specs.Exchange.{ask, asked, asks_of, device_at}
 use Rattle.cct_model.specs.Line.{Line, accepted, inhibited, alien, fell, reset, exchange, scanned, put, taken, ended, crashed}
-use Rattle.cct_model.specs.Job.{Job, free, works, job, begun, with_line, epoch, Row, sends, puts, no_row, row, address_of, end_of}
+use Rattle.cct_model.specs.Order.{order}
+use Rattle.cct_model.specs.Job.{Job, free, works, job, begun, with_line, done, epoch, Row, sends, puts, no_row, row, row_of_sale, vend_row, can_halt, address_of, end_of, end_of_put}
+use Rattle.cct_model.specs.Money.{totals}
 use Rattle.cct_model.specs.Scan.{scan_row, end_of_scan, poll_of}
-use Rattle.cct_model.specs.Legal.{at_device, at_acceptor, busy, when_free, start_refusal, running_refusal, coin_entry, command_entry, refusal, with_end, is_played_command, RowEntries, NextEntries, PollEntries, ScanEntries, BareNext, OfDevice, OfAcceptor, OfNext, Entries}
-use Rattle.cct_model.specs.Device.{is_acceptor}
-use Rattle.cct_model.specs.Transcript.{met, owner, lines_of, scan_lines, scan_line, heard_after, got_by}
-use Rattle.cct_laws.specs.Kept.{IsTaken}
+use Rattle.cct_model.specs.Refusal.{at_device, at_acceptor, at_hopper, busy, over_journal, pay_refusal, halt_refusal, last_id, refusal}
+use Rattle.cct_model.specs.Legal.{coin_entry, fall_entry, jam_entry, command_entry, with_end, RowEntries, NextEntries, PollEntries, ScanEntries, SaleRowEntries, SaleEntries, BareNext, OfDevice, OfAcceptor, OfHopper, OfNext, record_due, due_of, due_of_sale, due_there, bare_crash, keeping_crash, CrashEntries, EntriesOfCrash, Entries}
+use Rattle.cct_model.specs.Transcript.{met, owner, lines_of, scan_lines, scan_line, sale_lines, heard_after, heard_by_devices, pending, got_by, doses_of}
+use Rattle.cct_laws.specs.Kept.{is_for_acceptor, is_for_hopper, suits, IsTaken}
+use Rattle.cct_laws.specs.KeptHopper.{IsOwed}
 use Rattle.cct_laws.specs.Law.{IsOf}
+use Rattle.cct_model.proofs.Doses.{job_undosed}
 use Rattle.cct_laws.proofs.Setups.{address_found}
-use Rattle.cct_laws.proofs.Rows.{IsOwned, row_owned}
 
 -- what comes to a device that met all this without being asked, over a step: the entry, what the device then met, and
--- its line
-pub data Comes (d : DeviceSetup) (past : List Met) : Step → Entry → Met → Line → Type 0 where
-  takes_coin : (place : ℕ) → accepts past place ≡ true → Comes d past (step.Coin d.addr place)
+-- its line, if it is one
+pub data Comes (d : DeviceSetup) (past : List Met) : Step → Entry → Met → List Line → Type 0 where
+  takes_coin : (place : ℕ) → IsAcceptor d.body → accepts past place ≡ true → Comes d past (step.Coin d.addr place)
       (entry.Accepted d.addr (record { place = place; path = path_of past place })) (history.coin place)
-      (accepted (record { place = place; path = path_of past place }))
-  leaves_coin : (place : ℕ) → accepts past place ≡ false →
-      Comes d past (step.Coin d.addr place) (entry.Inhibited d.addr place) (history.coin place) (inhibited place)
-  leaves_alien : Comes d past (step.Alien d.addr) (entry.Alien d.addr) history.alien alien
-  is_reset : Comes d past (step.Reset d.addr) (entry.Reset d.addr) history.reset reset
+      (accepted (record { place = place; path = path_of past place }) ∷ [])
+  leaves_coin : (place : ℕ) → IsAcceptor d.body → accepts past place ≡ false → Comes d past (step.Coin d.addr place)
+      (entry.Inhibited d.addr place) (history.coin place) (inhibited place ∷ [])
+  leaves_alien : IsAcceptor d.body → Comes d past (step.Alien d.addr) (entry.Alien d.addr) history.alien (alien ∷ [])
+  drops_coin : IsHopper d.body → (remaining d.serial past == 0) ≡ false →
+      Comes d past (step.Fall d.addr) (entry.Fell d.addr) history.fall (fell ∷ [])
+  drops_none : IsHopper d.body → (remaining d.serial past == 0) ≡ true →
+      Comes d past (step.Fall d.addr) (entry.NoFall d.addr) history.fall []
+  jams : IsHopper d.body → (remaining d.serial past == 0) ≡ false →
+      Comes d past (step.Jam d.addr) (entry.Jammed d.addr) history.jam []
+  jams_none : IsHopper d.body → (remaining d.serial past == 0) ≡ true →
+      Comes d past (step.Jam d.addr) (entry.NoJam d.addr) history.jam []
+  is_reset : Comes d past (step.Reset d.addr) (entry.Reset d.addr) history.reset (reset ∷ [])
 
 -- a command is at work at a device
 pub record AtWork (d : DeviceSetup) (past : List Entry) (c : Command) (since : List Line) : Type 0 where
   pub job_is : job (lines_of d past) ≡ works c since
   pub is_here : address_of c ≡ d.addr
+
+-- the row of a job at a device
+abbrev pub row_after : DeviceSetup → List Entry → Command → List Line → Row
+row_after d past c since = row d c since (epoch (lines_of d past)) (order (lines_of d past))
 
 -- the entry of an exchange of a device's job, and the ends that it and a put bring to the job
 abbrev pub wire_of : Setup → DeviceSetup → List Entry → Request → Entry
@@ -71,36 +94,57 @@ abbrev pub poll_end : Setup → List Entry → List Line → CheckKind → ℕ �
 poll_end setup past since check addr =
     let sent = ask check addr (poll_of addr) in end_of_scan (scan_line sent (heard_after setup past sent) ∷ since)
 
--- what a step brought at a device: something came, a command was taken, it was idle, or its job made an exchange or a
--- put
-pub data AtDevice (setup : Setup) (d : DeviceSetup) (past : List Entry) : Step → List Entry → Type 0 where
-  came : (s : Step) (e : Entry) (m : Met) (l : Line) → Comes d (met d past) s e m l → AtDevice setup d past s (e ∷ [])
-  took : (c : Command) → is_played_command c ≡ true → address_of c ≡ d.addr → job (lines_of d past) ≡ free →
-      IsTaken d c (epoch (lines_of d past)) → AtDevice setup d past (step.Command c) (entry.Taken c ∷ [])
-  idled : job (lines_of d past) ≡ free → AtDevice setup d past (step.Next d.addr) (entry.Idle d.addr ∷ [])
+-- what a step brought at a device: something came, a command was taken, a payment was halted, it was idle, or its job
+-- made an exchange or a put
+pub data AtDevice (capacity : Option ℕ) (setup : Setup) (d : DeviceSetup) (past : List Entry) : Step → List Entry → Type 0 where
+  came : (s : Step) (e : Entry) (m : Met) (ls : List Line) → Comes d (met d past) s e m ls →
+      AtDevice capacity setup d past s (e ∷ [])
+  took : (c : Command) → suits d.body c ≡ true → address_of c ≡ d.addr → job (lines_of d past) ≡ free →
+      IsTaken d c (epoch (lines_of d past)) → IsOwed c (order (lines_of d past)) → refusal capacity setup past c ≡ None →
+      AtDevice capacity setup d past (step.Command c) (entry.Taken c ∷ [])
+  halted : IsHopper d.body → can_halt (job (lines_of d past)) ≡ true →
+      AtDevice capacity setup d past (step.Command (command.Halt d.addr)) (entry.Taken (command.Halt d.addr) ∷ [])
+  idled : job (lines_of d past) ≡ free → AtDevice capacity setup d past (step.Next d.addr) (entry.Idle d.addr ∷ [])
   made_exchange : (c : Command) (since : List Line) (q : Request) → AtWork d past c since →
-      row d c since (epoch (lines_of d past)) ≡ sends q → AtDevice setup d past (step.Next d.addr)
+      row_after d past c since ≡ sends q → AtDevice capacity setup d past (step.Next d.addr)
       (with_end d.addr (wire_of setup d past q) (wire_end setup d past c since q))
   made_put : (c : Command) (since : List Line) (r : Record) → AtWork d past c since →
-      row d c since (epoch (lines_of d past)) ≡ puts r → ((older : List Entry) → owner older r ≡ d.addr) →
-      AtDevice setup d past (step.Next d.addr) (with_end d.addr (entry.Put r) (record_end d past c since r))
+      row_after d past c since ≡ puts r → AtDevice capacity setup d past (step.Next d.addr)
+      (with_end d.addr (entry.Put r) (record_end d past c since r))
 
--- what a step brought: something at a device of the setup; or a fault was set, a command was refused, a scan was begun
--- or made a poll, or nobody was there
-pub data Brought (setup : Setup) (past : List Entry) : Step → List Entry → Type 0 where
-  of_device : (d : DeviceSetup) (s : Step) (news : List Entry) → IsOf setup d → AtDevice setup d past s news →
-      Brought setup past s news
-  faulted : (f : WireFault) → Brought setup past (step.Fault f) (entry.Fault f ∷ [])
-  refused : (c : Command) (why : CommandNo) → is_played_command c ≡ true → refusal setup past c ≡ Some why →
-      Brought setup past (step.Command c) (entry.No c why ∷ [])
+-- a sale is about to put its record
+pub record Selling (past : List Entry) (id price : ℕ) (since : List Line) : Type 0 where
+  pub job_is : job (sale_lines past) ≡ works (command.Vend id price) since
+  pub first : done since ≡ 0
+
+-- what a step brought: something at a device of the setup; or a fault was set, a command was refused, a scan or a sale was
+-- begun or went on, nobody was there, the balance was read; or the host lost its power, within a put or not
+pub data Brought (capacity : Option ℕ) (setup : Setup) (past : List Entry) : Step → List Entry → Type 0 where
+  of_device : (d : DeviceSetup) (s : Step) (news : List Entry) → IsOf setup d → AtDevice capacity setup d past s news →
+      Brought capacity setup past s news
+  faulted : (f : WireFault) → Brought capacity setup past (step.Fault f) (entry.Fault f ∷ [])
+  refused : (c : Command) (why : CommandNo) → refusal capacity setup past c ≡ Some why →
+      Brought capacity setup past (step.Command c) (entry.No c why ∷ [])
   began_scan : job (scan_lines past) ≡ free →
-      Brought setup past (step.Command command.Scan) (entry.Taken command.Scan ∷ [])
+      Brought capacity setup past (step.Command command.Scan) (entry.Taken command.Scan ∷ [])
+  began_sale : (id price : ℕ) → job (sale_lines past) ≡ free → refusal capacity setup past (command.Vend id price) ≡ None →
+      Brought capacity setup past (step.Command (command.Vend id price)) (entry.Taken (command.Vend id price) ∷ [])
   nobody : (addr : ℕ) → device_at setup.devices addr ≡ None →
-      Brought setup past (step.Next addr) (entry.Idle addr ∷ [])
+      Brought capacity setup past (step.Next addr) (entry.Idle addr ∷ [])
   polled : (c : Command) (since : List Line) (check : CheckKind) (addr : ℕ) → device_at setup.devices BROADCAST ≡ None →
       job (scan_lines past) ≡ works c since → scan_row since ≡ Some (check, addr) →
-      Brought setup past (step.Next BROADCAST) (with_end BROADCAST (poll_wire setup past check addr)
+      Brought capacity setup past (step.Next BROADCAST) (with_end BROADCAST (poll_wire setup past check addr)
       (poll_end setup past since check addr))
+  sold : (id price : ℕ) (since : List Line) → device_at setup.devices HOST ≡ None → Selling past id price since →
+      Brought capacity setup past (step.Next HOST) (entry.Ended HOST Sold ∷ entry.Put (record_of.Sold id price) ∷ [])
+  balanced : Brought capacity setup past step.Balance (entry.Balance (totals setup past) ∷ [])
+  lost_power : (at : Option CrashAt) (choice : ℕ) → Brought capacity setup past (step.Crash at choice) (bare_crash past)
+  lost_in_put : (at : CrashAt) (choice : ℕ) (d : DeviceSetup) (c : Command) (since : List Line) (r : Record) →
+      IsOf setup d → AtWork d past c since → row_after d past c since ≡ puts r →
+      Brought capacity setup past (step.Crash (Some at) choice) (keeping_crash past r)
+  lost_in_sale : (at : CrashAt) (choice : ℕ) (id price : ℕ) (since : List Line) → device_at setup.devices HOST ≡ None →
+      Selling past id price since →
+      Brought capacity setup past (step.Crash (Some at) choice) (keeping_crash past (record_of.Sold id price))
 
 -- the command of a job at an address is for that address
 abbrev pub IsAt : ℕ → Job → Type 0
@@ -135,6 +179,12 @@ line_if : (addr : ℕ) (b : Bool) (l : Line) (lines : List Line) → (b ≡ true
 line_if addr true l lines here before = line_at addr l lines (here refl) before
 line_if addr false l lines here before = before
 
+-- an exchange, and the dispense that a hopper took in it
+wire_if : (addr : ℕ) (b : Bool) (l : Line) (dosed lines : List Line) → (b ≡ true → TakesAt addr l) →
+    IsAt addr (job (dosed ++ lines)) → IsAt addr (job ((cond b (l ∷ []) [] ++ dosed) ++ lines))
+wire_if addr true l dosed lines here before = line_at addr l (dosed ++ lines) (here refl) before
+wire_if addr false l dosed lines here before = before
+
 entry_at : (d : DeviceSetup) (past : List Entry) (e : Entry) → IsAt d.addr (job (lines_of d past)) →
     IsAt d.addr (job (lines_of d (e ∷ past)))
 entry_at d past (entry.Accepted addr c) before =
@@ -147,7 +197,9 @@ entry_at d past (entry.Reset addr) before = line_if d.addr (addr == d.addr) rese
 entry_at d past (entry.Taken c) before =
     line_if d.addr (address_of c == d.addr) (taken c) (lines_of d past) (λ here. eqb-true _ _ here) before
 entry_at d past (entry.Wire addr sent piece) before =
-    line_if d.addr (addr == d.addr) (exchange _ _) (lines_of d past) (λ _. tt) before
+    wire_if d.addr (addr == d.addr) (exchange (asked d.kind sent) (got_by d sent piece)) (doses_of d past sent) (lines_of d past)
+    (λ _. tt)
+    (subst (IsAt d.addr) (sym (job_undosed d.body d.serial (met d past) (asks_of d (heard_by_devices (pending past) sent)) (lines_of d past))) before)
 entry_at d past (entry.Put r) before =
     line_if d.addr (owner past r == d.addr) (put r) (lines_of d past) (λ _. tt) before
 entry_at d past (entry.Kept r) before =
@@ -162,63 +214,116 @@ job_at d [] = tt
 job_at d (e ∷ past) = entry_at d past e (job_at d past)
 
 -- the job of a command that was taken
-pub begun_played : (c : Command) (lines : List Line) → is_played_command c ≡ true → job (taken c ∷ lines) ≡ works c []
-begun_played (command.Start addr mask) lines played = refl
-begun_played (command.Round addr) lines played = refl
-begun_played (command.Stop addr) lines played = refl
-begun_played command.Scan lines played = refl
-begun_played (command.Ident addr) lines played = refl
-begun_played (command.Path addr place path) lines played = refl
-begun_played c lines played = absurd cc
+pub begun_at_work : (body : DeviceBody) (c : Command) (lines : List Line) → suits body c ≡ true →
+    job (taken c ∷ lines) ≡ works c []
+begun_at_work (Acceptor accepts values ids) (command.Start addr mask) lines suited = refl
+begun_at_work (Acceptor accepts values ids) (command.Round addr) lines suited = refl
+begun_at_work (Acceptor accepts values ids) (command.Stop addr) lines suited = refl
+begun_at_work (Acceptor accepts values ids) (command.Ident addr) lines suited = refl
+begun_at_work (Acceptor accepts values ids) (command.Path addr place path) lines suited = refl
+begun_at_work (Acceptor accepts values ids) c lines suited = absurd cc
+begun_at_work (Hopper life value) (command.Pay addr id count) lines suited = refl
+begun_at_work (Hopper life value) (command.Settle addr) lines suited = refl
+begun_at_work (Hopper life value) (command.Ident addr) lines suited = refl
+begun_at_work (Hopper life value) c lines suited = absurd cc
 
 -- the device of a setup at an address
 pub of_found : (setup : Setup) (addr : ℕ) (d : DeviceSetup) → device_at setup.devices addr ≡ Some d → IsOf setup d
 of_found setup addr d was = ap (device_at setup.devices) (address_found setup addr d was) ∙ was
 
 -- what a step brought at a device, told by its address
-there : (setup : Setup) (past : List Entry) (s : ℕ → Step) (news : ℕ → List Entry) (addr : ℕ) (d : DeviceSetup) →
-    device_at setup.devices addr ≡ Some d → AtDevice setup d past (s d.addr) (news d.addr) →
-    Brought setup past (s addr) (news addr)
-there setup past s news addr d was told =
-    subst (λ a. Brought setup past (s a) (news a)) (address_found setup addr d was)
+there : (capacity : Option ℕ) (setup : Setup) (past : List Entry) (s : ℕ → Step) (news : ℕ → List Entry) (addr : ℕ)
+    (d : DeviceSetup) → device_at setup.devices addr ≡ Some d →
+    AtDevice capacity setup d past (s d.addr) (news d.addr) → Brought capacity setup past (s addr) (news addr)
+there capacity setup past s news addr d was told =
+    subst (λ a. Brought capacity setup past (s a) (news a)) (address_found setup addr d was)
     (of_device d (s d.addr) (news d.addr) (of_found setup addr d was) told)
 
--- what comes without being asked
-test_holds : (b : Bool) (P : Type 0) → MatchBool b P ⊥ → (b ≡ true) × P
-test_holds true P known = (refl, known)
-test_holds false P known = absurd known
+-- the kind of a device by its test
+pub accepting_by : (body : DeviceBody) → is_acceptor body ≡ true → IsAcceptor body
+accepting_by (Acceptor accepts values ids) test = tt
+accepting_by (Hopper life value) test = absurd cc
 
-coin_comes : (setup : Setup) (d : DeviceSetup) (past : List Entry) (place : ℕ) (test : Bool) →
-    accepts (met d past) place ≡ test → AtDevice setup d past (step.Coin d.addr place)
+pub paying_by : (body : DeviceBody) → is_acceptor body ≡ false → IsHopper body
+paying_by (Acceptor accepts values ids) test = absurd cc
+paying_by (Hopper life value) test = tt
+
+-- what comes without being asked
+acceptor_holds : (b : Bool) (P : Type 0) → MatchBool b P ⊥ → (b ≡ true) × P
+acceptor_holds true P known = (refl, known)
+acceptor_holds false P known = absurd known
+
+hopper_holds : (b : Bool) (P : Type 0) → MatchBool b ⊥ P → (b ≡ false) × P
+hopper_holds true P known = absurd known
+hopper_holds false P known = (refl, known)
+
+coin_comes : (capacity : Option ℕ) (setup : Setup) (d : DeviceSetup) (past : List Entry) (place : ℕ) (test : Bool) →
+    IsAcceptor d.body →
+    accepts (met d past) place ≡ test → AtDevice capacity setup d past (step.Coin d.addr place)
     (cond test (entry.Accepted d.addr (record { place = place; path = path_of (met d past) place }))
     (entry.Inhibited d.addr place) ∷ [])
-coin_comes setup d past place true is = came _ _ _ _ (takes_coin place is)
-coin_comes setup d past place false is = came _ _ _ _ (leaves_coin place is)
+coin_comes capacity setup d past place true accepting is = came _ _ _ _ (takes_coin place accepting is)
+coin_comes capacity setup d past place false accepting is = came _ _ _ _ (leaves_coin place accepting is)
 
-coin_brought : (setup : Setup) (past news : List Entry) (addr place : ℕ) (found : Option DeviceSetup) →
+fall_comes : (capacity : Option ℕ) (setup : Setup) (d : DeviceSetup) (past : List Entry) (none_left : Bool) → IsHopper d.body →
+    (remaining d.serial (met d past) == 0) ≡ none_left → AtDevice capacity setup d past (step.Fall d.addr)
+    (cond none_left (entry.NoFall d.addr) (entry.Fell d.addr) ∷ [])
+fall_comes capacity setup d past true paying is = came _ _ _ _ (drops_none paying is)
+fall_comes capacity setup d past false paying is = came _ _ _ _ (drops_coin paying is)
+
+jam_comes : (capacity : Option ℕ) (setup : Setup) (d : DeviceSetup) (past : List Entry) (none_left : Bool) → IsHopper d.body →
+    (remaining d.serial (met d past) == 0) ≡ none_left → AtDevice capacity setup d past (step.Jam d.addr)
+    (cond none_left (entry.NoJam d.addr) (entry.Jammed d.addr) ∷ [])
+jam_comes capacity setup d past true paying is = came _ _ _ _ (jams_none paying is)
+jam_comes capacity setup d past false paying is = came _ _ _ _ (jams paying is)
+
+coin_brought : (capacity : Option ℕ) (setup : Setup) (past news : List Entry) (addr place : ℕ) (found : Option DeviceSetup) →
     device_at setup.devices addr ≡ found → OfAcceptor found (λ d. news ≡ coin_entry d past place ∷ []) →
-    Brought setup past (step.Coin addr place) news
-coin_brought setup past news addr place None was told = absurd told
-coin_brought setup past news addr place (Some d) was told =
-    subst (Brought setup past (step.Coin addr place)) (sym (test_holds (is_acceptor d.body) _ told).1)
-    (there setup past (λ a. step.Coin a place) (λ a. coin_entry d past place ∷ []) addr d was
-    (coin_comes setup d past place (accepts (met d past) place) refl))
+    Brought capacity setup past (step.Coin addr place) news
+coin_brought capacity setup past news addr place None was told = absurd told
+coin_brought capacity setup past news addr place (Some d) was told =
+    let is = acceptor_holds (is_acceptor d.body) _ told in
+    subst (Brought capacity setup past (step.Coin addr place)) (sym is.1)
+    (there capacity setup past (λ a. step.Coin a place) (λ a. coin_entry d past place ∷ []) addr d was
+    (coin_comes capacity setup d past place (accepts (met d past) place) (accepting_by d.body is.0) refl))
 
-alien_brought : (setup : Setup) (past news : List Entry) (addr : ℕ) (found : Option DeviceSetup) →
+alien_brought : (capacity : Option ℕ) (setup : Setup) (past news : List Entry) (addr : ℕ) (found : Option DeviceSetup) →
     device_at setup.devices addr ≡ found → OfAcceptor found (λ d. news ≡ entry.Alien addr ∷ []) →
-    Brought setup past (step.Alien addr) news
-alien_brought setup past news addr None was told = absurd told
-alien_brought setup past news addr (Some d) was told =
-    subst (Brought setup past (step.Alien addr)) (sym (test_holds (is_acceptor d.body) _ told).1)
-    (there setup past step.Alien (λ a. entry.Alien a ∷ []) addr d was (came _ _ _ _ leaves_alien))
+    Brought capacity setup past (step.Alien addr) news
+alien_brought capacity setup past news addr None was told = absurd told
+alien_brought capacity setup past news addr (Some d) was told =
+    let is = acceptor_holds (is_acceptor d.body) _ told in
+    subst (Brought capacity setup past (step.Alien addr)) (sym is.1)
+    (there capacity setup past step.Alien (λ a. entry.Alien a ∷ []) addr d was
+    (came _ _ _ _ (leaves_alien (accepting_by d.body is.0))))
 
-reset_brought : (setup : Setup) (past news : List Entry) (addr : ℕ) (found : Option DeviceSetup) →
+fall_brought : (capacity : Option ℕ) (setup : Setup) (past news : List Entry) (addr : ℕ) (found : Option DeviceSetup) →
+    device_at setup.devices addr ≡ found → OfHopper found (λ d. news ≡ fall_entry d past ∷ []) →
+    Brought capacity setup past (step.Fall addr) news
+fall_brought capacity setup past news addr None was told = absurd told
+fall_brought capacity setup past news addr (Some d) was told =
+    let is = hopper_holds (is_acceptor d.body) _ told in
+    subst (Brought capacity setup past (step.Fall addr)) (sym is.1)
+    (there capacity setup past step.Fall (λ a. fall_entry d past ∷ []) addr d was
+    (fall_comes capacity setup d past (remaining d.serial (met d past) == 0) (paying_by d.body is.0) refl))
+
+jam_brought : (capacity : Option ℕ) (setup : Setup) (past news : List Entry) (addr : ℕ) (found : Option DeviceSetup) →
+    device_at setup.devices addr ≡ found → OfHopper found (λ d. news ≡ jam_entry d past ∷ []) →
+    Brought capacity setup past (step.Jam addr) news
+jam_brought capacity setup past news addr None was told = absurd told
+jam_brought capacity setup past news addr (Some d) was told =
+    let is = hopper_holds (is_acceptor d.body) _ told in
+    subst (Brought capacity setup past (step.Jam addr)) (sym is.1)
+    (there capacity setup past step.Jam (λ a. jam_entry d past ∷ []) addr d was
+    (jam_comes capacity setup d past (remaining d.serial (met d past) == 0) (paying_by d.body is.0) refl))
+
+reset_brought : (capacity : Option ℕ) (setup : Setup) (past news : List Entry) (addr : ℕ) (found : Option DeviceSetup) →
     device_at setup.devices addr ≡ found → OfDevice found (λ d. news ≡ entry.Reset addr ∷ []) →
-    Brought setup past (step.Reset addr) news
-reset_brought setup past news addr None was told = absurd told
-reset_brought setup past news addr (Some d) was told =
-    subst (Brought setup past (step.Reset addr)) (sym told)
-    (there setup past step.Reset (λ a. entry.Reset a ∷ []) addr d was (came _ _ _ _ is_reset))
+    Brought capacity setup past (step.Reset addr) news
+reset_brought capacity setup past news addr None was told = absurd told
+reset_brought capacity setup past news addr (Some d) was told =
+    subst (Brought capacity setup past (step.Reset addr)) (sym told)
+    (there capacity setup past step.Reset (λ a. entry.Reset a ∷ []) addr d was (came _ _ _ _ is_reset))
 
 -- a command
 free_by : (at_work : Job) (further : Option CommandNo) → option_or (busy at_work) further ≡ None →
@@ -230,127 +335,303 @@ free_if : (at_work : Job) → busy at_work ≡ None → at_work ≡ free
 free_if free none = refl
 free_if (works c since) none = absurd cc
 
--- where it is not refused at a device there is one
-IsLetBy : Option DeviceSetup → (DeviceSetup → Option CommandNo) → Type 0
-IsLetBy found further = (d : DeviceSetup) × (found ≡ Some d) × (further d ≡ None)
+both_none : (first second : Option CommandNo) → option_or first second ≡ None → first ≡ None
+both_none None second none = refl
+both_none (Some why) second none = absurd cc
+
+-- what a host over a journal tests besides doesn't matter to its own tests
+let_by : (capacity : Option ℕ) (further : ℕ → Option CommandNo) (first : Option CommandNo) →
+    over_journal capacity further first ≡ None → first ≡ None
+let_by None further first none = none
+let_by (Some capacity) further first none = both_none first (further capacity) none
+
+unowed : (id last : ℕ) (owed : Option OpenOrder) → pay_refusal id last owed ≡ None → owed ≡ None
+unowed id last None none = refl
+unowed id last (Some o) none = absurd cc
+
+halting : (j : Job) → halt_refusal j ≡ None → can_halt j ≡ true
+halting j none = by_test (can_halt j) none
+  where
+    by_test : (b : Bool) → cond b None (Some NoPayout) ≡ None → b ≡ true
+    by_test true none = refl
+    by_test false none = absurd cc
+
+-- where it is not refused at a device there is one, of a kind that passes a test
+IsLetBy : Option DeviceSetup → (DeviceSetup → Type 0) → (DeviceSetup → Option CommandNo) → Type 0
+IsLetBy found Kind further = (d : DeviceSetup) × (found ≡ Some d) × Kind d × (further d ≡ None)
 
 device_lets : (found : Option DeviceSetup) (further : DeviceSetup → Option CommandNo) →
-    at_device found further ≡ None → IsLetBy found further
+    at_device found further ≡ None → IsLetBy found (λ d. ⊤) further
 unfolding IsLetBy
 device_lets None further none = absurd cc
-device_lets (Some d) further none = (d, refl, none)
+device_lets (Some d) further none = (d, refl, tt, none)
 
 acceptor_lets : (found : Option DeviceSetup) (further : DeviceSetup → Option CommandNo) →
-    at_acceptor found further ≡ None → IsLetBy found further
+    at_acceptor found further ≡ None → IsLetBy found (λ d. is_acceptor d.body ≡ true) further
 unfolding IsLetBy
 acceptor_lets None further none = absurd cc
-acceptor_lets (Some d) further none = (d, refl, accepting (is_acceptor d.body) none)
+acceptor_lets (Some d) further none = let is = accepting (is_acceptor d.body) none in (d, refl, is.0, is.1)
   where
-    accepting : (b : Bool) → cond b (further d) (Some WrongKind) ≡ None → further d ≡ None
-    accepting true none = none
+    accepting : (b : Bool) → cond b (further d) (Some WrongKind) ≡ None → (b ≡ true) × (further d ≡ None)
+    accepting true none = (refl, none)
     accepting false none = absurd cc
 
-taken_brought : (setup : Setup) (past : List Entry) (c : Command) → refusal setup past c ≡ None →
-    is_played_command c ≡ true → Brought setup past (step.Command c) (entry.Taken c ∷ [])
+hopper_lets : (found : Option DeviceSetup) (further : DeviceSetup → Option CommandNo) →
+    at_hopper found further ≡ None → IsLetBy found (λ d. is_acceptor d.body ≡ false) further
 unfolding IsLetBy
-taken_brought setup past (command.Start addr mask) none played =
-    let at_it = acceptor_lets (device_at setup.devices addr) (when_free past (start_refusal mask)) none in
-    let is = free_by (job (lines_of at_it.0 past)) _ at_it.2 in
-    there setup past (λ a. step.Command (command.Start a mask)) (λ a. entry.Taken (command.Start a mask) ∷ []) addr
-    at_it.0 at_it.1 (took (command.Start at_it.0.addr mask) refl refl is.0 is.1)
-taken_brought setup past (command.Round addr) none played =
-    let at_it = acceptor_lets (device_at setup.devices addr) (when_free past running_refusal) none in
-    let is = free_by (job (lines_of at_it.0 past)) _ at_it.2 in
-    there setup past (λ a. step.Command (command.Round a)) (λ a. entry.Taken (command.Round a) ∷ []) addr
-    at_it.0 at_it.1 (took (command.Round at_it.0.addr) refl refl is.0 is.1)
-taken_brought setup past (command.Stop addr) none played =
-    let at_it = acceptor_lets (device_at setup.devices addr) (when_free past running_refusal) none in
-    let is = free_by (job (lines_of at_it.0 past)) _ at_it.2 in
-    there setup past (λ a. step.Command (command.Stop a)) (λ a. entry.Taken (command.Stop a) ∷ []) addr
-    at_it.0 at_it.1 (took (command.Stop at_it.0.addr) refl refl is.0 is.1)
-taken_brought setup past (command.Path addr place path) none played =
-    let at_it = acceptor_lets (device_at setup.devices addr) (λ d. busy (job (lines_of d past))) none in
-    there setup past (λ a. step.Command (command.Path a place path)) (λ a. entry.Taken (command.Path a place path) ∷ [])
-    addr
-    at_it.0 at_it.1 (took (command.Path at_it.0.addr place path) refl refl (free_if _ at_it.2) tt)
-taken_brought setup past (command.Ident addr) none played =
-    let at_it = device_lets (device_at setup.devices addr) (λ d. busy (job (lines_of d past))) none in
-    there setup past (λ a. step.Command (command.Ident a)) (λ a. entry.Taken (command.Ident a) ∷ []) addr
-    at_it.0 at_it.1 (took (command.Ident at_it.0.addr) refl refl (free_if _ at_it.2) tt)
-taken_brought setup past command.Scan none played = began_scan (free_if (job (scan_lines past)) none)
-taken_brought setup past c none played = absurd cc
+hopper_lets None further none = absurd cc
+hopper_lets (Some d) further none = let is = paying (is_acceptor d.body) none in (d, refl, is.0, is.1)
+  where
+    paying : (b : Bool) → cond b (Some WrongKind) (further d) ≡ None → (b ≡ false) × (further d ≡ None)
+    paying true none = absurd cc
+    paying false none = (refl, none)
 
-command_brought : (setup : Setup) (past : List Entry) (c : Command) (why : Option CommandNo) →
-    refusal setup past c ≡ why → is_played_command c ≡ true →
-    Brought setup past (step.Command c) (command_entry c why ∷ [])
-command_brought setup past c None was played = taken_brought setup past c was played
-command_brought setup past c (Some why) was played = refused c why played was
+-- a command that begins a job, told by its address
+taken_there : (capacity : Option ℕ) (setup : Setup) (past : List Entry) (c : ℕ → Command) (addr : ℕ) (d : DeviceSetup) →
+    device_at setup.devices addr ≡ Some d → refusal capacity setup past (c addr) ≡ None → suits d.body (c d.addr) ≡ true →
+    address_of (c d.addr) ≡ d.addr → job (lines_of d past) ≡ free → IsTaken d (c d.addr) (epoch (lines_of d past)) →
+    IsOwed (c d.addr) (order (lines_of d past)) → Brought capacity setup past (step.Command (c addr)) (entry.Taken (c addr) ∷ [])
+taken_there capacity setup past c addr d was none suited here is_free is_taken is_owed =
+    there capacity setup past (λ a. step.Command (c a)) (λ a. entry.Taken (c a) ∷ []) addr d was
+    (took (c d.addr) suited here is_free is_taken is_owed
+    (subst (λ a. refusal capacity setup past (c a) ≡ None) (sym (address_found setup addr d was)) none))
+
+suits_acceptor : (body : DeviceBody) (c : Command) → is_acceptor body ≡ true → is_for_acceptor c ≡ true → suits body c ≡ true
+suits_acceptor (Acceptor accepts values ids) c test suited = suited
+suits_acceptor (Hopper life value) c test suited = absurd cc
+
+suits_hopper : (body : DeviceBody) (c : Command) → is_acceptor body ≡ false → is_for_hopper c ≡ true → suits body c ≡ true
+suits_hopper (Acceptor accepts values ids) c test suited = absurd cc
+suits_hopper (Hopper life value) c test suited = suited
+
+suits_ident : (body : DeviceBody) (addr : ℕ) → suits body (command.Ident addr) ≡ true
+suits_ident (Acceptor accepts values ids) addr = refl
+suits_ident (Hopper life value) addr = refl
+
+taken_brought : (capacity : Option ℕ) (setup : Setup) (past : List Entry) (c : Command) →
+    refusal capacity setup past c ≡ None → Brought capacity setup past (step.Command c) (entry.Taken c ∷ [])
+unfolding IsLetBy
+taken_brought capacity setup past (command.Start addr mask) none =
+    let at_it = acceptor_lets (device_at setup.devices addr) _ none in
+    let is = free_by (job (lines_of at_it.0 past)) _ at_it.3 in
+    taken_there capacity setup past (λ a. command.Start a mask) addr at_it.0 at_it.1 none
+    (suits_acceptor at_it.0.body (command.Start at_it.0.addr mask) at_it.2 refl) refl is.0 (let_by capacity _ _ is.1) tt
+taken_brought capacity setup past (command.Round addr) none =
+    let at_it = acceptor_lets (device_at setup.devices addr) _ none in
+    let is = free_by (job (lines_of at_it.0 past)) _ at_it.3 in
+    taken_there capacity setup past command.Round addr at_it.0 at_it.1 none
+    (suits_acceptor at_it.0.body (command.Round at_it.0.addr) at_it.2 refl) refl is.0 (let_by capacity _ _ is.1) tt
+taken_brought capacity setup past (command.Stop addr) none =
+    let at_it = acceptor_lets (device_at setup.devices addr) _ none in
+    let is = free_by (job (lines_of at_it.0 past)) _ at_it.3 in
+    taken_there capacity setup past command.Stop addr at_it.0 at_it.1 none
+    (suits_acceptor at_it.0.body (command.Stop at_it.0.addr) at_it.2 refl) refl is.0 (let_by capacity _ _ is.1) tt
+taken_brought capacity setup past (command.Pay addr id count) none =
+    let at_it = hopper_lets (device_at setup.devices addr) _ none in
+    let is = free_by (job (lines_of at_it.0 past)) _ at_it.3 in
+    taken_there capacity setup past (λ a. command.Pay a id count) addr at_it.0 at_it.1 none
+    (suits_hopper at_it.0.body (command.Pay at_it.0.addr id count) at_it.2 refl) refl is.0 tt
+    (unowed id (last_id setup past) (order (lines_of at_it.0 past)) (let_by capacity _ _ is.1))
+taken_brought capacity setup past (command.Settle addr) none =
+    let at_it = hopper_lets (device_at setup.devices addr) _ none in
+    let is = free_by (job (lines_of at_it.0 past)) _ at_it.3 in
+    taken_there capacity setup past command.Settle addr at_it.0 at_it.1 none
+    (suits_hopper at_it.0.body (command.Settle at_it.0.addr) at_it.2 refl) refl is.0 tt (let_by capacity _ _ is.1)
+taken_brought capacity setup past (command.Halt addr) none =
+    let at_it = hopper_lets (device_at setup.devices addr) _ none in
+    there capacity setup past (λ a. step.Command (command.Halt a)) (λ a. entry.Taken (command.Halt a) ∷ []) addr at_it.0 at_it.1
+    (halted (paying_by at_it.0.body at_it.2) (halting (job (lines_of at_it.0 past)) at_it.3))
+taken_brought capacity setup past (command.Path addr place path) none =
+    let at_it = acceptor_lets (device_at setup.devices addr) _ none in
+    taken_there capacity setup past (λ a. command.Path a place path) addr at_it.0 at_it.1 none
+    (suits_acceptor at_it.0.body (command.Path at_it.0.addr place path) at_it.2 refl) refl (free_if _ at_it.3) tt tt
+taken_brought capacity setup past (command.Ident addr) none =
+    let at_it = device_lets (device_at setup.devices addr) _ none in
+    taken_there capacity setup past command.Ident addr at_it.0 at_it.1 none
+    (suits_ident at_it.0.body at_it.0.addr) refl (free_if _ at_it.3) tt tt
+taken_brought capacity setup past command.Scan none = began_scan (free_if (job (scan_lines past)) none)
+taken_brought capacity setup past (command.Vend id price) none =
+    began_sale id price (free_by (job (sale_lines past)) _ none).0 none
+
+command_brought : (capacity : Option ℕ) (setup : Setup) (past : List Entry) (c : Command) (why : Option CommandNo) →
+    refusal capacity setup past c ≡ why → Brought capacity setup past (step.Command c) (command_entry c why ∷ [])
+command_brought capacity setup past c None was = taken_brought capacity setup past c was
+command_brought capacity setup past c (Some why) was = refused c why was
 
 -- a next
-row_brought : (setup : Setup) (d : DeviceSetup) (past news : List Entry) (c : Command) (since : List Line) (r : Row) →
-    AtWork d past c since → row d c since (epoch (lines_of d past)) ≡ r → IsOwned (address_of c) r →
-    RowEntries (heard_after setup past) d past c since r news → AtDevice setup d past (step.Next d.addr) news
-row_brought setup d past news c since (sends q) at_work is owned told =
-    subst (AtDevice setup d past (step.Next d.addr)) (sym told) (made_exchange c since q at_work is)
-row_brought setup d past news c since (puts r) at_work is owned told =
-    subst (AtDevice setup d past (step.Next d.addr)) (sym told)
-    (made_put c since r at_work is (λ older. owned older ∙ at_work.is_here))
-row_brought setup d past news c since no_row at_work is owned told = absurd told
+row_brought : (capacity : Option ℕ) (setup : Setup) (d : DeviceSetup) (past news : List Entry) (c : Command)
+    (since : List Line) (r : Row) → AtWork d past c since → row_after d past c since ≡ r →
+    RowEntries (heard_after setup past) d past c since r news → AtDevice capacity setup d past (step.Next d.addr) news
+row_brought capacity setup d past news c since (sends q) at_work is told =
+    subst (AtDevice capacity setup d past (step.Next d.addr)) (sym told) (made_exchange c since q at_work is)
+row_brought capacity setup d past news c since (puts r) at_work is told =
+    subst (AtDevice capacity setup d past (step.Next d.addr)) (sym told) (made_put c since r at_work is)
+row_brought capacity setup d past news c since no_row at_work is told = absurd told
 
-next_there : (setup : Setup) (d : DeviceSetup) (past news : List Entry) (at_work : Job) →
+-- a job at a device is at work
+pub works_there : (d : DeviceSetup) (past : List Entry) (c : Command) (since : List Line) →
+    job (lines_of d past) ≡ works c since → AtWork d past c since
+works_there d past c since is = record { job_is = is; is_here = subst (IsAt d.addr) is (job_at d past) }
+
+next_there : (capacity : Option ℕ) (setup : Setup) (d : DeviceSetup) (past news : List Entry) (at_work : Job) →
     job (lines_of d past) ≡ at_work → NextEntries (heard_after setup past) d past at_work news →
-    AtDevice setup d past (step.Next d.addr) news
-next_there setup d past news free is told = subst (AtDevice setup d past (step.Next d.addr)) (sym told) (idled is)
-next_there setup d past news (works c since) is told =
-    let here : address_of c ≡ d.addr = subst (IsAt d.addr) is (job_at d past) in
-    row_brought setup d past news c since _ (record { job_is = is; is_here = here }) refl
-    (row_owned d c since (epoch (lines_of d past))) told
+    AtDevice capacity setup d past (step.Next d.addr) news
+next_there capacity setup d past news free is told =
+    subst (AtDevice capacity setup d past (step.Next d.addr)) (sym told) (idled is)
+next_there capacity setup d past news (works c since) is told =
+    row_brought capacity setup d past news c since _ (works_there d past c since is) refl told
 
-poll_brought : (setup : Setup) (past news : List Entry) (c : Command) (since : List Line)
+poll_brought : (capacity : Option ℕ) (setup : Setup) (past news : List Entry) (c : Command) (since : List Line)
     (due : Option (CheckKind × ℕ)) →
     device_at setup.devices BROADCAST ≡ None → job (scan_lines past) ≡ works c since → scan_row since ≡ due →
-    PollEntries (heard_after setup past) since due news → Brought setup past (step.Next BROADCAST) news
-poll_brought setup past news c since None none is due told = absurd told
-poll_brought setup past news c since (Some (check, addr)) none is due told =
-    subst (Brought setup past (step.Next BROADCAST)) (sym told) (polled c since check addr none is due)
+    PollEntries (heard_after setup past) since due news → Brought capacity setup past (step.Next BROADCAST) news
+poll_brought capacity setup past news c since None none is due told = absurd told
+poll_brought capacity setup past news c since (Some (check, addr)) none is due told =
+    subst (Brought capacity setup past (step.Next BROADCAST)) (sym told) (polled c since check addr none is due)
 
-scan_brought : (setup : Setup) (past news : List Entry) (at_work : Job) → device_at setup.devices BROADCAST ≡ None →
+scan_brought : (capacity : Option ℕ) (setup : Setup) (past news : List Entry) (at_work : Job) →
+    device_at setup.devices BROADCAST ≡ None →
     job (scan_lines past) ≡ at_work → ScanEntries (heard_after setup past) at_work news →
-    Brought setup past (step.Next BROADCAST) news
-scan_brought setup past news free none is told =
-    subst (Brought setup past (step.Next BROADCAST)) (sym told) (nobody BROADCAST none)
-scan_brought setup past news (works c since) none is told =
-    poll_brought setup past news c since (scan_row since) none is refl told
+    Brought capacity setup past (step.Next BROADCAST) news
+scan_brought capacity setup past news free none is told =
+    subst (Brought capacity setup past (step.Next BROADCAST)) (sym told) (nobody BROADCAST none)
+scan_brought capacity setup past news (works c since) none is told =
+    poll_brought capacity setup past news c since (scan_row since) none is refl told
 
-bare_brought : (setup : Setup) (past news : List Entry) (addr : ℕ) (scans : Bool) → (addr == BROADCAST) ≡ scans →
+-- a sale has one row, its put
+sale_puts : (c : Command) (since : List Line) (r : Record) → row_of_sale c since ≡ puts r →
+    (id : ℕ) × (price : ℕ) × (c ≡ command.Vend id price) × (done since ≡ 0) × (r ≡ record_of.Sold id price)
+sale_puts (command.Vend id price) since r is = by_rows (done since) is
+  where
+    by_rows : (rows : ℕ) → vend_row id price rows ≡ puts r →
+        (i : ℕ) × (p : ℕ) × (command.Vend id price ≡ command.Vend i p) × (rows ≡ 0) × (r ≡ record_of.Sold i p)
+    by_rows zero is = (id, price, refl, refl, cc)
+    by_rows (suc rows) is = absurd cc
+sale_puts c since r is = absurd cc
+
+sale_row_brought : (capacity : Option ℕ) (setup : Setup) (past news : List Entry) (c : Command) (since : List Line) (r : Row) →
+    device_at setup.devices HOST ≡ None → job (sale_lines past) ≡ works c since → row_of_sale c since ≡ r →
+    SaleRowEntries c r news → Brought capacity setup past (step.Next HOST) news
+sale_row_brought capacity setup past news c since (puts r) none is row_is told =
+    let made = sale_puts c since r row_is in
+    let selling : Selling past made.0 made.1 since =
+    record { job_is = is ∙ ap (λ x. works x since) made.2; first = made.3 } in
+    subst (Brought capacity setup past (step.Next HOST))
+    (sym (told ∙ subst (λ x. with_end HOST (entry.Put r) (end_of_put x r) ≡ with_end HOST (entry.Put r) (end_of_put (command.Vend made.0 made.1) r)) (sym made.2) refl
+    ∙ ap (λ x. with_end HOST (entry.Put x) (end_of_put (command.Vend made.0 made.1) x)) made.4))
+    (sold made.0 made.1 since none selling)
+sale_row_brought capacity setup past news c since (sends q) none is row_is told = absurd told
+sale_row_brought capacity setup past news c since no_row none is row_is told = absurd told
+
+sale_brought : (capacity : Option ℕ) (setup : Setup) (past news : List Entry) (at_work : Job) →
+    device_at setup.devices HOST ≡ None → job (sale_lines past) ≡ at_work → SaleEntries at_work news →
+    Brought capacity setup past (step.Next HOST) news
+sale_brought capacity setup past news free none is told =
+    subst (Brought capacity setup past (step.Next HOST)) (sym told) (nobody HOST none)
+sale_brought capacity setup past news (works c since) none is told =
+    sale_row_brought capacity setup past news c since (row_of_sale c since) none is refl told
+
+bare_brought : (capacity : Option ℕ) (setup : Setup) (past news : List Entry) (addr : ℕ) (scans sells : Bool) →
+    (addr == BROADCAST) ≡ scans → (addr == HOST) ≡ sells →
     device_at setup.devices addr ≡ None →
-    MatchBool scans (ScanEntries (heard_after setup past) (job (scan_lines past)) news) (news ≡ entry.Idle addr ∷ []) →
-    Brought setup past (step.Next addr) news
-bare_brought setup past news addr true test none told =
+    MatchBool scans (ScanEntries (heard_after setup past) (job (scan_lines past)) news)
+    (MatchBool sells (SaleEntries (job (sale_lines past)) news) (news ≡ entry.Idle addr ∷ [])) →
+    Brought capacity setup past (step.Next addr) news
+bare_brought capacity setup past news addr true sells test other none told =
     let zero = eqb-true addr BROADCAST test in
-    subst (λ a. Brought setup past (step.Next a) news) (sym zero)
-    (scan_brought setup past news (job (scan_lines past)) (ap (device_at setup.devices) (sym zero) ∙ none) refl told)
-bare_brought setup past news addr false test none told =
-    subst (Brought setup past (step.Next addr)) (sym told) (nobody addr none)
+    subst (λ a. Brought capacity setup past (step.Next a) news) (sym zero)
+    (scan_brought capacity setup past news (job (scan_lines past)) (ap (device_at setup.devices) (sym zero) ∙ none) refl told)
+bare_brought capacity setup past news addr false true test other none told =
+    let one = eqb-true addr HOST other in
+    subst (λ a. Brought capacity setup past (step.Next a) news) (sym one)
+    (sale_brought capacity setup past news (job (sale_lines past)) (ap (device_at setup.devices) (sym one) ∙ none) refl told)
+bare_brought capacity setup past news addr false false test other none told =
+    subst (Brought capacity setup past (step.Next addr)) (sym told) (nobody addr none)
 
-next_brought : (setup : Setup) (past news : List Entry) (addr : ℕ) (found : Option DeviceSetup) →
+next_brought : (capacity : Option ℕ) (setup : Setup) (past news : List Entry) (addr : ℕ) (found : Option DeviceSetup) →
     device_at setup.devices addr ≡ found →
     OfNext found (λ d. NextEntries (heard_after setup past) d past (job (lines_of d past)) news)
     (BareNext (heard_after setup past) past addr news) →
-    Brought setup past (step.Next addr) news
-next_brought setup past news addr None was told = bare_brought setup past news addr (addr == BROADCAST) refl was told
-next_brought setup past news addr (Some d) was told =
-    there setup past step.Next (λ a. news) addr d was (next_there setup d past news (job (lines_of d past)) refl told)
+    Brought capacity setup past (step.Next addr) news
+next_brought capacity setup past news addr None was told =
+    bare_brought capacity setup past news addr (addr == BROADCAST) (addr == HOST) refl refl was told
+next_brought capacity setup past news addr (Some d) was told =
+    there capacity setup past step.Next (λ a. news) addr d was
+    (next_there capacity setup d past news (job (lines_of d past)) refl told)
+
+-- a loss of power
+due_row : (r : Record) (what : Row) → record_due what ≡ Some r → what ≡ puts r
+due_row r (puts s) is = cc
+due_row r (sends q) is = absurd cc
+due_row r no_row is = absurd cc
+
+due_job : (capacity : Option ℕ) (setup : Setup) (past : List Entry) (at : CrashAt) (choice : ℕ) (d : DeviceSetup)
+    (r : Record) (at_work : Job) → IsOf setup d → job (lines_of d past) ≡ at_work →
+    due_of d (lines_of d past) at_work ≡ Some r →
+    Brought capacity setup past (step.Crash (Some at) choice) (keeping_crash past r)
+due_job capacity setup past at choice d r free own is due = absurd cc
+due_job capacity setup past at choice d r (works c since) own is due =
+    lost_in_put at choice d c since r own (works_there d past c since is) (due_row r _ due)
+
+due_sale : (capacity : Option ℕ) (setup : Setup) (past : List Entry) (at : CrashAt) (choice : ℕ) (r : Record)
+    (at_work : Job) → device_at setup.devices HOST ≡ None → job (sale_lines past) ≡ at_work →
+    due_of_sale at_work ≡ Some r → Brought capacity setup past (step.Crash (Some at) choice) (keeping_crash past r)
+due_sale capacity setup past at choice r free none is due = absurd cc
+due_sale capacity setup past at choice r (works c since) none is due =
+    let made = sale_puts c since r (due_row r _ due) in
+    let selling : Selling past made.0 made.1 since =
+    record { job_is = is ∙ ap (λ x. works x since) made.2; first = made.3 } in
+    subst (λ x. Brought capacity setup past (step.Crash (Some at) choice) (keeping_crash past x)) (sym made.4)
+    (lost_in_sale at choice made.0 made.1 since none selling)
+
+due_bare : (capacity : Option ℕ) (setup : Setup) (past : List Entry) (at : CrashAt) (choice : ℕ) (r : Record)
+    (sells : Bool) → (at.addr == HOST) ≡ sells → device_at setup.devices at.addr ≡ None →
+    cond sells (due_of_sale (job (sale_lines past))) None ≡ Some r →
+    Brought capacity setup past (step.Crash (Some at) choice) (keeping_crash past r)
+due_bare capacity setup past at choice r true test none due =
+    due_sale capacity setup past at choice r (job (sale_lines past))
+    (ap (device_at setup.devices) (sym (eqb-true at.addr HOST test)) ∙ none) refl due
+due_bare capacity setup past at choice r false test none due = absurd cc
+
+due_found : (capacity : Option ℕ) (setup : Setup) (past : List Entry) (at : CrashAt) (choice : ℕ) (r : Record)
+    (found : Option DeviceSetup) → device_at setup.devices at.addr ≡ found → due_there past at.addr found ≡ Some r →
+    Brought capacity setup past (step.Crash (Some at) choice) (keeping_crash past r)
+due_found capacity setup past at choice r None was due =
+    due_bare capacity setup past at choice r (at.addr == HOST) refl was due
+due_found capacity setup past at choice r (Some d) was due =
+    due_job capacity setup past at choice d r (job (lines_of d past)) (of_found setup at.addr d was) refl due
+
+put_lost : (capacity : Option ℕ) (setup : Setup) (past news : List Entry) (at : CrashAt) (choice : ℕ)
+    (due : Option Record) → due_there past at.addr (device_at setup.devices at.addr) ≡ due → CrashEntries past at.calls due news →
+    Brought capacity setup past (step.Crash (Some at) choice) news
+put_lost capacity setup past news at choice None is told =
+    subst (Brought capacity setup past (step.Crash (Some at) choice)) (sym told) (lost_power (Some at) choice)
+put_lost capacity setup past news at choice (Some r) is told =
+    elim told [
+      | inl bare ↦ subst (Brought capacity setup past (step.Crash (Some at) choice)) (sym bare.1) (lost_power (Some at) choice)
+      | inr kept ↦ subst (Brought capacity setup past (step.Crash (Some at) choice)) (sym kept.1)
+          (due_found capacity setup past at choice r (device_at setup.devices at.addr) refl is)
+    ]
+
+crash_brought : (capacity : Option ℕ) (setup : Setup) (past news : List Entry) (at : Option CrashAt) (choice : ℕ) →
+    EntriesOfCrash setup past at news → Brought capacity setup past (step.Crash at choice) news
+crash_brought capacity setup past news None choice told =
+    subst (Brought capacity setup past (step.Crash None choice)) (sym told) (lost_power None choice)
+crash_brought capacity setup past news (Some at) choice told = put_lost capacity setup past news at choice _ refl told
 
 -- each legal step brought one of these
-pub brought : (setup : Setup) (past news : List Entry) (s : Step) → Entries setup past s news →
-    Brought setup past s news
-brought setup past news (step.Coin addr place) told = coin_brought setup past news addr place _ refl told
-brought setup past news (step.Alien addr) told = alien_brought setup past news addr _ refl told
-brought setup past news (step.Reset addr) told = reset_brought setup past news addr _ refl told
-brought setup past news (step.Fault f) told = subst (Brought setup past (step.Fault f)) (sym told) (faulted f)
-brought setup past news (step.Command c) told =
-    let known = test_holds (is_played_command c) _ told in
-    subst (Brought setup past (step.Command c)) (sym known.1) (command_brought setup past c _ refl known.0)
-brought setup past news (step.Next addr) told = next_brought setup past news addr _ refl told
-brought setup past news s told = absurd told
+pub brought : (capacity : Option ℕ) (setup : Setup) (past news : List Entry) (s : Step) → Entries capacity setup past s news →
+    Brought capacity setup past s news
+brought capacity setup past news (step.Coin addr place) told = coin_brought capacity setup past news addr place _ refl told
+brought capacity setup past news (step.Alien addr) told = alien_brought capacity setup past news addr _ refl told
+brought capacity setup past news (step.Fall addr) told = fall_brought capacity setup past news addr _ refl told
+brought capacity setup past news (step.Jam addr) told = jam_brought capacity setup past news addr _ refl told
+brought capacity setup past news (step.Reset addr) told = reset_brought capacity setup past news addr _ refl told
+brought capacity setup past news (step.Fault f) told = subst (Brought capacity setup past (step.Fault f)) (sym told) (faulted f)
+brought capacity setup past news (step.Command c) told =
+    subst (Brought capacity setup past (step.Command c)) (sym told) (command_brought capacity setup past c _ refl)
+brought capacity setup past news (step.Next addr) told = next_brought capacity setup past news addr _ refl told
+brought capacity setup past news (step.Crash at choice) told = crash_brought capacity setup past news at choice told
+brought capacity setup past news step.Balance told =
+    subst (Brought capacity setup past step.Balance) (sym told) balanced
+brought capacity setup past news step.End told = absurd told

@@ -5,9 +5,8 @@ use Rattle.std.proofs.lemmas.Nat.{xor_of_16}
 use Rattle.hex.specs.Hex.{IsBytes}
 use Rattle.cct_model.specs.terms.wire.CheckKind.{CheckKind}
 use Rattle.cct_model.specs.terms.wire.CheckKind.TheVariants.{Simple, Crc}
-use Rattle.cct_model.specs.terms.coin.Pair.{Pair}
 use Rattle.cct_model.specs.terms.request.Request.{Request}
-use Rattle.cct_model.specs.terms.request.Request.TheVariants.{SetMask, AddressPoll}
+use Rattle.cct_model.specs.terms.request.Request.TheVariants.{SetMask, Dispense, AddressPoll}
 use Rattle.cct_model.specs.terms.request.ReplyForm.{ReplyForm}
 use Rattle.cct_model.specs.terms.request.ReplyForm.TheVariants as form
 use Rattle.cct_model.specs.Message.{Message, bits_of, crc_bit, crc, closing_byte, spelling, message}
@@ -108,9 +107,10 @@ pub asker_fits : (kind : CheckKind) (piece : List ℕ) → Bytes piece → asker
 unfolding asker
 asker_fits kind piece h = asker_by (message kind piece) (message_bytes kind piece h)
 
--- a request of bytes sets a mask of 16 bits
+-- a request of bytes sets a mask of 16 bits, and asks to pay 255 coins at the most
 abbrev pub FitsRequest : Request → Type 0
 FitsRequest (SetMask mask) = mask < 65536
+FitsRequest (Dispense serial count) = count < 256
 FitsRequest q = ⊤
 
 abbrev Each : List Request → Type 0
@@ -131,7 +131,7 @@ requests_fit [] h = search rules
 requests_fit (byte ∷ []) h = search rules
 requests_fit (first ∷ second ∷ []) h = (omega (arith, h.0, h.1.0), (tt, tt))
 requests_fit (a ∷ b ∷ c ∷ []) h = tt
-requests_fit (a ∷ b ∷ c ∷ d ∷ []) h = (tt, tt)
+requests_fit (a ∷ b ∷ c ∷ d ∷ []) h = (h.1.1.1.0, tt)
 requests_fit (a ∷ b ∷ c ∷ d ∷ e ∷ []) h = tt
 requests_fit (a ∷ b ∷ c ∷ d ∷ e ∷ f ∷ []) h = tt
 requests_fit (a ∷ b ∷ c ∷ d ∷ e ∷ f ∷ g ∷ []) h = tt
@@ -155,14 +155,8 @@ pub to_all_fits : (found : Option Request) → IfThere FitsRequest (to_all found
 to_all_fits (Some AddressPoll) = tt
 to_all_fits found = tt
 
--- a reply that says bytes
-abbrev pub FitsPairs : List Pair → Type 0
-FitsPairs [] = ⊤
-FitsPairs (pair ∷ pairs) = ((pair.a < 256) × (pair.b < 256)) × FitsPairs pairs
-
+-- a reply whose inhibit mask has 16 bits
 abbrev pub FitsReply : Reply → Type 0
-FitsReply (reply.credits c) = (c.counter < 256) × FitsPairs c.pairs
-FitsReply (reply.path number) = number < 256
 FitsReply (reply.mask mask) = mask < 65536
 FitsReply y = ⊤
 
@@ -170,10 +164,11 @@ none_fits : (P : Reply → Type 0) (y : Reply) (body : List ℕ) → P y → IfT
 none_fits P y [] h = h
 none_fits P y (b ∷ body) h = tt
 
-one_fits : (P : Reply → Type 0) (make : ℕ → Reply) (body : List ℕ) → Bytes body → ((a : ℕ) → a < 256 → P (make a)) → IfThere P (reply.one_in make body)
-one_fits P make [] h k = tt
-one_fits P make (a ∷ []) h k = k a h.0
-one_fits P make (a ∷ b ∷ body) h k = tt
+one_fits : (P : Reply → Type 0) (make : ℕ → Reply) (body : List ℕ) → ((a : ℕ) → P (make a)) →
+    IfThere P (reply.one_in make body)
+one_fits P make [] k = tt
+one_fits P make (a ∷ []) k = k a
+one_fits P make (a ∷ b ∷ body) k = tt
 
 two_fits : (P : Reply → Type 0) (make : ℕ → ℕ → Reply) (body : List ℕ) → Bytes body → ((a b : ℕ) → a < 256 → b < 256 → P (make a b)) → IfThere P (reply.two_in make body)
 two_fits P make [] h k = tt
@@ -196,24 +191,22 @@ id_fits : (body : List ℕ) → IfThere FitsReply (reply.coin_id_in body)
 id_fits (c1 ∷ c2 ∷ c3 ∷ c4 ∷ c5 ∷ c6 ∷ []) = tt
 id_fits body = tt
 
-credits_fit : (body : List ℕ) → Bytes body → IfThere FitsReply (reply.credits_in body)
-credits_fit (n ∷ a1 ∷ b1 ∷ a2 ∷ b2 ∷ a3 ∷ b3 ∷ a4 ∷ b4 ∷ a5 ∷ b5 ∷ []) h =
-    let at = bytes_are (n ∷ a1 ∷ b1 ∷ a2 ∷ b2 ∷ a3 ∷ b3 ∷ a4 ∷ b4 ∷ a5 ∷ b5 ∷ []) h in
-    (at 0, ((at 1, at 2), ((at 3, at 4), ((at 5, at 6), ((at 7, at 8), ((at 9, at 10), tt))))))
-credits_fit body h = tt
+credits_fit : (body : List ℕ) → IfThere FitsReply (reply.credits_in body)
+credits_fit (n ∷ a1 ∷ b1 ∷ a2 ∷ b2 ∷ a3 ∷ b3 ∷ a4 ∷ b4 ∷ a5 ∷ b5 ∷ []) = tt
+credits_fit body = tt
 
 reply_in_fits : (f : ReplyForm) (body : List ℕ) → Bytes body → IfThere FitsReply (reply.reply_in f body)
 unfolding reply.reply_in
 reply_in_fits form.Ack body h = none_fits FitsReply reply.ack body tt
-reply_in_fits form.Credits body h = credits_fit body h
+reply_in_fits form.Credits body h = credits_fit body
 reply_in_fits form.Mask body h = two_fits FitsReply _ body h (λ a b k l. omega (arith, k, l))
-reply_in_fits form.Master body h = one_fits FitsReply reply.master body h (λ a k. tt)
-reply_in_fits form.Path body h = one_fits FitsReply reply.path body h (λ a k. k)
+reply_in_fits form.Master body h = one_fits FitsReply reply.master body (λ a. tt)
+reply_in_fits form.Path body h = one_fits FitsReply reply.path body (λ a. tt)
 reply_in_fits form.CoinId body h = id_fits body
 reply_in_fits form.Status body h = status_fits body
 reply_in_fits form.Life body h = three_fits FitsReply _ body (λ a b c. tt)
-reply_in_fits form.Remaining body h = one_fits FitsReply reply.remaining body h (λ a k. tt)
-reply_in_fits form.Register body h = one_fits FitsReply reply.register body h (λ a k. tt)
+reply_in_fits form.Remaining body h = one_fits FitsReply reply.remaining body (λ a. tt)
+reply_in_fits form.Register body h = one_fits FitsReply reply.register body (λ a. tt)
 reply_in_fits form.Text body h = tt
 reply_in_fits form.Serial body h = three_fits FitsReply _ body (λ a b c. tt)
 reply_in_fits form.Revision body h = three_fits FitsReply _ body (λ a b c. tt)

@@ -1,201 +1,675 @@
--- A round whose exchanges no fault disturbs ends within three `next`, whatever else comes between them.
-use Rattle.std.proofs.Common.{◌≡◌, ℕ, zero, suc, ◌+◌, ◌<◌, ◌≤◌, ◌==◌, cond, true, false, Bool, List, [], ◌∷◌, ◌++◌, refl, ap, sym, ◌∙◌, subst, Option, Some, None, ◌⊎◌, inl, inr, arith, eq-eqb, append_assoc}
+-- A job whose exchanges no fault disturbs ends within so many `next` as it has rows, whatever else comes between them.
+use Rattle.std.proofs.Common.{◌≡◌, ℕ, zero, suc, ◌+◌, ◌-◌, ◌<◌, ◌≤◌, ◌==◌, nat_le, cond, true, false, Bool, List, [], ◌∷◌, ◌++◌, length, refl, ap, sym, ◌∙◌, subst, Option, Some, None, ◌⊎◌, inl, inr, arith, rules, eq-eqb, append_assoc, slice_get}
 use Rattle.std.specs.Prelude.{⊤}
+use Rattle.std.proofs.lemmas.Bool.Decides.{nat_tests}
+use Rattle.cct_model.specs.terms.device.DeviceBody.{DeviceBody}
+use Rattle.cct_model.specs.terms.device.DeviceBody.TheVariants.{Acceptor, Hopper}
 use Rattle.cct_model.specs.terms.device.DeviceSetup.{DeviceSetup}
 use Rattle.cct_model.specs.terms.device.Setup.{Setup}
 use Rattle.cct_model.specs.terms.request.Request.{Request}
+use Rattle.cct_model.specs.terms.request.Request.TheVariants.{SetPath, GetPath, SetDefault, GetDefault, Dispense, GetStatus, StopNow}
+use Rattle.cct_model.specs.terms.request.ReplyForm.{ReplyForm}
+use Rattle.cct_model.specs.terms.request.ReplyForm.TheVariants as form
 use Rattle.cct_model.specs.lines.record.Record.{Record}
+use Rattle.cct_model.specs.lines.record.Record.TheVariants as record_of
 use Rattle.cct_model.specs.declared.judging.Judged.{Judged}
 use Rattle.cct_model.specs.declared.judging.Judged.TheVariants.{Nothing, Reading, Broken}
+use Rattle.cct_model.specs.declared.judging.OpenOrder.{OpenOrder}
 use Rattle.cct_model.specs.lines.command.Command.{Command}
 use Rattle.cct_model.specs.lines.command.Command.TheVariants as command
 use Rattle.cct_model.specs.lines.command.WireFault.TheVariants as fault
 use Rattle.cct_model.specs.lines.command.Step.{Step}
 use Rattle.cct_model.specs.lines.command.Step.TheVariants as step
 use Rattle.cct_model.specs.lines.entry.End.{End}
+use Rattle.cct_model.specs.lines.entry.End.TheVariants.{Told, PathSet, Stopped}
 use Rattle.cct_model.specs.lines.entry.Entry.{Entry}
 use Rattle.cct_model.specs.lines.entry.Entry.TheVariants as entry
-use Rattle.cct_model.specs.Device.{IsAcceptor}
-use Rattle.cct_model.specs.Setup.{IsSoundSetup}
-use Rattle.cct_model.specs.Exchange.{ask, asked}
-use Rattle.cct_model.specs.Line.{Line, exchange}
+use Rattle.cct_model.specs.Request.{form_of}
 use Rattle.cct_model.specs.Reply.{Reply}
-use Rattle.cct_model.specs.Job.{free, works, job, with_line, done, epoch, credits_read, mask_read, sends, puts, round_row, row, judged_in, end_of, end_of_put, end_of_round}
+use Rattle.cct_model.specs.Reply as reply
+use Rattle.cct_model.specs.History.{Met}
+use Rattle.cct_model.specs.Hopper.{remaining, status_of, hopper_reply}
+use Rattle.cct_model.specs.Device.{IsSound, IsAcceptor, IsHopper, common_reply, reply_of}
+use Rattle.cct_model.specs.Setup.{IsSoundSetup}
+use Rattle.cct_model.specs.Exchange.{ask, asked, asks_of}
+use Rattle.cct_model.specs.Line.{Line, exchange, put, taken}
+use Rattle.cct_model.specs.Order.{order, close, life_between, is_marked}
+use Rattle.cct_model.specs.Job.{free, works, job, with_line, done, answer_ends, epoch, credits_read, mask_read, Row, sends, puts, no_row, Payment, payment_in, put_or, open_row, close_row, state_row, settle_row, stop_row, send_row, row_at, ident_requests, judged_in, address_of, can_halt, end_of, end_of_answer, end_of_path, end_of_close, end_of_put}
+use Rattle.cct_model.specs.Script.{IsCommand}
 use Rattle.cct_model.specs.Legal.{with_end, LegalFrom}
-use Rattle.cct_model.specs.Transcript.{pending, met, lines_of, heard_after, got_by}
-use Rattle.cct_laws.specs.Ending.{nexts_after, nexts_at, IsRoundEnd, ShowsRoundEnd, EndsRound, HasNoEnd, AreUndisturbed, IsUndisturbed}
-use Rattle.cct_laws.specs.Law.{IsOf}
+use Rattle.cct_model.specs.Transcript.{pending, met, lines_of, heard_by_devices, heard_after, doses_of, got_by}
+use Rattle.cct_msg.specs.Forms.{form_shown}
 use Rattle.cct_msg.proofs.Exchanges.{asked_back}
-use Rattle.cct_laws.proofs.Exchanges.{Replied, undisturbed_got}
-use Rattle.cct_laws.proofs.Asked.{replied_at}
-use Rattle.cct_laws.proofs.Brought.{AtDevice, came, took, idled, made_exchange, made_put, wire_of, wire_end, record_end, Brought, brought}
-use Rattle.cct_laws.proofs.Rows.{RowHolds, judged_holds, each_row}
-use Rattle.cct_laws.proofs.Seen.{ArePassed, loose, loose_line, seen_from, passed_lines, lines_wire}
+use Rattle.cct_laws.specs.Ending.{nexts_after, nexts_at, halts_after, halts_at, is_payment, rows_of, nexts_needed, ShowsEnd, EndsAs, EndsRound, HasNoEnd, EachAtWork, LeavesAlone, IsUndisturbed, FindsNoneLeft, IsPaidOut}
+use Rattle.cct_laws.specs.Ids.{Ids}
+use Rattle.cct_laws.specs.Kept.{IsRefused, suits}
+use Rattle.cct_laws.specs.Law.{IsOf}
+use Rattle.cct_laws.proofs.Asked.{answers_at}
+use Rattle.cct_laws.proofs.Brought.{AtDevice, came, took, halted, idled, made_exchange, made_put, AtWork, row_after, wire_of, wire_end, record_end, Brought, brought}
+use Rattle.cct_model.proofs.Doses.{job_undosed}
+use Rattle.cct_laws.proofs.Exchanges.{Replied, Refused, undisturbed_got, undisturbed_refused}
+use Rattle.cct_laws.proofs.Ids.{ids_start, ids_step, put_owned}
+use Rattle.cct_laws.proofs.Replies.{hopper_is}
+use Rattle.cct_laws.proofs.Rows.{RowHolds, Each, JudgedHolds, any_judged, judged_holds, each_row}
+use Rattle.cct_laws.proofs.Seen.{ArePassed, loose, loose_line, Lost, bare, kept_here, kept_elsewhere, seen_here, seen_aside, seen_lost, seen_from, passed_job, lines_wire, lines_put, lines_taken, along_from, any_steps}
+use Rattle.cct_laws.proofs.Setups.{found_in}
+use Rattle.cct_laws.proofs.Tries.{IsSentAt, sent_at, IfEndOf, ends_of_answer, ends_of_put}
 
--- a round of which so many rows are done
-record RoundAt (d : DeviceSetup) (rows : ℕ) (past : List Entry) : Type 0 where
+-- a job that is to end within so many `next`: one for each of its rows that aren't done, and one for a halt
+record JobAt (d : DeviceSetup) (c : Command) (nexts : ℕ) (past : List Entry) : Type 0 where
   since : List Line
-  job_is : job (lines_of d past) ≡ works (command.Round d.addr) since
-  rows_done : done since ≡ rows
-  few : rows < 3
+  job_is : job (lines_of d past) ≡ works c since
+  few : done since < rows_of d.body c
+  enough : rows_of d.body c + cond (is_marked since) 1 0 ≤ done since + nexts
 
--- what a step makes of a round: it ends well, or has so many rows done, and no job ended at its address
-Goes : DeviceSetup → ℕ → List Entry → List Entry → Type 0
-Goes d rows past news = ShowsRoundEnd d.addr news ⊎ (RoundAt d rows (news ++ past) × HasNoEnd d.addr news)
+-- what a step makes of it: it ends, or has so many `next` left, and no job ended at its address
+Goes : DeviceSetup → Command → ℕ → List Entry → List Entry → Type 0
+Goes d c nexts past news =
+    ShowsEnd c d.addr news ⊎ (JobAt d c nexts (news ++ past) × HasNoEnd d.addr news)
 
-round_left : (d : DeviceSetup) (rows : ℕ) (past news : List Entry) →
-    job (lines_of d (news ++ past)) ≡ job (lines_of d past) → HasNoEnd d.addr news → RoundAt d rows past →
-    Goes d rows past news
+job_left : (d : DeviceSetup) (c : Command) (nexts more : ℕ) (past news : List Entry) → nexts ≤ more →
+    job (lines_of d (news ++ past)) ≡ job (lines_of d past) → HasNoEnd d.addr news → JobAt d c nexts past →
+    Goes d c more past news
 unfolding Goes
-round_left d rows past news same no_end round =
-    let left : RoundAt d rows (news ++ past) =
-    record { since = round.since; job_is = same ∙ round.job_is; rows_done = round.rows_done; few = round.few } in
+job_left d c nexts more past news fewer same no_end at =
+    let left : JobAt d c more (news ++ past) = record {
+      since = at.since;
+      job_is = same ∙ at.job_is;
+      few = at.few;
+      enough = omega (arith, fewer, at.enough);
+    } in
     inr (left, no_end)
 
--- a row of the round, and its end if there is one
-abbrev EndsWell : Option End → Type 0
-EndsWell None = ⊥
-EndsWell (Some end) = IsRoundEnd end
-
-ended_well : (addr : ℕ) (e : Entry) (end : Option End) (news : List Entry) → EndsWell end → news ≡ with_end addr e end →
-    ShowsRoundEnd addr news
-ended_well addr e None news well told = absurd well
-ended_well addr e (Some end) news well told = subst (ShowsRoundEnd addr) (sym told) (inl (refl, well))
-
--- the entries of its exchange
-abbrev round_news : Setup → DeviceSetup → List Entry → List Line → Request → List Entry
-round_news setup d past since q =
-    with_end d.addr (wire_of setup d past q) (wire_end setup d past (command.Round d.addr) since q)
-
--- no fault was set for its exchange
-first_clear : (addr : ℕ) (past : List Entry) (sent piece : List ℕ) (end : Option End) →
-    AreUndisturbed addr past (with_end addr (entry.Wire addr sent piece) end) → pending past ≡ fault.Clear
-first_clear addr past sent piece None undisturbed = undisturbed.0 refl tt
-first_clear addr past sent piece (Some end) undisturbed = undisturbed.0 refl tt
-
--- an answered exchange of it
-record Exchanged (setup : Setup) (d : DeviceSetup) (past : List Entry) (q : Request) : Type 0 where
-  y : Reply
-  line_is : exchange (asked d.kind (ask d.kind d.addr q))
-      (got_by d (ask d.kind d.addr q) (heard_after setup past (ask d.kind d.addr q))) ≡ exchange (Some q) (Some y)
-
-exchanged : (setup : Setup) (d : DeviceSetup) (past : List Entry) (q : Request) → IsSoundSetup setup → IsOf setup d →
-    Replied d (met d past) q → pending past ≡ fault.Clear → Exchanged setup d past q
-exchanged setup d past q sound own is clear =
-    let sent = ask d.kind d.addr q in
-    let asks : asked d.kind sent ≡ Some q = asked_back d.kind d.addr q is.fits in
-    record {
-      y = is.y;
-      line_is = ap (λ a. exchange a (got_by d sent (heard_after setup past sent))) asks
-          ∙ ap (exchange (Some q)) (undisturbed_got setup d past q is sound own clear);
-    }
-
--- the round goes on by it, or ends
-reading_ends : (rows : ℕ) (judged : Judged) (end : End) → end_of_round rows judged ≡ Some end → IsRoundEnd end
-reading_ends (suc (suc zero)) Nothing end e = subst EndsWell e tt
-reading_ends (suc (suc zero)) (Reading r) end e = absurd cc
-reading_ends (suc (suc zero)) (Broken r) end e = absurd cc
-reading_ends rows judged end e = absurd cc
-
-answered : (setup : Setup) (d : DeviceSetup) (rows : ℕ) (past : List Entry) (since : List Line) (q : Request)
-    (x : Exchanged setup d past q) (found : Option End) → job (lines_of d past) ≡ works (command.Round d.addr) since →
-    done since ≡ rows → suc rows < 3 →
-    end_of d (command.Round d.addr) (exchange (Some q) (Some x.y)) since (epoch (lines_of d past)) ≡ found →
-    Goes d (suc rows) past (with_end d.addr (wire_of setup d past q) found)
+-- an entry of it, with its end or without
+goes_by : (d : DeviceSetup) (c : Command) (nexts : ℕ) (past : List Entry) (since : List Line) (l : Line) (e : Entry)
+    (found : Option End) → job (lines_of d (e ∷ past)) ≡ works c (l ∷ since) → HasNoEnd d.addr (e ∷ []) →
+    IfEndOf c found → (found ≡ None → done (l ∷ since) < rows_of d.body c) →
+    rows_of d.body c + cond (is_marked (l ∷ since)) 1 0 ≤ done (l ∷ since) + nexts →
+    Goes d c nexts past (with_end d.addr e found)
 unfolding Goes
-answered setup d rows past since q x None is_job rows_done few end_is =
-    let lines_are = lines_wire d past _ _ ∙ ap (λ l. l ∷ lines_of d past) x.line_is in
-    let after : RoundAt d (suc rows) (wire_of setup d past q ∷ past) = record {
-      since = exchange (Some q) (Some x.y) ∷ since;
-      job_is = ap job lines_are ∙ ap (with_line (exchange (Some q) (Some x.y))) is_job;
-      rows_done = ap suc rows_done;
-      few = few;
+goes_by d c nexts past since l e None is_job no_end ends few enough =
+    let after : JobAt d c nexts (e ∷ past) =
+    record { since = l ∷ since; job_is = is_job; few = few refl; enough = enough } in
+    inr (after, no_end)
+goes_by d c nexts past since l e (Some end) is_job no_end ends few enough = inl (inl (refl, ends))
+
+-- what a row asks of a payout: a stop where the payment is halted, and of a payment alone how it goes
+abbrev IsOfPayment : Bool → Bool → Request → Type 0
+IsOfPayment marked pays StopNow = marked ≡ true
+IsOfPayment marked pays GetStatus = pays ≡ true
+IsOfPayment marked pays q = ⊤
+
+state_asks : (marked pays : Bool) → pays ≡ true → RowHolds (IsOfPayment marked pays) (λ r. ⊤) (state_row marked)
+state_asks true pays is = refl
+state_asks false pays is = is
+
+close_asks : (P : Request → Type 0) (owed : Option OpenOrder) (life : Option ℕ) →
+    RowHolds P (λ r. ⊤) (close_row owed life)
+close_asks P (Some o) (Some life) = tt
+close_asks P (Some o) None = tt
+close_asks P None life = tt
+
+open_asks : (P : Request → Type 0) (addr id count : ℕ) (life : Option ℕ) →
+    RowHolds P (λ r. ⊤) (open_row addr id count life)
+open_asks P addr id count (Some life) = tt
+open_asks P addr id count None = tt
+
+settle_asks : (rows : ℕ) (p : Payment) → RowHolds (IsOfPayment p.is_marked true) (λ r. ⊤) (settle_row rows p)
+settle_asks zero p = state_asks p.is_marked true refl
+settle_asks (suc zero) p = tt
+settle_asks (suc (suc zero)) p = close_asks (IsOfPayment p.is_marked true) p.owed p.life
+settle_asks (suc (suc (suc rows))) p = tt
+
+ident_asks : (marked pays : Bool) (body : DeviceBody) → Each (IsOfPayment marked pays) (ident_requests body)
+ident_asks marked pays (Acceptor accepts values ids) = search rules
+ident_asks marked pays (Hopper life value) = search rules
+
+set_asks : (marked pays first : Bool) (place path : ℕ) →
+    IsOfPayment marked pays (cond first (SetDefault path) (SetPath place path))
+set_asks marked pays true place path = tt
+set_asks marked pays false place path = tt
+
+read_asks : (marked pays first : Bool) (place : ℕ) → IsOfPayment marked pays (cond first GetDefault (GetPath place))
+read_asks marked pays true place = tt
+read_asks marked pays false place = tt
+
+row_asks : (d : DeviceSetup) (c : Command) (rows : ℕ) (judged : Judged) (p : Payment) →
+    RowHolds (IsOfPayment p.is_marked (is_payment c)) (λ r. ⊤) (row_at d c rows judged p)
+row_asks d (command.Start addr mask) rows judged p =
+    each_row (IsOfPayment p.is_marked false) (λ r. ⊤) d (command.Start addr mask) rows judged p
+    (record { resets = tt; reads = tt; begins = tt; opens = tt })
+row_asks d (command.Round addr) rows judged p =
+    each_row (IsOfPayment p.is_marked false) (λ r. ⊤) d (command.Round addr) rows judged p
+    (record { reads = tt; looks = tt; means = any_judged judged })
+row_asks d (command.Stop addr) rows judged p =
+    each_row (IsOfPayment p.is_marked false) (λ r. ⊤) d (command.Stop addr) rows judged p
+    (record { shuts = tt; round = record { reads = tt; looks = tt; means = any_judged judged }; over = tt })
+row_asks d (command.Pay addr id count) zero judged p = tt
+row_asks d (command.Pay addr id count) (suc zero) judged p = tt
+row_asks d (command.Pay addr id count) (suc (suc zero)) judged p =
+    open_asks (IsOfPayment p.is_marked true) addr id count p.life
+row_asks d (command.Pay addr id count) (suc (suc (suc zero))) judged p = tt
+row_asks d (command.Pay addr id count) (suc (suc (suc (suc rows)))) judged p = settle_asks rows p
+row_asks d (command.Settle addr) rows judged p = settle_asks rows p
+row_asks d (command.Ident addr) rows judged p =
+    each_row (IsOfPayment p.is_marked false) (λ r. ⊤) d (command.Ident addr) rows judged p
+    (ident_asks p.is_marked false d.body)
+row_asks d (command.Path addr place path) rows judged p =
+    each_row (IsOfPayment p.is_marked false) (λ r. ⊤) d (command.Path addr place path) rows judged p
+    (set_asks p.is_marked false (place == 0) place path, read_asks p.is_marked false (place == 0) place)
+row_asks d (command.Halt addr) rows judged p = tt
+row_asks d command.Scan rows judged p = tt
+row_asks d (command.Vend id price) rows judged p = tt
+
+-- an answer to it brings the job on: it ends the row, or the mark of a halt
+status_is : (d : DeviceSetup) (past : List Met) → IsHopper d.body →
+    reply_of d past GetStatus ≡ Some (status_of d.serial past)
+unfolding reply_of common_reply hopper_reply
+status_is d past paying = hopper_is d.serial d.body past GetStatus paying
+
+paying_of : (body : DeviceBody) (c : Command) → suits body c ≡ true → is_payment c ≡ true → IsHopper body
+paying_of (Hopper life value) c suited pays = tt
+paying_of (Acceptor accepts values ids) (command.Pay addr id count) suited pays = absurd cc
+paying_of (Acceptor accepts values ids) (command.Settle addr) suited pays = absurd cc
+paying_of (Acceptor accepts values ids) c suited pays = absurd cc
+
+-- the premise that all coins have fallen where a status is asked
+abbrev FoundNoneLeft : DeviceSetup → List Met → Request → Type 0
+FoundNoneLeft d past q = q ≡ GetStatus → remaining d.serial past ≡ 0
+
+zero_left : (d : DeviceSetup) (past : List Met) (y : Reply) → reply_of d past GetStatus ≡ Some y → IsHopper d.body →
+    remaining d.serial past ≡ 0 → answer_ends GetStatus y ≡ true
+zero_left d past y replied paying none =
+    let is : status_of d.serial past ≡ y = same_reply (sym (status_is d past paying) ∙ replied) in
+    subst (λ x. answer_ends GetStatus x ≡ true) is (eq-eqb (remaining d.serial past) 0 none)
+  where
+    same_reply : Some (status_of d.serial past) ≡ Some y → status_of d.serial past ≡ y
+    same_reply e = cc
+
+on_by : (ended marked : Bool) (rows n nexts : ℕ) → ended ≡ true → rows + cond marked 1 0 ≤ n + suc nexts →
+    rows + cond marked 1 0 ≤ cond ended (suc n) n + nexts
+on_by true marked rows n nexts is enough = omega (arith, enough)
+on_by false marked rows n nexts is enough = absurd cc
+
+off_by : (marked : Bool) (rows n nexts : ℕ) → marked ≡ true → rows + cond marked 1 0 ≤ n + suc nexts →
+    rows + 0 ≤ n + nexts
+off_by true rows n nexts is enough = omega (arith, enough)
+off_by false rows n nexts is enough = absurd cc
+
+answer_brings : (d : DeviceSetup) (past : List Met) (c : Command) (since : List Line) (q : Request) (y : Reply)
+    (nexts : ℕ) → suits d.body c ≡ true → IsOfPayment (is_marked since) (is_payment c) q →
+    reply_of d past q ≡ Some y → (is_payment c ≡ true → FoundNoneLeft d past q) →
+    rows_of d.body c + cond (is_marked since) 1 0 ≤ done since + suc nexts →
+    rows_of d.body c + cond (is_marked (exchange (Some q) (Some y) ∷ since)) 1 0 ≤
+    done (exchange (Some q) (Some y) ∷ since) + nexts
+answer_brings d past c since StopNow y nexts suited asks replied found enough =
+    off_by (is_marked since) (rows_of d.body c) (done since) nexts asks enough
+answer_brings d past c since GetStatus y nexts suited asks replied found enough =
+    on_by (answer_ends GetStatus y) (is_marked since) (rows_of d.body c) (done since) nexts
+    (zero_left d past y replied (paying_of d.body c suited asks) (found asks refl)) enough
+answer_brings d past c since q y nexts suited asks replied found enough =
+    on_by true (is_marked since) (rows_of d.body c) (done since) nexts refl enough
+
+-- the last row that a job has ends it
+abbrev IsPath : Reply → Type 0
+IsPath y = (number : ℕ) × (y ≡ reply.path number)
+
+path_by : (wanted : ReplyForm) (y : Reply) → Some form.Path ≡ Some wanted → form_shown y ≡ Some wanted → IsPath y
+path_by wanted (reply.path number) is shown = (number, refl)
+path_by wanted y is shown = absurd cc
+
+path_shown : (first : Bool) (place : ℕ) (wanted : ReplyForm) (y : Reply) →
+    form_of (cond first GetDefault (GetPath place)) ≡ Some wanted → form_shown y ≡ Some wanted → IsPath y
+unfolding form_of
+path_shown true place wanted y is shown = path_by wanted y is shown
+path_shown false place wanted y is shown = path_by wanted y is shown
+
+no_close : (owed : Option OpenOrder) (life : Option ℕ) (q : Request) → close_row owed life ≡ sends q → ⊥
+no_close (Some o) (Some life) q is = cc
+no_close (Some o) None q is = cc
+no_close None life q is = cc
+
+no_put_or : (r : Row) (judged : Judged) (q : Request) → (r ≡ sends q → ⊥) → put_or r judged ≡ sends q → ⊥
+no_put_or r Nothing q none is = none is
+no_put_or r (Reading e) q none is = cc
+no_put_or r (Broken e) q none is = cc
+
+told_by : (told : Bool) (all rows : ℕ) → (all == suc rows) ≡ told → rows < all →
+    cond told (Some Told) None ≡ None → suc rows < all
+told_by true all rows test few none = absurd cc
+told_by false all rows test few none = grind (arith, nat_tests)
+
+few_answered : (d : DeviceSetup) (c : Command) (rows : ℕ) (judged means : Judged) (p : Payment) (q : Request)
+    (y : Reply) (wanted : ReplyForm) → row_at d c rows judged p ≡ sends q → form_of q ≡ Some wanted →
+    form_shown y ≡ Some wanted → rows < rows_of d.body c → end_of_answer d.body c (suc rows) y means ≡ None →
+    suc rows < rows_of d.body c
+few_answered d (command.Start addr mask) zero judged means p q y wanted is wants shown few none = omega arith
+few_answered d (command.Start addr mask) (suc zero) judged means p q y wanted is wants shown few none = omega arith
+few_answered d (command.Start addr mask) (suc (suc zero)) judged means p q y wanted is wants shown few none =
+    omega arith
+few_answered d (command.Start addr mask) (suc (suc (suc zero))) judged means p q y wanted is wants shown few none =
+    absurd cc
+few_answered d (command.Start addr mask) (suc (suc (suc (suc rows)))) judged means p q y wanted is wants shown few
+    none = absurd (omega (arith, few))
+few_answered d (command.Round addr) zero judged means p q y wanted is wants shown few none = omega arith
+few_answered d (command.Round addr) (suc zero) judged means p q y wanted is wants shown few none = omega arith
+few_answered d (command.Round addr) (suc (suc zero)) judged means p q y wanted is wants shown few none =
+    absurd (no_put_or no_row judged q (λ e. cc) is)
+few_answered d (command.Round addr) (suc (suc (suc rows))) judged means p q y wanted is wants shown few none =
+    absurd (omega (arith, few))
+few_answered d (command.Stop addr) zero judged means p q y wanted is wants shown few none = omega arith
+few_answered d (command.Stop addr) (suc zero) judged means p q y wanted is wants shown few none = omega arith
+few_answered d (command.Stop addr) (suc (suc zero)) judged means p q y wanted is wants shown few none = omega arith
+few_answered d (command.Stop addr) (suc (suc (suc zero))) judged means p q y wanted is wants shown few none =
+    omega arith
+few_answered d (command.Stop addr) (suc (suc (suc (suc rows)))) judged means p q y wanted is wants shown few none =
+    absurd (no_end_of_stop rows few is)
+  where
+    no_end_of_stop : (more : ℕ) → suc (suc (suc (suc more))) < 5 →
+        stop_row addr (suc (suc (suc (suc more)))) judged ≡ sends q → ⊥
+    no_end_of_stop zero few is = cc
+    no_end_of_stop (suc more) few is = omega (arith, few)
+few_answered d (command.Pay addr id count) rows judged means p q y wanted is wants shown few none =
+    pay_few rows is few
+  where
+    pay_few : (n : ℕ) → row_at d (command.Pay addr id count) n judged p ≡ sends q → n < 7 → suc n < 7
+    pay_few (suc (suc (suc (suc (suc (suc zero)))))) is few = absurd (no_close p.owed p.life q is)
+    pay_few (suc (suc (suc (suc (suc (suc (suc n))))))) is few = absurd (omega (arith, few))
+    pay_few zero is few = omega arith
+    pay_few (suc zero) is few = omega arith
+    pay_few (suc (suc zero)) is few = omega arith
+    pay_few (suc (suc (suc zero))) is few = omega arith
+    pay_few (suc (suc (suc (suc zero)))) is few = omega arith
+    pay_few (suc (suc (suc (suc (suc zero))))) is few = omega arith
+few_answered d (command.Settle addr) zero judged means p q y wanted is wants shown few none = omega arith
+few_answered d (command.Settle addr) (suc zero) judged means p q y wanted is wants shown few none = omega arith
+few_answered d (command.Settle addr) (suc (suc zero)) judged means p q y wanted is wants shown few none =
+    absurd (no_close p.owed p.life q is)
+few_answered d (command.Settle addr) (suc (suc (suc rows))) judged means p q y wanted is wants shown few none =
+    absurd (omega (arith, few))
+few_answered d (command.Ident addr) rows judged means p q y wanted is wants shown few none =
+    told_by (length (ident_requests d.body) == suc rows) (length (ident_requests d.body)) rows refl few none
+few_answered d (command.Path addr place path) zero judged means p q y wanted is wants shown few none = omega arith
+few_answered d (command.Path addr place path) (suc zero) judged means p q y wanted is wants shown few none =
+    let read : cond (place == 0) GetDefault (GetPath place) ≡ q = cc in
+    let tells = path_shown (place == 0) place wanted y (ap form_of read ∙ wants) shown in
+    absurd (no_path_end tells.0 (ap (end_of_path place 2) (sym tells.1) ∙ none))
+  where
+    no_path_end : (number : ℕ) → Some (PathSet place number) ≡ None → ⊥
+    no_path_end number e = cc
+few_answered d (command.Path addr place path) (suc (suc rows)) judged means p q y wanted is wants shown few none =
+    absurd (omega (arith, few))
+few_answered d (command.Halt addr) rows judged means p q y wanted is wants shown few none = absurd (omega (arith, few))
+few_answered d command.Scan rows judged means p q y wanted is wants shown few none = absurd (omega (arith, few))
+few_answered d (command.Vend id price) rows judged means p q y wanted is wants shown few none =
+    absurd (omega (arith, few))
+
+-- and so does its last put
+same_put : (a b : Record) → puts a ≡ puts b → a ≡ b
+same_put a b e = cc
+
+abbrev EndsARound : Record → Type 0
+EndsARound r = end_of_put (command.Round 0) r ≡ None → ⊥
+
+round_put : (judged : Judged) (r : Record) → JudgedHolds EndsARound judged → put_or no_row judged ≡ puts r →
+    EndsARound r
+round_put Nothing r ends is = absurd cc
+round_put (Reading e) r ends is = subst EndsARound (same_put e r is) ends
+round_put (Broken e) r ends is = subst EndsARound (same_put e r is) ends
+
+close_ended : (o : OpenOrder) (life : ℕ) → end_of_close (close o life) ≡ None → ⊥
+unfolding close
+close_ended o life = by_test (nat_le (life_between o.life life) o.count)
+  where
+    by_test : (fits : Bool) → end_of_close (cond fits
+        (record_of.Closed o.id (life_between o.life life) (o.count - life_between o.life life))
+        (record_of.Odd o.id o.life life)) ≡ None → ⊥
+    by_test true none = cc
+    by_test false none = cc
+
+close_put : (owed : Option OpenOrder) (life : Option ℕ) (r : Record) → close_row owed life ≡ puts r →
+    end_of_close r ≡ None → ⊥
+close_put (Some o) (Some life) r is none = close_ended o life (ap end_of_close (same_put (close o life) r is) ∙ none)
+close_put (Some o) None r is none = cc
+close_put None life r is none = cc
+
+no_put_sent : (found : Option Request) (r : Record) → send_row found ≡ puts r → ⊥
+no_put_sent (Some q) r is = cc
+no_put_sent None r is = cc
+
+few_put : (d : DeviceSetup) (c : Command) (rows : ℕ) (judged : Judged) (p : Payment) (r : Record) →
+    row_at d c rows judged p ≡ puts r → JudgedHolds EndsARound judged → rows < rows_of d.body c →
+    end_of_put c r ≡ None → suc rows < rows_of d.body c
+few_put d (command.Start addr mask) zero judged p r is means few none = omega arith
+few_put d (command.Start addr mask) (suc zero) judged p r is means few none = omega arith
+few_put d (command.Start addr mask) (suc (suc zero)) judged p r is means few none = omega arith
+few_put d (command.Start addr mask) (suc (suc (suc zero))) judged p r is means few none = absurd cc
+few_put d (command.Start addr mask) (suc (suc (suc (suc rows)))) judged p r is means few none =
+    absurd (omega (arith, few))
+few_put d (command.Round addr) zero judged p r is means few none = omega arith
+few_put d (command.Round addr) (suc zero) judged p r is means few none = omega arith
+few_put d (command.Round addr) (suc (suc zero)) judged p r is means few none =
+    absurd (round_put judged r means is none)
+few_put d (command.Round addr) (suc (suc (suc rows))) judged p r is means few none = absurd (omega (arith, few))
+few_put d (command.Stop addr) zero judged p r is means few none = omega arith
+few_put d (command.Stop addr) (suc zero) judged p r is means few none = omega arith
+few_put d (command.Stop addr) (suc (suc zero)) judged p r is means few none = omega arith
+few_put d (command.Stop addr) (suc (suc (suc zero))) judged p r is means few none = omega arith
+few_put d (command.Stop addr) (suc (suc (suc (suc zero)))) judged p r is means few none =
+    absurd (stop_ended r (same_put (record_of.EpochEnd addr) r is) none)
+  where
+    stop_ended : (e : Record) → record_of.EpochEnd addr ≡ e → end_of_put (command.Stop addr) e ≡ None → ⊥
+    stop_ended e same none = some_none (ap (end_of_put (command.Stop addr)) same ∙ none)
+      where
+        some_none : Some Stopped ≡ None → ⊥
+        some_none e = cc
+few_put d (command.Stop addr) (suc (suc (suc (suc (suc rows))))) judged p r is means few none =
+    absurd (omega (arith, few))
+few_put d (command.Pay addr id count) rows judged p r is means few none = pay_few rows is few
+  where
+    pay_few : (n : ℕ) → row_at d (command.Pay addr id count) n judged p ≡ puts r → n < 7 → suc n < 7
+    pay_few (suc (suc (suc (suc (suc (suc zero)))))) is few = absurd (close_put p.owed p.life r is none)
+    pay_few (suc (suc (suc (suc (suc (suc (suc n))))))) is few = absurd (omega (arith, few))
+    pay_few zero is few = omega arith
+    pay_few (suc zero) is few = omega arith
+    pay_few (suc (suc zero)) is few = omega arith
+    pay_few (suc (suc (suc zero))) is few = omega arith
+    pay_few (suc (suc (suc (suc zero)))) is few = omega arith
+    pay_few (suc (suc (suc (suc (suc zero))))) is few = omega arith
+few_put d (command.Settle addr) zero judged p r is means few none = omega arith
+few_put d (command.Settle addr) (suc zero) judged p r is means few none = omega arith
+few_put d (command.Settle addr) (suc (suc zero)) judged p r is means few none =
+    absurd (close_put p.owed p.life r is none)
+few_put d (command.Settle addr) (suc (suc (suc rows))) judged p r is means few none = absurd (omega (arith, few))
+few_put d (command.Ident addr) rows judged p r is means few none =
+    absurd (no_put_sent (slice_get (ident_requests d.body) rows) r is)
+few_put d (command.Path addr place path) zero judged p r is means few none = omega arith
+few_put d (command.Path addr place path) (suc zero) judged p r is means few none = absurd cc
+few_put d (command.Path addr place path) (suc (suc rows)) judged p r is means few none = absurd (omega (arith, few))
+few_put d (command.Halt addr) rows judged p r is means few none = absurd (omega (arith, few))
+few_put d command.Scan rows judged p r is means few none = absurd (omega (arith, few))
+few_put d (command.Vend id price) rows judged p r is means few none = absurd (omega (arith, few))
+
+-- a dispense is no last row
+few_dispensed : (d : DeviceSetup) (c : Command) (judged : Judged) (p : Payment) (serial count : ℕ) →
+    row_at d c 3 judged p ≡ sends (Dispense serial count) → 4 < rows_of d.body c
+few_dispensed d (command.Start addr mask) judged p serial count is = absurd cc
+few_dispensed d (command.Round addr) judged p serial count is = absurd cc
+few_dispensed d (command.Stop addr) judged p serial count is =
+    absurd (no_put_or (puts (record_of.EpochEnd addr)) judged (Dispense serial count) (λ e. cc) is)
+few_dispensed d (command.Pay addr id count) judged p serial many is = omega arith
+few_dispensed d (command.Settle addr) judged p serial count is = absurd cc
+few_dispensed d (command.Ident addr) judged p serial count is = many_asked d.body
+  where
+    many_asked : (body : DeviceBody) → 4 < length (ident_requests body)
+    many_asked (Acceptor accepts values ids) = omega arith
+    many_asked (Hopper life value) = omega arith
+few_dispensed d (command.Path addr place path) judged p serial count is = absurd cc
+few_dispensed d (command.Halt addr) judged p serial count is = absurd cc
+few_dispensed d command.Scan judged p serial count is = absurd cc
+few_dispensed d (command.Vend id price) judged p serial count is = absurd cc
+
+-- an exchange of a job, what it got being told
+exchanged : (setup : Setup) (d : DeviceSetup) (c : Command) (nexts : ℕ) (past : List Entry) (since : List Line)
+    (q : Request) (found : Option Reply) → job (lines_of d past) ≡ works c since →
+    asked d.kind (ask d.kind d.addr q) ≡ Some q →
+    got_by d (ask d.kind d.addr q) (heard_after setup past (ask d.kind d.addr q)) ≡ found →
+    IfEndOf c (end_of d c (exchange (Some q) found) since (epoch (lines_of d past))) →
+    (end_of d c (exchange (Some q) found) since (epoch (lines_of d past)) ≡ None →
+    done (exchange (Some q) found ∷ since) < rows_of d.body c) →
+    rows_of d.body c + cond (is_marked (exchange (Some q) found ∷ since)) 1 0 ≤
+    done (exchange (Some q) found ∷ since) + nexts →
+    Goes d c nexts past (with_end d.addr (wire_of setup d past q) (wire_end setup d past c since q))
+exchanged setup d c nexts past since q found is_job asks_it got_is ends few enough =
+    let sent = ask d.kind d.addr q in
+    let got = got_by d sent (heard_after setup past sent) in
+    let l = exchange (Some q) found in
+    let line_is : exchange (asked d.kind sent) got ≡ l =
+    ap (λ a. exchange a got) asks_it ∙ ap (exchange (Some q)) got_is in
+    let same = job_undosed d.body d.serial (met d past) (asks_of d (heard_by_devices (pending past) sent))
+    (lines_of d past) in
+    let is_after : job (lines_of d (wire_of setup d past q ∷ past)) ≡ works c (l ∷ since) =
+    ap job (lines_wire d past sent (heard_after setup past sent))
+    ∙ ap (λ x. with_line x (job (doses_of d past sent ++ lines_of d past))) line_is
+    ∙ ap (with_line l) (same ∙ is_job) in
+    subst (λ x. Goes d c nexts past (with_end d.addr (wire_of setup d past q)
+    (end_of d c x since (epoch (lines_of d past))))) (sym line_is)
+    (goes_by d c nexts past since l (wire_of setup d past q) (end_of d c l since (epoch (lines_of d past))) is_after tt
+    ends few enough)
+
+-- an answered one brings it on
+few_by : (ended : Bool) (d : DeviceSetup) (c : Command) (rows : ℕ) (judged means : Judged) (p : Payment) (q : Request)
+    (y : Reply) (wanted : ReplyForm) → row_at d c rows judged p ≡ sends q → form_of q ≡ Some wanted →
+    form_shown y ≡ Some wanted → rows < rows_of d.body c →
+    end_of_answer d.body c (cond ended (suc rows) rows) y means ≡ None → cond ended (suc rows) rows < rows_of d.body c
+few_by true d c rows judged means p q y wanted is wants shown few none =
+    few_answered d c rows judged means p q y wanted is wants shown few none
+few_by false d c rows judged means p q y wanted is wants shown few none = few
+
+answered_there : (setup : Setup) (d : DeviceSetup) (c : Command) (nexts : ℕ) (past : List Entry) (since : List Line)
+    (q : Request) → IsSoundSetup setup → IsOf setup d → suits d.body c ≡ true → job (lines_of d past) ≡ works c since →
+    done since < rows_of d.body c →
+    rows_of d.body c + cond (is_marked since) 1 0 ≤ done since + suc nexts →
+    row_after d past c since ≡ sends q → pending past ≡ fault.Clear →
+    (is_payment c ≡ true → FoundNoneLeft d (met d past) q) → Replied d (met d past) q →
+    Goes d c nexts past (with_end d.addr (wire_of setup d past q) (wire_end setup d past c since q))
+answered_there setup d c nexts past since q sound own suited is_job few enough is_row clear found is =
+    let state = epoch (lines_of d past) in
+    let judged = judged_in c since state in
+    let p = payment_in since (order (lines_of d past)) in
+    let means = judged_in c (exchange (Some q) (Some is.y) ∷ since) state in
+    let asks = subst (RowHolds (IsOfPayment p.is_marked (is_payment c)) (λ r. ⊤)) is_row
+    (row_asks d c (done since) judged p) in
+    exchanged setup d c nexts past since q (Some is.y) is_job (asked_back d.kind d.addr q is.fits)
+    (undisturbed_got setup d past q is sound own clear)
+    (ends_of_answer d.body c (done (exchange (Some q) (Some is.y) ∷ since)) is.y means)
+    (few_by (answer_ends q is.y) d c (done since) judged means p q is.y is.form is_row is.wants is.shown few)
+    (answer_brings d (met d past) c since q is.y nexts suited asks is.replied found enough)
+
+-- and so does a dispense that the hopper refuses
+fourth_row : (rows serial count : ℕ) → IsSentAt rows (Dispense serial count) → rows ≡ 3
+fourth_row rows serial count (inl again) = absurd cc
+fourth_row rows serial count (inr once) = once.1
+
+refused_there : (setup : Setup) (d : DeviceSetup) (c : Command) (nexts : ℕ) (past : List Entry) (since : List Line)
+    (q : Request) → IsSoundSetup setup → IsOf setup d → job (lines_of d past) ≡ works c since →
+    rows_of d.body c + cond (is_marked since) 1 0 ≤ done since + suc nexts →
+    row_after d past c since ≡ sends q → pending past ≡ fault.Clear → IsRefused d (met d past) q →
+    Refused d (met d past) q →
+    Goes d c nexts past (with_end d.addr (wire_of setup d past q) (wire_end setup d past c since q))
+refused_there setup d c nexts past since (Dispense serial count) sound own is_job enough is_row clear refuses is =
+    let q = Dispense serial count in
+    let judged = judged_in c since (epoch (lines_of d past)) in
+    let p = payment_in since (order (lines_of d past)) in
+    let low = (found_in IsSound setup.devices d.addr d sound.devices own).0.serial in
+    let fourth : done since ≡ 3 = fourth_row (done since) serial count
+    (subst (RowHolds (IsSentAt (done since)) (λ r. ⊤)) is_row (sent_at d c (done since) judged p low)) in
+    let few : 4 < rows_of d.body c =
+    few_dispensed d c judged p serial count (subst (λ n. row_at d c n judged p ≡ sends q) fourth is_row) in
+    exchanged setup d c nexts past since q None is_job (asked_back d.kind d.addr q is.fits)
+    (undisturbed_refused setup d past q is sound own clear) tt (λ none. omega (arith, fourth, few))
+    (on_by true (is_marked since) (rows_of d.body c) (done since) nexts refl enough)
+refused_there setup d c nexts past since q sound own is_job enough is_row clear refuses is = absurd refuses
+
+asks_there : (setup : Setup) (d : DeviceSetup) (c : Command) (nexts : ℕ) (past : List Entry) (since : List Line)
+    (q : Request) → IsSoundSetup setup → IsOf setup d → IsCommand c → suits d.body c ≡ true →
+    job (lines_of d past) ≡ works c since → done since < rows_of d.body c →
+    rows_of d.body c + cond (is_marked since) 1 0 ≤ done since + suc nexts →
+    row_after d past c since ≡ sends q → pending past ≡ fault.Clear →
+    (is_payment c ≡ true → FoundNoneLeft d (met d past) q) →
+    Goes d c nexts past (with_end d.addr (wire_of setup d past q) (wire_end setup d past c since q))
+asks_there setup d c nexts past since q sound own known suited is_job few enough is_row clear found =
+    elim (answers_at setup past d c (done since) (judged_in c since (epoch (lines_of d past)))
+    (payment_in since (order (lines_of d past))) q sound own suited known is_row) [
+      | inl is ↦ answered_there setup d c nexts past since q sound own suited is_job few enough is_row clear found is
+      | inr is ↦ refused_there setup d c nexts past since q sound own is_job enough is_row clear is.refuses is
+    ]
+
+-- a put brings it on
+puts_there : (setup : Setup) (d : DeviceSetup) (c : Command) (nexts : ℕ) (past : List Entry) (since : List Line)
+    (r : Record) → IsOf setup d → Ids setup past → AtWork d past c since → done since < rows_of d.body c →
+    rows_of d.body c + cond (is_marked since) 1 0 ≤ done since + suc nexts → row_after d past c since ≡ puts r →
+    Goes d c nexts past (with_end d.addr (entry.Put r) (record_end d past c since r))
+puts_there setup d c nexts past since r own ids at_work few enough is_row =
+    let state = epoch (lines_of d past) in
+    let means = judged_holds EndsARound (address_of c) state (credits_read since) (mask_read since)
+    (λ counter lost posted none. cc) (λ mask counter posted none. cc) in
+    goes_by d c nexts past since (put r) (entry.Put r) (end_of_put c r)
+    (ap job (lines_put d past r (put_owned setup past d c since r own ids at_work is_row))
+    ∙ ap (with_line (put r)) at_work.job_is) tt (ends_of_put c r)
+    (few_put d c (done since) (judged_in c since state) (payment_in since (order (lines_of d past))) r is_row means few)
+    (on_by true (is_marked since) (rows_of d.body c) (done since) nexts refl enough)
+
+-- how many `next` are left behind a step
+abbrev one_fewer : ℕ → ℕ
+one_fewer zero = zero
+one_fewer (suc n) = n
+
+needed_after : Bool → ℕ → Step → ℕ → ℕ
+needed_after pays addr (step.Next other) n = cond (other == addr) (one_fewer n) n
+needed_after pays addr (step.Command (command.Halt other)) n = cond (other == addr) (cond pays (suc n) n) n
+needed_after pays addr s n = n
+
+not_fewer : (here : Bool) (n : ℕ) → cond here (suc n) n ≡ n → n ≤ cond here (one_fewer n) n
+not_fewer true n same = absurd (omega (arith, same))
+not_fewer false n same = omega arith
+
+halt_more : (here pays : Bool) (n : ℕ) → n ≤ cond here (cond pays (suc n) n) n
+halt_more true true n = omega arith
+halt_more true false n = omega arith
+halt_more false pays n = omega arith
+
+other_needs : (pays : Bool) (addr : ℕ) (s : Step) (n : ℕ) → nexts_after addr s n ≡ n → n ≤ needed_after pays addr s n
+unfolding needed_after
+other_needs pays addr (step.Next other) n same = not_fewer (other == addr) n same
+other_needs pays addr (step.Command (command.Halt other)) n same = halt_more (other == addr) pays n
+other_needs pays addr s n same = omega arith
+
+-- a halt is a line of it, for which one `next` more is needed
+halted_pays : (c : Command) (since : List Line) → can_halt (works c since) ≡ true → is_payment c ≡ true
+halted_pays (command.Pay addr id count) since can = refl
+halted_pays (command.Settle addr) since can = refl
+halted_pays c since can = absurd cc
+
+marked_more : (marked : Bool) (rows n nexts : ℕ) → rows + cond marked 1 0 ≤ n + nexts → rows + 1 ≤ n + suc nexts
+marked_more true rows n nexts enough = omega (arith, enough)
+marked_more false rows n nexts enough = omega (arith, enough)
+
+halt_there : (d : DeviceSetup) (c : Command) (nexts : ℕ) (past : List Entry) → JobAt d c nexts past →
+    Goes d c (suc nexts) past (entry.Taken (command.Halt d.addr) ∷ [])
+unfolding Goes
+halt_there d c nexts past at =
+    let l = taken (command.Halt d.addr) in
+    let after : JobAt d c (suc nexts) (entry.Taken (command.Halt d.addr) ∷ past) = record {
+      since = l ∷ at.since;
+      job_is = ap job (lines_taken d past (command.Halt d.addr) refl) ∙ ap (with_line l) at.job_is;
+      few = at.few;
+      enough = marked_more (is_marked at.since) (rows_of d.body c) (done at.since) nexts at.enough;
     } in
     inr (after, tt)
-answered setup d rows past since q x (Some end) is_job rows_done few end_is =
-    let means = judged_in (command.Round d.addr) (exchange (Some q) (Some x.y) ∷ since) (epoch (lines_of d past)) in
-    inl (inl (refl, reading_ends (suc (done since)) means end end_is))
 
--- its exchanges are those of its first two rows, and its put ends it
-sends_early : (rows : ℕ) (judged : Judged) (q : Request) → round_row rows judged ≡ sends q → suc rows < 3
-sends_early zero judged q is = omega arith
-sends_early (suc zero) judged q is = omega arith
-sends_early (suc (suc zero)) Nothing q is = absurd cc
-sends_early (suc (suc zero)) (Reading r) q is = absurd cc
-sends_early (suc (suc zero)) (Broken r) q is = absurd cc
-sends_early (suc (suc (suc rows))) judged q is = absurd cc
-
-round_asks : (setup : Setup) (d : DeviceSetup) (rows : ℕ) (past : List Entry) (since : List Line) (q : Request) →
-    IsSoundSetup setup → IsOf setup d → IsAcceptor d.body → done since ≡ rows →
-    job (lines_of d past) ≡ works (command.Round d.addr) since →
-    row d (command.Round d.addr) since (epoch (lines_of d past)) ≡ sends q →
-    AreUndisturbed d.addr past (round_news setup d past since q) →
-    Goes d (suc rows) past (round_news setup d past since q)
-round_asks setup d rows past since q sound own accepting rows_done is_job is_row undisturbed =
-    let c = command.Round d.addr in
-    let state = epoch (lines_of d past) in
-    let clear = first_clear d.addr past _ _ (wire_end setup d past c since q) undisturbed in
-    let is = replied_at setup past d c (done since) (judged_in c since state) q sound own accepting tt is_row in
-    let x = exchanged setup d past q sound own is clear in
-    let early =
-    sends_early rows (judged_in c since state) q (subst (λ n. round_row n (judged_in c since state) ≡ sends q)
-    rows_done is_row) in
-    answered setup d rows past since q x (wire_end setup d past c since q) is_job rows_done early
-    (ap (λ l. end_of d c l since state) (sym x.line_is))
-
-EndsAtPut : ℕ → Record → Type 0
-EndsAtPut addr r = EndsWell (end_of_put (command.Round addr) r)
-
-round_puts : (d : DeviceSetup) (past : List Entry) (since : List Line) (r : Record) →
-    row d (command.Round d.addr) since (epoch (lines_of d past)) ≡ puts r →
-    ShowsRoundEnd d.addr (with_end d.addr (entry.Put r) (record_end d past (command.Round d.addr) since r))
-unfolding EndsAtPut
-round_puts d past since r is_row =
-    let c = command.Round d.addr in
-    let state = epoch (lines_of d past) in
-    let means =
-    judged_holds (EndsAtPut d.addr) d.addr state (credits_read since) (mask_read since) (λ k lost ps. tt)
-    (λ mask k ps. tt) in
-    let holds =
-    each_row (λ q. ⊤) (EndsAtPut d.addr) d.body c (done since) (judged_in c since state)
-    (record { reads = tt; looks = tt; means = means }) in
-    ended_well d.addr (entry.Put r) (end_of_put c r) _ (subst (RowHolds (λ q. ⊤) (EndsAtPut d.addr)) is_row holds) refl
-
--- the command at work is the round's
-round_is : (c at_work : Command) (since others : List Line) → works c since ≡ works at_work others →
+-- the command at work is the job's
+works_same : (c at_work : Command) (since others : List Line) → works c since ≡ works at_work others →
     (at_work ≡ c) × (others ≡ since)
-round_is c at_work since others is = (cc, cc)
+works_same c at_work since others is = (cc, cc)
 
 no_free : (c : Command) (since : List Line) → works c since ≡ free → ⊥
 no_free c since is = cc
 
+-- no fault was set for its exchange, and where that asked how a payout goes, nothing was left
+first_clear : (addr : ℕ) (past : List Entry) (sent piece : List ℕ) (end : Option End) →
+    EachAtWork (LeavesAlone addr) addr past (with_end addr (entry.Wire addr sent piece) end) →
+    pending past ≡ fault.Clear
+first_clear addr past sent piece None alone = alone.0 tt refl
+first_clear addr past sent piece (Some end) alone = alone.1.0 tt refl
+
+first_found : (d : DeviceSetup) (past : List Entry) (sent piece : List ℕ) (end : Option End) →
+    EachAtWork (FindsNoneLeft d) d.addr past (with_end d.addr (entry.Wire d.addr sent piece) end) →
+    asked d.kind sent ≡ Some GetStatus → remaining d.serial (met d past) ≡ 0
+first_found d past sent piece None finds = finds.0 tt refl
+first_found d past sent piece (Some end) finds = finds.1.0 tt refl
+
 -- what each step brings at the device
-round_there : (setup : Setup) (d : DeviceSetup) (rows : ℕ) (past news : List Entry) (s : Step) → IsSoundSetup setup →
-    IsOf setup d → IsAcceptor d.body → RoundAt d rows past → AreUndisturbed d.addr past news →
-    AtDevice setup d past s news → Goes d (nexts_after d.addr s rows) past news
-unfolding Goes
-round_there setup d rows past _ _ sound own accepting round undisturbed (came s e m l comes) =
-    let is = loose d (met d past) s e m l comes in
-    subst (λ n. Goes d n past (e ∷ [])) (sym (is.no_next d.addr rows))
-    (round_left d rows past (e ∷ []) (ap job (loose_line d past s e m l is) ∙ is.same_job (lines_of d past))
-    (is.no_end d.addr) round)
-round_there setup d rows past _ _ sound own accepting round undisturbed (took c played here is_free is_taken) =
-    absurd (no_free (command.Round d.addr) round.since (sym round.job_is ∙ is_free))
-round_there setup d rows past _ _ sound own accepting round undisturbed (idled is_free) =
-    absurd (no_free (command.Round d.addr) round.since (sym round.job_is ∙ is_free))
-round_there setup d rows past _ _ sound own accepting round undisturbed (made_exchange c since q at_work is_row) =
-    let same = round_is c (command.Round d.addr) since round.since (sym at_work.job_is ∙ round.job_is) in
+record IsPlayed (setup : Setup) (d : DeviceSetup) (c : Command) : Type 0 where
+  sound : IsSoundSetup setup
+  own : IsOf setup d
+  known : IsCommand c
+  suited : suits d.body c ≡ true
+
+asked_there : (setup : Setup) (d : DeviceSetup) (c at_work : Command) (nexts : ℕ) (past : List Entry)
+    (since others : List Line) (q : Request) → IsPlayed setup d c → (at_work ≡ c) × (others ≡ since) →
+    job (lines_of d past) ≡ works c since → done since < rows_of d.body c →
+    rows_of d.body c + cond (is_marked since) 1 0 ≤ done since + suc nexts →
+    row_after d past at_work others ≡ sends q →
+    EachAtWork (LeavesAlone d.addr) d.addr past
+    (with_end d.addr (wire_of setup d past q) (wire_end setup d past at_work others q)) →
+    (is_payment c ≡ true → EachAtWork (FindsNoneLeft d) d.addr past
+    (with_end d.addr (wire_of setup d past q) (wire_end setup d past at_work others q))) →
+    Goes d c nexts past (with_end d.addr (wire_of setup d past q) (wire_end setup d past at_work others q))
+asked_there setup d c at_work nexts past since others q played same is_job few enough is_row alone finds =
+    let sent = ask d.kind d.addr q in
+    let clear = first_clear d.addr past sent (heard_after setup past sent) (wire_end setup d past at_work others q)
+    alone in
+    let same_row : row_after d past c since ≡ sends q =
+    subst (λ x. row_after d past x since ≡ sends q) same.0
+    (subst (λ x. row_after d past at_work x ≡ sends q) same.1 is_row) in
+    let asks : is_payment c ≡ true → FoundNoneLeft d (met d past) q =
+    λ pays is. first_found d past sent (heard_after setup past sent) (wire_end setup d past at_work others q)
+    (finds pays) (read_back is) in
+    subst (λ x. Goes d c nexts past (with_end d.addr (wire_of setup d past q) (wire_end setup d past x others q)))
+    (sym same.0)
+    (subst (λ x. Goes d c nexts past (with_end d.addr (wire_of setup d past q) (wire_end setup d past c x q)))
+    (sym same.1)
+    (asks_there setup d c nexts past since q played.sound played.own played.known played.suited is_job few enough
+    same_row clear asks))
+  where
+    read_back : q ≡ GetStatus → asked d.kind (ask d.kind d.addr q) ≡ Some GetStatus
+    read_back is =
+        ap (λ x. asked d.kind (ask d.kind d.addr x)) is
+        ∙ asked_back d.kind d.addr GetStatus (λ serial count e. cc)
+
+put_there : (setup : Setup) (d : DeviceSetup) (c at_work : Command) (nexts : ℕ) (past : List Entry)
+    (since others : List Line) (r : Record) → IsPlayed setup d c → Ids setup past →
+    (at_work ≡ c) × (others ≡ since) → AtWork d past c since → done since < rows_of d.body c →
+    rows_of d.body c + cond (is_marked since) 1 0 ≤ done since + suc nexts →
+    row_after d past at_work others ≡ puts r →
+    Goes d c nexts past (with_end d.addr (entry.Put r) (record_end d past at_work others r))
+put_there setup d c at_work nexts past since others r played ids same is_work few enough is_row =
+    let same_row : row_after d past c since ≡ puts r =
+    subst (λ x. row_after d past x since ≡ puts r) same.0
+    (subst (λ x. row_after d past at_work x ≡ puts r) same.1 is_row) in
+    subst (λ x. Goes d c nexts past (with_end d.addr (entry.Put r) (record_end d past x others r))) (sym same.0)
+    (puts_there setup d c nexts past since r played.own ids is_work few enough same_row)
+
+-- and what it makes of the job
+job_there : (capacity : Option ℕ) (setup : Setup) (d : DeviceSetup) (c : Command) (nexts : ℕ) (past news : List Entry)
+    (s : Step) → IsPlayed setup d c → Ids setup past → JobAt d c (suc nexts) past →
+    EachAtWork (LeavesAlone d.addr) d.addr past news →
+    (is_payment c ≡ true → EachAtWork (FindsNoneLeft d) d.addr past news) → AtDevice capacity setup d past s news →
+    Goes d c (needed_after (is_payment c) d.addr s (suc nexts)) past news
+unfolding needed_after
+job_there capacity setup d c nexts past _ _ played ids at alone finds (came s e m ls comes) =
+    let is = loose d (met d past) s e m ls comes in
+    job_left d c (suc nexts) (needed_after (is_payment c) d.addr s (suc nexts)) past (e ∷ [])
+    (other_needs (is_payment c) d.addr s (suc nexts) (is.no_next d.addr (suc nexts)))
+    (ap job (loose_line d past s e m ls is) ∙ is.same_job (lines_of d past)) (is.no_end d.addr) at
+job_there capacity setup d c nexts past _ _ played ids at alone finds
+    (took x suited here is_free is_taken is_owed lets) = absurd (no_free c at.since (sym at.job_is ∙ is_free))
+job_there capacity setup d c nexts past _ _ played ids at alone finds (halted paying can) =
+    let pays = halted_pays c at.since (subst (λ j. can_halt j ≡ true) at.job_is can) in
+    rw (eq-eqb d.addr d.addr refl, pays) (halt_there d c (suc nexts) past at)
+job_there capacity setup d c nexts past _ _ played ids at alone finds (idled is_free) =
+    absurd (no_free c at.since (sym at.job_is ∙ is_free))
+job_there capacity setup d c nexts past _ _ played ids at alone finds (made_exchange x others q at_work is_row) =
     rw (eq-eqb d.addr d.addr refl)
-    (subst (λ x. job (lines_of d past) ≡ works x since → row d x since (epoch (lines_of d past)) ≡ sends q →
-    AreUndisturbed d.addr past (with_end d.addr (wire_of setup d past q) (wire_end setup d past x since q)) →
-    Goes d (suc rows) past (with_end d.addr (wire_of setup d past q) (wire_end setup d past x since q))) same.0
-    (round_asks setup d rows past since q sound own accepting (ap done (sym same.1) ∙ round.rows_done))
-    at_work.job_is is_row undisturbed)
-round_there setup d rows past _ _ sound own accepting round undisturbed (made_put c since r at_work is_row owned) =
-    let same = round_is c (command.Round d.addr) since round.since (sym at_work.job_is ∙ round.job_is) in
-    inl (subst (λ x. row d x since (epoch (lines_of d past)) ≡ puts r →
-    ShowsRoundEnd d.addr (with_end d.addr (entry.Put r) (record_end d past x since r))) same.0
-    (round_puts d past since r) is_row)
+    (asked_there setup d c x nexts past at.since others q played
+    (works_same c x at.since others (sym at.job_is ∙ at_work.job_is)) at.job_is at.few at.enough is_row alone finds)
+job_there capacity setup d c nexts past _ _ played ids at alone finds (made_put x others r at_work is_row) =
+    let same = works_same c x at.since others (sym at.job_is ∙ at_work.job_is) in
+    let is_work : AtWork d past c at.since =
+    record { job_is = at.job_is; is_here = subst (λ y. address_of y ≡ d.addr) same.0 at_work.is_here } in
+    rw (eq-eqb d.addr d.addr refl)
+    (put_there setup d c x nexts past at.since others r played ids same is_work at.few at.enough is_row)
 
 -- entries that are none of the device
 no_end_more : (addr : ℕ) (e : Entry) (news : List Entry) → HasNoEnd addr (e ∷ []) → HasNoEnd addr news →
@@ -207,26 +681,32 @@ passed_no_end : (d : DeviceSetup) (past news : List Entry) → ArePassed d past 
 passed_no_end d past [] passes = tt
 passed_no_end d past (e ∷ news) passes = no_end_more d.addr e news passes.0.no_end (passed_no_end d past news passes.1)
 
-round_step : (setup : Setup) (d : DeviceSetup) (rows : ℕ) (past news : List Entry) (s : Step) → IsSoundSetup setup →
-    IsOf setup d → IsAcceptor d.body → RoundAt d rows past → AreUndisturbed d.addr past news →
-    Brought setup past s news →
-    Goes d (nexts_after d.addr s rows) past news
-round_step setup d rows past news s sound own accepting round undisturbed told =
-    elim (seen_from setup d past news s sound own told) [
-      | inl here ↦ round_there setup d rows past news s sound own accepting round undisturbed here
-      | inr aside ↦ (
-          let same = passed_lines d past news aside.passes in
-          subst (λ n. Goes d n past news) (sym (aside.no_next rows))
-          (round_left d rows past news (ap job same) (passed_no_end d past news aside.passes) round))
+-- no power is lost while the job is at work
+none_lost : (d : DeviceSetup) (past news : List Entry) → Lost d past news →
+    EachAtWork (LeavesAlone d.addr) d.addr past news → ⊥
+none_lost d past _ bare alone = alone.0 tt
+none_lost d past _ (kept_here c since r at_work is_row owned) alone = alone.1.0 tt
+none_lost d past _ (kept_elsewhere r away caused) alone = alone.1.0 tt
+
+job_step : (capacity : Option ℕ) (setup : Setup) (d : DeviceSetup) (c : Command) (nexts : ℕ) (past news : List Entry)
+    (s : Step) → IsPlayed setup d c → Ids setup past → JobAt d c (suc nexts) past →
+    EachAtWork (LeavesAlone d.addr) d.addr past news →
+    (is_payment c ≡ true → EachAtWork (FindsNoneLeft d) d.addr past news) → Brought capacity setup past s news →
+    Goes d c (needed_after (is_payment c) d.addr s (suc nexts)) past news
+job_step capacity setup d c nexts past news s played ids at alone finds told =
+    elim (seen_from capacity setup d past news s played.sound played.own ids told) [
+      | seen_here here ↦ job_there capacity setup d c nexts past news s played ids at alone finds here
+      | seen_aside aside ↦ job_left d c (suc nexts) (needed_after (is_payment c) d.addr s (suc nexts)) past news
+          (other_needs (is_payment c) d.addr s (suc nexts) (aside.no_next (suc nexts)))
+          (passed_job d past news aside.passes) (passed_no_end d past news aside.passes) at
+      | seen_lost lost no_next ↦ absurd (none_lost d past news lost alone)
     ]
 
--- what is undisturbed is so in its parts
-undisturbed_first : (addr : ℕ) (past news later : List Entry) → AreUndisturbed addr past (later ++ news) →
-    AreUndisturbed addr past news
-undisturbed_first addr past news [] undisturbed = undisturbed
-undisturbed_first addr past news (entry.Wire other sent piece ∷ later) undisturbed =
-    undisturbed_first addr past news later undisturbed.1
-undisturbed_first addr past news (e ∷ later) undisturbed = undisturbed_first addr past news later undisturbed
+-- what holds of entries at work holds of their parts
+work_first : (P : List Entry → Entry → Type 0) (addr : ℕ) (past news later : List Entry) →
+    EachAtWork P addr past (later ++ news) → EachAtWork P addr past news
+work_first P addr past news [] each = each
+work_first P addr past news (e ∷ later) each = work_first P addr past news later each.1
 
 no_end_both : (addr : ℕ) (news later : List Entry) → HasNoEnd addr later → HasNoEnd addr news →
     HasNoEnd addr (later ++ news)
@@ -234,71 +714,135 @@ no_end_both addr news [] first none = none
 no_end_both addr news (entry.Ended other end ∷ later) first none = (first.0, no_end_both addr news later first.1 none)
 no_end_both addr news (e ∷ later) first none = no_end_both addr news later first none
 
-undisturbed_later : (addr : ℕ) (past news later : List Entry) → HasNoEnd addr news →
-    AreUndisturbed addr past (later ++ news) → AreUndisturbed addr (news ++ past) later
-undisturbed_later addr past news [] none undisturbed = tt
-undisturbed_later addr past news (entry.Wire other sent piece ∷ later) none undisturbed = (
-  λ same first. subst (λ es. pending es ≡ fault.Clear) (append_assoc later news past)
-      (undisturbed.0 same (no_end_both addr news later first none)),
-  undisturbed_later addr past news later none undisturbed.1,
+work_later : (P : List Entry → Entry → Type 0) (addr : ℕ) (past news later : List Entry) → HasNoEnd addr news →
+    EachAtWork P addr past (later ++ news) → EachAtWork P addr (news ++ past) later
+work_later P addr past news [] none each = tt
+work_later P addr past news (e ∷ later) none each = (
+  λ first. subst (λ es. P es e) (append_assoc later news past) (each.0 (no_end_both addr news later first none)),
+  work_later P addr past news later none each.1,
 )
-undisturbed_later addr past news (e ∷ later) none undisturbed = undisturbed_later addr past news later none undisturbed
 
 -- a past that goes on
-grown : (setup : Setup) (past : List Entry) (steps : List Step) (end : List Entry) → LegalFrom setup past steps end →
-    (more : List Entry) × (end ≡ more ++ past)
-grown setup past [] end legal = ([], legal)
-grown setup past (s ∷ steps) end legal =
-    let later = grown setup (legal.0 ++ past) steps end legal.2 in
+grown : (capacity : Option ℕ) (setup : Setup) (past : List Entry) (steps : List Step) (end : List Entry) →
+    LegalFrom capacity setup past steps end → (more : List Entry) × (end ≡ more ++ past)
+grown capacity setup past [] end legal = ([], legal)
+grown capacity setup past (s ∷ steps) end legal =
+    let later = grown capacity setup (legal.0 ++ past) steps end legal.2 in
     (later.0 ++ legal.0, later.1 ∙ sym (append_assoc later.0 legal.0 past))
 
-shows_more : (addr : ℕ) (more news : List Entry) → ShowsRoundEnd addr news → ShowsRoundEnd addr (more ++ news)
-shows_more addr [] news shows = shows
-shows_more addr (entry.Ended other end ∷ more) news shows = inr (shows_more addr more news shows)
-shows_more addr (e ∷ more) news shows = shows_more addr more news shows
+shows_more : (c : Command) (addr : ℕ) (more news : List Entry) → ShowsEnd c addr news → ShowsEnd c addr (more ++ news)
+shows_more c addr [] news shows = shows
+shows_more c addr (entry.Ended other end ∷ more) news shows = inr (shows_more c addr more news shows)
+shows_more c addr (e ∷ more) news shows = shows_more c addr more news shows
 
-shows_front : (addr : ℕ) (news past : List Entry) → ShowsRoundEnd addr news → ShowsRoundEnd addr (news ++ past)
-shows_front addr [] past shows = absurd shows
-shows_front addr (entry.Ended other end ∷ news) past (inl here) = inl here
-shows_front addr (entry.Ended other end ∷ news) past (inr later) = inr (shows_front addr news past later)
-shows_front addr (e ∷ news) past shows = shows_front addr news past shows
+shows_front : (c : Command) (addr : ℕ) (news past : List Entry) → ShowsEnd c addr news → ShowsEnd c addr (news ++ past)
+shows_front c addr [] past shows = absurd shows
+shows_front c addr (entry.Ended other end ∷ news) past (inl here) = inl here
+shows_front c addr (entry.Ended other end ∷ news) past (inr later) = inr (shows_front c addr news past later)
+shows_front c addr (e ∷ news) past shows = shows_front c addr news past shows
 
-counts_by : (b : Bool) (nexts rows : ℕ) → cond b (suc nexts) nexts + rows ≡ nexts + cond b (suc rows) rows
-counts_by true nexts rows = omega arith
-counts_by false nexts rows = refl
+-- enough `next` are to come
+next_by : (here : Bool) (n halts come : ℕ) → suc n + halts ≤ cond here (suc come) come →
+    cond here n (suc n) + halts ≤ come
+next_by true n halts come enough = omega (arith, enough)
+next_by false n halts come enough = enough
 
-counts_on : (addr : ℕ) (s : Step) (nexts rows : ℕ) → nexts_after addr s nexts + rows ≡ nexts + nexts_after addr s rows
-counts_on addr (step.Next other) nexts rows = counts_by (other == addr) nexts rows
-counts_on addr s nexts rows = refl
+halt_by : (here pays : Bool) (n halts come : ℕ) → suc n + cond pays (cond here (suc halts) halts) 0 ≤ come →
+    cond here (cond pays (suc (suc n)) (suc n)) (suc n) + cond pays halts 0 ≤ come
+halt_by true true n halts come enough = omega (arith, enough)
+halt_by true false n halts come enough = enough
+halt_by false pays n halts come enough = enough
+
+step_needs : (pays : Bool) (addr : ℕ) (s : Step) (n halts come : ℕ) →
+    suc n + cond pays (halts_after addr s halts) 0 ≤ nexts_after addr s come →
+    needed_after pays addr s (suc n) + cond pays halts 0 ≤ come
+unfolding needed_after
+step_needs pays addr (step.Next other) n halts come enough = next_by (other == addr) n (cond pays halts 0) come enough
+step_needs pays addr (step.Command (command.Halt other)) n halts come enough =
+    halt_by (other == addr) pays n halts come enough
+step_needs pays addr s n halts come enough = enough
 
 -- one step after the other
-ends_along : (setup : Setup) (d : DeviceSetup) (rows : ℕ) (past : List Entry) (steps : List Step) (end : List Entry) →
-    IsSoundSetup setup → IsOf setup d → IsAcceptor d.body → 3 ≤ nexts_at d.addr steps + rows → RoundAt d rows past →
-    LegalFrom setup past steps end → IsUndisturbed d.addr past end → EndsRound d.addr past end
+ends_along : (capacity : Option ℕ) (setup : Setup) (d : DeviceSetup) (c : Command) (nexts : ℕ) (past : List Entry)
+    (steps : List Step) (end : List Entry) → IsPlayed setup d c →
+    nexts + cond (is_payment c) (halts_at d.addr steps) 0 ≤ nexts_at d.addr steps → Ids setup past →
+    JobAt d c nexts past → LegalFrom capacity setup past steps end → IsUndisturbed d.addr past end →
+    (is_payment c ≡ true → IsPaidOut d past end) → EndsAs c d.addr past end
 unfolding Goes
-ends_along setup d rows past [] end sound own accepting enough round legal undisturbed =
-    absurd (omega (arith, enough, round.few))
-ends_along setup d rows past (s ∷ steps) end sound own accepting enough round legal undisturbed =
+ends_along capacity setup d c zero past steps end played come ids at legal undisturbed paid =
+    absurd (omega (arith, at.few, at.enough))
+ends_along capacity setup d c (suc nexts) past [] end played come ids at legal undisturbed paid =
+    absurd (omega (arith, come))
+ends_along capacity setup d c (suc nexts) past (s ∷ steps) end played come ids at legal undisturbed paid =
+    let pays = is_payment c in
     let news = legal.0 in
-    let later = grown setup (news ++ past) steps end legal.2 in
+    let told = brought capacity setup past news s legal.1 in
+    let later = grown capacity setup (news ++ past) steps end legal.2 in
     let whole : end ≡ (later.0 ++ news) ++ past = later.1 ∙ sym (append_assoc later.0 news past) in
-    let first = undisturbed_first d.addr past news later.0 (undisturbed (later.0 ++ news) whole) in
-    elim (round_step setup d rows past news s sound own accepting round first (brought setup past news s legal.1)) [
-      | inl shows ↦ (later.0 ++ news, whole, shows_more d.addr later.0 news shows)
+    let alone = work_first (LeavesAlone d.addr) d.addr past news later.0 (undisturbed (later.0 ++ news) whole) in
+    let finds : pays ≡ true → EachAtWork (FindsNoneLeft d) d.addr past news =
+    λ is. work_first (FindsNoneLeft d) d.addr past news later.0 (paid is (later.0 ++ news) whole) in
+    elim (job_step capacity setup d c nexts past news s played ids at alone finds told) [
+      | inl shows ↦ (later.0 ++ news, whole, shows_more c d.addr later.0 news shows)
       | inr goes ↦ (
           let rest : IsUndisturbed d.addr (news ++ past) end =
-          λ more is. undisturbed_later d.addr past news more goes.1
+          λ more is. work_later (LeavesAlone d.addr) d.addr past news more goes.1
           (undisturbed (more ++ news) (is ∙ sym (append_assoc more news past))) in
-          let ends = ends_along setup d (nexts_after d.addr s rows) (news ++ past) steps end sound own accepting
-          (omega (arith, enough, counts_on d.addr s (nexts_at d.addr steps) rows)) goes.0 legal.2 rest in
-          (ends.0 ++ news, ends.1 ∙ sym (append_assoc ends.0 news past), shows_front d.addr ends.0 news ends.2))
+          let rest_paid : pays ≡ true → IsPaidOut d (news ++ past) end =
+          λ yes more is. work_later (FindsNoneLeft d) d.addr past news more goes.1
+          (paid yes (more ++ news) (is ∙ sym (append_assoc more news past))) in
+          let ends = ends_along capacity setup d c (needed_after pays d.addr s (suc nexts)) (news ++ past) steps end
+          played (step_needs pays d.addr s nexts (halts_at d.addr steps) (nexts_at d.addr steps) come)
+          (ids_step capacity setup past news s played.sound told ids) goes.0 legal.2 rest rest_paid in
+          (ends.0 ++ news, ends.1 ∙ sym (append_assoc ends.0 news past), shows_front c d.addr ends.0 news ends.2))
     ]
 
--- a round that was just taken ends within three `next` at its address, where no fault is set for its exchanges
-pub round_ends : (setup : Setup) (past : List Entry) (d : DeviceSetup) (steps : List Step) (end : List Entry) →
-    IsSoundSetup setup → IsOf setup d → IsAcceptor d.body → job (lines_of d past) ≡ works (command.Round d.addr) [] →
-    3 ≤ nexts_at d.addr steps → LegalFrom setup past steps end → IsUndisturbed d.addr past end →
+-- a job has a row
+has_rows : (body : DeviceBody) (c : Command) → suits body c ≡ true → 0 < rows_of body c
+has_rows body (command.Start addr mask) suited = omega arith
+has_rows body (command.Round addr) suited = omega arith
+has_rows body (command.Stop addr) suited = omega arith
+has_rows body (command.Pay addr id count) suited = omega arith
+has_rows body (command.Settle addr) suited = omega arith
+has_rows body (command.Ident addr) suited = omega arith
+has_rows body (command.Path addr place path) suited = omega arith
+has_rows (Acceptor accepts values ids) c suited = absurd cc
+has_rows (Hopper life value) c suited = absurd cc
+
+needs_by : (pays : Bool) (rows halts come : ℕ) → cond pays (rows + halts) rows ≤ come → rows + cond pays halts 0 ≤ come
+needs_by true rows halts come enough = enough
+needs_by false rows halts come enough = omega (arith, enough)
+
+-- a job that was just taken ends, where no fault is set for its exchanges, and the host keeps its power
+pub job_ends : (capacity : Option ℕ) (setup : Setup) (before : List Step) (past : List Entry) (d : DeviceSetup)
+    (c : Command) (steps : List Step) (end : List Entry) → IsSoundSetup setup → IsOf setup d → IsCommand c →
+    suits d.body c ≡ true → LegalFrom capacity setup [] before past → job (lines_of d past) ≡ works c [] →
+    nexts_needed d c steps ≤ nexts_at d.addr steps → LegalFrom capacity setup past steps end →
+    IsUndisturbed d.addr past end → (is_payment c ≡ true → IsPaidOut d past end) → EndsAs c d.addr past end
+job_ends capacity setup before past d c steps end sound own known suited was is_job enough legal undisturbed paid =
+    let played : IsPlayed setup d c = record { sound = sound; own = own; known = known; suited = suited } in
+    let ids = (along_from capacity setup (λ s. ⊤) (λ es. ⊤) sound (λ es news s any ids told holds. tt) [] before past
+    (any_steps before) (ids_start setup) was tt).0 in
+    let at : JobAt d c (rows_of d.body c) past = record {
+      since = [];
+      job_is = is_job;
+      few = has_rows d.body c suited;
+      enough = omega arith;
+    } in
+    ends_along capacity setup d c (rows_of d.body c) past steps end played
+    (needs_by (is_payment c) (rows_of d.body c) (halts_at d.addr steps) (nexts_at d.addr steps) enough) ids at legal
+    undisturbed paid
+
+-- a round does so within three `next`
+round_suits : (body : DeviceBody) (addr : ℕ) → IsAcceptor body → suits body (command.Round addr) ≡ true
+round_suits (Acceptor accepts values ids) addr accepting = refl
+round_suits (Hopper life value) addr accepting = absurd accepting
+
+pub round_ends : (capacity : Option ℕ) (setup : Setup) (before : List Step) (past : List Entry) (d : DeviceSetup)
+    (steps : List Step) (end : List Entry) → IsSoundSetup setup → IsOf setup d → IsAcceptor d.body →
+    LegalFrom capacity setup [] before past → job (lines_of d past) ≡ works (command.Round d.addr) [] →
+    3 ≤ nexts_at d.addr steps → LegalFrom capacity setup past steps end → IsUndisturbed d.addr past end →
     EndsRound d.addr past end
-round_ends setup past d steps end sound own accepting is_job enough legal undisturbed =
-    ends_along setup d zero past steps end sound own accepting (omega (arith, enough))
-    (record { since = []; job_is = is_job; rows_done = refl; few = omega arith }) legal undisturbed
+round_ends capacity setup before past d steps end sound own accepting was is_job enough legal undisturbed =
+    job_ends capacity setup before past d (command.Round d.addr) steps end sound own tt
+    (round_suits d.body d.addr accepting) was is_job enough legal undisturbed (λ pays. absurd cc)

@@ -1,11 +1,14 @@
 -- A job that ends for want of an answer had a fault set for each of its last three exchanges.
 use Rattle.std.proofs.Common.{◌≡◌, ℕ, zero, suc, ◌==◌, ◌≤◌, cond, true, false, Bool, List, [], ◌∷◌, ◌++◌, refl, sym, subst, Option, Some, None, inl, inr, MatchBool, arith, All, eq-eqb, eqb-true}
 use Rattle.std.proofs.lemmas.Bool.{true≢false, false≢true}
+use Rattle.std.proofs.lemmas.Bool.Decides.{nat_tests}
 use Rattle.cct_model.specs.terms.wire.CheckKind.{CheckKind}
 use Rattle.cct_model.specs.terms.wire.CheckKind.TheVariants.{Simple, Crc}
 use Rattle.cct_model.specs.terms.device.DeviceSetup.{DeviceSetup}
 use Rattle.cct_model.specs.terms.device.Setup.{Setup}
 use Rattle.cct_model.specs.terms.request.Request.{Request}
+use Rattle.cct_model.specs.terms.request.Request.TheVariants.{SetMask, Dispense, CipherDispense}
+use Rattle.cct_model.specs.lines.record.Record.{Record}
 use Rattle.cct_model.specs.lines.command.Command.{Command}
 use Rattle.cct_model.specs.lines.command.Command.TheVariants as command
 use Rattle.cct_model.specs.lines.command.Step.{Step}
@@ -15,22 +18,22 @@ use Rattle.cct_model.specs.lines.entry.Entry.{Entry}
 use Rattle.cct_model.specs.lines.entry.Entry.TheVariants as entry
 use Rattle.cct_model.specs.Request.{header_of}
 use Rattle.cct_model.specs.Reply.{Reply}
-use Rattle.cct_model.specs.Device.{IsAcceptor}
 use Rattle.cct_model.specs.Setup.{IsSoundSetup}
-use Rattle.cct_model.specs.Exchange.{asked, after_echo}
+use Rattle.cct_model.specs.Exchange.{asked, asks_of, after_echo}
 use Rattle.cct_model.specs.Line.{Line, accepted, inhibited, alien, fell, reset, exchange, scanned, put, taken, ended}
 use Rattle.cct_model.specs.Job.{Job, free, works, job, with_line, tries, address_of}
 use Rattle.cct_model.specs.Scan.{scan_tries}
 use Rattle.cct_model.specs.Claims.{AllPast}
 use Rattle.cct_model.specs.Legal.{Legal}
 use Rattle.cct_model.specs.Script.{IsInRange}
-use Rattle.cct_model.specs.Transcript.{own, owner, lines_of, scan_own, scan_lines, scan_line, got_by, onto}
-use Rattle.cct_laws.specs.Faults.{IsFaultSet, FailsByFault, EchoFailsByFault, begins, AreFaulted, EndsByFaults}
+use Rattle.cct_model.specs.Transcript.{pending, met, own, owner, lines_of, heard_by_devices, doses_of, scan_own, scan_lines, scan_line, got_by, onto}
+use Rattle.cct_laws.specs.Faults.{IsFaultSet, is_dispense, FailsByFaultBut, EchoFailsByFault, begins, AreFaulted, EndsByFaults}
 use Rattle.cct_laws.specs.Law.{IsOf, EachEntry}
-use Rattle.cct_laws.specs.Tries.{failed_tries, failed_in, TriesAt, HasThreeTries, ScanTriesAt}
-use Rattle.cct_laws.proofs.Faults.{legal_fails, legal_echoes}
+use Rattle.cct_laws.specs.Tries.{failed_tries, failed_in, HasThreeTries, ScanTriesAt}
+use Rattle.cct_model.proofs.Doses.{job_undosed}
+use Rattle.cct_laws.proofs.Faults.{legal_fails_but, legal_echoes}
 use Rattle.cct_laws.proofs.Scans.{IsPoll, tries_more, scan_line_is, legal_scans}
-use Rattle.cct_laws.proofs.Tries.{tries_most, legal_tries}
+use Rattle.cct_laws.proofs.Tries.{is_asked_again, AskedAgain, asked_again, asks_again, again_in, GivenUpAt, tries_by, legal_given_up}
 
 -- fewer of the newest exchanges
 fewer_by : (here : Bool) (P Q R S : Type 0) → (P → R) → (Q → S) → MatchBool here P Q → MatchBool here R S
@@ -88,79 +91,137 @@ wire_faulted addr other past sent piece false (suc few) many test less fails sam
     subst (λ b. MatchBool b (IsFaultSet past × AreFaulted addr few past) (AreFaulted addr (suc few) past)) (sym test)
     (fewer addr (suc few) many past (same refl) before)
 
--- the failed tries of a job at a device
-line_fewer : (l : Line) (j : Job) → ((since : List Line) → failed_tries (l ∷ since) ≤ failed_tries since) →
-    failed_in (with_line l j) ≤ failed_in j
+-- the failed tries of a job at a device, none where its newest exchange asked what is sent once
+abbrev counted_tries : List Line → ℕ
+counted_tries since = cond (asks_again since) (failed_tries since) 0
+
+abbrev counted : Job → ℕ
+counted free = 0
+counted (works c since) = counted_tries since
+
+line_fewer : (l : Line) (j : Job) → ((since : List Line) → counted_tries (l ∷ since) ≤ counted_tries since) →
+    counted (with_line l j) ≤ counted j
 line_fewer l free less = omega arith
 line_fewer l (works c since) less = less since
 
+none_counted : (b : Bool) (n : ℕ) → cond b 0 0 ≤ n
+none_counted true n = omega arith
+none_counted false n = omega arith
+
+-- a header that is asked again has no more failed tries than are counted
+away_from : (h n : ℕ) → (n == h) ≡ false → (h == n) ≡ false
+away_from h n other = grind (arith, nat_tests)
+
+other_header : (p q : Request) → is_asked_again p ≡ false → AskedAgain q → (header_of p == header_of q) ≡ false
+other_header (SetMask mask) q once again = away_from 231 (header_of q) again.no_mask
+other_header (Dispense serial count) q once again = away_from 167 (header_of q) again.no_dispense
+other_header CipherDispense q once again = away_from 167 (header_of q) again.no_dispense
+other_header p q once again = absurd cc
+
+again_by : (asks_it : Bool) (p q : Request) (since : List Line) → is_asked_again p ≡ asks_it → AskedAgain q →
+    cond (header_of p == header_of q) (suc (tries (header_of q) since)) 0 ≤
+    cond asks_it (suc (tries (header_of p) since)) 0
+again_by true p q since test again = tries_by (header_of q) (Some p) None since
+again_by false p q since test again = rw (other_header p q test again) (omega arith)
+
+again_most : (q : Request) (since : List Line) → AskedAgain q → tries (header_of q) since ≤ counted_tries since
+again_most q [] again = omega arith
+again_most q (exchange None found ∷ since) again = omega arith
+again_most q (exchange (Some p) (Some y) ∷ since) again = omega arith
+again_most q (exchange (Some p) None ∷ since) again = again_by (is_asked_again p) p q since refl again
+again_most q (put r ∷ since) again = omega arith
+again_most q (l ∷ since) again = again_most q since again
+
+failed_more : (asks_it : Bool) (q : Request) (since : List Line) → is_asked_again q ≡ asks_it →
+    cond asks_it (suc (tries (header_of q) since)) 0 ≤ suc (counted_tries since)
+failed_more true q since test = omega (arith, again_most q since (asked_again q test))
+failed_more false q since test = omega arith
+
 one_more : (asks : Option Request) (found : Option Reply) (j : Job) →
-    failed_in (with_line (exchange asks found) j) ≤ suc (failed_in j)
+    counted (with_line (exchange asks found) j) ≤ suc (counted j)
 one_more asks found free = omega arith
 one_more None found (works c since) = omega arith
-one_more (Some q) (Some y) (works c since) = omega arith
-one_more (Some q) None (works c since) = omega (arith, tries_most (header_of q) since)
+one_more (Some q) (Some y) (works c since) = none_counted (is_asked_again q) (suc (counted_tries since))
+one_more (Some q) None (works c since) = failed_more (is_asked_again q) q since refl
+
+-- an exchange that is counted wasn't answered, and asked no dispense
+no_dispense : (q : Request) → is_asked_again q ≡ true → is_dispense (Some q) ≡ false
+no_dispense (Dispense serial count) again = absurd cc
+no_dispense q again = refl
+
+unanswered_by : (asks_it : Bool) (q : Request) (n : ℕ) → is_asked_again q ≡ asks_it → 1 ≤ cond asks_it n 0 →
+    is_dispense (Some q) ≡ false
+unanswered_by true q n test some = no_dispense q test
+unanswered_by false q n test some = absurd (omega (arith, some))
 
 unanswered : (asks : Option Request) (found : Option Reply) (j : Job) →
-    1 ≤ failed_in (with_line (exchange asks found) j) →
-    found ≡ None
+    1 ≤ counted (with_line (exchange asks found) j) → (found ≡ None) × (is_dispense asks ≡ false)
 unanswered asks found free some = absurd (omega (arith, some))
 unanswered None found (works c since) some = absurd (omega (arith, some))
-unanswered (Some q) (Some y) (works c since) some = absurd (omega (arith, some))
-unanswered (Some q) None (works c since) some = refl
+unanswered (Some q) (Some y) (works c since) some =
+    absurd (omega (arith, some, none_counted (is_asked_again q) 0))
+unanswered (Some q) None (works c since) some = (refl, unanswered_by (is_asked_again q) q _ refl some)
 
-exchange_faulted : (d : DeviceSetup) (past : List Entry) (addr : ℕ) (sent piece : List ℕ) (here : Bool) →
-    (addr == d.addr) ≡ here →
-    FailsByFault d past (entry.Wire addr sent piece) → AreFaulted d.addr (failed_in (job (lines_of d past))) past →
-    AreFaulted d.addr (failed_in (job (cond here (exchange (asked d.kind sent) (got_by d sent piece) ∷ [])
-    [] ++ lines_of d past)))
-    (entry.Wire addr sent piece ∷ past)
-exchange_faulted d past addr sent piece true test fails before =
+exchange_faulted : (d : DeviceSetup) (past : List Entry) (addr : ℕ) (sent piece : List ℕ) (here : Bool)
+    (ls : List Line) → (addr == d.addr) ≡ here → job (ls ++ lines_of d past) ≡ job (lines_of d past) →
+    FailsByFaultBut is_dispense d past (entry.Wire addr sent piece) →
+    AreFaulted d.addr (counted (job (lines_of d past))) past →
+    AreFaulted d.addr (counted (job ((cond here (exchange (asked d.kind sent) (got_by d sent piece) ∷ []) [] ++ ls)
+    ++ lines_of d past))) (entry.Wire addr sent piece ∷ past)
+exchange_faulted d past addr sent piece true ls test same fails before =
     let j = job (lines_of d past) in
-    wire_faulted d.addr addr past sent piece true (failed_in
-    (with_line (exchange (asked d.kind sent) (got_by d sent piece)) j)) (failed_in j) test
+    let l = exchange (asked d.kind sent) (got_by d sent piece) in
+    subst (λ x. AreFaulted d.addr (counted (with_line l x)) (entry.Wire addr sent piece ∷ past)) (sym same)
+    (wire_faulted d.addr addr past sent piece true (counted (with_line l j)) (counted j) test
     (one_more (asked d.kind sent) (got_by d sent piece) j)
-    (λ some here. fails (eqb-true addr d.addr test) (unanswered (asked d.kind sent) (got_by d sent piece) j some))
-    (λ away. absurd (true≢false away)) before
-exchange_faulted d past addr sent piece false test fails before =
-    let many = failed_in (job (lines_of d past)) in
-    wire_faulted d.addr addr past sent piece false many many test (omega arith) (λ some here. absurd (false≢true here))
-    (λ away. omega arith) before
+    (λ some here. let is = unanswered (asked d.kind sent) (got_by d sent piece) j some in
+    fails (eqb-true addr d.addr test) is.1 is.0)
+    (λ away. absurd (true≢false away)) before)
+exchange_faulted d past addr sent piece false ls test same fails before =
+    let many = counted (job (lines_of d past)) in
+    subst (λ x. AreFaulted d.addr (counted x) (entry.Wire addr sent piece ∷ past)) (sym same)
+    (wire_faulted d.addr addr past sent piece false many many test (omega arith) (λ some here. absurd (false≢true here))
+    (λ away. omega arith) before)
 
 -- each failed try of it had a fault
-faulted_at : (d : DeviceSetup) (past : List Entry) (e : Entry) → FailsByFault d past e →
-    AreFaulted d.addr (failed_in (job (lines_of d past))) past →
-    AreFaulted d.addr (failed_in (job (lines_of d (e ∷ past)))) (e ∷ past)
+put_fewer : (r : Record) (j : Job) → counted (with_line (put r) j) ≤ counted j
+put_fewer r j = line_fewer (put r) j (λ since. none_counted (asks_again since) (counted_tries since))
+
+faulted_at : (d : DeviceSetup) (past : List Entry) (e : Entry) → FailsByFaultBut is_dispense d past e →
+    AreFaulted d.addr (counted (job (lines_of d past))) past →
+    AreFaulted d.addr (counted (job (lines_of d (e ∷ past)))) (e ∷ past)
 faulted_at d past (entry.Accepted addr c) fails before =
-    line_faulted failed_in d.addr past _ (addr == d.addr) (accepted c) (lines_of d past) (omega arith) (λ more h. h)
+    line_faulted counted d.addr past _ (addr == d.addr) (accepted c) (lines_of d past) (omega arith) (λ more h. h)
     before
 faulted_at d past (entry.Inhibited addr place) fails before =
-    line_faulted failed_in d.addr past _ (addr == d.addr) (inhibited place) (lines_of d past) (omega arith)
+    line_faulted counted d.addr past _ (addr == d.addr) (inhibited place) (lines_of d past) (omega arith)
     (λ more h. h) before
 faulted_at d past (entry.Alien addr) fails before =
-    line_faulted failed_in d.addr past _ (addr == d.addr) alien (lines_of d past) (omega arith) (λ more h. h) before
+    line_faulted counted d.addr past _ (addr == d.addr) alien (lines_of d past) (omega arith) (λ more h. h) before
 faulted_at d past (entry.Fell addr) fails before =
-    line_faulted failed_in d.addr past _ (addr == d.addr) fell (lines_of d past) (omega arith) (λ more h. h) before
+    line_faulted counted d.addr past _ (addr == d.addr) fell (lines_of d past) (omega arith) (λ more h. h) before
 faulted_at d past (entry.Reset addr) fails before =
-    line_faulted failed_in d.addr past _ (addr == d.addr) reset (lines_of d past) (omega arith) (λ more h. h) before
+    line_faulted counted d.addr past _ (addr == d.addr) reset (lines_of d past) (omega arith) (λ more h. h) before
 faulted_at d past (entry.Taken (command.Halt addr)) fails before =
-    line_faulted failed_in d.addr past _ (addr == d.addr) (taken (command.Halt addr)) (lines_of d past)
+    line_faulted counted d.addr past _ (addr == d.addr) (taken (command.Halt addr)) (lines_of d past)
     (line_fewer (taken (command.Halt addr)) (job (lines_of d past)) (λ since. omega arith)) (λ more h. h) before
 faulted_at d past (entry.Taken c) fails before =
-    begun_faulted failed_in d.addr past c (address_of c == d.addr) (lines_of d past) refl refl before
+    begun_faulted counted d.addr past c (address_of c == d.addr) (lines_of d past) refl refl before
 faulted_at d past (entry.Wire addr sent piece) fails before =
-    exchange_faulted d past addr sent piece (addr == d.addr) refl fails before
+    exchange_faulted d past addr sent piece (addr == d.addr) (doses_of d past sent) refl
+    (job_undosed d.body d.serial (met d past) (asks_of d (heard_by_devices (pending past) sent)) (lines_of d past))
+    fails before
 faulted_at d past (entry.Put r) fails before =
-    line_faulted failed_in d.addr past _ (owner past r == d.addr) (put r) (lines_of d past)
-    (line_fewer (put r) (job (lines_of d past)) (λ since. omega arith)) (λ more h. h) before
+    line_faulted counted d.addr past _ (owner past r == d.addr) (put r) (lines_of d past)
+    (put_fewer r (job (lines_of d past))) (λ more h. h) before
 faulted_at d past (entry.Kept r) fails before =
-    line_faulted failed_in d.addr past _ (owner past r == d.addr) (put r) (lines_of d past)
-    (line_fewer (put r) (job (lines_of d past)) (λ since. omega arith)) (λ more h. h) before
+    line_faulted counted d.addr past _ (owner past r == d.addr) (put r) (lines_of d past)
+    (put_fewer r (job (lines_of d past))) (λ more h. h) before
 faulted_at d past (entry.Ended addr end) fails before =
-    line_faulted failed_in d.addr past _ (addr == d.addr) (ended end) (lines_of d past) (omega arith) (λ more h. h)
+    line_faulted counted d.addr past _ (addr == d.addr) (ended end) (lines_of d past) (omega arith) (λ more h. h)
     before
 faulted_at d past (entry.Crash records) fails before = tt
-faulted_at d past e fails before = over d.addr (failed_in (job (lines_of d past))) past e (λ more h. h) before
+faulted_at d past e fails before = over d.addr (counted (job (lines_of d past))) past e (λ more h. h) before
 
 -- what was before a front of lines
 older_lines : (P : List Line → Line → Type 0) (front lines : List Line) → AllPast P (front ++ lines) → AllPast P lines
@@ -176,35 +237,39 @@ third_there addr other end P lines same all = by_here (other == addr) (eq-eqb ot
     by_here true is all = all.0
     by_here false is all = absurd cc
 
-ends_at : (d : DeviceSetup) (past : List Entry) (e : Entry) → AllPast TriesAt (lines_of d (e ∷ past)) →
-    AreFaulted d.addr (failed_in (job (lines_of d past))) past → EndsByFaults d.addr past e
-ends_at d past (entry.Ended addr NoAnswer) tries before =
-    λ same. subst (λ n. AreFaulted d.addr n past) (third_there d.addr addr NoAnswer TriesAt (lines_of d past)
-    same tries) before
-ends_at d past e tries before = tt
+counted_three : (j : Job) → (failed_in j ≡ 3) × (again_in j ≡ true) → counted j ≡ 3
+counted_three free given = given.0
+counted_three (works c since) given = rw (given.1) (given.0)
+
+ends_at : (d : DeviceSetup) (past : List Entry) (e : Entry) → AllPast GivenUpAt (lines_of d (e ∷ past)) →
+    AreFaulted d.addr (counted (job (lines_of d past))) past → EndsByFaults d.addr past e
+ends_at d past (entry.Ended addr NoAnswer) given before =
+    λ same. subst (λ n. AreFaulted d.addr n past) (counted_three (job (lines_of d past))
+    (third_there d.addr addr NoAnswer GivenUpAt (lines_of d past) same given)) before
+ends_at d past e given before = tt
 
 -- both, along the entries
 record Ends (addr many : ℕ) (past : List Entry) : Type 0 where
   faulted : AreFaulted addr many past
   each : EachEntry (EndsByFaults addr) past
 
-all_ends : (d : DeviceSetup) (past : List Entry) → EachEntry (FailsByFault d) past → AllPast TriesAt (lines_of d past) →
-    Ends d.addr (failed_in (job (lines_of d past))) past
-all_ends d [] fails tries = record { faulted = tt; each = tt }
-all_ends d (e ∷ past) fails tries =
-    let before = all_ends d past fails.1 (older_lines TriesAt (own d past e) (lines_of d past) tries) in
+all_ends : (d : DeviceSetup) (past : List Entry) → EachEntry (FailsByFaultBut is_dispense d) past →
+    AllPast GivenUpAt (lines_of d past) → Ends d.addr (counted (job (lines_of d past))) past
+all_ends d [] fails given = record { faulted = tt; each = tt }
+all_ends d (e ∷ past) fails given =
+    let before = all_ends d past fails.1 (older_lines GivenUpAt (own d past e) (lines_of d past) given) in
     record {
       faulted = faulted_at d past e fails.0 before.faulted;
-      each = (ends_at d past e tries before.faulted, before.each);
+      each = (ends_at d past e given before.faulted, before.each);
     }
 
 -- a job that ends for want of an answer had a fault at each of its last three exchanges
-pub legal_ends : (setup : Setup) (steps : List Step) (transcript : List Entry) (d : DeviceSetup) → IsSoundSetup setup →
-    IsOf setup d → IsAcceptor d.body → All IsInRange steps → Legal setup steps transcript →
-    EachEntry (EndsByFaults d.addr) (onto [] transcript)
-legal_ends setup steps transcript d sound own accepting in_range legal =
-    (all_ends d (onto [] transcript) (legal_fails setup steps transcript d sound own accepting in_range legal)
-    (legal_tries setup steps transcript d sound own legal)).each
+pub legal_ends : (capacity : Option ℕ) (setup : Setup) (steps : List Step) (transcript : List Entry)
+    (d : DeviceSetup) → IsSoundSetup setup → IsOf setup d → All IsInRange steps →
+    Legal capacity setup steps transcript → EachEntry (EndsByFaults d.addr) (onto [] transcript)
+legal_ends capacity setup steps transcript d sound own in_range legal =
+    (all_ends d (onto [] transcript) (legal_fails_but capacity setup steps transcript d sound own in_range legal)
+    (legal_given_up capacity setup steps transcript d sound own legal)).each
 
 -- the failed tries of a scan under a check
 abbrev scan_failed : CheckKind → Job → ℕ
@@ -296,8 +361,8 @@ all_scan_ends (e ∷ past) fails tries =
     }
 
 -- a scan that ends for want of an answer had a fault at each of its last three polls
-pub legal_scan_ends : (setup : Setup) (steps : List Step) (transcript : List Entry) → IsSoundSetup setup →
-    Legal setup steps transcript → EachEntry (EndsByFaults 0) (onto [] transcript)
-legal_scan_ends setup steps transcript sound legal =
-    (all_scan_ends (onto [] transcript) (legal_echoes setup steps transcript legal)
-    (legal_scans setup steps transcript sound legal)).each
+pub legal_scan_ends : (capacity : Option ℕ) (setup : Setup) (steps : List Step) (transcript : List Entry) →
+    IsSoundSetup setup → Legal capacity setup steps transcript → EachEntry (EndsByFaults 0) (onto [] transcript)
+legal_scan_ends capacity setup steps transcript sound legal =
+    (all_scan_ends (onto [] transcript) (legal_echoes capacity setup steps transcript legal)
+    (legal_scans capacity setup steps transcript sound legal)).each

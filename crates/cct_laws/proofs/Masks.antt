@@ -1,5 +1,5 @@
 -- Which inhibit mask an acceptor has while its epoch runs, by what it met since the epoch began.
-use Rattle.std.proofs.Common.{◌≡◌, ◌≢◌, ℕ, zero, suc, cond, List, [], ◌∷◌, refl, ap, sym, ◌∙◌, subst, Option, Some, None, inl, inr, eq-eqb}
+use Rattle.std.proofs.Common.{◌≡◌, ◌≢◌, ℕ, zero, suc, true, cond, List, [], ◌∷◌, refl, ap, sym, ◌∙◌, subst, Option, Some, None, inl, inr, eq-eqb}
 use Rattle.std.specs.Prelude.{⊤}
 use Rattle.cct_model.specs.terms.device.DeviceSetup.{DeviceSetup}
 use Rattle.cct_model.specs.terms.request.Request.{Request}
@@ -20,8 +20,10 @@ use Rattle.cct_model.specs.Reading.{coins_among}
 use Rattle.cct_model.specs.terms.coin.Coin.{Coin}
 use Rattle.cct_model.specs.Device.{IsAcceptor}
 use Rattle.cct_model.specs.Line.{Line, exchange, put}
-use Rattle.cct_model.specs.Job.{works, job, Row, sends, puts, no_row, start_row, row, done, epoch, counted, epoch_by, address_of, judged_in}
-use Rattle.cct_laws.specs.Kept.{Fate, unheard, silenced, answered, IsForOthers, with_ended}
+use Rattle.cct_model.specs.Order.{order}
+use Rattle.cct_model.specs.Job.{works, job, Row, sends, puts, no_row, start_row, payment_in, row, done, epoch, counted, epoch_by, address_of, judged_in}
+use Rattle.cct_laws.proofs.EitherKind.{for_acceptor}
+use Rattle.cct_laws.specs.Kept.{is_for_acceptor, Fate, unheard, silenced, answered, IsForOthers, with_ended}
 use Rattle.cct_laws.specs.Since.{since_record, mask_set_in, IsMaskedBy, MayBreak, IsKeptSince}
 use Rattle.cct_laws.proofs.Rows.{IfSends, RowHolds, RoundHolds, each_row, any_judged}
 use Rattle.cct_laws.proofs.World.{World, Silent, IsLive, mask_at, world}
@@ -101,19 +103,28 @@ plain_asks state (puts r) plain = absurd plain
 plain_asks state no_row plain = tt
 
 row_asks : (d : DeviceSetup) (past : List Met) (lines : List Line) (c : Command) (work : List Line) →
-    job lines ≡ works c work → Keeps past lines → IfAsks (epoch lines) (row d c work (epoch lines))
-row_asks d past lines (command.Start addr mask) work is_job keeps =
+    is_for_acceptor c ≡ true → job lines ≡ works c work → Keeps past lines →
+    IfAsks (epoch lines) (row d c work (epoch lines) (order lines))
+row_asks d past lines (command.Start addr mask) work suited is_job keeps =
     start_asks (world past lines) (book lines) addr mask (done work)
     (fits_at past lines (command.Start addr mask) work is_job keeps)
-row_asks d past lines (command.Round addr) work is_job keeps =
+row_asks d past lines (command.Round addr) work suited is_job keeps =
     let judged = judged_in (command.Round addr) work (epoch lines) in
-    each_row (Asks (epoch lines)) (λ r. ⊤) d.body (command.Round addr) (done work) judged
+    each_row (Asks (epoch lines)) (λ r. ⊤) d (command.Round addr) (done work) judged (payment_in work (order lines))
     (round_asks (epoch lines) judged)
-row_asks d past lines (command.Stop addr) work is_job keeps =
+row_asks d past lines (command.Stop addr) work suited is_job keeps =
     let judged = judged_in (command.Stop addr) work (epoch lines) in
-    each_row (Asks (epoch lines)) (λ r. ⊤) d.body (command.Stop addr) (done work) judged
+    each_row (Asks (epoch lines)) (λ r. ⊤) d (command.Stop addr) (done work) judged (payment_in work (order lines))
     (record { shuts = tt; round = round_asks (epoch lines) judged; over = tt })
-row_asks d past lines c work is_job keeps = plain_asks (epoch lines) (row d c work (epoch lines)) (plain_row d.body c (done work) (judged_in c work (epoch lines)) tt)
+row_asks d past lines (command.Ident addr) work suited is_job keeps =
+    let c = command.Ident addr in
+    plain_asks (epoch lines) (row d c work (epoch lines) (order lines))
+    (plain_row d c (done work) (judged_in c work (epoch lines)) (payment_in work (order lines)) tt)
+row_asks d past lines (command.Path addr place path) work suited is_job keeps =
+    let c = command.Path addr place path in
+    plain_asks (epoch lines) (row d c work (epoch lines) (order lines))
+    (plain_row d c (done work) (judged_in c work (epoch lines)) (payment_in work (order lines)) tt)
+row_asks d past lines c work suited is_job keeps = absurd cc
 
 -- an exchange of a job, and its end if there is one
 
@@ -160,12 +171,19 @@ masks_kept d accepting =
       asks = λ since past lines c work q asked got at_work is_row fate holds. record {
         keeps = kept.asks since past lines c work q asked got at_work is_row fate holds.keeps;
         masked = with_ended_masked _ (exchange (Some q) got ∷ lines) (heard asked ∷ since) (heard asked ∷ past)
-            (fate_masked d (epoch lines) q asked got since past (subst (IfAsks (epoch lines)) is_row (row_asks d past lines c work at_work.job_is holds.keeps)) fate holds.masked);
+            (fate_masked d (epoch lines) q asked got since past (subst (IfAsks (epoch lines)) is_row (row_asks d past lines c work (for_acceptor d.body c accepting at_work.suited) at_work.job_is holds.keeps)) fate holds.masked);
+      };
+      crashes = λ since past lines holds. record { keeps = kept.crashes since past lines holds.keeps; masked = holds.masked };
+      keeps = λ since past lines c work r at_work is_row holds. record {
+        keeps = kept.keeps since past lines c work r at_work is_row holds.keeps;
+        masked = put_masked d (epoch lines) r since past lines
+            (row_puts d past lines c work r (for_acceptor d.body c accepting at_work.suited) at_work.job_is at_work.is_here
+            is_row holds.keeps) holds.masked;
       };
       puts = λ since past lines c work r at_work is_row holds. record {
         keeps = kept.puts since past lines c work r at_work is_row holds.keeps;
         masked = with_ended_masked _ (put r ∷ lines) (since_record d r since) past
-            (put_masked d (epoch lines) r since past lines (row_puts d past lines c work r at_work.job_is at_work.is_here is_row holds.keeps) holds.masked);
+            (put_masked d (epoch lines) r since past lines (row_puts d past lines c work r (for_acceptor d.body c accepting at_work.suited) at_work.job_is at_work.is_here is_row holds.keeps) holds.masked);
       };
     }
 
@@ -205,8 +223,9 @@ unset_cause (heard asked ∷ since) none = unset_cause since none
 unset_cause (m ∷ since) none = unset_cause since none
 
 -- a job that has a break to put
-pub masks_break : (d : DeviceSetup) (since past : List Met) (lines : List Line) (c : Command) (work : List Line) (addr seen counter : ℕ) (posted : List Coin) → job lines ≡ works c work → address_of c ≡ d.addr →
-    row d c work (epoch lines) ≡ puts (record_of.Broken addr seen counter posted) → Masks since past lines → MayBreak since
-masks_break d since past lines c work addr seen counter posted is_job here is_row holds =
-    let puts_it = row_puts d past lines c work (record_of.Broken addr seen counter posted) is_job here is_row holds.keeps in
+pub masks_break : (d : DeviceSetup) (since past : List Met) (lines : List Line) (c : Command) (work : List Line)
+    (addr seen counter : ℕ) (posted : List Coin) → is_for_acceptor c ≡ true → job lines ≡ works c work → address_of c ≡ d.addr →
+    row d c work (epoch lines) (order lines) ≡ puts (record_of.Broken addr seen counter posted) → Masks since past lines → MayBreak since
+masks_break d since past lines c work addr seen counter posted suited is_job here is_row holds =
+    let puts_it = row_puts d past lines c work (record_of.Broken addr seen counter posted) suited is_job here is_row holds.keeps in
     unset_cause since (silent_unset (epoch lines) since past lines puts_it.1 puts_it.0 holds.keeps.sound.state holds.masked)

@@ -20,9 +20,9 @@ use Rattle.cct_model.specs.Device.{reply_of}
 use Rattle.cct_model.specs.Line.{Line, accepted, inhibited, exchange, taken, ended}
 use Rattle.cct_model.specs.Line as line
 use Rattle.cct_model.specs.Job.{works, job, with_line, is_once, done, epoch, credits_read, judged_in, end_of, end_of_tries, sends, puts}
-use Rattle.cct_model.specs.Legal.{is_played_command, start_refusal, running_refusal}
+use Rattle.cct_model.specs.Refusal.{start_refusal, running_refusal}
 use Rattle.cct_model.specs.Claims.{coins, mark, base, OrderAt, CoverAt, PaceAt, InOrder, Covers, Pace}
-use Rattle.cct_laws.specs.Kept.{Fate, unheard, silenced, answered, with_ended, IsTaken}
+use Rattle.cct_laws.specs.Kept.{is_for_acceptor, Fate, unheard, silenced, answered, with_ended, IsTaken}
 use Rattle.cct_laws.proofs.World.{World, world, On, on_coin, on_piece, on_reset, on_master, on_path, on_default, on_nothing}
 use Rattle.cct_laws.proofs.Fits.{Book, book, StateOf, IsIdle, IsRunning, FitsFor, Fits, state_on, for_on, fits_on}
 
@@ -127,14 +127,14 @@ running_taken : (d : DeviceSetup) (state : EpochState) → running_refusal d sta
 running_taken d Idle fine = absurd cc
 running_taken d (Running mask counter) fine = tt
 
-taken_fits : (d : DeviceSetup) (w : World) (lines : List Line) (c : Command) → is_played_command c ≡ true → IsTaken d c (epoch lines) → Fits w (book lines) (job (taken c ∷ lines))
+taken_fits : (d : DeviceSetup) (w : World) (lines : List Line) (c : Command) → is_for_acceptor c ≡ true → IsTaken d c (epoch lines) → Fits w (book lines) (job (taken c ∷ lines))
 taken_fits d w lines (command.Start addr mask) played fine = idle_taken mask d (epoch lines) fine
 taken_fits d w lines (command.Round addr) played fine = running_taken d (epoch lines) fine
 taken_fits d w lines (command.Stop addr) played fine = running_taken d (epoch lines) fine
 taken_fits d w lines (command.Halt addr) played fine = absurd cc
 taken_fits d w lines c played fine = tt
 
-pub keeps_taken : (d : DeviceSetup) (past : List Met) (lines : List Line) (c : Command) → is_played_command c ≡ true → IsTaken d c (epoch lines) →
+pub keeps_taken : (d : DeviceSetup) (past : List Met) (lines : List Line) (c : Command) → is_for_acceptor c ≡ true → IsTaken d c (epoch lines) →
     Keeps past lines → Keeps past (taken c ∷ lines)
 keeps_taken d past lines c played fine keeps = record {
   sound = sound_line past past lines (taken c) tt (λ _. tt) keeps.sound.marked keeps.sound.state keeps.sound;

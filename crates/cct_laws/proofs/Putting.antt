@@ -1,5 +1,5 @@
 -- What a record that a job has to put tells of its acceptor.
-use Rattle.std.proofs.Common.{◌≡◌, ℕ, zero, suc, List, subst, Option}
+use Rattle.std.proofs.Common.{◌≡◌, ℕ, zero, suc, true, List, subst, Option}
 use Rattle.std.specs.Prelude.{⊤}
 use Rattle.cct_model.specs.terms.coin.Credits.{Credits}
 use Rattle.cct_model.specs.terms.device.DeviceSetup.{DeviceSetup}
@@ -14,11 +14,12 @@ use Rattle.cct_model.specs.lines.command.Command.TheVariants as command
 use Rattle.cct_model.specs.History.{Met}
 use Rattle.cct_model.specs.Line.{Line}
 use Rattle.cct_model.specs.Job.{works, job, Row, puts, no_row, put_or, start_row, round_row, stop_row, row, done, epoch, credits_read, mask_read, address_of, judged_by, judged_in}
-use Rattle.cct_laws.proofs.Rows.{IfSends}
+use Rattle.cct_model.specs.Order.{order}
+use Rattle.cct_laws.specs.Kept.{is_for_acceptor}
 use Rattle.cct_laws.proofs.World.{World, Silent, world}
 use Rattle.cct_laws.proofs.Fits.{Book, book, PostsAs, BreaksAs, Ready, IsRunning, FitsStart, FitsRound, FitsStop}
 use Rattle.cct_laws.proofs.Moves.{Keeps, fits_at, entry_is}
-use Rattle.cct_laws.proofs.Acceptors.{IsPlainRequest, plain_row}
+use Rattle.cct_laws.proofs.Acceptors.{plain_puts}
 
 -- an epoch begins at the device's own address, and one that breaks runs; its acceptor is silent at both
 abbrev pub Puts : DeviceSetup → World → EpochState → Record → Type 0
@@ -85,18 +86,24 @@ stop_row_puts d w b addr r credits judged (suc (suc (suc zero))) runs fits row_i
 stop_row_puts d w b addr r credits judged (suc (suc (suc (suc zero)))) runs fits row_is = end_puts d w b addr r row_is
 stop_row_puts d w b addr r credits judged (suc (suc (suc (suc (suc rows))))) runs fits row_is = absurd cc
 
--- the row of any job
-pub row_puts : (d : DeviceSetup) (past : List Met) (lines : List Line) (c : Command) (since : List Line) (r : Record) → job lines ≡ works c since → address_of c ≡ d.addr → row d c since (epoch lines) ≡ puts r →
-    Keeps past lines → Puts d (world past lines) (epoch lines) r
-row_puts d past lines (command.Start addr mask) since r is_job here row_is keeps =
-    start_row_puts d (world past lines) (book lines) addr mask r (done since) here (fits_at past lines (command.Start addr mask) since is_job keeps) row_is
-row_puts d past lines (command.Round addr) since r is_job here row_is keeps =
+-- the row of any job at an acceptor
+pub row_puts : (d : DeviceSetup) (past : List Met) (lines : List Line) (c : Command) (since : List Line) (r : Record) →
+    is_for_acceptor c ≡ true → job lines ≡ works c since → address_of c ≡ d.addr →
+    row d c since (epoch lines) (order lines) ≡ puts r → Keeps past lines → Puts d (world past lines) (epoch lines) r
+row_puts d past lines (command.Start addr mask) since r suited is_job here row_is keeps =
+    start_row_puts d (world past lines) (book lines) addr mask r (done since) here
+    (fits_at past lines (command.Start addr mask) since is_job keeps) row_is
+row_puts d past lines (command.Round addr) since r suited is_job here row_is keeps =
     let c = command.Round addr in
-    round_row_puts d (world past lines) (book lines) r (credits_read since) (judged_in c since (epoch lines)) (done since) (judged_runs addr (epoch lines) (credits_read since) (mask_read since))
-    (fits_at past lines c since is_job keeps) row_is
-row_puts d past lines (command.Stop addr) since r is_job here row_is keeps =
+    round_row_puts d (world past lines) (book lines) r (credits_read since) (judged_in c since (epoch lines)) (done since)
+    (judged_runs addr (epoch lines) (credits_read since) (mask_read since)) (fits_at past lines c since is_job keeps) row_is
+row_puts d past lines (command.Stop addr) since r suited is_job here row_is keeps =
     let c = command.Stop addr in
-    stop_row_puts d (world past lines) (book lines) addr r (credits_read since) (judged_in c since (epoch lines)) (done since) (judged_runs addr (epoch lines) (credits_read since) (mask_read since))
+    stop_row_puts d (world past lines) (book lines) addr r (credits_read since) (judged_in c since (epoch lines))
+    (done since) (judged_runs addr (epoch lines) (credits_read since) (mask_read since))
     (fits_at past lines c since is_job keeps) row_is
-row_puts d past lines c since r is_job here row_is keeps =
-    absurd (subst (IfSends IsPlainRequest) row_is (plain_row d.body c (done since) (judged_in c since (epoch lines)) tt))
+row_puts d past lines (command.Ident addr) since r suited is_job here row_is keeps =
+    absurd (plain_puts d lines (command.Ident addr) since r tt row_is)
+row_puts d past lines (command.Path addr place path) since r suited is_job here row_is keeps =
+    absurd (plain_puts d lines (command.Path addr place path) since r tt row_is)
+row_puts d past lines c since r suited is_job here row_is keeps = absurd cc

@@ -1,28 +1,41 @@
--- What an acceptor replies that is asked for its credits or its mask.
-use Rattle.std.proofs.Common.{◌≡◌, List, refl, Some}
+-- What a device of a kind replies of its own, and what an acceptor replies that is asked for its credits or its mask.
+use Rattle.std.proofs.Common.{◌≡◌, ℕ, List, [], refl, Some}
 use Rattle.cct_model.specs.terms.device.DeviceBody.{DeviceBody}
 use Rattle.cct_model.specs.terms.device.DeviceBody.TheVariants.{Acceptor, Hopper}
 use Rattle.cct_model.specs.terms.device.DeviceSetup.{DeviceSetup}
+use Rattle.cct_model.specs.terms.request.Request.{Request}
 use Rattle.cct_model.specs.terms.request.Request.TheVariants.{ReadCredits, GetMask}
 use Rattle.cct_model.specs.Reply as reply
 use Rattle.cct_model.specs.History.{Met}
 use Rattle.cct_model.specs.Acceptor.{credits_of, mask_of, acceptor_reply}
-use Rattle.cct_model.specs.Device.{IsAcceptor, common_reply, own_reply, reply_of}
+use Rattle.cct_model.specs.Hopper.{hopper_reply}
+use Rattle.cct_model.specs.Device.{IsAcceptor, IsHopper, common_reply, own_reply, reply_of}
 
-own_credits : (body : DeviceBody) (past : List Met) → IsAcceptor body → own_reply body past ReadCredits ≡ Some (reply.credits (credits_of past))
-unfolding acceptor_reply
-own_credits (Acceptor accepts values ids) past accepting = refl
-own_credits (Hopper life value) past accepting = absurd accepting
+-- where the accept counter or the life count of a device started, and how an acceptor names the coin of a place
+abbrev pub start_of : DeviceBody → ℕ
+start_of (Acceptor accepts values ids) = accepts
+start_of (Hopper life value) = life
 
-pub replied_credits : (d : DeviceSetup) (past : List Met) → IsAcceptor d.body → reply_of d past ReadCredits ≡ Some (reply.credits (credits_of past))
-unfolding reply_of common_reply
-replied_credits d past accepting = own_credits d.body past accepting
+abbrev pub ids_of : DeviceBody → List (List ℕ)
+ids_of (Acceptor accepts values ids) = ids
+ids_of (Hopper life value) = []
 
-own_mask : (body : DeviceBody) (past : List Met) → IsAcceptor body → own_reply body past GetMask ≡ Some (reply.mask (mask_of past))
-unfolding acceptor_reply
-own_mask (Acceptor accepts values ids) past accepting = refl
-own_mask (Hopper life value) past accepting = absurd accepting
+pub acceptor_is : (serial : ℕ) (body : DeviceBody) (past : List Met) (q : Request) → IsAcceptor body →
+    own_reply serial body past q ≡ acceptor_reply (start_of body) (ids_of body) past q
+acceptor_is serial (Acceptor accepts values ids) past q accepting = refl
+acceptor_is serial (Hopper life value) past q accepting = absurd accepting
 
-pub replied_mask : (d : DeviceSetup) (past : List Met) → IsAcceptor d.body → reply_of d past GetMask ≡ Some (reply.mask (mask_of past))
-unfolding reply_of common_reply
-replied_mask d past accepting = own_mask d.body past accepting
+pub hopper_is : (serial : ℕ) (body : DeviceBody) (past : List Met) (q : Request) → IsHopper body →
+    own_reply serial body past q ≡ hopper_reply serial (start_of body) past q
+hopper_is serial (Acceptor accepts values ids) past q paying = absurd paying
+hopper_is serial (Hopper life value) past q paying = refl
+
+pub replied_credits : (d : DeviceSetup) (past : List Met) → IsAcceptor d.body →
+    reply_of d past ReadCredits ≡ Some (reply.credits (credits_of past))
+unfolding reply_of common_reply acceptor_reply
+replied_credits d past accepting = acceptor_is d.serial d.body past ReadCredits accepting
+
+pub replied_mask : (d : DeviceSetup) (past : List Met) → IsAcceptor d.body →
+    reply_of d past GetMask ≡ Some (reply.mask (mask_of past))
+unfolding reply_of common_reply acceptor_reply
+replied_mask d past accepting = acceptor_is d.serial d.body past GetMask accepting

@@ -1,26 +1,28 @@
 -- What the rows of a job at a device send and put: the one walk over them, and that each record is of the job's
 -- address.
-use Rattle.std.proofs.Common.{◌≡◌, ℕ, zero, suc, cond, true, false, Bool, List, [], ◌∷◌, refl, Option, Some, None, slice_get}
+use Rattle.std.proofs.Common.{◌≡◌, ◌∙◌, ℕ, ◌-◌, nat_le, zero, suc, cond, true, false, Bool, List, [], ◌∷◌, refl, Option, Some, None, slice_get}
 use Rattle.std.specs.Prelude.{⊤}
-use Rattle.cct_model.specs.terms.device.DeviceBody.{DeviceBody}
 use Rattle.cct_model.specs.terms.device.DeviceSetup.{DeviceSetup}
 use Rattle.cct_model.specs.terms.coin.Coin.{Coin}
 use Rattle.cct_model.specs.terms.coin.Credits.{Credits}
 use Rattle.cct_model.specs.terms.request.Request.{Request}
-use Rattle.cct_model.specs.terms.request.Request.TheVariants.{ResetDevice, SetMask, GetMask, SetMaster, ReadCredits}
+use Rattle.cct_model.specs.terms.request.Request.TheVariants.{ResetDevice, SetMask, GetMask, SetMaster, ReadCredits, Enable, Dispense, GetStatus, GetLife, StopNow}
+use Rattle.cct_model.specs.terms.request.TheConstants.{ENABLE_CODE}
 use Rattle.cct_model.specs.lines.record.Record.{Record}
 use Rattle.cct_model.specs.lines.record.Record.TheVariants as record_of
 use Rattle.cct_model.specs.declared.judging.Judged.{Judged}
 use Rattle.cct_model.specs.declared.judging.Judged.TheVariants.{Nothing, Reading, Broken}
 use Rattle.cct_model.specs.declared.judging.EpochState.{EpochState}
 use Rattle.cct_model.specs.declared.judging.EpochState.TheVariants.{Idle, Running}
+use Rattle.cct_model.specs.declared.judging.OpenOrder.{OpenOrder}
 use Rattle.cct_model.specs.lines.command.Command.{Command}
 use Rattle.cct_model.specs.lines.command.Command.TheVariants as command
 use Rattle.cct_model.specs.lines.entry.Entry.{Entry}
 use Rattle.cct_model.specs.Line.{Line}
 use Rattle.cct_model.specs.Reading.{judge}
-use Rattle.cct_model.specs.Job.{Row, sends, puts, no_row, row, row_at, put_or, send_row, ident_requests, path_set, path_read, judged_by, judged_in, credits_read, mask_read, done, address_of}
-use Rattle.cct_model.specs.Transcript.{owner}
+use Rattle.cct_model.specs.Order.{close, life_between}
+use Rattle.cct_model.specs.Job.{Row, sends, puts, no_row, row, row_at, put_or, send_row, Payment, payment_in, state_row, open_row, close_row, settle_row, ident_requests, path_set, path_read, judged_by, judged_in, credits_read, mask_read, done, address_of}
+use Rattle.cct_model.specs.Transcript.{owner, opened_at}
 
 -- a fact of the request that a row sends, and one of the record that it puts
 abbrev pub RowHolds : (Request → Type 0) → (Record → Type 0) → Row → Type 0
@@ -95,72 +97,150 @@ pub record StopHolds (P : Request → Type 0) (Q : Record → Type 0) (addr : �
   pub round : RoundHolds P Q judged
   pub over : Q (record_of.EpochEnd addr)
 
-abbrev pub CommandHolds : (Request → Type 0) → (Record → Type 0) → DeviceBody → Command → Judged → Type 0
-CommandHolds P Q body (command.Start addr mask) judged = StartHolds P Q addr mask
-CommandHolds P Q body (command.Round addr) judged = RoundHolds P Q judged
-CommandHolds P Q body (command.Stop addr) judged = StopHolds P Q addr judged
-CommandHolds P Q body (command.Ident addr) judged = Each P (ident_requests body)
-CommandHolds P Q body (command.Path addr place path) judged = P (path_set place path) × P (path_read place)
-CommandHolds P Q body c judged = ⊤
+-- of the record that closes an order, whatever life count is read
+pub record SettleHolds (P : Request → Type 0) (Q : Record → Type 0) (p : Payment) : Type 0 where
+  pub asks : P GetStatus
+  pub stops : P StopNow
+  pub reads : P GetLife
+  pub closes : (o : OpenOrder) (life : ℕ) → p.owed ≡ Some o → p.life ≡ Some life → Q (close o life)
+
+pub record PayHolds (P : Request → Type 0) (Q : Record → Type 0) (serial addr id count : ℕ) (p : Payment) : Type 0 where
+  pub enables : P (Enable ENABLE_CODE)
+  pub opens : (life : ℕ) → p.life ≡ Some life → Q (record_of.Opened id addr count life)
+  pub dispenses : P (Dispense serial count)
+  pub settles : SettleHolds P Q p
+
+abbrev pub CommandHolds : (Request → Type 0) → (Record → Type 0) → DeviceSetup → Command → Judged → Payment → Type 0
+CommandHolds P Q d (command.Start addr mask) judged p = StartHolds P Q addr mask
+CommandHolds P Q d (command.Round addr) judged p = RoundHolds P Q judged
+CommandHolds P Q d (command.Stop addr) judged p = StopHolds P Q addr judged
+CommandHolds P Q d (command.Pay addr id count) judged p = PayHolds P Q d.serial addr id count p
+CommandHolds P Q d (command.Settle addr) judged p = SettleHolds P Q p
+CommandHolds P Q d (command.Ident addr) judged p = Each P (ident_requests d.body)
+CommandHolds P Q d (command.Path addr place path) judged p = P (path_set place path) × P (path_read place)
+CommandHolds P Q d c judged p = ⊤
+
+opened_holds : (P : Request → Type 0) (Q : Record → Type 0) (addr id count : ℕ) (life : Option ℕ) →
+    ((found : ℕ) → life ≡ Some found → Q (record_of.Opened id addr count found)) →
+    RowHolds P Q (open_row addr id count life)
+opened_holds P Q addr id count None holds = tt
+opened_holds P Q addr id count (Some life) holds = holds life refl
+
+closed_holds : (P : Request → Type 0) (Q : Record → Type 0) (owed : Option OpenOrder) (life : Option ℕ) →
+    ((o : OpenOrder) (found : ℕ) → owed ≡ Some o → life ≡ Some found → Q (close o found)) →
+    RowHolds P Q (close_row owed life)
+closed_holds P Q (Some o) (Some life) holds = holds o life refl refl
+closed_holds P Q (Some o) None holds = tt
+closed_holds P Q None life holds = tt
+
+state_holds : (P : Request → Type 0) (Q : Record → Type 0) (marked : Bool) → P GetStatus → P StopNow →
+    RowHolds P Q (state_row marked)
+state_holds P Q true asks stops = stops
+state_holds P Q false asks stops = asks
+
+settled_holds : (P : Request → Type 0) (Q : Record → Type 0) (rows : ℕ) (p : Payment) → SettleHolds P Q p →
+    RowHolds P Q (settle_row rows p)
+settled_holds P Q zero p all = state_holds P Q p.is_marked all.asks all.stops
+settled_holds P Q (suc zero) p all = all.reads
+settled_holds P Q (suc (suc zero)) p all = closed_holds P Q p.owed p.life all.closes
+settled_holds P Q (suc (suc (suc rows))) p all = tt
 
 -- hold of each of its rows
-pub each_row : (P : Request → Type 0) (Q : Record → Type 0) (body : DeviceBody) (c : Command) (rows : ℕ)
-    (judged : Judged) → CommandHolds P Q body c judged → RowHolds P Q (row_at body c rows judged)
-each_row P Q body (command.Start addr mask) zero judged all = all.resets
-each_row P Q body (command.Start addr mask) (suc zero) judged all = all.reads
-each_row P Q body (command.Start addr mask) (suc (suc zero)) judged all = all.begins
-each_row P Q body (command.Start addr mask) (suc (suc (suc zero))) judged all = all.opens
-each_row P Q body (command.Start addr mask) (suc (suc (suc (suc rows)))) judged all = tt
-each_row P Q body (command.Round addr) zero judged all = all.reads
-each_row P Q body (command.Round addr) (suc zero) judged all = all.looks
-each_row P Q body (command.Round addr) (suc (suc zero)) judged all = put_holds P Q no_row judged tt all.means
-each_row P Q body (command.Round addr) (suc (suc (suc rows))) judged all = tt
-each_row P Q body (command.Stop addr) zero judged all = all.shuts
-each_row P Q body (command.Stop addr) (suc zero) judged all = all.round.reads
-each_row P Q body (command.Stop addr) (suc (suc zero)) judged all = all.round.looks
-each_row P Q body (command.Stop addr) (suc (suc (suc zero))) judged all =
+pub each_row : (P : Request → Type 0) (Q : Record → Type 0) (d : DeviceSetup) (c : Command) (rows : ℕ)
+    (judged : Judged) (p : Payment) → CommandHolds P Q d c judged p → RowHolds P Q (row_at d c rows judged p)
+each_row P Q d (command.Start addr mask) zero judged p all = all.resets
+each_row P Q d (command.Start addr mask) (suc zero) judged p all = all.reads
+each_row P Q d (command.Start addr mask) (suc (suc zero)) judged p all = all.begins
+each_row P Q d (command.Start addr mask) (suc (suc (suc zero))) judged p all = all.opens
+each_row P Q d (command.Start addr mask) (suc (suc (suc (suc rows)))) judged p all = tt
+each_row P Q d (command.Round addr) zero judged p all = all.reads
+each_row P Q d (command.Round addr) (suc zero) judged p all = all.looks
+each_row P Q d (command.Round addr) (suc (suc zero)) judged p all = put_holds P Q no_row judged tt all.means
+each_row P Q d (command.Round addr) (suc (suc (suc rows))) judged p all = tt
+each_row P Q d (command.Stop addr) zero judged p all = all.shuts
+each_row P Q d (command.Stop addr) (suc zero) judged p all = all.round.reads
+each_row P Q d (command.Stop addr) (suc (suc zero)) judged p all = all.round.looks
+each_row P Q d (command.Stop addr) (suc (suc (suc zero))) judged p all =
     put_holds P Q (puts (record_of.EpochEnd addr)) judged all.over all.round.means
-each_row P Q body (command.Stop addr) (suc (suc (suc (suc zero)))) judged all = all.over
-each_row P Q body (command.Stop addr) (suc (suc (suc (suc (suc rows))))) judged all = tt
-each_row P Q body (command.Ident addr) rows judged all = each_sent P Q (ident_requests body) rows all
-each_row P Q body (command.Path addr place path) zero judged all = all.0
-each_row P Q body (command.Path addr place path) (suc zero) judged all = all.1
-each_row P Q body (command.Path addr place path) (suc (suc rows)) judged all = tt
-each_row P Q body c rows judged all = tt
+each_row P Q d (command.Stop addr) (suc (suc (suc (suc zero)))) judged p all = all.over
+each_row P Q d (command.Stop addr) (suc (suc (suc (suc (suc rows))))) judged p all = tt
+each_row P Q d (command.Ident addr) rows judged p all = each_sent P Q (ident_requests d.body) rows all
+each_row P Q d (command.Path addr place path) zero judged p all = all.0
+each_row P Q d (command.Path addr place path) (suc zero) judged p all = all.1
+each_row P Q d (command.Path addr place path) (suc (suc rows)) judged p all = tt
+each_row P Q d (command.Pay addr id count) zero judged p all = all.enables
+each_row P Q d (command.Pay addr id count) (suc zero) judged p all = all.settles.reads
+each_row P Q d (command.Pay addr id count) (suc (suc zero)) judged p all = opened_holds P Q addr id count p.life all.opens
+each_row P Q d (command.Pay addr id count) (suc (suc (suc zero))) judged p all = all.dispenses
+each_row P Q d (command.Pay addr id count) (suc (suc (suc (suc rows)))) judged p all = settled_holds P Q rows p all.settles
+each_row P Q d (command.Settle addr) rows judged p all = settled_holds P Q rows p all
+each_row P Q d (command.Halt addr) rows judged p all = tt
+each_row P Q d command.Scan rows judged p all = tt
+each_row P Q d (command.Vend id price) rows judged p all = tt
 
--- a record is of an address, and so is what a row puts
-abbrev IsRecordOf : ℕ → Record → Type 0
-IsRecordOf addr r = (past : List Entry) → owner past r ≡ addr
+-- a record is of an address after a past, and so is what a row puts
+abbrev IsRecordOf : List Entry → ℕ → Record → Type 0
+IsRecordOf past addr r = owner past r ≡ addr
 
-abbrev pub IsOwned : ℕ → Row → Type 0
-IsOwned addr r = RowHolds (λ q. ⊤) (IsRecordOf addr) r
+abbrev pub IsOwned : List Entry → ℕ → Row → Type 0
+IsOwned past addr r = RowHolds (λ q. ⊤) (IsRecordOf past addr) r
 
-judged_owned : (addr : ℕ) (state : EpochState) (credits : Option Credits) (seen : Option ℕ) →
-    JudgedHolds (IsRecordOf addr) (judged_by addr state credits seen)
-judged_owned addr state credits seen =
-    judged_holds (IsRecordOf addr) addr state credits seen (λ counter lost posted past. refl)
-    (λ mask counter posted past. refl)
+judged_owned : (past : List Entry) (addr : ℕ) (state : EpochState) (credits : Option Credits) (seen : Option ℕ) →
+    JudgedHolds (IsRecordOf past addr) (judged_by addr state credits seen)
+judged_owned past addr state credits seen =
+    judged_holds (IsRecordOf past addr) addr state credits seen (λ counter lost posted. refl) (λ mask counter posted. refl)
 
 any_sent : (qs : List Request) → Each (λ q. ⊤) qs
 any_sent [] = tt
 any_sent (q ∷ qs) = (tt, any_sent qs)
 
-command_owned : (d : DeviceSetup) (c : Command) (since : List Line) (state : EpochState) →
-    CommandHolds (λ q. ⊤) (IsRecordOf (address_of c)) d.body c (judged_in c since state)
-command_owned d (command.Start addr mask) since state =
-    record { resets = tt; reads = tt; begins = λ past. refl; opens = tt }
-command_owned d (command.Round addr) since state =
-    record { reads = tt; looks = tt; means = judged_owned addr state (credits_read since) (mask_read since) }
-command_owned d (command.Stop addr) since state =
-    let means = judged_owned addr state (credits_read since) (mask_read since) in
-    record { shuts = tt; round = record { reads = tt; looks = tt; means = means }; over = λ past. refl }
-command_owned d (command.Ident addr) since state = any_sent (ident_requests d.body)
-command_owned d (command.Path addr place path) since state = (tt, tt)
-command_owned d c since state = tt
+-- the record that closes an order is of the address at which it was opened
+pub close_owned : (past : List Entry) (o : OpenOrder) (life : ℕ) → owner past (close o life) ≡ opened_at o.id past
+unfolding close
+close_owned past o life = by_test (nat_le (life_between o.life life) o.count)
+  where
+    by_test : (fits : Bool) → owner past (cond fits
+        (record_of.Closed o.id (life_between o.life life) (o.count - life_between o.life life))
+        (record_of.Odd o.id o.life life)) ≡ opened_at o.id past
+    by_test true = refl
+    by_test false = refl
 
--- the row of any job puts only records of its address
-pub row_owned : (d : DeviceSetup) (c : Command) (since : List Line) (state : EpochState) →
-    IsOwned (address_of c) (row d c since state)
-row_owned d c since state =
-    each_row (λ q. ⊤) (IsRecordOf (address_of c)) d.body c (done since) (judged_in c since state)
-    (command_owned d c since state)
+settle_owned : (past : List Entry) (addr : ℕ) (p : Payment) → ((o : OpenOrder) → p.owed ≡ Some o →
+    opened_at o.id past ≡ addr) → SettleHolds (λ q. ⊤) (IsRecordOf past addr) p
+settle_owned past addr p owned = record {
+  asks = tt;
+  stops = tt;
+  reads = tt;
+  closes = λ o life owed read. close_owned past o life ∙ owned o owed;
+}
+
+command_owned : (past : List Entry) (d : DeviceSetup) (c : Command) (since : List Line) (state : EpochState)
+    (owed : Option OpenOrder) → ((o : OpenOrder) → owed ≡ Some o → opened_at o.id past ≡ address_of c) →
+    CommandHolds (λ q. ⊤) (IsRecordOf past (address_of c)) d c (judged_in c since state) (payment_in since owed)
+command_owned past d (command.Start addr mask) since state owed owned =
+    record { resets = tt; reads = tt; begins = refl; opens = tt }
+command_owned past d (command.Round addr) since state owed owned =
+    record { reads = tt; looks = tt; means = judged_owned past addr state (credits_read since) (mask_read since) }
+command_owned past d (command.Stop addr) since state owed owned =
+    let means = judged_owned past addr state (credits_read since) (mask_read since) in
+    record { shuts = tt; round = record { reads = tt; looks = tt; means = means }; over = refl }
+command_owned past d (command.Pay addr id count) since state owed owned = record {
+  enables = tt;
+  opens = λ life read. refl;
+  dispenses = tt;
+  settles = settle_owned past addr (payment_in since owed) owned;
+}
+command_owned past d (command.Settle addr) since state owed owned = settle_owned past addr (payment_in since owed) owned
+command_owned past d (command.Ident addr) since state owed owned = any_sent (ident_requests d.body)
+command_owned past d (command.Path addr place path) since state owed owned = (tt, tt)
+command_owned past d (command.Halt addr) since state owed owned = tt
+command_owned past d command.Scan since state owed owned = tt
+command_owned past d (command.Vend id price) since state owed owned = tt
+
+-- the row of any job puts only records of its address, where the open order was opened there
+pub row_owned : (past : List Entry) (d : DeviceSetup) (c : Command) (since : List Line) (state : EpochState)
+    (owed : Option OpenOrder) → ((o : OpenOrder) → owed ≡ Some o → opened_at o.id past ≡ address_of c) →
+    IsOwned past (address_of c) (row d c since state owed)
+row_owned past d c since state owed owned =
+    each_row (λ q. ⊤) (IsRecordOf past (address_of c)) d c (done since) (judged_in c since state) (payment_in since owed)
+    (command_owned past d c since state owed owned)

@@ -12,14 +12,15 @@ use Rattle.cct_model.specs.lines.entry.Entry.{Entry}
 use Rattle.cct_model.specs.lines.entry.Entry.TheVariants as entry
 use Rattle.cct_model.specs.Setup.{IsSoundSetup}
 use Rattle.cct_model.specs.Exchange.{ask, after_echo}
-use Rattle.cct_model.specs.Line.{Line, scanned, ended}
+use Rattle.cct_model.specs.Line.{Line, scanned, ended, crashed}
 use Rattle.cct_model.specs.Job.{works, job, with_line}
 use Rattle.cct_model.specs.Scan.{same_check, scan_row, scan_tries, end_of_scan, end_by_row, poll_of}
 use Rattle.cct_model.specs.Claims.{AllPast}
 use Rattle.cct_model.specs.Legal.{with_end, Legal}
 use Rattle.cct_model.specs.Transcript.{scan_lines, scan_line, onto}
+use Rattle.cct_laws.specs.Ids.{Ids}
 use Rattle.cct_laws.specs.Tries.{HasFewTries, HasThreeTries, ScanTriesAt}
-use Rattle.cct_laws.proofs.Brought.{Brought, of_device, faulted, refused, began_scan, nobody, polled}
+use Rattle.cct_laws.proofs.Brought.{Brought, of_device, faulted, refused, began_scan, began_sale, nobody, polled, sold, balanced, lost_power, lost_in_put, lost_in_sale}
 use Rattle.cct_laws.proofs.Seen.{unscanned, along, any_steps}
 
 -- what holds of the lines of address 0 after every step
@@ -113,32 +114,44 @@ wire_kept past c since sent piece is_job polls =
     subst (λ l. PollsAt (with_end 0 wire (end_of_scan (l ∷ since)) ++ past)) (sym is.2)
     (poll_kept past c since wire is.0 is.1 (after_echo sent piece) (ap (λ l. l ∷ scan_lines past) is.2) is_job polls)
 
--- what each step brings at address 0
-polls_step : (setup : Setup) → IsSoundSetup setup → (past news : List Entry) (s : Step) → ⊤ →
-    Brought setup past s news →
-    PollsAt past → PollsAt (news ++ past)
-polls_step setup sound past _ _ any (of_device d s news own told) polls =
-    subst Polls (sym (unscanned setup d past news s sound own told)) polls
-polls_step setup sound past _ _ any (faulted f) polls = polls
-polls_step setup sound past _ _ any (refused c why played was) polls = polls
-polls_step setup sound past _ _ any (began_scan is_free) polls =
-    record { each = (polls.few, polls.each); few = (omega arith, omega arith) }
-polls_step setup sound past _ _ any (nobody addr none) polls = polls
-polls_step setup sound past _ _ any (polled c since check addr none is_job is_row) polls =
-    wire_kept past c since _ _ is_job polls
+-- a loss of power ends a scan
+crash_kept : (past : List Entry) → PollsAt past → Polls (crashed ∷ scan_lines past)
+crash_kept past polls = record { each = (polls.few, polls.each); few = tt }
 
-legal_polls : (setup : Setup) (steps : List Step) (transcript : List Entry) → IsSoundSetup setup →
-    Legal setup steps transcript → PollsAt (onto [] transcript)
-legal_polls setup steps transcript sound legal =
-    along setup (λ s. ⊤) PollsAt (polls_step setup sound) [] steps (onto [] transcript) (any_steps steps) legal
-    (record { each = tt; few = tt })
+-- what each step brings at address 0
+polls_step : (capacity : Option ℕ) (setup : Setup) → IsSoundSetup setup → (past news : List Entry) (s : Step) → ⊤ →
+    Ids setup past → Brought capacity setup past s news → PollsAt past → PollsAt (news ++ past)
+polls_step capacity setup sound past _ _ any ids (of_device d s news own told) polls =
+    subst Polls (sym (unscanned capacity setup d past news s sound own told)) polls
+polls_step capacity setup sound past _ _ any ids (faulted f) polls = polls
+polls_step capacity setup sound past _ _ any ids (refused c why was) polls = polls
+polls_step capacity setup sound past _ _ any ids (began_scan is_free) polls =
+    record { each = (polls.few, polls.each); few = (omega arith, omega arith) }
+polls_step capacity setup sound past _ _ any ids (began_sale id price is_free lets) polls = polls
+polls_step capacity setup sound past _ _ any ids (nobody addr none) polls = polls
+polls_step capacity setup sound past _ _ any ids (polled c since check addr none is_job is_row) polls =
+    wire_kept past c since _ _ is_job polls
+polls_step capacity setup sound past _ _ any ids (sold id price since none selling) polls = polls
+polls_step capacity setup sound past _ _ any ids balanced polls = polls
+polls_step capacity setup sound past _ _ any ids (lost_power at choice) polls = crash_kept past polls
+polls_step capacity setup sound past _ _ any ids (lost_in_put at choice d c since r own at_work is_row) polls =
+    crash_kept past polls
+polls_step capacity setup sound past _ _ any ids (lost_in_sale at choice id price since none selling) polls =
+    crash_kept past polls
+
+legal_polls : (capacity : Option ℕ) (setup : Setup) (steps : List Step) (transcript : List Entry) →
+    IsSoundSetup setup → Legal capacity setup steps transcript → PollsAt (onto [] transcript)
+legal_polls capacity setup steps transcript sound legal =
+    along capacity setup (λ s. ⊤) PollsAt sound (polls_step capacity setup sound) steps (onto [] transcript)
+    (any_steps steps) legal (record { each = tt; few = tt })
 
 -- a scan ends for want of an answer exactly after its third failed try
-pub legal_scans : (setup : Setup) (steps : List Step) (transcript : List Entry) → IsSoundSetup setup →
-    Legal setup steps transcript → AllPast ScanTriesAt (scan_lines (onto [] transcript))
-legal_scans setup steps transcript sound legal = (legal_polls setup steps transcript sound legal).each
+pub legal_scans : (capacity : Option ℕ) (setup : Setup) (steps : List Step) (transcript : List Entry) →
+    IsSoundSetup setup → Legal capacity setup steps transcript → AllPast ScanTriesAt (scan_lines (onto [] transcript))
+legal_scans capacity setup steps transcript sound legal = (legal_polls capacity setup steps transcript sound legal).each
 
 -- and no scan goes on that has three
-pub legal_few_polls : (setup : Setup) (steps : List Step) (transcript : List Entry) → IsSoundSetup setup →
-    Legal setup steps transcript → HasFewTries (job (scan_lines (onto [] transcript)))
-legal_few_polls setup steps transcript sound legal = (legal_polls setup steps transcript sound legal).few
+pub legal_few_polls : (capacity : Option ℕ) (setup : Setup) (steps : List Step) (transcript : List Entry) →
+    IsSoundSetup setup → Legal capacity setup steps transcript → HasFewTries (job (scan_lines (onto [] transcript)))
+legal_few_polls capacity setup steps transcript sound legal =
+    (legal_polls capacity setup steps transcript sound legal).few

@@ -1,5 +1,5 @@
 -- What every script says is in range: its setup and its steps.
-use Rattle.std.proofs.Common.{◌≡◌, ℕ, ◌+◌, nat_lt, Bool, true, false, cond, List, [], ◌∷◌, ◌++◌, length, refl, sym, subst, Result, Ok, Err, All, append-nil}
+use Rattle.std.proofs.Common.{◌≡◌, ℕ, ◌+◌, nat_lt, Bool, true, false, cond, List, [], ◌∷◌, ◌++◌, length, refl, sym, subst, Result, Ok, Err, Option, All, append-nil}
 use Rattle.std.specs.Prelude.{⊤}
 use Rattle.std.specs.List.{AllByRecursion, slice_split}
 use Rattle.std.proofs.lemmas.List.Elements.{All-from_recursion, All-weaker, All-nil}
@@ -145,24 +145,29 @@ pub steps_of_today : (bytes : List ℕ) → AreOfToday (script bytes).steps
 steps_of_today bytes = front_of_today bytes (script bytes).steps [] (sym (append-nil (script bytes).steps))
 
 -- a script that was played up to a step posts in order, and under the pace loses none in silence
-pub played_holds : (bytes : List ℕ) (played rest : List Step) (transcript : List Entry) (d : DeviceSetup) → (script bytes).steps ≡ played ++ rest →
-    Legal (script bytes).setup played transcript → Honest transcript → IsOf (script bytes).setup d →
+pub played_holds : (capacity : Option ℕ) (bytes : List ℕ) (played rest : List Step) (transcript : List Entry)
+    (d : DeviceSetup) → (script bytes).steps ≡ played ++ rest →
+    Legal capacity (script bytes).setup played transcript → Honest transcript → IsOf (script bytes).setup d →
     InOrder (lines_in d transcript) × (Pace (lines_in d transcript) → Covers (lines_in d transcript))
-played_holds bytes played rest transcript d fronts legal honest own =
+played_holds capacity bytes played rest transcript d fronts legal honest own =
     let setup = (script bytes).setup in
     let of_setup = setup_of_today bytes in
     let of_steps = front_of_today bytes played rest fronts in
     let accepting = (found_in (λ e. IsAcceptor e.body) setup.devices d.addr d of_setup.acceptors own).0 in (
-      legal_in_order setup played transcript d of_setup.sound own accepting of_steps.in_range legal honest,
-      legal_covers setup played transcript d of_setup.sound own accepting of_steps.in_range legal honest,
+      legal_in_order capacity setup played transcript d of_setup.sound own accepting of_steps.in_range legal honest,
+      legal_covers capacity setup played transcript d of_setup.sound own accepting of_steps.in_range legal honest,
     )
 
--- the texts of two scripts that were played up to a step tell their transcripts
-pub played_texts : (bytes other : List ℕ) (played rest others others_rest : List Step) (first second : List Entry) → (script bytes).steps ≡ played ++ rest → (script other).steps ≡ others ++ others_rest →
-    Legal (script bytes).setup played first → Legal (script other).setup others second → text first ≡ text second → first ≡ second
-played_texts bytes other played rest others others_rest first second fronts other_fronts legal other_legal same =
+-- the texts of two scripts that were played up to a step tell their transcripts, whatever the journals take
+pub played_texts : (capacity room : Option ℕ) (bytes other : List ℕ) (played rest others more : List Step)
+    (first second : List Entry) → (script bytes).steps ≡ played ++ rest → (script other).steps ≡ others ++ more →
+    Legal capacity (script bytes).setup played first → Legal room (script other).setup others second →
+    text first ≡ text second → first ≡ second
+played_texts capacity room bytes other played rest others more first second fronts other_fronts legal other_legal same =
     let steps = front_of_today bytes played rest fronts in
-    let other_steps = front_of_today other others others_rest other_fronts in
+    let other_steps = front_of_today other others more other_fronts in
     text_is_one first second
-    (legal_written (script bytes).setup played first (setup_of_today bytes).sound steps.in_range steps.bytes legal)
-    (legal_written (script other).setup others second (setup_of_today other).sound other_steps.in_range other_steps.bytes other_legal) same
+    (legal_written capacity (script bytes).setup played first (setup_of_today bytes).sound steps.in_range steps.bytes
+    legal)
+    (legal_written room (script other).setup others second (setup_of_today other).sound other_steps.in_range
+    other_steps.bytes other_legal) same

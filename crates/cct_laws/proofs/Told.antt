@@ -1,10 +1,8 @@
--- What an entry of a legal transcript tells: numbers and bytes in range.
-use Rattle.std.proofs.Common.{ℕ, zero, suc, ◌+◌, ◌-◌, ◌%◌, ◌<◌, ◌≤◌, ◌==◌, min, nat_le, Bool, true, false, cond, List, [], ◌∷◌, ◌++◌, length, take, reverse, Option, Some, None, arith, All, rules}
+-- What an entry of a legal transcript tells: bytes and masks in range.
+use Rattle.std.proofs.Common.{◌≡◌, ℕ, zero, suc, ◌-◌, ◌<◌, ◌==◌, nat_le, Bool, true, false, cond, List, [], ◌∷◌, ◌++◌, length, sym, Option, Some, None, arith, All, rules}
 use Rattle.std.specs.Prelude.{⊤, unwrap_or, option_and_then, flat_map}
-use Rattle.std.proofs.lemmas.List.{reverse-append}
-use Rattle.std.proofs.lemmas.List.Elements.{All-head, All-tail, All-nil, All-cons, All-push}
+use Rattle.std.proofs.lemmas.List.Elements.{All-head, All-tail, All-nil, All-cons}
 use Rattle.cct_model.specs.terms.coin.Coin.{Coin}
-use Rattle.cct_model.specs.terms.coin.Pair.{Pair}
 use Rattle.cct_model.specs.terms.coin.Credits.{Credits}
 use Rattle.cct_model.specs.terms.wire.CheckKind.{CheckKind}
 use Rattle.cct_model.specs.terms.device.DeviceBody.{DeviceBody}
@@ -12,17 +10,16 @@ use Rattle.cct_model.specs.terms.device.DeviceBody.TheVariants.{Acceptor, Hopper
 use Rattle.cct_model.specs.terms.device.DeviceSetup.{DeviceSetup}
 use Rattle.cct_model.specs.terms.device.Setup.{Setup}
 use Rattle.cct_model.specs.terms.request.Request.{Request}
-use Rattle.cct_model.specs.terms.request.Request.TheVariants.{ReadCredits, SetMask, GetMask}
+use Rattle.cct_model.specs.terms.request.Request.TheVariants.{SetMask, GetMask, Dispense}
 use Rattle.cct_model.specs.lines.record.Record.{Record}
 use Rattle.cct_model.specs.lines.record.Record.TheVariants as record_of
 use Rattle.cct_model.specs.declared.judging.Judged.{Judged}
 use Rattle.cct_model.specs.declared.judging.Judged.TheVariants.{Nothing, Reading, Broken}
 use Rattle.cct_model.specs.declared.judging.EpochState.{EpochState}
 use Rattle.cct_model.specs.declared.judging.EpochState.TheVariants.{Running}
+use Rattle.cct_model.specs.declared.judging.OpenOrder.{OpenOrder}
 use Rattle.cct_model.specs.lines.command.Command.{Command}
 use Rattle.cct_model.specs.lines.command.Command.TheVariants as command
-use Rattle.cct_model.specs.lines.command.CommandNo.{CommandNo}
-use Rattle.cct_model.specs.lines.command.CommandNo.TheVariants as refusals
 use Rattle.cct_model.specs.lines.command.WireFault.{WireFault}
 use Rattle.cct_model.specs.lines.command.WireFault.TheVariants as fault
 use Rattle.cct_model.specs.lines.entry.End.{End}
@@ -32,95 +29,61 @@ use Rattle.cct_model.specs.lines.entry.Entry.TheVariants as entry
 use Rattle.cct_model.specs.Request.{header_of, data_of, form_of}
 use Rattle.cct_model.specs.Reply.{Reply}
 use Rattle.cct_model.specs.Reply as reply
-use Rattle.cct_model.specs.History.{Met, coin, alien, reset}
+use Rattle.cct_model.specs.History.{Met, coin, alien, fall, jam, reset}
 use Rattle.cct_model.specs.Device.{IsSound}
-use Rattle.cct_model.specs.Exchange.{ask, asked, asking, answer, got, put_by_address, by_address}
+use Rattle.cct_model.specs.Exchange.{ask, asked, asks_of, asking, answer, got, put_by_address, by_address}
+use Rattle.cct_model.specs.Hopper.{taken_of}
 use Rattle.cct_model.specs.Line.{Line, accepted, inhibited, fell, exchange, scanned, put, taken, ended, crashed}
 use Rattle.cct_model.specs.Line as line
-use Rattle.cct_model.specs.Reading.{coins_among, posted_of, distance, shows_break, judge}
-use Rattle.cct_model.specs.Job.{Job, free, works, job, begun, with_line, done, credits_reply, credits_line, credits_read, mask_reply, mask_line, mask_read, judged_by, judged_in, Row, ident_requests, row, address_of, tries, end_of_put, end_of_start, end_of_reading, end_of_round, end_of_path, end_of_answer, end_of_tries, end_of_failure, end_of}
-use Rattle.cct_model.specs.Transcript.{pending, heard_by_devices, heard_by_host, met, answers, heard_after, got_by, owner, lines_of}
+use Rattle.cct_model.specs.Reading.{judge}
+use Rattle.cct_model.specs.Order.{close, life_between}
+use Rattle.cct_model.specs.Job.{Job, free, works, job, begun, with_line, done, credits_read, mask_reply, mask_line, mask_read, judged_by, judged_in, Row, Payment, payment_in, ident_requests, row, address_of, tries, end_of_close, end_of_put, end_of_start, end_of_reading, end_of_round, end_of_path, end_of_answer, end_of_failure, end_of}
+use Rattle.cct_model.specs.Transcript.{pending, heard_by_devices, heard_by_host, met, answers, heard_after, got_by, dispensed_by, doses, doses_of, owner, lines_of}
 use Rattle.cct_model.proofs.Requests.{request_short}
-use Rattle.cct_text.specs.Written.{IsNumber, IsCoin, IsCommand, IsReason, IsRecord, IsFault, IsEnd, IsWritten}
+use Rattle.cct_text.specs.Written.{IsMask, IsCommand, IsRecord, IsFault, IsEnd, IsWritten}
 use Rattle.cct_laws.proofs.Said.{IfThere}
-use Rattle.cct_laws.proofs.Rows.{Each, RowHolds, JudgedHolds, RoundHolds, CommandHolds, each_row}
-use Rattle.cct_laws.proofs.Bytes.{Bytes, bytes_are, are_bytes, bytes_more, spelled_bytes, FitsPairs, FitsReply, got_fits}
-use Rattle.cct_laws.proofs.Answering.{FitsMet, FitsAll, pairs_taken, there_or, answer_bytes, asks_fit}
+use Rattle.cct_laws.proofs.Rows.{Each, RowHolds, JudgedHolds, RoundHolds, SettleHolds, CommandHolds, each_row}
+use Rattle.cct_laws.proofs.Bytes.{Bytes, bytes_are, are_bytes, bytes_more, spelled_bytes, FitsReply, got_fits}
+use Rattle.cct_laws.proofs.Answering.{FitsMet, FitsAll, there_or, answer_bytes, asks_fit}
 
--- a command that is played, whose numbers are in range
-abbrev pub IsPlayed : Command → Type 0
-IsPlayed (command.Start addr mask) = (addr < 256) × (mask < 65536)
-IsPlayed (command.Round addr) = addr < 256
-IsPlayed (command.Stop addr) = addr < 256
-IsPlayed command.Scan = ⊤
-IsPlayed (command.Ident addr) = addr < 256
-IsPlayed (command.Path addr place path) = (addr < 256) × (place ≤ 16) × (path ≤ 8)
-IsPlayed c = ⊥
+-- a command whose mask has 16 bits, and whose count, place and path are bytes
+abbrev pub FitsCommand : Command → Type 0
+FitsCommand (command.Start addr mask) = mask < 65536
+FitsCommand (command.Pay addr id count) = count < 256
+FitsCommand (command.Path addr place path) = (place < 256) × (path < 256)
+FitsCommand c = ⊤
 
--- why such a command is refused
-abbrev pub IsPlain : CommandNo → Type 0
-IsPlain refusals.NoDevice = ⊤
-IsPlain refusals.WrongKind = ⊤
-IsPlain refusals.Busy = ⊤
-IsPlain refusals.EpochRuns = ⊤
-IsPlain refusals.NoEpoch = ⊤
-IsPlain (refusals.NoValue place) = place ≤ 16
-IsPlain why = ⊥
-
--- an entry tells numbers and bytes in range
+-- an entry tells bytes and masks in range; a load's sums are none of a script's entries
 abbrev pub IsTold : Entry → Type 0
-IsTold (entry.Accepted addr c) = (addr < 256) × (c.place < 256) × (c.path < 256)
-IsTold (entry.Inhibited addr place) = (addr < 256) × (place < 256)
-IsTold (entry.Alien addr) = addr < 256
-IsTold (entry.Reset addr) = addr < 256
+IsTold (entry.Accepted addr c) = c.place < 256
+IsTold (entry.Inhibited addr place) = place < 256
 IsTold (entry.Fault f) = IsFault f
-IsTold (entry.Taken c) = IsPlayed c
-IsTold (entry.No c why) = IsPlayed c × IsPlain why
-IsTold (entry.Idle addr) = addr < 256
-IsTold (entry.Wire addr sent piece) = (addr < 256) × Bytes sent × Bytes piece
+IsTold (entry.Taken c) = FitsCommand c
+IsTold (entry.No c why) = FitsCommand c
+IsTold (entry.Wire addr sent piece) = Bytes sent × Bytes piece
 IsTold (entry.Put r) = IsRecord r
+IsTold (entry.Kept r) = IsRecord r
 IsTold (entry.Ended addr end) = IsEnd addr end
-IsTold e = ⊥
+IsTold (entry.Listing index r) = IsRecord r
+IsTold (entry.Sum what amount) = ⊥
+IsTold e = ⊤
 
 abbrev pub AllTold : List Entry → Type 0
 AllTold [] = ⊤
 AllTold (e ∷ past) = IsTold e × AllTold past
 
 -- such an entry is written
-byte_number : (n : ℕ) → n < 256 → IsNumber n
-byte_number n h = omega (arith, h)
+command_written : (c : Command) → FitsCommand c → IsCommand c
+command_written (command.Start addr mask) h = omega (arith, h)
+command_written c h = tt
 
-command_numbers : (c : Command) → IsPlayed c → IsCommand c
-command_numbers (command.Start addr mask) h = (byte_number addr h.0, omega (arith, h.1))
-command_numbers (command.Round addr) h = byte_number addr h
-command_numbers (command.Stop addr) h = byte_number addr h
-command_numbers command.Scan h = tt
-command_numbers (command.Ident addr) h = byte_number addr h
-command_numbers (command.Path addr place path) h = (byte_number addr h.0, omega (arith, h.1), omega (arith, h.2))
-command_numbers c h = absurd h
-
-reason_numbers : (why : CommandNo) → IsPlain why → IsReason why
-reason_numbers refusals.NoDevice h = tt
-reason_numbers refusals.WrongKind h = tt
-reason_numbers refusals.Busy h = tt
-reason_numbers refusals.EpochRuns h = tt
-reason_numbers refusals.NoEpoch h = tt
-reason_numbers (refusals.NoValue place) h = omega (arith, h)
-reason_numbers why h = absurd h
-
-pub told_written : (e : Entry) → IsTold e → IsWritten e
-told_written (entry.Accepted addr c) h = (byte_number addr h.0, (byte_number c.place h.1, byte_number c.path h.2))
-told_written (entry.Inhibited addr place) h = (byte_number addr h.0, byte_number place h.1)
-told_written (entry.Alien addr) h = byte_number addr h
-told_written (entry.Reset addr) h = byte_number addr h
-told_written (entry.Fault f) h = h
-told_written (entry.Taken c) h = command_numbers c h
-told_written (entry.No c why) h = (command_numbers c h.0, reason_numbers why h.1)
-told_written (entry.Idle addr) h = byte_number addr h
-told_written (entry.Wire addr sent piece) h = (byte_number addr h.0, bytes_are sent h.1, bytes_are piece h.2)
-told_written (entry.Put r) h = h
-told_written (entry.Ended addr end) h = h
-told_written e h = absurd h
+told_written : (e : Entry) → IsTold e → IsWritten e
+told_written (entry.Taken c) h = command_written c h
+told_written (entry.No c why) h = command_written c h
+told_written (entry.Wire addr sent piece) h = (bytes_are sent h.0, bytes_are piece h.1)
+told_written (entry.Accepted addr c) h = tt
+told_written (entry.Inhibited addr place) h = tt
+told_written e h = h
 
 pub all_written : (past : List Entry) → AllTold past → All IsWritten past
 all_written [] h = All-nil IsWritten
@@ -129,7 +92,7 @@ all_written (e ∷ past) h = All-cons IsWritten e past (told_written e h.0) (all
 -- what a line tells
 abbrev FitsLine : Line → Type 0
 FitsLine (exchange asks found) = IfThere FitsReply found
-FitsLine (taken c) = IsPlayed c
+FitsLine (taken c) = FitsCommand c
 FitsLine l = ⊤
 
 abbrev FitsLines : List Line → Type 0
@@ -148,21 +111,40 @@ got_by_fits d sent piece h = by_form (option_and_then form_of (asked d.kind sent
     by_form None = tt
     by_form (Some f) = got_fits d.kind d.addr f sent piece h
 
+-- an exchange, and the dispense that a hopper took in it
+dosed_fit : (took : Option ℕ) (lines : List Line) → FitsLines lines → FitsLines (dispensed_by took ++ lines)
+dosed_fit None lines h = h
+dosed_fit (Some count) lines h = (tt, h)
+
+doses_fit : (body : DeviceBody) (own : ℕ) (past : List Met) (asks : Option Request) (lines : List Line) →
+    FitsLines lines → FitsLines (doses body own past asks ++ lines)
+doses_fit (Acceptor accepts values ids) own past asks lines h = h
+doses_fit (Hopper life value) own past asks lines h = dosed_fit (taken_of own past asks) lines h
+
+wire_if : (b : Bool) (l : Line) (dosed lines : List Line) → FitsLine l → FitsLines (dosed ++ lines) →
+    FitsLines ((cond b (l ∷ []) [] ++ dosed) ++ lines)
+wire_if true l dosed lines h k = (h, k)
+wire_if false l dosed lines h k = k
+
 lines_fit : (d : DeviceSetup) (past : List Entry) → AllTold past → FitsLines (lines_of d past)
 lines_fit d [] h = tt
 lines_fit d (entry.Accepted addr c ∷ past) h = lines_if (addr == d.addr) (accepted c) (lines_of d past) tt (lines_fit d past h.1)
 lines_fit d (entry.Inhibited addr place ∷ past) h = lines_if (addr == d.addr) (inhibited place) (lines_of d past) tt (lines_fit d past h.1)
 lines_fit d (entry.Alien addr ∷ past) h = lines_if (addr == d.addr) line.alien (lines_of d past) tt (lines_fit d past h.1)
+lines_fit d (entry.Fell addr ∷ past) h = lines_if (addr == d.addr) fell (lines_of d past) tt (lines_fit d past h.1)
 lines_fit d (entry.Reset addr ∷ past) h = lines_if (addr == d.addr) line.reset (lines_of d past) tt (lines_fit d past h.1)
 lines_fit d (entry.Taken c ∷ past) h = lines_if (address_of c == d.addr) (taken c) (lines_of d past) h.0 (lines_fit d past h.1)
 lines_fit d (entry.Wire addr sent piece ∷ past) h =
-    lines_if (addr == d.addr) (exchange (asked d.kind sent) (got_by d sent piece)) (lines_of d past) (got_by_fits d sent piece h.0.2) (lines_fit d past h.1)
+    wire_if (addr == d.addr) (exchange (asked d.kind sent) (got_by d sent piece)) (doses_of d past sent)
+    (lines_of d past) (got_by_fits d sent piece h.0.1)
+    (doses_fit d.body d.serial (met d past) (asks_of d (heard_by_devices (pending past) sent)) (lines_of d past)
+    (lines_fit d past h.1))
 lines_fit d (entry.Put r ∷ past) h = lines_if (owner past r == d.addr) (put r) (lines_of d past) tt (lines_fit d past h.1)
+lines_fit d (entry.Kept r ∷ past) h =
+    lines_if (owner past r == d.addr) (put r) (lines_of d past) tt (lines_fit d past h.1)
 lines_fit d (entry.Ended addr end ∷ past) h = lines_if (addr == d.addr) (ended end) (lines_of d past) tt (lines_fit d past h.1)
-lines_fit d (entry.Fault f ∷ past) h = lines_fit d past h.1
-lines_fit d (entry.No c why ∷ past) h = lines_fit d past h.1
-lines_fit d (entry.Idle addr ∷ past) h = lines_fit d past h.1
-lines_fit d (e ∷ past) h = absurd h.0
+lines_fit d (entry.Crash records ∷ past) h = (tt, lines_fit d past h.1)
+lines_fit d (e ∷ past) h = lines_fit d past h.1
 
 -- the fault that is set, and what is heard under it
 pending_fits : (past : List Entry) → AllTold past → IsFault (pending past)
@@ -187,19 +169,20 @@ met_if false m ms h k = k
 
 met_fits : (d : DeviceSetup) (past : List Entry) → AllTold past → FitsAll (met d past)
 met_fits d [] h = tt
-met_fits d (entry.Accepted addr c ∷ past) h = met_if (addr == d.addr) (coin c.place) (met d past) h.0.1 (met_fits d past h.1)
-met_fits d (entry.Inhibited addr place ∷ past) h = met_if (addr == d.addr) (coin place) (met d past) h.0.1 (met_fits d past h.1)
+met_fits d (entry.Accepted addr c ∷ past) h =
+    met_if (addr == d.addr) (coin c.place) (met d past) h.0 (met_fits d past h.1)
+met_fits d (entry.Inhibited addr place ∷ past) h =
+    met_if (addr == d.addr) (coin place) (met d past) h.0 (met_fits d past h.1)
 met_fits d (entry.Alien addr ∷ past) h = met_if (addr == d.addr) alien (met d past) tt (met_fits d past h.1)
+met_fits d (entry.Fell addr ∷ past) h = met_if (addr == d.addr) fall (met d past) tt (met_fits d past h.1)
+met_fits d (entry.NoFall addr ∷ past) h = met_if (addr == d.addr) fall (met d past) tt (met_fits d past h.1)
+met_fits d (entry.Jammed addr ∷ past) h = met_if (addr == d.addr) jam (met d past) tt (met_fits d past h.1)
+met_fits d (entry.NoJam addr ∷ past) h = met_if (addr == d.addr) jam (met d past) tt (met_fits d past h.1)
 met_fits d (entry.Reset addr ∷ past) h = met_if (addr == d.addr) reset (met d past) tt (met_fits d past h.1)
 met_fits d (entry.Wire addr sent piece ∷ past) h =
-    (asks_fit d (heard_by_devices (pending past) sent) (devices_hear (pending past) sent (pending_fits past h.1) h.0.1), met_fits d past h.1)
-met_fits d (entry.Fault f ∷ past) h = met_fits d past h.1
-met_fits d (entry.Taken c ∷ past) h = met_fits d past h.1
-met_fits d (entry.No c why ∷ past) h = met_fits d past h.1
-met_fits d (entry.Idle addr ∷ past) h = met_fits d past h.1
-met_fits d (entry.Put r ∷ past) h = met_fits d past h.1
-met_fits d (entry.Ended addr end ∷ past) h = met_fits d past h.1
-met_fits d (e ∷ past) h = absurd h.0
+    let heard_them = devices_hear (pending past) sent (pending_fits past h.1) h.0.0 in
+    (asks_fit d (heard_by_devices (pending past) sent) heard_them, met_fits d past h.1)
+met_fits d (e ∷ past) h = met_fits d past h.1
 
 -- what the devices answer
 abbrev AreSound : List DeviceSetup → Type 0
@@ -261,19 +244,19 @@ poll_fits false first second h k = k
 -- what a job holds
 abbrev pub FitsJob : Job → Type 0
 FitsJob free = ⊤
-FitsJob (works c since) = IsPlayed c × FitsLines since
+FitsJob (works c since) = FitsCommand c × FitsLines since
 
 with_line_fits : (l : Line) (j : Job) → FitsLine l → FitsJob j → FitsJob (with_line l j)
 with_line_fits l free h k = tt
 with_line_fits l (works c since) h k = (k.0, (h, k.1))
 
-begun_fits : (c : Command) (j : Job) → IsPlayed c → FitsJob (begun c j)
-begun_fits (command.Halt addr) j h = absurd h
-begun_fits c j h = (h, tt)
+begun_fits : (c : Command) (j : Job) → FitsCommand c → FitsJob j → FitsJob (begun c j)
+begun_fits (command.Halt addr) j h k = with_line_fits (taken (command.Halt addr)) j tt k
+begun_fits c j h k = (h, tt)
 
 job_of_lines : (lines : List Line) → FitsLines lines → FitsJob (job lines)
 job_of_lines [] h = tt
-job_of_lines (taken c ∷ lines) h = begun_fits c (job lines) h.0
+job_of_lines (taken c ∷ lines) h = begun_fits c (job lines) h.0 (job_of_lines lines h.1)
 job_of_lines (ended end ∷ lines) h = tt
 job_of_lines (crashed ∷ lines) h = tt
 job_of_lines (exchange asks found ∷ lines) h = with_line_fits (exchange asks found) (job lines) h.0 (job_of_lines lines h.1)
@@ -284,84 +267,41 @@ job_of_lines (l ∷ lines) h = job_of_lines lines h.1
 pub job_fits : (d : DeviceSetup) (past : List Entry) → AllTold past → FitsJob (job (lines_of d past))
 job_fits d past h = job_of_lines (lines_of d past) (lines_fit d past h)
 
--- what was read
-abbrev FitsCredits : Credits → Type 0
-FitsCredits c = (c.counter < 256) × FitsPairs c.pairs
-
-reply_credits : (found : Option Reply) → IfThere FitsReply found → IfThere FitsCredits (credits_reply found)
-reply_credits (Some (reply.credits c)) h = h
-reply_credits found h = tt
-
-line_credits : (l : Line) → FitsLine l → IfThere FitsCredits (credits_line l)
-line_credits (exchange (Some ReadCredits) found) h = reply_credits found h
-line_credits l h = tt
-
-read_fits : (lines : List Line) → FitsLines lines → IfThere FitsCredits (credits_read lines)
-read_fits [] h = tt
-read_fits (l ∷ lines) h = there_or FitsCredits (credits_line l) (credits_read lines) (line_credits l h.0) (read_fits lines h.1)
-
-reply_mask : (found : Option Reply) → IfThere FitsReply found → IfThere (λ mask. mask < 65536) (mask_reply found)
+-- the inhibit mask that was read
+reply_mask : (found : Option Reply) → IfThere FitsReply found → IfThere IsMask (mask_reply found)
 reply_mask (Some (reply.mask m)) h = h
 reply_mask found h = tt
 
-line_mask : (l : Line) → FitsLine l → IfThere (λ mask. mask < 65536) (mask_line l)
+line_mask : (l : Line) → FitsLine l → IfThere IsMask (mask_line l)
 line_mask (exchange (Some GetMask) found) h = reply_mask found h
 line_mask l h = tt
 
-mask_fits : (lines : List Line) → FitsLines lines → IfThere (λ mask. mask < 65536) (mask_read lines)
+mask_fits : (lines : List Line) → FitsLines lines → IfThere IsMask (mask_read lines)
 mask_fits [] h = tt
-mask_fits (l ∷ lines) h = there_or (λ mask. mask < 65536) (mask_line l) (mask_read lines) (line_mask l h.0) (mask_fits lines h.1)
+mask_fits (l ∷ lines) h = there_or IsMask (mask_line l) (mask_read lines) (line_mask l h.0) (mask_fits lines h.1)
 
 -- what is judged
-abbrev FitsJudged : Judged → Type 0
-FitsJudged judged = JudgedHolds IsRecord judged
+judged_by_tests : (breaks none : Bool) (addr seen counter lost : ℕ) (broken posted : List Coin) → IsMask seen →
+    JudgedHolds IsRecord (cond breaks (Broken (record_of.Broken addr seen counter broken))
+    (cond none Nothing (Reading (record_of.Reading addr counter lost posted))))
+judged_by_tests true none addr seen counter lost broken posted h = omega (arith, h)
+judged_by_tests false true addr seen counter lost broken posted h = tt
+judged_by_tests false false addr seen counter lost broken posted h = tt
 
-coins_if : (b : Bool) (c : Coin) (coins : List Coin) → IsCoin c → All IsCoin coins → All IsCoin (cond b coins (c ∷ coins))
-coins_if true c coins h k = k
-coins_if false c coins h k = All-cons IsCoin c coins h k
-
-coins_fit : (pairs : List Pair) → FitsPairs pairs → All IsCoin (coins_among pairs)
-coins_fit [] h = All-nil IsCoin
-coins_fit (pair ∷ pairs) h =
-    coins_if (pair.a == 0) (record { place = pair.a; path = pair.b }) (coins_among pairs) (byte_number pair.a h.0.0, byte_number pair.b h.0.1) (coins_fit pairs h.1)
-
-turned : (coins : List Coin) → All IsCoin coins → All IsCoin (reverse coins)
-turned [] h = All-nil IsCoin
-turned (c ∷ coins) h =
-    rw (reverse-append (c ∷ []) coins) (All-push IsCoin (reverse coins) c (turned coins (All-tail IsCoin c coins h)) (All-head IsCoin c coins h))
-
-posted_fit : (n : ℕ) (pairs : List Pair) → FitsPairs pairs → All IsCoin (posted_of n pairs)
-posted_fit n pairs h = turned (coins_among (take (min n 5) pairs)) (coins_fit (take (min n 5) pairs) (pairs_taken (min n 5) pairs h))
-
-distance_by : (a b : Bool) (old new : ℕ) → new < 256 → cond a new (cond b 0 ((new + 255 - old) % 255)) < 256
-distance_by true b old new h = h
-distance_by false true old new h = omega arith
-distance_by false false old new h = omega arith
-
-distance_fits : (old new : ℕ) → new < 256 → distance old new < 256
-unfolding distance
-distance_fits old new h = distance_by (old == 0) (new == 0) old new h
-
-judged_by_tests : (breaks none : Bool) (addr seen counter lost : ℕ) (coins : List Coin) → addr < 256 → seen < 65536 → counter < 256 → lost < 256 → All IsCoin coins →
-    FitsJudged (cond breaks (Broken (record_of.Broken addr seen counter coins)) (cond none Nothing (Reading (record_of.Reading addr counter lost coins))))
-judged_by_tests true none addr seen counter lost coins h i k l m = (byte_number addr h, omega (arith, i), byte_number counter k, m)
-judged_by_tests false true addr seen counter lost coins h i k l m = tt
-judged_by_tests false false addr seen counter lost coins h i k l m = (byte_number addr h, byte_number counter k, byte_number lost l, m)
-
-judge_fits : (addr mask before seen : ℕ) (c : Credits) → addr < 256 → seen < 65536 → FitsCredits c → FitsJudged (judge addr mask before c seen)
+judge_fits : (addr mask before seen : ℕ) (c : Credits) → IsMask seen →
+    JudgedHolds IsRecord (judge addr mask before c seen)
 unfolding judge
-judge_fits addr mask before seen c h i k =
-    let n = distance before c.counter in
-    let near : n < 256 = distance_fits before c.counter k.0 in
-    judged_by_tests (shows_break mask before seen c.counter) (n == 0) addr seen c.counter (n - 5) (posted_of n c.pairs) h i k.0 (omega (arith, near)) (posted_fit n c.pairs k.1)
+judge_fits addr mask before seen c h = judged_by_tests _ _ addr seen c.counter _ _ _ h
 
-judged_there : (addr : ℕ) (state : EpochState) (found : Option Credits) (seen : Option ℕ) → addr < 256 → IfThere FitsCredits found → IfThere (λ mask. mask < 65536) seen →
-    FitsJudged (judged_by addr state found seen)
-judged_there addr (Running mask before) (Some c) (Some seen) h k i = judge_fits addr mask before seen c h i k
-judged_there addr state found seen h k i = tt
+judged_there : (addr : ℕ) (state : EpochState) (found : Option Credits) (seen : Option ℕ) → IfThere IsMask seen →
+    JudgedHolds IsRecord (judged_by addr state found seen)
+judged_there addr (Running mask before) (Some c) (Some seen) h = judge_fits addr mask before seen c h
+judged_there addr state found seen h = tt
 
-judged_fits : (c : Command) (since : List Line) (state : EpochState) → address_of c < 256 → FitsLines since → FitsJudged (judged_in c since state)
-judged_fits c since state h k = judged_there (address_of c) state (credits_read since) (mask_read since) h (read_fits since k) (mask_fits since k)
+judged_fits : (c : Command) (since : List Line) (state : EpochState) → FitsLines since →
+    JudgedHolds IsRecord (judged_in c since state)
+judged_fits c since state h =
+    judged_there (address_of c) state (credits_read since) (mask_read since) (mask_fits since h)
 
 -- the row of a job
 abbrev pub FitsRow : Row → Type 0
@@ -372,95 +312,124 @@ unfolding data_of
 ident_fits (Acceptor accepts values ids) = search rules
 ident_fits (Hopper life value) = search rules
 
-round_fits : (judged : Judged) → FitsJudged judged → RoundHolds FitsAsk IsRecord judged
+round_fits : (judged : Judged) → JudgedHolds IsRecord judged → RoundHolds FitsAsk IsRecord judged
 unfolding data_of
 round_fits judged fits = record { reads = tt; looks = tt; means = fits }
 
-command_fits : (d : DeviceSetup) (c : Command) (since : List Line) (state : EpochState) → FitsJob (works c since) →
-    CommandHolds FitsAsk IsRecord d.body c (judged_in c since state)
+close_fits : (o : OpenOrder) (life : ℕ) → IsRecord (close o life)
+unfolding close
+close_fits o life = by_test (nat_le (life_between o.life life) o.count)
+  where
+    by_test : (fits : Bool) → IsRecord (cond fits
+        (record_of.Closed o.id (life_between o.life life) (o.count - life_between o.life life))
+        (record_of.Odd o.id o.life life))
+    by_test true = tt
+    by_test false = tt
+
+settle_fits : (p : Payment) → SettleHolds FitsAsk IsRecord p
 unfolding data_of
-command_fits d (command.Start addr mask) since state h = record {
+settle_fits p = record { asks = tt; stops = tt; reads = tt; closes = λ o life owed read. close_fits o life }
+
+command_fits : (d : DeviceSetup) (c : Command) (since : List Line) (state : EpochState) (owed : Option OpenOrder) →
+    FitsJob (works c since) → CommandHolds FitsAsk IsRecord d c (judged_in c since state) (payment_in since owed)
+unfolding data_of
+command_fits d (command.Start addr mask) since state owed h = record {
   resets = tt;
   reads = tt;
-  begins = (byte_number addr h.0.0, omega (arith, h.0.1));
-  opens = (omega arith, (omega (arith, h.0.1), tt));
+  begins = omega (arith, h.0);
+  opens = (omega arith, (omega (arith, h.0), tt));
 }
-command_fits d (command.Round addr) since state h =
-    round_fits (judged_in (command.Round addr) since state) (judged_fits (command.Round addr) since state h.0 h.1)
-command_fits d (command.Stop addr) since state h = record {
+command_fits d (command.Round addr) since state owed h =
+    round_fits (judged_in (command.Round addr) since state) (judged_fits (command.Round addr) since state h.1)
+command_fits d (command.Stop addr) since state owed h = record {
   shuts = (omega arith, tt);
-  round = round_fits (judged_in (command.Stop addr) since state) (judged_fits (command.Stop addr) since state h.0 h.1);
-  over = byte_number addr h.0;
+  round = round_fits (judged_in (command.Stop addr) since state) (judged_fits (command.Stop addr) since state h.1);
+  over = tt;
 }
-command_fits d (command.Ident addr) since state h = ident_fits d.body
-command_fits d (command.Path addr place path) since state h = (
-  poll_fits (place == 0) _ _ (omega (arith, h.0.2), tt) (omega (arith, h.0.1), (omega (arith, h.0.2), tt)),
-  poll_fits (place == 0) _ _ tt (omega (arith, h.0.1), tt),
+command_fits d (command.Pay addr id count) since state owed h = record {
+  enables = (omega arith, tt);
+  opens = λ life read. tt;
+  dispenses = (omega arith, (omega arith, (omega arith, (h.0, tt))));
+  settles = settle_fits (payment_in since owed);
+}
+command_fits d (command.Settle addr) since state owed h = settle_fits (payment_in since owed)
+command_fits d (command.Ident addr) since state owed h = ident_fits d.body
+command_fits d (command.Path addr place path) since state owed h = (
+  poll_fits (place == 0) _ _ (h.0.1, tt) (h.0.0, (h.0.1, tt)),
+  poll_fits (place == 0) _ _ tt (h.0.0, tt),
 )
-command_fits d c since state h = tt
+command_fits d c since state owed h = tt
 
-pub row_fits : (d : DeviceSetup) (c : Command) (since : List Line) (state : EpochState) → FitsJob (works c since) →
-    FitsRow (row d c since state)
-row_fits d c since state h =
-    each_row FitsAsk IsRecord d.body c (done since) (judged_in c since state) (command_fits d c since state h)
+pub row_fits : (d : DeviceSetup) (c : Command) (since : List Line) (state : EpochState) (owed : Option OpenOrder) →
+    FitsJob (works c since) → FitsRow (row d c since state owed)
+row_fits d c since state owed h =
+    each_row FitsAsk IsRecord d c (done since) (judged_in c since state) (payment_in since owed)
+    (command_fits d c since state owed h)
 
 -- the end that a line brings
 ends_if : (addr : ℕ) (b : Bool) (end : End) → IsEnd addr end → IfThere (IsEnd addr) (cond b (Some end) None)
 ends_if addr true end h = h
 ends_if addr false end h = tt
 
-put_ends : (addr : ℕ) (c : Command) (r : Record) → addr < 256 → IfThere (IsEnd addr) (end_of_put c r)
-put_ends addr (command.Round at) (record_of.Reading a counter lost posted) h = byte_number addr h
-put_ends addr (command.Round at) (record_of.Broken a seen counter posted) h = byte_number addr h
-put_ends addr (command.Stop at) (record_of.Broken a seen counter posted) h = byte_number addr h
-put_ends addr (command.Stop at) (record_of.EpochEnd a) h = byte_number addr h
-put_ends addr c r h = tt
+close_ends : (addr : ℕ) (r : Record) → IfThere (IsEnd addr) (end_of_close r)
+close_ends addr (record_of.Closed id paid unpaid) = tt
+close_ends addr (record_of.Odd id before after) = tt
+close_ends addr r = tt
 
-start_ends : (addr rows : ℕ) (y : Reply) → addr < 256 → FitsReply y → IfThere (IsEnd addr) (end_of_start rows y)
-start_ends addr (suc (suc zero)) (reply.credits c) h l = unquiet (c.counter == 0)
+put_ends : (addr : ℕ) (c : Command) (r : Record) → address_of c ≡ addr → IfThere (IsEnd addr) (end_of_put c r)
+put_ends addr (command.Round at) (record_of.Reading a counter lost posted) here = tt
+put_ends addr (command.Round at) (record_of.Broken a seen counter posted) here = tt
+put_ends addr (command.Stop at) (record_of.Broken a seen counter posted) here = tt
+put_ends addr (command.Stop at) (record_of.EpochEnd a) here = tt
+put_ends addr (command.Pay at id count) r here = close_ends addr r
+put_ends addr (command.Settle at) r here = close_ends addr r
+put_ends addr (command.Vend id price) (record_of.Sold sold at) here = sym here
+put_ends addr c r here = tt
+
+start_ends : (addr rows : ℕ) (y : Reply) → IfThere (IsEnd addr) (end_of_start rows y)
+start_ends addr (suc (suc zero)) (reply.credits c) = unquiet (c.counter == 0)
   where
     unquiet : (quiet : Bool) → IfThere (IsEnd addr) (cond quiet None (Some (ends_of.Unquiet c.counter)))
     unquiet true = tt
-    unquiet false = (byte_number addr h, byte_number c.counter l.0)
-start_ends addr (suc (suc (suc (suc zero)))) y h l = byte_number addr h
-start_ends addr rows y h l = tt
+    unquiet false = tt
+start_ends addr (suc (suc (suc (suc zero)))) y = tt
+start_ends addr rows y = tt
 
-reading_ends : (addr : ℕ) (judged : Judged) → addr < 256 → IfThere (IsEnd addr) (end_of_reading judged)
-reading_ends addr Nothing h = byte_number addr h
-reading_ends addr (Reading r) h = tt
-reading_ends addr (Broken r) h = tt
+reading_ends : (addr : ℕ) (judged : Judged) → IfThere (IsEnd addr) (end_of_reading judged)
+reading_ends addr Nothing = tt
+reading_ends addr (Reading r) = tt
+reading_ends addr (Broken r) = tt
 
-round_ends : (addr rows : ℕ) (judged : Judged) → addr < 256 → IfThere (IsEnd addr) (end_of_round rows judged)
-round_ends addr (suc (suc zero)) judged h = reading_ends addr judged h
-round_ends addr rows judged h = tt
+round_ends : (addr rows : ℕ) (judged : Judged) → IfThere (IsEnd addr) (end_of_round rows judged)
+round_ends addr (suc (suc zero)) judged = reading_ends addr judged
+round_ends addr rows judged = tt
 
-path_ends : (addr place rows : ℕ) (y : Reply) → addr < 256 → place ≤ 16 → FitsReply y → IfThere (IsEnd addr) (end_of_path place rows y)
-path_ends addr place (suc (suc zero)) (reply.path number) h k l = (byte_number addr h, omega (arith, k), byte_number number l)
-path_ends addr place rows y h k l = tt
+path_ends : (addr place rows : ℕ) (y : Reply) → IfThere (IsEnd addr) (end_of_path place rows y)
+path_ends addr place (suc (suc zero)) (reply.path number) = tt
+path_ends addr place rows y = tt
 
-answer_ends : (addr : ℕ) (body : DeviceBody) (c : Command) (rows : ℕ) (y : Reply) (judged : Judged) → addr < 256 → IsPlayed c → FitsReply y → IfThere (IsEnd addr) (end_of_answer body c rows y judged)
-answer_ends addr body (command.Start a mask) rows y judged h k l = start_ends addr rows y h l
-answer_ends addr body (command.Round a) rows y judged h k l = round_ends addr rows judged h
-answer_ends addr body (command.Ident a) rows y judged h k l = ends_if addr (length (ident_requests body) == rows) ends_of.Told (byte_number addr h)
-answer_ends addr body (command.Path a place path) rows y judged h k l = path_ends addr place rows y h k.1 l
-answer_ends addr body c rows y judged h k l = tt
+answer_end : (addr : ℕ) (body : DeviceBody) (c : Command) (rows : ℕ) (y : Reply) (judged : Judged) →
+    IfThere (IsEnd addr) (end_of_answer body c rows y judged)
+answer_end addr body (command.Start a mask) rows y judged = start_ends addr rows y
+answer_end addr body (command.Round a) rows y judged = round_ends addr rows judged
+answer_end addr body (command.Ident a) rows y judged =
+    ends_if addr (length (ident_requests body) == rows) ends_of.Told tt
+answer_end addr body (command.Path a place path) rows y judged = path_ends addr place rows y
+answer_end addr body c rows y judged = tt
 
-tries_end : (addr failed : ℕ) → addr < 256 → IfThere (IsEnd addr) (end_of_tries failed)
-tries_end addr failed h = ends_if addr (failed == 3) ends_of.NoAnswer (byte_number addr h)
+failure_end : (addr : ℕ) (q : Request) (failed : ℕ) → IfThere (IsEnd addr) (end_of_failure q failed)
+failure_end addr (SetMask mask) failed = tt
+failure_end addr (Dispense serial count) failed = tt
+failure_end addr q failed = ends_if addr (failed == 3) ends_of.NoAnswer tt
 
-failure_end : (addr : ℕ) (q : Request) (failed : ℕ) → addr < 256 → IfThere (IsEnd addr) (end_of_failure q failed)
-failure_end addr (SetMask mask) failed h = byte_number addr h
-failure_end addr q failed h = tries_end addr failed h
+pub exchange_ends : (d : DeviceSetup) (c : Command) (asks : Option Request) (found : Option Reply) (since : List Line)
+    (state : EpochState) → IfThere (IsEnd d.addr) (end_of d c (exchange asks found) since state)
+exchange_ends d c None None since state = tt
+exchange_ends d c (Some q) None since state =
+    failure_end d.addr q (tries (header_of q) (exchange (Some q) None ∷ since))
+exchange_ends d c None (Some y) since state = answer_end d.addr d.body c _ y _
+exchange_ends d c (Some q) (Some y) since state = answer_end d.addr d.body c _ y _
 
-pub exchange_ends : (d : DeviceSetup) (c : Command) (sent piece : List ℕ) (since : List Line) (state : EpochState) → d.addr < 256 → IsPlayed c → Bytes piece →
-    IfThere (IsEnd d.addr) (end_of d c (exchange (asked d.kind sent) (got_by d sent piece)) since state)
-exchange_ends d c sent piece since state h k l = by_got (asked d.kind sent) (got_by d sent piece) (got_by_fits d sent piece l)
-  where
-    by_got : (asks : Option Request) (found : Option Reply) → IfThere FitsReply found → IfThere (IsEnd d.addr) (end_of d c (exchange asks found) since state)
-    by_got None None fits = tt
-    by_got (Some q) None fits = failure_end d.addr q (tries (header_of q) (exchange (Some q) None ∷ since)) h
-    by_got None (Some y) fits = answer_ends d.addr d.body c _ y _ h k fits
-    by_got (Some q) (Some y) fits = answer_ends d.addr d.body c _ y _ h k fits
-
-pub put_end : (d : DeviceSetup) (c : Command) (r : Record) (since : List Line) (state : EpochState) → d.addr < 256 → IfThere (IsEnd d.addr) (end_of d c (put r) since state)
-put_end d c r since state h = put_ends d.addr c r h
+pub put_end : (d : DeviceSetup) (c : Command) (r : Record) (since : List Line) (state : EpochState) →
+    address_of c ≡ d.addr → IfThere (IsEnd d.addr) (end_of d c (put r) since state)
+put_end d c r since state here = put_ends d.addr c r here

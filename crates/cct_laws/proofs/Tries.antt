@@ -1,12 +1,13 @@
 -- A job at a device ends for want of an answer exactly after three failed tries.
-use Rattle.std.proofs.Common.{◌≡◌, ℕ, zero, suc, ◌<◌, ◌≤◌, ◌==◌, cond, true, false, Bool, List, [], ◌∷◌, ◌++◌, refl, ap, sym, ◌∙◌, subst, Option, Some, None, inl, inr, arith, eq-eqb, eqb-true}
+use Rattle.std.proofs.Common.{◌≡◌, ℕ, zero, suc, ◌<◌, ◌≤◌, ◌^◌, ◌==◌, cond, true, false, Bool, List, [], ◌∷◌, ◌++◌, refl, ap, sym, ◌∙◌, subst, Option, Some, None, ◌⊎◌, inl, inr, arith, rules, eq-eqb, eqb-true}
 use Rattle.std.specs.Prelude.{⊤}
 use Rattle.std.proofs.lemmas.Bool.Decides.{nat_tests}
 use Rattle.cct_model.specs.terms.device.DeviceBody.{DeviceBody}
+use Rattle.cct_model.specs.terms.device.DeviceBody.TheVariants.{Acceptor, Hopper}
 use Rattle.cct_model.specs.terms.device.DeviceSetup.{DeviceSetup}
 use Rattle.cct_model.specs.terms.device.Setup.{Setup}
 use Rattle.cct_model.specs.terms.request.Request.{Request}
-use Rattle.cct_model.specs.terms.request.Request.TheVariants.{SetMask}
+use Rattle.cct_model.specs.terms.request.Request.TheVariants.{SetMask, SetPath, GetPath, SetDefault, GetDefault, Dispense, CipherDispense}
 use Rattle.cct_model.specs.lines.record.Record.{Record}
 use Rattle.cct_model.specs.lines.record.Record.TheVariants as record_of
 use Rattle.cct_model.specs.declared.judging.Judged.{Judged}
@@ -16,41 +17,166 @@ use Rattle.cct_model.specs.lines.command.Command.{Command}
 use Rattle.cct_model.specs.lines.command.Command.TheVariants as command
 use Rattle.cct_model.specs.lines.command.Step.{Step}
 use Rattle.cct_model.specs.lines.entry.End.{End}
-use Rattle.cct_model.specs.lines.entry.End.TheVariants.{NoAnswer, Unquiet}
+use Rattle.cct_model.specs.lines.entry.End.TheVariants.{NoAnswer, Unquiet, Told, Closed, OddLife}
 use Rattle.cct_model.specs.lines.entry.Entry.{Entry}
 use Rattle.cct_model.specs.lines.entry.Entry.TheVariants as entry
+use Rattle.cct_model.specs.Exchange.{ask, asked, asks_of}
 use Rattle.cct_model.specs.Request.{header_of}
+use Rattle.cct_model.specs.History.{Met}
 use Rattle.cct_model.specs.Reply.{Reply}
 use Rattle.cct_model.specs.Reply as reply
+use Rattle.cct_model.specs.Device.{IsSound}
 use Rattle.cct_model.specs.Setup.{IsSoundSetup}
-use Rattle.cct_model.specs.Line.{Line, exchange, put, taken, ended}
-use Rattle.cct_model.specs.Job.{Job, free, works, job, with_line, tries, tries_after, end_of, end_of_answer, end_of_start, end_of_round, end_of_path, end_of_put, end_of_reading}
+use Rattle.cct_model.specs.Line.{Line, dispensed, exchange, put, taken, ended, crashed}
+use Rattle.cct_model.specs.Job.{Job, free, works, job, with_line, is_once, done, epoch, judged_in, Row, sends, puts, no_row, open_row, settle_row, ident_requests, row_at, Payment, payment_in, tries, tries_after, end_of, end_of_answer, end_of_start, end_of_round, end_of_path, end_of_close, end_of_put, end_of_reading}
 use Rattle.cct_model.specs.Claims.{AllPast}
 use Rattle.cct_model.specs.Legal.{Legal}
-use Rattle.cct_model.specs.Transcript.{met, lines_of, onto}
+use Rattle.cct_model.specs.Order.{order}
+use Rattle.cct_model.specs.Transcript.{pending, met, own, lines_of, heard_by_devices, heard_after, got_by, doses_of, onto}
+use Rattle.cct_msg.specs.Forms.{FitsItsBytes}
+use Rattle.cct_msg.proofs.Exchanges.{asked_back}
+use Rattle.cct_laws.specs.Ending.{IsEndOf}
+use Rattle.cct_laws.specs.Ids.{Ids}
 use Rattle.cct_laws.specs.Kept.{with_ended}
 use Rattle.cct_laws.specs.Law.{IsOf, lines_in}
 use Rattle.cct_laws.specs.Tries.{failed_by, failed_tries, failed_in, TriesAt}
-use Rattle.cct_laws.proofs.Brought.{AtDevice, came, took, idled, made_exchange, made_put, Brought, wire_of, wire_end, record_end, begun_played}
-use Rattle.cct_laws.proofs.Seen.{loose, loose_line, seen_from, along, any_steps, passed_lines, lines_wire, lines_with_end, lines_put, lines_taken}
+use Rattle.cct_laws.proofs.Brought.{Comes, takes_coin, leaves_coin, leaves_alien, drops_coin, drops_none, jams, jams_none, is_reset, AtDevice, came, took, halted, idled, made_exchange, made_put, Brought, wire_of, wire_end, record_end, begun_at_work}
+use Rattle.cct_model.proofs.Doses.{AreDoses, doses_are, job_undosed}
+use Rattle.cct_laws.proofs.Ids.{put_owned}
+use Rattle.cct_laws.proofs.HopperReplies.{serial_fits}
+use Rattle.cct_laws.proofs.Setups.{found_in}
+use Rattle.cct_laws.proofs.Rows.{RowHolds, Each, SettleHolds, RoundHolds, CommandHolds, any_judged, each_row}
+use Rattle.cct_laws.proofs.Seen.{ArePassed, loose, loose_line, Lost, bare, kept_here, kept_elsewhere, seen_here, seen_aside, seen_lost, seen_from, along, any_steps, lines_wire, lines_with_end, lines_put, lines_taken, lines_kept, lines_kept_elsewhere}
 
--- a job has no failed try of a mask, which is sent once
-abbrev NoMask : Job → Type 0
-NoMask free = ⊤
-NoMask (works c since) = tries 231 since ≡ 0
+-- a request that a job asks again, under a header that what is sent once doesn't have
+abbrev pub is_asked_again : Request → Bool
+is_asked_again (SetMask mask) = false
+is_asked_again (Dispense serial count) = false
+is_asked_again CipherDispense = false
+is_asked_again q = true
 
--- a job that goes on has few failed tries, and none of a mask
+pub record AskedAgain (q : Request) : Type 0 where
+  pub no_mask : (header_of q == 231) ≡ false
+  pub no_dispense : (header_of q == 167) ≡ false
+  fits : FitsItsBytes q
+
+pub asked_again : (q : Request) → is_asked_again q ≡ true → AskedAgain q
+asked_again (SetMask mask) again = absurd cc
+asked_again (Dispense serial count) again = absurd cc
+asked_again CipherDispense again = absurd cc
+asked_again q again = record { no_mask = refl; no_dispense = refl; fits = λ serial count is. cc }
+
+-- what a row sends is asked again, or is sent once, as the fourth row of its job
+abbrev pub IsAgain : Request → Type 0
+IsAgain q = is_asked_again q ≡ true
+
+abbrev pub IsSentAt : ℕ → Request → Type 0
+IsSentAt rows q = IsAgain q ⊎ ((is_once q ≡ true) × (rows ≡ 3) × FitsItsBytes q)
+
+settle_again : (p : Payment) → SettleHolds IsAgain (λ r. ⊤) p
+settle_again p = record { asks = refl; stops = refl; reads = refl; closes = λ o life owed read. tt }
+
+round_again : (judged : Judged) → RoundHolds IsAgain (λ r. ⊤) judged
+round_again judged = record { reads = refl; looks = refl; means = any_judged judged }
+
+ident_again : (body : DeviceBody) → Each IsAgain (ident_requests body)
+ident_again (Acceptor accepts values ids) = search rules
+ident_again (Hopper life value) = search rules
+
+path_set_again : (first : Bool) (place path : ℕ) → IsAgain (cond first (SetDefault path) (SetPath place path))
+path_set_again true place path = refl
+path_set_again false place path = refl
+
+path_read_again : (first : Bool) (place : ℕ) → IsAgain (cond first GetDefault (GetPath place))
+path_read_again true place = refl
+path_read_again false place = refl
+
+row_sent_at : (rows : ℕ) (r : Row) → RowHolds IsAgain (λ r. ⊤) r → RowHolds (IsSentAt rows) (λ r. ⊤) r
+row_sent_at rows (sends q) again = inl again
+row_sent_at rows (puts r) again = tt
+row_sent_at rows no_row again = tt
+
+again_at : (d : DeviceSetup) (c : Command) (rows : ℕ) (judged : Judged) (p : Payment) →
+    CommandHolds IsAgain (λ r. ⊤) d c judged p → RowHolds (IsSentAt rows) (λ r. ⊤) (row_at d c rows judged p)
+again_at d c rows judged p holds =
+    row_sent_at rows (row_at d c rows judged p) (each_row IsAgain (λ r. ⊤) d c rows judged p holds)
+
+opened_sent : (addr id count : ℕ) (life : Option ℕ) → RowHolds (IsSentAt 2) (λ r. ⊤) (open_row addr id count life)
+opened_sent addr id count None = tt
+opened_sent addr id count (Some life) = tt
+
+pub sent_at : (d : DeviceSetup) (c : Command) (rows : ℕ) (judged : Judged) (p : Payment) → d.serial < 2 ^ 24 →
+    RowHolds (IsSentAt rows) (λ r. ⊤) (row_at d c rows judged p)
+sent_at d (command.Start addr mask) zero judged p low = inl refl
+sent_at d (command.Start addr mask) (suc zero) judged p low = inl refl
+sent_at d (command.Start addr mask) (suc (suc zero)) judged p low = tt
+sent_at d (command.Start addr mask) (suc (suc (suc zero))) judged p low = inr (refl, refl, λ serial count is. cc)
+sent_at d (command.Start addr mask) (suc (suc (suc (suc rows)))) judged p low = tt
+sent_at d (command.Pay addr id count) zero judged p low = inl refl
+sent_at d (command.Pay addr id count) (suc zero) judged p low = inl refl
+sent_at d (command.Pay addr id count) (suc (suc zero)) judged p low = opened_sent addr id count p.life
+sent_at d (command.Pay addr id count) (suc (suc (suc zero))) judged p low =
+    inr (refl, refl, serial_fits d.serial count low)
+sent_at d (command.Pay addr id count) (suc (suc (suc (suc rows)))) judged p low =
+    row_sent_at (suc (suc (suc (suc rows)))) (settle_row rows p)
+    (each_row IsAgain (λ r. ⊤) d (command.Settle addr) rows judged p (settle_again p))
+sent_at d (command.Settle addr) rows judged p low = again_at d (command.Settle addr) rows judged p (settle_again p)
+sent_at d (command.Round addr) rows judged p low = again_at d (command.Round addr) rows judged p (round_again judged)
+sent_at d (command.Stop addr) rows judged p low =
+    again_at d (command.Stop addr) rows judged p (record { shuts = refl; round = round_again judged; over = tt })
+sent_at d (command.Ident addr) rows judged p low = again_at d (command.Ident addr) rows judged p (ident_again d.body)
+sent_at d (command.Path addr place path) rows judged p low =
+    again_at d (command.Path addr place path) rows judged p
+    (path_set_again (place == 0) place path, path_read_again (place == 0) place)
+sent_at d (command.Halt addr) rows judged p low = tt
+sent_at d command.Scan rows judged p low = tt
+sent_at d (command.Vend id price) rows judged p low = tt
+
+pub fits_sent : (rows : ℕ) (q : Request) → IsSentAt rows q → FitsItsBytes q
+fits_sent rows q (inl again) = (asked_again q again).fits
+fits_sent rows q (inr once) = once.2
+
+-- a job that has not done its fourth row has no failed try of what is sent once
+abbrev NoneOfOnce : Job → Type 0
+NoneOfOnce free = ⊤
+NoneOfOnce (works c since) = done since ≤ 3 → (tries 231 since ≡ 0) × (tries 167 since ≡ 0)
+
+-- a job that goes on has few failed tries
 pub record HasTriesLeft (j : Job) : Type 0 where
   pub few : failed_in j < 3
-  pub no_mask : NoMask j
+  pub none_of_once : NoneOfOnce j
+
+-- the newest exchange of a job asked what it asks again
+abbrev pub asks_again : List Line → Bool
+asks_again [] = true
+asks_again (exchange (Some q) got ∷ since) = is_asked_again q
+asks_again (exchange None got ∷ since) = true
+asks_again (l ∷ since) = asks_again since
+
+abbrev pub again_in : Job → Bool
+again_in free = true
+again_in (works c since) = asks_again since
+
+-- a job is given up exactly after its third failed try in succession of what it asks again
+abbrev pub GivenUpAt : List Line → Line → Type 0
+GivenUpAt past (ended NoAnswer) = (failed_in (job past) ≡ 3) × (again_in (job past) ≡ true)
+GivenUpAt past l = failed_in (job past) < 3
+
+tries_at : (past : List Line) (l : Line) → GivenUpAt past l → TriesAt past l
+tries_at past (ended NoAnswer) given = given.0
+tries_at past l few = few
+
+all_tries : (lines : List Line) → AllPast GivenUpAt lines → AllPast TriesAt lines
+all_tries [] each = tt
+all_tries (l ∷ lines) each = (tries_at lines l each.0, all_tries lines each.1)
 
 -- what holds of the lines of an address after every step
 pub record Steady (lines : List Line) : Type 0 where
-  pub each : AllPast TriesAt lines
+  pub each : AllPast GivenUpAt lines
   pub goes_on : HasTriesLeft (job lines)
 
 free_on : HasTriesLeft free
-free_on = record { few = omega arith; no_mask = tt }
+free_on = record { few = omega arith; none_of_once = tt }
 
 -- a line that is no such end
 abbrev IsHeard : Line → Type 0
@@ -58,7 +184,7 @@ IsHeard (ended NoAnswer) = ⊥
 IsHeard l = ⊤
 
 -- a line more, which is no such end
-steady_line : (l : Line) (lines : List Line) → ((older : List Line) → failed_in (job older) < 3 → TriesAt older l) →
+steady_line : (l : Line) (lines : List Line) → ((older : List Line) → failed_in (job older) < 3 → GivenUpAt older l) →
     HasTriesLeft (job (l ∷ lines)) → Steady lines → Steady (l ∷ lines)
 steady_line l lines no_third goes steady =
     record { each = (no_third lines steady.goes_on.few, steady.each); goes_on = goes }
@@ -70,7 +196,7 @@ tries_same true h q since test =
     subst (λ k. suc (tries k since) ≤ suc (tries (header_of q) since)) (eqb-true (header_of q) h test) (omega arith)
 tries_same false h q since test = omega arith
 
-tries_by : (h : ℕ) (asks : Option Request) (found : Option Reply) (since : List Line) →
+pub tries_by : (h : ℕ) (asks : Option Request) (found : Option Reply) (since : List Line) →
     tries_after h asks found (tries h since) ≤ failed_by asks found since
 tries_by h None None since = omega arith
 tries_by h None (Some y) since = omega arith
@@ -93,158 +219,283 @@ steady_ended None lines heard steady = steady
 steady_ended (Some NoAnswer) lines heard steady = absurd heard
 steady_ended (Some end) lines heard steady = steady_line (ended end) lines (λ older few. few) free_on steady
 
--- the ends of an answered exchange and of a put
-heard_if : (b : Bool) (end : End) → IsHeard (ended end) → IfHeard (cond b (Some end) None)
-heard_if true end heard = heard
-heard_if false end heard = tt
+-- the ends of an answered exchange and of a put are those of a job that got its answers
+abbrev pub IfEndOf : Command → Option End → Type 0
+IfEndOf c None = ⊤
+IfEndOf c (Some end) = IsEndOf c end
 
-path_heard : (place rows : ℕ) (y : Reply) → IfHeard (end_of_path place rows y)
-path_heard place zero y = tt
-path_heard place (suc zero) y = tt
-path_heard place (suc (suc zero)) (reply.path number) = tt
-path_heard place (suc (suc zero)) y = tt
-path_heard place (suc (suc (suc rows))) y = tt
+ends_if : (c : Command) (b : Bool) (end : End) → IsEndOf c end → IfEndOf c (cond b (Some end) None)
+ends_if c true end is = is
+ends_if c false end is = tt
 
-reading_heard : (judged : Judged) → IfHeard (end_of_reading judged)
-reading_heard Nothing = tt
-reading_heard (Reading r) = tt
-reading_heard (Broken r) = tt
+path_ends : (addr place path rows : ℕ) (y : Reply) → IfEndOf (command.Path addr place path) (end_of_path place rows y)
+path_ends addr place path zero y = tt
+path_ends addr place path (suc zero) y = tt
+path_ends addr place path (suc (suc zero)) (reply.path number) = tt
+path_ends addr place path (suc (suc zero)) y = tt
+path_ends addr place path (suc (suc (suc rows))) y = tt
 
-round_heard : (rows : ℕ) (judged : Judged) → IfHeard (end_of_round rows judged)
-round_heard zero judged = tt
-round_heard (suc zero) judged = tt
-round_heard (suc (suc zero)) judged = reading_heard judged
-round_heard (suc (suc (suc rows))) judged = tt
+reading_ends : (addr : ℕ) (judged : Judged) → IfEndOf (command.Round addr) (end_of_reading judged)
+reading_ends addr Nothing = tt
+reading_ends addr (Reading r) = tt
+reading_ends addr (Broken r) = tt
 
-quiet_heard : (quiet : Bool) (counter : ℕ) → IfHeard (cond quiet None (Some (Unquiet counter)))
-quiet_heard true counter = tt
-quiet_heard false counter = tt
+round_ends : (addr rows : ℕ) (judged : Judged) → IfEndOf (command.Round addr) (end_of_round rows judged)
+round_ends addr zero judged = tt
+round_ends addr (suc zero) judged = tt
+round_ends addr (suc (suc zero)) judged = reading_ends addr judged
+round_ends addr (suc (suc (suc rows))) judged = tt
 
-start_heard : (rows : ℕ) (y : Reply) → IfHeard (end_of_start rows y)
-start_heard zero y = tt
-start_heard (suc zero) y = tt
-start_heard (suc (suc zero)) (reply.credits c) = quiet_heard (c.counter == 0) c.counter
-start_heard (suc (suc zero)) y = tt
-start_heard (suc (suc (suc zero))) y = tt
-start_heard (suc (suc (suc (suc zero)))) y = tt
-start_heard (suc (suc (suc (suc (suc rows))))) y = tt
+quiet_ends : (addr mask : ℕ) (quiet : Bool) (counter : ℕ) →
+    IfEndOf (command.Start addr mask) (cond quiet None (Some (Unquiet counter)))
+quiet_ends addr mask true counter = tt
+quiet_ends addr mask false counter = tt
 
-answer_heard : (body : DeviceBody) (c : Command) (rows : ℕ) (y : Reply) (judged : Judged) →
-    IfHeard (end_of_answer body c rows y judged)
-answer_heard body (command.Start addr mask) rows y judged = start_heard rows y
-answer_heard body (command.Round addr) rows y judged = round_heard rows judged
-answer_heard body (command.Ident addr) rows y judged = heard_if _ _ tt
-answer_heard body (command.Path addr place path) rows y judged = path_heard place rows y
-answer_heard body c rows y judged = tt
+start_ends : (addr mask rows : ℕ) (y : Reply) → IfEndOf (command.Start addr mask) (end_of_start rows y)
+start_ends addr mask zero y = tt
+start_ends addr mask (suc zero) y = tt
+start_ends addr mask (suc (suc zero)) (reply.credits c) = quiet_ends addr mask (c.counter == 0) c.counter
+start_ends addr mask (suc (suc zero)) y = tt
+start_ends addr mask (suc (suc (suc zero))) y = tt
+start_ends addr mask (suc (suc (suc (suc zero)))) y = tt
+start_ends addr mask (suc (suc (suc (suc (suc rows))))) y = tt
 
-put_heard : (c : Command) (r : Record) → IfHeard (end_of_put c r)
-put_heard (command.Round at) (record_of.Reading addr counter lost posted) = tt
-put_heard (command.Round at) (record_of.Broken addr seen counter posted) = tt
-put_heard (command.Stop at) (record_of.Broken addr seen counter posted) = tt
-put_heard (command.Stop at) (record_of.EpochEnd addr) = tt
-put_heard c r = tt
+pub ends_of_answer : (body : DeviceBody) (c : Command) (rows : ℕ) (y : Reply) (judged : Judged) →
+    IfEndOf c (end_of_answer body c rows y judged)
+ends_of_answer body (command.Start addr mask) rows y judged = start_ends addr mask rows y
+ends_of_answer body (command.Round addr) rows y judged = round_ends addr rows judged
+ends_of_answer body (command.Ident addr) rows y judged = ends_if (command.Ident addr) _ Told tt
+ends_of_answer body (command.Path addr place path) rows y judged = path_ends addr place path rows y
+ends_of_answer body c rows y judged = tt
+
+close_ends : (c : Command) (r : Record) → IsEndOf c Closed → IsEndOf c OddLife → IfEndOf c (end_of_close r)
+close_ends c (record_of.Closed id paid unpaid) closed odd = closed
+close_ends c (record_of.Odd id life_before life_after) closed odd = odd
+close_ends c r closed odd = tt
+
+pub ends_of_put : (c : Command) (r : Record) → IfEndOf c (end_of_put c r)
+ends_of_put (command.Round at) (record_of.Reading addr counter lost posted) = tt
+ends_of_put (command.Round at) (record_of.Broken addr seen counter posted) = tt
+ends_of_put (command.Stop at) (record_of.Broken addr seen counter posted) = tt
+ends_of_put (command.Stop at) (record_of.EpochEnd addr) = tt
+ends_of_put (command.Pay addr id count) r = close_ends (command.Pay addr id count) r tt tt
+ends_of_put (command.Settle addr) r = close_ends (command.Settle addr) r tt tt
+ends_of_put (command.Vend id price) (record_of.Sold sold at) = tt
+ends_of_put c r = tt
+
+-- none of them is for want of an answer
+heard_of : (c : Command) (end : End) → IsEndOf c end → IsHeard (ended end)
+heard_of (command.Start addr mask) NoAnswer is = is
+heard_of (command.Round addr) NoAnswer is = is
+heard_of (command.Stop addr) NoAnswer is = is
+heard_of (command.Pay addr id count) NoAnswer is = is
+heard_of (command.Settle addr) NoAnswer is = is
+heard_of (command.Ident addr) NoAnswer is = is
+heard_of (command.Path addr place path) NoAnswer is = is
+heard_of (command.Halt addr) end is = absurd is
+heard_of command.Scan end is = absurd is
+heard_of (command.Vend id price) NoAnswer is = is
+heard_of c end is = tt
+
+if_heard : (c : Command) (found : Option End) → IfEndOf c found → IfHeard found
+if_heard c None ends = tt
+if_heard c (Some end) ends = heard_of c end ends
 
 -- an exchange of a job that is no third failed try
-steady_exchange : (lines since : List Line) (c : Command) (asks : Option Request) (found : Option Reply) →
-    job lines ≡ works c since → failed_by asks found since < 3 → tries_after 231 asks found (tries 231 since) ≡ 0 →
-    Steady lines → Steady (exchange asks found ∷ lines)
-steady_exchange lines since c asks found is_job few none steady =
-    let goes : HasTriesLeft (with_line (exchange asks found) (works c since)) = record { few = few; no_mask = none } in
-    steady_line (exchange asks found) lines (λ older few. few)
-    (subst (λ j. HasTriesLeft (with_line (exchange asks found) j)) (sym is_job) goes) steady
+steady_exchange : (lines since : List Line) (c : Command) (q : Request) (found : Option Reply) →
+    job lines ≡ works c since → failed_by (Some q) found since < 3 →
+    NoneOfOnce (works c (exchange (Some q) found ∷ since)) → Steady lines → Steady (exchange (Some q) found ∷ lines)
+steady_exchange lines since c q found is_job few none steady =
+    let l = exchange (Some q) found in
+    let goes : HasTriesLeft (with_line l (works c since)) = record { few = few; none_of_once = none } in
+    steady_line l lines (λ older few. few) (subst (λ j. HasTriesLeft (with_line l j)) (sym is_job) goes) steady
 
 -- and one that may be the third
 below : (n : ℕ) → n < 3 → (suc n == 3) ≡ false → suc n < 3
 below n most not_three = grind (arith, nat_tests)
 
 steady_failed : (lines since : List Line) (c : Command) (q : Request) (third : Bool) →
-    (suc (tries (header_of q) since) == 3) ≡ third → tries_after 231 (Some q) None (tries 231 since) ≡ 0 →
-    job lines ≡ works c since → Steady lines →
+    (suc (tries (header_of q) since) == 3) ≡ third → is_asked_again q ≡ true →
+    NoneOfOnce (works c (exchange (Some q) None ∷ since)) → job lines ≡ works c since → Steady lines →
     Steady (with_ended (cond third (Some NoAnswer) None) (exchange (Some q) None ∷ lines))
-steady_failed lines since c q true test none is_job steady =
+steady_failed lines since c q true test again none is_job steady =
     let third : failed_in (job (exchange (Some q) None ∷ lines)) ≡ 3 =
     ap (λ j. failed_in (with_line (exchange (Some q) None) j)) is_job ∙ eqb-true (suc (tries (header_of q) since))
     3 test in
-    record { each = (third, (steady.goes_on.few, steady.each)); goes_on = free_on }
-steady_failed lines since c q false test none is_job steady =
+    let asks : again_in (job (exchange (Some q) None ∷ lines)) ≡ true =
+    ap (λ j. again_in (with_line (exchange (Some q) None) j)) is_job ∙ again in
+    record { each = ((third, asks), (steady.goes_on.few, steady.each)); goes_on = free_on }
+steady_failed lines since c q false test again none is_job steady =
     let before : failed_tries since < 3 = (subst HasTriesLeft is_job steady.goes_on).few in
     let most = tries_most (header_of q) since in
-    steady_exchange lines since c (Some q) None is_job (below (tries (header_of q) since) (omega arith) test)
-    none steady
+    steady_exchange lines since c q None is_job (below (tries (header_of q) since) (omega arith) test) none steady
 
 same_tries : (q : Request) (since : List Line) →
     tries (header_of q) (exchange (Some q) None ∷ since) ≡ suc (tries (header_of q) since)
 same_tries q since = rw (eq-eqb (header_of q) (header_of q) refl) refl
 
--- an exchange of a job, and its end; a mask that isn't acknowledged ends the job at once
-steady_wire : (d : DeviceSetup) (lines since : List Line) (c : Command) (asks : Option Request) (found : Option Reply)
-    (state : EpochState) → job lines ≡ works c since → Steady lines →
-    Steady (with_ended (end_of d c (exchange asks found) since state) (exchange asks found ∷ lines))
-steady_wire d lines since c None None state is_job steady =
-    steady_exchange lines since c None None is_job (omega arith) refl steady
-steady_wire d lines since c (Some (SetMask mask)) None state is_job steady =
-    let none : tries 231 since ≡ 0 = (subst HasTriesLeft is_job steady.goes_on).no_mask in
+-- a failed try of what is asked again is none of what is sent once
+again_none : (c : Command) (q : Request) (since : List Line) → AskedAgain q →
+    NoneOfOnce (works c (exchange (Some q) None ∷ since))
+again_none c q since again few = (rw again.no_mask refl, rw again.no_dispense refl)
+
+-- what is sent once has no failed try before
+once_none : (lines since : List Line) (c : Command) → job lines ≡ works c since → done since ≡ 3 → Steady lines →
+    (tries 231 since ≡ 0) × (tries 167 since ≡ 0)
+once_none lines since c is_job fourth steady =
+    (subst HasTriesLeft is_job steady.goes_on).none_of_once (omega (arith, fourth))
+
+-- an exchange of a job, and its end; a mask that isn't acknowledged ends the job at once, and a dispense that isn't
+-- acknowledged ends its row
+steady_wire : (d : DeviceSetup) (lines since : List Line) (c : Command) (q : Request) (found : Option Reply)
+    (state : EpochState) → job lines ≡ works c since → IsSentAt (done since) q → Steady lines →
+    Steady (with_ended (end_of d c (exchange (Some q) found) since state) (exchange (Some q) found ∷ lines))
+steady_wire d lines since c q (Some y) state is_job sent steady =
+    steady_ended _ (exchange (Some q) (Some y) ∷ lines) (if_heard c _ (ends_of_answer d.body c _ y _))
+    (steady_exchange lines since c q (Some y) is_job (omega arith) (λ few. (refl, refl)) steady)
+steady_wire d lines since c (SetMask mask) None state is_job (inr once) steady =
+    let none = (once_none lines since c is_job once.1 steady).0 in
     let l = exchange (Some (SetMask mask)) None in
     let one : failed_in (job (l ∷ lines)) < 3 = rw (ap (λ j. failed_in (with_line l j)) is_job) (omega (arith, none)) in
     record { each = (one, (steady.goes_on.few, steady.each)); goes_on = free_on }
-steady_wire d lines since c (Some q) None state is_job steady =
-    rw (same_tries q since) (steady_failed lines since c q (suc (tries (header_of q) since) == 3)
-    refl refl is_job steady)
-steady_wire d lines since c None (Some y) state is_job steady =
-    steady_ended _ (exchange None (Some y) ∷ lines) (answer_heard d.body c _ y _)
-    (steady_exchange lines since c None (Some y) is_job (omega arith) refl steady)
-steady_wire d lines since c (Some q) (Some y) state is_job steady =
-    steady_ended _ (exchange (Some q) (Some y) ∷ lines) (answer_heard d.body c _ y _)
-    (steady_exchange lines since c (Some q) (Some y) is_job (omega arith) refl steady)
+steady_wire d lines since c (SetMask mask) None state is_job (inl again) steady = absurd cc
+steady_wire d lines since c (Dispense serial count) None state is_job (inr once) steady =
+    let none = (once_none lines since c is_job once.1 steady).1 in
+    steady_exchange lines since c (Dispense serial count) None is_job (omega (arith, none))
+    (λ few. absurd (omega (arith, few, once.1))) steady
+steady_wire d lines since c (Dispense serial count) None state is_job (inl again) steady = absurd cc
+steady_wire d lines since c q None state is_job sent steady =
+    elim sent [
+      | inl again ↦ rw (same_tries q since) (steady_failed lines since c q (suc (tries (header_of q) since) == 3)
+          refl again (again_none c q since (asked_again q again)) is_job steady)
+      | inr once ↦ absurd cc
+    ]
 
 with_put : (r : Record) (j : Job) → HasTriesLeft (with_line (put r) j)
 with_put r free = free_on
-with_put r (works c since) = record { few = omega arith; no_mask = refl }
+with_put r (works c since) = record { few = omega arith; none_of_once = λ few. (refl, refl) }
+
+with_halt : (addr : ℕ) (j : Job) → HasTriesLeft j → HasTriesLeft (with_line (taken (command.Halt addr)) j)
+with_halt addr free left = free_on
+with_halt addr (works c since) left = record { few = left.few; none_of_once = left.none_of_once }
+
+-- dispenses that a hopper took, and entries that are none of the device
+steady_dosed : (ls lines : List Line) → AreDoses ls → Steady lines → Steady (ls ++ lines)
+steady_dosed [] lines are steady = steady
+steady_dosed (dispensed count ∷ ls) lines are steady =
+    let before = steady_dosed ls lines are steady in
+    steady_line (dispensed count) (ls ++ lines) (λ older few. few) before.goes_on before
+steady_dosed (l ∷ ls) lines are steady = absurd are
+
+steady_passed : (d : DeviceSetup) (past news : List Entry) → ArePassed d past news → Steady (lines_of d past) →
+    Steady (lines_of d (news ++ past))
+steady_passed d past [] passes steady = steady
+steady_passed d past (e ∷ news) passes steady =
+    steady_dosed (own d (news ++ past) e) (lines_of d (news ++ past)) passes.0.dosed
+    (steady_passed d past news passes.1 steady)
+
+-- what comes to the device ends no job
+came_steady : (d : DeviceSetup) (past : List Met) (s : Step) (e : Entry) (m : Met) (ls lines : List Line) →
+    Comes d past s e m ls → failed_in (job lines) < 3 → AllPast GivenUpAt lines → AllPast GivenUpAt (ls ++ lines)
+came_steady d past _ _ _ _ lines (takes_coin place accepting test) few before = (few, before)
+came_steady d past _ _ _ _ lines (leaves_coin place accepting test) few before = (few, before)
+came_steady d past _ _ _ _ lines (leaves_alien accepting) few before = (few, before)
+came_steady d past _ _ _ _ lines (drops_coin paying test) few before = (few, before)
+came_steady d past _ _ _ _ lines (drops_none paying test) few before = before
+came_steady d past _ _ _ _ lines (jams paying test) few before = before
+came_steady d past _ _ _ _ lines (jams_none paying test) few before = before
+came_steady d past _ _ _ _ lines is_reset few before = (few, before)
 
 -- what each step brings at the device
-steady_there : (setup : Setup) (d : DeviceSetup) (past news : List Entry) (s : Step) → AtDevice setup d past s news →
+steady_there : (capacity : Option ℕ) (setup : Setup) (d : DeviceSetup) (past news : List Entry) (s : Step) →
+    IsSoundSetup setup → IsOf setup d → Ids setup past → AtDevice capacity setup d past s news →
     Steady (lines_of d past) → Steady (lines_of d (news ++ past))
-steady_there setup d past _ _ (came s e m l comes) steady =
-    let is = loose d (met d past) s e m l comes in
-    rw (loose_line d past s e m l is) (steady_line l (lines_of d past) is.no_third
-    (subst HasTriesLeft (sym (is.same_job (lines_of d past))) steady.goes_on) steady)
-steady_there setup d past _ _ (took c played here is_free is_taken) steady =
+steady_there capacity setup d past _ _ sound own ids (came s e m ls comes) steady =
+    let is = loose d (met d past) s e m ls comes in
+    rw (loose_line d past s e m ls is)
+    (record {
+      each = came_steady d (met d past) s e m ls (lines_of d past) comes steady.goes_on.few steady.each;
+      goes_on = subst HasTriesLeft (sym (is.same_job (lines_of d past))) steady.goes_on;
+    })
+steady_there capacity setup d past _ _ sound own ids (took c suited here is_free is_taken is_owed lets) steady =
     rw (lines_taken d past c here) (steady_line (taken c) (lines_of d past) (λ older few. few)
-    (rw (begun_played c (lines_of d past) played) (record { few = omega arith; no_mask = refl })) steady)
-steady_there setup d past _ _ (idled is_free) steady = steady
-steady_there setup d past _ _ (made_exchange c since q at_work is_row) steady =
+    (rw (begun_at_work d.body c (lines_of d past) suited)
+    (record { few = omega arith; none_of_once = λ few. (refl, refl) })) steady)
+steady_there capacity setup d past _ _ sound own ids (halted paying can) steady =
+    rw (lines_taken d past (command.Halt d.addr) refl)
+    (steady_line (taken (command.Halt d.addr)) (lines_of d past) (λ older few. few)
+    (with_halt d.addr (job (lines_of d past)) steady.goes_on) steady)
+steady_there capacity setup d past _ _ sound own ids (idled is_free) steady = steady
+steady_there capacity setup d past _ _ sound own ids (made_exchange c since q at_work is_row) steady =
+    let state = epoch (lines_of d past) in
+    let sent = ask d.kind d.addr q in
+    let got = got_by d sent (heard_after setup past sent) in
+    let low = (found_in IsSound setup.devices d.addr d sound.devices own).0.serial in
+    let row_is = subst (RowHolds (IsSentAt (done since)) (λ r. ⊤)) is_row
+    (sent_at d c (done since) (judged_in c since state) (payment_in since (order (lines_of d past))) low) in
+    let asks : asked d.kind sent ≡ Some q = asked_back d.kind d.addr q (fits_sent (done since) q row_is) in
+    let heard_it = asks_of d (heard_by_devices (pending past) sent) in
+    let dosed = doses_of d past sent ++ lines_of d past in
+    let before : Steady dosed =
+    steady_dosed (doses_of d past sent) (lines_of d past) (doses_are d.body d.serial (met d past) heard_it) steady in
+    let job_is : job dosed ≡ works c since =
+    job_undosed d.body d.serial (met d past) heard_it (lines_of d past) ∙ at_work.job_is in
     subst Steady (sym (lines_with_end d past (wire_of setup d past q) (wire_end setup d past c since q) _
-    (lines_wire d past _ _)))
-    (steady_wire d (lines_of d past) since c _ _ _ at_work.job_is steady)
-steady_there setup d past _ _ (made_put c since r at_work is_row owned) steady =
-    subst Steady (sym (lines_with_end d past (entry.Put r) (record_end d past c since r) (put r)
-    (lines_put d past r (owned past))))
-    (steady_ended (end_of_put c r) (put r ∷ lines_of d past) (put_heard c r)
+    (lines_wire d past sent (heard_after setup past sent))))
+    (subst (λ a. Steady (with_ended (end_of d c (exchange a got) since state) (exchange a got ∷ dosed))) (sym asks)
+    (steady_wire d dosed since c q got state job_is row_is before))
+steady_there capacity setup d past _ _ sound own ids (made_put c since r at_work is_row) steady =
+    subst Steady (sym (lines_with_end d past (entry.Put r) (record_end d past c since r) (put r ∷ lines_of d past)
+    (lines_put d past r (put_owned setup past d c since r own ids at_work is_row))))
+    (steady_ended (end_of_put c r) (put r ∷ lines_of d past) (if_heard c _ (ends_of_put c r))
     (steady_line (put r) (lines_of d past) (λ older few. few) (with_put r (job (lines_of d past))) steady))
 
-steady_step : (setup : Setup) (d : DeviceSetup) → IsSoundSetup setup → IsOf setup d →
-    (past news : List Entry) (s : Step) →
-    ⊤ → Brought setup past s news → Steady (lines_of d past) → Steady (lines_of d (news ++ past))
-steady_step setup d sound own past news s any told steady =
-    elim (seen_from setup d past news s sound own told) [
-      | inl here ↦ steady_there setup d past news s here steady
-      | inr aside ↦ subst Steady (sym (passed_lines d past news aside.passes)) steady
+-- a loss of power
+steady_crash : (lines : List Line) → Steady lines → Steady (crashed ∷ lines)
+steady_crash lines steady = steady_line crashed lines (λ older few. few) free_on steady
+
+steady_lost : (d : DeviceSetup) (past news : List Entry) → Lost d past news → Steady (lines_of d past) →
+    Steady (lines_of d (news ++ past))
+steady_lost d past _ bare steady = steady_crash (lines_of d past) steady
+steady_lost d past _ (kept_here c since r at_work is_row owned) steady =
+    subst Steady (sym (lines_kept d past r owned))
+    (steady_line (put r) (crashed ∷ lines_of d past) (λ older few. few) free_on
+    (steady_crash (lines_of d past) steady))
+steady_lost d past _ (kept_elsewhere r away caused) steady =
+    subst Steady (sym (lines_kept_elsewhere d past r away)) (steady_crash (lines_of d past) steady)
+
+steady_step : (capacity : Option ℕ) (setup : Setup) (d : DeviceSetup) → IsSoundSetup setup → IsOf setup d →
+    (past news : List Entry) (s : Step) → ⊤ → Ids setup past → Brought capacity setup past s news →
+    Steady (lines_of d past) → Steady (lines_of d (news ++ past))
+steady_step capacity setup d sound own past news s any ids told steady =
+    elim (seen_from capacity setup d past news s sound own ids told) [
+      | seen_here at ↦ steady_there capacity setup d past news s sound own ids at steady
+      | seen_aside aside ↦ steady_passed d past news aside.passes steady
+      | seen_lost lost no_next ↦ steady_lost d past news lost steady
     ]
 
-legal_steady : (setup : Setup) (steps : List Step) (transcript : List Entry) (d : DeviceSetup) → IsSoundSetup setup →
-    IsOf setup d → Legal setup steps transcript → Steady (lines_in d transcript)
-legal_steady setup steps transcript d sound own legal =
-    along setup (λ s. ⊤) (λ past. Steady (lines_of d past)) (steady_step setup d sound own) [] steps
-    (onto [] transcript) (any_steps steps)
-    legal (record { each = tt; goes_on = free_on })
+legal_steady : (capacity : Option ℕ) (setup : Setup) (steps : List Step) (transcript : List Entry) (d : DeviceSetup) →
+    IsSoundSetup setup → IsOf setup d → Legal capacity setup steps transcript → Steady (lines_in d transcript)
+legal_steady capacity setup steps transcript d sound own legal =
+    along capacity setup (λ s. ⊤) (λ past. Steady (lines_of d past)) sound (steady_step capacity setup d sound own)
+    steps (onto [] transcript) (any_steps steps) legal (record { each = tt; goes_on = free_on })
 
--- a job ends for want of an answer exactly after its third failed try
-pub legal_tries : (setup : Setup) (steps : List Step) (transcript : List Entry) (d : DeviceSetup) → IsSoundSetup setup →
-    IsOf setup d → Legal setup steps transcript → AllPast TriesAt (lines_in d transcript)
-legal_tries setup steps transcript d sound own legal = (legal_steady setup steps transcript d sound own legal).each
+-- a job ends for want of an answer exactly after its third failed try of what it asks again
+pub legal_given_up : (capacity : Option ℕ) (setup : Setup) (steps : List Step) (transcript : List Entry)
+    (d : DeviceSetup) → IsSoundSetup setup → IsOf setup d → Legal capacity setup steps transcript →
+    AllPast GivenUpAt (lines_in d transcript)
+legal_given_up capacity setup steps transcript d sound own legal =
+    (legal_steady capacity setup steps transcript d sound own legal).each
+
+pub legal_tries : (capacity : Option ℕ) (setup : Setup) (steps : List Step) (transcript : List Entry)
+    (d : DeviceSetup) → IsSoundSetup setup → IsOf setup d → Legal capacity setup steps transcript →
+    AllPast TriesAt (lines_in d transcript)
+legal_tries capacity setup steps transcript d sound own legal =
+    all_tries (lines_in d transcript) (legal_given_up capacity setup steps transcript d sound own legal)
 
 -- and no job goes on that has three
-pub legal_few_tries : (setup : Setup) (steps : List Step) (transcript : List Entry) (d : DeviceSetup) →
-    IsSoundSetup setup → IsOf setup d → Legal setup steps transcript → failed_in (job (lines_in d transcript)) < 3
-legal_few_tries setup steps transcript d sound own legal =
-    (legal_steady setup steps transcript d sound own legal).goes_on.few
+pub legal_few_tries : (capacity : Option ℕ) (setup : Setup) (steps : List Step) (transcript : List Entry)
+    (d : DeviceSetup) → IsSoundSetup setup → IsOf setup d → Legal capacity setup steps transcript →
+    failed_in (job (lines_in d transcript)) < 3
+legal_few_tries capacity setup steps transcript d sound own legal =
+    (legal_steady capacity setup steps transcript d sound own legal).goes_on.few

@@ -1,13 +1,21 @@
--- When a round ends: which steps ask for it, which exchanges are its own, and which entries show it.
-use Rattle.std.specs.Prelude.{◌≡◌, ◌≢◌, ◌⊎◌, ℕ, suc, ◌==◌, List, [], ◌∷◌, ◌++◌, if◌then◌else◌, ⊤}
+-- When a job ends: which steps ask for it, which ends are its own, which entries are its own, and which show its end.
+use Rattle.std.specs.Prelude.{◌≡◌, ◌≢◌, ◌⊎◌, ℕ, suc, ◌+◌, ◌==◌, Bool, true, false, List, [], ◌∷◌, ◌++◌, length, if◌then◌else◌, Some, ⊤}
+use Rattle.cct_model.specs.terms.device.DeviceBody.{DeviceBody}
+use Rattle.cct_model.specs.terms.device.DeviceSetup.{DeviceSetup}
+use Rattle.cct_model.specs.terms.request.Request.TheVariants.{GetStatus}
+use Rattle.cct_model.specs.lines.command.Command.{Command}
+use Rattle.cct_model.specs.lines.command.Command.TheVariants as command
 use Rattle.cct_model.specs.lines.command.Step.{Step}
 use Rattle.cct_model.specs.lines.command.Step.TheVariants as step
 use Rattle.cct_model.specs.lines.command.WireFault.TheVariants.{Clear}
 use Rattle.cct_model.specs.lines.entry.End.{End}
-use Rattle.cct_model.specs.lines.entry.End.TheVariants.{Clean, Posted, Broke}
+use Rattle.cct_model.specs.lines.entry.End.TheVariants.{Started, Unquiet, Clean, Posted, Broke, Stopped, Told, PathSet, Closed, OddLife, Sold}
 use Rattle.cct_model.specs.lines.entry.Entry.{Entry}
 use Rattle.cct_model.specs.lines.entry.Entry.TheVariants as entry
-use Rattle.cct_model.specs.Transcript.{pending}
+use Rattle.cct_model.specs.Exchange.{asked}
+use Rattle.cct_model.specs.Hopper.{remaining}
+use Rattle.cct_model.specs.Job.{ident_requests}
+use Rattle.cct_model.specs.Transcript.{pending, met}
 
 -- So many `next` at an address after a step.
 abbrev pub nexts_after : ℕ → Step → ℕ → ℕ
@@ -19,22 +27,71 @@ abbrev pub nexts_at : ℕ → List Step → ℕ
 nexts_at addr [] = 0
 nexts_at addr (s ∷ steps) = nexts_after addr s (nexts_at addr steps)
 
--- The ends of a round that got its answers: nothing came, a reading was put, or a break.
-abbrev pub IsRoundEnd : End → Type 0
-IsRoundEnd Clean = ⊤
-IsRoundEnd Posted = ⊤
-IsRoundEnd Broke = ⊤
-IsRoundEnd end = ⊥
+-- So many halts at an address after a step.
+abbrev pub halts_after : ℕ → Step → ℕ → ℕ
+halts_after addr (step.Command (command.Halt other)) halts = if other == addr then suc halts else halts
+halts_after addr s halts = halts
 
--- Among these entries such an end stands at an address.
-abbrev pub ShowsRoundEnd : ℕ → List Entry → Type 0
-ShowsRoundEnd addr [] = ⊥
-ShowsRoundEnd addr (entry.Ended other end ∷ news) = ((other ≡ addr) × IsRoundEnd end) ⊎ ShowsRoundEnd addr news
-ShowsRoundEnd addr (e ∷ news) = ShowsRoundEnd addr news
+-- How many of these steps are a halt at an address.
+abbrev pub halts_at : ℕ → List Step → ℕ
+halts_at addr [] = 0
+halts_at addr (s ∷ steps) = halts_after addr s (halts_at addr steps)
+
+-- A payment and a settlement are the jobs that can be halted.
+abbrev pub is_payment : Command → Bool
+is_payment (command.Pay addr id count) = true
+is_payment (command.Settle addr) = true
+is_payment c = false
+
+-- How many rows the job of a command has at the most, at a device of a kind.
+abbrev pub rows_of : DeviceBody → Command → ℕ
+rows_of body (command.Start addr mask) = 4
+rows_of body (command.Round addr) = 3
+rows_of body (command.Stop addr) = 5
+rows_of body (command.Pay addr id count) = 7
+rows_of body (command.Settle addr) = 3
+rows_of body (command.Ident addr) = length (ident_requests body)
+rows_of body (command.Path addr place path) = 2
+rows_of body c = 0
+
+-- How many `next` the job of a command needs at the most, where these steps come: one for each of its rows, and for a
+-- payment one more for each halt.
+abbrev pub nexts_needed : DeviceSetup → Command → List Step → ℕ
+nexts_needed d c steps = if is_payment c then rows_of d.body c + halts_at d.addr steps else rows_of d.body c
+
+-- The ends of a job that got its answers: a start that started, or whose acceptor wasn't quiet; a round or a stop that
+-- came to its end, or broke; an order that was closed; an identification and a path that were told; a sale.
+abbrev pub IsEndOf : Command → End → Type 0
+IsEndOf (command.Start addr mask) Started = ⊤
+IsEndOf (command.Start addr mask) (Unquiet counter) = ⊤
+IsEndOf (command.Round addr) Clean = ⊤
+IsEndOf (command.Round addr) Posted = ⊤
+IsEndOf (command.Round addr) Broke = ⊤
+IsEndOf (command.Stop addr) Broke = ⊤
+IsEndOf (command.Stop addr) Stopped = ⊤
+IsEndOf (command.Pay addr id count) Closed = ⊤
+IsEndOf (command.Pay addr id count) OddLife = ⊤
+IsEndOf (command.Settle addr) Closed = ⊤
+IsEndOf (command.Settle addr) OddLife = ⊤
+IsEndOf (command.Ident addr) Told = ⊤
+IsEndOf (command.Path addr place path) (PathSet at number) = ⊤
+IsEndOf (command.Vend id price) Sold = ⊤
+IsEndOf c end = ⊥
+
+-- Among these entries such an end of a command's job stands at an address.
+abbrev pub ShowsEnd : Command → ℕ → List Entry → Type 0
+ShowsEnd c addr [] = ⊥
+ShowsEnd c addr (entry.Ended other end ∷ news) = ((other ≡ addr) × IsEndOf c end) ⊎ ShowsEnd c addr news
+ShowsEnd c addr (e ∷ news) = ShowsEnd c addr news
 
 -- A past goes on to another, and such an end stands between them.
+abbrev pub EndsAs : Command → ℕ → List Entry → List Entry → Type 0
+EndsAs c addr past end = (news : List Entry) × (end ≡ news ++ past) × ShowsEnd c addr news
+
+-- A past goes on to another, and between them a round ends that got its answers: nothing came, a reading was put, or a
+-- break.
 abbrev pub EndsRound : ℕ → List Entry → List Entry → Type 0
-EndsRound addr past end = (news : List Entry) × (end ≡ news ++ past) × ShowsRoundEnd addr news
+EndsRound addr past end = EndsAs (command.Round addr) addr past end
 
 -- Among these entries no job ends at an address.
 abbrev pub HasNoEnd : ℕ → List Entry → Type 0
@@ -42,14 +99,29 @@ HasNoEnd addr [] = ⊤
 HasNoEnd addr (entry.Ended other end ∷ news) = (other ≢ addr) × HasNoEnd addr news
 HasNoEnd addr (e ∷ news) = HasNoEnd addr news
 
--- Of the entries that went onto a past no exchange of the job that was at an address there, so none before the first
--- end at it, stands where a fault was set. Later exchanges, and those of other addresses, may.
-abbrev pub AreUndisturbed : ℕ → List Entry → List Entry → Type 0
-AreUndisturbed addr past [] = ⊤
-AreUndisturbed addr past (entry.Wire other sent piece ∷ news) =
-    (other ≡ addr → HasNoEnd addr news → pending (news ++ past) ≡ Clear) × AreUndisturbed addr past news
-AreUndisturbed addr past (e ∷ news) = AreUndisturbed addr past news
+-- Of the entries that went onto a past, each that came while the job that was at an address there was at work, so
+-- before the first end at it, has this fact.
+abbrev pub EachAtWork : (List Entry → Entry → Type 0) → ℕ → List Entry → List Entry → Type 0
+EachAtWork P addr past [] = ⊤
+EachAtWork P addr past (e ∷ news) = (HasNoEnd addr news → P (news ++ past) e) × EachAtWork P addr past news
 
--- A past goes on to another, and no fault was set for an exchange of the job that was at an address.
+-- An entry is no exchange at an address for which a fault was set, and no loss of power.
+abbrev pub LeavesAlone : ℕ → List Entry → Entry → Type 0
+LeavesAlone addr past (entry.Wire other sent piece) = other ≡ addr → pending past ≡ Clear
+LeavesAlone addr past (entry.Crash records) = ⊥
+LeavesAlone addr past e = ⊤
+
+-- A past goes on to another, and while the job was at work that was at an address, no fault was set for its exchanges,
+-- and the host didn't lose its power. Faults for later exchanges, and for those of other addresses, may be set.
 abbrev pub IsUndisturbed : ℕ → List Entry → List Entry → Type 0
-IsUndisturbed addr past end = (news : List Entry) → end ≡ news ++ past → AreUndisturbed addr past news
+IsUndisturbed addr past end = (news : List Entry) → end ≡ news ++ past → EachAtWork (LeavesAlone addr) addr past news
+
+-- Where an exchange asks a hopper how its payout goes, no coin is left to pay.
+abbrev pub FindsNoneLeft : DeviceSetup → List Entry → Entry → Type 0
+FindsNoneLeft d past (entry.Wire other sent piece) =
+    other ≡ d.addr → asked d.kind sent ≡ Some GetStatus → remaining d.serial (met d past) ≡ 0
+FindsNoneLeft d past e = ⊤
+
+-- A past goes on to another, and whenever the job at a hopper asked how its payout goes, no coin was left to pay.
+abbrev pub IsPaidOut : DeviceSetup → List Entry → List Entry → Type 0
+IsPaidOut d past end = (news : List Entry) → end ≡ news ++ past → EachAtWork (FindsNoneLeft d) d.addr past news

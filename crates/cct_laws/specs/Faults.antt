@@ -1,13 +1,15 @@
 -- What an exchange without the wanted reply shows: that a fault was set for it.
-use Rattle.std.specs.Prelude.{◌≡◌, ◌≢◌, ℕ, zero, suc, ◌==◌, Bool, false, List, [], ◌∷◌, None, MatchBool, ⊤}
+use Rattle.std.specs.Prelude.{◌≡◌, ◌≢◌, ℕ, zero, suc, ◌==◌, Bool, true, false, List, [], ◌∷◌, Option, Some, None, MatchBool, ⊤}
 use Rattle.cct_model.specs.terms.device.DeviceSetup.{DeviceSetup}
+use Rattle.cct_model.specs.terms.request.Request.{Request}
+use Rattle.cct_model.specs.terms.request.Request.TheVariants.{Dispense}
 use Rattle.cct_model.specs.lines.command.Command.{Command}
 use Rattle.cct_model.specs.lines.command.Command.TheVariants as command
 use Rattle.cct_model.specs.lines.command.WireFault.TheVariants.{Clear}
 use Rattle.cct_model.specs.lines.entry.End.TheVariants.{NoAnswer}
 use Rattle.cct_model.specs.lines.entry.Entry.{Entry}
 use Rattle.cct_model.specs.lines.entry.Entry.TheVariants as entry
-use Rattle.cct_model.specs.Exchange.{after_echo}
+use Rattle.cct_model.specs.Exchange.{asked, after_echo}
 use Rattle.cct_model.specs.Job.{address_of}
 use Rattle.cct_model.specs.Transcript.{pending, got_by}
 
@@ -19,6 +21,17 @@ IsFaultSet past = pending past ≢ Clear
 abbrev pub FailsByFault : DeviceSetup → List Entry → Entry → Type 0
 FailsByFault d past (entry.Wire addr sent piece) = addr ≡ d.addr → got_by d sent piece ≡ None → IsFaultSet past
 FailsByFault d past e = ⊤
+
+-- A hopper may refuse what it is asked: a dispense.
+abbrev pub is_dispense : Option Request → Bool
+is_dispense (Some (Dispense serial count)) = true
+is_dispense asks = false
+
+-- The same, but for exchanges that ask what is excused.
+abbrev pub FailsByFaultBut : (Option Request → Bool) → DeviceSetup → List Entry → Entry → Type 0
+FailsByFaultBut excused d past (entry.Wire addr sent piece) =
+    addr ≡ d.addr → excused (asked d.kind sent) ≡ false → got_by d sent piece ≡ None → IsFaultSet past
+FailsByFaultBut excused d past e = ⊤
 
 -- An exchange in which the host didn't hear its own echo stands where a fault was set.
 abbrev pub EchoFailsByFault : List Entry → Entry → Type 0

@@ -1,26 +1,36 @@
--- A fact of what an acceptor met and of the lines of its address that every step over an honest wire keeps.
-use Rattle.std.specs.Prelude.{◌≡◌, List, ◌∷◌, Option, Some, None, ⊤}
+-- What becomes of a request over an honest wire, and which commands suit a device, as the facts that steps keep need it.
+use Rattle.std.specs.Prelude.{◌≡◌, Bool, true, false, List, ◌∷◌, Option, Some, None, ⊤}
+use Rattle.cct_model.specs.terms.device.DeviceBody.{DeviceBody}
+use Rattle.cct_model.specs.terms.device.DeviceBody.TheVariants.{Acceptor, Hopper}
 use Rattle.cct_model.specs.terms.device.DeviceSetup.{DeviceSetup}
 use Rattle.cct_model.specs.terms.request.Request.{Request}
-use Rattle.cct_model.specs.terms.request.Request.TheVariants.{AddressPoll, SimplePoll}
+use Rattle.cct_model.specs.terms.request.Request.TheVariants.{AddressPoll, SimplePoll, Dispense}
 use Rattle.cct_model.specs.declared.judging.EpochState.{EpochState}
 use Rattle.cct_model.specs.lines.command.Command.{Command}
 use Rattle.cct_model.specs.lines.command.Command.TheVariants as command
 use Rattle.cct_model.specs.lines.entry.End.{End}
 use Rattle.cct_model.specs.Reply.{Reply}
 use Rattle.cct_model.specs.History.{Met}
-use Rattle.cct_model.specs.Device.{reply_of}
+use Rattle.cct_model.specs.Hopper.{taken_of}
+use Rattle.cct_model.specs.Device.{IsHopper, reply_of}
 use Rattle.cct_model.specs.Line.{Line, ended}
 use Rattle.cct_model.specs.Job.{works, job, address_of}
-use Rattle.cct_model.specs.Legal.{start_refusal, running_refusal}
+use Rattle.cct_model.specs.Refusal.{start_refusal, running_refusal}
 use Rattle.cct_model.specs.Script.{IsCommand}
 
 -- What becomes of a request to a device over an honest wire, as what the device heard and what the host got: the
--- devices heard a damaged piece; the host heard one, or nothing; or the host got the device's reply.
+-- devices heard a damaged piece; the host heard one, or nothing, or that the device refuses; or the host got the
+-- device's reply.
 pub data Fate (d : DeviceSetup) (past : List Met) (q : Request) : Option Request → Option Reply → Type 0 where
   unheard : Fate d past q None None
   silenced : Fate d past q (Some q) None
   answered : (y : Reply) → reply_of d past q ≡ Some y → Fate d past q (Some q) (Some y)
+
+-- A hopper that met all this refuses a request: one to dispense coins, which it doesn't take.
+abbrev pub IsRefused : DeviceSetup → List Met → Request → Type 0
+IsRefused d past (Dispense serial count) =
+    IsHopper d.body × (taken_of d.serial past (Some (Dispense serial count)) ≡ None)
+IsRefused d past q = ⊥
 
 -- A piece that no job at a device sends it asks nothing of it, or is a poll of a scan, which asks all devices or this
 -- one.
@@ -35,6 +45,27 @@ abbrev pub with_ended : Option End → List Line → List Line
 with_ended None lines = lines
 with_ended (Some end) lines = ended end ∷ lines
 
+-- A command that begins a job at an acceptor.
+abbrev pub is_for_acceptor : Command → Bool
+is_for_acceptor (command.Start addr mask) = true
+is_for_acceptor (command.Round addr) = true
+is_for_acceptor (command.Stop addr) = true
+is_for_acceptor (command.Ident addr) = true
+is_for_acceptor (command.Path addr place path) = true
+is_for_acceptor c = false
+
+-- A command that begins a job at a hopper.
+abbrev pub is_for_hopper : Command → Bool
+is_for_hopper (command.Pay addr id count) = true
+is_for_hopper (command.Settle addr) = true
+is_for_hopper (command.Ident addr) = true
+is_for_hopper c = false
+
+-- A command begins a job at a device of this kind.
+abbrev pub suits : DeviceBody → Command → Bool
+suits (Acceptor accepts values ids) c = is_for_acceptor c
+suits (Hopper life value) c = is_for_hopper c
+
 -- A command to an acceptor is not refused because of its epoch.
 abbrev pub IsTaken : DeviceSetup → Command → EpochState → Type 0
 IsTaken d (command.Start addr mask) state = start_refusal mask d state ≡ None
@@ -42,8 +73,9 @@ IsTaken d (command.Round addr) state = running_refusal d state ≡ None
 IsTaken d (command.Stop addr) state = running_refusal d state ≡ None
 IsTaken d c state = ⊤
 
--- The job at a device is one of a command for it, in its range.
+-- The job at a device is one of a command for it and for its kind, in its range.
 pub record WorksAt (d : DeviceSetup) (lines : List Line) (c : Command) (since : List Line) : Type 0 where
   pub job_is : job lines ≡ works c since
   pub is_here : address_of c ≡ d.addr
   pub in_range : IsCommand c
+  pub suited : suits d.body c ≡ true

@@ -48,12 +48,12 @@ IsAnswered setup d past q =
 abbrev pub IsUnanswered : Setup → DeviceSetup → List Entry → Request → Type 0
 IsUnanswered setup d past q = got_by d (ask d.kind d.addr q) (heard_after setup past (ask d.kind d.addr q)) ≡ None
 
--- The address of a command is a byte, and the mask of a start has 16 bits.
+-- The address of a command is a byte, and the mask of a start has 16 bits. Ids, counts and prices are any numbers.
 abbrev pub IsCommandOfBytes : Command → Type 0
 IsCommandOfBytes (command.Start addr mask) = (addr < 256) × (mask < 65536)
 IsCommandOfBytes c = address_of c < 256
 
--- What a step says that isn't bounded by its setup is bytes: the address of a `next`, the numbers of a command, and the
+-- What a step sends or shows in bytes is such: the address of a `next`, the address and the mask of a command, and the
 -- piece of a fault.
 abbrev pub HasBytes : Step → Type 0
 HasBytes (step.Next addr) = addr < 256

@@ -13,14 +13,14 @@ use Rattle.cct_model.specs.Reply.{Reply}
 use Rattle.cct_model.specs.History.{Met, coin, alien, fall, jam, reset, heard, unless_reset}
 use Rattle.cct_model.specs.Acceptor.{mask_of, path_of}
 use Rattle.cct_model.specs.Acceptor as acceptor
-use Rattle.cct_model.specs.Line.{Line, accepted, inhibited, exchange, put, taken}
+use Rattle.cct_model.specs.Line.{Line, accepted, inhibited, exchange, put, taken, crashed}
 use Rattle.cct_model.specs.Line as line
+use Rattle.cct_model.specs.Order.{order}
 use Rattle.cct_model.specs.Job.{free, job, epoch, row, sends, puts, end_of, address_of}
-use Rattle.cct_model.specs.Legal.{is_played_command}
 use Rattle.cct_model.specs.Script.{IsCommand}
 use Rattle.cct_model.specs.Transcript.{meets, onto}
 use Rattle.cct_laws.specs.Law.{EachEntry}
-use Rattle.cct_laws.specs.Kept.{Fate, IsForOthers, with_ended, IsTaken, WorksAt}
+use Rattle.cct_laws.specs.Kept.{Fate, IsForOthers, is_for_acceptor, with_ended, IsTaken, WorksAt}
 
 -- What a device met since a record: nothing, where the record begins an epoch at its address.
 abbrev pub since_record : DeviceSetup → Record → List Met → List Met
@@ -121,15 +121,18 @@ pub record IsKeptSince (d : DeviceSetup) (P : List Met → List Met → List Lin
   pub elsewhere : (since past : List Met) (lines : List Line) (asked : Option Request) → IsForOthers asked →
       P since past lines → P (heard asked ∷ since) (heard asked ∷ past) lines
   pub takes : (since past : List Met) (lines : List Line) (c : Command) → job lines ≡ free → address_of c ≡ d.addr →
-      IsCommand c →
-      is_played_command c ≡ true → IsTaken d c (epoch lines) → P since past lines → P since past (taken c ∷ lines)
+      IsCommand c → is_for_acceptor c ≡ true → IsTaken d c (epoch lines) → P since past lines → P since past (taken c ∷ lines)
   pub asks : (since past : List Met) (lines : List Line) (c : Command) (work : List Line) (q : Request)
       (asked : Option Request) (got : Option Reply) →
-      WorksAt d lines c work → row d c work (epoch lines) ≡ sends q → Fate d past q asked got →
+      WorksAt d lines c work → row d c work (epoch lines) (order lines) ≡ sends q → Fate d past q asked got →
       P since past lines → P (heard asked ∷ since) (heard asked ∷ past)
       (with_ended (end_of d c (exchange (Some q) got) work (epoch lines)) (exchange (Some q) got ∷ lines))
+  pub crashes : (since past : List Met) (lines : List Line) → P since past lines → P since past (crashed ∷ lines)
+  pub keeps : (since past : List Met) (lines : List Line) (c : Command) (work : List Line) (r : Record) →
+      WorksAt d lines c work → row d c work (epoch lines) (order lines) ≡ puts r →
+      P since past lines → P (since_record d r since) past (put r ∷ crashed ∷ lines)
   pub puts : (since past : List Met) (lines : List Line) (c : Command) (work : List Line) (r : Record) →
-      WorksAt d lines c work → row d c work (epoch lines) ≡ puts r →
+      WorksAt d lines c work → row d c work (epoch lines) (order lines) ≡ puts r →
       P since past lines → P (since_record d r since) past (with_ended (end_of d c (put r) work (epoch lines))
       (put r ∷ lines))
 

@@ -1,22 +1,19 @@
-//! Laws of all legal transcripts of a setup of several devices under both checks, over the definitions of `cct_model`:
-//! each is the clause of a function without parameters, whose body is empty.
+//! Laws of all legal transcripts of a setup of several devices of both kinds and under both checks, with losses of power
+//! at every step and after each disk call of a put, over the definitions of `cct_model`: each is a clause of a function
+//! without parameters, whose body is empty.
 //!
 //! Each goes by cases on what one step brought (`Brought` of `proofs/Brought.antt`, to which `brought` leads from the
 //! definition of legal), or on how that is seen from one device (`seen_from` of `proofs/Seen.antt`); `along` there
 //! carries a fact over all steps.
 //!
-//! A crate above cites the lemmas behind them: `undisturbed_answered` and `honest_answered` of `proofs/Asked.antt`;
-//! `legal_in_order` and `legal_covers` of `proofs/Posts.antt`; `round_ends` of `proofs/Ending.antt`; `legal_shut`,
-//! `legal_masked`, `legal_silent`, `legal_unread`, `legal_caused` and `legal_causes` of `proofs/Safety.antt`;
-//! `kept_legal` and `kept_since_legal` of `proofs/Whole.antt`, by which any fact of an acceptor holds that each thing
-//! that can come keeps; `legal_fails` and `legal_echoes` of `proofs/Faults.antt`; `legal_ends` and `legal_scan_ends` of
-//! `proofs/GivenUp.antt`; `legal_tries` and `legal_few_tries` of `proofs/Tries.antt`; `legal_scans` and
-//! `legal_few_polls` of `proofs/Scans.antt`; `setup_of_today`, `steps_of_today` and `front_of_today` of
-//! `proofs/Scripts.antt`, and there `played_holds`, which joins them for the front of a script; `legal_written` and
-//! `legal_text` of `proofs/Texts.antt`, and `played_texts` of `proofs/Scripts.antt`.
+//! A crate above cites the lemmas behind them, each of which is named in its function's `Answers.antt`; and beside them
+//! `kept_legal`, `kept_since_legal` and `kept_hopper_legal` of `proofs/Whole.antt`, by which any fact of a device holds
+//! that each thing that can come keeps; `along` of `proofs/Seen.antt`, by which one of all entries does; `setup_of_today`,
+//! `steps_of_today` and `front_of_today` of `proofs/Scripts.antt`, and there `played_holds`, which joins them for the
+//! front of a script; and `legal_written` of `proofs/Texts.antt`.
 #![tactic(auto)]
 
-ghost use Rattle.std.specs.Prelude.{ℕ, ◌≡◌, ◌<◌, ◌≤◌, ◌⊎◌, false, List, [], ◌++◌, None};
+ghost use Rattle.std.specs.Prelude.{ℕ, ◌≡◌, ◌<◌, ◌≤◌, ◌⊎◌, false, List, [], ◌++◌, None, true, Option, Some, ◌≢◌, ◌+◌, length};
 ghost use Rattle.std.specs.List.{All};
 ghost use Rattle.cct_model.specs.terms.coin.Coin.{Coin};
 ghost use Rattle.cct_model.specs.terms.device.DeviceSetup.{DeviceSetup};
@@ -26,62 +23,98 @@ ghost use Rattle.cct_model.specs.declared.judging.Judged.{Judged};
 ghost use Rattle.cct_model.specs.lines.record.Record.TheVariants.{Broken};
 ghost use Rattle.cct_model.specs.declared.judging.EpochState.TheVariants.{Idle, Running};
 ghost use Rattle.cct_model.specs.lines.command.Command.{Command};
-ghost use Rattle.cct_model.specs.lines.command.Command.TheVariants.{Round};
+ghost use Rattle.cct_model.specs.lines.command.Command.TheVariants.{Round, Settle};
 ghost use Rattle.cct_model.specs.lines.command.Step.{Step};
 ghost use Rattle.cct_model.specs.lines.command.WireFault.TheVariants.{Clear};
 ghost use Rattle.cct_model.specs.lines.entry.Entry.{Entry};
 ghost use Rattle.cct_model.specs.terms.wire.TheConstants.{BROADCAST};
 ghost use Rattle.cct_model.specs.Acceptor.{accepts, events, credits_of};
 ghost use Rattle.cct_model.specs.Claims.{AllPast, InOrder, Covers, Pace};
-ghost use Rattle.cct_model.specs.Device.{IsAcceptor};
+ghost use Rattle.cct_model.specs.Device.{IsAcceptor, IsHopper};
 ghost use Rattle.cct_model.specs.Exchange.{ask};
-ghost use Rattle.cct_model.specs.Job.{works, job, epoch, row, row_at, sends, puts};
-ghost use Rattle.cct_model.specs.Legal.{Legal, LegalFrom};
+ghost use Rattle.cct_model.specs.Job.{works, job, epoch, row, row_at, sends, puts, Payment};
+ghost use Rattle.cct_model.specs.Legal.{Legal, LegalFrom, due_at};
 ghost use Rattle.cct_model.specs.Line.{Line};
 ghost use Rattle.cct_model.specs.Reading.{coins_among};
 ghost use Rattle.cct_model.specs.Script.{IsCommand, IsInRange, script};
 ghost use Rattle.cct_model.specs.Setup.{IsSoundSetup};
 ghost use Rattle.cct_model.specs.Text.{text};
 ghost use Rattle.cct_model.specs.Transcript.{pending, met, lines_of, scan_lines, onto};
-ghost use Rattle.cct_laws.specs.Ending.{nexts_at, EndsRound, IsUndisturbed};
-ghost use Rattle.cct_laws.specs.Faults.{FailsByFault, EchoFailsByFault, EndsByFaults};
+ghost use Rattle.cct_model.specs.terms.request.Request.TheVariants.{Dispense};
+ghost use Rattle.cct_model.specs.lines.record.Record.{Record};
+ghost use Rattle.cct_model.specs.lines.command.CommandNo.TheVariants.{JournalFull};
+ghost use Rattle.cct_model.specs.Hopper.{remaining};
+ghost use Rattle.cct_model.specs.Order.{order};
+ghost use Rattle.cct_model.specs.Records.{records, epoch_in, order_in, greatest_id};
+ghost use Rattle.cct_model.specs.Money.{posted_in, spoken_for, totals};
+ghost use Rattle.cct_model.specs.Refusal.{held, last_id, refusal};
+ghost use Rattle.cct_model.specs.Following.{all_follow};
+ghost use Rattle.cct_model.specs.Paid.{Paid, OfOrder, AreFresh, dispenses, fallen};
+ghost use Rattle.cct_laws.specs.Kept.{IsRefused, suits};
+ghost use Rattle.cct_laws.specs.Balanced.{IsBalanced, IsConserved};
+ghost use Rattle.cct_laws.specs.Coins.{all_fallen, all_paid};
+ghost use Rattle.cct_laws.specs.Fitting.{all_fit};
+ghost use Rattle.cct_laws.specs.Odd.{FitsLife};
+ghost use Rattle.cct_laws.specs.PaidOut.{is_paid_out};
+ghost use Rattle.cct_laws.specs.Recorded.{HasNoJob, IsRestart, open_orders, totals_in};
+ghost use Rattle.cct_laws.specs.Ending.{nexts_at, EndsRound, IsUndisturbed, nexts_needed, is_payment, EndsAs, IsPaidOut};
+ghost use Rattle.cct_laws.specs.Faults.{FailsByFault, EchoFailsByFault, EndsByFaults, is_dispense, FailsByFaultBut};
 ghost use Rattle.cct_model.specs.Honest.{Honest, IsHonestFault};
 ghost use Rattle.cct_laws.specs.Law.{IsOf, EachEntry, HasBytes, IsAnswered, IsUnanswered, AreOfToday, IsSetupOfToday, lines_in};
 ghost use Rattle.cct_laws.specs.Since.{since_epoch_in, mask_set_in, IsMaskedBy, MayBreak, HaveCauses};
 ghost use Rattle.cct_laws.specs.Tries.{TriesAt, ScanTriesAt, HasFewTries, failed_in};
 
-/// Where no fault is set for the next exchange, a job at an acceptor of a sound setup gets an answer to each request
-/// that it sends: the acceptor replies, and the host gets just that reply, in the form that the request wants. The
-/// other devices of the setup may be of any kind, and of either check. Nothing is said of the devices that a scan
-/// polls.
+/// Where no fault is set for the next exchange, a job at a device of a sound setup, begun by a command that suits the
+/// device's kind, gets an answer to each request that it sends: the device replies, and the host gets just that reply,
+/// in the form that the request wants. One request alone may be refused in the place of it: a dispense that the hopper
+/// doesn't take; the host then gets nothing. An acceptor refuses nothing. The other devices of the setup may be of any
+/// kind, and of either check. Nothing is said of the devices that a scan polls.
 pub fn an_undisturbed_exchange_is_answered()
     ensures { (setup : Setup) (past : List Entry) (d : DeviceSetup) (command : Command) (rows : ℕ) (judged : Judged)
-        (q : Request)
-        → IsSoundSetup setup → IsOf setup d → IsAcceptor d.body → IsCommand command
-        → pending past ≡ Clear → row_at d.body command rows judged ≡ sends q
-        → IsAnswered setup d past q }
+        (payment : Payment) (q : Request)
+        → IsSoundSetup setup → IsOf setup d → suits d.body command ≡ true → IsCommand command
+        → pending past ≡ Clear → row_at d command rows judged payment ≡ sends q
+        → IsAnswered setup d past q ⊎ (IsRefused d (met d past) q × IsUnanswered setup d past q) }
 {}
 
-/// Where an honest fault is set for the next exchange, such a job gets the acceptor's own reply to what it asks, or
-/// nothing: damage never makes another reply of it. An honest fault is one whose piece fails its check.
+/// Where an honest fault is set for the next exchange, such a job gets the device's own reply to what it asks, or
+/// nothing: damage never makes another reply of it. An honest fault is one whose piece fails its check. A dispense that
+/// the hopper refuses gets nothing.
 pub fn an_honest_exchange_gets_the_reply_or_nothing()
     ensures { (setup : Setup) (past : List Entry) (d : DeviceSetup) (command : Command) (rows : ℕ) (judged : Judged)
-        (q : Request)
-        → IsSoundSetup setup → IsOf setup d → IsAcceptor d.body → IsCommand command
-        → IsHonestFault (pending past) (ask d.kind d.addr q) → row_at d.body command rows judged ≡ sends q
+        (payment : Payment) (q : Request)
+        → IsSoundSetup setup → IsOf setup d → suits d.body command ≡ true → IsCommand command
+        → IsHonestFault (pending past) (ask d.kind d.addr q) → row_at d command rows judged payment ≡ sends q
         → IsUnanswered setup d past q ⊎ IsAnswered setup d past q }
 {}
 
 /// A round that was just taken at an acceptor ends within three `next` at its address where no fault is set for one of
-/// its own exchanges: nothing came, a reading is put, or a break. Whatever else comes between them doesn't hinder it:
-/// coins, resets, commands, the jobs of other devices, and faults set for the exchanges of those, or of later jobs. It
-/// doesn't say what the round posts.
+/// its own exchanges, and the host doesn't lose its power before: nothing came, a reading is put, or a break. Its past
+/// is legal. Whatever else comes between them doesn't hinder it: coins, resets, commands, the jobs of other devices,
+/// and faults set for the exchanges of those, or of later jobs. It doesn't say what the round posts.
 pub fn a_round_without_a_fault_ends()
-    ensures { (setup : Setup) (past : List Entry) (d : DeviceSetup) (steps : List Step) (end : List Entry)
-        → IsSoundSetup setup → IsOf setup d → IsAcceptor d.body
+    ensures { (capacity : Option ℕ) (setup : Setup) (before : List Step) (past : List Entry) (d : DeviceSetup)
+        (steps : List Step) (end : List Entry)
+        → IsSoundSetup setup → IsOf setup d → IsAcceptor d.body → LegalFrom capacity setup [] before past
         → job (lines_of d past) ≡ works (Round d.addr) []
-        → 3 ≤ nexts_at d.addr steps → LegalFrom setup past steps end → IsUndisturbed d.addr past end
+        → 3 ≤ nexts_at d.addr steps → LegalFrom capacity setup past steps end → IsUndisturbed d.addr past end
         → EndsRound d.addr past end }
+{}
+
+/// Every job at a device that was just taken ends in the same way, within as many `next` at its address as it has rows,
+/// and for a payment one more for each halt: a start within 4, a stop within 5, a payment within 7, a settlement within
+/// 3, an identification within one for each of its questions, the setting of a path within 2. A payment and a
+/// settlement do so where no coin is left to pay whenever the hopper is asked how its payout goes. The end is one of a
+/// job that got its answers, never one for want of an answer. It doesn't say which coins were paid, nor that coins
+/// fall.
+pub fn a_job_without_a_fault_ends()
+    ensures { (capacity : Option ℕ) (setup : Setup) (before : List Step) (past : List Entry) (d : DeviceSetup)
+        (command : Command) (steps : List Step) (end : List Entry)
+        → IsSoundSetup setup → IsOf setup d → IsCommand command → suits d.body command ≡ true
+        → LegalFrom capacity setup [] before past → job (lines_of d past) ≡ works command []
+        → nexts_needed d command steps ≤ nexts_at d.addr steps → LegalFrom capacity setup past steps end
+        → IsUndisturbed d.addr past end → (is_payment command ≡ true → IsPaidOut d past end)
+        → EndsAs command d.addr past end }
 {}
 
 /// Posts are accepted coins in their order, none twice: in every legal transcript over an honest wire, for every
@@ -89,9 +122,9 @@ pub fn a_round_without_a_fault_ends()
 /// record or the clean end before it ended. It holds whatever is asked besides, however exchanges fail, and whenever a
 /// device is reset. It doesn't say that a coin is ever posted: that takes a round that ends.
 pub fn posts_in_order()
-    ensures { (setup : Setup) (steps : List Step) (transcript : List Entry) (d : DeviceSetup)
+    ensures { (capacity : Option ℕ) (setup : Setup) (steps : List Step) (transcript : List Entry) (d : DeviceSetup)
         → IsSoundSetup setup → IsOf setup d → IsAcceptor d.body → All IsInRange steps
-        → Legal setup steps transcript → Honest transcript
+        → Legal capacity setup steps transcript → Honest transcript
         → InOrder (lines_in d transcript) }
 {}
 
@@ -102,53 +135,65 @@ pub fn posts_in_order()
 /// many coins were lost as are reported; and behind a break it says nothing of the coins of the part that it doesn't
 /// post.
 pub fn none_lost_in_silence()
-    ensures { (setup : Setup) (steps : List Step) (transcript : List Entry) (d : DeviceSetup)
+    ensures { (capacity : Option ℕ) (setup : Setup) (steps : List Step) (transcript : List Entry) (d : DeviceSetup)
         → IsSoundSetup setup → IsOf setup d → IsAcceptor d.body → All IsInRange steps
-        → Legal setup steps transcript → Honest transcript
+        → Legal capacity setup steps transcript → Honest transcript
         → Pace (lines_in d transcript) → Covers (lines_in d transcript) }
 {}
 
 /// A job at a device ends for want of an answer exactly after the third failed try in succession of one of its rows: in
 /// every legal transcript that end stands behind three failed tries, any other line of the address behind fewer, and a
-/// job that goes on has fewer than three. It holds whatever the wire does.
+/// job that goes on has fewer than three. The row that stops a payout behind a halt counts its own tries. It holds
+/// whatever the wire does, at devices of either kind, and over losses of power, which free every job.
 pub fn third_failed_try_ends_a_job()
-    ensures exact { (setup : Setup) (steps : List Step) (transcript : List Entry) (d : DeviceSetup)
-        → IsSoundSetup setup → IsOf setup d → Legal setup steps transcript
+    ensures exact { (capacity : Option ℕ) (setup : Setup) (steps : List Step) (transcript : List Entry)
+        (d : DeviceSetup)
+        → IsSoundSetup setup → IsOf setup d → Legal capacity setup steps transcript
         → AllPast TriesAt (lines_in d transcript) }
-    ensures goes_on { (setup : Setup) (steps : List Step) (transcript : List Entry) (d : DeviceSetup)
-        → IsSoundSetup setup → IsOf setup d → Legal setup steps transcript
+    ensures goes_on { (capacity : Option ℕ) (setup : Setup) (steps : List Step) (transcript : List Entry)
+        (d : DeviceSetup)
+        → IsSoundSetup setup → IsOf setup d → Legal capacity setup steps transcript
         → failed_in (job (lines_in d transcript)) < 3 }
 {}
 
 /// A scan, which is a job at no device, ends for want of an answer exactly after the third failed try in succession of
-/// an address poll under one of the checks; a try of it fails where the host's own echo is damaged.
+/// an address poll under one of the checks; a try of it fails where the host's own echo is damaged. Any other line of
+/// address 0, a loss of power too, stands behind fewer.
 pub fn third_failed_try_ends_a_scan()
-    ensures exact { (setup : Setup) (steps : List Step) (transcript : List Entry)
-        → IsSoundSetup setup → Legal setup steps transcript → AllPast ScanTriesAt (scan_lines (onto [] transcript)) }
-    ensures goes_on { (setup : Setup) (steps : List Step) (transcript : List Entry)
-        → IsSoundSetup setup → Legal setup steps transcript → HasFewTries (job (scan_lines (onto [] transcript))) }
+    ensures exact { (capacity : Option ℕ) (setup : Setup) (steps : List Step) (transcript : List Entry)
+        → IsSoundSetup setup → Legal capacity setup steps transcript
+        → AllPast ScanTriesAt (scan_lines (onto [] transcript)) }
+    ensures goes_on { (capacity : Option ℕ) (setup : Setup) (steps : List Step) (transcript : List Entry)
+        → IsSoundSetup setup → Legal capacity setup steps transcript
+        → HasFewTries (job (scan_lines (onto [] transcript))) }
 {}
 
-/// An exchange that fails had a fault: where an acceptor's job didn't get the wanted reply, and where the host didn't
-/// hear its own echo, a fault was set for that exchange. Nothing is asked of the wire, nor of the damage that the fault
-/// does.
+/// An exchange that fails had a fault: where an acceptor's job didn't get the wanted reply, where a job at a device of
+/// either kind didn't get it to anything but a dispense, which a hopper may refuse, and where the host didn't hear its
+/// own echo, a fault was set for that exchange. Nothing is asked of the wire, nor of the damage that the fault does.
 pub fn a_failed_exchange_had_a_fault()
-    ensures replies { (setup : Setup) (steps : List Step) (transcript : List Entry) (d : DeviceSetup)
-        → IsSoundSetup setup → IsOf setup d → IsAcceptor d.body → All IsInRange steps → Legal setup steps transcript
-        → EachEntry (FailsByFault d) (onto [] transcript) }
-    ensures echoes { (setup : Setup) (steps : List Step) (transcript : List Entry)
-        → Legal setup steps transcript → EachEntry EchoFailsByFault (onto [] transcript) }
+    ensures replies { (capacity : Option ℕ) (setup : Setup) (steps : List Step) (transcript : List Entry)
+        (d : DeviceSetup)
+        → IsSoundSetup setup → IsOf setup d → IsAcceptor d.body → All IsInRange steps
+        → Legal capacity setup steps transcript → EachEntry (FailsByFault d) (onto [] transcript) }
+    ensures either_kind { (capacity : Option ℕ) (setup : Setup) (steps : List Step) (transcript : List Entry)
+        (d : DeviceSetup)
+        → IsSoundSetup setup → IsOf setup d → All IsInRange steps → Legal capacity setup steps transcript
+        → EachEntry (FailsByFaultBut is_dispense d) (onto [] transcript) }
+    ensures echoes { (capacity : Option ℕ) (setup : Setup) (steps : List Step) (transcript : List Entry)
+        → Legal capacity setup steps transcript → EachEntry EchoFailsByFault (onto [] transcript) }
 {}
 
-/// A job ends for want of an answer only by faults: where an acceptor's job or a scan ends so, a fault was set for each
-/// of the last three exchanges that it made. So no job ends so whose exchanges have no fault. It doesn't say that three
-/// faults end a job.
+/// A job ends for want of an answer only by faults: where a job at a device of either kind or a scan ends so, a fault
+/// was set for each of the last three exchanges that it made. So no job ends so whose exchanges have no fault. It
+/// doesn't say that three faults end a job.
 pub fn a_job_given_up_had_three_faults()
-    ensures jobs { (setup : Setup) (steps : List Step) (transcript : List Entry) (d : DeviceSetup)
-        → IsSoundSetup setup → IsOf setup d → IsAcceptor d.body → All IsInRange steps → Legal setup steps transcript
+    ensures jobs { (capacity : Option ℕ) (setup : Setup) (steps : List Step) (transcript : List Entry) (d : DeviceSetup)
+        → IsSoundSetup setup → IsOf setup d → All IsInRange steps → Legal capacity setup steps transcript
         → EachEntry (EndsByFaults d.addr) (onto [] transcript) }
-    ensures scans { (setup : Setup) (steps : List Step) (transcript : List Entry)
-        → IsSoundSetup setup → Legal setup steps transcript → EachEntry (EndsByFaults BROADCAST) (onto [] transcript) }
+    ensures scans { (capacity : Option ℕ) (setup : Setup) (steps : List Step) (transcript : List Entry)
+        → IsSoundSetup setup → Legal capacity setup steps transcript
+        → EachEntry (EndsByFaults BROADCAST) (onto [] transcript) }
 {}
 
 /// Whatever bytes a script has, its setup is one of today, and so are its steps and every front of them: the laws above
@@ -163,24 +208,27 @@ pub fn scripts_are_in_range()
 /// A script that was played up to any of its steps, over an honest wire, posts in order at each device of its setup,
 /// and at each device that keeps the pace it loses no coin in silence.
 pub fn played_scripts_keep_the_laws()
-    ensures { (bytes : List ℕ) (played rest : List Step) (transcript : List Entry) (d : DeviceSetup)
-        → (script bytes).steps ≡ played ++ rest → Legal (script bytes).setup played transcript → Honest transcript
-        → IsOf (script bytes).setup d
+    ensures { (capacity : Option ℕ) (bytes : List ℕ) (played rest : List Step) (transcript : List Entry)
+        (d : DeviceSetup)
+        → (script bytes).steps ≡ played ++ rest → Legal capacity (script bytes).setup played transcript
+        → Honest transcript → IsOf (script bytes).setup d
         → InOrder (lines_in d transcript) × (Pace (lines_in d transcript) → Covers (lines_in d transcript)) }
 {}
 
 /// A text tells its legal transcript: two legal transcripts of one setup with the same text are the same. The setup is
-/// sound, and the steps are in range and say bytes. Nothing is asked of the wire, nor of the kinds of the devices, and
-/// a step may reset a device. Of scripts it holds without a premise, whatever bytes they have, played up to any of
-/// their steps, and their setups may differ. It doesn't say that a text tells its steps: other steps may have the same
-/// entries.
+/// sound, and the steps are in range and say bytes. Nothing is asked of the wire, nor of the kinds of the devices, nor
+/// of how many entries there are, and the two may be over journals of different capacities. Of scripts it holds without
+/// a premise, whatever bytes they have, played up to any of their steps, and their setups may differ. It doesn't say
+/// that a text tells its steps: other steps may have the same entries.
 pub fn a_text_tells_its_transcript()
-    ensures steps { (setup : Setup) (steps others : List Step) (first second : List Entry)
+    ensures steps { (capacity room : Option ℕ) (setup : Setup) (steps others : List Step) (first second : List Entry)
         → IsSoundSetup setup → All IsInRange steps → All HasBytes steps → All IsInRange others → All HasBytes others
-        → Legal setup steps first → Legal setup others second → text first ≡ text second → first ≡ second }
-    ensures scripts { (bytes other : List ℕ) (played rest others others_rest : List Step) (first second : List Entry)
-        → (script bytes).steps ≡ played ++ rest → (script other).steps ≡ others ++ others_rest
-        → Legal (script bytes).setup played first → Legal (script other).setup others second
+        → Legal capacity setup steps first → Legal room setup others second → text first ≡ text second
+        → first ≡ second }
+    ensures scripts { (capacity room : Option ℕ) (bytes other : List ℕ) (played rest others more : List Step)
+        (first second : List Entry)
+        → (script bytes).steps ≡ played ++ rest → (script other).steps ≡ others ++ more
+        → Legal capacity (script bytes).setup played first → Legal room (script other).setup others second
         → text first ≡ text second → first ≡ second }
 {}
 
@@ -188,9 +236,9 @@ pub fn a_text_tells_its_transcript()
 /// holds in every legal transcript over an honest wire, whenever the acceptor is reset, and wherever a start, a round
 /// or a stop ended for want of an answer.
 pub fn no_coin_is_accepted_without_an_epoch()
-    ensures { (setup : Setup) (steps : List Step) (transcript : List Entry) (d : DeviceSetup)
+    ensures { (capacity : Option ℕ) (setup : Setup) (steps : List Step) (transcript : List Entry) (d : DeviceSetup)
         → IsSoundSetup setup → IsOf setup d → IsAcceptor d.body → All IsInRange steps
-        → Legal setup steps transcript → Honest transcript → epoch (lines_in d transcript) ≡ Idle
+        → Legal capacity setup steps transcript → Honest transcript → epoch (lines_in d transcript) ≡ Idle
         → (place : ℕ) → accepts (met d (onto [] transcript)) place ≡ false }
 {}
 
@@ -198,23 +246,29 @@ pub fn no_coin_is_accepted_without_an_epoch()
 /// the acceptor heard the epoch's own header 231 since the Epoch record, and was not reset after that. It doesn't say
 /// that a start whose 231 was sent is answered.
 pub fn a_running_epoch_sets_its_mask_or_none()
-    ensures { (setup : Setup) (steps : List Step) (transcript : List Entry) (d : DeviceSetup) (mask counter : ℕ)
+    ensures { (capacity : Option ℕ) (setup : Setup) (steps : List Step) (transcript : List Entry)
+        (d : DeviceSetup) (mask counter : ℕ)
         → IsSoundSetup setup → IsOf setup d → IsAcceptor d.body → All IsInRange steps
-        → Legal setup steps transcript → Honest transcript → epoch (lines_in d transcript) ≡ Running mask counter
+        → Legal capacity setup steps transcript → Honest transcript
+        → epoch (lines_in d transcript) ≡ Running mask counter
         → IsMaskedBy mask (since_epoch_in d transcript) (met d (onto [] transcript)) }
 {}
 
 /// While an epoch runs at an acceptor that didn't hear the epoch's header 231 since the Epoch record, or was reset
 /// after that, none of its events since its last reset is a credit, and so no pair of its credit buffer is one.
 pub fn after_a_reset_no_event_is_a_credit()
-    ensures events { (setup : Setup) (steps : List Step) (transcript : List Entry) (d : DeviceSetup) (mask counter : ℕ)
+    ensures events { (capacity : Option ℕ) (setup : Setup) (steps : List Step) (transcript : List Entry)
+        (d : DeviceSetup) (mask counter : ℕ)
         → IsSoundSetup setup → IsOf setup d → IsAcceptor d.body → All IsInRange steps
-        → Legal setup steps transcript → Honest transcript → epoch (lines_in d transcript) ≡ Running mask counter
+        → Legal capacity setup steps transcript → Honest transcript
+        → epoch (lines_in d transcript) ≡ Running mask counter
         → mask_set_in (since_epoch_in d transcript) ≡ None
         → coins_among (events (met d (onto [] transcript))) ≡ [] }
-    ensures pairs { (setup : Setup) (steps : List Step) (transcript : List Entry) (d : DeviceSetup) (mask counter : ℕ)
+    ensures pairs { (capacity : Option ℕ) (setup : Setup) (steps : List Step) (transcript : List Entry)
+        (d : DeviceSetup) (mask counter : ℕ)
         → IsSoundSetup setup → IsOf setup d → IsAcceptor d.body → All IsInRange steps
-        → Legal setup steps transcript → Honest transcript → epoch (lines_in d transcript) ≡ Running mask counter
+        → Legal capacity setup steps transcript → Honest transcript
+        → epoch (lines_in d transcript) ≡ Running mask counter
         → mask_set_in (since_epoch_in d transcript) ≡ None
         → coins_among (credits_of (met d (onto [] transcript))).pairs ≡ [] }
 {}
@@ -224,13 +278,145 @@ pub fn after_a_reset_no_event_is_a_credit()
 /// at the moment when it was put. It doesn't say that such an epoch breaks: that takes a round or a stop that reads the
 /// mask.
 pub fn a_break_has_its_cause()
-    ensures waiting { (setup : Setup) (steps : List Step) (transcript : List Entry) (d : DeviceSetup)
+    ensures waiting { (capacity : Option ℕ) (setup : Setup) (steps : List Step) (transcript : List Entry)
+        (d : DeviceSetup)
         (command : Command) (since : List Line) (addr seen counter : ℕ) (posted : List Coin)
         → IsSoundSetup setup → IsOf setup d → IsAcceptor d.body → All IsInRange steps
-        → Legal setup steps transcript → Honest transcript → job (lines_in d transcript) ≡ works command since
-        → row d command since (epoch (lines_in d transcript)) ≡ puts (Broken addr seen counter posted)
+        → Legal capacity setup steps transcript → Honest transcript → job (lines_in d transcript) ≡ works command since
+        → row d command since (epoch (lines_in d transcript)) (order (lines_in d transcript))
+        ≡ puts (Broken addr seen counter posted)
         → MayBreak (since_epoch_in d transcript) }
-    ensures put { (setup : Setup) (steps : List Step) (transcript : List Entry) (d : DeviceSetup)
+    ensures put { (capacity : Option ℕ) (setup : Setup) (steps : List Step) (transcript : List Entry) (d : DeviceSetup)
         → IsSoundSetup setup → IsOf setup d → IsAcceptor d.body → All IsInRange steps
-        → Legal setup steps transcript → Honest transcript → HaveCauses d (onto [] transcript) }
+        → Legal capacity setup steps transcript → Honest transcript → HaveCauses d (onto [] transcript) }
+{}
+
+/// Each order is paid at most once, and closed with exactly the coins that fell: in every legal transcript over an
+/// honest wire, for every hopper of the setup, a dispense is taken only where an order is open that none was taken for,
+/// for just its coins; a coin falls only for an open order, no more of them than it has; and a closed order's record
+/// says how many fell and how many of its count did not. Whatever replies are lost, and whenever the hopper jams, is
+/// halted or is reset, or the host loses its power. It doesn't say that an order is ever completed, or closed.
+pub fn each_order_is_paid_once()
+    ensures { (capacity : Option ℕ) (setup : Setup) (steps : List Step) (transcript : List Entry) (d : DeviceSetup)
+        → IsSoundSetup setup → IsOf setup d → IsHopper d.body → All IsInRange steps
+        → Legal capacity setup steps transcript → Honest transcript → Paid (lines_in d transcript) }
+{}
+
+/// All coins that ever fell out of a hopper are those that the records of its closed orders say were paid, and those
+/// that fell for the order that is open; so where none is open, they are what was recorded. It follows from
+/// `each_order_is_paid_once` alone.
+pub fn coins_that_fell_are_those_paid()
+    ensures all { (lines : List Line) → Paid lines → all_fallen lines ≡ all_paid lines + fallen lines }
+    ensures closed { (lines : List Line) → Paid lines → order lines ≡ None → all_fallen lines ≡ all_paid lines }
+{}
+
+/// No id is used twice: in every legal transcript, whatever the wire does and whenever the host loses its power, no two
+/// records that open an order or sell have the same id. An id that was never recorded may be used again.
+pub fn no_id_is_used_twice()
+    ensures { (capacity : Option ℕ) (setup : Setup) (steps : List Step) (transcript : List Entry)
+        → IsSoundSetup setup → Legal capacity setup steps transcript → AreFresh (records (onto [] transcript)) }
+{}
+
+/// A hopper without an open order has nothing left to pay: no coin falls out of it. It holds over an honest wire.
+pub fn an_unowed_hopper_has_nothing_to_pay()
+    ensures { (capacity : Option ℕ) (setup : Setup) (steps : List Step) (transcript : List Entry) (d : DeviceSetup)
+        → IsSoundSetup setup → IsOf setup d → IsHopper d.body → All IsInRange steps
+        → Legal capacity setup steps transcript → Honest transcript
+        → order (lines_in d transcript) ≡ None → remaining d.serial (met d (onto [] transcript)) ≡ 0 }
+{}
+
+/// A hopper that has shown that nothing is left to pay has nothing left to pay until the next order is opened: where an
+/// answered header 166 had no coin remaining and no order was opened since, no coin falls out of the hopper. It holds
+/// in every legal transcript over an honest wire, between jobs too: behind a payment or a settlement that ended for
+/// want of an answer, behind one that closed its order, and over losses of power. It doesn't say that a hopper ever
+/// shows it.
+pub fn a_hopper_shown_paid_out_stays_so()
+    ensures { (capacity : Option ℕ) (setup : Setup) (steps : List Step) (transcript : List Entry) (d : DeviceSetup)
+        → IsSoundSetup setup → IsOf setup d → IsHopper d.body → All IsInRange steps
+        → Legal capacity setup steps transcript → Honest transcript
+        → is_paid_out (lines_in d transcript) ≡ true → remaining d.serial (met d (onto [] transcript)) ≡ 0 }
+{}
+
+/// A job sends a dispense only to its own hopper, and only where an order of just its coins is open that no dispense
+/// was taken for. It holds over an honest wire. It doesn't say that the hopper takes it.
+pub fn a_dispense_is_for_a_fresh_order()
+    ensures { (capacity : Option ℕ) (setup : Setup) (steps : List Step) (transcript : List Entry) (d : DeviceSetup)
+        (command : Command) (since : List Line) (serial count : ℕ)
+        → IsSoundSetup setup → IsOf setup d → IsHopper d.body → All IsInRange steps
+        → Legal capacity setup steps transcript → Honest transcript → job (lines_in d transcript) ≡ works command since
+        → row d command since (epoch (lines_in d transcript)) (order (lines_in d transcript))
+        ≡ sends (Dispense serial count)
+        → (serial ≡ d.serial)
+        × OfOrder (order (lines_in d transcript)) (λ o. (dispenses (lines_in d transcript) ≡ 0) × (count ≡ o.count)) }
+{}
+
+/// The life counts of a hopper always fit its order: over an honest wire no record says that they don't, and no job
+/// ends so, in every legal transcript.
+pub fn life_counts_fit_each_order()
+    ensures { (capacity : Option ℕ) (setup : Setup) (steps : List Step) (transcript : List Entry)
+        → IsSoundSetup setup → All IsInRange steps → Legal capacity setup steps transcript → Honest transcript
+        → EachEntry FitsLife (onto [] transcript) }
+{}
+
+/// What the records alone tell: the epoch of an acceptor and the open order of a hopper are those that the device's
+/// address and the records tell, after any entries whatever. Where the host has just lost its power, no job is left,
+/// and what the operator has, the last id and how many records are held are what the records tell. So a host that is
+/// built from a journal needs nothing else.
+pub fn records_tell_what_a_host_needs()
+    ensures epochs { (d : DeviceSetup) (past : List Entry)
+        → epoch (lines_of d past) ≡ epoch_in d.addr (records past) }
+    ensures orders { (d : DeviceSetup) (past : List Entry)
+        → order (lines_of d past) ≡ order_in d.addr (records past) }
+    ensures restart { (past : List Entry) → IsRestart past → HasNoJob past }
+    ensures totals { (setup : Setup) (past : List Entry) → HasNoJob past
+        → totals setup past ≡ totals_in setup (records past) }
+    ensures last_id { (setup : Setup) (past : List Entry) → HasNoJob past
+        → last_id setup past ≡ greatest_id (records past) }
+    ensures held { (setup : Setup) (past : List Entry) → HasNoJob past
+        → held setup past ≡ open_orders setup (records past) }
+{}
+
+/// Each record follows those before it, in every legal transcript, whatever the wire does and whenever the host loses
+/// its power: over a journal with a capacity in all, so that a host that is built from them, and its ledger, refuses
+/// none; over none but for the money of orders and sales, which a host without a journal doesn't test. It doesn't say
+/// that a hopper paid what a record says.
+pub fn each_record_follows()
+    ensures over_a_journal { (capacity : ℕ) (setup : Setup) (steps : List Step) (transcript : List Entry)
+        → IsSoundSetup setup → All IsInRange steps → Legal (Some capacity) setup steps transcript
+        → all_follow setup (records (onto [] transcript)) ≡ true }
+    ensures over_none { (capacity : Option ℕ) (setup : Setup) (steps : List Step) (transcript : List Entry)
+        → IsSoundSetup setup → All IsInRange steps → Legal capacity setup steps transcript
+        → all_fit setup (records (onto [] transcript)) ≡ true }
+{}
+
+/// Over a journal with a capacity money is conserved, in every legal transcript, whatever the wire does: what is
+/// available, reserved, paid and sold is together the value of all coins posted, at every moment and in each balance
+/// that is told; and what is reserved, paid and sold is never more than that. Without a capacity no command is refused
+/// for money, and it doesn't hold.
+pub fn money_is_conserved()
+    ensures moments { (capacity : ℕ) (setup : Setup) (steps : List Step) (transcript : List Entry)
+        → IsSoundSetup setup → All IsInRange steps → Legal (Some capacity) setup steps transcript
+        → IsConserved setup (onto [] transcript) (totals setup (onto [] transcript)) }
+    ensures balances { (capacity : ℕ) (setup : Setup) (steps : List Step) (transcript : List Entry)
+        → IsSoundSetup setup → All IsInRange steps → Legal (Some capacity) setup steps transcript
+        → EachEntry (IsBalanced setup) (onto [] transcript) }
+    ensures covered { (capacity : ℕ) (setup : Setup) (steps : List Step) (transcript : List Entry)
+        → IsSoundSetup setup → All IsInRange steps → Legal (Some capacity) setup steps transcript
+        → spoken_for setup (onto [] transcript) ≤ posted_in setup (records (onto [] transcript)) }
+{}
+
+/// A put never meets a full journal, in every legal transcript over a journal with a capacity, whatever the wire does:
+/// its records and those that are held for running jobs and open orders find room, so one that a job is about to put
+/// does, and no settlement is refused for want of it.
+pub fn a_put_finds_room()
+    ensures held { (capacity : ℕ) (setup : Setup) (steps : List Step) (transcript : List Entry)
+        → IsSoundSetup setup → All IsInRange steps → Legal (Some capacity) setup steps transcript
+        → length (records (onto [] transcript)) + held setup (onto [] transcript) ≤ capacity }
+    ensures puts { (capacity : ℕ) (setup : Setup) (steps : List Step) (transcript : List Entry) (addr : ℕ) (r : Record)
+        → IsSoundSetup setup → All IsInRange steps → Legal (Some capacity) setup steps transcript
+        → due_at setup (onto [] transcript) addr ≡ Some r → length (records (onto [] transcript)) < capacity }
+    ensures settlements { (capacity : ℕ) (setup : Setup) (steps : List Step) (transcript : List Entry)
+        (addr used held need : ℕ)
+        → IsSoundSetup setup → All IsInRange steps → Legal (Some capacity) setup steps transcript
+        → refusal (Some capacity) setup (onto [] transcript) (Settle addr) ≢ Some (JournalFull used held need) }
 {}

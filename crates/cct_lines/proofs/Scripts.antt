@@ -1,14 +1,15 @@
--- The definitions of scripts and of scans at worked values.
-use Rattle.std.proofs.Common.{◌≡◌, [], ◌∷◌, ◌++◌, Some, None, codes, refl}
+-- The definitions of scripts at worked values (docs/SCRIPT.md).
+use Rattle.std.proofs.Common.{◌≡◌, [], ◌∷◌, ◌++◌, map, Some, None, codes, refl, replicate}
 use Rattle.std.specs.Prelude.{Ok, Err}
-use Rattle.cct_lines.specs.terms.wire.CheckKind.TheVariants.{Simple}
+use Rattle.cct_lines.specs.terms.wire.CheckKind.TheVariants.{Simple, Crc}
+use Rattle.cct_lines.specs.terms.device.DeviceBody.TheVariants.{Hopper}
 use Rattle.cct_lines.specs.declared.setup.SetupLine.TheVariants as says
 use Rattle.cct_lines.specs.declared.command.Step.TheVariants as step
 use Rattle.cct_lines.specs.declared.command.Command.TheVariants as command
 use Rattle.cct_lines.specs.declared.command.WireFault.TheVariants as fault
 use Rattle.cct_lines.specs.declared.entry.LineKind.TheVariants as kind
 use Rattle.hex.specs.Hex.{decode_pairs}
-use Rattle.cct_lines.specs.Grammar.{setup_line, step_line, ranged, id_in, piece_in, mask_in, plain_device, plain_acceptor, added}
+use Rattle.cct_lines.specs.Grammar.{setup_line, step_line, ranged, word_in, id_in, piece_in, mask_in, plain_device, plain_acceptor, added}
 use Rattle.cct_lines.specs.Script.{script, most_lines, read_form}
 
 acceptor_said : setup_line (codes "acceptor 2 simple 1 0") ≡ Ok (says.Acceptor (plain_device 2 Simple 1 (plain_acceptor 0)))
@@ -22,6 +23,39 @@ address_one_refused = refl
 value_said : setup_line (codes "value 2 1 100 XX100A") ≡ Ok (says.Value 2 1 100 (codes "XX100A"))
 unfolding setup_line ranged id_in
 value_said = refl
+
+-- the greatest numbers and the longest texts
+greatest_setup :
+    map setup_line (
+    codes "acceptor 2 simple 16777215 7"
+    ∷ codes "hopper 255 crc 197121 16777215 1000000"
+    ∷ codes "value 2 16 1000000 !~!~!~"
+    ∷ codes "texts 255 A B C 123456789012345678901234"
+    ∷ [])
+    ≡ Ok (says.Acceptor (plain_device 2 Simple 16777215 (plain_acceptor 7)))
+    ∷ Ok (says.Hopper (plain_device 255 Crc 197121 (Hopper 16777215 1000000)))
+    ∷ Ok (says.Value 2 16 1000000 (codes "!~!~!~"))
+    ∷ Ok (says.Named 255 (record {
+      maker = codes "A";
+      product = codes "B";
+      software = codes "C";
+      build = codes "123456789012345678901234";
+    }))
+    ∷ []
+unfolding setup_line ranged word_in id_in
+greatest_setup = refl
+
+texts_of_the_host_refused : setup_line (codes "texts 1 A B C D") ≡ Err kind.Form
+unfolding setup_line ranged
+texts_of_the_host_refused = refl
+
+setup_begun : setup_line (codes "begin") ≡ Ok says.Begin
+unfolding setup_line
+setup_begun = refl
+
+step_in_setup_refused : setup_line (codes "coin 2 1") ≡ Err kind.Word
+unfolding setup_line
+step_in_setup_refused = refl
 
 coin_said : step_line (codes "coin 2 16") ≡ Ok (step.Coin 2 16)
 unfolding step_line ranged
@@ -58,6 +92,31 @@ start_said = refl
 mask_of_none_refused : step_line (codes "start 2 0000") ≡ Err kind.Form
 unfolding step_line ranged mask_in decode_pairs
 mask_of_none_refused = refl
+
+greatest_steps :
+    map step_line (
+    codes "coin 255 16"
+    ∷ codes "scan"
+    ∷ codes "crash 2 4 0"
+    ∷ [])
+    ≡ Ok (step.Coin 255 16)
+    ∷ Ok (step.Command command.Scan)
+    ∷ Ok (step.Crash (Some (record { addr = 2; calls = 4 })) 0)
+    ∷ []
+unfolding step_line ranged
+greatest_steps = refl
+
+other_forms_refused :
+    map step_line (
+    codes "coin 2 0"
+    ∷ codes "coin 2 17"
+    ∷ codes "next 256"
+    ∷ codes "fault host 0"
+    ∷ codes "start 2 10"
+    ∷ [])
+    ≡ replicate 5 (Err kind.Form)
+unfolding step_line ranged mask_in piece_in decode_pairs
+other_forms_refused = refl
 
 nothing_refused : (script (codes "begin" ++ 10 ∷ codes "end" ++ 10 ∷ [])).refused ≡ None
 unfolding script read_form setup_line step_line most_lines

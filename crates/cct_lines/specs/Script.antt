@@ -179,7 +179,7 @@ script bytes = script_from 1 (at_setup no_devices) (slice_split is_line_feed byt
 -- A command that a line can spell: its numbers are in their ranges.
 abbrev pub IsCommand : Command → Type 0
 IsCommand (command.Start addr mask) = 1 ≤ mask
-IsCommand (command.Pay addr id count) = (1 ≤ id) × (1 ≤ count)
+IsCommand (command.Pay addr id count) = (1 ≤ id) × (1 ≤ count) × (count ≤ 255)
 IsCommand (command.Path addr place path) = (place ≤ COIN_PLACES) × (1 ≤ path) × (path ≤ PATHS)
 IsCommand (command.Vend id price) = (1 ≤ id) × (1 ≤ price) × (price ≤ 1000000000)
 IsCommand c = ⊤

@@ -1,5 +1,5 @@
 -- The text of a transcript: one line for each entry (docs/TRANSCRIPT.md).
-use Rattle.std.specs.Prelude.{ℕ, ◌/◌, ◌%◌, List, [], ◌∷◌, ◌++◌, map, flat_map, if◌then◌else◌, Option, Some, None, codes, decimal}
+use Rattle.std.specs.Prelude.{ℕ, zero, suc, ◌+◌, ◌/◌, ◌%◌, ◌^◌, nat_lt, List, [], ◌∷◌, ◌++◌, map, flat_map, if◌then◌else◌, Option, Some, None, codes}
 use Rattle.std.specs.List.{join_with_byte, filter_map}
 use Rattle.hex.specs.Hex.{encode_lower}
 use Rattle.cct_lines.specs.terms.coin.Coin.{Coin}
@@ -22,6 +22,16 @@ use Rattle.cct_lines.specs.declared.entry.Entry.{Entry}
 use Rattle.cct_lines.specs.declared.entry.Entry.TheVariants as entry
 use Rattle.cct_lines.specs.DeviceSet.{has, all_addresses}
 
+-- The last digits of a number: one, and so many more at the most.
+abbrev pub last_digits : ℕ → ℕ → List ℕ
+last_digits zero n = (48 + n % 10) ∷ []
+last_digits (suc more) n = if nat_lt n 10 then (48 + n) ∷ [] else last_digits more (n / 10) ++ (48 + n % 10) ∷ []
+
+-- A number in decimal, with all its digits: 64 at the most below 10 ^ 64, and for each 10 ^ 64 in it no more than one
+-- more.
+unfoldable pub number_text : ℕ → List ℕ
+number_text n = last_digits (n / 10 ^ 64 + 63) n
+
 -- A hyphen, which stands for nothing.
 abbrev pub hyphen : List ℕ
 hyphen = 45 ∷ []
@@ -42,7 +52,7 @@ list_field (text ∷ texts) = join_with_byte 44 (text ∷ texts)
 
 -- A coin as its place, a slash and its path.
 abbrev pub coin_text : Coin → List ℕ
-coin_text coin = decimal coin.place ++ 47 ∷ decimal coin.path
+coin_text coin = number_text coin.place ++ 47 ∷ number_text coin.path
 
 -- Coins joined by commas; no coin is a hyphen.
 abbrev pub coins_field : List Coin → List ℕ
@@ -51,8 +61,8 @@ coins_field coins = list_field (map coin_text coins)
 -- A listed device as its address, a slash and its check; none where it isn't listed.
 abbrev pub listed_text : Listed → ℕ → Option (List ℕ)
 listed_text listed addr =
-    if has listed.simple addr then Some (decimal addr ++ codes "/simple")
-    else if has listed.crc addr then Some (decimal addr ++ codes "/crc")
+    if has listed.simple addr then Some (number_text addr ++ codes "/simple")
+    else if has listed.crc addr then Some (number_text addr ++ codes "/crc")
     else None
 
 -- Listed devices in rising order of address, joined by commas; no device is a hyphen.
@@ -61,27 +71,33 @@ listed_field listed = list_field (filter_map (listed_text listed) all_addresses)
 
 -- The fields of a record.
 abbrev pub record_fields : Record → List (List ℕ)
-record_fields (record_of.Epoch addr mask) = codes "epoch" ∷ decimal addr ∷ mask_field mask ∷ []
-record_fields (record_of.Reading addr counter lost posted) = codes "reading" ∷ decimal addr ∷ decimal counter ∷ decimal lost ∷ coins_field posted ∷ []
-record_fields (record_of.Broken addr seen counter posted) = codes "broken" ∷ decimal addr ∷ mask_field seen ∷ decimal counter ∷ coins_field posted ∷ []
-record_fields (record_of.EpochEnd addr) = codes "epochend" ∷ decimal addr ∷ []
-record_fields (record_of.Opened id addr count life) = codes "opened" ∷ decimal id ∷ decimal addr ∷ decimal count ∷ decimal life ∷ []
-record_fields (record_of.Closed id paid unpaid) = codes "closed" ∷ decimal id ∷ decimal paid ∷ decimal unpaid ∷ []
-record_fields (record_of.Odd id before after) = codes "odd" ∷ decimal id ∷ decimal before ∷ decimal after ∷ []
-record_fields (record_of.Sold id price) = codes "sold" ∷ decimal id ∷ decimal price ∷ []
+record_fields (record_of.Epoch addr mask) = codes "epoch" ∷ number_text addr ∷ mask_field mask ∷ []
+record_fields (record_of.Reading addr counter lost posted) =
+    codes "reading" ∷ number_text addr ∷ number_text counter ∷ number_text lost ∷ coins_field posted ∷ []
+record_fields (record_of.Broken addr seen counter posted) =
+    codes "broken" ∷ number_text addr ∷ mask_field seen ∷ number_text counter ∷ coins_field posted ∷ []
+record_fields (record_of.EpochEnd addr) = codes "epochend" ∷ number_text addr ∷ []
+record_fields (record_of.Opened id addr count life) =
+    codes "opened" ∷ number_text id ∷ number_text addr ∷ number_text count ∷ number_text life ∷ []
+record_fields (record_of.Closed id paid unpaid) =
+    codes "closed" ∷ number_text id ∷ number_text paid ∷ number_text unpaid ∷ []
+record_fields (record_of.Odd id before after) =
+    codes "odd" ∷ number_text id ∷ number_text before ∷ number_text after ∷ []
+record_fields (record_of.Sold id price) = codes "sold" ∷ number_text id ∷ number_text price ∷ []
 
 -- The fields of a command, which are those of its line in a script.
 abbrev pub command_fields : Command → List (List ℕ)
-command_fields (command.Start addr mask) = codes "start" ∷ decimal addr ∷ mask_field mask ∷ []
-command_fields (command.Round addr) = codes "round" ∷ decimal addr ∷ []
-command_fields (command.Stop addr) = codes "stop" ∷ decimal addr ∷ []
-command_fields (command.Pay addr id count) = codes "pay" ∷ decimal addr ∷ decimal id ∷ decimal count ∷ []
-command_fields (command.Settle addr) = codes "settle" ∷ decimal addr ∷ []
-command_fields (command.Halt addr) = codes "halt" ∷ decimal addr ∷ []
+command_fields (command.Start addr mask) = codes "start" ∷ number_text addr ∷ mask_field mask ∷ []
+command_fields (command.Round addr) = codes "round" ∷ number_text addr ∷ []
+command_fields (command.Stop addr) = codes "stop" ∷ number_text addr ∷ []
+command_fields (command.Pay addr id count) = codes "pay" ∷ number_text addr ∷ number_text id ∷ number_text count ∷ []
+command_fields (command.Settle addr) = codes "settle" ∷ number_text addr ∷ []
+command_fields (command.Halt addr) = codes "halt" ∷ number_text addr ∷ []
 command_fields command.Scan = codes "scan" ∷ []
-command_fields (command.Ident addr) = codes "ident" ∷ decimal addr ∷ []
-command_fields (command.Path addr place path) = codes "path" ∷ decimal addr ∷ decimal place ∷ decimal path ∷ []
-command_fields (command.Vend id price) = codes "vend" ∷ decimal id ∷ decimal price ∷ []
+command_fields (command.Ident addr) = codes "ident" ∷ number_text addr ∷ []
+command_fields (command.Path addr place path) =
+    codes "path" ∷ number_text addr ∷ number_text place ∷ number_text path ∷ []
+command_fields (command.Vend id price) = codes "vend" ∷ number_text id ∷ number_text price ∷ []
 
 -- The fields of the reason why a command is refused.
 abbrev pub reason_fields : CommandNo → List (List ℕ)
@@ -90,13 +106,14 @@ reason_fields refusal.WrongKind = codes "wrongkind" ∷ []
 reason_fields refusal.Busy = codes "busy" ∷ []
 reason_fields refusal.EpochRuns = codes "epochruns" ∷ []
 reason_fields refusal.NoEpoch = codes "noepoch" ∷ []
-reason_fields (refusal.NoValue place) = codes "novalue" ∷ decimal place ∷ []
-reason_fields (refusal.OrderOpen id) = codes "orderopen" ∷ decimal id ∷ []
+reason_fields (refusal.NoValue place) = codes "novalue" ∷ number_text place ∷ []
+reason_fields (refusal.OrderOpen id) = codes "orderopen" ∷ number_text id ∷ []
 reason_fields refusal.NoOrder = codes "noorder" ∷ []
 reason_fields refusal.NoPayout = codes "nopayout" ∷ []
-reason_fields (refusal.OldId last) = codes "oldid" ∷ decimal last ∷ []
-reason_fields (refusal.Short have) = codes "short" ∷ decimal have ∷ []
-reason_fields (refusal.JournalFull used held need) = codes "journalfull" ∷ decimal used ∷ decimal held ∷ decimal need ∷ []
+reason_fields (refusal.OldId last) = codes "oldid" ∷ number_text last ∷ []
+reason_fields (refusal.Short have) = codes "short" ∷ number_text have ∷ []
+reason_fields (refusal.JournalFull used held need) =
+    codes "journalfull" ∷ number_text used ∷ number_text held ∷ number_text need ∷ []
 
 -- The fields of a wire fault: whom it disturbs, and the piece that is heard.
 abbrev pub fault_fields : WireFault → List (List ℕ)
@@ -107,19 +124,20 @@ fault_fields (fault.WholeHeard piece) = codes "whole" ∷ piece_field piece ∷ 
 
 -- The fields of a job's end. A scan and a sale have no address.
 abbrev pub end_fields : ℕ → End → List (List ℕ)
-end_fields addr end_of.Started = codes "started" ∷ decimal addr ∷ []
-end_fields addr end_of.StartUnsure = codes "unsure" ∷ decimal addr ∷ []
-end_fields addr (end_of.Unquiet counter) = codes "unquiet" ∷ decimal addr ∷ decimal counter ∷ []
-end_fields addr end_of.Clean = codes "clean" ∷ decimal addr ∷ []
-end_fields addr end_of.Posted = codes "posted" ∷ decimal addr ∷ []
-end_fields addr end_of.Broke = codes "broke" ∷ decimal addr ∷ []
-end_fields addr end_of.Stopped = codes "stopped" ∷ decimal addr ∷ []
-end_fields addr end_of.Closed = codes "closed" ∷ decimal addr ∷ []
-end_fields addr end_of.OddLife = codes "oddlife" ∷ decimal addr ∷ []
-end_fields addr end_of.NoAnswer = codes "noanswer" ∷ decimal addr ∷ []
+end_fields addr end_of.Started = codes "started" ∷ number_text addr ∷ []
+end_fields addr end_of.StartUnsure = codes "unsure" ∷ number_text addr ∷ []
+end_fields addr (end_of.Unquiet counter) = codes "unquiet" ∷ number_text addr ∷ number_text counter ∷ []
+end_fields addr end_of.Clean = codes "clean" ∷ number_text addr ∷ []
+end_fields addr end_of.Posted = codes "posted" ∷ number_text addr ∷ []
+end_fields addr end_of.Broke = codes "broke" ∷ number_text addr ∷ []
+end_fields addr end_of.Stopped = codes "stopped" ∷ number_text addr ∷ []
+end_fields addr end_of.Closed = codes "closed" ∷ number_text addr ∷ []
+end_fields addr end_of.OddLife = codes "oddlife" ∷ number_text addr ∷ []
+end_fields addr end_of.NoAnswer = codes "noanswer" ∷ number_text addr ∷ []
 end_fields addr (end_of.Listed listed) = codes "listed" ∷ listed_field listed ∷ []
-end_fields addr end_of.Told = codes "told" ∷ decimal addr ∷ []
-end_fields addr (end_of.PathSet place path) = codes "pathset" ∷ decimal addr ∷ decimal place ∷ decimal path ∷ []
+end_fields addr end_of.Told = codes "told" ∷ number_text addr ∷ []
+end_fields addr (end_of.PathSet place path) =
+    codes "pathset" ∷ number_text addr ∷ number_text place ∷ number_text path ∷ []
 end_fields addr end_of.Sold = codes "sold" ∷ []
 
 -- The field of a refused line's kind.
@@ -144,39 +162,42 @@ sum_field sum_of.Closed = codes "closed"
 
 -- The fields of an entry's line.
 abbrev pub fields_of : Entry → List (List ℕ)
-fields_of (entry.Accepted addr coin) = codes "accepted" ∷ decimal addr ∷ decimal coin.place ∷ decimal coin.path ∷ []
-fields_of (entry.Inhibited addr place) = codes "inhibited" ∷ decimal addr ∷ decimal place ∷ []
-fields_of (entry.Alien addr) = codes "alien" ∷ decimal addr ∷ []
-fields_of (entry.Fell addr) = codes "fell" ∷ decimal addr ∷ []
-fields_of (entry.NoFall addr) = codes "nofall" ∷ decimal addr ∷ []
-fields_of (entry.Jammed addr) = codes "jammed" ∷ decimal addr ∷ []
-fields_of (entry.NoJam addr) = codes "nojam" ∷ decimal addr ∷ []
-fields_of (entry.Reset addr) = codes "reset" ∷ decimal addr ∷ []
+fields_of (entry.Accepted addr coin) =
+    codes "accepted" ∷ number_text addr ∷ number_text coin.place ∷ number_text coin.path ∷ []
+fields_of (entry.Inhibited addr place) = codes "inhibited" ∷ number_text addr ∷ number_text place ∷ []
+fields_of (entry.Alien addr) = codes "alien" ∷ number_text addr ∷ []
+fields_of (entry.Fell addr) = codes "fell" ∷ number_text addr ∷ []
+fields_of (entry.NoFall addr) = codes "nofall" ∷ number_text addr ∷ []
+fields_of (entry.Jammed addr) = codes "jammed" ∷ number_text addr ∷ []
+fields_of (entry.NoJam addr) = codes "nojam" ∷ number_text addr ∷ []
+fields_of (entry.Reset addr) = codes "reset" ∷ number_text addr ∷ []
 fields_of (entry.Fault f) = codes "fault" ∷ fault_fields f
 fields_of (entry.Taken c) = codes "ok" ∷ command_fields c
 fields_of (entry.No c why) = codes "no" ∷ command_fields c ++ reason_fields why
-fields_of (entry.Idle addr) = codes "idle" ∷ decimal addr ∷ []
-fields_of (entry.Wire addr sent heard) = codes "wire" ∷ decimal addr ∷ piece_field sent ∷ piece_field heard ∷ []
+fields_of (entry.Idle addr) = codes "idle" ∷ number_text addr ∷ []
+fields_of (entry.Wire addr sent heard) = codes "wire" ∷ number_text addr ∷ piece_field sent ∷ piece_field heard ∷ []
 fields_of (entry.Put r) = codes "put" ∷ record_fields r
 fields_of (entry.Kept r) = codes "kept" ∷ record_fields r
-fields_of (entry.Crash records) = codes "crash" ∷ decimal records ∷ []
+fields_of (entry.Crash records) = codes "crash" ∷ number_text records ∷ []
 fields_of (entry.Ended addr end) = end_fields addr end
 fields_of (entry.Balance totals) =
-    codes "balance" ∷ decimal totals.available ∷ decimal totals.reserved ∷ decimal totals.paid ∷ decimal totals.sold ∷ []
-fields_of (entry.Line number why) = codes "refused" ∷ decimal number ∷ kind_field why ∷ []
+    codes "balance" ∷ number_text totals.available ∷ number_text totals.reserved ∷ number_text totals.paid
+    ∷ number_text totals.sold ∷ []
+fields_of (entry.Line number why) = codes "refused" ∷ number_text number ∷ kind_field why ∷ []
 fields_of entry.Words = codes "words" ∷ []
-fields_of (entry.DiskSize len) = codes "disksize" ∷ decimal len ∷ []
-fields_of (entry.NotBlank at) = codes "notblank" ∷ decimal at ∷ []
+fields_of (entry.DiskSize len) = codes "disksize" ∷ number_text len ∷ []
+fields_of (entry.NotBlank at) = codes "notblank" ∷ number_text at ∷ []
 fields_of entry.ReadFault = codes "readfault" ∷ []
 fields_of entry.DiskFault = codes "diskfault" ∷ []
 fields_of entry.JournalAlien = codes "journal" ∷ codes "alien" ∷ []
-fields_of (entry.JournalBad index) = codes "journal" ∷ codes "bad" ∷ decimal index ∷ []
-fields_of (entry.JournalLost found put) = codes "journal" ∷ codes "lost" ∷ decimal found ∷ decimal put ∷ []
-fields_of (entry.Listing index r) = codes "record" ∷ decimal index ∷ record_fields r
+fields_of (entry.JournalBad index) = codes "journal" ∷ codes "bad" ∷ number_text index ∷ []
+fields_of (entry.JournalLost found put) = codes "journal" ∷ codes "lost" ∷ number_text found ∷ number_text put ∷ []
+fields_of (entry.Listing index r) = codes "record" ∷ number_text index ∷ record_fields r
 fields_of (entry.Total posted lost paid unpaid sold) =
-    codes "total" ∷ decimal posted ∷ decimal lost ∷ decimal paid ∷ decimal unpaid ∷ decimal sold ∷ []
-fields_of (entry.Load seed rounds) = codes "load" ∷ decimal seed ∷ decimal rounds ∷ []
-fields_of (entry.Sum what amount) = sum_field what ∷ decimal amount ∷ []
+    codes "total" ∷ number_text posted ∷ number_text lost ∷ number_text paid ∷ number_text unpaid
+    ∷ number_text sold ∷ []
+fields_of (entry.Load seed rounds) = codes "load" ∷ number_text seed ∷ number_text rounds ∷ []
+fields_of (entry.Sum what amount) = sum_field what ∷ number_text amount ∷ []
 
 -- The line of an entry: its fields joined by single spaces, and a line feed.
 unfoldable pub line_of : Entry → List ℕ

@@ -67,7 +67,8 @@ pub enum CommandNo {
     /// So much is available, and that is less than what is wanted.
     #[error("only {have} is available")]
     Short { have: u64 },
-    /// The journal has `used` records, running jobs may put `held` more, and `need` more find no room.
+    /// The journal has `used` records; `held` more are held, for what running jobs may put and for each open order that
+    /// no job is to close; and `need` more find no room.
     #[error("the journal has {used} records, {held} more are held, and {need} more find no room")]
     JournalFull { used: u32, held: u32, need: u32 },
 }

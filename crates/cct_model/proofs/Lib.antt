@@ -1,6 +1,16 @@
 pub use Rattle.cct_lines.proofs.Messages
 pub use Rattle.cct_lines.proofs.Requests
+pub use Rattle.cct_lines.proofs.Hoppers
 pub use Rattle.cct_lines.proofs.Replaced
 pub use Rattle.cct_lines.proofs.Added
 pub mod Polls
+pub mod Doses
 mod Vectors
+mod Machine
+mod Payments
+mod Payouts
+mod Crashes
+mod Refusals
+mod Ledger
+mod Forged
+mod Day

@@ -1,29 +1,32 @@
 -- The job at an address, read off its lines: which command began it, which of its rows are done, and how it ends. And
 -- the epoch of an acceptor, read off its records.
-use Rattle.std.specs.Prelude.{ℕ, suc, zero, ◌==◌, Bool, true, false, List, [], ◌∷◌, length, if◌then◌else◌, Option, Some, None, slice_get}
+use Rattle.std.specs.Prelude.{ℕ, suc, zero, ◌==◌, nat_le, nat_lt, Bool, true, false, List, [], ◌∷◌, length, map, if◌then◌else◌, Option, Some, None, slice_get}
 use Rattle.std.specs.Option.{option_or}
 use Rattle.cct_model.specs.terms.wire.TheConstants.{BROADCAST, HOST}
 use Rattle.cct_model.specs.terms.coin.Credits.{Credits}
+use Rattle.cct_model.specs.terms.request.TheConstants.{ENABLE_CODE}
 use Rattle.cct_model.specs.terms.device.DeviceBody.{DeviceBody}
 use Rattle.cct_model.specs.terms.device.DeviceBody.TheVariants.{Acceptor, Hopper}
 use Rattle.cct_model.specs.terms.device.DeviceSetup.{DeviceSetup}
 use Rattle.cct_model.specs.terms.request.Request.{Request}
-use Rattle.cct_model.specs.terms.request.Request.TheVariants.{MakerId, Category, ProductCode, SerialNumber, SoftwareRevision, BuildCode, CommsRevision, ResetDevice, SetMask, GetMask, SetMaster, GetMaster, ReadCredits, SetPath, GetPath, SetDefault, GetDefault, CoinId, AcceptCount, TestHopper, Dispense}
+use Rattle.cct_model.specs.terms.request.Request.TheVariants.{MakerId, Category, ProductCode, SerialNumber, SoftwareRevision, BuildCode, CommsRevision, ResetDevice, SetMask, GetMask, SetMaster, GetMaster, ReadCredits, SetPath, GetPath, SetDefault, GetDefault, CoinId, AcceptCount, TestHopper, Enable, Dispense, GetStatus, GetLife, StopNow}
 use Rattle.cct_model.specs.lines.record.Record.{Record}
 use Rattle.cct_model.specs.lines.record.Record.TheVariants as record_of
 use Rattle.cct_model.specs.declared.judging.Judged.{Judged}
 use Rattle.cct_model.specs.declared.judging.Judged.TheVariants.{Nothing, Reading, Broken}
 use Rattle.cct_model.specs.declared.judging.EpochState.{EpochState}
 use Rattle.cct_model.specs.declared.judging.EpochState.TheVariants.{Idle, Running}
+use Rattle.cct_model.specs.declared.judging.OpenOrder.{OpenOrder}
 use Rattle.cct_model.specs.lines.command.Command.{Command}
 use Rattle.cct_model.specs.lines.command.Command.TheVariants as command
 use Rattle.cct_model.specs.lines.entry.End.{End}
-use Rattle.cct_model.specs.lines.entry.End.TheVariants.{Started, StartUnsure, Unquiet, Clean, Posted, Broke, Stopped, NoAnswer, Told, PathSet}
+use Rattle.cct_model.specs.lines.entry.End.TheVariants.{Started, StartUnsure, Unquiet, Clean, Posted, Broke, Stopped, NoAnswer, Told, PathSet, Closed, OddLife, Sold}
 use Rattle.cct_model.specs.Request.{header_of}
 use Rattle.cct_model.specs.Reply.{Reply}
 use Rattle.cct_model.specs.Reply as reply
-use Rattle.cct_model.specs.Line.{Line, accepted, inhibited, alien, fell, reset, exchange, scanned, put, taken, ended, crashed}
+use Rattle.cct_model.specs.Line.{Line, accepted, inhibited, alien, fell, reset, dispensed, exchange, scanned, put, taken, ended, crashed}
 use Rattle.cct_model.specs.Reading.{judge}
+use Rattle.cct_model.specs.Order.{close, is_marked, life_read}
 
 -- No job, or the job of a command with its lines since, newest first.
 pub data Job : Type 0 where
@@ -54,6 +57,7 @@ job (inhibited place ∷ past) = job past
 job (alien ∷ past) = job past
 job (fell ∷ past) = job past
 job (reset ∷ past) = job past
+job (dispensed count ∷ past) = job past
 
 -- A request that is sent once, whatever is heard of it: one that lets coins in, and one that pays coins out.
 abbrev pub is_once : Request → Bool
@@ -61,11 +65,18 @@ is_once (SetMask mask) = true
 is_once (Dispense serial count) = true
 is_once q = false
 
--- An exchange ends its row: it was answered, or asks what is sent once.
+-- An answer ends the row that asked for it, but for two: that a payout was stopped is no row of a payment, and a payout
+-- that goes on is asked for again.
+abbrev pub answer_ends : Request → Reply → Bool
+answer_ends StopNow got = false
+answer_ends GetStatus (reply.status events left_to_pay paid unpaid) = left_to_pay == 0
+answer_ends q got = true
+
+-- An exchange ends its row: by its answer, or without one where it asks what is sent once.
 abbrev pub ends_row : Option Request → Option Reply → Bool
-ends_row asked (Some got) = true
+ends_row (Some q) (Some got) = answer_ends q got
 ends_row (Some q) None = is_once q
-ends_row None None = false
+ends_row None got = false
 
 -- How many rows of a job are done: its exchanges that ended their row, and its puts.
 abbrev pub done : List Line → ℕ
@@ -155,10 +166,13 @@ put_or other Nothing = other
 put_or other (Reading entry) = puts entry
 put_or other (Broken entry) = puts entry
 
+-- The coin places.
+abbrev pub coin_places : List ℕ
+coin_places = 1 ∷ 2 ∷ 3 ∷ 4 ∷ 5 ∷ 6 ∷ 7 ∷ 8 ∷ 9 ∷ 10 ∷ 11 ∷ 12 ∷ 13 ∷ 14 ∷ 15 ∷ 16 ∷ []
+
 -- What a device of a kind is asked of itself, after what every device is asked.
 abbrev pub own_requests : DeviceBody → List Request
-own_requests (Acceptor accepts values ids) =
-    GetMaster ∷ GetDefault ∷ AcceptCount ∷ CoinId 1 ∷ CoinId 2 ∷ CoinId 3 ∷ CoinId 4 ∷ CoinId 5 ∷ CoinId 6 ∷ CoinId 7 ∷ CoinId 8 ∷ CoinId 9 ∷ CoinId 10 ∷ CoinId 11 ∷ CoinId 12 ∷ CoinId 13 ∷ CoinId 14 ∷ CoinId 15 ∷ CoinId 16 ∷ []
+own_requests (Acceptor accepts values ids) = GetMaster ∷ GetDefault ∷ AcceptCount ∷ map CoinId coin_places
 own_requests (Hopper life value) = TestHopper ∷ []
 
 -- All that a device is asked of itself, in this order.
@@ -210,15 +224,62 @@ path_row place path zero = sends (path_set place path)
 path_row place path (suc zero) = sends (path_read place)
 path_row place path (suc (suc rows)) = no_row
 
--- The row at which a job at a device stands, after so many rows; an identification asks for one thing after the other.
--- Other commands begin no job yet.
-abbrev pub row_at : DeviceBody → Command → ℕ → Judged → Row
-row_at body (command.Start addr mask) rows judged = start_row addr mask rows
-row_at body (command.Round addr) rows judged = round_row rows judged
-row_at body (command.Stop addr) rows judged = stop_row addr rows judged
-row_at body (command.Ident addr) rows judged = send_row (slice_get (ident_requests body) rows)
-row_at body (command.Path addr place path) rows judged = path_row place path rows
-row_at body c rows judged = no_row
+-- What the lines of a payment tell: whether the payout is to be stopped, the life count that was last read, and the order
+-- that is open.
+pub record Payment : Type 0 where
+  pub is_marked : Bool
+  pub life : Option ℕ
+  pub owed : Option OpenOrder
+
+-- The row that asks how a payout goes, or that stops it.
+abbrev pub state_row : Bool → Row
+state_row marked = sends (if marked then StopNow else GetStatus)
+
+-- The row that opens an order, with the life count that was read.
+abbrev pub open_row : ℕ → ℕ → ℕ → Option ℕ → Row
+open_row addr id count None = no_row
+open_row addr id count (Some life) = puts (record_of.Opened id addr count life)
+
+-- The row that closes the open order, with the life count that was read.
+abbrev pub close_row : Option OpenOrder → Option ℕ → Row
+close_row (Some o) (Some life) = puts (close o life)
+close_row owed life = no_row
+
+-- The rows of a settlement: it asks how the payout goes until nothing is left to pay, reads the life count, and closes the
+-- order.
+abbrev pub settle_row : ℕ → Payment → Row
+settle_row zero p = state_row p.is_marked
+settle_row (suc zero) p = sends GetLife
+settle_row (suc (suc zero)) p = close_row p.owed p.life
+settle_row (suc (suc (suc rows))) p = no_row
+
+-- The rows of a payment: it enables the hopper, reads its life count, opens the order, lets the hopper dispense, and then
+-- settles the order.
+abbrev pub pay_row : ℕ → ℕ → ℕ → ℕ → ℕ → Payment → Row
+pay_row serial addr id count zero p = sends (Enable ENABLE_CODE)
+pay_row serial addr id count (suc zero) p = sends GetLife
+pay_row serial addr id count (suc (suc zero)) p = open_row addr id count p.life
+pay_row serial addr id count (suc (suc (suc zero))) p = sends (Dispense serial count)
+pay_row serial addr id count (suc (suc (suc (suc rows)))) p = settle_row rows p
+
+-- The one row of a sale.
+abbrev pub vend_row : ℕ → ℕ → ℕ → Row
+vend_row id price zero = puts (record_of.Sold id price)
+vend_row id price (suc rows) = no_row
+
+-- The row at which a job stands, after so many rows; an identification asks for one thing after the other. A halt and a
+-- scan are no job with such rows.
+abbrev pub row_at : DeviceSetup → Command → ℕ → Judged → Payment → Row
+row_at d (command.Start addr mask) rows judged p = start_row addr mask rows
+row_at d (command.Round addr) rows judged p = round_row rows judged
+row_at d (command.Stop addr) rows judged p = stop_row addr rows judged
+row_at d (command.Pay addr id count) rows judged p = pay_row d.serial addr id count rows p
+row_at d (command.Settle addr) rows judged p = settle_row rows p
+row_at d (command.Ident addr) rows judged p = send_row (slice_get (ident_requests d.body) rows)
+row_at d (command.Path addr place path) rows judged p = path_row place path rows
+row_at d (command.Halt addr) rows judged p = no_row
+row_at d command.Scan rows judged p = no_row
+row_at d (command.Vend id price) rows judged p = no_row
 
 -- The address of a command: a scan is at 0, and a sale at 1.
 abbrev pub address_of : Command → ℕ
@@ -237,16 +298,53 @@ address_of (command.Vend id price) = HOST
 abbrev pub judged_in : Command → List Line → EpochState → Judged
 judged_in c since state = judged_by (address_of c) state (credits_read since) (mask_read since)
 
--- The row at which a job at a device stands.
-abbrev pub row : DeviceSetup → Command → List Line → EpochState → Row
-row d c since state = row_at d.body c (done since) (judged_in c since state)
+-- What the lines of a job tell of a payment, beside the open order.
+abbrev pub payment_in : List Line → Option OpenOrder → Payment
+payment_in since owed = record { is_marked = is_marked since; life = life_read since; owed = owed }
 
--- The end that a put brings to a job: a round ends with what it judged, a stop with a break or with the epoch's end.
+-- The row at which a job at a device stands, beside its epoch and its open order.
+abbrev pub row : DeviceSetup → Command → List Line → EpochState → Option OpenOrder → Row
+row d c since state owed = row_at d c (done since) (judged_in c since state) (payment_in since owed)
+
+-- The row at which a job that is at no device stands: a sale.
+abbrev pub row_of_sale : Command → List Line → Row
+row_of_sale (command.Vend id price) since = vend_row id price (done since)
+row_of_sale c since = no_row
+
+-- How many records a job may still put after so many rows, at a row: a start one up to its put, a round and a settlement
+-- one, a stop the epoch's end too, a payment its opened and its closed order, and a sale one.
+abbrev pub puts_at : Command → ℕ → Row → ℕ
+puts_at (command.Start addr mask) rows next = if nat_lt rows 3 then 1 else 0
+puts_at (command.Round addr) rows next = 1
+puts_at (command.Stop addr) rows (puts (record_of.EpochEnd at)) = 1
+puts_at (command.Stop addr) rows next = 2
+puts_at (command.Pay addr id count) rows next = if nat_lt rows 3 then 2 else 1
+puts_at (command.Settle addr) rows next = 1
+puts_at (command.Vend id price) rows next = 1
+puts_at c rows next = 0
+
+-- The job can be halted: a payment up to the row that waits for the last coin, and a settlement at that row.
+abbrev pub can_halt : Job → Bool
+can_halt (works (command.Pay addr id count) since) = nat_le (done since) 4
+can_halt (works (command.Settle addr) since) = done since == 0
+can_halt j = false
+
+-- The end of a payment by the record that closes its order.
+abbrev pub end_of_close : Record → Option End
+end_of_close (record_of.Closed id paid unpaid) = Some Closed
+end_of_close (record_of.Odd id life_before life_after) = Some OddLife
+end_of_close r = None
+
+-- The end that a put brings to a job: a round ends with what it judged, a stop with a break or with the epoch's end, a
+-- payment and a settlement with the order, and a sale with its record.
 abbrev pub end_of_put : Command → Record → Option End
 end_of_put (command.Round addr) (record_of.Reading a counter lost posted) = Some Posted
 end_of_put (command.Round addr) (record_of.Broken a seen counter posted) = Some Broke
 end_of_put (command.Stop addr) (record_of.Broken a seen counter posted) = Some Broke
 end_of_put (command.Stop addr) (record_of.EpochEnd a) = Some Stopped
+end_of_put (command.Pay addr id count) r = end_of_close r
+end_of_put (command.Settle addr) r = end_of_close r
+end_of_put (command.Vend id price) (record_of.Sold sold at) = Some Sold
 end_of_put c r = None
 
 -- The end that the credits bring to a start: an acceptor that was just reset has event counter 0.
@@ -290,9 +388,10 @@ abbrev pub end_of_tries : ℕ → Option End
 end_of_tries failed = if failed == 3 then Some NoAnswer else None
 
 -- The end that an exchange without the wanted reply brings to a job, whose row then has so many failed tries: a start
--- whose mask, sent once, isn't acknowledged ends unsure.
+-- whose mask, sent once, isn't acknowledged ends unsure, and a payment goes on behind its dispense, which is sent once.
 abbrev pub end_of_failure : Request → ℕ → Option End
 end_of_failure (SetMask mask) failed = Some StartUnsure
+end_of_failure (Dispense serial count) failed = None
 end_of_failure q failed = end_of_tries failed
 
 -- The end that a line brings to a job at a device, if it brings one.

@@ -1,30 +1,31 @@
 -- A legal transcript: the entries of a script's steps, one step after the other, and none besides.
-use Rattle.std.specs.Prelude.{◌≡◌, ℕ, ◌==◌, ◌&&◌, Bool, true, false, List, [], ◌∷◌, ◌++◌, find, if◌then◌else◌, Option, Some, None, MatchBool}
-use Rattle.std.specs.Option.{option_map, option_or}
-use Rattle.cct_model.specs.terms.wire.TheConstants.{BROADCAST}
+use Rattle.std.specs.Prelude.{◌≡◌, ◌⊎◌, ℕ, suc, ◌<◌, ◌==◌, Bool, true, false, List, [], ◌∷◌, ◌++◌, length, if◌then◌else◌, Option, Some, None, MatchBool}
+use Rattle.cct_model.specs.terms.wire.TheConstants.{BROADCAST, HOST}
 use Rattle.cct_model.specs.terms.wire.CheckKind.{CheckKind}
-use Rattle.cct_model.specs.terms.device.DeviceBody.{DeviceBody}
 use Rattle.cct_model.specs.terms.device.DeviceSetup.{DeviceSetup}
 use Rattle.cct_model.specs.terms.device.Setup.{Setup}
 use Rattle.cct_model.specs.lines.command.Command.{Command}
 use Rattle.cct_model.specs.lines.command.Command.TheVariants as command
 use Rattle.cct_model.specs.lines.command.CommandNo.{CommandNo}
-use Rattle.cct_model.specs.lines.command.CommandNo.TheVariants.{NoDevice, WrongKind, Busy, EpochRuns, NoEpoch, NoValue}
+use Rattle.cct_model.specs.lines.command.CrashAt.{CrashAt}
 use Rattle.cct_model.specs.lines.command.Step.{Step}
 use Rattle.cct_model.specs.lines.command.Step.TheVariants as step
-use Rattle.cct_model.specs.declared.judging.EpochState.{EpochState}
-use Rattle.cct_model.specs.declared.judging.EpochState.TheVariants.{Idle, Running}
+use Rattle.cct_model.specs.lines.record.Record.{Record}
 use Rattle.cct_model.specs.lines.entry.End.{End}
 use Rattle.cct_model.specs.lines.entry.Entry.{Entry}
 use Rattle.cct_model.specs.lines.entry.Entry.TheVariants as entry
-use Rattle.cct_model.specs.Setting.{has_place}
 use Rattle.cct_model.specs.Acceptor.{accepts, path_of}
-use Rattle.cct_model.specs.Device.{is_acceptor, value_at}
+use Rattle.cct_model.specs.Device.{is_acceptor}
+use Rattle.cct_model.specs.Hopper.{remaining}
 use Rattle.cct_model.specs.Exchange.{ask, asked, device_at}
 use Rattle.cct_model.specs.Line.{Line, exchange, put}
-use Rattle.cct_model.specs.Job.{Job, free, works, job, Row, sends, puts, no_row, row, epoch, end_of}
+use Rattle.cct_model.specs.Order.{order}
+use Rattle.cct_model.specs.Job.{Job, free, works, job, Row, sends, puts, no_row, row, row_of_sale, epoch, end_of, end_of_put}
+use Rattle.cct_model.specs.Records.{records}
+use Rattle.cct_model.specs.Money.{totals}
+use Rattle.cct_model.specs.Refusal.{refusal}
 use Rattle.cct_model.specs.Scan.{scan_row, end_of_scan, poll_of}
-use Rattle.cct_model.specs.Transcript.{met, lines_of, scan_lines, scan_line, heard_after, got_by, onto}
+use Rattle.cct_model.specs.Transcript.{met, lines_of, scan_lines, scan_line, sale_lines, heard_after, got_by, onto}
 
 -- The entry of a coin: accepted with its path where the acceptor accepts its place, else inhibited.
 abbrev pub coin_entry : DeviceSetup → List Entry → ℕ → Entry
@@ -33,52 +34,13 @@ coin_entry d past place =
     then entry.Accepted d.addr (record { place = place; path = path_of (met d past) place })
     else entry.Inhibited d.addr place
 
--- The test of a command that a job is at its address.
-abbrev pub busy : Job → Option CommandNo
-busy free = None
-busy (works c since) = Some Busy
+-- The entry of a coin that may fall out of a hopper: it does where the hopper has some left to pay.
+abbrev pub fall_entry : DeviceSetup → List Entry → Entry
+fall_entry d past = if remaining d.serial (met d past) == 0 then entry.NoFall d.addr else entry.Fell d.addr
 
--- The tests of a command to a device: there is none at the address, and then further ones.
-abbrev pub at_device : Option DeviceSetup → (DeviceSetup → Option CommandNo) → Option CommandNo
-at_device None further = Some NoDevice
-at_device (Some d) further = further d
-
--- The tests of a command to a coin acceptor: there is no device at the address, or it is of another kind, and then
--- further ones.
-abbrev pub at_acceptor : Option DeviceSetup → (DeviceSetup → Option CommandNo) → Option CommandNo
-at_acceptor found further = at_device found (λ d. if is_acceptor d.body then further d else Some WrongKind)
-
--- The tests of a command to a coin acceptor that no job is at, beside those of its epoch.
-abbrev pub when_free : List Entry → (DeviceSetup → EpochState → Option CommandNo) → DeviceSetup → Option CommandNo
-when_free past further d = option_or (busy (job (lines_of d past))) (further d (epoch (lines_of d past)))
-
--- The coin places.
-abbrev pub coin_places : List ℕ
-coin_places = 1 ∷ 2 ∷ 3 ∷ 4 ∷ 5 ∷ 6 ∷ 7 ∷ 8 ∷ 9 ∷ 10 ∷ 11 ∷ 12 ∷ 13 ∷ 14 ∷ 15 ∷ 16 ∷ []
-
--- The least coin place of a mask that has no value, or none.
-abbrev pub valueless : DeviceBody → ℕ → Option ℕ
-valueless body mask = find (λ place. has_place mask place && (value_at body place == 0)) coin_places
-
--- The tests of a start beside the epoch: one runs already, or a place of the mask has no value.
-abbrev pub start_refusal : ℕ → DeviceSetup → EpochState → Option CommandNo
-start_refusal mask d Idle = option_map NoValue (valueless d.body mask)
-start_refusal mask d (Running running counter) = Some EpochRuns
-
--- The test of a round and of a stop beside the epoch: none runs.
-abbrev pub running_refusal : DeviceSetup → EpochState → Option CommandNo
-running_refusal d Idle = Some NoEpoch
-running_refusal d (Running mask counter) = None
-
--- The first reason that holds for which a command is refused, or none.
-abbrev pub refusal : Setup → List Entry → Command → Option CommandNo
-refusal setup past (command.Start addr mask) = at_acceptor (device_at setup.devices addr) (when_free past (start_refusal mask))
-refusal setup past (command.Round addr) = at_acceptor (device_at setup.devices addr) (when_free past running_refusal)
-refusal setup past (command.Stop addr) = at_acceptor (device_at setup.devices addr) (when_free past running_refusal)
-refusal setup past (command.Path addr place path) = at_acceptor (device_at setup.devices addr) (λ d. busy (job (lines_of d past)))
-refusal setup past (command.Ident addr) = at_device (device_at setup.devices addr) (λ d. busy (job (lines_of d past)))
-refusal setup past command.Scan = busy (job (scan_lines past))
-refusal setup past c = None
+-- The entry of a coin that may stick in a hopper: it does where the hopper has some left to pay.
+abbrev pub jam_entry : DeviceSetup → List Entry → Entry
+jam_entry d past = if remaining d.serial (met d past) == 0 then entry.NoJam d.addr else entry.Jammed d.addr
 
 -- The entry of a command: taken, or refused with its reason.
 abbrev pub command_entry : Command → Option CommandNo → Entry
@@ -104,7 +66,8 @@ RowEntries hears d past c since no_row news = ⊥
 -- The entries of a `next` at a device, newest first: idle with no job, else those of its row.
 abbrev pub NextEntries : (List ℕ → List ℕ) → DeviceSetup → List Entry → Job → List Entry → Type 0
 NextEntries hears d past free news = news ≡ entry.Idle d.addr ∷ []
-NextEntries hears d past (works c since) news = RowEntries hears d past c since (row d c since (epoch (lines_of d past))) news
+NextEntries hears d past (works c since) news =
+    RowEntries hears d past c since (row d c since (epoch (lines_of d past)) (order (lines_of d past))) news
 
 -- The entries of one poll of a scan, newest first, and its end.
 abbrev pub PollEntries : (List ℕ → List ℕ) → List Line → Option (CheckKind × ℕ) → List Entry → Type 0
@@ -119,10 +82,21 @@ abbrev pub ScanEntries : (List ℕ → List ℕ) → Job → List Entry → Type
 ScanEntries hears free news = news ≡ entry.Idle BROADCAST ∷ []
 ScanEntries hears (works c since) news = PollEntries hears since (scan_row since) news
 
--- The entries of a `next` at an address without a device, newest first: a scan is at address 0 alone.
+-- The entries of the row of a sale, newest first: its put, and its end.
+abbrev pub SaleRowEntries : Command → Row → List Entry → Type 0
+SaleRowEntries c (puts r) news = news ≡ with_end HOST (entry.Put r) (end_of_put c r)
+SaleRowEntries c next news = ⊥
+
+-- The entries of a `next` at address 1, newest first: idle with no sale, else those of its row.
+abbrev pub SaleEntries : Job → List Entry → Type 0
+SaleEntries free news = news ≡ entry.Idle HOST ∷ []
+SaleEntries (works c since) news = SaleRowEntries c (row_of_sale c since) news
+
+-- The entries of a `next` at an address without a device, newest first: a scan is at address 0 alone, and a sale at 1.
 abbrev pub BareNext : (List ℕ → List ℕ) → List Entry → ℕ → List Entry → Type 0
 BareNext hears past addr news =
-    MatchBool (addr == BROADCAST) (ScanEntries hears (job (scan_lines past)) news) (news ≡ entry.Idle addr ∷ [])
+    MatchBool (addr == BROADCAST) (ScanEntries hears (job (scan_lines past)) news)
+    (MatchBool (addr == HOST) (SaleEntries (job (sale_lines past)) news) (news ≡ entry.Idle addr ∷ []))
 
 -- A fact of the device at an address; there has to be one.
 abbrev pub OfDevice : Option DeviceSetup → (DeviceSetup → Type 0) → Type 0
@@ -132,6 +106,10 @@ OfDevice (Some d) P = P d
 -- A fact of the acceptor at an address; there has to be one.
 abbrev pub OfAcceptor : Option DeviceSetup → (DeviceSetup → Type 0) → Type 0
 OfAcceptor found P = OfDevice found (λ d. MatchBool (is_acceptor d.body) (P d) ⊥)
+
+-- A fact of the hopper at an address; there has to be one.
+abbrev pub OfHopper : Option DeviceSetup → (DeviceSetup → Type 0) → Type 0
+OfHopper found P = OfDevice found (λ d. MatchBool (is_acceptor d.body) ⊥ (P d))
 
 -- A fact of the device at an address where there is one, else another.
 abbrev pub OfNext : Option DeviceSetup → (DeviceSetup → Type 0) → Type 0 → Type 0
@@ -143,6 +121,67 @@ abbrev pub EntriesOfNext : (List ℕ → List ℕ) → Setup → List Entry → 
 EntriesOfNext hears setup past addr news =
     OfNext (device_at setup.devices addr) (λ d. NextEntries hears d past (job (lines_of d past)) news) (BareNext hears past addr news)
 
+-- The record that a row puts, or none.
+abbrev pub record_due : Row → Option Record
+record_due (puts r) = Some r
+record_due next = None
+
+-- The record that a job at a device is about to put, or none.
+abbrev pub due_of : DeviceSetup → List Line → Job → Option Record
+due_of d lines free = None
+due_of d lines (works c since) = record_due (row d c since (epoch lines) (order lines))
+
+-- The record that a sale is about to put, or none.
+abbrev pub due_of_sale : Job → Option Record
+due_of_sale free = None
+due_of_sale (works c since) = record_due (row_of_sale c since)
+
+-- The record that the job at an address is about to put, or none, where this device is there; a job without a device that
+-- puts one is a sale.
+abbrev pub due_there : List Entry → ℕ → Option DeviceSetup → Option Record
+due_there past addr (Some d) = due_of d (lines_of d past) (job (lines_of d past))
+due_there past addr None = if addr == HOST then due_of_sale (job (sale_lines past)) else None
+
+-- The same of a setup.
+abbrev pub due_at : Setup → List Entry → ℕ → Option Record
+due_at setup past addr = due_there past addr (device_at setup.devices addr)
+
+-- The host lost its power, with nothing kept of a put under way: it starts again over the records that were put.
+abbrev pub bare_crash : List Entry → List Entry
+bare_crash past = entry.Crash (length (records past)) ∷ []
+
+-- The host lost its power, and the record of the put under way was kept.
+abbrev pub keeping_crash : List Entry → Record → List Entry
+keeping_crash past r = entry.Kept r ∷ entry.Crash (suc (length (records past))) ∷ []
+
+-- The entries of a loss of power after so many of the four disk calls of a put, newest first: the record under way is
+-- kept after all four, and may be after three, when its gate is written and not yet synced.
+abbrev pub CrashEntries : List Entry → ℕ → Option Record → List Entry → Type 0
+CrashEntries past calls None news = news ≡ bare_crash past
+CrashEntries past calls (Some r) news = ((calls < 4) × (news ≡ bare_crash past)) ⊎ ((2 < calls) × (news ≡ keeping_crash past r))
+
+-- The entries of a loss of power, newest first: in a put of the job at an address, or in none.
+abbrev pub EntriesOfCrash : Setup → List Entry → Option CrashAt → List Entry → Type 0
+EntriesOfCrash setup past None news = news ≡ bare_crash past
+EntriesOfCrash setup past (Some at) news = CrashEntries past at.calls (due_at setup past at.addr) news
+
+-- The entries of a step after all that came before, newest first, over a journal with a capacity or none. The choice of a
+-- loss of power is a disk's: here either outcome is one that it may have, where the gate was written and not yet synced.
+-- The end of a script is no step of a run.
+abbrev pub Entries : Option ℕ → Setup → List Entry → Step → List Entry → Type 0
+Entries capacity setup past (step.Coin addr place) news =
+    OfAcceptor (device_at setup.devices addr) (λ d. news ≡ coin_entry d past place ∷ [])
+Entries capacity setup past (step.Alien addr) news = OfAcceptor (device_at setup.devices addr) (λ d. news ≡ entry.Alien addr ∷ [])
+Entries capacity setup past (step.Fall addr) news = OfHopper (device_at setup.devices addr) (λ d. news ≡ fall_entry d past ∷ [])
+Entries capacity setup past (step.Jam addr) news = OfHopper (device_at setup.devices addr) (λ d. news ≡ jam_entry d past ∷ [])
+Entries capacity setup past (step.Reset addr) news = OfDevice (device_at setup.devices addr) (λ d. news ≡ entry.Reset addr ∷ [])
+Entries capacity setup past (step.Fault f) news = news ≡ entry.Fault f ∷ []
+Entries capacity setup past (step.Command c) news = news ≡ command_entry c (refusal capacity setup past c) ∷ []
+Entries capacity setup past (step.Next addr) news = EntriesOfNext (heard_after setup past) setup past addr news
+Entries capacity setup past (step.Crash at choice) news = EntriesOfCrash setup past at news
+Entries capacity setup past step.Balance news = news ≡ entry.Balance (totals setup past) ∷ []
+Entries capacity setup past step.End news = ⊥
+
 -- A command that is played today.
 abbrev pub is_played_command : Command → Bool
 is_played_command (command.Start addr mask) = true
@@ -152,16 +191,6 @@ is_played_command command.Scan = true
 is_played_command (command.Ident addr) = true
 is_played_command (command.Path addr place path) = true
 is_played_command c = false
-
--- The entries of a step after all that came before, newest first. Other steps and commands are not played yet.
-abbrev pub Entries : Setup → List Entry → Step → List Entry → Type 0
-Entries setup past (step.Coin addr place) news = OfAcceptor (device_at setup.devices addr) (λ d. news ≡ coin_entry d past place ∷ [])
-Entries setup past (step.Alien addr) news = OfAcceptor (device_at setup.devices addr) (λ d. news ≡ entry.Alien addr ∷ [])
-Entries setup past (step.Reset addr) news = OfDevice (device_at setup.devices addr) (λ d. news ≡ entry.Reset addr ∷ [])
-Entries setup past (step.Fault f) news = news ≡ entry.Fault f ∷ []
-Entries setup past (step.Command c) news = MatchBool (is_played_command c) (news ≡ command_entry c (refusal setup past c) ∷ []) ⊥
-Entries setup past (step.Next addr) news = EntriesOfNext (heard_after setup past) setup past addr news
-Entries setup past s news = ⊥
 
 -- A step that is played today.
 abbrev pub is_played : Step → Bool
@@ -174,10 +203,12 @@ is_played (step.Command c) = is_played_command c
 is_played s = false
 
 -- A past goes on by the entries of these steps, and ends as this one.
-abbrev pub LegalFrom : Setup → List Entry → List Step → List Entry → Type 0
-LegalFrom setup past [] end = end ≡ past
-LegalFrom setup past (s ∷ steps) end = (news : List Entry) × Entries setup past s news × LegalFrom setup (news ++ past) steps end
+abbrev pub LegalFrom : Option ℕ → Setup → List Entry → List Step → List Entry → Type 0
+LegalFrom capacity setup past [] end = end ≡ past
+LegalFrom capacity setup past (s ∷ steps) end =
+    (news : List Entry) × Entries capacity setup past s news × LegalFrom capacity setup (news ++ past) steps end
 
--- A transcript, oldest entry first, is the entries of these steps.
-abbrev pub Legal : Setup → List Step → List Entry → Type 0
-Legal setup steps transcript = LegalFrom setup [] steps (onto [] transcript)
+-- A transcript, oldest entry first, is the entries of these steps, over a journal that takes so many records, or over
+-- none.
+abbrev pub Legal : Option ℕ → Setup → List Step → List Entry → Type 0
+Legal capacity setup steps transcript = LegalFrom capacity setup [] steps (onto [] transcript)

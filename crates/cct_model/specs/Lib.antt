@@ -6,6 +6,7 @@ pub use Rattle.cct_lines.specs.Reply
 pub use Rattle.cct_lines.specs.History
 pub use Rattle.cct_lines.specs.Setting
 pub use Rattle.cct_lines.specs.Acceptor
+pub use Rattle.cct_lines.specs.Hopper
 pub use Rattle.cct_lines.specs.Device
 pub use Rattle.cct_lines.specs.Exchange
 pub use Rattle.cct_lines.specs.Setup
@@ -17,9 +18,15 @@ pub use Rattle.cct_lines.specs.Grammar
 pub use Rattle.cct_lines.specs.Script
 pub mod Reading
 pub mod Line
+pub mod Order
 pub mod Job
 pub mod Scan
+pub mod Records
 pub mod Transcript
+pub mod Money
+pub mod Refusal
+pub mod Following
 pub mod Honest
 pub mod Legal
 pub mod Claims
+pub mod Paid

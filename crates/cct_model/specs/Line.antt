@@ -9,15 +9,16 @@ use Rattle.cct_model.specs.lines.command.Command.{Command}
 use Rattle.cct_model.specs.lines.entry.End.{End}
 use Rattle.cct_model.specs.Reply.{Reply}
 
--- A coin was accepted or inhibited, a piece that is no coin came, a coin fell out, the device was reset; an exchange was
--- made; a scan polled an address under a check, and this followed a good echo; a record was put; a command was taken; a
--- job ended; the host lost its power.
+-- A coin was accepted or inhibited, a piece that is no coin came, a coin fell out, the device was reset; a hopper took a
+-- dispense of so many coins; an exchange was made; a scan polled an address under a check, and this followed a good echo;
+-- a record was put; a command was taken; a job ended; the host lost its power.
 pub data Line : Type 0 where
   accepted : (coin : Coin) → Line
   inhibited : (place : ℕ) → Line
   alien : Line
   fell : Line
   reset : Line
+  dispensed : (count : ℕ) → Line
   exchange : (asked : Option Request) (got : Option Reply) → Line
   scanned : (check : CheckKind) (addr : ℕ) (rest : Option (List ℕ)) → Line
   put : (entry : Record) → Line

@@ -1,8 +1,11 @@
 -- A transcript, newest entry first: the wire's pending fault, what each device met, and the lines of each address.
-use Rattle.std.specs.Prelude.{ℕ, ◌==◌, List, [], ◌∷◌, ◌++◌, flat_map, if◌then◌else◌, Option, option_and_then, unwrap_or, slice_index, bytes_eq}
+use Rattle.std.specs.Prelude.{ℕ, ◌==◌, List, [], ◌∷◌, ◌++◌, flat_map, if◌then◌else◌, Option, Some, None, option_and_then, unwrap_or, slice_index, bytes_eq}
 use Rattle.cct_model.specs.terms.wire.TheConstants.{BROADCAST, HOST}
 use Rattle.cct_model.specs.terms.wire.CheckKind.TheVariants.{Simple, Crc}
+use Rattle.cct_model.specs.terms.device.DeviceBody.{DeviceBody}
+use Rattle.cct_model.specs.terms.device.DeviceBody.TheVariants.{Acceptor, Hopper}
 use Rattle.cct_model.specs.terms.device.DeviceSetup.{DeviceSetup}
+use Rattle.cct_model.specs.terms.request.Request.{Request}
 use Rattle.cct_model.specs.terms.device.Setup.{Setup}
 use Rattle.cct_model.specs.lines.command.WireFault.{WireFault}
 use Rattle.cct_model.specs.lines.command.WireFault.TheVariants as fault
@@ -16,7 +19,9 @@ use Rattle.cct_model.specs.History.{Met, coin, alien, fall, jam, reset, heard}
 use Rattle.cct_model.specs.Exchange.{ask, asked, asks_of, answer, after_echo, got, by_address}
 use Rattle.cct_model.specs.Line.{Line}
 use Rattle.cct_model.specs.Line as line
+use Rattle.cct_model.specs.Hopper.{taken_of}
 use Rattle.cct_model.specs.Job.{address_of}
+use Rattle.cct_model.specs.Records.{records, opened_in, owner_in}
 use Rattle.cct_model.specs.Scan.{poll_of}
 
 -- What stands at an address, where that is the device's.
@@ -73,30 +78,30 @@ heard_after setup past sent =
 unfoldable pub got_by : DeviceSetup → List ℕ → List ℕ → Option Reply
 got_by d sent piece = option_and_then (λ form. got d.kind d.addr form sent piece) (option_and_then form_of (asked d.kind sent))
 
--- The address of the order that a record opens with this id, or the one before it; none where it opens no such order.
-abbrev pub opened_by : ℕ → Record → ℕ → ℕ
-opened_by id (record_of.Opened opened addr count life) before = if opened == id then addr else before
-opened_by id r before = before
-
 -- The address at which an order was opened last with an id, 0 where none was.
 abbrev pub opened_at : ℕ → List Entry → ℕ
-opened_at id [] = 0
-opened_at id (entry.Put r ∷ past) = opened_by id r (opened_at id past)
-opened_at id (entry.Kept r ∷ past) = opened_by id r (opened_at id past)
-opened_at id (e ∷ past) = opened_at id past
+opened_at id past = opened_in id (records past)
 
--- The address that a record belongs to: that of the order that it closes, and 1 for a sale.
+-- The address that a record belongs to, after all these entries.
 abbrev pub owner : List Entry → Record → ℕ
-owner past (record_of.Epoch addr mask) = addr
-owner past (record_of.Reading addr counter lost posted) = addr
-owner past (record_of.Broken addr seen counter posted) = addr
-owner past (record_of.EpochEnd addr) = addr
-owner past (record_of.Opened id addr count life) = addr
-owner past (record_of.Closed id paid unpaid) = opened_at id past
-owner past (record_of.Odd id before after) = opened_at id past
-owner past (record_of.Sold id price) = HOST
+owner past r = owner_in (records past) r
 
--- The line of a device's address that an entry is, or none.
+-- That a hopper took a dispense of so many coins, as a line of its address.
+abbrev pub dispensed_by : Option ℕ → List Line
+dispensed_by None = []
+dispensed_by (Some count) = line.dispensed count ∷ []
+
+-- The dispense that a device took over a piece that it heard, whoever's job the exchange is.
+abbrev pub doses : DeviceBody → ℕ → List Met → Option Request → List Line
+doses (Acceptor accepts values ids) own past asked = []
+doses (Hopper life value) own past asked = dispensed_by (taken_of own past asked)
+
+-- What a device takes in an exchange in which the host sends a piece.
+abbrev pub doses_of : DeviceSetup → List Entry → List ℕ → List Line
+doses_of d past sent = doses d.body d.serial (met d past) (asks_of d (heard_by_devices (pending past) sent))
+
+-- The lines of a device's address that an entry is, newest first: an exchange may be two, of which the one that says what
+-- was got is the newer one.
 abbrev pub own : DeviceSetup → List Entry → Entry → List Line
 own d past (entry.Accepted addr c) = at addr d (line.accepted c)
 own d past (entry.Inhibited addr place) = at addr d (line.inhibited place)
@@ -104,7 +109,8 @@ own d past (entry.Alien addr) = at addr d line.alien
 own d past (entry.Fell addr) = at addr d line.fell
 own d past (entry.Reset addr) = at addr d line.reset
 own d past (entry.Taken command) = at (address_of command) d (line.taken command)
-own d past (entry.Wire addr sent piece) = at addr d (line.exchange (asked d.kind sent) (got_by d sent piece))
+own d past (entry.Wire addr sent piece) =
+    at addr d (line.exchange (asked d.kind sent) (got_by d sent piece)) ++ doses_of d past sent
 own d past (entry.Put r) = at (owner past r) d (line.put r)
 own d past (entry.Kept r) = at (owner past r) d (line.put r)
 own d past (entry.Ended addr end) = at addr d (line.ended end)
@@ -141,6 +147,29 @@ scan_own e = []
 abbrev pub scan_lines : List Entry → List Line
 scan_lines [] = []
 scan_lines (e ∷ past) = scan_own e ++ scan_lines past
+
+-- What stands at address 1, where sales are.
+abbrev pub at_sale : {A : Type 0} → ℕ → A → List A
+at_sale addr x = if addr == HOST then x ∷ [] else []
+
+-- The line of a sale that a record is, or none.
+abbrev pub sold_line : Record → List Line
+sold_line (record_of.Sold id price) = line.put (record_of.Sold id price) ∷ []
+sold_line r = []
+
+-- The line of address 1 that an entry is, or none.
+abbrev pub sale_own : Entry → List Line
+sale_own (entry.Taken command) = at_sale (address_of command) (line.taken command)
+sale_own (entry.Put r) = sold_line r
+sale_own (entry.Kept r) = sold_line r
+sale_own (entry.Ended addr end) = at_sale addr (line.ended end)
+sale_own (entry.Crash records) = line.crashed ∷ []
+sale_own e = []
+
+-- The lines of address 1.
+abbrev pub sale_lines : List Entry → List Line
+sale_lines [] = []
+sale_lines (e ∷ past) = sale_own e ++ sale_lines past
 
 -- Entries that were written in this order go onto a past, the last of them newest.
 abbrev pub onto : List Entry → List Entry → List Entry

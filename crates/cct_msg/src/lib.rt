@@ -19,6 +19,3 @@ pub use reply_reading::{NotWanted, read_reply};
 pub use reply_writing::encode_reply;
 pub use request_reading::read_request;
 pub use request_writing::encode_request;
-
-#[cfg(test)]
-mod tests;

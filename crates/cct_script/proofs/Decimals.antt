@@ -16,11 +16,14 @@ chosen : (b : Bool) (x : Option ℕ) → x ≡ None → cond b x None ≡ None
 chosen true x e = e
 chosen false x e = refl
 
-pub and_then_chosen : (b : Bool) (f : ℕ → Option ℕ) (x : Option ℕ) → option_and_then f x ≡ None → option_and_then f (cond b x None) ≡ None
+pub and_then_chosen : (b : Bool) (f : ℕ → Option ℕ) (x : Option ℕ) → option_and_then f x ≡ None
+    → option_and_then f (cond b x None) ≡ None
 and_then_chosen true f x e = e
 and_then_chosen false f x e = refl
 
 -- digits only make a number greater: one that has passed the most stays above it
-pub digits_above : (most n : ℕ) (bytes : List ℕ) → most < n → option_and_then (within 0 most) (digits_from n bytes) ≡ None
+pub digits_above : (most n : ℕ) (bytes : List ℕ) → most < n
+    → option_and_then (within 0 most) (digits_from n bytes) ≡ None
 digits_above most n [] more = above most n more
-digits_above most n (byte ∷ bytes) more = and_then_chosen (is_digit byte) (within 0 most) _ (digits_above most (10 * n + (byte - 48)) bytes (omega arith))
+digits_above most n (byte ∷ bytes) more =
+    and_then_chosen (is_digit byte) (within 0 most) _ (digits_above most (10 * n + (byte - 48)) bytes (omega arith))

@@ -6,7 +6,8 @@ use Rattle.hex.specs.declared.error.FromHexError.{FromHexError}
 use Rattle.hex.proofs.HexLemmas.{decode_of-ok, decode_sized-twice}
 use Rattle.cct_lines.specs.Grammar.{mask_in, mask_of_bytes, ◌>>=◌}
 
-pub no_mask : (field : List ℕ) (e : FromHexError) → decode_sized field 2 ≡ Err e → (r : Result (List ℕ) FromHexError) → decode_of field ≡ r → result_ok r >>= mask_of_bytes ≡ None
+pub no_mask : (field : List ℕ) (e : FromHexError) → decode_sized field 2 ≡ Err e → (r : Result (List ℕ) FromHexError)
+    → decode_of field ≡ r → result_ok r >>= mask_of_bytes ≡ None
 no_mask field e refused (Err why) same = refl
 no_mask field e refused (Ok []) same = refl
 no_mask field e refused (Ok (a ∷ [])) same = refl

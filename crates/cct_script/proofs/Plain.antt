@@ -13,11 +13,17 @@ word text some few e = (some, few, printing_all text e)
 
 -- an acceptor without values has its numbers in their ranges
 pub plain_acceptor_sound : (accepts : ℕ) → accepts < 2 ^ 24 → IsSoundBody (plain_acceptor accepts)
-plain_acceptor_sound accepts few =
-    (few, All-replicate (λ value. value ≤ 1000000) 16 0 (lit≤ tt), All-replicate IsId 16 (codes "......") (refl, printing_all (codes "......") refl), refl, refl)
+plain_acceptor_sound accepts few = (
+  few,
+  All-replicate (λ value. value ≤ 1000000) 16 0 (lit≤ tt),
+  All-replicate IsId 16 (codes "......") (refl, printing_all (codes "......") refl),
+  refl,
+  refl,
+)
 
 -- a device with the texts of all is sound where its numbers are
-pub plain_device_sound : (addr : ℕ) (kind : CheckKind) (serial : ℕ) (body : DeviceBody) → 2 ≤ addr → addr ≤ 255 → serial < 2 ^ 24 → IsSoundBody body → IsSound (plain_device addr kind serial body)
+pub plain_device_sound : (addr : ℕ) (kind : CheckKind) (serial : ℕ) (body : DeviceBody) → 2 ≤ addr → addr ≤ 255
+    → serial < 2 ^ 24 → IsSoundBody body → IsSound (plain_device addr kind serial body)
 plain_device_sound addr kind serial body low high few sound = record {
   low = low;
   high = high;

@@ -11,4 +11,5 @@ printing_one byte e = grind (arith, nat_tests)
 
 -- bytes that pass the test are printing characters
 pub printing_all : (bytes : List ℕ) → list_all is_printing bytes ≡ true → All IsPrinting bytes
-printing_all bytes e = λ k d inside. printing_one (get_or bytes k d) (AllPass-from_list_all is_printing bytes e k d inside)
+printing_all bytes e =
+    λ k d inside. printing_one (get_or bytes k d) (AllPass-from_list_all is_printing bytes e k d inside)

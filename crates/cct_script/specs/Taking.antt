@@ -1,5 +1,5 @@
 -- What the reader of lines takes from its source.
-use Rattle.std.specs.Prelude.{◌≡◌, ℕ, ◌+◌, ◌-◌, ◌<◌, List, [], ◌∷◌, ◌++◌, length, position, Option, Some, None}
+use Rattle.std.specs.Prelude.{◌≡◌, ℕ, ◌+◌, ◌-◌, ◌<◌, List, ◌∷◌, ◌++◌, length, position, Option, Some, None}
 use Rattle.std.specs.Prelude.{Result, Ok, Err}
 use Rattle.std.specs.Io.KnownBytes.{Consumes}
 use Rattle.cct_edge.specs.declared.fault.Failed.{Failed}
@@ -29,10 +29,10 @@ module _ {S : Type 0} (takes : S → ℕ → Result ℕ Failed → S → Type 0)
     pub why : Failed
     pub fails : takes last (MOST_LINE + 1 - length taken) (Err why) now
 
-  -- The takes that one line needed, or the end of the input, or a refusal: none was made once a line feed was held, and
-  -- none behind one that failed.
-  abbrev pub TakesForLine : List ℕ → S → S → Result (Option (List ℕ)) LinesNo → Type 0
-  TakesForLine held before now (Ok (Some line)) = (rest : List ℕ) × TakesOn held before (line ++ 10 ∷ rest) now
-  TakesForLine held before now (Ok None) = TakesOn held before [] now
-  TakesForLine held before now (Err no.Read) = (taken : List ℕ) × TakesUntilFault held before taken now
-  TakesForLine held before now (Err why) = (taken : List ℕ) × TakesOn held before taken now
+  -- The takes that one line needed, or the end of the input, or a refusal, and what is held behind them: none was made
+  -- once a line feed was held, and none behind one that failed.
+  abbrev pub TakesForLine : List ℕ → S → List ℕ → S → Result (Option (List ℕ)) LinesNo → Type 0
+  TakesForLine held before kept now (Ok (Some line)) = TakesOn held before (line ++ 10 ∷ kept) now
+  TakesForLine held before kept now (Ok None) = TakesOn held before kept now
+  TakesForLine held before kept now (Err no.Read) = TakesUntilFault held before kept now
+  TakesForLine held before kept now (Err why) = TakesOn held before kept now

@@ -18,6 +18,3 @@ pub use cct_lines::SetupLine;
 pub use lines::{Line, Lines, LinesNo};
 pub use setup::read_setup_line;
 pub use step::read_step_line;
-
-#[cfg(test)]
-mod tests;

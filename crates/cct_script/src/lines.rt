@@ -73,8 +73,8 @@ impl Lines {
         ensures later { S.faults source.old ≤ S.faults source.new }
         ensures cause { result ≡ Err LinesNo.Read → Rose (S.faults source.old) (S.faults source.new) }
         ensures still { position is_line_feed (standing_of self.old).held ≢ None → source.new ≡ source.old }
-        ensures takes { TakesForLine S.takes S.left (standing_of self.old).held
-            source.old source.new (line_in self.new.buffer result) }
+        ensures takes { TakesForLine S.takes S.left (standing_of self.old).held source.old
+            (standing_of self.new).held source.new (line_in self.new.buffer result) }
     {
         self.give_up();
         if self.given >= MOST_LINES {
@@ -120,8 +120,8 @@ impl Lines {
         ensures later { S.faults source.old ≤ S.faults source.new }
         ensures cause { result ≡ Err LinesNo.Read → Rose (S.faults source.old) (S.faults source.new) }
         ensures still { position is_line_feed self.old.buffer ≢ None → source.new ≡ source.old }
-        ensures takes { TakesForLine S.takes S.left self.old.buffer
-            source.old source.new (line_in self.new.buffer result) }
+        ensures takes { TakesForLine S.takes S.left self.old.buffer source.old
+            (standing_of self.new).held source.new (line_in self.new.buffer result) }
     {
         if !self.buffer.held().is_empty() {
             return Err(LinesNo::TooMany);
@@ -141,13 +141,13 @@ impl Lines {
     pub fn line<S: Source>(&mut self, source: &mut S) -> Result<Line<'_>, LinesNo>
         ensures* gives { sem 𝓛 (follows_so the_row the_row self.entry.ghost_name none (λ _ _. ⊤)
             (λ new. Gives (standing_of self.old) (standing_of new)
-            (S.left source.old) (S.left source.new) (line_given result))) }
+            (S.left source.old) (S.left source.new) (line_given result)
+            × TakesForLine S.takes S.left (standing_of self.old).held source.old
+            (standing_of new).held source.new (line_given result))) }
         ensures tells { TellsAsBefore (S.left source.old) (S.left source.new) }
         ensures later { S.faults source.old ≤ S.faults source.new }
         ensures cause { result ≡ Err LinesNo.Read → Rose (S.faults source.old) (S.faults source.new) }
         ensures still { position is_line_feed (standing_of self.old).held ≢ None → source.new ≡ source.old }
-        ensures takes { TakesForLine S.takes S.left (standing_of self.old).held
-            source.old source.new (line_given result) }
     {
         match self.find(source) {
             Ok(Some(len)) => Ok(Line::Text(&self.buffer.held()[..len])),

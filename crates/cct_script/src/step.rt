@@ -1,9 +1,9 @@
 //! The step lines of a script (`docs/SCRIPT.md`).
-ghost use Rattle.std.specs.Prelude.{◌≡◌, Ok, Err, IfOk, MatchResult};
+ghost use Rattle.std.specs.Prelude.{◌≡◌, Ok, Err, IfOk, OnOk, MatchResult};
 ghost use Rattle.cct_lines.specs.Grammar.{step_line};
 ghost use Rattle.cct_lines.specs.Script.{IsInRange};
 ghost use Rattle.cct_script.specs.Fields.{fields_behind};
-ghost use Rattle.cct_script.specs.Steps.{device_step, epoch_step, order_step, other_step};
+ghost use Rattle.cct_script.specs.Steps.{device_step, epoch_step, order_step, other_step, said_into};
 
 use crate::behind::{addr, coin_in, crash_in, fault_in, path_in, pay_in, start_in, vend_in};
 use crate::fields::{alone, first_field};
@@ -49,72 +49,78 @@ const BALANCE: &[u8] = b"balance";
 
 const END: &[u8] = b"end";
 
-/// What the word of a step line says that is `coin`, `alien`, `fall`, `jam` or `reset`: what happens to a device; or
-/// another word.
+/// Puts into `step` what the word of a step line says that is `coin`, `alien`, `fall`, `jam` or `reset`: what happens to
+/// a device; or another word.
 #[tactic(auto, unfolding(crate::specs::Steps::device_step))]
-fn device_step(word: &[u8], rest: Option<&[u8]>) -> Result<Step, LineKind>
-    ensures reads { result ≡ device_step word.now (fields_behind rest.entry) }
-    ensures ranged { IfOk result IsInRange }
+fn device_step(word: &[u8], rest: Option<&[u8]>, step: &mut Step) -> Result<(), LineKind>
+    ensures reads { said_into result step.new ≡ device_step word.now (fields_behind rest.entry) }
+    ensures ranged { OnOk result (IsInRange step.new) }
 {
     match word {
-        _ if word == COIN => coin_in(rest).ok_or(LineKind::Form),
-        _ if word == ALIEN => Ok(Step::Alien { addr: addr(rest)? }),
-        _ if word == FALL => Ok(Step::Fall { addr: addr(rest)? }),
-        _ if word == JAM => Ok(Step::Jam { addr: addr(rest)? }),
-        _ if word == RESET => Ok(Step::Reset { addr: addr(rest)? }),
-        _ => epoch_step(word, rest),
+        _ if word == COIN => *step = coin_in(rest).ok_or(LineKind::Form)?,
+        _ if word == ALIEN => *step = Step::Alien { addr: addr(rest)? },
+        _ if word == FALL => *step = Step::Fall { addr: addr(rest)? },
+        _ if word == JAM => *step = Step::Jam { addr: addr(rest)? },
+        _ if word == RESET => *step = Step::Reset { addr: addr(rest)? },
+        _ => return epoch_step(word, rest, step),
     }
+    Ok(())
 }
 
-/// What the word of a step line says that is `next`, `fault`, `start`, `round` or `stop`: the next attempt of a job,
-/// what is wrong on the wire, or a command of an epoch; or another word.
+/// Puts into `step` what the word of a step line says that is `next`, `fault`, `start`, `round` or `stop`: the next
+/// attempt of a job, what is wrong on the wire, or a command of an epoch; or another word.
 #[tactic(auto, unfolding(crate::specs::Steps::epoch_step))]
-fn epoch_step(word: &[u8], rest: Option<&[u8]>) -> Result<Step, LineKind>
-    ensures reads { result ≡ epoch_step word.now (fields_behind rest.entry) }
-    ensures ranged { IfOk result IsInRange }
+fn epoch_step(word: &[u8], rest: Option<&[u8]>, step: &mut Step) -> Result<(), LineKind>
+    ensures reads { said_into result step.new ≡ epoch_step word.now (fields_behind rest.entry) }
+    ensures ranged { OnOk result (IsInRange step.new) }
 {
     match word {
-        _ if word == NEXT => Ok(Step::Next { addr: addr(rest)? }),
-        _ if word == FAULT => fault_in(rest).ok_or(LineKind::Form),
-        _ if word == START => start_in(rest).ok_or(LineKind::Form),
-        _ if word == ROUND => Ok(Step::Command(Command::Round { addr: addr(rest)? })),
-        _ if word == STOP => Ok(Step::Command(Command::Stop { addr: addr(rest)? })),
-        _ => order_step(word, rest),
+        _ if word == NEXT => *step = Step::Next { addr: addr(rest)? },
+        _ if word == FAULT => *step = fault_in(rest).ok_or(LineKind::Form)?,
+        _ if word == START => *step = start_in(rest).ok_or(LineKind::Form)?,
+        _ if word == ROUND => *step = Step::Command(Command::Round { addr: addr(rest)? }),
+        _ if word == STOP => *step = Step::Command(Command::Stop { addr: addr(rest)? }),
+        _ => return order_step(word, rest, step),
     }
+    Ok(())
 }
 
-/// What the word of a step line says that is `settle`, `halt`, `ident`, `pay` or `scan`: a command to a hopper, or one
-/// that asks of devices; or another word.
+/// Puts into `step` what the word of a step line says that is `settle`, `halt`, `ident`, `pay` or `scan`: a command to a
+/// hopper, or one that asks of devices; or another word.
 #[tactic(auto, unfolding(crate::specs::Steps::order_step))]
-fn order_step(word: &[u8], rest: Option<&[u8]>) -> Result<Step, LineKind>
-    ensures reads { result ≡ order_step word.now (fields_behind rest.entry) }
-    ensures ranged { IfOk result IsInRange }
+fn order_step(word: &[u8], rest: Option<&[u8]>, step: &mut Step) -> Result<(), LineKind>
+    ensures reads { said_into result step.new ≡ order_step word.now (fields_behind rest.entry) }
+    ensures ranged { OnOk result (IsInRange step.new) }
 {
     match word {
-        _ if word == SETTLE => Ok(Step::Command(Command::Settle { addr: addr(rest)? })),
-        _ if word == HALT => Ok(Step::Command(Command::Halt { addr: addr(rest)? })),
-        _ if word == IDENT => Ok(Step::Command(Command::Ident { addr: addr(rest)? })),
-        _ if word == PAY => pay_in(rest).ok_or(LineKind::Form),
-        _ if word == SCAN => alone(Step::Command(Command::Scan), rest).ok_or(LineKind::Form),
-        _ => other_step(word, rest),
+        _ if word == SETTLE => *step = Step::Command(Command::Settle { addr: addr(rest)? }),
+        _ if word == HALT => *step = Step::Command(Command::Halt { addr: addr(rest)? }),
+        _ if word == IDENT => *step = Step::Command(Command::Ident { addr: addr(rest)? }),
+        _ if word == PAY => *step = pay_in(rest).ok_or(LineKind::Form)?,
+        _ if word == SCAN => *step = alone(Step::Command(Command::Scan), rest).ok_or(
+            LineKind::Form,
+        )?,
+        _ => return other_step(word, rest, step),
     }
+    Ok(())
 }
 
-/// What the word of a step line says that is `path`, `vend`, `crash`, `balance` or `end`: another command, a power cut,
-/// or what the operator reads; any other word is none.
+/// Puts into `step` what the word of a step line says that is `path`, `vend`, `crash`, `balance` or `end`: another
+/// command, a power cut, or what the operator reads; any other word is none.
 #[tactic(auto, unfolding(crate::specs::Steps::other_step))]
-fn other_step(word: &[u8], rest: Option<&[u8]>) -> Result<Step, LineKind>
-    ensures reads { result ≡ other_step word.now (fields_behind rest.entry) }
-    ensures ranged { IfOk result IsInRange }
+fn other_step(word: &[u8], rest: Option<&[u8]>, step: &mut Step) -> Result<(), LineKind>
+    ensures reads { said_into result step.new ≡ other_step word.now (fields_behind rest.entry) }
+    ensures ranged { OnOk result (IsInRange step.new) }
 {
     match word {
-        _ if word == PATH => path_in(rest).ok_or(LineKind::Form),
-        _ if word == VEND => vend_in(rest).ok_or(LineKind::Form),
-        _ if word == CRASH => crash_in(rest).ok_or(LineKind::Form),
-        _ if word == BALANCE => alone(Step::Balance, rest).ok_or(LineKind::Form),
-        _ if word == END => alone(Step::End, rest).ok_or(LineKind::Form),
-        _ => Err(LineKind::Word),
+        _ if word == PATH => *step = path_in(rest).ok_or(LineKind::Form)?,
+        _ if word == VEND => *step = vend_in(rest).ok_or(LineKind::Form)?,
+        _ if word == CRASH => *step = crash_in(rest).ok_or(LineKind::Form)?,
+        _ if word == BALANCE => *step = alone(Step::Balance, rest).ok_or(LineKind::Form)?,
+        _ if word == END => *step = alone(Step::End, rest).ok_or(LineKind::Form)?,
+        _ => return Err(LineKind::Word),
     }
+    Ok(())
 }
 
 /// What a step line says, without its line feed. `Word` where the first field is no word of a step line, else `Form`
@@ -126,5 +132,9 @@ pub fn read_step_line(line: &[u8]) -> Result<Step, LineKind>
     ensures ranged { IfOk result IsInRange }
 {
     let (word, rest) = first_field(line);
-    device_step(word, rest)
+    let mut step = Step::End;
+    match device_step(word, rest, &mut step) {
+        Ok(()) => Ok(step),
+        Err(why) => Err(why),
+    }
 }

@@ -1,4 +1,6 @@
 pub mod Messages
 mod Vectors
+mod Payouts
 pub mod Requests
 pub mod Replaced
+pub mod Hoppers

@@ -6,14 +6,14 @@ use Rattle.cct_terms.specs.declared.device.DeviceBody.TheVariants.{Acceptor}
 use Rattle.cct_terms.specs.declared.wire.CheckKind.TheVariants.{Simple, Crc}
 use Rattle.cct_terms.specs.Message.{crc, message, spelling}
 use Rattle.cct_terms.specs.declared.device.DeviceSetup.{DeviceSetup}
-use Rattle.cct_terms.specs.declared.request.Request.TheVariants.{SetMask, SetPath}
-use Rattle.cct_terms.specs.Request.{request_of, requests_with}
-use Rattle.cct_terms.specs.Reply.{reply_data}
+use Rattle.cct_terms.specs.declared.request.Request.TheVariants.{AddressPoll, ReadCredits, SetMask, SetPath, Dispense, CipherDispense}
+use Rattle.cct_terms.specs.Request.{data_of, request_of, requests_with}
+use Rattle.cct_terms.specs.Reply.{reply_data, nak, text, serial}
 use Rattle.cct_terms.specs.History.{coin, reset, heard}
 use Rattle.cct_terms.specs.Setting.{has_place}
 use Rattle.cct_terms.specs.Acceptor.{coin_event, credits_of, last_five, accept_count, acceptor_reply}
 use Rattle.cct_terms.specs.Device.{common_reply, reply_of}
-use Rattle.cct_terms.specs.Exchange.{answer, asker, asks_of}
+use Rattle.cct_terms.specs.Exchange.{answer, ask, asker, asks_of, replying}
 
 crc_of_digits : crc (codes "123456789") ≡ 12739
 unfolding crc
@@ -31,6 +31,44 @@ crc_poll = refl
 crc_poll_read : message Crc (2 ∷ 0 ∷ 177 ∷ 254 ∷ 96 ∷ []) ≡ Some (record { to = 2; from = None; header = 254; body = [] })
 unfolding message crc
 crc_poll_read = refl
+
+-- requests as the host asks them, under either check
+asks_all : ask Simple 0 AddressPoll ≡ 0 ∷ 0 ∷ 1 ∷ 253 ∷ 2 ∷ []
+unfolding ask spelling data_of
+asks_all = refl
+
+sets_a_mask : ask Simple 2 (SetMask 32769) ≡ 2 ∷ 2 ∷ 1 ∷ 231 ∷ 1 ∷ 128 ∷ 147 ∷ []
+unfolding ask spelling data_of
+sets_a_mask = refl
+
+pays_four : ask Simple 3 (Dispense 197121 4) ≡ 3 ∷ 4 ∷ 1 ∷ 167 ∷ 1 ∷ 2 ∷ 3 ∷ 4 ∷ 71 ∷ []
+unfolding ask spelling data_of
+pays_four = refl
+
+pays_under_a_cipher : ask Simple 3 CipherDispense ≡ 3 ∷ 9 ∷ 1 ∷ 167 ∷ 0 ∷ 0 ∷ 0 ∷ 0 ∷ 0 ∷ 0 ∷ 0 ∷ 0 ∷ 0 ∷ 76 ∷ []
+unfolding ask spelling data_of
+pays_under_a_cipher = refl
+
+reads_under_the_crc : ask Crc 2 ReadCredits ≡ 2 ∷ 0 ∷ 235 ∷ 229 ∷ 195 ∷ []
+unfolding ask spelling data_of crc
+reads_under_the_crc = refl
+
+sets_a_mask_under_the_crc : ask Crc 2 (SetMask 32769) ≡ 2 ∷ 2 ∷ 243 ∷ 231 ∷ 1 ∷ 128 ∷ 46 ∷ []
+unfolding ask spelling data_of crc
+sets_a_mask_under_the_crc = refl
+
+-- replies of device 2: a text, the serial number 12345678, and a refusal under the CRC
+tells_a_text : spelling Simple (replying 1 2 (text (codes "Hopper"))) ≡ 1 ∷ 6 ∷ 2 ∷ 0 ∷ 72 ∷ 111 ∷ 112 ∷ 112 ∷ 101 ∷ 114 ∷ 137 ∷ []
+unfolding spelling reply_data
+tells_a_text = refl
+
+tells_a_serial_number : spelling Simple (replying 1 2 (serial 12345678)) ≡ 1 ∷ 3 ∷ 2 ∷ 0 ∷ 78 ∷ 97 ∷ 188 ∷ 143 ∷ []
+unfolding spelling reply_data
+tells_a_serial_number = refl
+
+refuses_under_the_crc : spelling Crc (replying 1 2 nak) ≡ 1 ∷ 0 ∷ 149 ∷ 5 ∷ 103 ∷ []
+unfolding spelling reply_data crc
+refuses_under_the_crc = refl
 
 -- an acceptor at address 2
 abbrev the_acceptor : DeviceSetup

@@ -13,6 +13,7 @@ use Rattle.cct_terms.specs.Reply.{Reply}
 use Rattle.cct_terms.specs.Reply as reply
 use Rattle.cct_terms.specs.History.{Met}
 use Rattle.cct_terms.specs.Acceptor.{acceptor_reply}
+use Rattle.cct_terms.specs.Hopper.{hopper_reply}
 
 -- A printing character: a byte from 21 to 7e in hexadecimal.
 abbrev pub IsPrinting : ℕ → Type 0
@@ -82,12 +83,11 @@ common_reply d CommsRevision = Some (reply.revision 1 4 0)
 common_reply d ResetDevice = Some reply.ack
 common_reply d q = None
 
--- The reply of a device that met all this to a request that its kind alone answers, or none. A hopper answers no such
--- request yet.
-abbrev pub own_reply : DeviceBody → List Met → Request → Option Reply
-own_reply (Acceptor accepts values ids) past q = acceptor_reply accepts ids past q
-own_reply (Hopper life value) past q = None
+-- The reply of a device with a serial number that met all this to a request that its kind alone answers, or none.
+abbrev pub own_reply : ℕ → DeviceBody → List Met → Request → Option Reply
+own_reply serial (Acceptor accepts values ids) past q = acceptor_reply accepts ids past q
+own_reply serial (Hopper life value) past q = hopper_reply serial life past q
 
 -- The reply of a device that met all this to a request, or none.
 unfoldable pub reply_of : DeviceSetup → List Met → Request → Option Reply
-reply_of d past q = option_or (common_reply d q) (own_reply d.body past q)
+reply_of d past q = option_or (common_reply d q) (own_reply d.serial d.body past q)

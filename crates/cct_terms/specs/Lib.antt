@@ -4,6 +4,7 @@ pub mod Reply
 pub mod History
 pub mod Setting
 pub mod Acceptor
+pub mod Hopper
 pub mod Device
 pub mod Exchange
 pub mod Setup

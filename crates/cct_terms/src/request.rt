@@ -3,6 +3,10 @@
 
 use crate::Credits;
 
+/// The data byte with which header 164 enables a hopper; any other disables it
+/// (ccTalk Generic Specification 4, part 3).
+pub const ENABLE_CODE: u8 = 165;
+
 /// A request to a device. Where nothing is said, it has no data bytes.
 #[derive(Clone, Copy, Debug, PartialEq, Eq)]
 pub enum Request {
@@ -48,7 +52,7 @@ pub enum Request {
     CoinId { place: u8 },
     /// Header 225: how many coins were accepted.
     AcceptCount,
-    /// Header 164, one data byte: the hopper may pay where the byte is 165.
+    /// Header 164, one data byte: the hopper may pay where the byte is [`ENABLE_CODE`].
     Enable { code: u8 },
     /// Header 167, four data bytes: pay so many coins, told to the hopper with this serial number, which is below 2^24.
     Dispense { serial: u32, count: u8 },

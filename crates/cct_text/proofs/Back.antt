@@ -1,9 +1,7 @@
 -- The fields of an entry are read back as the entry, and none of them has a space.
-use Rattle.std.proofs.Common.{◌≡◌, ℕ, ◌/◌, ◌%◌, ◌≤◌, true, List, [], ◌∷◌, ◌++◌, map, Option, Some, Result, decimal, refl, ap, ◌∙◌, arith}
-use Rattle.std.specs.List.{All, filter_map, cons_option}
+use Rattle.std.proofs.Common.{◌≡◌, ℕ, ◌/◌, ◌%◌, ◌≤◌, true, List, [], ◌∷◌, ◌++◌, map, Option, Some, Result, refl, ap, ◌∙◌, arith}
+use Rattle.std.specs.List.{filter_map, cons_option}
 use Rattle.std.specs.Result.{result_unwrap_or}
-use Rattle.std.proofs.lemmas.Fmt.{decimal_is_IsNumeral}
-use Rattle.std.proofs.lemmas.List.Elements.{All-head, All-tail}
 use Rattle.hex.specs.Hex.{IsBytes}
 use Rattle.hex.proofs.HexLemmas.{decode_of-encode_lower}
 use Rattle.cct_lines.specs.terms.coin.Coin.{Coin}
@@ -17,41 +15,40 @@ use Rattle.cct_lines.specs.declared.command.WireFault.{WireFault}
 use Rattle.cct_lines.specs.declared.command.WireFault.TheVariants as fault
 use Rattle.cct_lines.specs.declared.entry.LineKind.{LineKind}
 use Rattle.cct_lines.specs.declared.entry.LineKind.TheVariants as kind
-use Rattle.cct_lines.specs.Text.{piece_field, mask_field, coin_text, coins_field, record_fields, command_fields, reason_fields, fault_fields, kind_field}
+use Rattle.cct_lines.specs.Text.{number_text, piece_field, mask_field, coin_text, coins_field, record_fields, command_fields, reason_fields, fault_fields, kind_field}
 use Rattle.cct_text.specs.Reading.{parts_at, number_in, piece_in, mask_of, mask_in, coin_of, coins_in, record_in, Ordered, command_in, reason_in, fault_in, kind_in}
-use Rattle.cct_text.specs.Written.{IsNumber, IsMask, IsCoin, IsRecord, IsCommand, IsReason, IsFault}
-use Rattle.cct_text.proofs.Cuts.{all_above, EachAbove, above_append, above_weaker, decimal_above, decimal_field, piece_above, mask_above, mask_bytes, joined_above, cut_joined}
+use Rattle.cct_text.specs.Written.{IsMask, IsRecord, IsCommand, IsFault}
+use Rattle.cct_text.proofs.Cuts.{all_above, EachAbove, above_append, above_weaker, number_above, number_field, piece_above, mask_above, mask_bytes, joined_above, cut_joined}
+use Rattle.cct_text.proofs.Numbers.{number_back}
 
 -- numbers
 
-pub number_back : (n : ℕ) → IsNumber n → number_in (decimal n) ≡ n
-number_back n fits = (decimal_is_IsNumeral n fits).1
+pub one_back : {A : Type 0} (make : ℕ → A) (a : ℕ) → make (number_in (number_text a)) ≡ make a
+one_back make a = ap make (number_back a)
 
-pub one_back : {A : Type 0} (make : ℕ → A) (a : ℕ) → IsNumber a → make (number_in (decimal a)) ≡ make a
-one_back make a fits = ap make (number_back a fits)
+pub two_back : {A : Type 0} (make : ℕ → ℕ → A) (a b : ℕ)
+    → make (number_in (number_text a)) (number_in (number_text b)) ≡ make a b
+two_back make a b = one_back (λ x. make x (number_in (number_text b))) a ∙ one_back (make a) b
 
-pub two_back : {A : Type 0} (make : ℕ → ℕ → A) (a b : ℕ) → IsNumber a → IsNumber b
-    → make (number_in (decimal a)) (number_in (decimal b)) ≡ make a b
-two_back make a b fits_a fits_b =
-    one_back (λ x. make x (number_in (decimal b))) a fits_a ∙ one_back (make a) b fits_b
+pub three_back : {A : Type 0} (make : ℕ → ℕ → ℕ → A) (a b c : ℕ)
+    → make (number_in (number_text a)) (number_in (number_text b)) (number_in (number_text c)) ≡ make a b c
+three_back make a b c =
+    one_back (λ x. make x (number_in (number_text b)) (number_in (number_text c))) a ∙ two_back (make a) b c
 
-pub three_back : {A : Type 0} (make : ℕ → ℕ → ℕ → A) (a b c : ℕ) → IsNumber a → IsNumber b → IsNumber c
-    → make (number_in (decimal a)) (number_in (decimal b)) (number_in (decimal c)) ≡ make a b c
-three_back make a b c fits_a fits_b fits_c =
-    one_back (λ x. make x (number_in (decimal b)) (number_in (decimal c))) a fits_a ∙ two_back (make a) b c fits_b fits_c
-
-pub four_back : {A : Type 0} (make : ℕ → ℕ → ℕ → ℕ → A) (a b c d : ℕ) → IsNumber a → IsNumber b → IsNumber c → IsNumber d
-    → make (number_in (decimal a)) (number_in (decimal b)) (number_in (decimal c)) (number_in (decimal d)) ≡ make a b c d
-four_back make a b c d fits_a fits_b fits_c fits_d =
-    one_back (λ x. make x (number_in (decimal b)) (number_in (decimal c)) (number_in (decimal d))) a fits_a
-    ∙ three_back (make a) b c d fits_b fits_c fits_d
+pub four_back : {A : Type 0} (make : ℕ → ℕ → ℕ → ℕ → A) (a b c d : ℕ)
+    → make (number_in (number_text a)) (number_in (number_text b)) (number_in (number_text c))
+    (number_in (number_text d)) ≡ make a b c d
+four_back make a b c d =
+    one_back (λ x. make x (number_in (number_text b)) (number_in (number_text c)) (number_in (number_text d))) a
+    ∙ three_back (make a) b c d
 
 pub five_back : {A : Type 0} (make : ℕ → ℕ → ℕ → ℕ → ℕ → A) (a b c d e : ℕ)
-    → IsNumber a → IsNumber b → IsNumber c → IsNumber d → IsNumber e
-    → make (number_in (decimal a)) (number_in (decimal b)) (number_in (decimal c)) (number_in (decimal d)) (number_in (decimal e)) ≡ make a b c d e
-five_back make a b c d e fits_a fits_b fits_c fits_d fits_e =
-    one_back (λ x. make x (number_in (decimal b)) (number_in (decimal c)) (number_in (decimal d)) (number_in (decimal e))) a fits_a
-    ∙ four_back (make a) b c d e fits_b fits_c fits_d fits_e
+    → make (number_in (number_text a)) (number_in (number_text b)) (number_in (number_text c))
+    (number_in (number_text d)) (number_in (number_text e)) ≡ make a b c d e
+five_back make a b c d e =
+    one_back (λ x. make x (number_in (number_text b)) (number_in (number_text c)) (number_in (number_text d))
+    (number_in (number_text e))) a
+    ∙ four_back (make a) b c d e
 
 -- pieces and masks
 
@@ -71,149 +68,154 @@ mask_back mask fits =
 
 -- coins
 
-coin_parts : (coin : Coin) → IsCoin coin → parts_at 47 (coin_text coin) ≡ decimal coin.place ∷ decimal coin.path ∷ []
-coin_parts coin h =
-    cut_joined 47 (decimal coin.place) (decimal coin.path ∷ []) (decimal_above coin.place h.0, (decimal_above coin.path h.1, tt))
+coin_parts : (coin : Coin) → parts_at 47 (coin_text coin) ≡ number_text coin.place ∷ number_text coin.path ∷ []
+coin_parts coin =
+    cut_joined 47 (number_text coin.place) (number_text coin.path ∷ [])
+    (number_above coin.place, (number_above coin.path, tt))
 
-coin_back : (coin : Coin) → IsCoin coin → coin_of (parts_at 47 (coin_text coin)) ≡ Some coin
-coin_back coin h =
+coin_back : (coin : Coin) → coin_of (parts_at 47 (coin_text coin)) ≡ Some coin
+coin_back coin =
     let make : ℕ → ℕ → Option Coin = λ place path. Some (record { place = place; path = path }) in
-    ap coin_of (coin_parts coin h) ∙ two_back make coin.place coin.path h.0 h.1
+    ap coin_of (coin_parts coin) ∙ two_back make coin.place coin.path
 
-coins_read : (coins : List Coin) → All IsCoin coins → filter_map (λ text. coin_of (parts_at 47 text)) (map coin_text coins) ≡ coins
-coins_read [] h = refl
-coins_read (coin ∷ coins) h =
+coins_read : (coins : List Coin) → filter_map (λ text. coin_of (parts_at 47 text)) (map coin_text coins) ≡ coins
+coins_read [] = refl
+coins_read (coin ∷ coins) =
     let read : List ℕ → Option Coin = λ text. coin_of (parts_at 47 text) in
-    ap (λ o. cons_option o (filter_map read (map coin_text coins))) (coin_back coin (All-head IsCoin coin coins h))
-    ∙ ap (λ rest. coin ∷ rest) (coins_read coins (All-tail IsCoin coin coins h))
+    ap (λ o. cons_option o (filter_map read (map coin_text coins))) (coin_back coin)
+    ∙ ap (λ rest. coin ∷ rest) (coins_read coins)
 
-coin_above : (coin : Coin) → IsCoin coin → all_above 44 (coin_text coin) ≡ true
-coin_above coin h =
-    above_append 44 (decimal coin.place) (47 ∷ decimal coin.path)
-    (above_weaker 44 47 (omega arith) (decimal coin.place) (decimal_above coin.place h.0))
-    (above_weaker 44 47 (omega arith) (decimal coin.path) (decimal_above coin.path h.1))
+coin_above : (coin : Coin) → all_above 44 (coin_text coin) ≡ true
+coin_above coin =
+    above_append 44 (number_text coin.place) (47 ∷ number_text coin.path)
+    (above_weaker 44 47 (omega arith) (number_text coin.place) (number_above coin.place))
+    (above_weaker 44 47 (omega arith) (number_text coin.path) (number_above coin.path))
 
-coins_above : (coins : List Coin) → All IsCoin coins → EachAbove 44 (map coin_text coins)
-coins_above [] h = tt
-coins_above (coin ∷ coins) h = (coin_above coin (All-head IsCoin coin coins h), coins_above coins (All-tail IsCoin coin coins h))
+coins_above : (coins : List Coin) → EachAbove 44 (map coin_text coins)
+coins_above [] = tt
+coins_above (coin ∷ coins) = (coin_above coin, coins_above coins)
 
 pub each_weaker : (low high : ℕ) → low ≤ high → (texts : List (List ℕ)) → EachAbove high texts → EachAbove low texts
 each_weaker low high below [] h = tt
 each_weaker low high below (text ∷ texts) h = (above_weaker low high below text h.0, each_weaker low high below texts h.1)
 
-pub coins_back : (coins : List Coin) → All IsCoin coins → coins_in (coins_field coins) ≡ coins
-coins_back [] h = refl
-coins_back (coin ∷ coins) h =
+pub coins_back : (coins : List Coin) → coins_in (coins_field coins) ≡ coins
+coins_back [] = refl
+coins_back (coin ∷ coins) =
     let read : List ℕ → Option Coin = λ text. coin_of (parts_at 47 text) in
-    ap (filter_map read) (cut_joined 44 (coin_text coin) (map coin_text coins) (coins_above (coin ∷ coins) h))
-    ∙ coins_read (coin ∷ coins) h
+    ap (filter_map read) (cut_joined 44 (coin_text coin) (map coin_text coins) (coins_above (coin ∷ coins)))
+    ∙ coins_read (coin ∷ coins)
 
-pub coins_field_above : (coins : List Coin) → All IsCoin coins → all_above 32 (coins_field coins) ≡ true
-coins_field_above [] h = refl
-coins_field_above (coin ∷ coins) h =
+pub coins_field_above : (coins : List Coin) → all_above 32 (coins_field coins) ≡ true
+coins_field_above [] = refl
+coins_field_above (coin ∷ coins) =
     joined_above 32 44 refl (map coin_text (coin ∷ coins))
-    (each_weaker 32 44 (omega arith) (map coin_text (coin ∷ coins)) (coins_above (coin ∷ coins) h))
+    (each_weaker 32 44 (omega arith) (map coin_text (coin ∷ coins)) (coins_above (coin ∷ coins)))
 
 -- records
 
 pub record_back : (r : Record) → IsRecord r → record_in (record_fields r) ≡ Some r
 record_back (record_of.Epoch addr mask) h =
-    one_back (λ a. Some (record_of.Epoch a (mask_in (mask_field mask)))) addr h.0
-    ∙ ap (λ m. Some (record_of.Epoch addr m)) (mask_back mask h.1)
+    one_back (λ a. Some (record_of.Epoch a (mask_in (mask_field mask)))) addr
+    ∙ ap (λ m. Some (record_of.Epoch addr m)) (mask_back mask h)
 record_back (record_of.Reading addr counter lost posted) h =
-    three_back (λ a c l. Some (record_of.Reading a c l (coins_in (coins_field posted)))) addr counter lost h.0 h.1 h.2
-    ∙ ap (λ coins. Some (record_of.Reading addr counter lost coins)) (coins_back posted h.3)
+    three_back (λ a c l. Some (record_of.Reading a c l (coins_in (coins_field posted)))) addr counter lost
+    ∙ ap (λ coins. Some (record_of.Reading addr counter lost coins)) (coins_back posted)
 record_back (record_of.Broken addr seen counter posted) h =
-    two_back (λ a c. Some (record_of.Broken a (mask_in (mask_field seen)) c (coins_in (coins_field posted)))) addr counter h.0 h.2
-    ∙ ap (λ m. Some (record_of.Broken addr m counter (coins_in (coins_field posted)))) (mask_back seen h.1)
-    ∙ ap (λ coins. Some (record_of.Broken addr seen counter coins)) (coins_back posted h.3)
-record_back (record_of.EpochEnd addr) h = one_back (λ a. Some (record_of.EpochEnd a)) addr h
+    two_back (λ a c. Some (record_of.Broken a (mask_in (mask_field seen)) c (coins_in (coins_field posted))))
+    addr counter
+    ∙ ap (λ m. Some (record_of.Broken addr m counter (coins_in (coins_field posted)))) (mask_back seen h)
+    ∙ ap (λ coins. Some (record_of.Broken addr seen counter coins)) (coins_back posted)
+record_back (record_of.EpochEnd addr) h = one_back (λ a. Some (record_of.EpochEnd a)) addr
 record_back (record_of.Opened id addr count life) h =
-    four_back (λ i a c l. Some (record_of.Opened i a c l)) id addr count life h.0 h.1 h.2 h.3
-record_back (record_of.Closed id paid unpaid) h = three_back (λ i p u. Some (record_of.Closed i p u)) id paid unpaid h.0 h.1 h.2
-record_back (record_of.Odd id before after) h = three_back (λ i b a. Some (record_of.Odd i b a)) id before after h.0 h.1 h.2
-record_back (record_of.Sold id price) h = two_back (λ i p. Some (record_of.Sold i p)) id price h.0 h.1
+    four_back (λ i a c l. Some (record_of.Opened i a c l)) id addr count life
+record_back (record_of.Closed id paid unpaid) h = three_back (λ i p u. Some (record_of.Closed i p u)) id paid unpaid
+record_back (record_of.Odd id before after) h = three_back (λ i b a. Some (record_of.Odd i b a)) id before after
+record_back (record_of.Sold id price) h = two_back (λ i p. Some (record_of.Sold i p)) id price
 
 pub record_above : (r : Record) → IsRecord r → EachAbove 32 (record_fields r)
-record_above (record_of.Epoch addr mask) h = (refl, (decimal_field addr h.0, (mask_above mask h.1, tt)))
+record_above (record_of.Epoch addr mask) h = (refl, (number_field addr, (mask_above mask h, tt)))
 record_above (record_of.Reading addr counter lost posted) h =
-    (refl, (decimal_field addr h.0, (decimal_field counter h.1, (decimal_field lost h.2, (coins_field_above posted h.3, tt)))))
+    (refl, (number_field addr, (number_field counter, (number_field lost, (coins_field_above posted, tt)))))
 record_above (record_of.Broken addr seen counter posted) h =
-    (refl, (decimal_field addr h.0, (mask_above seen h.1, (decimal_field counter h.2, (coins_field_above posted h.3, tt)))))
-record_above (record_of.EpochEnd addr) h = (refl, (decimal_field addr h, tt))
+    (refl, (number_field addr, (mask_above seen h, (number_field counter, (coins_field_above posted, tt)))))
+record_above (record_of.EpochEnd addr) h = (refl, (number_field addr, tt))
 record_above (record_of.Opened id addr count life) h =
-    (refl, (decimal_field id h.0, (decimal_field addr h.1, (decimal_field count h.2, (decimal_field life h.3, tt)))))
-record_above (record_of.Closed id paid unpaid) h = (refl, (decimal_field id h.0, (decimal_field paid h.1, (decimal_field unpaid h.2, tt))))
-record_above (record_of.Odd id before after) h = (refl, (decimal_field id h.0, (decimal_field before h.1, (decimal_field after h.2, tt))))
-record_above (record_of.Sold id price) h = (refl, (decimal_field id h.0, (decimal_field price h.1, tt)))
+    (refl, (number_field id, (number_field addr, (number_field count, (number_field life, tt)))))
+record_above (record_of.Closed id paid unpaid) h =
+    (refl, (number_field id, (number_field paid, (number_field unpaid, tt))))
+record_above (record_of.Odd id before after) h =
+    (refl, (number_field id, (number_field before, (number_field after, tt))))
+record_above (record_of.Sold id price) h = (refl, (number_field id, (number_field price, tt)))
 
 -- commands
 
 pub command_back : (c : Command) (rest : List (List ℕ)) → IsCommand c → command_in (command_fields c ++ rest) ≡ Some (c, rest)
 command_back (command.Start addr mask) rest h =
     let make : ℕ → ℕ → Option Ordered = λ a m. Some (command.Start a m, rest) in
-    one_back (λ a. make a (mask_in (mask_field mask))) addr h.0 ∙ ap (make addr) (mask_back mask h.1)
+    one_back (λ a. make a (mask_in (mask_field mask))) addr ∙ ap (make addr) (mask_back mask h)
 command_back (command.Round addr) rest h =
-    let make : ℕ → Option Ordered = λ a. Some (command.Round a, rest) in one_back make addr h
+    let make : ℕ → Option Ordered = λ a. Some (command.Round a, rest) in one_back make addr
 command_back (command.Stop addr) rest h =
-    let make : ℕ → Option Ordered = λ a. Some (command.Stop a, rest) in one_back make addr h
+    let make : ℕ → Option Ordered = λ a. Some (command.Stop a, rest) in one_back make addr
 command_back (command.Pay addr id count) rest h =
-    let make : ℕ → ℕ → ℕ → Option Ordered = λ a i n. Some (command.Pay a i n, rest) in three_back make addr id count h.0 h.1 h.2
+    let make : ℕ → ℕ → ℕ → Option Ordered = λ a i n. Some (command.Pay a i n, rest) in three_back make addr id count
 command_back (command.Settle addr) rest h =
-    let make : ℕ → Option Ordered = λ a. Some (command.Settle a, rest) in one_back make addr h
+    let make : ℕ → Option Ordered = λ a. Some (command.Settle a, rest) in one_back make addr
 command_back (command.Halt addr) rest h =
-    let make : ℕ → Option Ordered = λ a. Some (command.Halt a, rest) in one_back make addr h
+    let make : ℕ → Option Ordered = λ a. Some (command.Halt a, rest) in one_back make addr
 command_back command.Scan rest h = refl
 command_back (command.Ident addr) rest h =
-    let make : ℕ → Option Ordered = λ a. Some (command.Ident a, rest) in one_back make addr h
+    let make : ℕ → Option Ordered = λ a. Some (command.Ident a, rest) in one_back make addr
 command_back (command.Path addr place path) rest h =
-    let make : ℕ → ℕ → ℕ → Option Ordered = λ a p q. Some (command.Path a p q, rest) in three_back make addr place path h.0 h.1 h.2
+    let make : ℕ → ℕ → ℕ → Option Ordered = λ a p q. Some (command.Path a p q, rest) in three_back make addr place path
 command_back (command.Vend id price) rest h =
-    let make : ℕ → ℕ → Option Ordered = λ i p. Some (command.Vend i p, rest) in two_back make id price h.0 h.1
+    let make : ℕ → ℕ → Option Ordered = λ i p. Some (command.Vend i p, rest) in two_back make id price
 
 pub command_above : (c : Command) → IsCommand c → EachAbove 32 (command_fields c)
-command_above (command.Start addr mask) h = (refl, (decimal_field addr h.0, (mask_above mask h.1, tt)))
-command_above (command.Round addr) h = (refl, (decimal_field addr h, tt))
-command_above (command.Stop addr) h = (refl, (decimal_field addr h, tt))
-command_above (command.Pay addr id count) h = (refl, (decimal_field addr h.0, (decimal_field id h.1, (decimal_field count h.2, tt))))
-command_above (command.Settle addr) h = (refl, (decimal_field addr h, tt))
-command_above (command.Halt addr) h = (refl, (decimal_field addr h, tt))
+command_above (command.Start addr mask) h = (refl, (number_field addr, (mask_above mask h, tt)))
+command_above (command.Round addr) h = (refl, (number_field addr, tt))
+command_above (command.Stop addr) h = (refl, (number_field addr, tt))
+command_above (command.Pay addr id count) h = (refl, (number_field addr, (number_field id, (number_field count, tt))))
+command_above (command.Settle addr) h = (refl, (number_field addr, tt))
+command_above (command.Halt addr) h = (refl, (number_field addr, tt))
 command_above command.Scan h = (refl, tt)
-command_above (command.Ident addr) h = (refl, (decimal_field addr h, tt))
-command_above (command.Path addr place path) h = (refl, (decimal_field addr h.0, (decimal_field place h.1, (decimal_field path h.2, tt))))
-command_above (command.Vend id price) h = (refl, (decimal_field id h.0, (decimal_field price h.1, tt)))
+command_above (command.Ident addr) h = (refl, (number_field addr, tt))
+command_above (command.Path addr place path) h =
+    (refl, (number_field addr, (number_field place, (number_field path, tt))))
+command_above (command.Vend id price) h = (refl, (number_field id, (number_field price, tt)))
 
 -- reasons
 
-pub reason_back : (why : CommandNo) → IsReason why → reason_in (reason_fields why) ≡ Some why
-reason_back refusal.NoDevice h = refl
-reason_back refusal.WrongKind h = refl
-reason_back refusal.Busy h = refl
-reason_back refusal.EpochRuns h = refl
-reason_back refusal.NoEpoch h = refl
-reason_back (refusal.NoValue place) h = one_back (λ n. Some (refusal.NoValue n)) place h
-reason_back (refusal.OrderOpen id) h = one_back (λ n. Some (refusal.OrderOpen n)) id h
-reason_back refusal.NoOrder h = refl
-reason_back refusal.NoPayout h = refl
-reason_back (refusal.OldId last) h = one_back (λ n. Some (refusal.OldId n)) last h
-reason_back (refusal.Short have) h = one_back (λ n. Some (refusal.Short n)) have h
-reason_back (refusal.JournalFull used held need) h =
-    three_back (λ u o n. Some (refusal.JournalFull u o n)) used held need h.0 h.1 h.2
+pub reason_back : (why : CommandNo) → reason_in (reason_fields why) ≡ Some why
+reason_back refusal.NoDevice = refl
+reason_back refusal.WrongKind = refl
+reason_back refusal.Busy = refl
+reason_back refusal.EpochRuns = refl
+reason_back refusal.NoEpoch = refl
+reason_back (refusal.NoValue place) = one_back (λ n. Some (refusal.NoValue n)) place
+reason_back (refusal.OrderOpen id) = one_back (λ n. Some (refusal.OrderOpen n)) id
+reason_back refusal.NoOrder = refl
+reason_back refusal.NoPayout = refl
+reason_back (refusal.OldId last) = one_back (λ n. Some (refusal.OldId n)) last
+reason_back (refusal.Short have) = one_back (λ n. Some (refusal.Short n)) have
+reason_back (refusal.JournalFull used held need) =
+    three_back (λ u o n. Some (refusal.JournalFull u o n)) used held need
 
-pub reason_above : (why : CommandNo) → IsReason why → EachAbove 32 (reason_fields why)
-reason_above refusal.NoDevice h = (refl, tt)
-reason_above refusal.WrongKind h = (refl, tt)
-reason_above refusal.Busy h = (refl, tt)
-reason_above refusal.EpochRuns h = (refl, tt)
-reason_above refusal.NoEpoch h = (refl, tt)
-reason_above (refusal.NoValue place) h = (refl, (decimal_field place h, tt))
-reason_above (refusal.OrderOpen id) h = (refl, (decimal_field id h, tt))
-reason_above refusal.NoOrder h = (refl, tt)
-reason_above refusal.NoPayout h = (refl, tt)
-reason_above (refusal.OldId last) h = (refl, (decimal_field last h, tt))
-reason_above (refusal.Short have) h = (refl, (decimal_field have h, tt))
-reason_above (refusal.JournalFull used held need) h =
-    (refl, (decimal_field used h.0, (decimal_field held h.1, (decimal_field need h.2, tt))))
+pub reason_above : (why : CommandNo) → EachAbove 32 (reason_fields why)
+reason_above refusal.NoDevice = (refl, tt)
+reason_above refusal.WrongKind = (refl, tt)
+reason_above refusal.Busy = (refl, tt)
+reason_above refusal.EpochRuns = (refl, tt)
+reason_above refusal.NoEpoch = (refl, tt)
+reason_above (refusal.NoValue place) = (refl, (number_field place, tt))
+reason_above (refusal.OrderOpen id) = (refl, (number_field id, tt))
+reason_above refusal.NoOrder = (refl, tt)
+reason_above refusal.NoPayout = (refl, tt)
+reason_above (refusal.OldId last) = (refl, (number_field last, tt))
+reason_above (refusal.Short have) = (refl, (number_field have, tt))
+reason_above (refusal.JournalFull used held need) =
+    (refl, (number_field used, (number_field held, (number_field need, tt))))
 
 -- faults and kinds of refused lines
 

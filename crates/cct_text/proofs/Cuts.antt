@@ -1,14 +1,14 @@
 -- Texts without a byte, joined by that byte, are cut into those texts again.
-use Rattle.std.proofs.Common.{◌≡◌, ℕ, zero, suc, ◌+◌, ◌/◌, ◌%◌, ◌<◌, ◌≤◌, ◌^◌, ◌==◌, ◌&&◌, nat_lt, Bool, true, false, List, [], ◌∷◌, ◌++◌, length, slice_index, decimal, refl, ap, ◌∙◌, arith, lit<}
+use Rattle.std.proofs.Common.{◌≡◌, ℕ, zero, suc, ◌+◌, ◌/◌, ◌%◌, ◌<◌, ◌≤◌, ◌^◌, ◌==◌, ◌&&◌, nat_lt, Bool, true, false, List, [], ◌∷◌, ◌++◌, length, slice_index, refl, ap, ◌∙◌, arith, lit<}
 use Rattle.std.specs.List.{All, join_with_byte}
 use Rattle.std.proofs.lemmas.Bool.{and_parts, eq-eqb}
 use Rattle.std.proofs.lemmas.Bool.Decides.{nat_tests}
-use Rattle.std.proofs.lemmas.Fmt.{decimal_by_steps}
 use Rattle.std.proofs.lemmas.List.Elements.{All-nil, All-cons}
 use Rattle.std.proofs.lemmas.List.Splits.{slice_split_at, slice_split_none}
 use Rattle.hex.specs.Hex.{IsBytes, encode_lower, encode_with, lower_digits}
-use Rattle.cct_lines.specs.Text.{piece_field, mask_field}
+use Rattle.cct_lines.specs.Text.{number_text, piece_field, mask_field}
 use Rattle.cct_text.specs.Reading.{parts_at}
+use Rattle.cct_text.proofs.Numbers.{number_by_steps}
 
 -- whether every byte of a text is above a number
 abbrev pub all_above : ℕ → List ℕ → Bool
@@ -59,15 +59,15 @@ above_at low (x ∷ xs) (suc i) h inside =
 digit_above : (n : ℕ) → nat_lt 47 (48 + n) ≡ true
 digit_above n = grind (arith, nat_tests)
 
-pub decimal_above : (n : ℕ) → n < 2 ^ 64 → all_above 47 (decimal n) ≡ true
-decimal_above n fits =
-    decimal_by_steps (λ n digits. all_above 47 digits ≡ true)
+pub number_above : (n : ℕ) → all_above 47 (number_text n) ≡ true
+number_above n =
+    number_by_steps (λ n digits. all_above 47 digits ≡ true)
     (λ n small. both (nat_lt 47 (48 + n)) true (digit_above n) refl)
     (λ n digits large h. above_append 47 digits ((48 + n % 10) ∷ []) h (both (nat_lt 47 (48 + n % 10)) true (digit_above (n % 10)) refl))
-    n fits
+    n
 
-pub decimal_field : (n : ℕ) → n < 2 ^ 64 → all_above 32 (decimal n) ≡ true
-decimal_field n fits = above_weaker 32 47 (omega arith) (decimal n) (decimal_above n fits)
+pub number_field : (n : ℕ) → all_above 32 (number_text n) ≡ true
+number_field n = above_weaker 32 47 (omega arith) (number_text n) (number_above n)
 
 pub hex_above : (bytes : List ℕ) → IsBytes bytes → all_above 47 (encode_lower bytes) ≡ true
 unfolding encode_with

@@ -1,23 +1,22 @@
 -- The devices that a scan lists are read back from their field.
-use Rattle.std.proofs.Common.{◌≡◌, ℕ, zero, suc, ◌<◌, ◌≤◌, ◌^◌, ◌==◌, ◌&&◌, ◌||◌, Bool, true, false, if◌then◌else◌, ◌⊎◌, inl, inr, List, [], ◌∷◌, ◌++◌, length, get_or, take, map, Option, Some, None, codes, decimal, refl, ap, sym, ◌∙◌, arith}
-use Rattle.std.specs.List.{All, filter_map, cons_option}
+use Rattle.std.proofs.Common.{◌≡◌, ℕ, zero, suc, ◌<◌, ◌≤◌, ◌==◌, ◌&&◌, ◌||◌, Bool, true, false, if◌then◌else◌, ◌⊎◌, inl, inr, List, [], ◌∷◌, ◌++◌, length, get_or, take, map, Option, Some, None, codes, refl, ap, sym, ◌∙◌, arith}
+use Rattle.std.specs.List.{filter_map, cons_option}
 use Rattle.std.proofs.lemmas.Bool.{cases_lt, eqb-true, eq-eqb}
 use Rattle.std.proofs.lemmas.List.{map-append}
-use Rattle.std.proofs.lemmas.List.Elements.{All-head, All-tail, All-nil, All-push, All-same}
 use Rattle.std.proofs.Math.Seq.{take-suc, take-length}
 use Rattle.cct_lines.specs.declared.entry.Listed.{Listed}
 use Rattle.cct_lines.specs.DeviceSet.{has, addresses_below, all_addresses}
-use Rattle.cct_lines.specs.Text.{list_field, listed_text, listed_field}
+use Rattle.cct_lines.specs.Text.{number_text, list_field, listed_text, listed_field}
 use Rattle.cct_text.specs.Reading.{parts_at, Device, device_of, devices_in, is_listed, listed_in}
-use Rattle.cct_text.specs.Written.{IsNumber, IsListed}
-use Rattle.cct_text.proofs.Cuts.{all_above, EachAbove, above_append, above_weaker, decimal_above, joined_above, cut_joined}
+use Rattle.cct_text.specs.Written.{IsListed}
+use Rattle.cct_text.proofs.Cuts.{all_above, EachAbove, above_append, above_weaker, number_above, joined_above, cut_joined}
 use Rattle.cct_text.proofs.Back.{one_back, each_weaker}
 
 -- an address with either check, and the device that it is, by whether either set has it
 abbrev text_by : Bool → Bool → ℕ → Option (List ℕ)
 text_by simple crc addr =
-    if simple then Some (decimal addr ++ codes "/simple")
-    else if crc then Some (decimal addr ++ codes "/crc")
+    if simple then Some (number_text addr ++ codes "/simple")
+    else if crc then Some (number_text addr ++ codes "/crc")
     else None
 
 abbrev device_by : Bool → Bool → ℕ → Option Device
@@ -32,47 +31,57 @@ device_at listed addr = device_by (has listed.simple addr) (has listed.crc addr)
 abbrev read : List ℕ → Option Device
 read text = device_of (parts_at 47 text)
 
-simple_read : (addr : ℕ) → IsNumber addr → read (decimal addr ++ codes "/simple") ≡ Some (record { addr = addr; is_simple = true })
-simple_read addr fits =
+simple_read : (addr : ℕ) → read (number_text addr ++ codes "/simple") ≡ Some (record { addr = addr; is_simple = true })
+simple_read addr =
     let make : ℕ → Option Device = λ a. Some (record { addr = a; is_simple = true }) in
-    ap device_of (cut_joined 47 (decimal addr) (codes "simple" ∷ []) (decimal_above addr fits, (refl, tt))) ∙ one_back make addr fits
+    ap device_of (cut_joined 47 (number_text addr) (codes "simple" ∷ []) (number_above addr, (refl, tt)))
+    ∙ one_back make addr
 
-crc_read : (addr : ℕ) → IsNumber addr → read (decimal addr ++ codes "/crc") ≡ Some (record { addr = addr; is_simple = false })
-crc_read addr fits =
+crc_read : (addr : ℕ) → read (number_text addr ++ codes "/crc") ≡ Some (record { addr = addr; is_simple = false })
+crc_read addr =
     let make : ℕ → Option Device = λ a. Some (record { addr = a; is_simple = false }) in
-    ap device_of (cut_joined 47 (decimal addr) (codes "crc" ∷ []) (decimal_above addr fits, (refl, tt))) ∙ one_back make addr fits
+    ap device_of (cut_joined 47 (number_text addr) (codes "crc" ∷ []) (number_above addr, (refl, tt)))
+    ∙ one_back make addr
 
-read_next : (simple crc : Bool) (addr : ℕ) → IsNumber addr → (texts : List (List ℕ)) (devices : List Device)
+read_next : (simple crc : Bool) (addr : ℕ) → (texts : List (List ℕ)) (devices : List Device)
     → filter_map read texts ≡ devices
     → filter_map read (cons_option (text_by simple crc addr) texts) ≡ cons_option (device_by simple crc addr) devices
-read_next true crc addr fits texts devices h =
-    ap (λ o. cons_option o (filter_map read texts)) (simple_read addr fits) ∙ ap (λ rest. record { addr = addr; is_simple = true } ∷ rest) h
-read_next false true addr fits texts devices h =
-    ap (λ o. cons_option o (filter_map read texts)) (crc_read addr fits) ∙ ap (λ rest. record { addr = addr; is_simple = false } ∷ rest) h
-read_next false false addr fits texts devices h = h
+read_next true crc addr texts devices h =
+    ap (λ o. cons_option o (filter_map read texts)) (simple_read addr)
+    ∙ ap (λ rest. record { addr = addr; is_simple = true } ∷ rest) h
+read_next false true addr texts devices h =
+    ap (λ o. cons_option o (filter_map read texts)) (crc_read addr)
+    ∙ ap (λ rest. record { addr = addr; is_simple = false } ∷ rest) h
+read_next false false addr texts devices h = h
 
-devices_read : (listed : Listed) (addrs : List ℕ) → All IsNumber addrs
+devices_read : (listed : Listed) (addrs : List ℕ)
     → filter_map read (filter_map (listed_text listed) addrs) ≡ filter_map (device_at listed) addrs
-devices_read listed [] h = refl
-devices_read listed (addr ∷ addrs) h =
-    read_next (has listed.simple addr) (has listed.crc addr) addr (All-head IsNumber addr addrs h)
+devices_read listed [] = refl
+devices_read listed (addr ∷ addrs) =
+    read_next (has listed.simple addr) (has listed.crc addr) addr
     (filter_map (listed_text listed) addrs) (filter_map (device_at listed) addrs)
-    (devices_read listed addrs (All-tail IsNumber addr addrs h))
+    (devices_read listed addrs)
 
 -- the texts have no comma
-above_next : (simple crc : Bool) (addr : ℕ) → IsNumber addr → (texts : List (List ℕ)) → EachAbove 44 texts
+above_next : (simple crc : Bool) (addr : ℕ) → (texts : List (List ℕ)) → EachAbove 44 texts
     → EachAbove 44 (cons_option (text_by simple crc addr) texts)
-above_next true crc addr fits texts h =
-    (above_append 44 (decimal addr) (codes "/simple") (above_weaker 44 47 (omega arith) (decimal addr) (decimal_above addr fits)) refl, h)
-above_next false true addr fits texts h =
-    (above_append 44 (decimal addr) (codes "/crc") (above_weaker 44 47 (omega arith) (decimal addr) (decimal_above addr fits)) refl, h)
-above_next false false addr fits texts h = h
+above_next true crc addr texts h = (
+  above_append 44 (number_text addr) (codes "/simple")
+      (above_weaker 44 47 (omega arith) (number_text addr) (number_above addr)) refl,
+  h,
+)
+above_next false true addr texts h = (
+  above_append 44 (number_text addr) (codes "/crc")
+      (above_weaker 44 47 (omega arith) (number_text addr) (number_above addr)) refl,
+  h,
+)
+above_next false false addr texts h = h
 
-texts_above : (listed : Listed) (addrs : List ℕ) → All IsNumber addrs → EachAbove 44 (filter_map (listed_text listed) addrs)
-texts_above listed [] h = tt
-texts_above listed (addr ∷ addrs) h =
-    above_next (has listed.simple addr) (has listed.crc addr) addr (All-head IsNumber addr addrs h)
-    (filter_map (listed_text listed) addrs) (texts_above listed addrs (All-tail IsNumber addr addrs h))
+texts_above : (listed : Listed) (addrs : List ℕ) → EachAbove 44 (filter_map (listed_text listed) addrs)
+texts_above listed [] = tt
+texts_above listed (addr ∷ addrs) =
+    above_next (has listed.simple addr) (has listed.crc addr) addr (filter_map (listed_text listed) addrs)
+    (texts_above listed addrs)
 
 -- the parts of a field
 field_parts : (texts : List (List ℕ)) → EachAbove 44 texts → filter_map read (parts_at 44 (list_field texts)) ≡ filter_map read texts
@@ -84,16 +93,9 @@ field_above [] h = refl
 field_above (text ∷ texts) h = joined_above 32 44 refl (text ∷ texts) (each_weaker 32 44 (omega arith) (text ∷ texts) h)
 
 -- the addresses
-below_fit : (n : ℕ) → n ≤ 2 ^ 64 → All IsNumber (addresses_below n)
-below_fit zero few = All-nil IsNumber
-below_fit (suc n) few = All-push IsNumber (addresses_below n) n (below_fit n (omega arith)) (omega arith)
-
 all_are : (n : ℕ) → n ≡ 256 → all_addresses ≡ addresses_below n
 unfolding all_addresses
 all_are n e = ap addresses_below (sym e)
-
-all_fit : (n : ℕ) → n ≡ 256 → All IsNumber all_addresses
-all_fit n e = All-same IsNumber all_addresses (addresses_below n) (all_are n e) (below_fit n (omega (arith, e)))
 
 -- whether an address stands in a list
 stands : ℕ → List ℕ → Bool
@@ -184,17 +186,14 @@ crc_hit true crc once = sym (once refl)
 crc_hit false crc once = refl
 
 -- the field of listed devices
-pub devices_back : (listed : Listed) → IsListed listed
-    → devices_in (listed_field listed) ≡ filter_map (device_at listed) all_addresses
-devices_back listed h =
-    let fit = all_fit (length listed.simple.members) h.simple in
-    field_parts (filter_map (listed_text listed) all_addresses) (texts_above listed all_addresses fit)
-    ∙ devices_read listed all_addresses fit
+pub devices_back : (listed : Listed) → devices_in (listed_field listed) ≡ filter_map (device_at listed) all_addresses
+devices_back listed =
+    field_parts (filter_map (listed_text listed) all_addresses) (texts_above listed all_addresses)
+    ∙ devices_read listed all_addresses
 
-pub listed_field_above : (listed : Listed) → IsListed listed → all_above 32 (listed_field listed) ≡ true
-listed_field_above listed h =
-    field_above (filter_map (listed_text listed) all_addresses)
-    (texts_above listed all_addresses (all_fit (length listed.simple.members) h.simple))
+pub listed_field_above : (listed : Listed) → all_above 32 (listed_field listed) ≡ true
+listed_field_above listed =
+    field_above (filter_map (listed_text listed) all_addresses) (texts_above listed all_addresses)
 
 simple_back : (listed : Listed) → IsListed listed
     → map (is_listed true (filter_map (device_at listed) all_addresses)) all_addresses ≡ listed.simple.members
@@ -219,6 +218,7 @@ of_members simple crc = record { simple = record { members = simple }; crc = rec
 pub listed_back : (listed : Listed) → IsListed listed → listed_in (listed_field listed) ≡ listed
 listed_back listed h =
     let devices = filter_map (device_at listed) all_addresses in
-    ap (λ ds. of_members (map (is_listed true ds) all_addresses) (map (is_listed false ds) all_addresses)) (devices_back listed h)
+    ap (λ ds. of_members (map (is_listed true ds) all_addresses) (map (is_listed false ds) all_addresses))
+    (devices_back listed)
     ∙ ap (λ simple. of_members simple (map (is_listed false devices) all_addresses)) (simple_back listed h)
     ∙ ap (of_members listed.simple.members) (crc_back listed h)

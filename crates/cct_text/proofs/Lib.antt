@@ -1,5 +1,6 @@
 pub mod Texts
 pub mod Listing
+pub mod Numbers
 pub mod Cuts
 pub mod Back
 pub mod Devices

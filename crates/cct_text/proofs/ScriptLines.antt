@@ -1,10 +1,9 @@
 -- The fields of a command, joined by spaces, are the line of a script that gives it.
-use Rattle.std.proofs.Common.{◌≡◌, ℕ, ◌+◌, ◌-◌, ◌*◌, ◌/◌, ◌%◌, ◌^◌, ◌<◌, ◌≤◌, ◌==◌, not, Bool, true, false, List, [], ◌∷◌, ◌++◌, Option, Some, None, decimal, codes, refl, ap, ◌∙◌, arith, append_assoc}
+use Rattle.std.proofs.Common.{◌≡◌, ℕ, ◌+◌, ◌-◌, ◌*◌, ◌/◌, ◌%◌, ◌^◌, ◌<◌, ◌≤◌, ◌==◌, not, Bool, true, false, List, [], ◌∷◌, ◌++◌, Option, Some, None, codes, refl, ap, ◌∙◌, arith, append_assoc}
 use Rattle.std.specs.Prelude.{Ok, cond, nat_le}
 use Rattle.std.specs.List.{join_with_byte}
 use Rattle.std.specs.Option.{ok_or}
 use Rattle.std.proofs.lemmas.Bool.Decides.{nat_tests}
-use Rattle.std.proofs.lemmas.Fmt.{decimal_by_steps}
 use Rattle.hex.proofs.HexLemmas.{decode_of-encode_lower}
 use Rattle.cct_terms.specs.declared.coin.TheConstants.{COIN_PLACES, PATHS}
 use Rattle.cct_lines.specs.declared.command.Command.{Command}
@@ -15,9 +14,10 @@ use Rattle.cct_lines.specs.declared.entry.LineKind.TheVariants as kind
 use Rattle.cct_lines.specs.declared.entry.Entry.TheVariants as entry
 use Rattle.cct_lines.specs.Grammar.{address_in, digits_from, is_digit, mask_in, number_in, ranged, step_at, step_fields, step_line}
 use Rattle.cct_lines.specs.Script.{IsCommand}
-use Rattle.cct_lines.specs.Text.{command_fields, line_of, mask_field}
-use Rattle.cct_text.specs.ScriptLine.{IsByte, IsTyped, IsWord, command_line}
-use Rattle.cct_text.proofs.Cuts.{EachAbove, all_above, cut_joined, decimal_field, mask_above, mask_bytes}
+use Rattle.cct_lines.specs.Text.{command_fields, line_of, mask_field, number_text}
+use Rattle.cct_text.specs.ScriptLine.{IsByte, IsTyped, command_line}
+use Rattle.cct_text.proofs.Cuts.{EachAbove, cut_joined, number_field, mask_above, mask_bytes}
+use Rattle.cct_text.proofs.Numbers.{number_by_steps}
 
 -- digits
 
@@ -86,19 +86,19 @@ spells_more n digits large h =
     record { spelt = spelt; front = λ some. front; whole = read_whole (digits ++ (48 + n % 10) ∷ []) front ∙ spelt }
 
 -- a number's text spells it
-number_spelt : (n : ℕ) → n < 2 ^ 64 → number_in (decimal n) ≡ Some n
-number_spelt n fits = (decimal_by_steps Spells spells_one spells_more n fits).whole
+number_spelt : (n : ℕ) → number_in (number_text n) ≡ Some n
+number_spelt n = (number_by_steps Spells spells_one spells_more n).whole
 
 -- .. within its range
-range_spelt : (least most n : ℕ) → n < 2 ^ 64 → least ≤ n → n ≤ most → ranged least most (decimal n) ≡ Some n
+range_spelt : (least most n : ℕ) → least ≤ n → n ≤ most → ranged least most (number_text n) ≡ Some n
 unfolding ranged
-range_spelt least most n fits from up_to =
+range_spelt least most n from up_to =
     let low : nat_le least n ≡ true = grind (arith, nat_tests) in
     let high : nat_le n most ≡ true = grind (arith, nat_tests) in
-    rw (number_spelt n fits) (rw (low, high) refl)
+    rw (number_spelt n) (rw (low, high) refl)
 
-address_spelt : (addr : ℕ) → IsByte addr → address_in (decimal addr) ≡ Some addr
-address_spelt addr fits = range_spelt 0 255 addr (omega arith) (omega arith) (omega arith)
+address_spelt : (addr : ℕ) → IsByte addr → address_in (number_text addr) ≡ Some addr
+address_spelt addr fits = range_spelt 0 255 addr (omega arith) (omega arith)
 
 -- an inhibit mask's text spells it
 mask_spelt : (mask : ℕ) → mask < 2 ^ 16 → 1 ≤ mask → mask_in (mask_field mask) ≡ Some mask
@@ -111,7 +111,7 @@ mask_spelt mask fits some =
 
 -- a command at an address
 at_spelt : (make : ℕ → Step) (addr : ℕ) → IsByte addr
-    → ok_or (step_at make (decimal addr ∷ [])) kind.Form ≡ Ok (make addr)
+    → ok_or (step_at make (number_text addr ∷ [])) kind.Form ≡ Ok (make addr)
 at_spelt make addr fits = rw (address_spelt addr fits) refl
 
 -- the fields of a command give it
@@ -121,42 +121,36 @@ fields_give (command.Start addr mask) h r =
 fields_give (command.Round addr) h r = at_spelt (λ a. step.Command (command.Round a)) addr h
 fields_give (command.Stop addr) h r = at_spelt (λ a. step.Command (command.Stop a)) addr h
 fields_give (command.Pay addr id count) h r =
-    let number = range_spelt 1 4294967295 id (omega (arith, h.1)) r.0 (omega (arith, h.1)) in
-    let coins = range_spelt 1 255 count (omega (arith, h.2)) r.1 (omega (arith, h.2)) in
+    let number = range_spelt 1 4294967295 id r.0 (omega (arith, h.1)) in
+    let coins = range_spelt 1 255 count r.1 (omega (arith, h.2)) in
     rw (address_spelt addr h.0, number, coins) refl
 fields_give (command.Settle addr) h r = at_spelt (λ a. step.Command (command.Settle a)) addr h
 fields_give (command.Halt addr) h r = at_spelt (λ a. step.Command (command.Halt a)) addr h
 fields_give command.Scan h r = refl
 fields_give (command.Ident addr) h r = at_spelt (λ a. step.Command (command.Ident a)) addr h
 fields_give (command.Path addr place path) h r =
-    let at_place = range_spelt 0 COIN_PLACES place (omega (arith, h.1)) (omega arith) r.0 in
-    let by_path = range_spelt 1 PATHS path (omega (arith, h.2)) r.1 r.2 in
+    let at_place = range_spelt 0 COIN_PLACES place (omega arith) r.0 in
+    let by_path = range_spelt 1 PATHS path r.1 r.2 in
     rw (address_spelt addr h.0, at_place, by_path) refl
 fields_give (command.Vend id price) h r =
-    let number = range_spelt 1 4294967295 id (omega (arith, h.0)) r.0 (omega (arith, h.0)) in
-    let worth = range_spelt 1 1000000000 price (omega (arith, h.1)) r.1 r.2 in
+    let number = range_spelt 1 4294967295 id r.0 (omega (arith, h.0)) in
+    let worth = range_spelt 1 1000000000 price r.1 r.2 in
     rw (number, worth) refl
-
-byte_above : (n : ℕ) → IsByte n → all_above 32 (decimal n) ≡ true
-byte_above n fits = decimal_field n (omega arith)
-
-word_above : (n : ℕ) → IsWord n → all_above 32 (decimal n) ≡ true
-word_above n fits = decimal_field n (omega arith)
 
 -- no field of a command has a space
 fields_above : (c : Command) → IsTyped c → EachAbove 32 (command_fields c)
-fields_above (command.Start addr mask) h = (refl, (byte_above addr h.0, (mask_above mask h.1, tt)))
-fields_above (command.Round addr) h = (refl, (byte_above addr h, tt))
-fields_above (command.Stop addr) h = (refl, (byte_above addr h, tt))
+fields_above (command.Start addr mask) h = (refl, (number_field addr, (mask_above mask h.1, tt)))
+fields_above (command.Round addr) h = (refl, (number_field addr, tt))
+fields_above (command.Stop addr) h = (refl, (number_field addr, tt))
 fields_above (command.Pay addr id count) h =
-    (refl, (byte_above addr h.0, (word_above id h.1, (byte_above count h.2, tt))))
-fields_above (command.Settle addr) h = (refl, (byte_above addr h, tt))
-fields_above (command.Halt addr) h = (refl, (byte_above addr h, tt))
+    (refl, (number_field addr, (number_field id, (number_field count, tt))))
+fields_above (command.Settle addr) h = (refl, (number_field addr, tt))
+fields_above (command.Halt addr) h = (refl, (number_field addr, tt))
 fields_above command.Scan h = (refl, tt)
-fields_above (command.Ident addr) h = (refl, (byte_above addr h, tt))
+fields_above (command.Ident addr) h = (refl, (number_field addr, tt))
 fields_above (command.Path addr place path) h =
-    (refl, (byte_above addr h.0, (byte_above place h.1, (byte_above path h.2, tt))))
-fields_above (command.Vend id price) h = (refl, (word_above id h.0, (word_above price h.1, tt)))
+    (refl, (number_field addr, (number_field place, (number_field path, tt))))
+fields_above (command.Vend id price) h = (refl, (number_field id, (number_field price, tt)))
 
 -- fields that give a command, joined by spaces, are a line that gives it
 joined_give : (fields : List (List ℕ)) (s : Step) → EachAbove 32 fields → step_fields fields ≡ Ok s
@@ -179,15 +173,15 @@ word_before word field fields = append_assoc word (32 ∷ join_with_byte 32 (fie
 -- the line of a command that was taken is its script's line behind the word `ok`
 pub taken_is : (c : Command) → line_of (entry.Taken c) ≡ codes "ok " ++ command_line c ++ 10 ∷ []
 unfolding line_of
-taken_is (command.Start addr mask) = word_before (codes "ok") (codes "start") (decimal addr ∷ mask_field mask ∷ [])
-taken_is (command.Round addr) = word_before (codes "ok") (codes "round") (decimal addr ∷ [])
-taken_is (command.Stop addr) = word_before (codes "ok") (codes "stop") (decimal addr ∷ [])
+taken_is (command.Start addr mask) = word_before (codes "ok") (codes "start") (number_text addr ∷ mask_field mask ∷ [])
+taken_is (command.Round addr) = word_before (codes "ok") (codes "round") (number_text addr ∷ [])
+taken_is (command.Stop addr) = word_before (codes "ok") (codes "stop") (number_text addr ∷ [])
 taken_is (command.Pay addr id count) =
-    word_before (codes "ok") (codes "pay") (decimal addr ∷ decimal id ∷ decimal count ∷ [])
-taken_is (command.Settle addr) = word_before (codes "ok") (codes "settle") (decimal addr ∷ [])
-taken_is (command.Halt addr) = word_before (codes "ok") (codes "halt") (decimal addr ∷ [])
+    word_before (codes "ok") (codes "pay") (number_text addr ∷ number_text id ∷ number_text count ∷ [])
+taken_is (command.Settle addr) = word_before (codes "ok") (codes "settle") (number_text addr ∷ [])
+taken_is (command.Halt addr) = word_before (codes "ok") (codes "halt") (number_text addr ∷ [])
 taken_is command.Scan = refl
-taken_is (command.Ident addr) = word_before (codes "ok") (codes "ident") (decimal addr ∷ [])
+taken_is (command.Ident addr) = word_before (codes "ok") (codes "ident") (number_text addr ∷ [])
 taken_is (command.Path addr place path) =
-    word_before (codes "ok") (codes "path") (decimal addr ∷ decimal place ∷ decimal path ∷ [])
-taken_is (command.Vend id price) = word_before (codes "ok") (codes "vend") (decimal id ∷ decimal price ∷ [])
+    word_before (codes "ok") (codes "path") (number_text addr ∷ number_text place ∷ number_text path ∷ [])
+taken_is (command.Vend id price) = word_before (codes "ok") (codes "vend") (number_text id ∷ number_text price ∷ [])

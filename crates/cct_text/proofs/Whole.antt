@@ -1,5 +1,5 @@
 -- The line of an entry is read back as the entry, and a text as its entries.
-use Rattle.std.proofs.Common.{◌≡◌, ℕ, ◌==◌, true, List, [], ◌∷◌, ◌++◌, Some, None, decimal, refl, ap, sym, ◌∙◌, arith, append_assoc}
+use Rattle.std.proofs.Common.{◌≡◌, ℕ, ◌==◌, true, List, [], ◌∷◌, ◌++◌, Some, None, refl, ap, sym, ◌∙◌, arith, append_assoc}
 use Rattle.std.specs.List.{All, filter_map, cons_option, join_with_byte}
 use Rattle.std.proofs.lemmas.List.{append-nil}
 use Rattle.std.proofs.lemmas.List.Elements.{All-head, All-tail, All-nil, All-cons}
@@ -8,133 +8,159 @@ use Rattle.cct_lines.specs.declared.entry.End.{End}
 use Rattle.cct_lines.specs.declared.entry.End.TheVariants as end_of
 use Rattle.cct_lines.specs.declared.entry.Entry.{Entry}
 use Rattle.cct_lines.specs.declared.entry.Entry.TheVariants as entry
-use Rattle.cct_lines.specs.Text.{piece_field, command_fields, end_fields, fields_of, line_of, text}
+use Rattle.cct_lines.specs.Text.{number_text, piece_field, command_fields, end_fields, fields_of, line_of, text}
 use Rattle.cct_text.specs.Reading.{parts_at, number_in, piece_in, made, either, taken_by, refused_by, command_in, read_fields, read_line, read_text}
 use Rattle.cct_text.specs.Written.{IsEnd, IsWritten}
-use Rattle.cct_text.proofs.Cuts.{all_above, EachAbove, above_weaker, each_append, decimal_field, piece_above, joined_above, cut_joined, has_none}
+use Rattle.cct_text.proofs.Cuts.{all_above, EachAbove, above_weaker, each_append, number_field, piece_above, joined_above, cut_joined, has_none}
 use Rattle.cct_text.proofs.Back.{each_weaker, one_back, two_back, three_back, four_back, five_back, piece_back, record_back, record_above, command_back, command_above, reason_back, reason_above, fault_back, fault_above, kind_back, kind_above}
 use Rattle.cct_text.proofs.Devices.{listed_back, listed_field_above}
 
 -- ends
 end_back : (addr : ℕ) (end : End) → IsEnd addr end → read_fields (end_fields addr end) ≡ Some (entry.Ended addr end)
-end_back addr end_of.Started h = one_back (λ a. Some (entry.Ended a end_of.Started)) addr h
-end_back addr end_of.StartUnsure h = one_back (λ a. Some (entry.Ended a end_of.StartUnsure)) addr h
-end_back addr (end_of.Unquiet counter) h = two_back (λ a c. Some (entry.Ended a (end_of.Unquiet c))) addr counter h.0 h.1
-end_back addr end_of.Clean h = one_back (λ a. Some (entry.Ended a end_of.Clean)) addr h
-end_back addr end_of.Posted h = one_back (λ a. Some (entry.Ended a end_of.Posted)) addr h
-end_back addr end_of.Broke h = one_back (λ a. Some (entry.Ended a end_of.Broke)) addr h
-end_back addr end_of.Stopped h = one_back (λ a. Some (entry.Ended a end_of.Stopped)) addr h
-end_back addr end_of.Closed h = one_back (λ a. Some (entry.Ended a end_of.Closed)) addr h
-end_back addr end_of.OddLife h = one_back (λ a. Some (entry.Ended a end_of.OddLife)) addr h
-end_back addr end_of.NoAnswer h = one_back (λ a. Some (entry.Ended a end_of.NoAnswer)) addr h
+end_back addr end_of.Started h = one_back (λ a. Some (entry.Ended a end_of.Started)) addr
+end_back addr end_of.StartUnsure h = one_back (λ a. Some (entry.Ended a end_of.StartUnsure)) addr
+end_back addr (end_of.Unquiet counter) h = two_back (λ a c. Some (entry.Ended a (end_of.Unquiet c))) addr counter
+end_back addr end_of.Clean h = one_back (λ a. Some (entry.Ended a end_of.Clean)) addr
+end_back addr end_of.Posted h = one_back (λ a. Some (entry.Ended a end_of.Posted)) addr
+end_back addr end_of.Broke h = one_back (λ a. Some (entry.Ended a end_of.Broke)) addr
+end_back addr end_of.Stopped h = one_back (λ a. Some (entry.Ended a end_of.Stopped)) addr
+end_back addr end_of.Closed h = one_back (λ a. Some (entry.Ended a end_of.Closed)) addr
+end_back addr end_of.OddLife h = one_back (λ a. Some (entry.Ended a end_of.OddLife)) addr
+end_back addr end_of.NoAnswer h = one_back (λ a. Some (entry.Ended a end_of.NoAnswer)) addr
 end_back addr (end_of.Listed listed) h =
     ap (λ l. Some (entry.Ended 0 (end_of.Listed l))) (listed_back listed h.1)
     ∙ ap (λ a. Some (entry.Ended a (end_of.Listed listed))) (sym h.0)
-end_back addr end_of.Told h = one_back (λ a. Some (entry.Ended a end_of.Told)) addr h
+end_back addr end_of.Told h = one_back (λ a. Some (entry.Ended a end_of.Told)) addr
 end_back addr (end_of.PathSet place path) h =
-    three_back (λ a p q. Some (entry.Ended a (end_of.PathSet p q))) addr place path h.0 h.1 h.2
+    three_back (λ a p q. Some (entry.Ended a (end_of.PathSet p q))) addr place path
 end_back addr end_of.Sold h = ap (λ a. Some (entry.Ended a end_of.Sold)) (sym h)
 
 end_above : (addr : ℕ) (end : End) → IsEnd addr end → EachAbove 32 (end_fields addr end)
-end_above addr end_of.Started h = (refl, (decimal_field addr h, tt))
-end_above addr end_of.StartUnsure h = (refl, (decimal_field addr h, tt))
-end_above addr (end_of.Unquiet counter) h = (refl, (decimal_field addr h.0, (decimal_field counter h.1, tt)))
-end_above addr end_of.Clean h = (refl, (decimal_field addr h, tt))
-end_above addr end_of.Posted h = (refl, (decimal_field addr h, tt))
-end_above addr end_of.Broke h = (refl, (decimal_field addr h, tt))
-end_above addr end_of.Stopped h = (refl, (decimal_field addr h, tt))
-end_above addr end_of.Closed h = (refl, (decimal_field addr h, tt))
-end_above addr end_of.OddLife h = (refl, (decimal_field addr h, tt))
-end_above addr end_of.NoAnswer h = (refl, (decimal_field addr h, tt))
-end_above addr (end_of.Listed listed) h = (refl, (listed_field_above listed h.1, tt))
-end_above addr end_of.Told h = (refl, (decimal_field addr h, tt))
+end_above addr end_of.Started h = (refl, (number_field addr, tt))
+end_above addr end_of.StartUnsure h = (refl, (number_field addr, tt))
+end_above addr (end_of.Unquiet counter) h = (refl, (number_field addr, (number_field counter, tt)))
+end_above addr end_of.Clean h = (refl, (number_field addr, tt))
+end_above addr end_of.Posted h = (refl, (number_field addr, tt))
+end_above addr end_of.Broke h = (refl, (number_field addr, tt))
+end_above addr end_of.Stopped h = (refl, (number_field addr, tt))
+end_above addr end_of.Closed h = (refl, (number_field addr, tt))
+end_above addr end_of.OddLife h = (refl, (number_field addr, tt))
+end_above addr end_of.NoAnswer h = (refl, (number_field addr, tt))
+end_above addr (end_of.Listed listed) h = (refl, (listed_field_above listed, tt))
+end_above addr end_of.Told h = (refl, (number_field addr, tt))
 end_above addr (end_of.PathSet place path) h =
-    (refl, (decimal_field addr h.0, (decimal_field place h.1, (decimal_field path h.2, tt))))
+    (refl, (number_field addr, (number_field place, (number_field path, tt))))
 end_above addr end_of.Sold h = (refl, tt)
 
 -- entries
 pub entry_back : (e : Entry) → IsWritten e → read_fields (fields_of e) ≡ Some e
 entry_back (entry.Accepted addr coin) h =
-    three_back (λ a p q. Some (entry.Accepted a (record { place = p; path = q }))) addr coin.place coin.path h.0 h.1.0 h.1.1
-entry_back (entry.Inhibited addr place) h = two_back (λ a p. Some (entry.Inhibited a p)) addr place h.0 h.1
-entry_back (entry.Alien addr) h = one_back (λ a. Some (entry.Alien a)) addr h
-entry_back (entry.Fell addr) h = one_back (λ a. Some (entry.Fell a)) addr h
-entry_back (entry.NoFall addr) h = one_back (λ a. Some (entry.NoFall a)) addr h
-entry_back (entry.Jammed addr) h = one_back (λ a. Some (entry.Jammed a)) addr h
-entry_back (entry.NoJam addr) h = one_back (λ a. Some (entry.NoJam a)) addr h
-entry_back (entry.Reset addr) h = one_back (λ a. Some (entry.Reset a)) addr h
+    three_back (λ a p q. Some (entry.Accepted a (record { place = p; path = q }))) addr coin.place coin.path
+entry_back (entry.Inhibited addr place) h = two_back (λ a p. Some (entry.Inhibited a p)) addr place
+entry_back (entry.Alien addr) h = one_back (λ a. Some (entry.Alien a)) addr
+entry_back (entry.Fell addr) h = one_back (λ a. Some (entry.Fell a)) addr
+entry_back (entry.NoFall addr) h = one_back (λ a. Some (entry.NoFall a)) addr
+entry_back (entry.Jammed addr) h = one_back (λ a. Some (entry.Jammed a)) addr
+entry_back (entry.NoJam addr) h = one_back (λ a. Some (entry.NoJam a)) addr
+entry_back (entry.Reset addr) h = one_back (λ a. Some (entry.Reset a)) addr
 entry_back (entry.Fault f) h = ap (λ o. either (made entry.Fault o) None) (fault_back f h)
 entry_back (entry.Taken c) h =
     ap (λ fields. either (taken_by (command_in fields)) None) (sym (append-nil (command_fields c)))
     ∙ ap (λ o. either (taken_by o) None) (command_back c [] h)
 entry_back (entry.No c why) h =
-    ap (λ o. either (refused_by o) None) (command_back c _ h.0)
-    ∙ ap (λ o. either (made (entry.No c) o) None) (reason_back why h.1)
-entry_back (entry.Idle addr) h = one_back (λ a. Some (entry.Idle a)) addr h
+    ap (λ o. either (refused_by o) None) (command_back c _ h)
+    ∙ ap (λ o. either (made (entry.No c) o) None) (reason_back why)
+entry_back (entry.Idle addr) h = one_back (λ a. Some (entry.Idle a)) addr
 entry_back (entry.Wire addr sent heard) h =
-    one_back (λ a. Some (entry.Wire a (piece_in (piece_field sent)) (piece_in (piece_field heard)))) addr h.0
-    ∙ ap (λ p. Some (entry.Wire addr p (piece_in (piece_field heard)))) (piece_back sent h.1)
-    ∙ ap (λ p. Some (entry.Wire addr sent p)) (piece_back heard h.2)
+    one_back (λ a. Some (entry.Wire a (piece_in (piece_field sent)) (piece_in (piece_field heard)))) addr
+    ∙ ap (λ p. Some (entry.Wire addr p (piece_in (piece_field heard)))) (piece_back sent h.0)
+    ∙ ap (λ p. Some (entry.Wire addr sent p)) (piece_back heard h.1)
 entry_back (entry.Put r) h = ap (λ o. either (made entry.Put o) None) (record_back r h)
 entry_back (entry.Kept r) h = ap (λ o. either (made entry.Kept o) None) (record_back r h)
-entry_back (entry.Crash records) h = one_back (λ n. Some (entry.Crash n)) records h
+entry_back (entry.Crash records) h = one_back (λ n. Some (entry.Crash n)) records
 entry_back (entry.Ended addr end) h = end_back addr end h
 entry_back (entry.Balance totals) h =
     four_back (λ a r p s. Some (entry.Balance (record { available = a; reserved = r; paid = p; sold = s })))
-    totals.available totals.reserved totals.paid totals.sold h.0 h.1 h.2 h.3
+    totals.available totals.reserved totals.paid totals.sold
 entry_back (entry.Line number why) h =
-    ap (λ o. made (entry.Line (number_in (decimal number))) o) (kind_back why)
-    ∙ one_back (λ n. Some (entry.Line n why)) number h
+    ap (λ o. made (entry.Line (number_in (number_text number))) o) (kind_back why)
+    ∙ one_back (λ n. Some (entry.Line n why)) number
 entry_back entry.Words h = refl
-entry_back (entry.DiskSize len) h = one_back (λ n. Some (entry.DiskSize n)) len h
-entry_back (entry.NotBlank at) h = one_back (λ n. Some (entry.NotBlank n)) at h
+entry_back (entry.DiskSize len) h = one_back (λ n. Some (entry.DiskSize n)) len
+entry_back (entry.NotBlank at) h = one_back (λ n. Some (entry.NotBlank n)) at
 entry_back entry.ReadFault h = refl
 entry_back entry.DiskFault h = refl
 entry_back entry.JournalAlien h = refl
-entry_back (entry.JournalBad index) h = one_back (λ n. Some (entry.JournalBad n)) index h
-entry_back (entry.JournalLost found put) h = two_back (λ f p. Some (entry.JournalLost f p)) found put h.0 h.1
+entry_back (entry.JournalBad index) h = one_back (λ n. Some (entry.JournalBad n)) index
+entry_back (entry.JournalLost found put) h = two_back (λ f p. Some (entry.JournalLost f p)) found put
 entry_back (entry.Listing index r) h =
-    ap (λ o. made (entry.Listing (number_in (decimal index))) o) (record_back r h.1)
-    ∙ one_back (λ n. Some (entry.Listing n r)) index h.0
+    ap (λ o. made (entry.Listing (number_in (number_text index))) o) (record_back r h)
+    ∙ one_back (λ n. Some (entry.Listing n r)) index
 entry_back (entry.Total posted lost paid unpaid sold) h =
-    five_back (λ a b c d e. Some (entry.Total a b c d e)) posted lost paid unpaid sold h.0 h.1 h.2 h.3 h.4
-entry_back (entry.Load seed rounds) h = two_back (λ s n. Some (entry.Load s n)) seed rounds h.0 h.1
+    five_back (λ a b c d e. Some (entry.Total a b c d e)) posted lost paid unpaid sold
+entry_back (entry.Load seed rounds) h = two_back (λ s n. Some (entry.Load s n)) seed rounds
 entry_back (entry.Sum what amount) h = absurd h
 
 entry_above : (e : Entry) → IsWritten e → EachAbove 32 (fields_of e)
 entry_above (entry.Accepted addr coin) h =
-    (refl, (decimal_field addr h.0, (decimal_field coin.place h.1.0, (decimal_field coin.path h.1.1, tt))))
-entry_above (entry.Inhibited addr place) h = (refl, (decimal_field addr h.0, (decimal_field place h.1, tt)))
-entry_above (entry.Alien addr) h = (refl, (decimal_field addr h, tt))
-entry_above (entry.Fell addr) h = (refl, (decimal_field addr h, tt))
-entry_above (entry.NoFall addr) h = (refl, (decimal_field addr h, tt))
-entry_above (entry.Jammed addr) h = (refl, (decimal_field addr h, tt))
-entry_above (entry.NoJam addr) h = (refl, (decimal_field addr h, tt))
-entry_above (entry.Reset addr) h = (refl, (decimal_field addr h, tt))
+    (refl, (number_field addr, (number_field coin.place, (number_field coin.path, tt))))
+entry_above (entry.Inhibited addr place) h = (refl, (number_field addr, (number_field place, tt)))
+entry_above (entry.Alien addr) h = (refl, (number_field addr, tt))
+entry_above (entry.Fell addr) h = (refl, (number_field addr, tt))
+entry_above (entry.NoFall addr) h = (refl, (number_field addr, tt))
+entry_above (entry.Jammed addr) h = (refl, (number_field addr, tt))
+entry_above (entry.NoJam addr) h = (refl, (number_field addr, tt))
+entry_above (entry.Reset addr) h = (refl, (number_field addr, tt))
 entry_above (entry.Fault f) h = (refl, fault_above f h)
 entry_above (entry.Taken c) h = (refl, command_above c h)
-entry_above (entry.No c why) h = (refl, each_append 32 (command_fields c) _ (command_above c h.0) (reason_above why h.1))
-entry_above (entry.Idle addr) h = (refl, (decimal_field addr h, tt))
-entry_above (entry.Wire addr sent heard) h = (refl, (decimal_field addr h.0, (piece_above sent h.1, (piece_above heard h.2, tt))))
+entry_above (entry.No c why) h = (refl, each_append 32 (command_fields c) _ (command_above c h) (reason_above why))
+entry_above (entry.Idle addr) h = (refl, (number_field addr, tt))
+entry_above (entry.Wire addr sent heard) h =
+    (refl, (number_field addr, (piece_above sent h.0, (piece_above heard h.1, tt))))
 entry_above (entry.Put r) h = (refl, record_above r h)
 entry_above (entry.Kept r) h = (refl, record_above r h)
-entry_above (entry.Crash records) h = (refl, (decimal_field records h, tt))
+entry_above (entry.Crash records) h = (refl, (number_field records, tt))
 entry_above (entry.Ended addr end) h = end_above addr end h
-entry_above (entry.Balance totals) h =
-    (refl, (decimal_field totals.available h.0, (decimal_field totals.reserved h.1, (decimal_field totals.paid h.2, (decimal_field totals.sold h.3, tt)))))
-entry_above (entry.Line number why) h = (refl, (decimal_field number h, (kind_above why, tt)))
+entry_above (entry.Balance totals) h = (
+  refl,
+  (
+    number_field totals.available,
+    (
+      number_field totals.reserved,
+      (
+        number_field totals.paid,
+        (number_field totals.sold, tt),
+      ),
+    ),
+  ),
+)
+entry_above (entry.Line number why) h = (refl, (number_field number, (kind_above why, tt)))
 entry_above entry.Words h = (refl, tt)
-entry_above (entry.DiskSize len) h = (refl, (decimal_field len h, tt))
-entry_above (entry.NotBlank at) h = (refl, (decimal_field at h, tt))
+entry_above (entry.DiskSize len) h = (refl, (number_field len, tt))
+entry_above (entry.NotBlank at) h = (refl, (number_field at, tt))
 entry_above entry.ReadFault h = (refl, tt)
 entry_above entry.DiskFault h = (refl, tt)
 entry_above entry.JournalAlien h = (refl, (refl, tt))
-entry_above (entry.JournalBad index) h = (refl, (refl, (decimal_field index h, tt)))
-entry_above (entry.JournalLost found put) h = (refl, (refl, (decimal_field found h.0, (decimal_field put h.1, tt))))
-entry_above (entry.Listing index r) h = (refl, (decimal_field index h.0, record_above r h.1))
-entry_above (entry.Total posted lost paid unpaid sold) h =
-    (refl, (decimal_field posted h.0, (decimal_field lost h.1, (decimal_field paid h.2, (decimal_field unpaid h.3, (decimal_field sold h.4, tt))))))
-entry_above (entry.Load seed rounds) h = (refl, (decimal_field seed h.0, (decimal_field rounds h.1, tt)))
+entry_above (entry.JournalBad index) h = (refl, (refl, (number_field index, tt)))
+entry_above (entry.JournalLost found put) h = (refl, (refl, (number_field found, (number_field put, tt))))
+entry_above (entry.Listing index r) h = (refl, (number_field index, record_above r h))
+entry_above (entry.Total posted lost paid unpaid sold) h = (
+  refl,
+  (
+    number_field posted,
+    (
+      number_field lost,
+      (
+        number_field paid,
+        (
+          number_field unpaid,
+          (number_field sold, tt),
+        ),
+      ),
+    ),
+  ),
+)
+entry_above (entry.Load seed rounds) h = (refl, (number_field seed, (number_field rounds, tt)))
 entry_above (entry.Sum what amount) h = absurd h
 
 -- fields that are read as an entry, joined by spaces, are read as that entry

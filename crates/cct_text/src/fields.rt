@@ -1,6 +1,6 @@
 //! Fields of a line, each behind a space.
-ghost use Rattle.std.specs.Prelude.{◌≡◌, ℕ, ◌+◌, ◌*◌, ◌<◌, ◌≤◌, List, [], ◌∷◌, ◌++◌, length, map, decimal};
-ghost use Rattle.cct_lines.specs.Text.{piece_field, mask_field};
+ghost use Rattle.std.specs.Prelude.{◌≡◌, ℕ, ◌+◌, ◌*◌, ◌<◌, ◌≤◌, List, [], ◌∷◌, ◌++◌, length, map};
+ghost use Rattle.cct_lines.specs.Text.{number_text, piece_field, mask_field};
 ghost use Rattle.cct_text.specs.Joined.{behind};
 
 use crate::text::TextLine;
@@ -9,7 +9,7 @@ use cct_lines::MOST_TEXT;
 /// Writes a word, and numbers as the fields behind it.
 pub(crate) fn write_numbers(line: &mut TextLine, word: &[u8], numbers: &[u64])
     requires { length line.old + length word.now + 21 * length numbers.now ≤ MOST_TEXT }
-    ensures text { line.new ≡ line.old ++ word.now ++ behind 32 (map decimal numbers.now) }
+    ensures text { line.new ≡ line.old ++ word.now ++ behind 32 (map number_text numbers.now) }
     ensures len { length line.new ≤ length line.old + length word.now + 21 * length numbers.now }
 {
     line.push(word);
@@ -21,7 +21,7 @@ pub(crate) fn write_numbers(line: &mut TextLine, word: &[u8], numbers: &[u64])
 /// Writes a word, and an address as the field behind it.
 pub(crate) fn write_address(line: &mut TextLine, word: &[u8], addr: u8)
     requires { length line.old + length word.now + 21 ≤ MOST_TEXT }
-    ensures text { line.new ≡ line.old ++ word.now ++ 32 ∷ decimal addr }
+    ensures text { line.new ≡ line.old ++ word.now ++ 32 ∷ number_text addr }
     ensures len { length line.new ≤ length line.old + length word.now + 21 }
 {
     line.push(word);
@@ -31,7 +31,7 @@ pub(crate) fn write_address(line: &mut TextLine, word: &[u8], addr: u8)
 /// Writes a word, and an address and one more byte as the fields behind it.
 pub(crate) fn write_pair(line: &mut TextLine, word: &[u8], addr: u8, byte: u8)
     requires { length line.old + length word.now + 42 ≤ MOST_TEXT }
-    ensures text { line.new ≡ line.old ++ word.now ++ 32 ∷ decimal addr ++ 32 ∷ decimal byte }
+    ensures text { line.new ≡ line.old ++ word.now ++ 32 ∷ number_text addr ++ 32 ∷ number_text byte }
     ensures len { length line.new ≤ length line.old + length word.now + 42 }
 {
     write_address(line, word, addr);
@@ -41,7 +41,7 @@ pub(crate) fn write_pair(line: &mut TextLine, word: &[u8], addr: u8, byte: u8)
 /// Writes a number as the next field.
 pub(crate) fn write_number(line: &mut TextLine, number: u64)
     requires { length line.old + 21 ≤ MOST_TEXT }
-    ensures text { line.new ≡ line.old ++ 32 ∷ decimal number }
+    ensures text { line.new ≡ line.old ++ 32 ∷ number_text number }
     ensures len { length line.new ≤ length line.old + 21 }
 {
     line.push(b" ");
@@ -51,7 +51,7 @@ pub(crate) fn write_number(line: &mut TextLine, number: u64)
 /// Writes a word, and behind it an address and an inhibit mask, which has four hexadecimal digits.
 pub(crate) fn write_mask(line: &mut TextLine, word: &[u8], addr: u8, mask: u16)
     requires { length line.old + length word.now + 26 ≤ MOST_TEXT }
-    ensures text { line.new ≡ line.old ++ word.now ++ 32 ∷ decimal addr ++ 32 ∷ mask_field mask }
+    ensures text { line.new ≡ line.old ++ word.now ++ 32 ∷ number_text addr ++ 32 ∷ mask_field mask }
     ensures len { length line.new ≤ length line.old + length word.now + 26 }
 {
     write_address(line, word, addr);

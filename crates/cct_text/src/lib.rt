@@ -51,6 +51,3 @@ pub fn put_entry<K: Sink>(out: &mut K, entry: &Entry) -> Result<(), Failed>
     let mut line = TextLine::new();
     write_entry(out, &mut line, entry)
 }
-
-#[cfg(test)]
-mod tests;

@@ -1,7 +1,7 @@
 //! Records of the journal, and the coins in them.
-ghost use Rattle.std.specs.Prelude.{◌≡◌, ℕ, ◌+◌, ◌≤◌, List, [], ◌∷◌, ◌++◌, length, decimal};
+ghost use Rattle.std.specs.Prelude.{◌≡◌, ℕ, ◌+◌, ◌≤◌, List, [], ◌∷◌, ◌++◌, length};
 ghost use Rattle.cct_lines.specs.declared.record.Record.TheVariants.{Odd};
-ghost use Rattle.cct_lines.specs.Text.{coin_text, coins_field, record_fields};
+ghost use Rattle.cct_lines.specs.Text.{number_text, coin_text, coins_field, record_fields};
 ghost use Rattle.cct_text.specs.Joined.{behind};
 
 use crate::fields::{write_address, write_mask, write_number, write_numbers, write_pair};
@@ -61,7 +61,8 @@ pub(crate) fn write_record(line: &mut TextLine, entry: &Record)
 /// Writes a word, and an order's id and two bytes as the fields behind it.
 fn write_order(line: &mut TextLine, word: &[u8], id: u32, first: u8, second: u8)
     requires { length line.old + length word.now + 63 ≤ MOST_TEXT }
-    ensures text { line.new ≡ line.old ++ word.now ++ behind 32 (decimal id ∷ decimal first ∷ decimal second ∷ []) }
+    ensures text { line.new ≡ line.old ++ word.now
+        ++ behind 32 (number_text id ∷ number_text first ∷ number_text second ∷ []) }
     ensures len { length line.new ≤ length line.old + length word.now + 63 }
 {
     write_numbers(

@@ -1,24 +1,19 @@
 -- One attempt of a job at a place, and what it leaves.
-use Rattle.std.proofs.Common.{◌≡◌, ℕ, zero, suc, Bool, true, false, cond, List, [], ◌∷◌, ◌++◌, append_assoc, reverse, refl, sym, ap, subst, ◌∙◌, Option, Some, None}
-use Rattle.cct_model.specs.terms.coin.Credits.{Credits}
-use Rattle.cct_model.specs.terms.device.DeviceBody.{DeviceBody}
+use Rattle.std.proofs.Common.{◌≡◌, ℕ, List, [], ◌∷◌, ◌++◌, append_assoc, reverse, refl, sym, ap, subst, ◌∙◌, Option, Some, None}
 use Rattle.cct_model.specs.terms.device.DeviceSetup.{DeviceSetup}
 use Rattle.cct_model.specs.terms.request.Request.{Request}
 use Rattle.cct_model.specs.lines.record.Record.{Record}
 use Rattle.cct_model.specs.lines.command.Command.{Command}
-use Rattle.cct_model.specs.lines.command.Command.TheVariants as command
 use Rattle.cct_model.specs.lines.entry.End.{End}
 use Rattle.cct_model.specs.lines.entry.Entry.{Entry}
 use Rattle.cct_model.specs.lines.entry.Entry.TheVariants as entry
 use Rattle.cct_model.specs.declared.judging.EpochState.{EpochState}
-use Rattle.cct_model.specs.declared.judging.EpochState.TheVariants.{Idle, Running}
-use Rattle.cct_model.specs.declared.judging.Judged.TheVariants.{Nothing, Reading, Broken}
 use Rattle.cct_model.specs.Exchange.{ask}
 use Rattle.cct_model.specs.Line.{Line}
 use Rattle.cct_model.specs.Line as line
 use Rattle.cct_model.specs.Job as model
+use Rattle.cct_model.specs.Order as model_order
 use Rattle.cct_model.specs.Legal.{PollEntries, RowEntries, with_end}
-use Rattle.cct_model.specs.Reading.{judge}
 use Rattle.cct_model.specs.Scan.{end_of_scan}
 use Rattle.cct_model.specs.Transcript.{lines_of, owner, scan_line}
 use Rattle.cct_jobs.specs.declared.job.Job.{Job}
@@ -32,8 +27,8 @@ use Rattle.cct_world.specs.Desk.{Attempts, Goes, Keeps, Knows, Works}
 use Rattle.cct_world.specs.Exchange.{Converses, Ends, Talks}
 use Rattle.cct_world.specs.Place.{Asks, AsksNext, NextAt, Place, StandsAt, addr_of, device, end_at, line_at, lines_at, scans}
 use Rattle.cct_world.specs.Running.{Settles}
-use Rattle.cct_world.proofs.Keeps.{asked_keeps, left_keeps, put_keeps}
-use Rattle.cct_world.proofs.Lines.{end_at_too, idle_at, idle_line, own_wire, put_at, wire_at}
+use Rattle.cct_world.proofs.Keeps.{asked_keeps, knows_same, left_keeps, put_keeps}
+use Rattle.cct_world.proofs.Lines.{dosed_at, end_at_too, epoch_dosed, idle_at, idle_line, job_dosed, own_wire, put_at, wire_at}
 
 -- wherever a job is, its row sends something next; at a device it puts this record next, and goes on by it; and it is
 -- no scan
@@ -120,7 +115,7 @@ asked_entries : (hears : List ℕ → List ℕ) (place : Place) (past : List Ent
     → NextAt hears place past (model.works c since)
     (with_end (addr_of place) (entry.Wire (addr_of place) sent heard) end)
 asked_entries hears (device d) past c since sent heard end asks heard_is end_is =
-    subst (λ r. RowEntries hears d past c since r (with_end d.addr (entry.Wire d.addr sent heard) end)) (sym asks.1)
+    subst (λ r. RowEntries hears d past c since r (with_end d.addr (entry.Wire d.addr sent heard) end)) (sym (asks.1 (model_order.order (lines_of d past))))
     (device_entries hears d past c since asks.0 sent heard end asks.2 heard_is end_is)
 asked_entries hears scans past c since sent heard end asks heard_is end_is =
     let a = addr_of scans in
@@ -151,7 +146,11 @@ asked_by hears place past old new state sent heard end kept told reported (model
       at = end_at_too (addr_of place) past e end (wire_at (addr_of place) past sent heard);
       keeps = left_keeps place kept new state past e end told reported settled
           (subst (Keeps place (Some new) state) (sym (own_wire place sent heard past))
-          (asked_keeps place c since state sent heard new (lines_at place past) after.1 was knows));
+          (asked_keeps place c since state sent heard new (dosed_at place past sent ++ lines_at place past)
+          (subst (StandsAt place new c (line_at place sent heard ∷ since)) (sym (epoch_dosed place past sent)) after.1)
+          (job_dosed place past sent ∙ was)
+          (knows_same place state (lines_at place past) (dosed_at place past sent ++ lines_at place past)
+          (epoch_dosed place past sent) knows)));
     }
 
 -- a job asks
@@ -175,67 +174,6 @@ ask_attempts gives before after addr old new state desk end report told reported
       (model.job (lines_at place past)) refl keeps.works keeps.knows needs talk.talks ends heard_is s) settled);
 }
 
--- whose record a job puts
-
-owner_chosen : (b z : Bool) (past : List Entry) (r s e : Record) (other : model.Row) (addr : ℕ) → owner past r ≡ addr
-    → owner past s ≡ addr → (other ≡ model.puts e → owner past e ≡ addr)
-    → model.put_or other (cond b (Broken r) (cond z Nothing (Reading s))) ≡ model.puts e → owner past e ≡ addr
-owner_chosen true z past r s e other addr own_r own_s own_other h =
-    let same : r ≡ e = cc in
-    ap (owner past) (sym same) ∙ own_r
-owner_chosen false true past r s e other addr own_r own_s own_other h = own_other h
-owner_chosen false false past r s e other addr own_r own_s own_other h =
-    let same : s ≡ e = cc in
-    ap (owner past) (sym same) ∙ own_s
-
-owner_judged : (addr : ℕ) (state : EpochState) (credits : Option Credits) (seen : Option ℕ) (other : model.Row)
-    (past : List Entry) (e : Record) → (other ≡ model.puts e → owner past e ≡ addr)
-    → model.put_or other (model.judged_by addr state credits seen) ≡ model.puts e → owner past e ≡ addr
-unfolding judge
-owner_judged addr (Running mask counter) (Some c) (Some seen) other past e own_other h =
-    owner_chosen _ _ past _ _ e other addr refl refl own_other h
-owner_judged addr (Running mask counter) (Some c) None other past e own_other h = own_other h
-owner_judged addr (Running mask counter) None seen other past e own_other h = own_other h
-owner_judged addr Idle credits seen other past e own_other h = own_other h
-
-own_put : (past : List Entry) (r e : Record) (addr : ℕ) → owner past r ≡ addr → model.puts r ≡ model.puts e
-    → owner past e ≡ addr
-own_put past r e addr own h =
-    let same : r ≡ e = cc in
-    ap (owner past) (sym same) ∙ own
-
-send_never_puts : (found : Option Request) (r : Record) → model.send_row found ≡ model.puts r → ⊥
-send_never_puts None r e = cc
-send_never_puts (Some q) r e = cc
-
-row_owner : (body : DeviceBody) (c : Command) (rows : ℕ) (state : EpochState) (credits : Option Credits)
-    (seen : Option ℕ) (past : List Entry) (e : Record)
-    → model.row_at body c rows (model.judged_by (model.address_of c) state credits seen) ≡ model.puts e
-    → owner past e ≡ model.address_of c
-row_owner body (command.Start addr mask) zero state credits seen past e h = absurd cc
-row_owner body (command.Start addr mask) (suc zero) state credits seen past e h = absurd cc
-row_owner body (command.Start addr mask) (suc (suc zero)) state credits seen past e h = own_put past _ e addr refl h
-row_owner body (command.Start addr mask) (suc (suc (suc zero))) state credits seen past e h = absurd cc
-row_owner body (command.Start addr mask) (suc (suc (suc (suc rows)))) state credits seen past e h = absurd cc
-row_owner body (command.Round addr) zero state credits seen past e h = absurd cc
-row_owner body (command.Round addr) (suc zero) state credits seen past e h = absurd cc
-row_owner body (command.Round addr) (suc (suc zero)) state credits seen past e h =
-    owner_judged addr state credits seen model.no_row past e (λ n. absurd cc) h
-row_owner body (command.Round addr) (suc (suc (suc rows))) state credits seen past e h = absurd cc
-row_owner body (command.Stop addr) zero state credits seen past e h = absurd cc
-row_owner body (command.Stop addr) (suc zero) state credits seen past e h = absurd cc
-row_owner body (command.Stop addr) (suc (suc zero)) state credits seen past e h = absurd cc
-row_owner body (command.Stop addr) (suc (suc (suc zero))) state credits seen past e h =
-    owner_judged addr state credits seen _ past e (λ n. own_put past _ e addr refl n) h
-row_owner body (command.Stop addr) (suc (suc (suc (suc zero)))) state credits seen past e h =
-    own_put past _ e addr refl h
-row_owner body (command.Stop addr) (suc (suc (suc (suc (suc rows))))) state credits seen past e h = absurd cc
-row_owner body (command.Ident addr) rows state credits seen past e h = absurd (send_never_puts _ e h)
-row_owner body (command.Path addr place path) zero state credits seen past e h = absurd cc
-row_owner body (command.Path addr place path) (suc zero) state credits seen past e h = absurd cc
-row_owner body (command.Path addr place path) (suc (suc rows)) state credits seen past e h = absurd cc
-row_owner body c rows state credits seen past e h = absurd cc
-
 -- what a put leaves
 put_by : (hears : List ℕ → List ℕ) (place : Place) (past : List Entry) (old new : Job) (r : Record)
     (state last : EpochState) (end : Option End) (kept : Option Job) (told reported : List Entry) (j : model.Job)
@@ -252,13 +190,13 @@ put_by hears (device d) past old new r state last end kept told reported (model.
     needs no_scan goes ends settled =
     let n = model.epoch (lines_of d past) in
     let puts = needs d c since n works in
-    let own : owner past r ≡ d.addr = row_owner d.body c (model.done since) n (model.credits_read since)
-    (model.mask_read since) past r puts.row_is ∙ puts.is_here in
+    let own : owner past r ≡ d.addr = puts.owned past in
     let end_is : end ≡ model.end_of d c (line.put r) since n =
     ends (device d) c (line.put r) since n (goes d c since n n works) in
     record {
       entries = subst (λ k. NextAt hears (device d) past k (with_end d.addr (entry.Put r) end)) (sym was)
-          (subst (λ x. RowEntries hears d past c since x (with_end d.addr (entry.Put r) end)) (sym puts.row_is)
+          (subst (λ x. RowEntries hears d past c since x (with_end d.addr (entry.Put r) end))
+          (sym (puts.row_is (model_order.order (lines_of d past))))
           (ap (with_end d.addr (entry.Put r)) end_is));
       at = end_at_too d.addr past (entry.Put r) end (put_at d.addr past r own);
       keeps = left_keeps (device d) kept new last past (entry.Put r) end told reported settled

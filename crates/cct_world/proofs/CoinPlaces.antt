@@ -4,7 +4,7 @@ use Rattle.std.specs.List.{find}
 use Rattle.std.proofs.lemmas.Bool.{cases_eq, eqb-true}
 use Rattle.std.proofs.lemmas.List.{drop_more}
 use Rattle.cct_model.specs.terms.device.DeviceBody.{DeviceBody}
-use Rattle.cct_model.specs.Legal.{coin_places}
+use Rattle.cct_model.specs.Job.{coin_places}
 use Rattle.cct_world.specs.CoinPlaces.{lacks}
 
 -- the first such place from one on

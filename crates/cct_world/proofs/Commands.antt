@@ -17,7 +17,8 @@ use Rattle.cct_model.specs.Device.{is_acceptor}
 use Rattle.cct_model.specs.Exchange.{acceptor_there, device_at}
 use Rattle.cct_model.specs.Job as model
 use Rattle.cct_model.specs.Job.{address_of}
-use Rattle.cct_model.specs.Legal.{at_acceptor, at_device, busy, is_played_command, refusal, running_refusal, start_refusal, when_free}
+use Rattle.cct_model.specs.Legal.{is_played_command}
+use Rattle.cct_model.specs.Refusal.{at_acceptor, at_device, busy, refusal, running_refusal, start_refusal, when_free}
 use Rattle.cct_model.specs.Transcript.{lines_of, scan_lines}
 use Rattle.cct_jobs.specs.declared.job.Job.{Job}
 use Rattle.cct_jobs.specs.Jobs.{IsRunning, MayBegin, Stands}
@@ -62,20 +63,20 @@ plain_refusal found d job state past is keeps =
 
 -- the tests of a command at a device
 refusal_is : (setup : Setup) (d : DeviceSetup) (job : Option Job) (state : EpochState) (past : List Entry) (c : Command)
-    → c ≢ command.Scan → device_at setup.devices (address_of c) ≡ Some d
-    → Keeps (device d) job state (lines_of d past) → refusal_beside d job state c ≡ refusal setup past c
-refusal_is setup d job state past (command.Start addr mask) no_scan there keeps =
+    → c ≢ command.Scan → IsTrue (is_played_command c) → device_at setup.devices (address_of c) ≡ Some d
+    → Keeps (device d) job state (lines_of d past) → refusal_beside d job state c ≡ refusal None setup past c
+refusal_is setup d job state past (command.Start addr mask) no_scan played there keeps =
     free_refusal _ d job state past (start_refusal mask) there keeps
-refusal_is setup d job state past (command.Round addr) no_scan there keeps =
+refusal_is setup d job state past (command.Round addr) no_scan played there keeps =
     free_refusal _ d job state past running_refusal there keeps
-refusal_is setup d job state past (command.Stop addr) no_scan there keeps =
+refusal_is setup d job state past (command.Stop addr) no_scan played there keeps =
     free_refusal _ d job state past running_refusal there keeps
-refusal_is setup d job state past (command.Path addr place path) no_scan there keeps =
+refusal_is setup d job state past (command.Path addr place path) no_scan played there keeps =
     plain_refusal _ d job state past there keeps
-refusal_is setup d job state past (command.Ident addr) no_scan there keeps =
+refusal_is setup d job state past (command.Ident addr) no_scan played there keeps =
     busy_is (device d) job _ _ keeps.works ∙ sym (ap (λ f. at_device f (λ e. busy (model.job (lines_of e past)))) there)
-refusal_is setup d job state past command.Scan no_scan there keeps = absurd (no_scan refl)
-refusal_is setup d job state past c no_scan there keeps = refl
+refusal_is setup d job state past command.Scan no_scan played there keeps = absurd (no_scan refl)
+refusal_is setup d job state past c no_scan played there keeps = absurd cc
 
 -- what isn't refused may begin
 free_by : (kind : Bool) (job further : Option CommandNo) → cond kind (option_or job further) (Some WrongKind) ≡ None
@@ -136,37 +137,37 @@ address_there (e ∷ es) addr d is = there_by (e.addr == addr) e d (device_at es
 
 -- a command at a device
 pub command_taken : (setup : Setup) (d : DeviceSetup) (c : Command) (before : Option Job) (job : Job)
-    (state : EpochState) (past : List Entry) → c ≢ command.Scan
+    (state : EpochState) (past : List Entry) → c ≢ command.Scan → IsTrue (is_played_command c)
     → device_at setup.devices (address_of c) ≡ Some d → refusal_beside d before state c ≡ None
     → MayBegin c setup.devices state → Stands d job c [] state
     → Keeps (device d) before state (lines_of d past)
-    → (None ≡ refusal setup past c) × Keeps (device d) (Some job) state (lines_of d (entry.Taken c ∷ past))
-command_taken setup d c before job state past no_scan there free may stands keeps = (
-  sym free ∙ refusal_is setup d before state past c no_scan there keeps,
+    → (None ≡ refusal None setup past c) × Keeps (device d) (Some job) state (lines_of d (entry.Taken c ∷ past))
+command_taken setup d c before job state past no_scan played there free may stands keeps = (
+  sym free ∙ refusal_is setup d before state past c no_scan played there keeps,
   taken_keeps (device d) c job state past (sym (address_there setup.devices (address_of c) d there))
       (begins_own c setup.devices state _ may)
       (subst (λ n. Stands d job c [] n) keeps.knows stands) keeps.knows,
 )
 
 pub command_refused : (setup : Setup) (d : DeviceSetup) (c : Command) (job : Option Job) (state : EpochState)
-    (past : List Entry) (why : CommandNo) → c ≢ command.Scan
+    (past : List Entry) (why : CommandNo) → c ≢ command.Scan → IsTrue (is_played_command c)
     → device_at setup.devices (address_of c) ≡ Some d → refusal_beside d job state c ≡ Some why
     → Keeps (device d) job state (lines_of d past)
-    → (Some why ≡ refusal setup past c) × Keeps (device d) job state (lines_of d (entry.No c why ∷ past))
-command_refused setup d c job state past why no_scan there is keeps = (
-  sym is ∙ refusal_is setup d job state past c no_scan there keeps,
+    → (Some why ≡ refusal None setup past c) × Keeps (device d) job state (lines_of d (entry.No c why ∷ past))
+command_refused setup d c job state past why no_scan played there is keeps = (
+  sym is ∙ refusal_is setup d job state past c no_scan played there keeps,
   keeps_quiet (device d) job state past
       (entry.No c why) (refused_quiet past c why) keeps,
 )
 
 -- a scan
 scan_refusal : (setup : Setup) (c : Command) (job : Option Job) (state : EpochState) (past : List Entry)
-    → c ≡ command.Scan → Keeps scans job state (scan_lines past) → busy_by job ≡ refusal setup past c
-scan_refusal setup c job state past is keeps = busy_is scans job _ _ keeps.works ∙ sym (ap (refusal setup past) is)
+    → c ≡ command.Scan → Keeps scans job state (scan_lines past) → busy_by job ≡ refusal None setup past c
+scan_refusal setup c job state past is keeps = busy_is scans job _ _ keeps.works ∙ sym (ap (refusal None setup past) is)
 
 pub scan_taken : (setup : Setup) (c : Command) (before : Option Job) (job : Job) (state : EpochState)
     (past : List Entry) → c ≡ command.Scan → busy_by before ≡ None → StandsScan job []
-    → Keeps scans before state (scan_lines past) → (None ≡ refusal setup past c) × Keeps scans (Some job) state
+    → Keeps scans before state (scan_lines past) → (None ≡ refusal None setup past c) × Keeps scans (Some job) state
     (scan_lines (entry.Taken c ∷ past))
 scan_taken setup c before job state past is free stands keeps = (
   sym free ∙ scan_refusal setup c before state past is keeps,
@@ -176,7 +177,7 @@ scan_taken setup c before job state past is free stands keeps = (
 
 pub scan_refused : (setup : Setup) (c : Command) (job : Option Job) (state : EpochState) (past : List Entry)
     (why : CommandNo) → c ≡ command.Scan → busy_by job ≡ Some why
-    → Keeps scans job state (scan_lines past) → (Some why ≡ refusal setup past c) × Keeps scans job state
+    → Keeps scans job state (scan_lines past) → (Some why ≡ refusal None setup past c) × Keeps scans job state
     (scan_lines (entry.No c why ∷ past))
 scan_refused setup c job state past why is refused keeps = (
   sym refused ∙ scan_refusal setup c job state past is keeps,
@@ -186,7 +187,7 @@ scan_refused setup c job state past why is refused keeps = (
 
 -- no device
 pub absent_refused : (setup : Setup) (past : List Entry) (c : Command) → IsTrue (is_played_command c) → c ≢ command.Scan
-    → device_at setup.devices (address_of c) ≡ None → Some NoDevice ≡ refusal setup past c
+    → device_at setup.devices (address_of c) ≡ None → Some NoDevice ≡ refusal None setup past c
 absent_refused setup past (command.Start addr mask) played no_scan none =
     sym (ap (λ f. at_acceptor f (when_free past (start_refusal mask))) none)
 absent_refused setup past (command.Round addr) played no_scan none =

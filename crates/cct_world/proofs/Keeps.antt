@@ -16,31 +16,32 @@ use Rattle.cct_model.specs.Transcript.{lines_of, owner}
 use Rattle.cct_jobs.specs.declared.job.Job.{Job}
 use Rattle.cct_jobs.specs.Jobs.{Stands}
 use Rattle.cct_world.specs.Desk.{Keeps, Knows, Works}
-use Rattle.cct_world.specs.Place.{Place, StandsAt, addr_of, device, line_at, lines_at, scans}
+use Rattle.cct_world.specs.Place.{IsAsBefore, Place, StandsAt, addr_of, device, line_at, lines_at, scans}
 use Rattle.cct_world.specs.Running.{Settles}
 use Rattle.cct_world.proofs.Lines.{IsQuiet, job_asked, own_ended, own_put, own_taken}
 
 -- what is known of an epoch, where it stays
-knows_same : (place : Place) (state : EpochState) (old new : List Line) → model.epoch new ≡ model.epoch old
+pub knows_same : (place : Place) (state : EpochState) (old new : List Line) → model.epoch new ≡ model.epoch old
     → Knows place state old → Knows place state new
 knows_same (device d) state old new same knows = knows ∙ sym same
 knows_same scans state old new same knows = tt
 
--- after an entry of another place
+-- after entries that change no job and no epoch there
 pub keeps_other : (place : Place) (job : Option Job) (state : EpochState) (past news : List Entry)
-    → lines_at place (news ++ past) ≡ lines_at place past
+    → IsAsBefore place past news
     → Keeps place job state (lines_at place past) → Keeps place job state (lines_at place (news ++ past))
-keeps_other place job state past news same keeps = subst (Keeps place job state) (sym same) keeps
+keeps_other place job state past news same keeps = record {
+  works = subst (λ j. Works place job j (model.epoch (lines_at place (news ++ past)))) (sym same.0)
+      (subst (λ n. Works place job (model.job (lines_at place past)) n) (sym same.1) keeps.works);
+  knows = knows_same place state _ _ same.1 keeps.knows;
+}
 
 -- after an entry that changes no job and no epoch
 pub keeps_quiet : (place : Place) (job : Option Job) (state : EpochState) (past : List Entry) (e : Entry)
     → IsQuiet past e
     → Keeps place job state (lines_at place past) → Keeps place job state (lines_at place (e ∷ past))
-keeps_quiet place job state past e quiet keeps = record {
-  works = subst (λ j. Works place job j (model.epoch (lines_at place (e ∷ past)))) (sym (quiet.jobs place))
-      (subst (λ n. Works place job (model.job (lines_at place past)) n) (sym (quiet.epochs place)) keeps.works);
-  knows = knows_same place state _ _ (quiet.epochs place) keeps.knows;
-}
+keeps_quiet place job state past e quiet keeps =
+    keeps_other place job state past (e ∷ []) (quiet.jobs place, quiet.epochs place) keeps
 
 -- after an exchange
 pub asked_keeps : (place : Place) (c : Command) (since : List Line) (state : EpochState) (sent heard : List ℕ)

@@ -8,7 +8,7 @@ use Rattle.std.proofs.lemmas.List.{take_at}
 use Rattle.std.proofs.lemmas.List.Elements.{All-get_or, All-head, All-tail}
 use Rattle.std.proofs.lemmas.List.Quantifiers.{position-Some}
 use Rattle.std.proofs.lemmas.List.Sums.{fails_before_first}
-use Rattle.cct_model.specs.terms.wire.TheConstants.{BROADCAST}
+use Rattle.cct_model.specs.terms.wire.TheConstants.{BROADCAST, HOST}
 use Rattle.cct_model.specs.terms.device.DeviceSetup.{DeviceSetup}
 use Rattle.cct_model.specs.terms.device.Setup.{Setup}
 use Rattle.cct_model.specs.lines.entry.Entry.{Entry}
@@ -152,6 +152,20 @@ no_device_at_zero (e ∷ es) sound =
 
 not_zero : (a : ℕ) → 2 ≤ a → BROADCAST ≢ a
 not_zero a low is = omega (arith, low, is)
+
+not_host : (a : ℕ) → 2 ≤ a → a ≢ HOST
+not_host a low is = omega (arith, low, is)
+
+-- no device is at the host's own address, nor is a scan
+pub device_apart : (setup : Setup) (i : ℕ) (d : DeviceSetup) (addr : ℕ) → IsSoundSetup setup
+    → position (is_at addr) setup.devices ≡ Some i → d ≡ get_or setup.devices i d → addr ≢ HOST
+device_apart setup i d addr sound found is =
+    let place = device_found setup.devices i d addr found is in
+    let low : 2 ≤ d.addr = (subst IsSound (sym is) (All-get_or IsSound setup.devices i d place.0 sound.devices)).low in
+    subst (λ a. a ≢ HOST) place.2 (not_host d.addr low)
+
+pub scan_apart : BROADCAST ≢ HOST
+scan_apart is = omega (arith, is)
 
 -- a list that was lent, where one desk changed
 pub refilled : (ks items : List JobDesk) (i : ℕ) (x : JobDesk) → items ≡ ks

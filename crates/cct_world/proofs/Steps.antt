@@ -15,7 +15,8 @@ use Rattle.cct_model.specs.lines.entry.Entry.TheVariants as entry
 use Rattle.cct_model.specs.Acceptor.{accepts}
 use Rattle.cct_model.specs.Device.{is_acceptor}
 use Rattle.cct_model.specs.Exchange.{acceptor_there}
-use Rattle.cct_model.specs.Legal.{BareNext, EntriesOfNext, OfAcceptor, OfDevice, OfNext, ScanEntries, coin_entry, command_entry, is_played_command, refusal, with_end}
+use Rattle.cct_model.specs.Legal.{BareNext, EntriesOfNext, OfAcceptor, OfDevice, OfNext, ScanEntries, coin_entry, command_entry, with_end}
+use Rattle.cct_model.specs.Refusal.{refusal}
 use Rattle.cct_model.specs.Job.{job}
 use Rattle.cct_model.specs.Transcript.{heard_after, met, scan_lines}
 use Rattle.cct_acceptor.specs.declared.acceptor.Inserted.{Inserted}
@@ -29,7 +30,7 @@ use Rattle.cct_world.specs.Coin.{entry_of}
 use Rattle.cct_world.specs.Host as hosts
 use Rattle.cct_world.specs.Place.{scans}
 use Rattle.cct_world.proofs.Keeps.{keeps_quiet}
-use Rattle.cct_world.proofs.Lines.{IsQuiet, accepted_quiet, inhibited_quiet}
+use Rattle.cct_world.proofs.Lines.{IsQuiet, accepted_quiet, inhibited_quiet, unsold}
 use Rattle.cct_world.proofs.Places.{desks_quiet}
 
 -- an entry that changes no job and no epoch
@@ -39,6 +40,7 @@ host_quiet host past e quiet stands = record {
   sound = stands.sound;
   desks = desks_quiet _ _ past e quiet stands.desks;
   scan = keeps_quiet scans _ _ past e quiet stands.scan;
+  unsold = unsold past e quiet.sales stands.unsold;
 }
 
 -- an end, an idle address, a record and a command change nothing on the wire
@@ -146,17 +148,13 @@ of_device (Some d) A there a = a
 
 -- a command
 pub command_goes : (setup : Setup) (host : Host) (bus : Bus) (past : List Entry) (c : Command)
-    (refused : Option CommandNo) (report : List Entry) → IsTrue (is_played_command c) → refused ≡ refusal setup past c
+    (refused : Option CommandNo) (report : List Entry) → refused ≡ refusal None setup past c
     → hosts.StandsFor host (command_entry c refused ∷ past) → wires.StandsFor bus past
     → report ≡ command_entry c refused ∷ []
-    → MatchBool (is_played_command c) (reverse report ≡ command_entry c (refusal setup past c) ∷ []) ⊥
-    × Left host bus past report
-command_goes setup host bus past c refused report played answer stands wired is =
-    subst (λ r. MatchBool (is_played_command c) (reverse r ≡ command_entry c (refusal setup past c) ∷ []) ⊥
-    × Left host bus past r) (sym is) (
-      match_true (is_played_command c) _ played (ap (λ n. command_entry c n ∷ []) answer),
-      (stands, command_wire bus past c refused wired),
-    )
+    → (reverse report ≡ command_entry c (refusal None setup past c) ∷ []) × Left host bus past report
+command_goes setup host bus past c refused report answer stands wired is =
+    subst (λ r. (reverse r ≡ command_entry c (refusal None setup past c) ∷ []) × Left host bus past r) (sym is)
+    (ap (λ n. command_entry c n ∷ []) answer, (stands, command_wire bus past c refused wired))
 
 -- a coin
 

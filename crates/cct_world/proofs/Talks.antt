@@ -1,11 +1,12 @@
 -- What one exchange of a job does, told by what its calls make.
-use Rattle.std.proofs.Common.{◌≡◌, ℕ, List, [], ◌∷◌, ◌++◌, length, set, Some, refl, sym, ap, subst, ◌∙◌}
+use Rattle.std.proofs.Common.{None, Option, ◌≡◌, ℕ, List, [], ◌∷◌, ◌++◌, length, set, Some, refl, sym, ap, subst, ◌∙◌}
 use Rattle.cct_model.specs.terms.wire.CheckKind.{CheckKind}
 use Rattle.cct_model.specs.terms.device.DeviceSetup.{DeviceSetup}
 use Rattle.cct_model.specs.terms.request.Request.{Request}
 use Rattle.cct_model.specs.lines.command.Command.{Command}
 use Rattle.cct_model.specs.lines.entry.Entry.{Entry}
 use Rattle.cct_model.specs.declared.judging.EpochState.{EpochState}
+use Rattle.cct_model.specs.declared.judging.OpenOrder.{OpenOrder}
 use Rattle.cct_model.specs.Exchange.{ask}
 use Rattle.cct_model.specs.Line.{Line}
 use Rattle.cct_model.specs.Job.{row, sends}
@@ -34,14 +35,14 @@ as_lent place new c since state sent heard piece rest piece_is rest_is after =
 
 -- a job sends what its row asks, and hears what follows
 pub talks : (old same new : Job) (s : Sending) (sent heard piece rest : List ℕ) → same ≡ old
-    → ((d : DeviceSetup) (c : Command) (since : List Line) (state : EpochState) (q : Request)
-    → Stands d old c since state → row d c since state ≡ sends q
+    → ((d : DeviceSetup) (c : Command) (since : List Line) (state : EpochState)
+    (owed : Option OpenOrder) (q : Request) → Stands d old c since state → row d c since state owed ≡ sends q
     → s ≡ record { to = d.addr; kind = d.kind; request = q })
     → ((since : List Line) (check : CheckKind) (addr : ℕ) → StandsScan old since → scan_row since ≡ Some (check, addr)
     → s ≡ record { to = addr; kind = check; request = poll_of addr })
     → sent ≡ ask s.kind s.to s.request → piece ≡ sent → rest ≡ heard
-    → ((d : DeviceSetup) (c : Command) (since : List Line) (state : EpochState) (q : Request)
-    → Stands d same c since state → row d c since state ≡ sends q → piece ≡ ask d.kind d.addr q
+    → ((d : DeviceSetup) (c : Command) (since : List Line) (state : EpochState)
+    (owed : Option OpenOrder) (q : Request) → Stands d same c since state → row d c since state owed ≡ sends q → piece ≡ ask d.kind d.addr q
     → Stands d new c (line_heard d piece rest ∷ since) state)
     → ((since : List Line) (check : CheckKind) (addr : ℕ) → StandsScan same since → scan_row since ≡ Some (check, addr)
     → piece ≡ ask check addr (poll_of addr) → StandsScan new (scan_line piece rest ∷ since))
@@ -50,10 +51,11 @@ talks old same new s sent heard piece rest kept asks polls is_ask piece_is rest_
     state stands needs =
     let q = needs.request in
     let sent_is : sent ≡ ask d.kind d.addr q = spelled s sent d.kind d.addr q is_ask
-    (asks d c since state q stands needs.row_is) in (
+    (asks d c since state None q stands (needs.row_is None)) in (
       (q, needs.row_is, sent_is),
       as_lent (device d) new c since state sent heard piece rest piece_is rest_is
-          (hears d c since state q (subst (λ j. Stands d j c since state) (sym kept) stands) needs.row_is
+          (hears d c since state None q (subst (λ j. Stands d j c since state) (sym kept) stands)
+          (needs.row_is None)
           (piece_is ∙ sent_is)),
     )
 talks old same new s sent heard piece rest kept asks polls is_ask piece_is rest_is hears scanned scans c since state

@@ -9,7 +9,8 @@ use Rattle.cct_model.specs.declared.judging.EpochState.{EpochState}
 use Rattle.cct_model.specs.declared.judging.EpochState.TheVariants.{Idle}
 use Rattle.cct_model.specs.Line.{Line}
 use Rattle.cct_model.specs.Job as model
-use Rattle.cct_model.specs.Legal.{command_entry, refusal}
+use Rattle.cct_model.specs.Legal.{command_entry}
+use Rattle.cct_model.specs.Refusal.{refusal}
 use Rattle.cct_jobs.specs.declared.job.Job.{Job}
 use Rattle.cct_world.specs.declared.desk.JobDesk.{JobDesk}
 use Rattle.cct_world.specs.Attempt.{Attempt, HeardBy, Links, news_of}
@@ -55,7 +56,7 @@ no_of (Err why) = Some why
 -- A command at a place is taken or refused as it has to be, and the desk there goes on by its entry.
 abbrev pub Commands : Setup → Place → JobDesk → JobDesk → Command → Result Unit CommandNo → Type 0
 Commands setup place old new c result =
-    (past : List Entry) → Sits past place old → (no_of result ≡ refusal setup past c) × Sits
+    (past : List Entry) → Sits past place old → (no_of result ≡ refusal None setup past c) × Sits
     (command_entry c (no_of result) ∷ past) place new
 
 -- Entries of an attempt, newest first, are those of a `next` at a place and of its address alone, and its job and its

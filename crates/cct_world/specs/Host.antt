@@ -1,26 +1,28 @@
 -- A host that stands for all that happened.
-use Rattle.std.specs.Prelude.{◌≡◌, ℕ, List, ◌∷◌, ◌++◌, Result, reverse}
+use Rattle.std.specs.Prelude.{◌≡◌, ℕ, List, ◌∷◌, ◌++◌, None, Result, reverse}
 use Rattle.cct_model.specs.terms.device.Setup.{Setup}
 use Rattle.cct_model.specs.lines.command.Command.{Command}
 use Rattle.cct_model.specs.lines.command.CommandNo.{CommandNo}
 use Rattle.cct_model.specs.lines.entry.Entry.{Entry}
-use Rattle.cct_model.specs.Legal.{EntriesOfNext, command_entry, refusal}
+use Rattle.cct_model.specs.Legal.{EntriesOfNext, command_entry}
+use Rattle.cct_model.specs.Refusal.{refusal}
 use Rattle.cct_model.specs.Setup.{IsSoundSetup}
 use Rattle.cct_world.specs.declared.host.Host.{Host}
 use Rattle.cct_world.specs.Attempt.{Attempt, HeardBy, Links, news_of}
 use Rattle.cct_world.specs.Desk.{AllSit, Sits, no_of}
-use Rattle.cct_world.specs.Place.{scans}
+use Rattle.cct_world.specs.Place.{HasNoSale, scans}
 
 -- The setup of a host.
 abbrev pub setup_of : Host → Setup
 setup_of host = host.setup.now
 
 -- A host stands for a transcript, newest entry first: its setup is sound, each desk has the job and the epoch that the
--- lines of its device tell, and the scan is that of the lines of address 0.
+-- lines of its device tell, the scan is that of the lines of address 0, and no sale is under way.
 pub record StandsFor (host : Host) (past : List Entry) : Type 0 where
   pub sound : IsSoundSetup (setup_of host)
   pub desks : AllSit past (setup_of host).devices host.desks.items
   pub scan : Sits past scans host.scan
+  pub unsold : HasNoSale past
 
 -- Nothing changed.
 abbrev pub Stays : Host → Host → Type 0
@@ -30,7 +32,7 @@ Stays old new = (new.setup ≡ old.setup) × (new.desks.items ≡ old.desks.item
 abbrev pub Answers : Host → Host → Command → Result Unit CommandNo → Type 0
 Answers old new c result =
     (past : List Entry) → StandsFor old past
-    → (no_of result ≡ refusal (setup_of old) past c) × StandsFor new (command_entry c (no_of result) ∷ past)
+    → (no_of result ≡ refusal None (setup_of old) past c) × StandsFor new (command_entry c (no_of result) ∷ past)
 
 -- A `next` at an address makes one attempt over a link. What it adds to the report are the entries of a `next` after
 -- whatever happened, where what it heard is what follows the piece that it sent, and the host goes on by them.

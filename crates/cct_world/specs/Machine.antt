@@ -1,5 +1,5 @@
 -- A host and a bus that stand for all that happened on them.
-use Rattle.std.specs.Prelude.{List, ◌++◌, reverse}
+use Rattle.std.specs.Prelude.{List, ◌++◌, None, reverse}
 use Rattle.cct_model.specs.terms.device.Setup.{Setup}
 use Rattle.cct_model.specs.lines.command.Step.{Step}
 use Rattle.cct_model.specs.lines.entry.Entry.{Entry}
@@ -19,7 +19,7 @@ pub record StandsFor (machine : Machine) (past : List Entry) : Type 0 where
 
 -- These entries, oldest first, are those of a step after a past, and a machine goes on by them.
 abbrev pub Goes : Setup → Machine → List Entry → Step → List Entry → Type 0
-Goes setup new past s report = Entries setup past s (reverse report) × StandsFor new (reverse report ++ past)
+Goes setup new past s report = Entries None setup past s (reverse report) × StandsFor new (reverse report ++ past)
 
 -- A step gives these entries, oldest first, whatever is behind it.
 abbrev pub Plays : Machine → Machine → Step → List Entry → Type 0

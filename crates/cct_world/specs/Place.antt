@@ -8,12 +8,13 @@ use Rattle.cct_model.specs.lines.command.Command.{Command}
 use Rattle.cct_model.specs.lines.entry.End.{End}
 use Rattle.cct_model.specs.lines.entry.Entry.{Entry}
 use Rattle.cct_model.specs.declared.judging.EpochState.{EpochState}
+use Rattle.cct_model.specs.declared.judging.OpenOrder.{OpenOrder}
 use Rattle.cct_model.specs.Exchange.{ask}
 use Rattle.cct_model.specs.Line.{Line}
 use Rattle.cct_model.specs.Job as model
 use Rattle.cct_model.specs.Scan.{end_of_scan, poll_of, scan_row}
 use Rattle.cct_model.specs.Legal.{NextEntries, ScanEntries}
-use Rattle.cct_model.specs.Transcript.{lines_of, scan_line, scan_lines}
+use Rattle.cct_model.specs.Transcript.{lines_of, sale_lines, scan_line, scan_lines}
 use Rattle.cct_jobs.specs.declared.job.Job.{Job}
 use Rattle.cct_jobs.specs.Jobs.{SendsNext, Stands, line_heard}
 use Rattle.cct_jobs.specs.Scans.{PollsNext, StandsScan}
@@ -51,7 +52,7 @@ AsksNext scans c since state = PollsNext since
 -- This piece is what the row of a job at a place sends.
 abbrev pub Asks : Place → Command → List Line → EpochState → List ℕ → Type 0
 Asks (device d) c since state sent =
-    (q : Request) × (model.row d c since state ≡ model.sends q) × (sent ≡ ask d.kind d.addr q)
+    (q : Request) × ((owed : Option OpenOrder) → model.row d c since state owed ≡ model.sends q) × (sent ≡ ask d.kind d.addr q)
 Asks scans c since state sent =
     (poll : CheckKind × ℕ) × (scan_row since ≡ Some poll) × (sent ≡ ask poll.0 poll.1 (poll_of poll.1))
 
@@ -65,6 +66,16 @@ abbrev pub NextAt : (List ℕ → List ℕ) → Place → List Entry → model.J
 NextAt hears (device d) past job news = NextEntries hears d past job news
 NextAt hears scans past job news = ScanEntries hears job news
 
--- Entries are of one address: they are lines of no place at another one.
+-- Entries change no job and no epoch at a place.
+abbrev pub IsAsBefore : Place → List Entry → List Entry → Type 0
+IsAsBefore place past news =
+    (model.job (lines_at place (news ++ past)) ≡ model.job (lines_at place past))
+    × (model.epoch (lines_at place (news ++ past)) ≡ model.epoch (lines_at place past))
+
+-- Entries are of one address: they change no job and no epoch at another one.
 abbrev pub AreAt : ℕ → List Entry → List Entry → Type 0
-AreAt addr past news = (place : Place) → addr_of place ≢ addr → lines_at place (news ++ past) ≡ lines_at place past
+AreAt addr past news = (place : Place) → addr_of place ≢ addr → IsAsBefore place past news
+
+-- No sale is under way: the host makes none yet.
+abbrev pub HasNoSale : List Entry → Type 0
+HasNoSale past = model.job (sale_lines past) ≡ model.free

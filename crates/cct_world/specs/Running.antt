@@ -11,7 +11,7 @@ use Rattle.cct_model.specs.lines.entry.Entry.{Entry}
 use Rattle.cct_model.specs.lines.entry.Entry.TheVariants as entry
 use Rattle.cct_model.specs.declared.judging.EpochState.{EpochState}
 use Rattle.cct_model.specs.Device.{is_acceptor}
-use Rattle.cct_model.specs.Legal.{running_refusal, start_refusal}
+use Rattle.cct_model.specs.Refusal.{running_refusal, start_refusal}
 use Rattle.cct_jobs.specs.declared.job.Job.{Job}
 use Rattle.cct_jobs.specs.Jobs.{end_of_job}
 

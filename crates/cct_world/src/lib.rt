@@ -10,6 +10,3 @@ mod world;
 
 pub use host::Host;
 pub use world::World;
-
-#[cfg(test)]
-mod tests;

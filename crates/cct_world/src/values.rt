@@ -1,6 +1,6 @@
 //! The values of an acceptor's coin places.
 ghost use Rattle.std.specs.Prelude.{◌≡◌, ◌≤◌, ◌==◌, ◌&&◌, ℕ};
-ghost use Rattle.cct_model.specs.Legal as legal;
+ghost use Rattle.cct_model.specs.Refusal as refusal;
 ghost use Rattle.cct_world.specs.CoinPlaces.{lacks};
 
 use cct_model::{COIN_PLACES, DeviceBody, has_place};
@@ -11,7 +11,7 @@ const LAST_PLACE: u8 = COIN_PLACES as u8;
 /// The least coin place of an inhibit mask that has no value at a device, or none.
 #[tactic(auto, using(crate::proofs::CoinPlaces::found_here, crate::proofs::CoinPlaces::found_behind))]
 pub(crate) fn valueless(body: &DeviceBody, mask: u16) -> Option<u8>
-    ensures { result ≡ legal.valueless body.now mask }
+    ensures { result ≡ refusal.valueless body.now mask }
 {
     for place in 1..LAST_PLACE + 1 {
         if lacks(body, mask, place) {

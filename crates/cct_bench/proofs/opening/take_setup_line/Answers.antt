@@ -6,7 +6,8 @@ use Rattle.cct_bench.proofs.opening.take_setup_line.Goals as goal
 
 pub returns-then-not-is_setup_word : goal.returns-then-not-is_setup_word
 returns-then-not-is_setup_word c = record {
-  reads = other_setup_word c.args.setup.now c.args.line.now (ap is_setup_word (sym c.word_of.ensures) ∙ (sym c.is_setup_word.ensures ∙ c.if-not-is_setup_word.true));
+  reads = other_setup_word c.args.setup.now c.args.line.now
+      (ap is_setup_word (sym c.word_of.ensures) ∙ (sym c.is_setup_word.ensures ∙ c.if-not-is_setup_word.true));
 }
 
 pub returns-in_err-said : goal.returns-in_err-said
@@ -14,24 +15,34 @@ returns-in_err-said c =
     let setup = c.args.setup.now in
     let line = c.args.line.now in
     let why = c.in_err-said.field-0.0 in
-    let today = ap is_setup_word (sym c.word_of.ensures) ∙ (sym c.is_setup_word.ensures ∙ c.if-not-is_setup_word.false) in
-    record { reads = setup_passes setup setup line c.from_residual.result why c.from_residual.ensures (setup_refused setup line why today (sym c.in_err-said.ensures.value)) }
+    let today = ap is_setup_word (sym c.word_of.ensures)
+    ∙ (sym c.is_setup_word.ensures ∙ c.if-not-is_setup_word.false) in
+    record {
+      reads =
+          setup_passes setup setup line c.from_residual.result why c.from_residual.ensures
+          (setup_refused setup line why today (sym c.in_err-said.ensures.value));
+    }
 
 pub returns-in_err-add : goal.returns-in_err-add
 returns-in_err-add c =
     let setup = c.args.setup.now in
     let line = c.args.line.now in
     let why = c.in_err-add.field-0.0 in
-    let today = ap is_setup_word (sym c.word_of.ensures) ∙ (sym c.is_setup_word.ensures ∙ c.if-not-is_setup_word.false) in
+    let today = ap is_setup_word (sym c.word_of.ensures)
+    ∙ (sym c.is_setup_word.ensures ∙ c.if-not-is_setup_word.false) in
     record {
-      reads = setup_passes setup c.add.new.setup line c.from_residual-in_err-add.result why c.from_residual-in_err-add.ensures
-          (setup_adds_not setup line c.in_ok-said.said why today (sym c.in_ok-said.ensures.value) c.in_err-add.ensures.adds.0);
+      reads = setup_passes setup c.add.new.setup line c.from_residual-in_err-add.result why
+          c.from_residual-in_err-add.ensures
+          (setup_adds_not setup line c.in_ok-said.said why today (sym c.in_ok-said.ensures.value)
+          c.in_err-add.ensures.adds.0);
     }
 
 pub returns : goal.returns
 returns c =
-    let today = ap is_setup_word (sym c.word_of.ensures) ∙ (sym c.is_setup_word.ensures ∙ c.if-not-is_setup_word.false) in
+    let today = ap is_setup_word (sym c.word_of.ensures)
+    ∙ (sym c.is_setup_word.ensures ∙ c.if-not-is_setup_word.false) in
     record {
-      reads = setup_adds c.args.setup.now c.add.new.setup c.args.line.now c.in_ok-said.said today (sym c.in_ok-said.ensures.value) c.in_ok-add.ensures.adds
+      reads = setup_adds c.args.setup.now c.add.new.setup c.args.line.now c.in_ok-said.said today
+          (sym c.in_ok-said.ensures.value) c.in_ok-add.ensures.adds
           ∙ ap (λ opened. opens (stage_of opened c.add.new.setup)) (sym c.opened_by.ensures);
     }

@@ -14,14 +14,22 @@ use Rattle.cct_bench.proofs.play.read_setup.Goals as goal
 
 pub loop-number-init : goal.loop-number-init
 loop-number-init g c =
-    let left = g.S.Source.left c.args.script.now in
+    let source = g.S.Source in
+    let script = c.args.script.now in
+    let left = source.left script in
     record {
-      going = subst (λ standing. Going left left standing.held 1 (at_setup c.args.setup.now) IsNothing IsNothing) (sym c.requires.lines)
-          (subst (λ setup. Going left left [] 1 (at_setup setup) IsNothing IsNothing) (sym c.requires.setup) (going_begin left));
-      opening = subst (λ standing. TookOpening left left standing.held 1 (at_setup c.args.setup.now)) (sym c.requires.lines)
-          (subst (λ setup. TookOpening left left [] 1 (at_setup setup)) (sym c.requires.setup) (opening_begin left));
-      source = refl;
-      source_later = omega arith;
+      going = subst
+          (λ standing. Going left left standing.held 1 (at_setup c.args.setup.now) IsNothing IsNothing)
+          (sym c.requires.lines)
+          (subst (λ setup. Going left left [] 1 (at_setup setup) IsNothing IsNothing) (sym c.requires.setup)
+          (going_begin left));
+      opening = subst
+          (λ standing. TookOpening source.takes source.left script script standing.held 1 (at_setup c.args.setup.now))
+          (sym c.requires.lines)
+          (subst (λ setup. TookOpening source.takes source.left script script [] 1 (at_setup setup))
+          (sym c.requires.setup) (opening_begin source.takes source.left script));
+      tells = refl;
+      later = omega arith;
       next = subst (IsNext 1) (sym c.requires.lines) (refl, lit≤ tt);
     }
 
@@ -34,20 +42,27 @@ returns-in-Ok-Begun-clause-opened g c =
     let number = c.loop-number.number in
     let stage = at_setup c.loop-number.setup in
     let setup = c.read_opening.new.setup in
-    let reads = subst (λ opened. Came held left left1 (λ bytes. ScriptGoesOn number stage bytes (opens (stage_of opened setup)) rest)) c.in-Ok-Begun.field-0-is c.in-Ok-Begun.ensures.reads in
-    going_opens (g.S.Source.left c.args.script.now) left left1 held rest number stage (at_steps setup) IsNothing IsNothing c.loop-number.invariant.going reads
+    let reads = subst
+    (λ opened. Came held left left1 (λ bytes. ScriptGoesOn number stage bytes (opens (stage_of opened setup)) rest))
+    c.in-Ok-Begun.field-0-is c.in-Ok-Begun.ensures.reads in
+    going_opens (g.S.Source.left c.args.script.now) left left1 held rest number stage (at_steps setup) IsNothing
+    IsNothing c.loop-number.invariant.going reads
 
 pub returns-in-Ok-Begun-clause-took : goal.returns-in-Ok-Begun-clause-took
 returns-in-Ok-Begun-clause-took g c =
-    let left = g.S.Source.left c.loop-number.script in
-    let left1 = g.S.Source.left c.read_opening.new.script in
+    let source = g.S.Source in
+    let script = c.loop-number.script in
+    let script1 = c.read_opening.new.script in
     let held = (standing_of c.loop-number.lines).held in
     let rest = (standing_of c.read_opening.new.lines).held in
     let number = c.loop-number.number in
     let stage = at_setup c.loop-number.setup in
     let setup = c.read_opening.new.setup in
-    let line = subst (λ opened. OpensLine number stage (stage_of opened setup) held rest left left1) c.in-Ok-Begun.field-0-is c.in-Ok-Begun.ensures.line in
-    opening_more (g.S.Source.left c.args.script.now) left left1 held rest number stage (at_steps setup) c.loop-number.invariant.opening line
+    let line = subst
+    (λ opened. OpensLine source.takes source.left number stage (stage_of opened setup) held rest script script1)
+    c.in-Ok-Begun.field-0-is c.in-Ok-Begun.ensures.line in
+    opening_more source.takes source.left c.args.script.now script script1 held rest number stage (at_steps setup)
+    c.loop-number.invariant.opening line
 
 pub returns-in-Err-clause-ended : goal.returns-in-Err-clause-ended
 returns-in-Err-clause-ended g c =
@@ -56,27 +71,37 @@ returns-in-Err-clause-ended g c =
     let stage = at_setup c.loop-number.setup in
     subst (λ how. IfSome left0 (λ bytes. Played bytes how left1 IsNothing NeverBroke)) (sym c.ending_at.ensures)
     (
-    played_stopped left0 (g.S.Source.left c.loop-number.script) left1 (standing_of c.loop-number.lines).held c.loop-number.number stage c.in-Err.why IsNothing IsNothing NeverBroke
+    played_stopped left0 (g.S.Source.left c.loop-number.script) left1 (standing_of c.loop-number.lines).held
+    c.loop-number.number stage c.in-Err.why IsNothing IsNothing NeverBroke
     c.loop-number.invariant.going c.in-Err.ensures.stops
     )
 
 pub loop-number-preserved : goal.loop-number-preserved
 loop-number-preserved g c =
-    let left0 = g.S.Source.left c.args.script.now in
-    let left = g.S.Source.left c.loop-number.script in
-    let left1 = g.S.Source.left c.read_opening.new.script in
+    let source = g.S.Source in
+    let script0 = c.args.script.now in
+    let script = c.loop-number.script in
+    let script1 = c.read_opening.new.script in
+    let left = source.left script in
+    let left1 = source.left script1 in
     let held = (standing_of c.loop-number.lines).held in
     let rest = (standing_of c.read_opening.new.lines).held in
     let number = c.loop-number.number in
     let stage = at_setup c.loop-number.setup in
     let setup = c.read_opening.new.setup in
     let runs = c.loop-number.invariant in
-    let reads = subst (λ opened. Came held left left1 (λ bytes. ScriptGoesOn number stage bytes (opens (stage_of opened setup)) rest)) c.in-Ok-Added.field-0-is c.in-Ok-Added.ensures.reads in
-    let line = subst (λ opened. OpensLine number stage (stage_of opened setup) held rest left left1) c.in-Ok-Added.field-0-is c.in-Ok-Added.ensures.line in
+    let reads = subst
+    (λ opened. Came held left left1 (λ bytes. ScriptGoesOn number stage bytes (opens (stage_of opened setup)) rest))
+    c.in-Ok-Added.field-0-is c.in-Ok-Added.ensures.reads in
+    let line = subst
+    (λ opened. OpensLine source.takes source.left number stage (stage_of opened setup) held rest script script1)
+    c.in-Ok-Added.field-0-is c.in-Ok-Added.ensures.line in
     record {
-      going = going_opens left0 left left1 held rest number stage (at_setup setup) IsNothing IsNothing runs.going reads;
-      opening = opening_more left0 left left1 held rest number stage (at_setup setup) runs.opening line;
-      source = c.in-Ok-Added.ensures.tells ∙ runs.source;
-      source_later = omega (arith, runs.source_later, c.in-Ok-Added.ensures.later);
+      going = going_opens (source.left script0) left left1 held rest number stage (at_setup setup) IsNothing IsNothing
+          runs.going reads;
+      opening = opening_more source.takes source.left script0 script script1 held rest number stage (at_setup setup)
+          runs.opening line;
+      tells = c.in-Ok-Added.ensures.tells ∙ runs.tells;
+      later = omega (arith, runs.later, c.in-Ok-Added.ensures.later);
       next = c.in-Ok-Added.ensures.next;
     }

@@ -6,7 +6,7 @@ use Rattle.cct_bench.proofs.play.read_setup.Given as goal
 abbrev pub invariant-loop-number : goal.invariant-loop-number
 invariant-loop-number g l =
     let source = g.S.Source in
-    Opens (source.left l.fn.script) (source.left l.script) (source.faults l.fn.script) (source.faults l.script) (standing_of l.lines) l.number l.setup
+    Opens source.takes source.left source.faults l.fn.script l.script (standing_of l.lines) l.number l.setup
 
 abbrev pub decreases-loop-number : goal.decreases-loop-number
 decreases-loop-number g l = 1048578 - l.number

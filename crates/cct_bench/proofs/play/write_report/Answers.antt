@@ -14,9 +14,11 @@ returns-in_err-write_entry-clause-writes g c =
     let wrote = c.in_err-write_entry.ensures in
     let out1 = c.loop-entry.out in
     let out2 = c.write_entry.new.out in
-    subst (λ r. Writes sink.written sink.puts c.args.out.now c.args.report.now r out2) (sym (passes_up c.from_residual.result why c.from_residual.ensures))
+    subst (λ r. Writes sink.written sink.puts c.args.out.now c.args.report.now r out2)
+    (sym (passes_up c.from_residual.result why c.from_residual.ensures))
     (
-    writes_broke sink.written sink.puts c.args.out.now out1 out2 c.args.report.now i e why (omega arith) c.entry-item.is c.loop-entry.invariant.0
+    writes_broke sink.written sink.puts c.args.out.now out1 out2 c.args.report.now i e why (omega arith) c.entry-item.is
+    c.loop-entry.invariant.0
     (writes_one sink.written sink.puts out1 out2 e (Err why) wrote.one wrote.ok wrote.err)
     )
 
@@ -28,9 +30,11 @@ loop-entry-preserved g c =
     let wrote = c.in_ok-write_entry.ensures in
     let out1 = c.loop-entry.out in
     let out2 = c.write_entry.new.out in
-    let more = take_more c.args.report.now i e (omega arith) ∙ ap (λ x. take i c.args.report.now ++ x ∷ []) (sym c.entry-item.is) in (
+    let more = take_more c.args.report.now i e (omega arith)
+    ∙ ap (λ x. take i c.args.report.now ++ x ∷ []) (sym c.entry-item.is) in (
       writes_next sink.written sink.puts c.args.out.now out1 out2 c.args.report.now i e c.loop-entry.invariant.0
-          (writes_one sink.written sink.puts out1 out2 e (Ok c.in_ok-write_entry.field-0) wrote.one wrote.ok wrote.err) more,
+          (writes_one sink.written sink.puts out1 out2 e (Ok c.in_ok-write_entry.field-0) wrote.one wrote.ok wrote.err)
+          more,
       wrote.tells ∙ c.loop-entry.invariant.1,
       omega (arith, c.loop-entry.invariant.2, wrote.cause.later),
     )

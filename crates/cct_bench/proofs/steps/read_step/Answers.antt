@@ -1,4 +1,4 @@
-use Rattle.std.proofs.Common.{Ok, Err, refl, sym, ap, ◌∙◌}
+use Rattle.std.proofs.Common.{Ok, refl, sym, ap, ◌∙◌}
 use Rattle.cct_model.specs.Script.{at_steps}
 use Rattle.cct_script.specs.Giving.{standing_of, line_given}
 use Rattle.cct_world.specs.World.{setup_of}
@@ -16,7 +16,8 @@ returns-in_err-line-clause-stops g c =
     let stage = at_steps (setup_of c.args.world.now) in
     let why = c.in_err-line.field-0.0 in
     let is = sym c.before_end.ensures ∙ ap read_of c.in_err-line.was in
-    stops_up old new before left (line_given c.line.result) c.args.number stage c.from_residual.result why refl c.requires c.line.follows.holds-at-none is c.from_residual.ensures
+    stops_up old new before left (line_given c.line.result) c.args.number stage c.from_residual.result why refl
+    c.requires c.line.follows.holds-at-none.0 is c.from_residual.ensures
 
 pub returns-in-Ok-clause-reads : goal.returns-in-Ok-clause-reads
 returns-in-Ok-clause-reads g c =
@@ -27,8 +28,11 @@ returns-in-Ok-clause-reads g c =
     let stage = at_steps (setup_of c.args.world.now) in
     let line = c.in_ok-line.line.now in
     let is = sym c.before_end.ensures ∙ ap read_of c.in_ok-line.was in
-    let reads = answer_reads old new before left (line_given c.line.result) c.args.number stage (Ok line) refl c.requires c.line.follows.holds-at-none is in
-    given_goes old new before left c.args.number stage line (read_as (setup_of c.args.world.now) c.take_step_line.new.step) refl reads c.in-Ok.ensures.reads
+    let reads =
+    answer_reads old new before left (line_given c.line.result) c.args.number stage (Ok line) refl c.requires
+    c.line.follows.holds-at-none.0 is in
+    given_goes old new before left c.args.number stage line
+    (read_as (setup_of c.args.world.now) c.take_step_line.new.step) refl reads c.in-Ok.ensures.reads
 
 pub returns-in-Ok-clause-next : goal.returns-in-Ok-clause-next
 returns-in-Ok-clause-next g c =
@@ -40,7 +44,8 @@ returns-in-Ok-clause-next g c =
     let line = c.in_ok-line.line.now in
     let is = sym c.before_end.ensures ∙ ap read_of c.in_ok-line.was in
     given_next old new before left c.args.number stage line
-    (answer_reads old new before left (line_given c.line.result) c.args.number stage (Ok line) refl c.requires c.line.follows.holds-at-none is)
+    (answer_reads old new before left (line_given c.line.result) c.args.number stage (Ok line) refl c.requires
+    c.line.follows.holds-at-none.0 is)
 
 pub returns-in-Err-clause-stops : goal.returns-in-Err-clause-stops
 returns-in-Err-clause-stops g c =
@@ -51,5 +56,7 @@ returns-in-Err-clause-stops g c =
     let stage = at_steps (setup_of c.args.world.now) in
     let line = c.in_ok-line.line.now in
     let is = sym c.before_end.ensures ∙ ap read_of c.in_ok-line.was in
-    let reads = answer_reads old new before left (line_given c.line.result) c.args.number stage (Ok line) refl c.requires c.line.follows.holds-at-none is in
+    let reads =
+    answer_reads old new before left (line_given c.line.result) c.args.number stage (Ok line) refl c.requires
+    c.line.follows.holds-at-none.0 is in
     given_closes old new before left c.args.number stage line c.in-Err.kind refl reads c.in-Err.ensures.reads

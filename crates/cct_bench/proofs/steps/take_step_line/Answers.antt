@@ -6,7 +6,8 @@ use Rattle.cct_bench.proofs.steps.take_step_line.Goals as goal
 
 pub returns-then-not-is_step_word-clause-reads : goal.returns-then-not-is_step_word-clause-reads
 returns-then-not-is_step_word-clause-reads c =
-    other_step_word (setup_of c.args.world.now) c.args.line.now (ap is_step_word (sym c.word_of.ensures) ∙ (sym c.is_step_word.ensures ∙ c.if-not-is_step_word.true))
+    other_step_word (setup_of c.args.world.now) c.args.line.now
+    (ap is_step_word (sym c.word_of.ensures) ∙ (sym c.is_step_word.ensures ∙ c.if-not-is_step_word.true))
 
 pub returns-in-Err-clause-reads : goal.returns-in-Err-clause-reads
 returns-in-Err-clause-reads c =
@@ -17,14 +18,17 @@ returns-in-Err-clause-reads c =
 pub returns-then-not-knows-clause-reads : goal.returns-then-not-knows-clause-reads
 returns-then-not-knows-clause-reads c =
     let today = ap is_step_word (sym c.word_of.ensures) ∙ (sym c.is_step_word.ensures ∙ c.if-not-is_step_word.false) in
-    step_unknown (setup_of c.args.world.now) c.args.line.now c.in-Ok.said today c.in-Ok.ensures.reads (sym c.knows.ensures ∙ c.if-not-knows.true)
+    step_unknown (setup_of c.args.world.now) c.args.line.now c.in-Ok.said today c.in-Ok.ensures.reads
+    (sym c.knows.ensures ∙ c.if-not-knows.true)
 
 pub returns-clause-reads : goal.returns-clause-reads
 returns-clause-reads c =
     let today = ap is_step_word (sym c.word_of.ensures) ∙ (sym c.is_step_word.ensures ∙ c.if-not-is_step_word.false) in
-    step_reads (setup_of c.args.world.now) c.args.line.now c.in-Ok.said today c.in-Ok.ensures.reads (sym c.knows.ensures ∙ c.if-not-knows.false)
+    step_reads (setup_of c.args.world.now) c.args.line.now c.in-Ok.said today c.in-Ok.ensures.reads
+    (sym c.knows.ensures ∙ c.if-not-knows.false)
 
 pub returns-clause-can : goal.returns-clause-can
 returns-clause-can c going =
     let today = ap is_step_word (sym c.word_of.ensures) ∙ (sym c.is_step_word.ensures ∙ c.if-not-is_step_word.false) in
-    step_can (setup_of c.args.world.now) c.args.line.now c.in-Ok.said today c.in-Ok.ensures.reads (sym c.knows.ensures ∙ c.if-not-knows.false) going
+    step_can (setup_of c.args.world.now) c.args.line.now c.in-Ok.said today c.in-Ok.ensures.reads
+    (sym c.knows.ensures ∙ c.if-not-knows.false) going

@@ -14,6 +14,8 @@ returns-then-number-most c =
     let more : c.args.most < 10 * n + (byte - 48) = omega arith in
     sym
     (
-    ap (option_and_then (within 0 c.args.most)) (sym c.loop-byte.invariant.0 ∙ at_drop_more (digits_from n) digits i 0 (omega arith))
-    ∙ and_then_chosen (is_digit byte) (within 0 c.args.most) _ (digits_above c.args.most (10 * n + (byte - 48)) (drop (i + 1) digits) more)
+    ap (option_and_then (within 0 c.args.most))
+    (sym c.loop-byte.invariant.0 ∙ at_drop_more (digits_from n) digits i 0 (omega arith))
+    ∙ and_then_chosen (is_digit byte) (within 0 c.args.most) _
+    (digits_above c.args.most (10 * n + (byte - 48)) (drop (i + 1) digits) more)
     )

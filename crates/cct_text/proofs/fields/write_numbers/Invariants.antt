@@ -1,6 +1,9 @@
-use Rattle.std.proofs.Common.{◌≡◌, ◌+◌, ◌*◌, ◌≤◌, ◌++◌, length, map, take, decimal}
+use Rattle.std.proofs.Common.{◌≡◌, ◌+◌, ◌*◌, ◌≤◌, ◌++◌, length, map, take}
+use Rattle.cct_lines.specs.Text.{number_text}
 use Rattle.cct_text.specs.Joined.{behind}
 use Rattle.cct_text.proofs.fields.write_numbers.Given as goal
 
 abbrev pub invariant-loop-number : goal.invariant-loop-number
-invariant-loop-number l = (l.line ≡ l.initial.line ++ behind 32 (map decimal (take l.number-index l.numbers))) × (length l.line ≤ length l.initial.line + 21 * l.number-index)
+invariant-loop-number l =
+    (l.line ≡ l.initial.line ++ behind 32 (map number_text (take l.number-index l.numbers)))
+    × (length l.line ≤ length l.initial.line + 21 * l.number-index)

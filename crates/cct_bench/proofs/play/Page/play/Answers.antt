@@ -7,5 +7,6 @@ returns-clause-plays g c =
     let sink = g.K.Sink in (
       c.step.new.report.items,
       c.step.ensures.plays,
-      subst (λ report. Writes sink.written sink.puts c.args.out.now report c.write_report.result c.write_report.new.out) c.as_slice.ensures.value c.write_report.ensures.writes,
+      subst (λ report. Writes sink.written sink.puts c.args.out.now report c.write_report.result c.write_report.new.out)
+          c.as_slice.ensures.value c.write_report.ensures.writes,
     )

@@ -17,7 +17,8 @@ returns-in-Ok-clause-ended g c left0 setup written going =
     let left1 = g.S.Source.left c.line.new.source in
     let is = sym c.behind_end.ensures ∙ c.in-Ok.is in
     played_done left0 left left1 old.held c.args.number setup IsAnything (IsJust written) NeverBroke going
-    (answer_ends old new left left1 (line_given c.line.result) c.args.number setup (Ok tt) c.line.follows.holds-at-none is)
+    (answer_ends old new left left1 (line_given c.line.result) c.args.number setup (Ok tt)
+    c.line.follows.holds-at-none.0 is)
 
 pub returns-in-Err-clause-ended : goal.returns-in-Err-clause-ended
 returns-in-Err-clause-ended g c left0 setup written going =
@@ -28,6 +29,8 @@ returns-in-Err-clause-ended g c left0 setup written going =
     let is = sym c.behind_end.ensures ∙ c.in-Err.is in
     subst (λ how. IfSome left0 (λ bytes. Played bytes how left1 (IsJust written) NeverBroke)) (sym c.ending_at.ensures)
     (
-    played_stopped left0 left left1 old.held c.args.number (at_end setup) c.in-Err.why IsAnything (IsJust written) NeverBroke going
-    (answer_ends old new left left1 (line_given c.line.result) c.args.number setup (Err c.in-Err.why) c.line.follows.holds-at-none is)
+    played_stopped left0 left left1 old.held c.args.number (at_end setup) c.in-Err.why IsAnything (IsJust written)
+    NeverBroke going
+    (answer_ends old new left left1 (line_given c.line.result) c.args.number setup (Err c.in-Err.why)
+    c.line.follows.holds-at-none.0 is)
     )

@@ -11,10 +11,13 @@ abbrev pub invariant-loop-why : goal.invariant-loop-why
 invariant-loop-why g l =
     let source = g.S.Source in
     let sink = g.K.Sink in
-    Runs (λ left0. Going left0 (source.left l.fn.script) (standing_of l.fn.self.lines).held l.fn.first (at_steps (setup_of l.fn.world)) (StandsFor l.fn.world) (Wrote sink.written sink.puts l.fn.out l.fn.out))
-    (λ left0. Going left0 (source.left l.script) (standing_of l.self.lines).held l.number (at_steps (setup_of l.world)) (StandsFor l.world) (Wrote sink.written sink.puts l.fn.out l.out))
+    Runs (λ left0. Going left0 (source.left l.fn.script) (standing_of l.fn.self.lines).held l.fn.first
+    (at_steps (setup_of l.fn.world)) (StandsFor l.fn.world) (Wrote sink.written sink.puts l.fn.out l.fn.out))
+    (λ left0. Going left0 (source.left l.script) (standing_of l.self.lines).held l.number (at_steps (setup_of l.world))
+    (StandsFor l.world) (Wrote sink.written sink.puts l.fn.out l.out))
     (source.left l.fn.script) (source.left l.script) (source.faults l.fn.script) (source.faults l.script)
-    (sink.written l.fn.out) (sink.written l.out) (sink.faults l.fn.out) (sink.faults l.out) (standing_of l.self.lines) l.number
+    (sink.written l.fn.out) (sink.written l.out) (sink.faults l.fn.out) (sink.faults l.out) (standing_of l.self.lines)
+    l.number
 
 abbrev pub decreases-loop-why : goal.decreases-loop-why
 decreases-loop-why g l = 1048578 - l.number

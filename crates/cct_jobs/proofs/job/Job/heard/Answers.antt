@@ -9,12 +9,12 @@ use Rattle.cct_jobs.proofs.Needs.{poll_asked, poll_sent, stage_asked}
 use Rattle.cct_jobs.proofs.job.Job.heard.Goals as goal
 
 pub returns-in-Asks-clause-device : goal.returns-in-Asks-clause-device
-returns-in-Asks-clause-device c = λ d command since state q stands row is_ask.
+returns-in-Asks-clause-device c = λ d command since state owed q stands row is_ask.
     let a = c.in-Asks in
     let at : Stands d (Asks a.device a.stage a.failed) command since state =
     subst (λ (job : Job). Stands d job command since state) a.is stands in
     c.heard.ensures.device d command since state at
-    (is_ask ∙ ap (ask d.kind d.addr) (stage_asked q at row))
+    (is_ask ∙ ap (ask d.kind d.addr) (stage_asked owed q at row))
 
 pub returns-in-ScanCallsSimple-clause-scan : goal.returns-in-ScanCallsSimple-clause-scan
 returns-in-ScanCallsSimple-clause-scan c = λ since check addr stands row is_ask.

@@ -1,4 +1,4 @@
-use Rattle.std.proofs.Common.{◌≡◌, ℕ, ◌+◌, ◌≤◌, List, Some, drop, subst, position, sym, ◌∙◌, arith}
+use Rattle.std.proofs.Common.{◌≡◌, ℕ, ◌≤◌, List, Some, subst, position, sym, ◌∙◌, arith}
 use Rattle.std.proofs.lemmas.List.{length-take-le}
 use Rattle.cct_lines.specs.declared.entry.TheConstants.{MOST_LINE}
 use Rattle.cct_lines.specs.Script.{is_line_feed, most_lines}
@@ -72,7 +72,21 @@ returns-in-Ok-Line-clause-takes g c =
     let before = (standing_of c.args.self.now).held in
     let found : position is_line_feed held ≡ Some len = rw c.in-Ok-Line.field-0-is at c.in-Ok-Line.ensures.finds in
     let Taken : List ℕ → Type 0 =
-    λ bytes. TakesOn g.S.Source.takes g.S.Source.left before c.args.source.now bytes c.seek.new.source in (
-      drop (len + 1) held,
-      subst Taken (line_parts held len found) (rw c.give_up.ensures.held at c.in-Ok-Line.ensures.takes),
-    )
+    λ bytes. TakesOn g.S.Source.takes g.S.Source.left before c.args.source.now bytes c.seek.new.source in
+    subst Taken (line_parts held len found) (rw c.give_up.ensures.held at c.in-Ok-Line.ensures.takes)
+
+pub returns-in-Ok-Long-clause-takes : goal.returns-in-Ok-Long-clause-takes
+returns-in-Ok-Long-clause-takes g c =
+    rw c.give_up.ensures.spent (rw c.give_up.ensures.held at c.in-Ok-Long.ensures.takes)
+
+pub returns-then-is_empty-clause-takes : goal.returns-then-is_empty-clause-takes
+returns-then-is_empty-clause-takes g c =
+    rw c.give_up.ensures.spent (rw c.give_up.ensures.held at c.in-Ok-Ended.ensures.takes)
+
+pub returns-else-is_empty-clause-takes : goal.returns-else-is_empty-clause-takes
+returns-else-is_empty-clause-takes g c =
+    rw c.give_up.ensures.spent (rw c.give_up.ensures.held at c.in-Ok-Ended.ensures.takes)
+
+pub returns-in-Err-clause-takes : goal.returns-in-Err-clause-takes
+returns-in-Err-clause-takes g c =
+    rw c.give_up.ensures.spent (rw c.give_up.ensures.held at c.in-Err.ensures.takes)

@@ -1,6 +1,7 @@
 use Rattle.std.proofs.Common.{sym}
 use Rattle.cct_model.specs.Exchange.{device_at}
 use Rattle.cct_world.specs.Place.{scans}
+use Rattle.cct_world.proofs.Lines.{attempt_unsold}
 use Rattle.cct_world.proofs.Places.{scan_turn}
 use Rattle.cct_world.proofs.Steps.{of_scan}
 use Rattle.cct_world.proofs.host.Host.bare_next.Goals as goal
@@ -22,6 +23,7 @@ returns-then-addr-eq-BROADCAST-clause-nexts g c =
               desks = scan_turn setup _ past _ stands.sound goes.at stands.desks;
               scan =
                   goes.keeps;
+              unsold = attempt_unsold past c.args.addr attempt.what stands.unsold;
             },
           );
     }

@@ -1,11 +1,12 @@
-use Rattle.std.proofs.Common.{[], ◌∷◌, ap, refl, subst}
+use Rattle.std.proofs.Common.{◌≢◌, [], ◌∷◌, ap, refl, subst, sym}
+use Rattle.cct_model.specs.terms.wire.TheConstants.{HOST}
 use Rattle.cct_model.specs.Job.{address_of}
 use Rattle.cct_model.specs.Legal.{command_entry}
 use Rattle.cct_world.specs.Desk.{no_of}
 use Rattle.cct_world.specs.Place.{AreAt}
 use Rattle.cct_world.proofs.Commands.{stays_by}
-use Rattle.cct_world.proofs.Lines.{command_at}
-use Rattle.cct_world.proofs.Places.{scan_turn}
+use Rattle.cct_world.proofs.Lines.{command_at, command_unsold}
+use Rattle.cct_world.proofs.Places.{scan_apart, scan_turn}
 use Rattle.cct_world.proofs.host.Host.command.Goals as goal
 
 pub returns-in-Scan-clause-stays : goal.returns-in-Scan-clause-stays
@@ -24,5 +25,7 @@ returns-in-Scan-clause-answers c past stands =
         desks =
             scan_turn c.args.self.now.setup.now _ past news stands.sound at stands.desks;
         scan = answered.1;
+        unsold = command_unsold past c.args.command.now refused
+            (subst (λ k. address_of k ≢ HOST) (sym c.in-Scan.is) scan_apart) stands.unsold;
       },
     )

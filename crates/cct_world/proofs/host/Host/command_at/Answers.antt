@@ -7,8 +7,8 @@ use Rattle.cct_model.specs.Legal.{command_entry}
 use Rattle.cct_world.specs.Desk.{no_of}
 use Rattle.cct_world.specs.Place.{AreAt}
 use Rattle.cct_world.proofs.Commands.{absent_refused, stays_by}
-use Rattle.cct_world.proofs.Lines.{command_at, refused_quiet}
-use Rattle.cct_world.proofs.Places.{absent, desk_lent, desk_sits, device_found, device_turn, found_in, is_at, refilled}
+use Rattle.cct_world.proofs.Lines.{command_at, command_unsold, refused_quiet}
+use Rattle.cct_world.proofs.Places.{absent, desk_lent, desk_sits, device_apart, device_found, device_turn, found_in, is_at, refilled}
 use Rattle.cct_world.proofs.Steps.{host_quiet}
 use Rattle.cct_world.proofs.host.Host.command_at.Goals as goal
 
@@ -58,5 +58,13 @@ returns-in-Some-clause-answers c past stands =
     let news = command_entry c.args.command.now (no_of c.command.result) ∷ [] in
     let at = subst (λ a. AreAt a past news) c.requires.address (command_at past c.args.command.now _) in
     let turned = device_turn setup ks _ c.args.self.now.scan i c.command.new.self d c.args.addr past news stands.sound
-    kept found is at answered.1 stands.desks stands.scan in
-    (answered.0, record { sound = stands.sound; desks = turned.0; scan = turned.1 })
+    kept found is at answered.1 stands.desks stands.scan in (
+      answered.0,
+      record {
+        sound = stands.sound;
+        desks = turned.0;
+        scan = turned.1;
+        unsold = command_unsold past c.args.command.now (no_of c.command.result)
+            (λ same. device_apart setup i d c.args.addr stands.sound found is (sym c.requires.address ∙ same)) stands.unsold;
+      },
+    )

@@ -1,10 +1,10 @@
-use Rattle.std.proofs.Common.{◌∙◌, ◌++◌, ◌<◌, length, ap, subst, sym}
+use Rattle.std.proofs.Common.{◌∙◌, ◌<◌, length, ap, subst}
 use Rattle.std.specs.List.{position}
 use Rattle.cct_model.specs.Exchange.{device_at}
 use Rattle.cct_world.specs.Attempt.{news_of}
-use Rattle.cct_world.specs.Desk.{AllSit}
 use Rattle.cct_world.specs.Place.{AreAt, device}
-use Rattle.cct_world.proofs.Places.{absent, at_this, desk_lent, desk_sits, device_found, device_turn, found_in, is_at, refilled}
+use Rattle.cct_world.proofs.Lines.{attempt_unsold}
+use Rattle.cct_world.proofs.Places.{absent, at_this, desk_lent, desk_sits, device_found, device_turn, found_in, is_at}
 use Rattle.cct_world.proofs.Steps.{of_next}
 use Rattle.cct_world.proofs.host.Host.next.Goals as goal
 
@@ -38,6 +38,11 @@ returns-in-Some-clause-nexts g c =
           let turned = device_turn setup ks _ c.args.self.now.scan i c.next.new.self this.0 c.args.addr past news
           stands.sound kept found this.1 at goes.keeps stands.desks stands.scan in (
             of_next (device_at setup.devices c.args.addr) this.0 _ _ place.1 goes.entries,
-            record { sound = stands.sound; desks = turned.0; scan = turned.1 },
+            record {
+              sound = stands.sound;
+              desks = turned.0;
+              scan = turned.1;
+              unsold = attempt_unsold past c.args.addr attempt.what stands.unsold;
+            },
           );
     }

@@ -13,7 +13,7 @@ returns-in-Err-clause-plays c past stands =
     let no : no_of c.command.result ≡ Some why = ap no_of c.in-Err.is in
     let answered = c.command.ensures.answers past stands.host in
     let goes = command_goes (hosts.setup_of machine.host) host machine.bus past c.args.command.now (Some why) _
-    c.requires.played (sym no ∙ answered.0)
+    (sym no ∙ answered.0)
     (subst (λ n. hosts.StandsFor host (command_entry c.args.command.now n ∷ past)) no answered.1) stands.bus
     (one_entry _ _ _ c.requires.report c.push-in-Err.ensures.items) in
     (goes.0, record { host = goes.1.0; bus = goes.1.1 })

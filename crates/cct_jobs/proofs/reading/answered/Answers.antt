@@ -1,0 +1,20 @@
+use Rattle.std.proofs.Common.{◌∙◌, ap, subst}
+use Rattle.cct_model.specs.Request.{form_of}
+use Rattle.cct_jobs.specs.declared.stage.Stage.{Stage}
+use Rattle.cct_jobs.specs.Jobs.{Asking, request_of}
+use Rattle.cct_jobs.proofs.Stages.{as_answered}
+use Rattle.cct_jobs.proofs.reading.answered.Goals as goal
+
+pub credits_in-requires : goal.credits_in-requires
+unfolding form_of
+credits_in-requires c = c.requires.wanted ∙ ap (λ (s : Stage). form_of (request_of s)) c.in-Reads.is
+
+pub mask_in-requires : goal.mask_in-requires
+unfolding form_of
+mask_in-requires c = c.requires.wanted ∙ ap (λ (s : Stage). form_of (request_of s)) c.in-Looks.is
+
+pub returns-in-Looks-clause-device : goal.returns-in-Looks-clause-device
+returns-in-Looks-clause-device c = λ d command since state failed at.
+    as_answered d _ command since state _ _ _ _ (ap request_of c.in-Looks.is) c.mask_in.ensures
+    (c.judged.ensures.device d command since state failed
+    (subst (λ (s : Stage). Asking d c.args.device s failed command since state) c.in-Looks.is at))

@@ -1,0 +1,16 @@
+use Rattle.std.proofs.Common.{◌∙◌, ap, subst}
+use Rattle.cct_model.specs.Request.{form_of}
+use Rattle.cct_jobs.specs.declared.stage.Stage.{Stage}
+use Rattle.cct_jobs.specs.Jobs.{Asking, request_of}
+use Rattle.cct_jobs.proofs.Stages.{as_answered}
+use Rattle.cct_jobs.proofs.start.answered.Goals as goal
+
+pub credits_in-requires : goal.credits_in-requires
+unfolding form_of
+credits_in-requires c = c.requires.wanted ∙ ap (λ (s : Stage). form_of (request_of s)) c.in-StartReads.is
+
+pub returns-in-StartReads-clause-device : goal.returns-in-StartReads-clause-device
+returns-in-StartReads-clause-device c = λ d command since state failed at.
+    as_answered d _ command since state _ _ _ _ (ap request_of c.in-StartReads.is) c.credits_in.ensures
+    (c.after_reset.ensures.device d command since state failed
+    (subst (λ (s : Stage). Asking d c.args.device s failed command since state) c.in-StartReads.is at))

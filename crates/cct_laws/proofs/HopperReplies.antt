@@ -1,0 +1,127 @@
+-- What a hopper replies to each request that a job sends it.
+use Rattle.std.proofs.Common.{◌≡◌, ℕ, ◌<◌, ◌^◌, true, List, [], ◌∷◌, refl, ap, ◌∙◌, subst, Option, Some, None, inl, inr, arith}
+use Rattle.std.specs.Prelude.{⊤}
+use Rattle.cct_model.specs.terms.device.DeviceSetup.{DeviceSetup}
+use Rattle.cct_model.specs.terms.device.DeviceBody.{DeviceBody}
+use Rattle.cct_model.specs.terms.device.DeviceBody.TheVariants.{Acceptor, Hopper}
+use Rattle.cct_model.specs.terms.request.Request.{Request}
+use Rattle.cct_model.specs.terms.request.Request.TheVariants.{Enable, Dispense, GetStatus, GetLife, StopNow, TestHopper}
+use Rattle.cct_model.specs.terms.request.TheConstants.{ENABLE_CODE}
+use Rattle.cct_model.specs.terms.request.ReplyForm.TheVariants as form
+use Rattle.cct_model.specs.declared.judging.Judged.{Judged}
+use Rattle.cct_model.specs.lines.command.Command.{Command}
+use Rattle.cct_model.specs.lines.command.Command.TheVariants as command
+use Rattle.cct_model.specs.Request.{form_of}
+use Rattle.cct_model.specs.Reply as reply
+use Rattle.cct_model.specs.History.{Met}
+use Rattle.cct_model.specs.Hopper.{remaining, taken_of, life_count, status_of, register_of, dispense_reply, hopper_reply}
+use Rattle.cct_model.specs.Device.{IsSound, IsHopper, common_reply, reply_of}
+use Rattle.cct_model.specs.Job.{Payment, ident_requests, own_requests}
+use Rattle.cct_msg.specs.Forms.{FitsItsBytes}
+use Rattle.cct_laws.specs.Kept.{is_for_hopper}
+use Rattle.cct_laws.proofs.Exchanges.{Replied, Answers}
+use Rattle.cct_laws.proofs.Replies.{start_of, hopper_is}
+use Rattle.cct_laws.proofs.CommonReplies.{answers_so, ident_replied}
+use Rattle.cct_laws.proofs.Rows.{Each, SettleHolds, CommandHolds}
+
+-- a sound hopper
+pub record Payer (d : DeviceSetup) : Type 0 where
+  pub sound : IsSound d
+  pub paying : IsHopper d.body
+
+-- what hoppers alone reply
+enable_replied : (d : DeviceSetup) (past : List Met) (code : ℕ) → Payer d → Replied d past (Enable code)
+unfolding reply_of common_reply form_of hopper_reply
+enable_replied d past code payer =
+    answers_so d past (Enable code) reply.ack form.Ack (hopper_is d.serial d.body past (Enable code) payer.paying)
+    refl refl tt tt (λ serial count e. cc) refl
+
+status_replied : (d : DeviceSetup) (past : List Met) → Payer d → Replied d past GetStatus
+unfolding reply_of common_reply form_of hopper_reply
+status_replied d past payer =
+    answers_so d past GetStatus (status_of d.serial past) form.Status
+    (hopper_is d.serial d.body past GetStatus payer.paying) refl refl tt tt (λ serial count e. cc) refl
+
+life_replied : (d : DeviceSetup) (past : List Met) → Payer d → Replied d past GetLife
+unfolding reply_of common_reply form_of hopper_reply
+life_replied d past payer =
+    answers_so d past GetLife (reply.life (life_count d.serial (start_of d.body) past)) form.Life
+    (hopper_is d.serial d.body past GetLife payer.paying) refl refl tt (omega arith) (λ serial count e. cc) refl
+
+stop_replied : (d : DeviceSetup) (past : List Met) → Payer d → Replied d past StopNow
+unfolding reply_of common_reply form_of hopper_reply
+stop_replied d past payer =
+    answers_so d past StopNow (reply.remaining (remaining d.serial past)) form.Remaining
+    (hopper_is d.serial d.body past StopNow payer.paying) refl refl tt tt (λ serial count e. cc) refl
+
+register_replied : (d : DeviceSetup) (past : List Met) → Payer d → Replied d past TestHopper
+unfolding reply_of common_reply form_of hopper_reply
+register_replied d past payer =
+    answers_so d past TestHopper (reply.register (register_of d.serial past)) form.Register
+    (hopper_is d.serial d.body past TestHopper payer.paying) refl refl tt tt (λ serial count e. cc) refl
+
+-- a dispense under the hopper's own serial number is acknowledged where it is taken, and else refused
+pub serial_fits : (serial count : ℕ) → serial < 2 ^ 24 → FitsItsBytes (Dispense serial count)
+serial_fits serial count short number many e = subst (λ n. n < 2 ^ 24) (same e) short
+  where
+    same : Dispense serial count ≡ Dispense number many → serial ≡ number
+    same e = cc
+
+dispense_replied : (d : DeviceSetup) (past : List Met) (count : ℕ) → Payer d →
+    reply_of d past (Dispense d.serial count) ≡
+    Some (dispense_reply (taken_of d.serial past (Some (Dispense d.serial count))))
+unfolding reply_of common_reply hopper_reply
+dispense_replied d past count payer = hopper_is d.serial d.body past (Dispense d.serial count) payer.paying
+
+dispense_by : (d : DeviceSetup) (past : List Met) (count : ℕ) (took : Option ℕ) → Payer d →
+    taken_of d.serial past (Some (Dispense d.serial count)) ≡ took → Answers d past (Dispense d.serial count)
+unfolding form_of
+dispense_by d past count (Some many) payer test =
+    inl (answers_so d past (Dispense d.serial count) reply.ack form.Ack
+    (dispense_replied d past count payer ∙ ap (λ took. Some (dispense_reply took)) test) refl refl tt tt
+    (serial_fits d.serial count payer.sound.serial) refl)
+dispense_by d past count None payer test = inr (record {
+  refuses = (payer.paying, test);
+  replied = dispense_replied d past count payer ∙ ap (λ took. Some (dispense_reply took)) test;
+  fits = serial_fits d.serial count payer.sound.serial;
+  to_its_device = refl;
+})
+
+-- all that a hopper is asked of itself
+owns_by : (d : DeviceSetup) (past : List Met) (body : DeviceBody) → IsHopper body → Payer d →
+    Each (Replied d past) (own_requests body)
+owns_by d past (Acceptor accepts values ids) paying payer = absurd paying
+owns_by d past (Hopper life value) paying payer = (register_replied d past payer, tt)
+
+each_answers : (d : DeviceSetup) (past : List Met) (qs : List Request) → Each (Replied d past) qs →
+    Each (Answers d past) qs
+each_answers d past [] each = tt
+each_answers d past (q ∷ qs) each = (inl each.0, each_answers d past qs each.1)
+
+settle_replied : (d : DeviceSetup) (past : List Met) (p : Payment) → Payer d →
+    SettleHolds (Answers d past) (λ r. ⊤) p
+settle_replied d past p payer = record {
+  asks = inl (status_replied d past payer);
+  stops = inl (stop_replied d past payer);
+  reads = inl (life_replied d past payer);
+  closes = λ o life owed read. tt;
+}
+
+-- all that a command asks has a reply in the wanted form, or is a dispense that is refused
+pub hopper_answers : (d : DeviceSetup) (past : List Met) (c : Command) (judged : Judged) (p : Payment) → Payer d →
+    is_for_hopper c ≡ true → CommandHolds (Answers d past) (λ r. ⊤) d c judged p
+hopper_answers d past (command.Pay addr id count) judged p payer suited = record {
+  enables = inl (enable_replied d past ENABLE_CODE payer);
+  opens = λ life read. tt;
+  dispenses = dispense_by d past count _ payer refl;
+  settles = settle_replied d past p payer;
+}
+hopper_answers d past (command.Settle addr) judged p payer suited = settle_replied d past p payer
+hopper_answers d past (command.Ident addr) judged p payer suited =
+    each_answers d past (ident_requests d.body)
+    (ident_replied d past d.body payer.sound (owns_by d past d.body payer.paying payer))
+hopper_answers d past (command.Start addr mask) judged p payer suited = absurd cc
+hopper_answers d past (command.Round addr) judged p payer suited = absurd cc
+hopper_answers d past (command.Stop addr) judged p payer suited = absurd cc
+hopper_answers d past (command.Path addr place path) judged p payer suited = absurd cc
+hopper_answers d past c judged p payer suited = tt

@@ -1,0 +1,361 @@
+-- Which ids are used, and by whom: every legal step keeps that, whatever is heard on the wire.
+use Rattle.std.proofs.Common.{◌≡◌, ◌≢◌, ℕ, ◌<◌, suc, nat_le, ◌==◌, cond, Bool, true, false, List, [], ◌∷◌, ◌++◌, length, refl, ap, sym, ◌∙◌, subst, Option, Some, None, ◌⊎◌, inl, inr, arith, eq-eqb, eqb-true}
+use Rattle.std.proofs.lemmas.Bool.{ne_eqb}
+use Rattle.std.proofs.lemmas.Option.{none-some}
+use Rattle.std.specs.Prelude.{⊤}
+use Rattle.std.specs.List.{list_any}
+use Rattle.cct_model.specs.terms.wire.TheConstants.{BROADCAST, HOST}
+use Rattle.cct_model.specs.terms.device.DeviceBody.{DeviceBody}
+use Rattle.cct_model.specs.terms.device.DeviceBody.TheVariants.{Acceptor, Hopper}
+use Rattle.cct_model.specs.terms.device.DeviceSetup.{DeviceSetup}
+use Rattle.cct_model.specs.terms.device.Setup.{Setup}
+use Rattle.cct_model.specs.lines.record.Record.{Record}
+use Rattle.cct_model.specs.lines.record.Record.TheVariants as record_of
+use Rattle.cct_model.specs.lines.command.Command.{Command}
+use Rattle.cct_model.specs.lines.command.Command.TheVariants as command
+use Rattle.cct_model.specs.lines.command.Step.{Step}
+use Rattle.cct_model.specs.lines.entry.End.{End}
+use Rattle.cct_model.specs.lines.entry.End.TheVariants.{Sold}
+use Rattle.cct_model.specs.lines.entry.Entry.{Entry}
+use Rattle.cct_model.specs.lines.entry.Entry.TheVariants as entry
+use Rattle.cct_model.specs.declared.judging.OpenOrder.{OpenOrder}
+use Rattle.cct_model.specs.Device.{IsSound}
+use Rattle.cct_model.specs.Exchange.{device_at}
+use Rattle.cct_model.specs.Money.{totals}
+use Rattle.cct_model.specs.Setup.{IsSoundSetup}
+use Rattle.cct_model.specs.History.{Met}
+use Rattle.cct_model.specs.Line.{Line, put, taken}
+use Rattle.cct_model.specs.Order.{order}
+use Rattle.cct_model.specs.Job.{Job, job, with_line, done, epoch, puts, address_of}
+use Rattle.cct_model.specs.Records.{records, hopper_of}
+use Rattle.cct_model.specs.Legal.{with_end, keeping_crash}
+use Rattle.cct_model.specs.Refusal.{refusal}
+use Rattle.cct_model.specs.Transcript.{met, owner, opened_at, lines_of, sale_lines}
+use Rattle.cct_model.specs.Paid.{uses, IsFresh}
+use Rattle.cct_laws.specs.Ids.{waiting, Ids}
+use Rattle.cct_laws.specs.Kept.{suits}
+use Rattle.cct_laws.specs.KeptHopper.{IsOwed}
+use Rattle.cct_laws.specs.Law.{IsOf}
+use Rattle.cct_laws.specs.Recorded.{HasNoJob}
+use Rattle.cct_laws.proofs.Setups.{same_some, found_in}
+use Rattle.cct_laws.proofs.Rows.{RowHolds, IsOwned, row_owned}
+use Rattle.cct_laws.proofs.Brought.{Comes, takes_coin, leaves_coin, leaves_alien, drops_coin, drops_none, jams, jams_none, is_reset, AtWork, row_after, wire_of, wire_end, record_end, poll_wire, poll_end, AtDevice, came, took, halted, idled, made_exchange, made_put, Selling, Brought, of_device, faulted, refused, began_scan, began_sale, nobody, polled, sold, balanced, lost_power, lost_in_put, lost_in_sale}
+use Rattle.cct_laws.proofs.Recorded.{order_recorded, restart_frees}
+use Rattle.cct_laws.proofs.Waits.{BeginsNone, device_waits_less, sale_waits_less}
+use Rattle.cct_laws.proofs.Used.{Unused, Grows, same_records, one_more, grows_fresh, grows_owned, more_unused}
+use Rattle.cct_laws.proofs.Opening.{UsesOwn, row_own}
+use Rattle.cct_laws.proofs.NewIds.{IsNew, payment_new, sale_new}
+
+-- a job waits with no id that it did not wait with before, and those that it waits with stay unused
+abbrev pub WaitsOn : List Record → List Record → Job → Job → Type 0
+WaitsOn before later j after =
+    (id : ℕ) → waiting after ≡ Some id → (waiting j ≡ Some id) × (Unused id before → Unused id later)
+
+-- no job waits that did not wait before, and records stay, or there is one more whose id is new
+pub record Less (setup : Setup) (past later : List Entry) : Type 0 where
+  pub grows : Grows (records past) (records later)
+  pub devices : (e : DeviceSetup) → IsOf setup e →
+      WaitsOn (records past) (records later) (job (lines_of e past)) (job (lines_of e later))
+  pub sale : WaitsOn (records past) (records later) (job (sale_lines past)) (job (sale_lines later))
+
+pub ids_less : (setup : Setup) (past later : List Entry) → Less setup past later → Ids setup past → Ids setup later
+ids_less setup past later less ids = record {
+  waits = λ e id own is. let was = less.devices e own id is in was.1 (ids.waits e id own was.0);
+  sale_waits = λ id is. let was = less.sale id is in was.1 (ids.sale_waits id was.0);
+  apart = λ d e id own other first second.
+      ids.apart d e id own other (less.devices d own id first).0 (less.devices e other id second).0;
+  sale_apart = λ e id own first second. ids.sale_apart e id own (less.devices e own id first).0 (less.sale id second).0;
+  owned = λ e o own is.
+      grows_owned (records past) (records later) e.addr less.grows
+      (λ x was. ids.owned e x own (order_recorded e past ∙ was)) o (sym (order_recorded e later) ∙ is);
+  fresh = grows_fresh (records past) (records later) less.grows ids.fresh;
+}
+
+-- an entry that puts nothing
+pub ids_quiet : (setup : Setup) (past : List Entry) (e : Entry) → BeginsNone e → records (e ∷ past) ≡ records past →
+    Ids setup past → Ids setup (e ∷ past)
+ids_quiet setup past e none same = ids_less setup past (e ∷ past) (record {
+  grows = subst (Grows (records past)) (sym same) same_records;
+  devices = λ d own id is. (device_waits_less d past e none id is, λ unused. ap (list_any (uses id)) same ∙ unused);
+  sale = λ id is. (sale_waits_less past e none id is, λ unused. ap (list_any (uses id)) same ∙ unused);
+})
+
+pub ids_ended : (setup : Setup) (past : List Entry) (addr : ℕ) (e : Entry) (end : Option End) → Ids setup (e ∷ past) →
+    Ids setup (with_end addr e end ++ past)
+ids_ended setup past addr e None ids = ids
+ids_ended setup past addr e (Some end) ids = ids_quiet setup (e ∷ past) (entry.Ended addr end) tt refl ids
+
+-- a device is at no address of a host or of all
+pub above_host : (setup : Setup) (e : DeviceSetup) → IsSoundSetup setup → IsOf setup e → HOST < e.addr
+above_host setup e sound own = (found_in IsSound setup.devices e.addr e sound.devices own).0.low
+
+-- what waits behind a payment that is taken
+paid_waits : (here : Bool) (addr id count : ℕ) (lines : List Line) (other : ℕ) →
+    waiting (job (cond here (taken (command.Pay addr id count) ∷ []) [] ++ lines)) ≡ Some other →
+    ((here ≡ true) × (id ≡ other)) ⊎ (waiting (job lines) ≡ Some other)
+paid_waits true addr id count lines other is = inl (refl, same_some id other is)
+paid_waits false addr id count lines other is = inr is
+
+-- the payment is taken
+ids_paid : (setup : Setup) (past : List Entry) (addr id count : ℕ) → HOST < addr → IsNew setup past id →
+    Ids setup past → Ids setup (entry.Taken (command.Pay addr id count) ∷ past)
+ids_paid setup past addr id count far is_new ids = record {
+  waits = λ e other own is. elim (waits_at e other is) [
+    | inl at ↦ subst (λ x. Unused x (records past)) at.1 is_new.unused
+    | inr was ↦ ids.waits e other own was
+  ];
+  sale_waits = λ other is. ids.sale_waits other (sale_at other is);
+  apart = λ d e other own second_own first second. elim (waits_at d other first) [
+    | inl at ↦ elim (waits_at e other second) [
+      | inl also ↦ sym (eqb-true addr d.addr at.0) ∙ eqb-true addr e.addr also.0
+      | inr was ↦ absurd (is_new.devices e other second_own was at.1)
+    ]
+    | inr was ↦ elim (waits_at e other second) [
+      | inl at ↦ absurd (is_new.devices d other own was at.1)
+      | inr also ↦ ids.apart d e other own second_own was also
+    ]
+  ];
+  sale_apart = λ e other own first second. elim (waits_at e other first) [
+    | inl at ↦ is_new.sale other (sale_at other second) at.1
+    | inr was ↦ ids.sale_apart e other own was (sale_at other second)
+  ];
+  owned = λ e o own is. ids.owned e o own (order_recorded e past ∙ sym (order_recorded e later) ∙ is);
+  fresh = ids.fresh;
+}
+  where
+    later : List Entry
+    later = entry.Taken (command.Pay addr id count) ∷ past
+
+    waits_at : (e : DeviceSetup) (other : ℕ) → waiting (job (lines_of e later)) ≡ Some other →
+        (((addr == e.addr) ≡ true) × (id ≡ other)) ⊎ (waiting (job (lines_of e past)) ≡ Some other)
+    waits_at e other is = paid_waits (addr == e.addr) addr id count (lines_of e past) other is
+
+    sale_at : (other : ℕ) → waiting (job (sale_lines later)) ≡ Some other → waiting (job (sale_lines past)) ≡ Some other
+    sale_at other is = elim (paid_waits (addr == HOST) addr id count (sale_lines past) other is) [
+      | inl at ↦ let same = eqb-true addr HOST at.0 in absurd (omega (arith, far))
+      | inr was ↦ was
+    ]
+
+-- a sale is taken
+ids_vended : (setup : Setup) (past : List Entry) (id price : ℕ) → IsSoundSetup setup → IsNew setup past id →
+    Ids setup past → Ids setup (entry.Taken (command.Vend id price) ∷ past)
+ids_vended setup past id price sound is_new ids = record {
+  waits = λ e other own is. ids.waits e other own (waits_at e other own is);
+  sale_waits = λ other is. subst (λ x. Unused x (records past)) (same_some id other is) is_new.unused;
+  apart = λ d e other own second_own first second.
+      ids.apart d e other own second_own (waits_at d other own first) (waits_at e other second_own second);
+  sale_apart = λ e other own first second.
+      is_new.devices e other own (waits_at e other own first) (same_some id other second);
+  owned = λ e o own is. ids.owned e o own (order_recorded e past ∙ sym (order_recorded e later) ∙ is);
+  fresh = ids.fresh;
+}
+  where
+    later : List Entry
+    later = entry.Taken (command.Vend id price) ∷ past
+
+    elsewhere : (here : Bool) (lines : List Line) (other : ℕ) → here ≡ false →
+        waiting (job (cond here (taken (command.Vend id price) ∷ []) [] ++ lines)) ≡ Some other →
+        waiting (job lines) ≡ Some other
+    elsewhere true lines other apart is = absurd cc
+    elsewhere false lines other apart is = is
+
+    waits_at : (e : DeviceSetup) (other : ℕ) → IsOf setup e → waiting (job (lines_of e later)) ≡ Some other →
+        waiting (job (lines_of e past)) ≡ Some other
+    waits_at e other own is =
+        let far = above_host setup e sound own in
+        elsewhere (HOST == e.addr) (lines_of e past) other (ne_eqb HOST e.addr (λ same. omega (arith, far))) is
+
+-- what a row puts is of its device
+pub put_owned : (setup : Setup) (past : List Entry) (d : DeviceSetup) (c : Command) (since : List Line) (r : Record) →
+    IsOf setup d → Ids setup past → AtWork d past c since → row_after d past c since ≡ puts r → owner past r ≡ d.addr
+put_owned setup past d c since r own ids work is =
+    subst (IsOwned past (address_of c)) is
+    (row_owned past d c since (epoch (lines_of d past)) (order (lines_of d past)) opened) ∙ work.is_here
+  where
+    opened : (o : OpenOrder) → order (lines_of d past) ≡ Some o → opened_at o.id past ≡ address_of c
+    opened o owed = let at = ids.owned d o own owed in ap hopper_of at.0 ∙ at.1 ∙ sym work.is_here
+
+-- the host's loss of power changes no owner
+pub kept_owned : (setup : Setup) (past : List Entry) (d : DeviceSetup) (c : Command) (since : List Line) (r : Record)
+    (n : ℕ) → IsOf setup d → Ids setup past → AtWork d past c since → row_after d past c since ≡ puts r →
+    owner (entry.Crash n ∷ past) r ≡ d.addr
+kept_owned setup past d c since r n own ids work is = put_owned setup past d c since r own ids work is
+
+-- a record that is put uses a new id, with which no job then waits
+record IsPutNew (setup : Setup) (past : List Entry) (r : Record) : Type 0 where
+  is_new : IsFresh (records past) r
+  devices : (e : DeviceSetup) (other : ℕ) → IsOf setup e →
+      waiting (job (lines_of e (entry.Put r ∷ past))) ≡ Some other → uses other r ≡ false
+  sale : (other : ℕ) → waiting (job (sale_lines past)) ≡ Some other → uses other r ≡ false
+
+opened_new : (setup : Setup) (past : List Entry) (d : DeviceSetup) (addr id count : ℕ) (since : List Line)
+    (opened a n life : ℕ) → IsOf setup d → Ids setup past → AtWork d past (command.Pay addr id count) since →
+    a ≡ d.addr → id ≡ opened → done since ≡ 2 → IsPutNew setup past (record_of.Opened opened a n life)
+opened_new setup past d addr id count since opened a n life own ids work here same two = record {
+  is_new = ids.waits d opened own before;
+  devices = λ e other own_too is. ne_eqb opened other (apart e other own_too is);
+  sale = λ other is. ne_eqb opened other (λ equal. ids.sale_apart d other own (before ∙ ap Some equal) is);
+}
+  where
+    r : Record
+    r = record_of.Opened opened a n life
+
+    before : waiting (job (lines_of d past)) ≡ Some opened
+    before = ap waiting work.job_is ∙ ap (λ k. cond (nat_le k 2) (Some id) None) two ∙ ap Some same
+
+    after : waiting (job (lines_of d (entry.Put r ∷ past))) ≡ None
+    after =
+        ap (λ b. waiting (job (cond b (put r ∷ []) [] ++ lines_of d past))) (eq-eqb a d.addr here)
+        ∙ ap (λ j. waiting (with_line (put r) j)) work.job_is ∙ ap (λ k. cond (nat_le (suc k) 2) (Some id) None) two
+
+    apart : (e : DeviceSetup) (other : ℕ) → IsOf setup e →
+        waiting (job (lines_of e (entry.Put r ∷ past))) ≡ Some other → opened ≢ other
+    apart e other own_too is equal =
+        let was = device_waits_less e past (entry.Put r) tt other is in
+        let at = ids.apart d e other own own_too (before ∙ ap Some equal) was in
+        let one = same_some e d (sym own_too ∙ ap (device_at setup.devices) (sym at) ∙ own) in
+        none-some other (sym after ∙ ap (λ x. waiting (job (lines_of x (entry.Put r ∷ past)))) (sym one) ∙ is)
+
+put_new : (setup : Setup) (past : List Entry) (d : DeviceSetup) (c : Command) (since : List Line) (r : Record) →
+    IsOf setup d → Ids setup past → AtWork d past c since → owner past r ≡ d.addr → UsesOwn r c (done since) →
+    IsPutNew setup past r
+put_new setup past d (command.Pay addr id count) since (record_of.Opened opened a n life) own ids work here uses_own =
+    opened_new setup past d addr id count since opened a n life own ids work here uses_own.0 uses_own.1
+put_new setup past d c since (record_of.Opened opened a n life) own ids work here uses_own = absurd uses_own
+put_new setup past d c since (record_of.Sold id price) own ids work here uses_own = absurd uses_own
+put_new setup past d c since r own ids work here uses_own =
+    record { is_new = tt; devices = λ e other own_too is. refl; sale = λ other is. refl }
+
+row_new : (setup : Setup) (past : List Entry) (d : DeviceSetup) (c : Command) (since : List Line) (r : Record) →
+    IsOf setup d → Ids setup past → AtWork d past c since → row_after d past c since ≡ puts r → IsPutNew setup past r
+row_new setup past d c since r own ids work is =
+    put_new setup past d c since r own ids work (put_owned setup past d c since r own ids work is)
+    (subst (RowHolds (λ q. ⊤) (λ x. UsesOwn x c (done since))) is
+    (row_own d c since (epoch (lines_of d past)) (order (lines_of d past))))
+
+-- the record is put, or is kept when the host loses its power
+ids_put : (setup : Setup) (past : List Entry) (r : Record) → IsPutNew setup past r → Ids setup past →
+    Ids setup (entry.Put r ∷ past)
+ids_put setup past r puts_new ids = ids_less setup past (entry.Put r ∷ past) (record {
+  grows = one_more r puts_new.is_new;
+  devices = λ e own id is.
+      (device_waits_less e past (entry.Put r) tt id is, more_unused id r (records past) (puts_new.devices e id own is));
+  sale = λ id is.
+      let was = sale_waits_less past (entry.Put r) tt id is in
+      (was, more_unused id r (records past) (puts_new.sale id was));
+}) ids
+
+ids_kept : (setup : Setup) (past : List Entry) (r : Record) → IsFresh (records past) r → Ids setup past →
+    Ids setup (keeping_crash past r ++ past)
+ids_kept setup past r is_new ids = ids_less setup past (keeping_crash past r ++ past) (record {
+  grows = one_more r is_new;
+  devices = λ e own id is. absurd (none-some id (sym (ap waiting (freed.devices e)) ∙ is));
+  sale = λ id is. absurd (none-some id (sym (ap waiting freed.sale) ∙ is));
+}) ids
+  where
+    freed : HasNoJob (keeping_crash past r ++ past)
+    freed = restart_frees (keeping_crash past r ++ past) tt
+
+-- the id of a sale that is about to put its record
+sale_unused : (setup : Setup) (past : List Entry) (id price : ℕ) (since : List Line) → Ids setup past →
+    Selling past id price since → Unused id (records past)
+sale_unused setup past id price since ids selling = ids.sale_waits id (ap waiting selling.job_is)
+
+-- a sale puts its record, and ends
+ids_sold : (setup : Setup) (past : List Entry) (id price : ℕ) (since : List Line) → Selling past id price since →
+    Ids setup past → Ids setup (entry.Ended HOST Sold ∷ entry.Put (record_of.Sold id price) ∷ past)
+ids_sold setup past id price since selling ids = ids_less setup past (entry.Ended HOST Sold ∷ kept) (record {
+  grows = one_more (record_of.Sold id price) (sale_unused setup past id price since ids selling);
+  devices = λ e own other is.
+      let first = device_waits_less e kept (entry.Ended HOST Sold) tt other is in
+      let was = device_waits_less e past (entry.Put (record_of.Sold id price)) tt other first in (
+        was,
+        more_unused other (record_of.Sold id price) (records past) (ne_eqb id other (λ same.
+            ids.sale_apart e other own was (ap waiting selling.job_is ∙ ap Some same))),
+      );
+  sale = λ other is. absurd cc;
+}) ids
+  where
+    kept : List Entry
+    kept = entry.Put (record_of.Sold id price) ∷ past
+
+came_ids : (setup : Setup) (past : List Entry) (d : DeviceSetup) (s : Step) (e : Entry) (m : Met) (ls : List Line) →
+    Comes d (met d past) s e m ls → Ids setup past → Ids setup (e ∷ past)
+came_ids setup past d s e m ls (takes_coin place accepting is) ids = ids_quiet setup past _ tt refl ids
+came_ids setup past d s e m ls (leaves_coin place accepting is) ids = ids_quiet setup past _ tt refl ids
+came_ids setup past d s e m ls (leaves_alien accepting) ids = ids_quiet setup past _ tt refl ids
+came_ids setup past d s e m ls (drops_coin paying is) ids = ids_quiet setup past _ tt refl ids
+came_ids setup past d s e m ls (drops_none paying is) ids = ids_quiet setup past _ tt refl ids
+came_ids setup past d s e m ls (jams paying is) ids = ids_quiet setup past _ tt refl ids
+came_ids setup past d s e m ls (jams_none paying is) ids = ids_quiet setup past _ tt refl ids
+came_ids setup past d s e m ls is_reset ids = ids_quiet setup past _ tt refl ids
+
+unsuited : (body : DeviceBody) (id price : ℕ) → suits body (command.Vend id price) ≡ true → ⊥
+unsuited (Acceptor accepts values ids) id price suited = cc
+unsuited (Hopper life value) id price suited = cc
+
+took_ids : (capacity : Option ℕ) (setup : Setup) (past : List Entry) (d : DeviceSetup) (c : Command) →
+    IsSoundSetup setup → IsOf setup d → suits d.body c ≡ true → address_of c ≡ d.addr →
+    IsOwed c (order (lines_of d past)) → refusal capacity setup past c ≡ None → Ids setup past →
+    Ids setup (entry.Taken c ∷ past)
+took_ids capacity setup past d (command.Pay addr id count) sound own suited here owed passes ids =
+    let far = above_host setup d sound own in
+    ids_paid setup past addr id count (omega (arith, far, here))
+    (payment_new capacity setup past d id count own owed
+    (subst (λ a. refusal capacity setup past (command.Pay a id count) ≡ None) here passes)) ids
+took_ids capacity setup past d (command.Vend id price) sound own suited here owed passes ids =
+    absurd (unsuited d.body id price suited)
+took_ids capacity setup past d c sound own suited here owed passes ids =
+    ids_quiet setup past (entry.Taken c) refl refl ids
+
+device_ids : (capacity : Option ℕ) (setup : Setup) (past : List Entry) (d : DeviceSetup) (s : Step)
+    (news : List Entry) → IsSoundSetup setup → IsOf setup d → AtDevice capacity setup d past s news → Ids setup past →
+    Ids setup (news ++ past)
+device_ids capacity setup past d _ _ sound own (came s e m ls comes) ids = came_ids setup past d s e m ls comes ids
+device_ids capacity setup past d s news sound own (took c suited here is_free is_taken owed passes) ids =
+    took_ids capacity setup past d c sound own suited here owed passes ids
+device_ids capacity setup past d s news sound own (halted paying can) ids =
+    ids_quiet setup past (entry.Taken (command.Halt d.addr)) refl refl ids
+device_ids capacity setup past d s news sound own (idled is_free) ids =
+    ids_quiet setup past (entry.Idle d.addr) tt refl ids
+device_ids capacity setup past d s news sound own (made_exchange c since q work is) ids =
+    ids_ended setup past d.addr (wire_of setup d past q) (wire_end setup d past c since q)
+    (ids_quiet setup past (wire_of setup d past q) tt refl ids)
+device_ids capacity setup past d s news sound own (made_put c since r work is) ids =
+    ids_ended setup past d.addr (entry.Put r) (record_end d past c since r)
+    (ids_put setup past r (row_new setup past d c since r own ids work is) ids)
+
+pub ids_start : (setup : Setup) → Ids setup []
+ids_start setup = record {
+  waits = λ e id own is. refl;
+  sale_waits = λ id is. refl;
+  apart = λ d e id own other first second. absurd cc;
+  sale_apart = λ e id own first second. cc;
+  owned = λ e o own is. absurd cc;
+  fresh = tt;
+}
+
+pub ids_step : (capacity : Option ℕ) (setup : Setup) (past news : List Entry) (s : Step) → IsSoundSetup setup →
+    Brought capacity setup past s news → Ids setup past → Ids setup (news ++ past)
+ids_step capacity setup past _ _ sound (of_device d s news own at) ids =
+    device_ids capacity setup past d s news sound own at ids
+ids_step capacity setup past news s sound (faulted f) ids = ids_quiet setup past (entry.Fault f) tt refl ids
+ids_step capacity setup past news s sound (refused c why is) ids = ids_quiet setup past (entry.No c why) tt refl ids
+ids_step capacity setup past news s sound (began_scan is_free) ids =
+    ids_quiet setup past (entry.Taken command.Scan) refl refl ids
+ids_step capacity setup past news s sound (began_sale id price is_free passes) ids =
+    ids_vended setup past id price sound (sale_new capacity setup past id price passes) ids
+ids_step capacity setup past news s sound (nobody addr none) ids = ids_quiet setup past (entry.Idle addr) tt refl ids
+ids_step capacity setup past news s sound (polled c since check addr none is next) ids =
+    ids_ended setup past BROADCAST (poll_wire setup past check addr) (poll_end setup past since check addr)
+    (ids_quiet setup past (poll_wire setup past check addr) tt refl ids)
+ids_step capacity setup past news s sound (sold id price since none selling) ids =
+    ids_sold setup past id price since selling ids
+ids_step capacity setup past news s sound balanced ids =
+    ids_quiet setup past (entry.Balance (totals setup past)) tt refl ids
+ids_step capacity setup past news s sound (lost_power at choice) ids =
+    ids_quiet setup past (entry.Crash (length (records past))) tt refl ids
+ids_step capacity setup past news s sound (lost_in_put at choice d c since r own work is) ids =
+    ids_kept setup past r (row_new setup past d c since r own ids work is).is_new ids
+ids_step capacity setup past news s sound (lost_in_sale at choice id price since none selling) ids =
+    ids_kept setup past (record_of.Sold id price) (sale_unused setup past id price since ids selling) ids

@@ -1,0 +1,5 @@
+use Rattle.cct_laws.proofs.Ending.{job_ends}
+use Rattle.cct_laws.proofs.a_job_without_a_fault_ends.Goals as goal
+
+pub returns : goal.returns
+returns c = job_ends

@@ -1,0 +1,5 @@
+use Rattle.cct_laws.proofs.Unodd.{legal_life}
+use Rattle.cct_laws.proofs.life_counts_fit_each_order.Goals as goal
+
+pub returns : goal.returns
+returns c = legal_life

@@ -1,0 +1,117 @@
+-- A small machine, and what its host and its devices do on it: an acceptor at address 2 with coins of value 100, and a
+-- hopper at address 3 with coins of value 10.
+use Rattle.std.proofs.Common.{ℕ, ◌+◌, ◌-◌, ◌*◌, nat_lt, List, [], ◌∷◌, ◌++◌, map, replicate, false, cond, Option, refl}
+use Prim.Native.String.{String}
+use Rattle.std.specs.Prelude.{codes, ⊤}
+use Rattle.cct_model.specs.terms.coin.Coin.{Coin}
+use Rattle.cct_model.specs.terms.wire.CheckKind.TheVariants.{Simple, Crc}
+use Rattle.cct_model.specs.terms.device.DeviceBody.TheVariants.{Acceptor, Hopper}
+use Rattle.cct_model.specs.terms.device.DeviceSetup.{DeviceSetup}
+use Rattle.cct_model.specs.terms.device.Texts.{Texts}
+use Rattle.cct_model.specs.terms.device.Setup.{Setup}
+use Rattle.cct_model.specs.lines.command.Step.{Step}
+use Rattle.cct_model.specs.lines.command.Step.TheVariants as step
+use Rattle.cct_model.specs.lines.command.Command.TheVariants as command
+use Rattle.cct_model.specs.lines.record.Record.TheVariants as record_of
+use Rattle.cct_model.specs.lines.entry.Entry.{Entry}
+use Rattle.cct_model.specs.lines.entry.Entry.TheVariants as entry
+use Rattle.cct_model.specs.lines.entry.End.TheVariants as end_of
+use Rattle.cct_model.specs.Legal.{Entries, LegalFrom}
+
+-- a digit of a hexadecimal number
+abbrev digit : ℕ → ℕ
+digit code = cond (nat_lt code 58) (code - 48) (code - 87)
+
+-- the bytes of which these are the digits
+abbrev pub bytes_of : List ℕ → List ℕ
+bytes_of [] = []
+bytes_of (high ∷ []) = []
+bytes_of (high ∷ low ∷ more) = (16 * digit high + digit low) ∷ bytes_of more
+
+abbrev pub texts : Texts
+texts = record { maker = codes "BENCH"; product = codes "CCT"; software = codes "1"; build = codes "1" }
+
+abbrev pub acceptor : DeviceSetup
+acceptor = record { addr = 2; kind = Simple; serial = 1; texts = texts; named = false; body = Acceptor 0 (replicate 16 100) (replicate 16 (codes "XX100A")) }
+
+abbrev pub hopper : DeviceSetup
+hopper = record { addr = 3; kind = Simple; serial = 197121; texts = texts; named = false; body = Hopper 16777214 10 }
+
+abbrev pub setup : Setup
+setup = record { devices = acceptor ∷ hopper ∷ [] }
+
+-- two acceptors and three hoppers
+abbrev pub house : Setup
+house = record {
+  devices =
+      acceptor ∷ hopper
+      ∷ record {
+        addr = 4;
+        kind = Crc;
+        serial = 4;
+        texts = texts;
+        named = false;
+        body = Acceptor 0 (replicate 16 50) (replicate 16 (codes "XX050A"));
+      }
+      ∷ record { addr = 5; kind = Simple; serial = 5; texts = texts; named = false; body = Hopper 0 50 }
+      ∷ record { addr = 6; kind = Crc; serial = 6; texts = texts; named = false; body = Hopper 7 100 } ∷ [];
+}
+
+-- a coin of a place by its path
+abbrev pub coin : ℕ → ℕ → Coin
+coin place path = record { place = place; path = path }
+
+-- the entry of an exchange, by the digits of its bytes
+abbrev pub wire : ℕ → String → String → Entry
+wire addr sent heard = entry.Wire addr (bytes_of (codes sent)) (bytes_of (codes heard))
+
+-- one step of a run with its entries, newest first
+pub record Row : Type 0 where
+  pub play : Step
+  pub news : List Entry
+
+-- each of these rows has the entries of its step, after the rows before it
+abbrev pub Plays : Option ℕ → Setup → List Entry → List Row → Type 0
+Plays capacity the past [] = ⊤
+Plays capacity the past (row ∷ rows) = Entries capacity the past row.play row.news × Plays capacity the (row.news ++ past) rows
+
+-- all entries after these rows
+abbrev pub after : List Entry → List Row → List Entry
+after past [] = past
+after past (row ∷ rows) = after (row.news ++ past) rows
+
+pub plays_legal : (capacity : Option ℕ) (the : Setup) (past : List Entry) (rows : List Row) → Plays capacity the past rows
+    → LegalFrom capacity the past (map (λ row. row.play) rows) (after past rows)
+plays_legal capacity the past [] plays = refl
+plays_legal capacity the past (row ∷ rows) plays = (row.news, plays.0, plays_legal capacity the (row.news ++ past) rows plays.1)
+
+-- the row of a step that gives this entry, and of one that gives these two, the second behind the first
+abbrev pub one : Step → Entry → Row
+one play e = record { play = play; news = e ∷ [] }
+
+abbrev pub both : Step → Entry → Entry → Row
+both play e other = record { play = play; news = other ∷ e ∷ [] }
+
+-- the acceptor is started with every coin place
+abbrev pub starting : List Row
+starting =
+    one (step.Command (command.Start 2 65535)) (entry.Taken (command.Start 2 65535))
+    ∷ one (step.Next 2) (wire 2 "02000101fc" "02000101fc01000200fd")
+    ∷ one (step.Next 2) (wire 2 "020001e518" "020001e518010b02000000000000000000000000f2")
+    ∷ one (step.Next 2) (entry.Put (record_of.Epoch 2 65535))
+    ∷ both (step.Next 2) (wire 2 "020201e7ffff16" "020201e7ffff1601000200fd") (entry.Ended 2 end_of.Started)
+    ∷ []
+
+-- it is started, takes a coin of place 5, and is read
+abbrev pub funding : List Row
+funding =
+    starting
+    ++ one (step.Coin 2 5) (entry.Accepted 2 (coin 5 1))
+    ∷ one (step.Command (command.Round 2)) (entry.Taken (command.Round 2))
+    ∷ one (step.Next 2) (wire 2 "020001e518" "020001e518010b02000105010000000000000000eb")
+    ∷ one (step.Next 2) (wire 2 "020001e617" "020001e61701020200fffffd")
+    ∷ both (step.Next 2) (entry.Put (record_of.Reading 2 1 0 (coin 5 1 ∷ []))) (entry.Ended 2 end_of.Posted)
+    ∷ []
+
+abbrev pub funded : List Entry
+funded = after [] funding

@@ -1,0 +1,52 @@
+-- Which record may follow those before it, newest first.
+use Rattle.std.specs.Prelude.{ℕ, ◌+◌, ◌==◌, ◌&&◌, nat_le, not, Bool, true, false, List, [], ◌∷◌, Option, Some, None, is_none}
+use Rattle.cct_model.specs.terms.device.DeviceSetup.{DeviceSetup}
+use Rattle.cct_model.specs.terms.device.Setup.{Setup}
+use Rattle.cct_model.specs.lines.record.Record.{Record}
+use Rattle.cct_model.specs.lines.record.Record.TheVariants as record_of
+use Rattle.cct_model.specs.declared.judging.EpochState.{EpochState}
+use Rattle.cct_model.specs.declared.judging.EpochState.TheVariants.{Idle, Running}
+use Rattle.cct_model.specs.declared.judging.OpenOrder.{OpenOrder}
+use Rattle.cct_model.specs.Exchange.{device_at, acceptor_there, hopper_there}
+use Rattle.cct_model.specs.Records.{order_named, is_open, epoch_in, order_in}
+use Rattle.cct_model.specs.Refusal.{valueless}
+use Rattle.cct_model.specs.Money.{coins_of, available_in}
+
+-- An epoch runs.
+abbrev pub is_running : EpochState → Bool
+is_running Idle = false
+is_running (Running mask counter) = true
+
+-- Each place of a mask has a value at a device; there has to be one.
+abbrev pub has_values : Option DeviceSetup → ℕ → Bool
+has_values None mask = false
+has_values (Some d) mask = is_none (valueless d.body mask)
+
+-- The number of coins of an order, 0 of none.
+abbrev pub count_of : Option OpenOrder → ℕ
+count_of None = 0
+count_of (Some o) = o.count
+
+-- A record may follow those before it. An epoch begins at an acceptor with no running epoch, and each place of its mask,
+-- which isn't 0, has a value; a reading, a break and an epoch's end follow where an epoch runs. An order is opened at a
+-- hopper with no open order, with an id that isn't 0 and with which none is open, and its coins, at least one, are
+-- available; it is closed where it is open, and its coins are then paid or unpaid. A sale has an id and a price that
+-- aren't 0, and its price is available.
+abbrev pub follows : Setup → List Record → Record → Bool
+follows setup before (record_of.Epoch addr mask) =
+    acceptor_there (device_at setup.devices addr) && not (is_running (epoch_in addr before)) && not (mask == 0)
+    && has_values (device_at setup.devices addr) mask
+follows setup before (record_of.Reading addr counter lost posted) = is_running (epoch_in addr before)
+follows setup before (record_of.Broken addr seen counter posted) = is_running (epoch_in addr before)
+follows setup before (record_of.EpochEnd addr) = is_running (epoch_in addr before)
+follows setup before (record_of.Opened id addr count life) =
+    hopper_there (device_at setup.devices addr) && is_none (order_in addr before) && not (id == 0) && not (is_open id before)
+    && not (count == 0) && nat_le (coins_of setup addr count) (available_in setup before)
+follows setup before (record_of.Closed id paid unpaid) = is_open id before && (paid + unpaid == count_of (order_named id before))
+follows setup before (record_of.Odd id life_before life_after) = is_open id before
+follows setup before (record_of.Sold id price) = not (id == 0) && not (price == 0) && nat_le price (available_in setup before)
+
+-- Each of these records may follow those before it.
+abbrev pub all_follow : Setup → List Record → Bool
+all_follow setup [] = true
+all_follow setup (r ∷ before) = follows setup before r && all_follow setup before

@@ -1,0 +1,137 @@
+-- What the operator has, as sums over all records and over the jobs that run.
+use Rattle.std.specs.Prelude.{ℕ, ◌+◌, ◌-◌, ◌*◌, nat_le, List, [], ◌∷◌, if◌then◌else◌, Option, Some, None}
+use Rattle.cct_model.specs.terms.coin.Coin.{Coin}
+use Rattle.cct_model.specs.terms.device.DeviceBody.{DeviceBody}
+use Rattle.cct_model.specs.terms.device.DeviceBody.TheVariants.{Acceptor, Hopper}
+use Rattle.cct_model.specs.terms.device.DeviceSetup.{DeviceSetup}
+use Rattle.cct_model.specs.terms.device.Setup.{Setup}
+use Rattle.cct_model.specs.lines.record.Record.{Record}
+use Rattle.cct_model.specs.lines.record.Record.TheVariants as record_of
+use Rattle.cct_model.specs.lines.command.Command.TheVariants as command
+use Rattle.cct_model.specs.lines.entry.Entry.{Entry}
+use Rattle.cct_model.specs.lines.entry.Totals.{Totals}
+use Rattle.cct_model.specs.declared.judging.OpenOrder.{OpenOrder}
+use Rattle.cct_model.specs.Device.{value_at}
+use Rattle.cct_model.specs.Exchange.{device_at}
+use Rattle.cct_model.specs.Job.{Job, works, job, done}
+use Rattle.cct_model.specs.Records.{records, order_named, opened_in, order_in}
+use Rattle.cct_model.specs.Transcript.{lines_of, sale_lines}
+
+-- The value of a coin of a place at a device, 0 where there is none or the place has none.
+abbrev pub place_value : Option DeviceSetup → ℕ → ℕ
+place_value None place = 0
+place_value (Some d) place = value_at d.body place
+
+-- The value of coins that a device accepted.
+abbrev pub coins_value : Option DeviceSetup → List Coin → ℕ
+coins_value found [] = 0
+coins_value found (coin ∷ coins) = place_value found coin.place + coins_value found coins
+
+-- The value of the coins that a hopper pays, 0 of an acceptor.
+abbrev pub paid_value : DeviceBody → ℕ
+paid_value (Acceptor accepts values ids) = 0
+paid_value (Hopper life value) = value
+
+-- The value of one coin of the hopper at an address, 0 where there is no device.
+abbrev pub hopper_value : Option DeviceSetup → ℕ
+hopper_value None = 0
+hopper_value (Some d) = paid_value d.body
+
+-- The value of so many coins of the hopper at an address.
+abbrev pub coins_of : Setup → ℕ → ℕ → ℕ
+coins_of setup addr count = count * hopper_value (device_at setup.devices addr)
+
+-- The value of all coins of an order, 0 of none.
+abbrev pub amount : Setup → Option OpenOrder → ℕ
+amount setup None = 0
+amount setup (Some o) = coins_of setup o.addr o.count
+
+-- The value of the coins that a record posts.
+abbrev pub posted_by : Setup → Record → ℕ
+posted_by setup (record_of.Reading addr counter lost posted) = coins_value (device_at setup.devices addr) posted
+posted_by setup (record_of.Broken addr seen counter posted) = coins_value (device_at setup.devices addr) posted
+posted_by setup r = 0
+
+-- The value of all coins posted.
+abbrev pub posted_in : Setup → List Record → ℕ
+posted_in setup [] = 0
+posted_in setup (r ∷ before) = posted_by setup r + posted_in setup before
+
+-- The value that a record says was paid: of a closed order, that of the coins that fell.
+abbrev pub paid_by : Setup → List Record → Record → ℕ
+paid_by setup before (record_of.Closed id paid unpaid) = coins_of setup (opened_in id before) paid
+paid_by setup before r = 0
+
+-- The value of all coins paid.
+abbrev pub paid_in : Setup → List Record → ℕ
+paid_in setup [] = 0
+paid_in setup (r ∷ before) = paid_by setup before r + paid_in setup before
+
+-- The price of a sale.
+abbrev pub sold_by : Record → ℕ
+sold_by (record_of.Sold id price) = price
+sold_by r = 0
+
+-- The sum of all prices.
+abbrev pub sold_in : List Record → ℕ
+sold_in [] = 0
+sold_in (r ∷ before) = sold_by r + sold_in before
+
+-- The amount of an order that was closed with counts of life that don't fit it; it stays reserved.
+abbrev pub odd_by : Setup → List Record → Record → ℕ
+odd_by setup before (record_of.Odd id life_before life_after) = amount setup (order_named id before)
+odd_by setup before r = 0
+
+-- The amounts of all such orders.
+abbrev pub odd_in : Setup → List Record → ℕ
+odd_in setup [] = 0
+odd_in setup (r ∷ before) = odd_by setup before r + odd_in setup before
+
+-- A sum over devices.
+abbrev pub sum_over : (DeviceSetup → ℕ) → List DeviceSetup → ℕ
+sum_over f [] = 0
+sum_over f (d ∷ ds) = f d + sum_over f ds
+
+-- The amounts of the open orders.
+abbrev pub owed_in : Setup → List Record → ℕ
+owed_in setup before = sum_over (λ d. amount setup (order_in d.addr before)) setup.devices
+
+-- What the records reserve: the amounts of the open orders, and of those whose counts of life don't fit.
+abbrev pub reserved_in : Setup → List Record → ℕ
+reserved_in setup before = owed_in setup before + odd_in setup before
+
+-- What is available beside the records alone.
+abbrev pub available_in : Setup → List Record → ℕ
+available_in setup before = posted_in setup before - (reserved_in setup before + paid_in setup before + sold_in before)
+
+-- What a running job reserves until it puts its record: a payment the amount of its order, and a sale its price.
+abbrev pub reserved_by : Setup → Job → ℕ
+reserved_by setup (works (command.Pay addr id count) since) = if nat_le (done since) 2 then coins_of setup addr count else 0
+reserved_by setup (works (command.Vend id price) since) = price
+reserved_by setup j = 0
+
+-- What all running jobs reserve.
+abbrev pub reserved_at_work : Setup → List Entry → ℕ
+reserved_at_work setup past =
+    sum_over (λ d. reserved_by setup (job (lines_of d past))) setup.devices + reserved_by setup (job (sale_lines past))
+
+-- All that is reserved.
+abbrev pub reserved : Setup → List Entry → ℕ
+reserved setup past = reserved_in setup (records past) + reserved_at_work setup past
+
+-- What is reserved, paid and sold.
+abbrev pub spoken_for : Setup → List Entry → ℕ
+spoken_for setup past = reserved setup past + paid_in setup (records past) + sold_in (records past)
+
+-- What is available: the value of all coins posted, less what is reserved, paid and sold.
+abbrev pub available : Setup → List Entry → ℕ
+available setup past = posted_in setup (records past) - spoken_for setup past
+
+-- What the operator has.
+abbrev pub totals : Setup → List Entry → Totals
+totals setup past = record {
+  available = available setup past;
+  reserved = reserved setup past;
+  paid = paid_in setup (records past);
+  sold = sold_in (records past);
+}
