@@ -8,7 +8,6 @@ use Rattle.cct_terms.specs.declared.request.Request.TheVariants.{ResetDevice, Se
 use Rattle.cct_terms.specs.Acceptor.{accept_count, accepts, events, path_of, settings}
 use Rattle.cct_terms.specs.Device.{IsAcceptor}
 use Rattle.cct_terms.specs.History.{Met}
-use Rattle.cct_ident.specs.Identity.{setup_of}
 use Rattle.cct_ring.specs.Ring as ring
 use Rattle.cct_sorter.specs.Table as sorter
 use Rattle.cct_acceptor.specs.declared.acceptor.Acceptor.{Acceptor}
@@ -30,7 +29,6 @@ ids_of (body.Hopper life value) = []
 pub record StandsFor (acceptor : Acceptor) (d : DeviceSetup) (past : List Met) : Type 0 where
   pub kind : IsAcceptor d.body
   pub setup : acceptor.setup.now ≡ d
-  pub identity : setup_of acceptor.identity ≡ d
   pub ids : acceptor.ids.now ≡ ids_of d.body
   pub table : sorter.Holds acceptor.table (settings past)
   pub ring : ring.Holds acceptor.ring (events past)

@@ -4,16 +4,13 @@ ghost use Rattle.std.specs.Option.{option_map};
 ghost use Rattle.cct_terms.specs.declared.device.DeviceSetup.{DeviceSetup};
 ghost use Rattle.cct_terms.specs.Device.{IsAcceptor, IsSound, reply_of};
 ghost use Rattle.cct_terms.specs.Acceptor.{acceptor_reply, id_at, path_of};
-ghost use Rattle.cct_terms.specs.Exchange.{answer, answer_to, asks_of};
+ghost use Rattle.cct_terms.specs.Exchange.{answer, asks_of};
 ghost use Rattle.cct_terms.specs.History.{Met, alien, coin, heard, reset};
-ghost use Rattle.cct_terms.specs.Reply.{IsSayable, ack, coin_id, nak, path, reply_shown, text};
+ghost use Rattle.cct_terms.specs.Reply.{IsSayable, ack, coin_id, nak, path, reply_shown};
 ghost use Rattle.cct_terms.specs.Setting.{is_place};
-ghost use Rattle.cct_ident.specs.Identity.{setup_of, text_of};
 
-use crate::hearing::{Asked, listen};
 use arrayvec::ArrayVec;
-use cct_ident::{IdentText, Identity};
-use cct_msg::encode_reply;
+use cct_device::{Asked, common_reply, give, listen};
 use cct_ring::CreditRing;
 use cct_sorter::{CoinTable, is_place};
 use cct_terms::{COIN_PLACES, Coin, DeviceBody, DeviceSetup, MOST_SENT, Pair, Reply, Request};
@@ -28,13 +25,6 @@ const ALIEN: Pair = Pair { a: 0, b: 1 };
 /// The error event of an inhibited coin.
 const INHIBITED: Pair = Pair { a: 0, b: 2 };
 
-/// The release and the revision of the standard that the acceptor follows.
-const REVISION: Reply<'static> = Reply::Revision {
-    release: 1,
-    major: 4,
-    minor: 0,
-};
-
 /// What became of a coin that fell in.
 #[derive(Clone, Copy, Debug, PartialEq, Eq)]
 pub enum Inserted {
@@ -48,7 +38,6 @@ pub enum Inserted {
 #[derive(Drop)]
 pub struct Acceptor<'s> {
     setup: &'s DeviceSetup,
-    identity: Identity<'s>,
     /// The identifications of its coins, that of place 1 first.
     ids: &'s [[u8; 6]; COIN_PLACES],
     table: CoinTable,
@@ -56,7 +45,7 @@ pub struct Acceptor<'s> {
     /// How many coins were accepted, modulo [`COUNTS`].
     accepts: u32,
     ghost counts: { accepts < 2 ^ 24 },
-    ghost serial: { (setup_of identity).serial < 2 ^ 24 },
+    ghost serial: { setup.now.serial < 2 ^ 24 },
 }
 
 impl<'s> Acceptor<'s> {
@@ -74,7 +63,6 @@ impl<'s> Acceptor<'s> {
         match &setup.body {
             DeviceBody::Acceptor { accepts, ids, .. } => Ok(Acceptor {
                 setup,
-                identity: Identity::new(setup),
                 ids,
                 table: CoinTable::new(),
                 ring: CreditRing::new(alloc)?,
@@ -134,29 +122,9 @@ impl<'s> Acceptor<'s> {
         out.clear();
         match listen(self.setup, piece) {
             None => false,
-            Some(Asked { request, asker }) => self.answer(request, asker, out),
-        }
-    }
-
-    /// Acts on a request of this acceptor, and answers the asker.
-    #[tactic(auto, unfolding(cct_terms::specs::Device::reply_of, cct_terms::specs::Device::common_reply, cct_terms::specs::Acceptor::acceptor_reply), using(crate::proofs::Replies::own_is))]
-    fn answer(&mut self, request: Request, asker: u8, out: &mut ArrayVec<u8, MOST_SENT>) -> bool
-        requires { out.old.items ≡ [] }
-        ensures stands { (d : DeviceSetup) (past : List Met) → StandsFor self.old d past
-            → StandsFor self.new d (heard (Some request) ∷ past) }
-        ensures answer { (d : DeviceSetup) (past : List Met) → StandsFor self.old d past
-            → MatchOption (answer_to d past asker (Some request)) ((result ≡ false) × (out.new.items ≡ []))
-            (λ bytes. (result ≡ true) × (out.new.items ≡ bytes)) }
-    {
-        if let Request::AddressPoll = request {
-            out.push(self.setup.addr);
-            return true;
-        }
-        match self.act(request) {
-            None => false,
-            Some(reply) => {
-                encode_reply(self.setup.kind, asker, self.setup.addr, &reply, out);
-                true
+            Some(Asked { request, asker }) => {
+                let reply = self.act(request);
+                give(self.setup, asker, request, reply, out)
             }
         }
     }
@@ -200,18 +168,9 @@ impl<'s> Acceptor<'s> {
             → option_map reply_shown result ≡ reply_of d past request }
         ensures sayable { IfSome result (λ y. IsSayable (reply_shown y)) }
     {
-        match request {
-            Request::SimplePoll => Some(Reply::Ack),
-            Request::MakerId => Some(self.text(IdentText::Maker)),
-            Request::Category => Some(self.text(IdentText::Category)),
-            Request::ProductCode => Some(self.text(IdentText::Product)),
-            Request::SerialNumber => Some(Reply::Serial {
-                serial: self.identity.serial(),
-            }),
-            Request::SoftwareRevision => Some(self.text(IdentText::Software)),
-            Request::BuildCode => Some(self.text(IdentText::Build)),
-            Request::CommsRevision => Some(REVISION),
-            _ => self.tell_coins(request),
+        match common_reply(self.setup, request) {
+            None => self.tell_coins(request),
+            reply => reply,
         }
     }
 
@@ -239,17 +198,6 @@ impl<'s> Acceptor<'s> {
                 count: self.accepts,
             }),
             _ => None,
-        }
-    }
-
-    /// A text by which the acceptor names itself.
-    fn text(&self, which: IdentText) -> Reply<'s>
-        ensures answer { (d : DeviceSetup) (past : List Met) → StandsFor self.now d past
-            → reply_shown result ≡ text (text_of d which) }
-        ensures sayable { IsSayable (reply_shown result) }
-    {
-        Reply::Text {
-            text: self.identity.text(which),
         }
     }
 

@@ -2,6 +2,5 @@
 #![tactic(auto)]
 
 mod acceptor;
-mod hearing;
 
 pub use acceptor::{Acceptor, Inserted};

@@ -15,10 +15,14 @@ use Rattle.cct_model.specs.lines.entry.LineKind.{LineKind}
 use Rattle.cct_model.specs.Legal.{Entries, Legal, LegalFrom}
 use Rattle.cct_model.specs.Script.{is_line_feed, Stage, at_setup, at_steps, at_end, no_devices, setup_at, opens, plays}
 use Rattle.cct_model.specs.Script.{Script, script, closed_script, unfinished}
+use Rattle.cct_model.specs.Records.{hopper_of}
+use Rattle.cct_model.specs.Setup.{IsSoundSetup}
 use Rattle.cct_model.specs.Transcript.{onto}
 use Rattle.cct_laws.specs.Law.{IsSetupOfToday}
+use Rattle.cct_laws.proofs.Payments.{legal_ids}
 use Rattle.cct_laws.proofs.Scripts.{setup_of_today}
 use Rattle.cct_script.specs.Giving.{Standing}
+use Rattle.cct_world.specs.Place.{AreOwned}
 use Rattle.cct_bench.specs.declared.lines.ScriptStop.{ScriptStop}
 use Rattle.cct_bench.specs.declared.lines.ScriptStop.TheVariants as stop
 use Rattle.cct_bench.specs.declared.play.Ending.TheVariants as ending
@@ -186,6 +190,27 @@ step_legal taken came held more rest number stage next setup played transcript r
     (legal_came taken came more played transcript legal)
     (subst (λ by. Entries None by (onto [] transcript) s (reverse report)) same entries)
 
+-- each open order is the one that was opened last with its id, at its own hopper
+owned_by : (setup : Setup) (played : List Step) (transcript : List Entry) → IsSoundSetup setup
+    → Legal None setup played transcript → AreOwned setup (onto [] transcript)
+owned_by setup played transcript sound legal d there o is =
+    let own = (legal_ids None setup played transcript sound legal).owned d o there is in
+    ap hopper_of own.0 ∙ own.1
+
+going_owned : (left0 left left1 : Option (List ℕ)) (held rest : List ℕ) (number : ℕ) (stage next : Stage)
+    (setup : Setup) (Before Written : List Entry → Type 0) (s : Step) → IsDone setup next
+    → (g : Going left0 left held number stage Before Written)
+    → Came held left left1 (λ bytes. ScriptGoesOn number stage bytes (plays s next) rest)
+    → AreOwned setup (onto [] g.transcript)
+going_owned left0 left left1 held rest number stage next setup Before Written s done g r =
+    let bytes = (g.taken ++ r.0) ++ [] in
+    let says = step_says g.taken r.0 held [] rest number stage next g.played s (g.says (r.0 ++ [])) r.2 in
+    let same : (script bytes).setup ≡ setup =
+    says.setup ∙ setup_stays (number + 1) setup next (slice_split is_line_feed (rest ++ [])) done in
+    subst (λ by. AreOwned by (onto [] g.transcript)) same
+    (owned_by (script bytes).setup g.played g.transcript (setup_of_today bytes).sound
+    (legal_came g.taken r.0 [] g.played g.transcript (g.legal (r.0 ++ []))))
+
 pub going_plays : (left0 left left1 : Option (List ℕ)) (held rest : List ℕ) (number : ℕ) (stage next : Stage)
     (setup : Setup) (Before After : List Entry → Type 0) (s : Step) (Written WritesThem Written1 : List Entry → Type 0)
     →
@@ -196,7 +221,8 @@ pub going_plays : (left0 left left1 : Option (List ℕ)) (held rest : List ℕ) 
     Going left0 left1 rest (number + 1) next After Written1
 going_plays left0 left left1 held rest number stage next setup Before After s Written WritesThem Written1 done more g r
     p =
-    let goes = p.1 (onto [] g.transcript) g.stands in
+    let goes = p.1 (onto [] g.transcript) g.stands
+    (going_owned left0 left left1 held rest number stage next setup Before Written s done g r) in
     record {
       taken = g.taken ++ r.0;
       played = g.played ++ s ∷ [];
@@ -351,7 +377,8 @@ played_broke (Some bytes) left left1 held rest number stage next setup Before Af
     let says : AlsoSays (script bytes) (g.played ++ s ∷ []) on =
     subst (λ b. AlsoSays (script b) (g.played ++ s ∷ []) on) (sym t.2)
     (step_says g.taken r.0 held t.0 rest number stage next g.played s (g.says (r.0 ++ t.0)) r.2) in
-    let goes = p.1 (onto [] g.transcript) g.stands in
+    let goes = p.1 (onto [] g.transcript) g.stands
+    (going_owned (Some bytes) left left1 held rest number stage next setup Before Written s done g r) in
     let same : setup ≡ (script bytes).setup =
     sym (says.setup ∙ setup_stays (number + 1) setup next (slice_split is_line_feed (rest ++ t.0)) done) in
     let entries : Entries None (script bytes).setup (onto [] g.transcript) s (reverse p.0) =

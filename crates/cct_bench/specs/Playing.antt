@@ -6,6 +6,7 @@ use Rattle.cct_model.specs.terms.device.Setup.{Setup}
 use Rattle.cct_model.specs.lines.entry.Entry.{Entry}
 use Rattle.cct_model.specs.Legal.{Entries, is_played}
 use Rattle.cct_model.specs.Script.{Read, at_steps, at_end, opens, plays, is_known, IsInRange}
+use Rattle.cct_world.specs.Place.{AreOwned}
 
 -- The step is `end`.
 abbrev pub is_end : Step → Bool
@@ -23,11 +24,12 @@ pub record CanPlay (setup : Setup) (s : Step) : Type 0 where
   pub known : IsTrue (is_known setup s)
   pub played : IsTrue (is_played s)
 
--- A step gives these entries, oldest first, whatever is behind it: one past stands for the machine before, and the past
--- with them for the machine after.
+-- A step gives these entries, oldest first, whatever is behind it, where each open order was opened at its own hopper:
+-- one past stands for the machine before, and the past with them for the machine after.
 abbrev pub Plays : (List Entry → Type 0) → (List Entry → Type 0) → Setup → Step → List Entry → Type 0
 Plays Before After setup s report =
-    (past : List Entry) → Before past → Entries None setup past s (reverse report) × After (reverse report ++ past)
+    (past : List Entry) → Before past → AreOwned setup past
+    → Entries None setup past s (reverse report) × After (reverse report ++ past)
 
 -- A step was played, and its entries were written so, which holds by the answer.
 abbrev pub PlaysOn : (List Entry → Type 0) → (List Entry → Type 0) → Setup → Step → (List Entry → Type 0) → Type 0

@@ -1,19 +1,19 @@
 -- What one step on a bus does to all that it stands for.
-use Rattle.std.proofs.Common.{◌≡◌, ℕ, suc, ◌-◌, ◌≤◌, Bool, true, false, cond, List, [], ◌∷◌, ◌++◌, length, set, take, drop, get_or, refl, sym, ap, subst, ◌∙◌, Option, Some, None, arith}
+use Rattle.std.proofs.Common.{◌≡◌, ℕ, suc, ◌-◌, ◌≤◌, ◌==◌, not, Bool, true, false, cond, List, [], ◌∷◌, ◌++◌, length, set, take, drop, get_or, refl, sym, ap, subst, ◌∙◌, Option, Some, None, arith}
 use Rattle.std.specs.Prelude.{IsTrue, MatchBool, is_some, unwrap_or}
 use Rattle.std.specs.List.{All, flat_map, insert, position, position_or_len}
 use Rattle.std.proofs.lemmas.List.{take_all}
 use Rattle.std.proofs.lemmas.List.Elements.{All-get_or, All-weaker}
-use Rattle.cct_model.specs.terms.coin.Coin.{Coin}
 use Rattle.cct_model.specs.lines.command.WireFault.{WireFault}
 use Rattle.cct_model.specs.terms.device.DeviceSetup.{DeviceSetup}
 use Rattle.cct_model.specs.terms.device.Setup.{Setup}
 use Rattle.cct_model.specs.lines.entry.Entry.{Entry}
 use Rattle.cct_model.specs.lines.entry.Entry.TheVariants as entry
 use Rattle.cct_model.specs.Acceptor.{accepts}
-use Rattle.cct_model.specs.Exchange.{by_address, device_at, put_by_address, acceptor_there}
-use Rattle.cct_model.specs.History.{Met, coin}
-use Rattle.cct_model.specs.Legal.{OfAcceptor, coin_entry}
+use Rattle.cct_model.specs.Exchange.{by_address, device_at, put_by_address, acceptor_there, hopper_there}
+use Rattle.cct_model.specs.History.{Met, coin, fall, jam}
+use Rattle.cct_model.specs.Legal.{OfAcceptor, OfHopper, coin_entry, fall_entry, jam_entry}
+use Rattle.cct_model.specs.Hopper.{remaining}
 use Rattle.cct_model.specs.Device.{is_acceptor}
 use Rattle.cct_model.specs.Setup.{AreDistinct, IsSoundSetup}
 use Rattle.cct_model.specs.Transcript.{answers, at, heard_after, heard_by_devices, heard_by_host, meets, met, pending}
@@ -77,6 +77,30 @@ pub acceptor_is_some : (found : Option DeviceSetup) → IsTrue (acceptor_there f
 acceptor_is_some None there = absurd cc
 acceptor_is_some (Some d) there = refl
 
+-- so is a hopper
+pub hopper_is_some : (found : Option DeviceSetup) → IsTrue (hopper_there found) → IsTrue (is_some found)
+hopper_is_some None there = absurd cc
+hopper_is_some (Some d) there = refl
+
+-- the device that was found is of its kind
+pub acceptor_found : (found : Option DeviceSetup) (d : DeviceSetup) → found ≡ Some d → IsTrue (acceptor_there found)
+    → is_acceptor d.body ≡ true
+acceptor_found None d is there = absurd cc
+acceptor_found (Some e) d is there =
+    let same : e ≡ d = cc in
+    subst (λ x. is_acceptor x.body ≡ true) same there
+
+not_true : (test : Bool) → IsTrue (not test) → test ≡ false
+not_true true holds = absurd cc
+not_true false holds = refl
+
+pub hopper_found : (found : Option DeviceSetup) (d : DeviceSetup) → found ≡ Some d → IsTrue (hopper_there found)
+    → is_acceptor d.body ≡ false
+hopper_found None d is there = absurd cc
+hopper_found (Some e) d is there =
+    let same : e ≡ d = cc in
+    subst (λ x. is_acceptor x.body ≡ false) same (not_true (is_acceptor e.body) there)
+
 -- the device at an index stands for what the history tells
 pub one_lived : (devices : List Device) (i : ℕ) (y : Device) (addr : ℕ) (history : DeviceSetup → List Met) → position (is_at addr) devices ≡ Some i → y ≡ get_or devices i y
     → All (Stands history) devices → Lived y (history (setup_in y))
@@ -98,31 +122,42 @@ one_stands devices setup i x y addr m history order sound found is same meets_it
     (ap (λ d. d.addr) same_setup ∙ at_y) place.2
     (subst (λ d. Lived x (m ∷ history d)) (sym same_setup) lived) stand
 
-coin_meets : (took : Bool) (addr place : ℕ) (c : Coin) (d : DeviceSetup) (past : List Entry) → c.place ≡ place
-    → meets d past (cond took (entry.Accepted addr c) (entry.Inhibited addr place)) ≡ at addr d (coin place)
-coin_meets true addr place c d past is = ap (λ p. at addr d (coin p)) is
-coin_meets false addr place c d past is = refl
+either : (test : Bool) (P : Entry → Type 0) (x y : Entry) → P x → P y → P (cond test x y)
+either true P x y left right = left
+either false P x y left right = right
 
-coin_pending : (took : Bool) (addr place : ℕ) (c : Coin) (past : List Entry) → pending (cond took (entry.Accepted addr c) (entry.Inhibited addr place) ∷ past) ≡ pending past
-coin_pending true addr place c past = refl
-coin_pending false addr place c past = refl
+-- by an entry the device at an address meets something, the others nothing, and the fault stays
+abbrev Tells : List Entry → ℕ → Met → Entry → Type 0
+Tells past addr m e = ((d : DeviceSetup) → meets d past e ≡ at addr d m) × (pending (e ∷ past) ≡ pending past)
 
 -- whatever becomes of a coin, the acceptor at its address met it
-pub coin_met : (d e : DeviceSetup) (addr place : ℕ) (past : List Entry) → d.addr ≡ addr → met e (coin_entry d past place ∷ past) ≡ marked addr (coin place) (λ d. met d past) e
-coin_met d e addr place past is =
-    ap (λ ms. ms ++ met e past)
-    (coin_meets (accepts (met d past) place) d.addr place _ e past refl ∙ ap (λ a. at a e (coin place)) is)
+pub coin_tells : (d : DeviceSetup) (addr place : ℕ) (past : List Entry) → d.addr ≡ addr
+    → Tells past addr (coin place) (coin_entry d past place)
+coin_tells d addr place past is =
+    subst (λ a. Tells past a (coin place) (coin_entry d past place)) is
+    (either (accepts (met d past) place) (Tells past d.addr (coin place)) _ _ ((λ e. refl), refl) ((λ e. refl), refl))
 
--- and the fault stays
-pub coin_fault : (d : DeviceSetup) (place : ℕ) (past : List Entry) → pending (coin_entry d past place ∷ past) ≡ pending past
-coin_fault d place past = coin_pending (accepts (met d past) place) d.addr place _ past
+-- whether a coin falls or not, the hopper at its address met that
+pub fall_tells : (d : DeviceSetup) (addr : ℕ) (past : List Entry) → d.addr ≡ addr
+    → Tells past addr fall (fall_entry d past)
+fall_tells d addr past is =
+    subst (λ a. Tells past a fall (fall_entry d past)) is
+    (either (remaining d.serial (met d past) == 0) (Tells past d.addr fall) _ _ ((λ e. refl), refl) ((λ e. refl), refl))
 
--- after a coin the devices stand for its entry
-pub coin_stands : (devices : List Device) (d : DeviceSetup) (addr place : ℕ) (past : List Entry) → d.addr ≡ addr
-    → All (Stands (marked addr (coin place) (λ e. met e past))) devices → All (Stands (λ e. met e (coin_entry d past place ∷ past))) devices
-coin_stands devices d addr place past is stand =
-    All-weaker (Stands (marked addr (coin place) (λ e. met e past))) (Stands (λ e. met e (coin_entry d past place ∷ past)))
-    (λ device lived. subst (λ ms. Lived device ms) (sym (coin_met d (setup_in device) addr place past is)) lived) devices stand
+-- whether a coin is stuck or not, the hopper at its address met that
+pub jam_tells : (d : DeviceSetup) (addr : ℕ) (past : List Entry) → d.addr ≡ addr
+    → Tells past addr jam (jam_entry d past)
+jam_tells d addr past is =
+    subst (λ a. Tells past a jam (jam_entry d past)) is
+    (either (remaining d.serial (met d past) == 0) (Tells past d.addr jam) _ _ ((λ e. refl), refl) ((λ e. refl), refl))
+
+-- after what the device at an address met the devices stand for its entry
+pub entry_stands : (devices : List Device) (addr : ℕ) (m : Met) (e : Entry) (past : List Entry) → Tells past addr m e
+    → All (Stands (marked addr m (λ d. met d past))) devices → All (Stands (λ d. met d (e ∷ past))) devices
+entry_stands devices addr m e past tells stand =
+    All-weaker (Stands (marked addr m (λ d. met d past))) (Stands (λ d. met d (e ∷ past)))
+    (λ device lived. subst (λ ms. Lived device (ms ++ met (setup_in device) past)) (sym (tells.0 (setup_in device))) lived)
+    devices stand
 
 match_true : (test : Bool) (A : Type 0) → IsTrue test → A → MatchBool test A ⊥
 match_true true A holds a = a
@@ -134,6 +169,18 @@ of_acceptor None d P is there fact = absurd cc
 of_acceptor (Some e) d P is there fact =
     let same : e ≡ d = cc in
     match_true (is_acceptor e.body) (P e) there (subst P (sym same) fact)
+
+match_false : (test : Bool) (A : Type 0) → IsTrue (not test) → A → MatchBool test ⊥ A
+match_false true A holds a = absurd cc
+match_false false A holds a = a
+
+-- a fact of the hopper that was found
+pub of_hopper : (found : Option DeviceSetup) (d : DeviceSetup) (P : DeviceSetup → Type 0) → found ≡ Some d
+    → IsTrue (hopper_there found) → P d → OfHopper found P
+of_hopper None d P is there fact = absurd cc
+of_hopper (Some e) d P is there fact =
+    let same : e ≡ d = cc in
+    match_false (is_acceptor e.body) (P e) there (subst P (sym same) fact)
 
 -- what the host hears, where the devices answered what reached them
 pub heard_is : (setup : Setup) (past : List Entry) (fault : WireFault) (setups : List DeviceSetup) (sent heard : List ℕ) → fault ≡ pending past → setups ≡ by_address setup.devices

@@ -2,7 +2,7 @@
 use Rattle.std.specs.Prelude.{List, map}
 use Rattle.cct_model.specs.terms.device.DeviceSetup.{DeviceSetup}
 use Rattle.cct_model.specs.History.{Met}
-use Rattle.cct_acceptor.specs.Acceptor as acceptor
+use Rattle.cct_bus.specs.Body.{StandsFor}
 use Rattle.cct_bus.specs.declared.device.Device.{Device}
 
 -- The setup of a device on the wire.
@@ -15,7 +15,7 @@ setups_in devices = map setup_in devices
 
 -- A device on the wire stands for one of its setup that met all this, newest first.
 abbrev pub Lived : Device → List Met → Type 0
-Lived device past = acceptor.StandsFor device.acceptor (setup_in device) past
+Lived device past = StandsFor device.body (setup_in device) past
 
 -- A device on the wire met what a history tells of its setup.
 abbrev pub Stands : (DeviceSetup → List Met) → Device → Type 0

@@ -1,3 +1,4 @@
+pub mod Body
 pub mod Bus
 pub mod Device
 pub mod Fault

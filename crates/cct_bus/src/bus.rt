@@ -1,14 +1,15 @@
 //! The bus: devices on one wire, and the host's end of it.
-ghost use Rattle.std.specs.Prelude.{◌≡◌, ◌==◌, nat_le, ◌+◌, ◌<◌, ◌≤◌, ℕ, List, ◌∷◌, [], ◌++◌, take, IfOk, IfSome, IsTrue, Option, map, is_some, length, Some, unwrap_or};
+ghost use Rattle.std.specs.Prelude.{◌≡◌, ◌==◌, nat_le, ◌+◌, ◌<◌, ◌≤◌, not, ℕ, List, ◌∷◌, [], ◌++◌, take, IfOk, IfSome, IsTrue, Option, map, is_some, length, Some, unwrap_or};
 ghost use Rattle.std.specs.List.{All, flat_map, position};
 ghost use Rattle.cct_model.specs.terms.wire.TheConstants.{MOST_SENT};
 ghost use Rattle.cct_model.specs.terms.device.DeviceSetup.{DeviceSetup};
 ghost use Rattle.cct_model.specs.lines.command.WireFault.TheVariants.{HostHears};
 ghost use Rattle.cct_model.specs.lines.entry.Entry.{Entry};
 ghost use Rattle.cct_model.specs.lines.entry.Entry.TheVariants as entry;
-ghost use Rattle.cct_model.specs.Device.{IsAcceptor, IsSound};
+ghost use Rattle.cct_model.specs.Device.{IsSound};
 ghost use Rattle.cct_model.specs.Exchange.{by_address, device_at, acceptor_there, hopper_there};
-ghost use Rattle.cct_model.specs.Legal.{OfAcceptor, OfDevice, coin_entry};
+ghost use Rattle.cct_model.specs.Hopper.{remaining};
+ghost use Rattle.cct_model.specs.Legal.{OfAcceptor, OfHopper, coin_entry, fall_entry, jam_entry};
 ghost use Rattle.cct_model.specs.Setup.{IsSoundSetup};
 ghost use Rattle.cct_model.specs.Transcript.{met};
 ghost use Rattle.cct_acceptor.specs.Acceptor.{inserted};
@@ -25,8 +26,8 @@ use cct_model::{COIN_PLACES, DeviceSetup, MOST_HEARD, MOST_SENT, Setup, WireFaul
 use cct_wire::Link;
 use std::alloc::{AllocError, Global};
 
-/// Up to 16 devices on one wire (ccTalk Generic Specification 4, part 1). Its contracts tell it by the transcript of all
-/// that happened on it, newest entry first.
+/// Up to 16 devices on one wire, acceptors and hoppers (ccTalk Generic Specification 4, part 1). Its contracts tell it by
+/// the transcript of all that happened on it, newest entry first.
 #[derive(Drop)]
 pub struct Bus<'s> {
     setup: &'s Setup,
@@ -50,7 +51,6 @@ impl<'s> Bus<'s> {
     /// Fails only where there is no memory for it.
     pub fn new(alloc: Global, setup: &'s Setup) -> Result<Bus<'s>, AllocError>
         requires sound { IsSoundSetup setup.now }
-        requires acceptors { All (λ d. IsAcceptor d.body) setup.now.devices }
         ensures setup { IfOk result (λ bus. setup_of bus ≡ setup.now) }
         ensures fresh { IfOk result (λ bus. StandsFor bus []) }
     {
@@ -116,6 +116,36 @@ impl<'s> Bus<'s> {
         self.devices[index].alien();
     }
 
+    /// A coin falls out of the hopper at an address, and is paid where that is paying: true then, and false where it is
+    /// nothing to it.
+    #[tactic(auto, using(crate::proofs::Buses::hopper_is_some))]
+    pub fn fall(&mut self, addr: u8) -> bool
+        requires there { IsTrue (hopper_there (device_at (setup_of self.old).devices addr)) }
+        ensures setup { setup_of self.new ≡ setup_of self.old }
+        ensures stands { (past : List Entry) → StandsFor self.old past
+            → OfHopper (device_at (setup_of self.old).devices addr)
+            (λ d. (result ≡ not (remaining d.serial (met d past) == 0))
+            × StandsFor self.new (fall_entry d past ∷ past)) }
+    {
+        let index = self.index_of(addr);
+        self.devices[index].fall()
+    }
+
+    /// A coin is stuck in the hopper at an address, and ends the payout where that is paying: true then, and false where
+    /// it is nothing to it.
+    #[tactic(auto, using(crate::proofs::Buses::hopper_is_some))]
+    pub fn jam(&mut self, addr: u8) -> bool
+        requires there { IsTrue (hopper_there (device_at (setup_of self.old).devices addr)) }
+        ensures setup { setup_of self.new ≡ setup_of self.old }
+        ensures stands { (past : List Entry) → StandsFor self.old past
+            → OfHopper (device_at (setup_of self.old).devices addr)
+            (λ d. (result ≡ not (remaining d.serial (met d past) == 0))
+            × StandsFor self.new (jam_entry d past ∷ past)) }
+    {
+        let index = self.index_of(addr);
+        self.devices[index].jam()
+    }
+
     /// The device at an address starts again as after power-up.
     pub fn reset(&mut self, addr: u8)
         requires there { IsTrue (is_some (device_at (setup_of self.old).devices addr)) }
@@ -165,7 +195,6 @@ impl Link for Bus<'_> {
 /// The devices of setups, in rising order of address. Each is put where it belongs among those that come after it.
 fn devices_of<'s>(alloc: Global, setups: &'s [DeviceSetup]) -> Result<Vec<Device<'s>>, AllocError>
     requires sound { All IsSound setups.now }
-    requires acceptors { All (λ d. IsAcceptor d.body) setups.now }
     ensures order { IfOk result (λ devices. setups_in devices.items ≡ by_address setups.now) }
     ensures fresh { IfOk result (λ devices. All (Stands (λ d. [])) devices.items) }
 {

@@ -1,6 +1,7 @@
 //! The wire: up to 16 devices on one bus, and what goes wrong on it.
 #![tactic(auto)]
 
+mod body;
 mod bus;
 mod device;
 mod fault;

@@ -1,5 +1,5 @@
 -- How a job begins.
-use Rattle.std.proofs.Common.{◌≡◌, ℕ, ◌==◌, Bool, true, false, cond, List, [], ◌∷◌, refl, sym, ap, subst, ◌∙◌, Some, arith}
+use Rattle.std.proofs.Common.{◌≡◌, ℕ, ◌==◌, Bool, true, false, cond, List, [], ◌∷◌, refl, sym, ap, subst, ◌∙◌, Option, Some, arith}
 use Rattle.std.specs.Prelude.{slice_get}
 use Rattle.std.proofs.lemmas.Bool.{eqb-true}
 use Rattle.cct_model.specs.lines.command.Command.{Command}
@@ -7,6 +7,7 @@ use Rattle.cct_model.specs.terms.device.DeviceBody.{DeviceBody}
 use Rattle.cct_model.specs.terms.device.DeviceBody.TheVariants.{Acceptor, Hopper}
 use Rattle.cct_model.specs.terms.device.DeviceSetup.{DeviceSetup}
 use Rattle.cct_model.specs.declared.judging.EpochState.{EpochState}
+use Rattle.cct_model.specs.declared.judging.OpenOrder.{OpenOrder}
 use Rattle.cct_model.specs.terms.request.Request.TheVariants.{MakerId}
 use Rattle.cct_model.specs.Exchange.{device_at}
 use Rattle.cct_model.specs.Job.{address_of, ident_requests}
@@ -38,13 +39,14 @@ first_question (Hopper life value) = refl
 
 -- a job of a command for its device, at its first row
 pub first_stage : (devices : List DeviceSetup) (addr : ℕ) (d : DeviceSetup) (device : Target) (stage : Stage)
-    (c : Command) (state : EpochState) (job : Job) → job ≡ Asks device stage 0 → c ≡ own_of stage addr
+    (c : Command) (state : EpochState) (owed : Option OpenOrder) (job : Job) → job ≡ Asks device stage 0
+    → c ≡ own_of stage addr
     → address_of (own_of stage addr) ≡ addr → device_at devices (address_of c) ≡ Some d
     → ((x : DeviceSetup) → device_at devices addr ≡ Some x → device ≡ target_of x)
-    → IsAfter stage d.body 0 → Knows stage [] state → Stands d job c [] state
-first_stage devices addr d device stage c state job begun is here there known after knows =
+    → IsAfter stage d 0 → Knows stage [] state owed → Stands d job c [] state owed
+first_stage devices addr d device stage c state owed job begun is here there known after knows =
     let at : device_at devices addr ≡ Some d = ap (device_at devices) (sym (ap address_of is ∙ here)) ∙ there in
-    subst (λ j. Stands d j c [] state) (sym begun)
+    subst (λ j. Stands d j c [] state owed) (sym begun)
     (record {
       device_is = known d at;
       command_is = is ∙ ap (own_of stage) (sym (address_there devices addr d at));

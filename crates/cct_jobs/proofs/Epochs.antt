@@ -6,6 +6,7 @@ use Rattle.cct_model.specs.terms.request.Request.TheVariants.{GetMask, ReadCredi
 use Rattle.cct_model.specs.declared.judging.EpochState.{EpochState}
 use Rattle.cct_model.specs.lines.record.Record.{Record}
 use Rattle.cct_model.specs.lines.record.Record.TheVariants.{Epoch, EpochEnd}
+use Rattle.cct_model.specs.declared.judging.OpenOrder.{OpenOrder}
 use Rattle.cct_model.specs.declared.judging.Judged.{Judged}
 use Rattle.cct_model.specs.declared.judging.Judged.TheVariants.{Nothing, Reading, Broken}
 use Rattle.cct_model.specs.lines.command.Command.{Command}
@@ -14,29 +15,32 @@ use Rattle.cct_model.specs.lines.entry.End.{End}
 use Rattle.cct_model.specs.lines.entry.End.TheVariants.{Broke, Posted, Stopped, Unquiet}
 use Rattle.cct_model.specs.Line.{Line, exchange, put}
 use Rattle.cct_model.specs.Job.{puts, Payment, payment_in, row, row_at, judged_in, judged_by, address_of, credits_read, done, end_of_answer, end_of_credits, end_of_put, end_of_start, start_row, stop_row}
+use Rattle.cct_model.specs.Order.{order_by}
 use Rattle.cct_model.specs.Reading.{judge}
 use Rattle.cct_model.specs.Reply as reply
 use Rattle.cct_jobs.specs.declared.stage.Recorded.{Recorded}
-use Rattle.cct_jobs.specs.declared.stage.Stage.TheVariants.{Looks, StartReads, StartSets}
+use Rattle.cct_jobs.specs.declared.stage.Stage.TheVariants.{Looks, Pays, StartReads, StartSets}
+use Rattle.cct_jobs.specs.declared.owed.Owed.{Owed}
+use Rattle.cct_jobs.specs.declared.payout.Payout.TheVariants.{Dispenses}
 use Rattle.cct_jobs.specs.declared.stage.Visit.{Visit}
 use Rattle.cct_jobs.specs.declared.stage.Visit.TheVariants as visit_of
 use Rattle.cct_jobs.specs.declared.target.Target.{Target}
 use Rattle.cct_jobs.specs.declared.job.Job.{Job}
 use Rattle.cct_jobs.specs.declared.job.Need.TheVariants as need
-use Rattle.cct_jobs.specs.declared.job.Job.TheVariants.{Asks, StartPuts, RoundPuts, StopPuts, StopEnds, Done}
-use Rattle.cct_jobs.specs.Jobs.{Asking, Putting, Stands, after_put, need_of, newest_end, round_after, rows_before, runs, stop_after, target_of, visiting}
+use Rattle.cct_jobs.specs.declared.job.Job.TheVariants.{Asks, StartPuts, RoundPuts, StopPuts, StopEnds, OrderOpens, OrderCloses, Done}
+use Rattle.cct_jobs.specs.Jobs.{Asking, Opening, Putting, Stands, after_put, closing_by, need_of, newest_end, opened_by, round_after, rows_before, runs, stop_after, target_of, visiting}
 use Rattle.cct_jobs.proofs.Stages.{end_after}
 
 -- a start that read its credits
 
 module _ {d : DeviceSetup} {device : Target} {mask failed : ℕ} {c : Command} {since : List Line} {state : EpochState}
-    (at : Asking d device (StartReads mask) failed c since state) (read : Credits) where
+    {owed : Option OpenOrder} (at : Asking d device (StartReads mask) failed c since state owed) (read : Credits) where
   read_end : newest_end d c (exchange (Some ReadCredits)
       (Some (reply.credits read)) ∷ since) state ≡ end_of_credits read.counter
-  read_end = end_after at (reply.credits read) ∙ ap (λ n. end_of_start n (reply.credits read)) (ap suc at.is_after)
+  read_end = end_after at tt (reply.credits read) ∙ ap (λ n. end_of_start n (reply.credits read)) (ap suc at.is_after)
 
   pub start_puts : (read.counter == 0) ≡ true
-      → Stands d (StartPuts device mask) c (exchange (Some ReadCredits) (Some (reply.credits read)) ∷ since) state
+      → Stands d (StartPuts device mask) c (exchange (Some ReadCredits) (Some (reply.credits read)) ∷ since) state owed
   start_puts quiet =
       let line = exchange (Some ReadCredits) (Some (reply.credits read)) in
       let rows_are : suc (done since) ≡ 2 = ap suc at.is_after in (
@@ -44,7 +48,7 @@ module _ {d : DeviceSetup} {device : Target} {mask failed : ℕ} {c : Command} {
         rows_are,
         record {
           command_is = at.command_is;
-          row_is = λ owed. ap (λ k. row d k (line ∷ since) state owed) at.command_is
+          row_is = ap (λ k. row d k (line ∷ since) state owed) at.command_is
               ∙ ap (start_row d.addr mask) rows_are;
           ends = refl;
           goes_on = read_end ∙ ap (λ b. cond b None (Some (Unquiet read.counter))) quiet;
@@ -105,8 +109,8 @@ abbrev looked : ℕ → Line
 looked seen = exchange (Some GetMask) (Some (reply.mask seen))
 
 module _ {d : DeviceSetup} {device : Target} {visit : Visit} {recorded : Recorded} {read : Credits} {failed : ℕ}
-    {c : Command} {since : List Line} {state : EpochState}
-    (at : Asking d device (Looks visit recorded read) failed c since state) (seen : ℕ) (means : Judged)
+    {c : Command} {since : List Line} {state : EpochState} {owed : Option OpenOrder}
+    (at : Asking d device (Looks visit recorded read) failed c since state owed) (seen : ℕ) (means : Judged)
     (meant : judge device.addr recorded.mask recorded.counter read seen ≡ means) where
   -- what was read means to the job what it means beside what is recorded
   judged_is : judged_in (visiting visit d.addr) (looked seen ∷ since) state ≡ means
@@ -120,7 +124,7 @@ module _ {d : DeviceSetup} {device : Target} {visit : Visit} {recorded : Recorde
   looked_end : newest_end d c (looked seen ∷ since) state ≡ end_of_answer d.body (visiting visit d.addr)
       (suc (suc (rows_before visit))) (reply.mask seen) means
   looked_end =
-      end_after at (reply.mask seen)
+      end_after at tt (reply.mask seen)
       ∙ ap₂ (λ n m. end_of_answer d.body (visiting visit d.addr) n (reply.mask seen) m) (ap suc at.is_after) judged_is
 
   -- a record that is put
@@ -128,11 +132,11 @@ module _ {d : DeviceSetup} {device : Target} {visit : Visit} {recorded : Recorde
       → ((p : Payment) → row_at d (visiting visit d.addr) (suc (suc (rows_before visit))) means p ≡ puts entry)
       → end_of_answer d.body (visiting visit d.addr) (suc (suc (rows_before visit))) (reply.mask seen) means ≡ None
       → end_of_put (visiting visit d.addr) entry ≡ end
-      → Putting d (visiting visit d.addr) entry end c (looked seen ∷ since) state
+      → Putting d (visiting visit d.addr) entry end c (looked seen ∷ since) state owed
   put_at entry end is_row on ends = record {
     command_is = at.command_is;
     row_is =
-        λ owed. let p = payment_in (looked seen ∷ since) owed in
+        let p = payment_in (looked seen ∷ since) owed in
         ap (λ k. row d k (looked seen ∷ since) state owed) at.command_is
         ∙ ap₂ (λ n m. row_at d (visiting visit d.addr) n m p) (ap suc at.is_after) judged_is
         ∙ is_row p;
@@ -141,9 +145,10 @@ module _ {d : DeviceSetup} {device : Target} {visit : Visit} {recorded : Recorde
   }
 
 pub round_judges : {d : DeviceSetup} {device : Target} {recorded : Recorded} {read : Credits} {failed : ℕ} {c : Command}
-    {since : List Line} {state : EpochState} → Asking d device (Looks visit_of.Round recorded read) failed c since state
+    {since : List Line} {state : EpochState} {owed : Option OpenOrder}
+    → Asking d device (Looks visit_of.Round recorded read) failed c since state owed
     → (seen : ℕ) (means : Judged) → judge device.addr recorded.mask recorded.counter read seen ≡ means
-    → Stands d (round_after means) c (looked seen ∷ since) state
+    → Stands d (round_after means) c (looked seen ∷ since) state owed
 round_judges at seen Nothing e = looked_end at seen Nothing e
 round_judges {d} {read = read} at seen (Reading entry) e =
     put_at at seen (Reading entry) e entry (Some Posted) (λ p. refl) refl (reading_posts d.addr _ _ _ read seen entry e)
@@ -151,9 +156,10 @@ round_judges {d} {read = read} at seen (Broken entry) e =
     put_at at seen (Broken entry) e entry (Some Broke) (λ p. refl) refl (break_ends_round d.addr _ _ _ read seen entry e)
 
 pub stop_judges : {d : DeviceSetup} {device : Target} {recorded : Recorded} {read : Credits} {failed : ℕ} {c : Command}
-    {since : List Line} {state : EpochState} → Asking d device (Looks visit_of.Stop recorded read) failed c since state
+    {since : List Line} {state : EpochState} {owed : Option OpenOrder}
+    → Asking d device (Looks visit_of.Stop recorded read) failed c since state owed
     → (seen : ℕ) (means : Judged) → judge device.addr recorded.mask recorded.counter read seen ≡ means
-    → Stands d (stop_after device means) c (looked seen ∷ since) state
+    → Stands d (stop_after device means) c (looked seen ∷ since) state owed
 stop_judges {d} at seen Nothing e =
     (at.device_is, put_at at seen Nothing e (EpochEnd d.addr) (Some Stopped) (λ p. refl) refl refl)
 stop_judges {d} {read = read} at seen (Reading entry) e = (
@@ -172,33 +178,35 @@ stop_judges {d} {read = read} at seen (Broken entry) e = (
 -- what a put leaves, whatever the epoch is then
 
 put_ends : (d : DeviceSetup) (own : Command) (entry : Record) (end : Option End) (c : Command) (since : List Line)
-    (state after : EpochState) → Putting d own entry end c since state → newest_end d c (put entry ∷ since) after ≡ end
-put_ends d own entry end c since state after at = ap (λ k. end_of_put k entry) at.command_is ∙ at.ends
+    (state after : EpochState) (owed : Option OpenOrder) → Putting d own entry end c since state owed
+    → newest_end d c (put entry ∷ since) after ≡ end
+put_ends d own entry end c since state after owed at = ap (λ k. end_of_put k entry) at.command_is ∙ at.ends
 
 start_sets : (d : DeviceSetup) (device : Target) (mask : ℕ) (c : Command) (since : List Line) (state after : EpochState)
-    → Stands d (StartPuts device mask) c since state
-    → Asking d device (StartSets mask) 0 c (put (Epoch d.addr mask) ∷ since) after
-start_sets d device mask c since state after (device_is, rows_are, at) = record {
+    (owed owed_after : Option OpenOrder) → Stands d (StartPuts device mask) c since state owed
+    → Asking d device (StartSets mask) 0 c (put (Epoch d.addr mask) ∷ since) after owed_after
+start_sets d device mask c since state after owed owed_after (device_is, rows_are, at) = record {
   device_is = device_is;
   command_is = at.command_is;
   is_after = ap suc rows_are;
   knows = tt;
   trying = record { counted = refl; few = omega arith };
-  goes_on = put_ends d (command.Start d.addr mask) (Epoch d.addr mask) None c since state after at;
+  goes_on = put_ends d (command.Start d.addr mask) (Epoch d.addr mask) None c since state after owed at;
 }
 
 stop_closes : (d : DeviceSetup) (device : Target) (entry : Record) (c : Command) (since : List Line)
-    (state after : EpochState) → Stands d (StopPuts device entry None) c since state
-    → Stands d (StopEnds device) c (put entry ∷ since) after
-stop_closes d device entry c since state after (device_is, rows_are, apart, at) = (
+    (state after : EpochState) (owed owed_after : Option OpenOrder)
+    → Stands d (StopPuts device entry None) c since state owed
+    → Stands d (StopEnds device) c (put entry ∷ since) after owed_after
+stop_closes d device entry c since state after owed owed_after (device_is, rows_are, apart, at) = (
   device_is,
   record {
     command_is = at.command_is;
     row_is =
-        λ owed. ap (λ k. row d k (put entry ∷ since) after owed) at.command_is
+        ap (λ k. row d k (put entry ∷ since) after owed_after) at.command_is
         ∙ ap (λ n. stop_row d.addr n (judged_in (command.Stop d.addr) (put entry ∷ since) after)) (ap suc rows_are);
     ends = refl;
-    goes_on = put_ends d (command.Stop d.addr) entry None c since state after at;
+    goes_on = put_ends d (command.Stop d.addr) entry None c since state after owed at;
   },
 )
 
@@ -208,28 +216,49 @@ own_record d device make entry device_is e =
     let same : make device.addr ≡ entry = cc in
     ap (λ (t : Target). make t.addr) (sym device_is) ∙ same
 
+opened_dispenses : (d : DeviceSetup) (device : Target) (own : Owed) (halted : Bool) (c : Command) (since : List Line)
+    (state after : EpochState) (owed : Option OpenOrder) → Opening d device own halted c since state owed
+    → Asking d device (Pays (Dispenses device.serial own halted)) 0 c (put (opened_by own.order) ∷ since) after
+    (Some own.order)
+opened_dispenses d device own halted c since state after owed at = record {
+  device_is = at.device_is;
+  command_is = at.at.command_is;
+  is_after = (ap suc at.rows_are, at.serial, ap (λ (t : Target). t.serial) at.device_is);
+  knows = (at.marked, refl);
+  trying = record { counted = refl; few = omega arith };
+  goes_on = put_ends d _ (opened_by own.order) None c since state after owed at.at;
+}
+
 -- the put of a job's record
 pub put_leaves : (d : DeviceSetup) (job : Job) (c : Command) (since : List Line) (state after : EpochState)
-    (entry : Record) → need_of job ≡ need.Put entry → Stands d job c since state
-    → Stands d (after_put job) c (put entry ∷ since) after
-put_leaves d (StartPuts device mask) c since state after entry e at =
-    subst (λ r. Asking d device (StartSets mask) 0 c (put r ∷ since) after)
-    (own_record d device (λ a. Epoch a mask) entry at.0 e) (start_sets d device mask c since state after at)
-put_leaves d (RoundPuts own end) c since state after entry e at =
+    (owed : Option OpenOrder) (entry : Record) → need_of job ≡ need.Put entry → Stands d job c since state owed
+    → Stands d (after_put job) c (put entry ∷ since) after (order_by entry owed)
+put_leaves d (StartPuts device mask) c since state after owed entry e at =
+    subst (λ r. Asking d device (StartSets mask) 0 c (put r ∷ since) after (order_by entry owed))
+    (own_record d device (λ a. Epoch a mask) entry at.0 e) (start_sets d device mask c since state after owed _ at)
+put_leaves d (RoundPuts own end) c since state after owed entry e at =
     let same : own ≡ entry = cc in
     subst (λ r. newest_end d c (put r ∷ since) after ≡ Some end) same
-    (put_ends d (command.Round d.addr) own (Some end) c since state after at)
-put_leaves d (StopPuts device own None) c since state after entry e at =
+    (put_ends d (command.Round d.addr) own (Some end) c since state after owed at)
+put_leaves d (StopPuts device own None) c since state after owed entry e at =
     let same : own ≡ entry = cc in
-    subst (λ r. Stands d (StopEnds device) c (put r ∷ since) after) same
-    (stop_closes d device own c since state after at)
-put_leaves d (StopPuts device own (Some end)) c since state after entry e at =
+    subst (λ r. Stands d (StopEnds device) c (put r ∷ since) after (order_by entry owed)) same
+    (stop_closes d device own c since state after owed _ at)
+put_leaves d (StopPuts device own (Some end)) c since state after owed entry e at =
     let same : own ≡ entry = cc in
     subst (λ r. newest_end d c (put r ∷ since) after ≡ Some end) same
-    (put_ends d (command.Stop d.addr) own (Some end) c since state after at.3)
-put_leaves d (StopEnds device) c since state after entry e at =
+    (put_ends d (command.Stop d.addr) own (Some end) c since state after owed at.3)
+put_leaves d (StopEnds device) c since state after owed entry e at =
     subst (λ r. newest_end d c (put r ∷ since) after ≡ Some Stopped) (own_record d device EpochEnd entry at.0 e)
-    (put_ends d (command.Stop d.addr) (EpochEnd d.addr) (Some Stopped) c since state after at.1)
-put_leaves d (Asks device stage failed) c since state after entry e at = absurd cc
-put_leaves d (Done end) c since state after entry e at = absurd cc
-put_leaves d job c since state after entry e at = absurd at
+    (put_ends d (command.Stop d.addr) (EpochEnd d.addr) (Some Stopped) c since state after owed at.1)
+put_leaves d (OrderOpens device own halted) c since state after owed entry e at =
+    let same : opened_by own.order ≡ entry = cc in
+    subst (λ r. Stands d (after_put (OrderOpens device own halted)) c (put r ∷ since) after (order_by r owed)) same
+    (opened_dispenses d device own halted c since state after owed at)
+put_leaves d (OrderCloses own end) c since state after owed entry e at =
+    let same : own ≡ entry = cc in
+    subst (λ r. newest_end d c (put r ∷ since) after ≡ Some end) same
+    (put_ends d (closing_by at.closing at.order d.addr) own (Some end) c since state after owed at.at)
+put_leaves d (Asks device stage failed) c since state after owed entry e at = absurd cc
+put_leaves d (Done end) c since state after owed entry e at = absurd cc
+put_leaves d job c since state after owed entry e at = absurd at

@@ -1,8 +1,13 @@
 pub mod Begins
 pub mod Epochs
+pub mod Halts
 pub mod Heard
+pub mod Lives
 pub mod Needs
+pub mod Orders
 pub mod Owners
+pub mod Payments
+pub mod Payouts
 pub mod Questions
 pub mod Scans
 pub mod Sets

@@ -1,7 +1,6 @@
 -- What a job needs, and that a put brings fewer to come.
 use Rattle.std.specs.Prelude.{⊤}
 use Rattle.std.proofs.Common.{◌≡◌, ◌≢◌, ℕ, ◌<◌, ◌≤◌, List, refl, sym, ap, subst, ◌∙◌, Option, Some, None, arith}
-use Rattle.cct_model.specs.terms.device.DeviceBody.{DeviceBody}
 use Rattle.cct_model.specs.terms.device.DeviceSetup.{DeviceSetup}
 use Rattle.cct_model.specs.lines.command.Command.{Command}
 use Rattle.cct_model.specs.lines.command.Command.TheVariants as command
@@ -18,72 +17,90 @@ use Rattle.cct_model.specs.Exchange.{ask}
 use Rattle.cct_model.specs.Job.{Row, address_of, credits_read, done, end_of_put, mask_read, sends, puts, puts_at, row}
 use Rattle.cct_model.specs.Line.{Line}
 use Rattle.cct_model.specs.Scan.{end_of_scan, poll_of, scan_row}
+use Rattle.cct_model.specs.Transcript.{owner}
 use Rattle.cct_jobs.specs.declared.job.Need.{Need}
 use Rattle.cct_jobs.specs.declared.job.Need.TheVariants as need
 use Rattle.cct_jobs.specs.declared.job.Sending.{Sending}
 use Rattle.cct_jobs.specs.declared.job.Job.{Job}
-use Rattle.cct_jobs.specs.declared.job.Job.TheVariants.{Asks, StartPuts, RoundPuts, StopPuts, StopEnds, ScanCallsSimple, ScanCallsCrc, ScanPollsSimple, ScanPollsCrc, Done}
+use Rattle.cct_jobs.specs.declared.job.Job.TheVariants.{Asks, StartPuts, RoundPuts, StopPuts, StopEnds, OrderOpens, OrderCloses, ScanCallsSimple, ScanCallsCrc, ScanPollsSimple, ScanPollsCrc, Done}
 use Rattle.cct_jobs.specs.declared.stage.Stage.{Stage}
-use Rattle.cct_jobs.specs.declared.stage.Stage.TheVariants.{StartResets, StartReads, StartSets, Reads, Looks}
+use Rattle.cct_jobs.specs.declared.stage.Stage.TheVariants.{StartResets, StartReads, StartSets, Reads, Looks, Pays}
 use Rattle.cct_jobs.specs.declared.stage.Visit.TheVariants.{Round, Stop}
 use Rattle.cct_jobs.specs.declared.target.Target.{Target}
-use Rattle.cct_jobs.specs.Jobs.{Asking, IsAfter, IsPut, Needs, Putting, Stands, after_put, asks_at, end_of_job, may_put_of, need_of, newest_end, own_of, request_of, sending_of, stage_puts}
+use Rattle.cct_jobs.specs.Jobs.{Asking, IsAfter, IsPut, Needs, Putting, Stands, after_put, asks_at, closing_by, end_of_job, may_put_of, need_of, newest_end, opened_by, own_of, request_of, sending_of, stage_puts}
 use Rattle.cct_jobs.specs.Scans.{NeedsScan, StandsScan}
-use Rattle.cct_jobs.proofs.Owners.{round_owner, stop_owner}
+use Rattle.cct_jobs.proofs.Owners.{close_owner, round_owner, stop_owner}
+use Rattle.cct_jobs.proofs.Payouts.{closes_here, closing_may_put, payout_may_put}
 use Rattle.cct_jobs.proofs.Scans.{calls_simple_row, calls_crc_row, calls_simple_on, calls_crc_on, polls_row, polls_on}
 use Rattle.cct_jobs.proofs.Stages.{stage_row}
 
 -- what a job at a device needs
 
 needs_by : (d : DeviceSetup) (job : Job) (c : Command) (since : List Line) (state : EpochState)
-    → Stands d job c since state → Needs (need_of job) d c since state
-needs_by d (Asks device stage failed) c since state at = record {
+    (owed : Option OpenOrder) → Stands d job c since state owed → Needs (need_of job) d c since state owed
+needs_by d (Asks device stage failed) c since state owed at = record {
   request = request_of stage;
   row_is = stage_row at;
 }
-needs_by d (StartPuts device mask) c since state (device_is, rows_are, at) = record {
+needs_by d (StartPuts device mask) c since state owed (device_is, rows_are, at) = record {
   is_here = ap address_of at.command_is;
-  row_is = λ owed. at.row_is owed ∙ ap (λ (t : Target). puts (Epoch t.addr mask)) (sym device_is);
-  owned = λ past. ap (λ (t : Target). t.addr) device_is;
+  row_is = at.row_is ∙ ap (λ (t : Target). puts (Epoch t.addr mask)) (sym device_is);
+  owned = λ past opened. ap (λ (t : Target). t.addr) device_is;
 }
-needs_by d (RoundPuts entry end) c since state at = record {
-  is_here = ap address_of at.command_is;
-  row_is = at.row_is;
-  owned = λ past. round_owner d.addr (done since) state (credits_read since) (mask_read since) past entry
-      (ap (λ k. row d k since state None) (sym at.command_is) ∙ at.row_is None);
-}
-needs_by d (StopPuts device entry end) c since state (device_is, rows_are, apart, at) = record {
+needs_by d (RoundPuts entry end) c since state owed at = record {
   is_here = ap address_of at.command_is;
   row_is = at.row_is;
-  owned = λ past. stop_owner d.addr (done since) state (credits_read since) (mask_read since) past entry
-      (ap (λ k. row d k since state None) (sym at.command_is) ∙ at.row_is None);
+  owned = λ past opened. round_owner d.addr (done since) state (credits_read since) (mask_read since) past entry
+      (ap (λ k. row d k since state owed) (sym at.command_is) ∙ at.row_is);
 }
-needs_by d (StopEnds device) c since state (device_is, at) = record {
+needs_by d (StopPuts device entry end) c since state owed (device_is, rows_are, apart, at) = record {
   is_here = ap address_of at.command_is;
-  row_is = λ owed. at.row_is owed ∙ ap (λ (t : Target). puts (EpochEnd t.addr)) (sym device_is);
-  owned = λ past. ap (λ (t : Target). t.addr) device_is;
+  row_is = at.row_is;
+  owned = λ past opened. stop_owner d.addr (done since) state (credits_read since) (mask_read since) past entry
+      (ap (λ k. row d k since state owed) (sym at.command_is) ∙ at.row_is);
 }
-needs_by d (Done end) c since state at = at
-needs_by d job c since state at = absurd at
+needs_by d (StopEnds device) c since state owed (device_is, at) = record {
+  is_here = ap address_of at.command_is;
+  row_is = at.row_is ∙ ap (λ (t : Target). puts (EpochEnd t.addr)) (sym device_is);
+  owned = λ past opened. ap (λ (t : Target). t.addr) device_is;
+}
+needs_by d (OrderOpens device own halted) c since state owed at = record {
+  is_here = ap address_of at.at.command_is;
+  row_is = at.at.row_is;
+  owned = λ past opened. at.is_here;
+}
+needs_by d (OrderCloses entry end) c since state owed at = record {
+  is_here = ap address_of at.at.command_is ∙ closes_here at.closing at.order d.addr;
+  row_is = at.at.row_is;
+  owned = λ past opened. ap (owner past) at.closes ∙ close_owner past at.order at.life
+      ∙ opened at.order at.owed_is;
+}
+needs_by d (Done end) c since state owed at = at
+needs_by d job c since state owed at = absurd at
 
-pub need_known : (d : DeviceSetup) (job : Job) (c : Command) (since : List Line) (state : EpochState) (n : Need)
-    → n ≡ need_of job → Stands d job c since state → Needs n d c since state
-need_known d job c since state n is at = subst (λ m. Needs m d c since state) (sym is) (needs_by d job c since state at)
+pub need_known : (d : DeviceSetup) (job : Job) (c : Command) (since : List Line) (state : EpochState)
+    (owed : Option OpenOrder) (n : Need)
+    → n ≡ need_of job → Stands d job c since state owed → Needs n d c since state owed
+need_known d job c since state owed n is at =
+    subst (λ m. Needs m d c since state owed) (sym is) (needs_by d job c since state owed at)
 
 -- its end is what its newest line brought
 end_by : (d : DeviceSetup) (job : Job) (c : Command) (since : List Line) (state : EpochState)
-    → Stands d job c since state → end_of_job job ≡ newest_end d c since state
-end_by d (Asks device stage failed) c since state at = sym at.goes_on
-end_by d (StartPuts device mask) c since state at = sym at.2.goes_on
-end_by d (RoundPuts entry end) c since state at = sym at.goes_on
-end_by d (StopPuts device entry end) c since state at = sym at.3.goes_on
-end_by d (StopEnds device) c since state at = sym at.1.goes_on
-end_by d (Done end) c since state at = sym at
-end_by d job c since state at = absurd at
+    (owed : Option OpenOrder) → Stands d job c since state owed → end_of_job job ≡ newest_end d c since state
+end_by d (Asks device stage failed) c since state owed at = sym at.goes_on
+end_by d (StartPuts device mask) c since state owed at = sym at.2.goes_on
+end_by d (RoundPuts entry end) c since state owed at = sym at.goes_on
+end_by d (StopPuts device entry end) c since state owed at = sym at.3.goes_on
+end_by d (StopEnds device) c since state owed at = sym at.1.goes_on
+end_by d (OrderOpens device own halted) c since state owed at = sym at.at.goes_on
+end_by d (OrderCloses entry end) c since state owed at = sym at.at.goes_on
+end_by d (Done end) c since state owed at = sym at
+end_by d job c since state owed at = absurd at
 
-pub end_known : (d : DeviceSetup) (job : Job) (c : Command) (since : List Line) (state : EpochState) (end : Option End)
-    → end ≡ end_of_job job → Stands d job c since state → end ≡ newest_end d c since state
-end_known d job c since state end is at = is ∙ end_by d job c since state at
+pub end_known : (d : DeviceSetup) (job : Job) (c : Command) (since : List Line) (state : EpochState)
+    (owed : Option OpenOrder) (end : Option End)
+    → end ≡ end_of_job job → Stands d job c since state owed → end ≡ newest_end d c since state
+end_known d job c since state owed end is at = is ∙ end_by d job c since state owed at
 
 -- what a scan needs
 
@@ -122,6 +139,8 @@ put_has_room (StartPuts device mask) entry e = omega arith
 put_has_room (RoundPuts own end) entry e = omega arith
 put_has_room (StopPuts device own end) entry e = omega arith
 put_has_room (StopEnds device) entry e = omega arith
+put_has_room (OrderOpens device own halted) entry e = omega arith
+put_has_room (OrderCloses own end) entry e = omega arith
 put_has_room job entry e = absurd cc
 
 pub put_allowed : (job : Job) (n : Need) (entry : Record) → n ≡ need_of job → n ≡ need.Put entry → 1 ≤ may_put_of job
@@ -133,21 +152,24 @@ put_falls (RoundPuts own end) put = omega arith
 put_falls (StopPuts device own None) put = omega arith
 put_falls (StopPuts device own (Some end)) put = omega arith
 put_falls (StopEnds device) put = omega arith
+put_falls (OrderOpens device own halted) put = omega arith
+put_falls (OrderCloses own end) put = omega arith
 put_falls job put = absurd put
 
 pub fewer_after : (job after : Job) → after ≡ after_put job → IsPut (need_of job) → may_put_of after < may_put_of job
 fewer_after job after is put = subst (λ j. may_put_of j < may_put_of job) (sym is) (put_falls job put)
 
-stage_may_put : (stage : Stage) (body : DeviceBody) (addr rows : ℕ) → IsAfter stage body rows
+stage_may_put : (stage : Stage) (d : DeviceSetup) (addr rows : ℕ) → IsAfter stage d rows
     → stage_puts stage ≡ puts_at (own_of stage addr) rows (sends (request_of stage))
-stage_may_put (StartResets mask) body addr rows at = rw at refl
-stage_may_put (StartReads mask) body addr rows at = rw at refl
-stage_may_put (StartSets mask) body addr rows at = rw at refl
-stage_may_put (Reads Round recorded) body addr rows at = refl
-stage_may_put (Reads Stop recorded) body addr rows at = refl
-stage_may_put (Looks Round recorded read) body addr rows at = refl
-stage_may_put (Looks Stop recorded read) body addr rows at = refl
-stage_may_put stage body addr rows at = refl
+stage_may_put (StartResets mask) d addr rows at = rw at refl
+stage_may_put (StartReads mask) d addr rows at = rw at refl
+stage_may_put (StartSets mask) d addr rows at = rw at refl
+stage_may_put (Reads Round recorded) d addr rows at = refl
+stage_may_put (Reads Stop recorded) d addr rows at = refl
+stage_may_put (Looks Round recorded read) d addr rows at = refl
+stage_may_put (Looks Stop recorded read) d addr rows at = refl
+stage_may_put (Pays row) d addr rows at = payout_may_put row d addr rows at
+stage_may_put stage d addr rows at = refl
 
 -- a record of a stop that isn't the epoch's end
 two_to_put : (addr rows : ℕ) (entry : Record) (end : Option End) → end_of_put (command.Stop addr) entry ≡ end
@@ -156,19 +178,19 @@ two_to_put addr rows (EpochEnd at) end ends apart = absurd (apart (sym ends))
 two_to_put addr rows entry end ends apart = refl
 
 put_row : (d : DeviceSetup) (own : Command) (entry : Record) (end : Option End) (c : Command) (since : List Line)
-    (state : EpochState) (owed : Option OpenOrder) → Putting d own entry end c since state
+    (state : EpochState) (owed : Option OpenOrder) → Putting d own entry end c since state owed
     → puts_at own (done since) (puts entry) ≡ puts_at c (done since) (row d c since state owed)
 put_row d own entry end c since state owed at =
-    ap (λ k. puts_at k (done since) (puts entry)) (sym at.command_is) ∙ ap (puts_at c (done since)) (sym (at.row_is owed))
+    ap (λ k. puts_at k (done since) (puts entry)) (sym at.command_is) ∙ ap (puts_at c (done since)) (sym at.row_is)
 
 may_put_by : (d : DeviceSetup) (job : Job) (c : Command) (since : List Line) (state : EpochState)
     (owed : Option OpenOrder)
-    → Stands d job c since state → newest_end d c since state ≡ None
+    → Stands d job c since state owed → newest_end d c since state ≡ None
     → may_put_of job ≡ puts_at c (done since) (row d c since state owed)
 may_put_by d (Asks device stage failed) c since state owed at on =
-    stage_may_put stage d.body d.addr (done since) at.is_after
+    stage_may_put stage d d.addr (done since) at.is_after
     ∙ ap (λ k. puts_at k (done since) (sends (request_of stage))) (sym at.command_is)
-    ∙ ap (puts_at c (done since)) (sym (stage_row at owed))
+    ∙ ap (puts_at c (done since)) (sym (stage_row at))
 may_put_by d (StartPuts device mask) c since state owed (device_is, rows_are, at) on =
     sym (ap (λ n. puts_at (command.Start d.addr mask) n (puts (Epoch d.addr mask))) rows_are)
     ∙ put_row d (command.Start d.addr mask) (Epoch d.addr mask) None c since state owed at
@@ -179,12 +201,18 @@ may_put_by d (StopPuts device entry end) c since state owed (device_is, rows_are
     ∙ put_row d (command.Stop d.addr) entry end c since state owed at
 may_put_by d (StopEnds device) c since state owed (device_is, at) on =
     put_row d (command.Stop d.addr) (EpochEnd d.addr) (Some Stopped) c since state owed at
+may_put_by d (OrderOpens device own halted) c since state owed at on =
+    sym (ap (λ n. puts_at (command.Pay d.addr own.order.id own.order.count) n (puts (opened_by own.order))) at.rows_are)
+    ∙ put_row d (command.Pay d.addr own.order.id own.order.count) (opened_by own.order) None c since state owed at.at
+may_put_by d (OrderCloses entry end) c since state owed at on =
+    sym (closing_may_put at.closing at.order d.addr (done since) (puts entry) at.rows_are)
+    ∙ put_row d (closing_by at.closing at.order d.addr) entry (Some end) c since state owed at.at
 may_put_by d (Done end) c since state owed at on = absurd cc
 may_put_by d job c since state owed at on = absurd at
 
 pub may_put_known : (d : DeviceSetup) (job : Job) (c : Command) (since : List Line) (state : EpochState)
     (owed : Option OpenOrder) (n : ℕ)
-    → n ≡ may_put_of job → Stands d job c since state → newest_end d c since state ≡ None
+    → n ≡ may_put_of job → Stands d job c since state owed → newest_end d c since state ≡ None
     → n ≡ puts_at c (done since) (row d c since state owed)
 may_put_known d job c since state owed n is at on = is ∙ may_put_by d job c since state owed at on
 
@@ -197,14 +225,15 @@ same_request r p q first second =
 
 -- the request of a row is that of its stage
 pub stage_asked : {d : DeviceSetup} {device : Target} {stage : Stage} {failed : ℕ} {c : Command} {since : List Line}
-    {state : EpochState} (owed : Option OpenOrder) (q : Request) → Asking d device stage failed c since state
+    {state : EpochState} (owed : Option OpenOrder) (q : Request) → Asking d device stage failed c since state owed
     → row d c since state owed ≡ sends q
     → q ≡ request_of stage
-stage_asked owed q at is = same_request _ q _ is (stage_row at owed)
+stage_asked owed q at is = same_request _ q _ is (stage_row at)
 
 -- what a job sends to its device
 pub sending_is : (d : DeviceSetup) (job : Job) (c : Command) (since : List Line) (state : EpochState)
-    (owed : Option OpenOrder) (q : Request) (s : Sending) → Some s ≡ sending_of job → Stands d job c since state → row d c since state owed ≡ sends q
+    (owed : Option OpenOrder) (q : Request) (s : Sending) → Some s ≡ sending_of job → Stands d job c since state owed
+    → row d c since state owed ≡ sends q
     → s ≡ record { to = d.addr; kind = d.kind; request = q }
 sending_is d (Asks device stage failed) c since state owed q s e at is =
     let sent : s ≡ record { to = device.addr; kind = device.kind; request = request_of stage } = cc in
@@ -215,6 +244,8 @@ sending_is d (StartPuts device mask) c since state owed q s e at is = absurd cc
 sending_is d (RoundPuts entry end) c since state owed q s e at is = absurd cc
 sending_is d (StopPuts device entry end) c since state owed q s e at is = absurd cc
 sending_is d (StopEnds device) c since state owed q s e at is = absurd cc
+sending_is d (OrderOpens device own halted) c since state owed q s e at is = absurd cc
+sending_is d (OrderCloses entry end) c since state owed q s e at is = absurd cc
 sending_is d (Done end) c since state owed q s e at is = absurd cc
 sending_is d job c since state owed q s e at is = absurd at
 

@@ -1,12 +1,14 @@
 -- What a job sends or puts, and the lines of a device that it stands for, newest first.
-use Rattle.std.specs.Prelude.{◌≡◌, ◌≢◌, ◌<◌, ◌==◌, nat_lt, ℕ, suc, ⊤, Bool, List, [], ◌∷◌, if◌then◌else◌, Option, Some, None, is_some, IsTrue, option_and_then, slice_get}
+use Rattle.std.specs.Prelude.{◌≡◌, ◌≢◌, ◌<◌, ◌==◌, ◌^◌, nat_lt, ℕ, suc, ⊤, Bool, true, false, List, [], ◌∷◌, if◌then◌else◌, Option, Some, None, is_some, IsTrue, option_and_then, slice_get}
+use Rattle.std.specs.Option.{option_map}
 use Rattle.cct_model.specs.terms.wire.CheckKind.{CheckKind}
 use Rattle.cct_model.specs.terms.wire.CheckKind.TheVariants.{Simple, Crc}
 use Rattle.cct_model.specs.terms.coin.TheConstants.{COIN_PLACES}
-use Rattle.cct_model.specs.terms.device.DeviceBody.{DeviceBody}
 use Rattle.cct_model.specs.terms.device.DeviceSetup.{DeviceSetup}
+use Rattle.cct_model.specs.terms.request.TheConstants.{ENABLE_CODE}
+use Rattle.cct_model.specs.terms.request.ReplyForm.{ReplyForm}
 use Rattle.cct_model.specs.terms.request.Request.{Request}
-use Rattle.cct_model.specs.terms.request.Request.TheVariants.{MakerId, Category, ProductCode, SerialNumber, SoftwareRevision, BuildCode, CommsRevision, ResetDevice, SetMask, GetMask, SetMaster, GetMaster, ReadCredits, GetDefault, CoinId, AcceptCount, TestHopper}
+use Rattle.cct_model.specs.terms.request.Request.TheVariants.{MakerId, Category, ProductCode, SerialNumber, SoftwareRevision, BuildCode, CommsRevision, ResetDevice, SetMask, GetMask, SetMaster, GetMaster, ReadCredits, GetDefault, CoinId, AcceptCount, TestHopper, Enable, Dispense, GetStatus, GetLife, StopNow}
 use Rattle.cct_model.specs.lines.record.Record.{Record}
 use Rattle.cct_model.specs.lines.record.Record.TheVariants as record_of
 use Rattle.cct_model.specs.declared.judging.Judged.{Judged}
@@ -18,30 +20,46 @@ use Rattle.cct_model.specs.lines.command.Command.{Command}
 use Rattle.cct_model.specs.lines.command.Command.TheVariants as command
 use Rattle.cct_model.specs.lines.entry.End.{End}
 use Rattle.cct_model.specs.lines.entry.Entry.{Entry}
-use Rattle.cct_model.specs.lines.entry.End.TheVariants.{Broke, Clean, Posted, Stopped}
+use Rattle.cct_model.specs.lines.entry.End.TheVariants.{Broke, Clean, Posted, Stopped, Closed, OddLife}
 use Rattle.cct_model.specs.Request.{header_of, form_of}
 use Rattle.cct_model.specs.Reply.{Reply}
-use Rattle.cct_model.specs.Exchange.{asked, device_at, got, acceptor_there}
+use Rattle.cct_model.specs.Reply as reply
+use Rattle.cct_model.specs.Exchange.{asked, device_at, got, acceptor_there, hopper_there}
 use Rattle.cct_model.specs.Device.{is_acceptor}
 use Rattle.cct_model.specs.Line.{Line, exchange}
 use Rattle.cct_model.specs.Job.{address_of, sends, puts, row, credits_read, end_of, end_of_put, done, tries, ident_requests, path_set, path_read}
+use Rattle.cct_model.specs.Order.{close, is_marked}
 use Rattle.cct_model.specs.Scan.{poll_of}
-use Rattle.cct_model.specs.Transcript.{got_by, owner}
+use Rattle.cct_model.specs.Transcript.{got_by, opened_at, owner}
 use Rattle.cct_jobs.specs.declared.target.Target.{Target}
+use Rattle.cct_jobs.specs.declared.owed.Owed.{Owed}
+use Rattle.cct_jobs.specs.declared.payout.Closing.{Closing}
+use Rattle.cct_jobs.specs.declared.payout.Closing.TheVariants as closing_of
+use Rattle.cct_jobs.specs.declared.payout.Payout.{Payout}
+use Rattle.cct_jobs.specs.declared.payout.Payout.TheVariants.{Enables, Counts, Dispenses, Waits, Stops, Recounts}
 use Rattle.cct_jobs.specs.declared.stage.Recorded.{Recorded}
 use Rattle.cct_jobs.specs.declared.stage.Visit.{Visit}
 use Rattle.cct_jobs.specs.declared.stage.Visit.TheVariants as visit_of
 use Rattle.cct_jobs.specs.declared.stage.Stage.{Stage}
-use Rattle.cct_jobs.specs.declared.stage.Stage.TheVariants.{StartResets, StartReads, StartSets, StopInhibits, Reads, Looks, IdentAsks, PathSets, PathReads}
+use Rattle.cct_jobs.specs.declared.stage.Stage.TheVariants.{StartResets, StartReads, StartSets, StopInhibits, Reads, Looks, IdentAsks, PathSets, PathReads, Pays}
 use Rattle.cct_jobs.specs.declared.job.Sending.{Sending}
 use Rattle.cct_jobs.specs.declared.job.Need.{Need}
 use Rattle.cct_jobs.specs.declared.job.Need.TheVariants as need
 use Rattle.cct_jobs.specs.declared.job.Job.{Job}
-use Rattle.cct_jobs.specs.declared.job.Job.TheVariants.{Asks, StartPuts, RoundPuts, StopPuts, StopEnds, ScanCallsSimple, ScanCallsCrc, ScanPollsSimple, ScanPollsCrc, Done}
+use Rattle.cct_jobs.specs.declared.job.Job.TheVariants.{Asks, StartPuts, RoundPuts, StopPuts, StopEnds, OrderOpens, OrderCloses, ScanCallsSimple, ScanCallsCrc, ScanPollsSimple, ScanPollsCrc, Done}
 
 -- What a job knows of a device.
 abbrev pub target_of : DeviceSetup → Target
-target_of d = record { addr = d.addr; kind = d.kind; is_acceptor = is_acceptor d.body }
+target_of d = record { addr = d.addr; kind = d.kind; is_acceptor = is_acceptor d.body; serial = d.serial }
+
+-- The request that a row of a payment or a settlement sends.
+abbrev pub payout_request : Payout → Request
+payout_request (Enables id count halted) = Enable ENABLE_CODE
+payout_request (Counts id count halted) = GetLife
+payout_request (Dispenses serial own halted) = Dispense serial own.order.count
+payout_request (Waits closing own) = GetStatus
+payout_request (Stops closing own) = StopNow
+payout_request (Recounts closing own) = GetLife
 
 -- The request that a stage sends.
 abbrev pub request_of : Stage → Request
@@ -54,6 +72,7 @@ request_of (Looks visit recorded read) = GetMask
 request_of (IdentAsks question) = question
 request_of (PathSets place path) = path_set place path
 request_of (PathReads place path) = path_read place
+request_of (Pays row) = payout_request row
 
 -- The stage is one of a start.
 abbrev pub IsOfStart : Stage → Type 0
@@ -75,10 +94,35 @@ IsOfPath (PathSets place path) = ⊤
 IsOfPath (PathReads place path) = ⊤
 IsOfPath stage = ⊥
 
+-- A row of a payment or a settlement is tried again, but for a dispense.
+abbrev pub IsPayoutAgain : Payout → Type 0
+IsPayoutAgain (Dispenses serial own halted) = ⊥
+IsPayoutAgain row = ⊤
+
+-- A stage is tried again, but for the mask of a start and a dispense.
+abbrev pub IsAgain : Stage → Type 0
+IsAgain (StartSets mask) = ⊥
+IsAgain (Pays row) = IsPayoutAgain row
+IsAgain stage = ⊤
+
 -- The command whose job reads an acceptor at an address.
 abbrev pub visiting : Visit → ℕ → Command
 visiting visit_of.Round addr = command.Round addr
 visiting visit_of.Stop addr = command.Stop addr
+
+-- The command whose job closes an order, at an address: its payment, or a settlement.
+abbrev pub closing_by : Closing → OpenOrder → ℕ → Command
+closing_by closing_of.Payment o addr = command.Pay addr o.id o.count
+closing_by closing_of.Settlement o addr = command.Settle addr
+
+-- The command whose job has a row of a payment or a settlement, at an address.
+abbrev pub payout_by : Payout → ℕ → Command
+payout_by (Enables id count halted) addr = command.Pay addr id count
+payout_by (Counts id count halted) addr = command.Pay addr id count
+payout_by (Dispenses serial own halted) addr = command.Pay addr own.order.id own.order.count
+payout_by (Waits closing own) addr = closing_by closing own.order addr
+payout_by (Stops closing own) addr = closing_by closing own.order addr
+payout_by (Recounts closing own) addr = closing_by closing own.order addr
 
 -- The command whose job has a stage, at an address.
 abbrev pub own_of : Stage → ℕ → Command
@@ -91,23 +135,40 @@ own_of (Looks visit recorded read) addr = visiting visit addr
 own_of (IdentAsks question) addr = command.Ident addr
 own_of (PathSets place path) addr = command.Path addr place path
 own_of (PathReads place path) addr = command.Path addr place path
+own_of (Pays row) addr = payout_by row addr
 
 -- How many rows are done before an acceptor's credits are read: a stop inhibits its coins before.
 abbrev pub rows_before : Visit → ℕ
 rows_before visit_of.Round = 0
 rows_before visit_of.Stop = 1
 
+-- How many rows are done before an order is settled: a payment let the hopper dispense before.
+abbrev pub rows_paid : Closing → ℕ
+rows_paid closing_of.Payment = 4
+rows_paid closing_of.Settlement = 0
+
+-- A row of a payment or a settlement is the one after so many; a dispense is to the hopper's own serial number, which
+-- fits its three bytes.
+abbrev pub IsAfterPayout : Payout → DeviceSetup → ℕ → Type 0
+IsAfterPayout (Enables id count halted) d rows = (rows ≡ 0) × (d.serial < 2 ^ 24)
+IsAfterPayout (Counts id count halted) d rows = (rows ≡ 1) × (d.serial < 2 ^ 24)
+IsAfterPayout (Dispenses serial own halted) d rows = (rows ≡ 3) × (d.serial < 2 ^ 24) × (serial ≡ d.serial)
+IsAfterPayout (Waits closing own) d rows = rows ≡ rows_paid closing
+IsAfterPayout (Stops closing own) d rows = rows ≡ rows_paid closing
+IsAfterPayout (Recounts closing own) d rows = rows ≡ suc (rows_paid closing)
+
 -- A stage is the one after so many rows of its job.
-abbrev pub IsAfter : Stage → DeviceBody → ℕ → Type 0
-IsAfter (StartResets mask) body rows = rows ≡ 0
-IsAfter (StartReads mask) body rows = rows ≡ 1
-IsAfter (StartSets mask) body rows = rows ≡ 3
-IsAfter (StopInhibits recorded) body rows = rows ≡ 0
-IsAfter (Reads visit recorded) body rows = rows ≡ rows_before visit
-IsAfter (Looks visit recorded read) body rows = rows ≡ suc (rows_before visit)
-IsAfter (IdentAsks question) body rows = slice_get (ident_requests body) rows ≡ Some question
-IsAfter (PathSets place path) body rows = rows ≡ 0
-IsAfter (PathReads place path) body rows = rows ≡ 1
+abbrev pub IsAfter : Stage → DeviceSetup → ℕ → Type 0
+IsAfter (StartResets mask) d rows = rows ≡ 0
+IsAfter (StartReads mask) d rows = rows ≡ 1
+IsAfter (StartSets mask) d rows = rows ≡ 3
+IsAfter (StopInhibits recorded) d rows = rows ≡ 0
+IsAfter (Reads visit recorded) d rows = rows ≡ rows_before visit
+IsAfter (Looks visit recorded read) d rows = rows ≡ suc (rows_before visit)
+IsAfter (IdentAsks question) d rows = slice_get (ident_requests d.body) rows ≡ Some question
+IsAfter (PathSets place path) d rows = rows ≡ 0
+IsAfter (PathReads place path) d rows = rows ≡ 1
+IsAfter (Pays row) d rows = IsAfterPayout row d rows
 
 -- A poll of an address under a check.
 abbrev pub asks_at : CheckKind → ℕ → Sending
@@ -123,12 +184,18 @@ sending_of (ScanPollsSimple addr due listed) = Some (asks_at Simple addr)
 sending_of (ScanPollsCrc addr due listed) = Some (asks_at Crc addr)
 sending_of job = None
 
+-- The record that opens an order.
+abbrev pub opened_by : OpenOrder → Record
+opened_by o = record_of.Opened o.id o.addr o.count o.life
+
 -- What a job needs next: it puts a record, or is done, or else it sends a request.
 abbrev pub need_of : Job → Need
 need_of (StartPuts device mask) = need.Put (record_of.Epoch device.addr mask)
 need_of (RoundPuts entry end) = need.Put entry
 need_of (StopPuts device entry end) = need.Put entry
 need_of (StopEnds device) = need.Put (record_of.EpochEnd device.addr)
+need_of (OrderOpens device own halted) = need.Put (opened_by own.order)
+need_of (OrderCloses entry end) = need.Put entry
 need_of (Done end) = need.Done end
 need_of job = need.Exchange
 
@@ -158,19 +225,48 @@ stop_after device Nothing = StopEnds device
 stop_after device (Reading entry) = StopPuts device entry None
 stop_after device (Broken entry) = StopPuts device entry (Some Broke)
 
--- The job after its record was put: a stop that put no end yet puts its epoch's.
+-- The end of a job that closes an order by a record.
+abbrev pub closing_end : Record → End
+closing_end (record_of.Closed id paid unpaid) = Closed
+closing_end r = OddLife
+
+-- The row at which a payout is settled: a halted one is stopped before its hopper is asked how it goes.
+abbrev pub settling : Closing → Owed → Bool → Payout
+settling closing own halted = if halted then Stops closing own else Waits closing own
+
+-- The job after its record was put: a stop that put no end yet puts its epoch's, and a payment that opened its order
+-- lets the hopper dispense.
 abbrev pub after_put : Job → Job
 after_put (StartPuts device mask) = Asks device (StartSets mask) 0
 after_put (RoundPuts entry end) = Done end
 after_put (StopPuts device entry None) = StopEnds device
 after_put (StopPuts device entry (Some end)) = Done end
 after_put (StopEnds device) = Done Stopped
+after_put (OrderOpens device own halted) = Asks device (Pays (Dispenses device.serial own halted)) 0
+after_put (OrderCloses entry end) = Done end
 after_put job = job
+
+-- The order that is open where one is owed.
+abbrev pub order_of : Option Owed → Option OpenOrder
+order_of owed = option_map (λ own. own.order) owed
+
+-- The order that is owed after a job's record was put: that which a payment opened, none where it was closed, and that of
+-- before where the record is another.
+abbrev pub owed_after : Job → Option Owed → Option Owed
+owed_after (OrderOpens device own halted) before = Some own
+owed_after (OrderCloses entry end) before = None
+owed_after job before = before
 
 -- How many records the reading of an acceptor still leads to: a stop puts the epoch's end too.
 abbrev pub visit_puts : Visit → ℕ
 visit_puts visit_of.Round = 1
 visit_puts visit_of.Stop = 2
+
+-- How many records a payment or a settlement may still put, by its row.
+abbrev pub payout_puts : Payout → ℕ
+payout_puts (Enables id count halted) = 2
+payout_puts (Counts id count halted) = 2
+payout_puts row = 1
 
 -- How many records a job may still put, by its stage.
 abbrev pub stage_puts : Stage → ℕ
@@ -179,6 +275,7 @@ stage_puts (StartReads mask) = 1
 stage_puts (StopInhibits recorded) = 2
 stage_puts (Reads visit recorded) = visit_puts visit
 stage_puts (Looks visit recorded read) = visit_puts visit
+stage_puts (Pays row) = payout_puts row
 stage_puts stage = 0
 
 -- How many records a job may still put.
@@ -188,6 +285,8 @@ may_put_of (StartPuts device mask) = 1
 may_put_of (RoundPuts entry end) = 1
 may_put_of (StopPuts device entry end) = 2
 may_put_of (StopEnds device) = 1
+may_put_of (OrderOpens device own halted) = 2
+may_put_of (OrderCloses entry end) = 1
 may_put_of job = 0
 
 -- How many records the job of a command may put in all.
@@ -195,6 +294,8 @@ abbrev pub records_of : Command → ℕ
 records_of (command.Start addr mask) = 1
 records_of (command.Round addr) = 1
 records_of (command.Stop addr) = 2
+records_of (command.Pay addr id count) = 2
+records_of (command.Settle addr) = 1
 records_of c = 0
 
 -- An epoch runs with this inhibit mask and event counter recorded.
@@ -206,20 +307,74 @@ abbrev pub IsRunning : EpochState → Type 0
 IsRunning Idle = ⊥
 IsRunning (Running mask counter) = ⊤
 
--- The commands that begin a job today: a scan, the identification of a device of the setup, and a start and the setting
--- of a path at an acceptor of the setup, and a round and a stop where its epoch runs.
-abbrev pub MayBegin : Command → List DeviceSetup → EpochState → Type 0
-MayBegin command.Scan devices state = ⊤
-MayBegin (command.Ident addr) devices state = IsTrue (is_some (device_at devices addr))
-MayBegin (command.Start addr mask) devices state = IsTrue (acceptor_there (device_at devices addr))
-MayBegin (command.Path addr place path) devices state = IsTrue (acceptor_there (device_at devices addr))
-MayBegin (command.Round addr) devices state = IsTrue (acceptor_there (device_at devices addr)) × IsRunning state
-MayBegin (command.Stop addr) devices state = IsTrue (acceptor_there (device_at devices addr)) × IsRunning state
-MayBegin c devices state = ⊥
+-- A row of a payment or a settlement at which it can be halted: each up to the one that waits for the last coin.
+abbrev pub payout_halts : Payout → Bool
+payout_halts (Recounts closing own) = false
+payout_halts row = true
+
+-- A stage at which a job can be halted.
+abbrev pub stage_halts : Stage → Bool
+stage_halts (Pays row) = payout_halts row
+stage_halts stage = false
+
+-- A job can be halted.
+abbrev pub halts : Job → Bool
+halts (Asks device stage failed) = stage_halts stage
+halts (OrderOpens device own halted) = true
+halts job = false
+
+-- The row of a payment or a settlement after a halt: the hopper is to be stopped before it is asked how the payout
+-- goes.
+abbrev pub halted_row : Payout → Payout
+halted_row (Enables id count halted) = Enables id count true
+halted_row (Counts id count halted) = Counts id count true
+halted_row (Dispenses serial own halted) = Dispenses serial own true
+halted_row (Waits closing own) = Stops closing own
+halted_row row = row
+
+-- How many tries of the row after a halt failed in succession: those of a stop are counted by themselves.
+abbrev pub halted_tries : Payout → ℕ → ℕ
+halted_tries (Waits closing own) failed = 0
+halted_tries row failed = failed
+
+-- The job at a stage after a halt.
+abbrev pub halted_at : Target → Stage → ℕ → Job
+halted_at device (Pays row) failed = Asks device (Pays (halted_row row)) (halted_tries row failed)
+halted_at device stage failed = Asks device stage failed
+
+-- The job after a halt.
+abbrev pub after_halt : Job → Job
+after_halt (Asks device stage failed) = halted_at device stage failed
+after_halt (OrderOpens device own halted) = OrderOpens device own true
+after_halt job = job
+
+-- The commands that begin a job today: a scan, the identification of a device of the setup, a start and the setting of
+-- a path at an acceptor of the setup, a round and a stop where its epoch runs, a payment at a hopper of the setup, and
+-- a settlement where its order is open.
+abbrev pub MayBegin : Command → List DeviceSetup → EpochState → Option OpenOrder → Type 0
+MayBegin command.Scan devices state owed = ⊤
+MayBegin (command.Ident addr) devices state owed = IsTrue (is_some (device_at devices addr))
+MayBegin (command.Start addr mask) devices state owed = IsTrue (acceptor_there (device_at devices addr))
+MayBegin (command.Path addr place path) devices state owed = IsTrue (acceptor_there (device_at devices addr))
+MayBegin (command.Round addr) devices state owed =
+    IsTrue (acceptor_there (device_at devices addr)) × IsRunning state
+MayBegin (command.Stop addr) devices state owed = IsTrue (acceptor_there (device_at devices addr)) × IsRunning state
+MayBegin (command.Pay addr id count) devices state owed = IsTrue (hopper_there (device_at devices addr))
+MayBegin (command.Settle addr) devices state owed =
+    IsTrue (hopper_there (device_at devices addr)) × IsTrue (is_some owed)
+MayBegin c devices state owed = ⊥
+
+-- The reply of an address under a check in the form that is wanted, if any, in what was heard after a piece was sent.
+abbrev pub reply_wanted : CheckKind → ℕ → Option ReplyForm → List ℕ → List ℕ → Option Reply
+reply_wanted kind addr wanted sent heard = option_and_then (λ form. got kind addr form sent heard) wanted
 
 -- The wanted reply to a request to an address under a check, in what was heard after a piece was sent, or none.
 abbrev pub replied : CheckKind → ℕ → Request → List ℕ → List ℕ → Option Reply
-replied kind addr q sent heard = option_and_then (λ form. got kind addr form sent heard) (form_of q)
+replied kind addr q sent heard = reply_wanted kind addr (form_of q) sent heard
+
+-- A life count that a reply is fits its three bytes.
+abbrev pub FitsLife : Reply → Type 0
+FitsLife y = (count : ℕ) → y ≡ reply.life count → count < 2 ^ 24
 
 -- The line of a device that an exchange with it is.
 abbrev pub line_heard : DeviceSetup → List ℕ → List ℕ → Line
@@ -254,62 +409,105 @@ pub record Trying (q : Request) (failed : ℕ) (since : List Line) : Type 0 wher
   pub counted : failed ≡ tries (header_of q) since
   pub few : failed < 3
 
--- What a stage knows of the lines before: what is recorded of the epoch, and which credits were read.
-abbrev pub Knows : Stage → List Line → EpochState → Type 0
-Knows (StopInhibits recorded) since state = state ≡ runs recorded
-Knows (Reads visit recorded) since state = state ≡ runs recorded
-Knows (Looks visit recorded read) since state = (state ≡ runs recorded) × (credits_read since ≡ Some read)
-Knows stage since state = ⊤
+-- What a row of a payment or a settlement knows of the lines before: whether the payout is to be stopped, which order
+-- is open, and where the hopper isn't to be stopped yet, that no try to stop it failed.
+abbrev pub KnowsPayout : Payout → List Line → Option OpenOrder → Type 0
+KnowsPayout (Enables id count halted) since owed = is_marked since ≡ halted
+KnowsPayout (Counts id count halted) since owed = is_marked since ≡ halted
+KnowsPayout (Dispenses serial own halted) since owed = (is_marked since ≡ halted) × (owed ≡ Some own.order)
+KnowsPayout (Waits closing own) since owed =
+    (is_marked since ≡ false) × (owed ≡ Some own.order) × (tries (header_of StopNow) since ≡ 0)
+KnowsPayout (Stops closing own) since owed = (is_marked since ≡ true) × (owed ≡ Some own.order)
+KnowsPayout (Recounts closing own) since owed = owed ≡ Some own.order
+
+-- What a stage knows of the lines before: what is recorded of the epoch, which credits were read, and what a payment or
+-- a settlement knows of its payout.
+abbrev pub Knows : Stage → List Line → EpochState → Option OpenOrder → Type 0
+Knows (StopInhibits recorded) since state owed = state ≡ runs recorded
+Knows (Reads visit recorded) since state owed = state ≡ runs recorded
+Knows (Looks visit recorded read) since state owed = (state ≡ runs recorded) × (credits_read since ≡ Some read)
+Knows (Pays row) since state owed = KnowsPayout row since owed
+Knows stage since state owed = ⊤
 
 -- A job at a stage: it is of the stage's command and after its rows, and its newest line didn't end it.
 pub record Asking (d : DeviceSetup) (device : Target) (stage : Stage) (failed : ℕ) (c : Command) (since : List Line)
-    (state : EpochState) : Type 0 where
+    (state : EpochState) (owed : Option OpenOrder) : Type 0 where
   pub device_is : device ≡ target_of d
   pub command_is : c ≡ own_of stage d.addr
-  pub is_after : IsAfter stage d.body (done since)
-  pub knows : Knows stage since state
+  pub is_after : IsAfter stage d (done since)
+  pub knows : Knows stage since state owed
   pub trying : Trying (request_of stage) failed since
   pub goes_on : newest_end d c since state ≡ None
 
--- A job of a command puts a record, which ends it so, or doesn't. Its row, as that of each job of today, is the same
--- whatever order is open.
+-- A job of a command puts a record, which ends it so, or doesn't.
 pub record Putting (d : DeviceSetup) (own : Command) (entry : Record) (end : Option End) (c : Command)
-    (since : List Line) (state : EpochState) : Type 0 where
+    (since : List Line) (state : EpochState) (owed : Option OpenOrder) : Type 0 where
   pub command_is : c ≡ own
-  pub row_is : (owed : Option OpenOrder) → row d c since state owed ≡ puts entry
+  pub row_is : row d c since state owed ≡ puts entry
   pub ends : end_of_put own entry ≡ end
   pub goes_on : newest_end d c since state ≡ None
 
--- A job stands for the lines of a device since its command was taken, beside the epoch: each variant is at its row.
-abbrev pub Stands : DeviceSetup → Job → Command → List Line → EpochState → Type 0
-Stands d (Asks device stage failed) c since state = Asking d device stage failed c since state
-Stands d (StartPuts device mask) c since state =
+-- A payment puts that its order is opened at the device, with the life count that it read.
+pub record Opening (d : DeviceSetup) (device : Target) (own : Owed) (halted : Bool) (c : Command) (since : List Line)
+    (state : EpochState) (owed : Option OpenOrder) : Type 0 where
+  pub device_is : device ≡ target_of d
+  pub serial : d.serial < 2 ^ 24
+  pub rows_are : done since ≡ 2
+  pub marked : is_marked since ≡ halted
+  pub is_here : own.order.addr ≡ d.addr
+  pub at : Putting d (command.Pay d.addr own.order.id own.order.count) (opened_by own.order) None c since state owed
+
+-- A payment or a settlement puts the record that closes the open order with the life count that it read, and ends so.
+pub record Settling (d : DeviceSetup) (entry : Record) (end : End) (c : Command) (since : List Line)
+    (state : EpochState) (owed : Option OpenOrder) : Type 0 where
+  pub closing : Closing
+  pub order : OpenOrder
+  pub life : ℕ
+  pub rows_are : done since ≡ suc (suc (rows_paid closing))
+  pub owed_is : owed ≡ Some order
+  pub closes : entry ≡ close order life
+  pub at : Putting d (closing_by closing order d.addr) entry (Some end) c since state owed
+
+-- A job stands for the lines of a device since its command was taken, beside the epoch and the open order: each variant
+-- is at its row.
+abbrev pub Stands : DeviceSetup → Job → Command → List Line → EpochState → Option OpenOrder → Type 0
+Stands d (Asks device stage failed) c since state owed = Asking d device stage failed c since state owed
+Stands d (StartPuts device mask) c since state owed =
     (device ≡ target_of d) × (done since ≡ 2)
-    × Putting d (command.Start d.addr mask) (record_of.Epoch d.addr mask) None c since state
-Stands d (RoundPuts entry end) c since state = Putting d (command.Round d.addr) entry (Some end) c since state
-Stands d (StopPuts device entry end) c since state =
+    × Putting d (command.Start d.addr mask) (record_of.Epoch d.addr mask) None c since state owed
+Stands d (RoundPuts entry end) c since state owed =
+    Putting d (command.Round d.addr) entry (Some end) c since state owed
+Stands d (StopPuts device entry end) c since state owed =
     (device ≡ target_of d) × (done since ≡ 3) × (end ≢ Some Stopped)
-    × Putting d (command.Stop d.addr) entry end c since state
-Stands d (StopEnds device) c since state =
-    (device ≡ target_of d) × Putting d (command.Stop d.addr) (record_of.EpochEnd d.addr) (Some Stopped) c since state
-Stands d (Done end) c since state = newest_end d c since state ≡ Some end
-Stands d job c since state = ⊥
+    × Putting d (command.Stop d.addr) entry end c since state owed
+Stands d (StopEnds device) c since state owed =
+    (device ≡ target_of d)
+    × Putting d (command.Stop d.addr) (record_of.EpochEnd d.addr) (Some Stopped) c since state owed
+Stands d (OrderOpens device own halted) c since state owed = Opening d device own halted c since state owed
+Stands d (OrderCloses entry end) c since state owed = Settling d entry end c since state owed
+Stands d (Done end) c since state owed = newest_end d c since state ≡ Some end
+Stands d job c since state owed = ⊥
 
 -- A job at a device sends a request next.
-pub record SendsNext (d : DeviceSetup) (c : Command) (since : List Line) (state : EpochState) : Type 0 where
+pub record SendsNext (d : DeviceSetup) (c : Command) (since : List Line) (state : EpochState)
+    (owed : Option OpenOrder) : Type 0 where
   pub request : Request
-  pub row_is : (owed : Option OpenOrder) → row d c since state owed ≡ sends request
+  pub row_is : row d c since state owed ≡ sends request
 
--- A job at a device puts this record next, which is one of the device's address.
-pub record PutsNext (entry : Record) (d : DeviceSetup) (c : Command) (since : List Line)
-    (state : EpochState) : Type 0 where
+-- The open order was opened at the address of a device.
+abbrev pub IsOpenedAt : DeviceSetup → Option OpenOrder → List Entry → Type 0
+IsOpenedAt d owed past = (o : OpenOrder) → owed ≡ Some o → opened_at o.id past ≡ d.addr
+
+-- A job at a device puts this record next, which is one of the device's address where the open order was opened there.
+pub record PutsNext (entry : Record) (d : DeviceSetup) (c : Command) (since : List Line) (state : EpochState)
+    (owed : Option OpenOrder) : Type 0 where
   pub is_here : address_of c ≡ d.addr
-  pub row_is : (owed : Option OpenOrder) → row d c since state owed ≡ puts entry
-  pub owned : (past : List Entry) → owner past entry ≡ d.addr
+  pub row_is : row d c since state owed ≡ puts entry
+  pub owned : (past : List Entry) → IsOpenedAt d owed past → owner past entry ≡ d.addr
 
 -- What a job at a device needs, by its lines: its row sends a request or puts this record, or its newest line ended it
 -- so.
-abbrev pub Needs : Need → DeviceSetup → Command → List Line → EpochState → Type 0
-Needs need.Exchange d c since state = SendsNext d c since state
-Needs (need.Put entry) d c since state = PutsNext entry d c since state
-Needs (need.Done end) d c since state = newest_end d c since state ≡ Some end
+abbrev pub Needs : Need → DeviceSetup → Command → List Line → EpochState → Option OpenOrder → Type 0
+Needs need.Exchange d c since state owed = SendsNext d c since state owed
+Needs (need.Put entry) d c since state owed = PutsNext entry d c since state owed
+Needs (need.Done end) d c since state owed = newest_end d c since state ≡ Some end

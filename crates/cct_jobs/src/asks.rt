@@ -1,19 +1,23 @@
 //! What a job hears from the device that it asked: the wanted reply, or a failed try.
-ghost use Rattle.std.specs.Prelude.{◌≡◌, ◌≤◌, List, ℕ, ◌∷◌, Some, None};
+ghost use Rattle.std.specs.Prelude.{Option, ◌≡◌, ◌≤◌, List, ℕ, ◌∷◌, Some, None};
 ghost use Rattle.cct_model.specs.lines.command.Command.{Command};
 ghost use Rattle.cct_model.specs.terms.device.DeviceSetup.{DeviceSetup};
 ghost use Rattle.cct_model.specs.declared.judging.EpochState.{EpochState};
+ghost use Rattle.cct_model.specs.declared.judging.OpenOrder.{OpenOrder};
 ghost use Rattle.cct_model.specs.Exchange.{ask};
 ghost use Rattle.cct_model.specs.Line.{Line, exchange};
 ghost use Rattle.cct_model.specs.Reply.{reply_shown};
 ghost use Rattle.cct_model.specs.Request.{form_of};
 ghost use Rattle.cct_msg.specs.Forms.{form_shown};
-ghost use Rattle.cct_jobs.specs.Jobs.{Asking, Stands, line_heard, may_put_of, request_of, stage_puts};
+ghost use Rattle.cct_jobs.specs.declared.stage.Stage.TheVariants.{Pays};
+ghost use Rattle.cct_jobs.specs.Jobs.{payout_puts, payout_request};
+ghost use Rattle.cct_jobs.specs.Jobs.{Asking, FitsLife, IsAgain, Stands, line_heard, may_put_of, request_of, stage_puts};
 
 use crate::job::Job;
+use crate::payout::Payout;
 use crate::stage::Stage;
 use crate::target::{Target, after_failed};
-use crate::{ident, path, reading, start};
+use crate::{ident, path, payment, reading, start};
 use cct_model::{End, Reply};
 
 /// A job that comes to a stage.
@@ -30,27 +34,53 @@ pub(crate) fn first_try(device: Target, stage: Stage) -> Job
 /// The job after it heard what followed the request of its stage.
 pub(crate) fn heard(device: Target, stage: Stage, failed: u8, sent: &[u8], heard: &[u8]) -> Job
     ensures device { (d : DeviceSetup) (c : Command) (since : List Line) (state : EpochState)
-        → Asking d device stage failed c since state → sent.now ≡ ask d.kind d.addr (request_of stage)
-        → Stands d result c (line_heard d sent.now heard.now ∷ since) state }
+        (owed : Option OpenOrder) → Asking d device stage failed c since state owed
+        → sent.now ≡ ask d.kind d.addr (request_of stage)
+        → Stands d result c (line_heard d sent.now heard.now ∷ since) state owed }
     ensures may_put { may_put_of result ≤ stage_puts stage }
 {
-    match device.reply(stage.request(), sent, heard) {
+    match device.reply(stage.wanted(), sent, heard) {
         Some(reply) => answered(device, stage, &reply),
         None => unanswered(device, stage, failed),
     }
 }
 
-/// The job after a failed try of its stage, which is tried three times in succession at the most. The mask of a start is
-/// never sent again.
+/// The job after a failed try of its stage, which is tried three times in succession at the most. The mask of a start
+/// and a dispense are never sent again.
 fn unanswered(device: Target, stage: Stage, failed: u8) -> Job
     ensures device { (d : DeviceSetup) (c : Command) (since : List Line) (state : EpochState)
-        → Asking d device stage failed c since state
-        → Stands d result c (exchange (Some (request_of stage)) None ∷ since) state }
+        (owed : Option OpenOrder) → Asking d device stage failed c since state owed
+        → Stands d result c (exchange (Some (request_of stage)) None ∷ since) state owed }
     ensures may_put { may_put_of result ≤ stage_puts stage }
 {
-    if let Stage::StartSets { .. } = stage {
-        return Job::Done(End::StartUnsure);
+    match stage {
+        Stage::StartSets { .. } => Job::Done(End::StartUnsure),
+        Stage::Pays { row } => payout_unanswered(device, row, failed),
+        _ => tried_again(device, stage, failed),
     }
+}
+
+/// The payment or the settlement after a failed try of its row. A payment whose dispense was sent goes on behind it.
+fn payout_unanswered(device: Target, row: Payout, failed: u8) -> Job
+    ensures device { (d : DeviceSetup) (c : Command) (since : List Line) (state : EpochState)
+        (owed : Option OpenOrder) → Asking d device (Pays row) failed c since state owed
+        → Stands d result c (exchange (Some (payout_request row)) None ∷ since) state owed }
+    ensures may_put { may_put_of result ≤ payout_puts row }
+{
+    match row {
+        Payout::Dispenses { owed, halted, .. } => payment::dispensed(device, owed, halted),
+        _ => tried_again(device, Stage::Pays { row }, failed),
+    }
+}
+
+/// The job after a failed try of a stage that is tried again: after the third in succession it ends.
+fn tried_again(device: Target, stage: Stage, failed: u8) -> Job
+    requires { IsAgain stage }
+    ensures device { (d : DeviceSetup) (c : Command) (since : List Line) (state : EpochState)
+        (owed : Option OpenOrder) → Asking d device stage failed c since state owed
+        → Stands d result c (exchange (Some (request_of stage)) None ∷ since) state owed }
+    ensures may_put { may_put_of result ≤ stage_puts stage }
+{
     match after_failed(failed) {
         Some(failed) => Job::Asks {
             device,
@@ -64,9 +94,11 @@ fn unanswered(device: Target, stage: Stage, failed: u8) -> Job
 /// The job after its stage got the wanted reply: each kind of job has its own.
 fn answered(device: Target, stage: Stage, reply: &Reply<'_>) -> Job
     requires wanted { form_shown (reply_shown reply.now) ≡ form_of (request_of stage) }
-    ensures device { (d : DeviceSetup) (c : Command) (since : List Line) (state : EpochState) (failed : ℕ)
-        → Asking d device stage failed c since state
-        → Stands d result c (exchange (Some (request_of stage)) (Some (reply_shown reply.now)) ∷ since) state }
+    requires life { FitsLife (reply_shown reply.now) }
+    ensures device { (d : DeviceSetup) (c : Command) (since : List Line) (state : EpochState)
+        (owed : Option OpenOrder) (failed : ℕ)
+        → Asking d device stage failed c since state owed
+        → Stands d result c (exchange (Some (request_of stage)) (Some (reply_shown reply.now)) ∷ since) state owed }
     ensures may_put { may_put_of result ≤ stage_puts stage }
 {
     match stage {
@@ -79,5 +111,6 @@ fn answered(device: Target, stage: Stage, reply: &Reply<'_>) -> Job
         Stage::IdentAsks { question } => ident::told(device, question),
         Stage::PathSets { .. } => path::answered(device, stage, reply),
         Stage::PathReads { .. } => path::answered(device, stage, reply),
+        Stage::Pays { row } => payment::answered(device, row, reply),
     }
 }

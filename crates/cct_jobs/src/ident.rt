@@ -1,9 +1,10 @@
 //! The identification: a device is asked for all that it tells of itself, one thing after the other (ccTalk Generic
 //! Specification 4, parts 2 and 3).
-ghost use Rattle.std.specs.Prelude.{◌≡◌, ◌≤◌, List, ℕ, ◌∷◌, Some};
+ghost use Rattle.std.specs.Prelude.{Option, ◌≡◌, ◌≤◌, List, ℕ, ◌∷◌, Some};
 ghost use Rattle.cct_model.specs.lines.command.Command.{Command};
 ghost use Rattle.cct_model.specs.terms.device.DeviceSetup.{DeviceSetup};
 ghost use Rattle.cct_model.specs.declared.judging.EpochState.{EpochState};
+ghost use Rattle.cct_model.specs.declared.judging.OpenOrder.{OpenOrder};
 ghost use Rattle.cct_model.specs.Line.{Line, exchange};
 ghost use Rattle.cct_model.specs.Reply.{Reply};
 ghost use Rattle.cct_jobs.specs.declared.stage.Stage.TheVariants.{IdentAsks};
@@ -17,9 +18,10 @@ use cct_model::{COIN_PLACES, End, Request};
 
 /// The identification after this question was answered.
 pub(crate) fn told(device: Target, question: Request) -> Job
-    ensures device { (d : DeviceSetup) (c : Command) (since : List Line) (state : EpochState) (failed : ℕ) (y : Reply)
-        → Asking d device (IdentAsks question) failed c since state
-        → Stands d result c (exchange (Some question) (Some y) ∷ since) state }
+    ensures device { (d : DeviceSetup) (c : Command) (since : List Line) (state : EpochState)
+        (owed : Option OpenOrder) (failed : ℕ) (y : Reply)
+        → Asking d device (IdentAsks question) failed c since state owed
+        → Stands d result c (exchange (Some question) (Some y) ∷ since) state owed }
     ensures may_put { may_put_of result ≤ 0 }
 {
     match question_after(question, device.is_acceptor) {

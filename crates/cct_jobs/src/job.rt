@@ -1,5 +1,6 @@
 //! A job, by the row at which it stands.
-ghost use Rattle.std.specs.Prelude.{◌≡◌, ◌≢◌, ◌≤◌, ◌<◌, List, ℕ, [], ◌∷◌, Option, Some, None};
+ghost use Rattle.std.specs.Prelude.{◌≡◌, ◌≢◌, ◌≤◌, ◌<◌, ◌^◌, List, ℕ, [], ◌∷◌, Option, Some, None, IsTrue, is_some, true, false};
+ghost use Rattle.std.specs.Option.{option_map};
 ghost use Rattle.cct_model.specs.lines.command.Command.{Command};
 ghost use Rattle.cct_model.specs.lines.command.Command.TheVariants as command;
 ghost use Rattle.cct_model.specs.terms.device.DeviceSetup.{DeviceSetup};
@@ -9,19 +10,24 @@ ghost use Rattle.cct_model.specs.terms.request.Request.{Request};
 ghost use Rattle.cct_model.specs.terms.wire.CheckKind.{CheckKind};
 ghost use Rattle.cct_model.specs.Exchange.{ask, device_at};
 ghost use Rattle.cct_model.specs.declared.judging.OpenOrder.{OpenOrder};
-ghost use Rattle.cct_model.specs.Job.{address_of, done, puts_at, row, sends};
-ghost use Rattle.cct_model.specs.Line.{Line, put};
+ghost use Rattle.cct_model.specs.Job.{address_of, can_halt, done, puts_at, row, sends, works};
+ghost use Rattle.cct_model.specs.Line.{Line, put, taken};
+ghost use Rattle.cct_model.specs.Order.{order_by};
 ghost use Rattle.cct_model.specs.Scan.{end_of_scan, poll_of, scan_row};
 ghost use Rattle.cct_model.specs.Transcript.{scan_line};
-ghost use Rattle.cct_jobs.specs.Jobs.{IsPut, IsRunning, MayBegin, Needs, Stands, after_put, end_of_job, line_heard, may_put_of, need_of, newest_end, records_of, runs, sending_of};
+ghost use Rattle.cct_jobs.specs.Jobs.{IsPut, IsRunning, MayBegin, Needs, Stands, after_halt, after_put, end_of_job, halts, line_heard, may_put_of, need_of, newest_end, opened_by, order_of, owed_after, records_of, runs, sending_of};
 ghost use Rattle.cct_jobs.specs.Scans.{NeedsScan, StandsScan};
 
 use crate::asks::first_try;
+use crate::owed::Owed;
+use crate::payout::{Closing, Payout};
 use crate::stage::{Recorded, Stage, Visit};
 use crate::target::{Target, target_at};
-use crate::{asks, scan};
+use crate::{asks, payment, scan};
 use cct_epoch::EpochState;
-use cct_model::{BROADCAST, CheckKind, Command, DeviceSet, End, Listed, Record, Request, Setup};
+use cct_model::{
+    BROADCAST, CheckKind, Command, DeviceSet, End, Listed, OpenOrder, Record, Request, Setup,
+};
 use std::alloc::AllocError;
 
 /// A job of the host, by the row at which it stands.
@@ -53,6 +59,17 @@ pub enum Job {
     /// A stop puts that the epoch ends.
     StopEnds {
         device: Target,
+    },
+    /// A payment puts that this order is opened; it may be halted already.
+    OrderOpens {
+        device: Target,
+        owed: Owed,
+        halted: bool,
+    },
+    /// A payment or a settlement puts how its order is closed, and then ends so.
+    OrderCloses {
+        entry: Record,
+        end: End,
     },
     /// A scan polls all devices under the simple check.
     ScanCallsSimple {
@@ -100,12 +117,20 @@ pub struct Sending {
 }
 
 impl Job {
-    /// The job that a command begins at its address, beside the epoch of the acceptor there. Only a round and a stop look
-    /// at the epoch, which has to run for them.
-    pub fn begin(command: &Command, setup: &Setup, epoch: &EpochState) -> Job
-        requires may_begin { MayBegin command.now setup.now.devices epoch.now }
+    /// The job that a command begins at its address, beside the epoch of the acceptor and the open order of the hopper
+    /// there. Only a round and a stop look at the epoch, which has to run for them, and only a settlement at the order,
+    /// which it closes.
+    pub fn begin(
+        command: &Command,
+        setup: &Setup,
+        epoch: &EpochState,
+        order: Option<&OpenOrder>,
+    ) -> Job
+        requires may_begin { MayBegin command.now setup.now.devices epoch.now (option_map (λ o. o.now) order) }
+        requires life { (o : OpenOrder) → option_map (λ o. o.now) order ≡ Some o → o.life < 2 ^ 24 }
         ensures device { (d : DeviceSetup) → device_at setup.now.devices (address_of command.now) ≡ Some d
-            → command.now ≢ Command.Scan → Stands d result command.now [] epoch.now }
+            → d.serial < 2 ^ 24 → command.now ≢ Command.Scan
+            → Stands d result command.now [] epoch.now (option_map (λ o. o.now) order.entry) }
         ensures scan { command.now ≡ Command.Scan → StandsScan result [] }
         ensures asks { need_of result ≡ Need.Exchange }
         ensures may_put { may_put_of result ≡ records_of command.now }
@@ -136,6 +161,25 @@ impl Job {
             Command::Path { addr, place, path } => {
                 first_try(target_at(setup, addr), Stage::PathSets { place, path })
             }
+            Command::Pay { addr, id, count } => first_try(
+                target_at(setup, addr),
+                Stage::Pays {
+                    row: Payout::Enables {
+                        id,
+                        count,
+                        halted: false,
+                    },
+                },
+            ),
+            Command::Settle { addr } => first_try(
+                target_at(setup, addr),
+                Stage::Pays {
+                    row: Payout::Waits {
+                        closing: Closing::Settlement,
+                        owed: owed_in(order),
+                    },
+                },
+            ),
             Command::Scan => Job::ScanCallsSimple { failed: 0 },
             _ => unreachable!(),
         }
@@ -147,7 +191,7 @@ impl Job {
         ensures value { result ≡ need_of self.now }
         ensures may_put { (entry : Record) → result ≡ Need.Put entry → 1 ≤ may_put_of self.now }
         ensures row { (d : DeviceSetup) (c : Command) (since : List Line) (state : EpochState)
-            → Stands d self.now c since state → Needs result d c since state }
+            (owed : Option OpenOrder) → Stands d self.now c since state owed → Needs result d c since state owed }
         ensures scan { (since : List Line) → StandsScan self.now since → NeedsScan result since }
     {
         self.need()
@@ -165,6 +209,8 @@ impl Job {
             Job::RoundPuts { entry, .. } => Need::Put(copied(entry)),
             Job::StopPuts { entry, .. } => Need::Put(copied(entry)),
             Job::StopEnds { device } => Need::Put(Record::EpochEnd { addr: device.addr }),
+            Job::OrderOpens { owed, .. } => Need::Put(opened(&owed.order)),
+            Job::OrderCloses { entry, .. } => Need::Put(copied(entry)),
             Job::Done(end) => Need::Done(*end),
             _ => Need::Exchange,
         }
@@ -175,7 +221,7 @@ impl Job {
     pub fn end(&self) -> Option<End>
         ensures value { result ≡ end_of_job self.now }
         ensures row { (d : DeviceSetup) (c : Command) (since : List Line) (state : EpochState)
-            → Stands d self.now c since state → result ≡ newest_end d c since state }
+            (owed : Option OpenOrder) → Stands d self.now c since state owed → result ≡ newest_end d c since state }
         ensures scan { (since : List Line) → StandsScan self.now since → result ≡ end_of_scan since }
     {
         self.told_end()
@@ -195,7 +241,7 @@ impl Job {
     pub fn may_put(&self) -> u32
         ensures value { result ≡ may_put_of self.now }
         ensures row { (d : DeviceSetup) (c : Command) (since : List Line) (state : EpochState)
-            (owed : Option OpenOrder) → Stands d self.now c since state → newest_end d c since state ≡ None
+            (owed : Option OpenOrder) → Stands d self.now c since state owed → newest_end d c since state ≡ None
             → result ≡ puts_at c (done since) (row d c since state owed) }
     {
         self.records()
@@ -211,6 +257,8 @@ impl Job {
             Job::RoundPuts { .. } => 1,
             Job::StopPuts { .. } => 2,
             Job::StopEnds { .. } => 1,
+            Job::OrderOpens { .. } => 2,
+            Job::OrderCloses { .. } => 1,
             _ => 0,
         }
     }
@@ -221,8 +269,8 @@ impl Job {
         ensures same { result.1 ≡ self }
         ensures request { Some result.0 ≡ sending_of self }
         ensures row { (d : DeviceSetup) (c : Command) (since : List Line) (state : EpochState)
-            (owed : Option OpenOrder) (q : Request) → Stands d self c since state → row d c since state owed ≡ sends q
-            → result.0 ≡ record { to = d.addr; kind = d.kind; request = q } }
+            (owed : Option OpenOrder) (q : Request) → Stands d self c since state owed
+            → row d c since state owed ≡ sends q → result.0 ≡ record { to = d.addr; kind = d.kind; request = q } }
         ensures scan { (since : List Line) (check : CheckKind) (addr : ℕ)
             → StandsScan self since → scan_row since ≡ Some (check, addr)
             → result.0 ≡ record { to = addr; kind = check; request = poll_of addr } }
@@ -256,8 +304,9 @@ impl Job {
     pub fn heard(self, sent: &[u8], heard: &[u8]) -> Job
         requires asks { need_of self ≡ Need.Exchange }
         ensures device { (d : DeviceSetup) (c : Command) (since : List Line) (state : EpochState)
-            (owed : Option OpenOrder) (q : Request) → Stands d self c since state → row d c since state owed ≡ sends q → sent.now ≡ ask d.kind d.addr q
-            → Stands d result c (line_heard d sent.now heard.now ∷ since) state }
+            (owed : Option OpenOrder) (q : Request) → Stands d self c since state owed
+            → row d c since state owed ≡ sends q → sent.now ≡ ask d.kind d.addr q
+            → Stands d result c (line_heard d sent.now heard.now ∷ since) state owed }
         ensures scan { (since : List Line) (check : CheckKind) (addr : ℕ)
             → StandsScan self since → scan_row since ≡ Some (check, addr) → sent.now ≡ ask check addr (poll_of addr)
             → StandsScan result (scan_line sent.now heard.now ∷ since) }
@@ -281,13 +330,15 @@ impl Job {
         }
     }
 
-    /// The job after its record was put. What it does then no longer depends on the epoch, which the record has moved.
+    /// The job after its record was put. What it does then no longer depends on the epoch, which the record has
+    /// moved, and beside an order the record has moved it.
     #[tactic(auto, using(crate::proofs::Epochs::put_leaves, crate::proofs::Needs::fewer_after))]
     pub fn was_put(self) -> Job
         requires puts { IsPut (need_of self) }
-        ensures put { (d : DeviceSetup) (c : Command) (since : List Line) (state after : EpochState) (entry : Record)
-            → need_of self ≡ Need.Put entry → Stands d self c since state
-            → Stands d result c (put entry ∷ since) after }
+        ensures put { (d : DeviceSetup) (c : Command) (since : List Line) (state after : EpochState)
+            (owed : Option OpenOrder) (entry : Record)
+            → need_of self ≡ Need.Put entry → Stands d self c since state owed
+            → Stands d result c (put entry ∷ since) after (order_by entry owed) }
         ensures may_put { may_put_of result < may_put_of self }
     {
         self.after_put()
@@ -306,6 +357,104 @@ impl Job {
                 None => Job::StopEnds { device },
             },
             Job::StopEnds { .. } => Job::Done(End::Stopped),
+            Job::OrderOpens {
+                device,
+                owed,
+                halted,
+            } => first_try(
+                device,
+                Stage::Pays {
+                    row: Payout::Dispenses {
+                        serial: device.serial,
+                        owed,
+                        halted,
+                    },
+                },
+            ),
+            Job::OrderCloses { end, .. } => Job::Done(end),
+            _ => unreachable!(),
+        }
+    }
+
+    /// The order that is open at the job's device after its record was put, where this one was open before.
+    #[tactic(auto, using(crate::proofs::Orders::put_owes))]
+    pub fn order_after(&self, before: Option<Owed>) -> Option<Owed>
+        ensures put { (d : DeviceSetup) (c : Command) (since : List Line) (state : EpochState) (entry : Record)
+            → need_of self.now ≡ Need.Put entry → Stands d self.now c since state (order_of before)
+            → order_of result ≡ order_by entry (order_of before) }
+    {
+        self.owed_after(before)
+    }
+
+    /// The order that is owed after the job's record was put, by its row.
+    fn owed_after(&self, before: Option<Owed>) -> Option<Owed>
+        ensures { result ≡ owed_after self.now before }
+    {
+        match self {
+            Job::OrderOpens { owed, .. } => Some(*owed),
+            Job::OrderCloses { .. } => None,
+            _ => before,
+        }
+    }
+
+    /// Whether the job can be halted: a payment up to the row that waits for the last coin, and a settlement at that
+    /// row.
+    #[tactic(auto, using(crate::proofs::Halts::halts_known, crate::proofs::Halts::scan_never_halts))]
+    pub fn can_halt(&self) -> bool
+        ensures value { result ≡ halts self.now }
+        ensures row { (d : DeviceSetup) (c : Command) (since : List Line) (state : EpochState)
+            (owed : Option OpenOrder) → Stands d self.now c since state owed → newest_end d c since state ≡ None
+            → result ≡ can_halt (works c since) }
+        ensures scan { (since : List Line) → StandsScan self.now since → result ≡ false }
+    {
+        self.may_halt()
+    }
+
+    /// Whether the job can be halted, by its row.
+    fn may_halt(&self) -> bool
+        ensures { result ≡ halts self.now }
+    {
+        match self {
+            Job::Asks { stage, .. } => stage.can_halt(),
+            Job::OrderOpens { .. } => true,
+            _ => false,
+        }
+    }
+
+    /// The job after it was halted: before its hopper is next asked how the payout goes, it is stopped. A job that is
+    /// halted already stays as it is.
+    #[tactic(auto, using(crate::proofs::Halts::halt_leaves, crate::proofs::Halts::halt_again, crate::proofs::Halts::halt_runs, crate::proofs::Halts::halt_puts))]
+    pub fn halt(self) -> Job
+        requires { halts self ≡ true }
+        ensures row { (d : DeviceSetup) (c : Command) (since : List Line) (state : EpochState)
+            (owed : Option OpenOrder) (addr : ℕ) → Stands d self c since state owed
+            → Stands d result c (taken (command.Halt addr) ∷ since) state owed }
+        ensures again { after_halt result ≡ result }
+        ensures runs { end_of_job result ≡ None }
+        ensures may_put { may_put_of result ≡ may_put_of self }
+    {
+        self.halted()
+    }
+
+    /// The job after it was halted, by its row.
+    fn halted(self) -> Job
+        requires { halts self ≡ true }
+        ensures { result ≡ after_halt self }
+    {
+        match self {
+            Job::Asks {
+                device,
+                stage,
+                failed,
+            } => match stage {
+                Stage::Pays { row } => payment::halted(device, row, failed),
+                _ => unreachable!(),
+            },
+            Job::OrderOpens { device, owed, .. } => Job::OrderOpens {
+                device,
+                owed,
+                halted: true,
+            },
             _ => unreachable!(),
         }
     }
@@ -319,6 +468,30 @@ fn recorded_in(epoch: &EpochState) -> Recorded
     match *epoch {
         EpochState::Running { mask, counter } => Recorded { mask, counter },
         EpochState::Idle => unreachable!(),
+    }
+}
+
+/// The open order, whose life count is one that a hopper told.
+fn owed_in(order: Option<&OpenOrder>) -> Owed
+    requires there { IsTrue (is_some (option_map (λ o. o.now) order)) }
+    requires life { (o : OpenOrder) → option_map (λ o. o.now) order ≡ Some o → o.life < 2 ^ 24 }
+    ensures { option_map (λ o. o.now) order.entry ≡ Some result.order }
+{
+    match order {
+        Some(order) => Owed { order: *order },
+        None => unreachable!(),
+    }
+}
+
+/// The record that opens an order.
+fn opened(order: &OpenOrder) -> Record
+    ensures { result ≡ opened_by order.now }
+{
+    Record::Opened {
+        id: order.id,
+        addr: order.addr,
+        count: order.count,
+        life: order.life,
     }
 }
 

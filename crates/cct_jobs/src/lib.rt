@@ -1,12 +1,16 @@
-//! The jobs of the host: the start, the round and the stop of an acceptor's epoch, the identification of a device, the
-//! setting of a sorter path, and the scan. A job stands at one row: it sends one request, or puts one record, or is done.
+//! The jobs of the host: the start, the round and the stop of an acceptor's epoch, the payment and the settlement of an
+//! order at a hopper, the identification of a device, the setting of a sorter path, and the scan. A job stands at one
+//! row: it sends one request, or puts one record, or is done.
 #![tactic(auto)]
 
 mod asks;
 mod ident;
 mod job;
 mod laws;
+mod owed;
 mod path;
+mod payment;
+mod payout;
 mod reading;
 mod scan;
 mod stage;
@@ -15,5 +19,7 @@ mod target;
 
 pub use job::{Job, Need, Sending};
 pub use laws::no_answer_comes_at_the_third_failed_try;
+pub use owed::Owed;
+pub use payout::{Closing, Payout};
 pub use stage::{Recorded, Stage, Visit};
 pub use target::Target;

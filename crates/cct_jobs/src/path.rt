@@ -1,9 +1,10 @@
 //! The setting of a sorter path: it is set, and then read back (ccTalk Generic Specification 4, part 2, headers 210, 209,
 //! 189 and 188).
-ghost use Rattle.std.specs.Prelude.{◌≡◌, ◌≤◌, List, ℕ, ◌∷◌, Some};
+ghost use Rattle.std.specs.Prelude.{Option, ◌≡◌, ◌≤◌, List, ℕ, ◌∷◌, Some};
 ghost use Rattle.cct_model.specs.lines.command.Command.{Command};
 ghost use Rattle.cct_model.specs.terms.device.DeviceSetup.{DeviceSetup};
 ghost use Rattle.cct_model.specs.declared.judging.EpochState.{EpochState};
+ghost use Rattle.cct_model.specs.declared.judging.OpenOrder.{OpenOrder};
 ghost use Rattle.cct_model.specs.Line.{Line, exchange};
 ghost use Rattle.cct_model.specs.Request.{form_of};
 ghost use Rattle.cct_jobs.specs.Jobs.{Asking, IsOfPath, Stands, may_put_of, request_of, stage_puts};
@@ -26,9 +27,10 @@ const DEFAULT: u8 = 0;
 pub(crate) fn answered(device: Target, stage: Stage, reply: &Reply<'_>) -> Job
     requires row { IsOfPath stage }
     requires wanted { form_shown (reply_shown reply.now) ≡ form_of (request_of stage) }
-    ensures device { (d : DeviceSetup) (c : Command) (since : List Line) (state : EpochState) (failed : ℕ)
-        → Asking d device stage failed c since state
-        → Stands d result c (exchange (Some (request_of stage)) (Some (reply_shown reply.now)) ∷ since) state }
+    ensures device { (d : DeviceSetup) (c : Command) (since : List Line) (state : EpochState)
+        (owed : Option OpenOrder) (failed : ℕ)
+        → Asking d device stage failed c since state owed
+        → Stands d result c (exchange (Some (request_of stage)) (Some (reply_shown reply.now)) ∷ since) state owed }
     ensures may_put { may_put_of result ≤ stage_puts stage }
 {
     match stage {

@@ -1,10 +1,11 @@
 //! The round, and the stop of an epoch: an acceptor's credits and then its inhibit mask are read, and what they mean is
 //! put; a stop inhibits every coin before, and puts the epoch's end behind (ccTalk Generic Specification 4, part 2,
 //! headers 228, 229 and 230).
-ghost use Rattle.std.specs.Prelude.{◌≡◌, ◌≤◌, List, ℕ, ◌∷◌, Some};
+ghost use Rattle.std.specs.Prelude.{Option, ◌≡◌, ◌≤◌, List, ℕ, ◌∷◌, Some};
 ghost use Rattle.cct_model.specs.lines.command.Command.{Command};
 ghost use Rattle.cct_model.specs.terms.device.DeviceSetup.{DeviceSetup};
 ghost use Rattle.cct_model.specs.declared.judging.EpochState.{EpochState};
+ghost use Rattle.cct_model.specs.declared.judging.OpenOrder.{OpenOrder};
 ghost use Rattle.cct_model.specs.terms.request.ReplyForm.TheVariants as form;
 ghost use Rattle.cct_model.specs.terms.request.Request.TheVariants.{GetMask};
 ghost use Rattle.cct_model.specs.Line.{Line, exchange};
@@ -27,9 +28,10 @@ use cct_model::{Credits, End, Reply};
 pub(crate) fn answered(device: Target, stage: Stage, reply: &Reply<'_>) -> Job
     requires row { IsOfVisit stage }
     requires wanted { form_shown (reply_shown reply.now) ≡ form_of (request_of stage) }
-    ensures device { (d : DeviceSetup) (c : Command) (since : List Line) (state : EpochState) (failed : ℕ)
-        → Asking d device stage failed c since state
-        → Stands d result c (exchange (Some (request_of stage)) (Some (reply_shown reply.now)) ∷ since) state }
+    ensures device { (d : DeviceSetup) (c : Command) (since : List Line) (state : EpochState)
+        (owed : Option OpenOrder) (failed : ℕ)
+        → Asking d device stage failed c since state owed
+        → Stands d result c (exchange (Some (request_of stage)) (Some (reply_shown reply.now)) ∷ since) state owed }
     ensures may_put { may_put_of result ≤ stage_puts stage }
 {
     match stage {
@@ -87,9 +89,10 @@ fn judged(
     credits: &Credits,
     mask_seen: u16,
 ) -> Job
-    ensures device { (d : DeviceSetup) (c : Command) (since : List Line) (state : EpochState) (failed : ℕ)
-        → Asking d device (Looks visit recorded credits.now) failed c since state
-        → Stands d result c (exchange (Some GetMask) (Some (shown.mask mask_seen)) ∷ since) state }
+    ensures device { (d : DeviceSetup) (c : Command) (since : List Line) (state : EpochState)
+        (owed : Option OpenOrder) (failed : ℕ)
+        → Asking d device (Looks visit recorded credits.now) failed c since state owed
+        → Stands d result c (exchange (Some GetMask) (Some (shown.mask mask_seen)) ∷ since) state owed }
     ensures may_put { may_put_of result ≤ visit_puts visit }
 {
     let meaning = judge(

@@ -1,9 +1,12 @@
 //! The rows of jobs at which a device is asked.
 ghost use Rattle.std.specs.Prelude.{◌≡◌};
-ghost use Rattle.cct_jobs.specs.Jobs.{request_of, stage_puts, visit_puts};
+ghost use Rattle.cct_model.specs.Request.{form_of};
+ghost use Rattle.cct_jobs.specs.Jobs.{request_of, stage_halts, stage_puts, visit_puts};
 
 use crate::path;
-use cct_model::{Credits, Request};
+use crate::payout::Payout;
+use crate::target::form_of;
+use cct_model::{Credits, ReplyForm, Request};
 
 /// The request that inhibits every coin.
 const INHIBIT: Request = Request::SetMaster { value: 0 };
@@ -68,6 +71,10 @@ pub enum Stage {
         place: u8,
         path: u8,
     },
+    /// A payment or a settlement asks its hopper.
+    Pays {
+        row: Payout,
+    },
 }
 
 impl Stage {
@@ -85,6 +92,17 @@ impl Stage {
             Stage::IdentAsks { question } => *question,
             Stage::PathSets { place, path } => path::setting(*place, *path),
             Stage::PathReads { place, .. } => path::reading(*place),
+            Stage::Pays { row } => row.request(),
+        }
+    }
+
+    /// The form of the reply that is wanted to it.
+    pub(crate) fn wanted(&self) -> Option<ReplyForm>
+        ensures { result ≡ form_of (request_of self.now) }
+    {
+        match self {
+            Stage::Pays { row } => Some(row.wanted()),
+            _ => form_of(self.request()),
         }
     }
 
@@ -102,6 +120,17 @@ impl Stage {
             Stage::IdentAsks { .. } => 0,
             Stage::PathSets { .. } => 0,
             Stage::PathReads { .. } => 0,
+            Stage::Pays { row } => row.may_put(),
+        }
+    }
+
+    /// Whether the job can be halted there.
+    pub(crate) fn can_halt(&self) -> bool
+        ensures { result ≡ stage_halts self.now }
+    {
+        match self {
+            Stage::Pays { row } => row.can_halt(),
+            _ => false,
         }
     }
 }

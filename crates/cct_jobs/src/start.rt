@@ -1,9 +1,10 @@
 //! The start of an epoch: the acceptor is reset, its credits are read, the epoch is put, and the inhibit mask is set once
 //! (ccTalk Generic Specification 4, parts 2 and 3, headers 1, 229 and 231).
-ghost use Rattle.std.specs.Prelude.{◌≡◌, ◌≤◌, List, ℕ, ◌∷◌, Some};
+ghost use Rattle.std.specs.Prelude.{Option, ◌≡◌, ◌≤◌, List, ℕ, ◌∷◌, Some};
 ghost use Rattle.cct_model.specs.lines.command.Command.{Command};
 ghost use Rattle.cct_model.specs.terms.device.DeviceSetup.{DeviceSetup};
 ghost use Rattle.cct_model.specs.declared.judging.EpochState.{EpochState};
+ghost use Rattle.cct_model.specs.declared.judging.OpenOrder.{OpenOrder};
 ghost use Rattle.cct_model.specs.terms.request.Request.TheVariants.{ReadCredits};
 ghost use Rattle.cct_model.specs.Line.{Line, exchange};
 ghost use Rattle.cct_model.specs.Reply as shown;
@@ -24,9 +25,10 @@ use cct_model::{Credits, End, Reply};
 pub(crate) fn answered(device: Target, stage: Stage, reply: &Reply<'_>) -> Job
     requires row { IsOfStart stage }
     requires wanted { form_shown (reply_shown reply.now) ≡ form_of (request_of stage) }
-    ensures device { (d : DeviceSetup) (c : Command) (since : List Line) (state : EpochState) (failed : ℕ)
-        → Asking d device stage failed c since state
-        → Stands d result c (exchange (Some (request_of stage)) (Some (reply_shown reply.now)) ∷ since) state }
+    ensures device { (d : DeviceSetup) (c : Command) (since : List Line) (state : EpochState)
+        (owed : Option OpenOrder) (failed : ℕ)
+        → Asking d device stage failed c since state owed
+        → Stands d result c (exchange (Some (request_of stage)) (Some (reply_shown reply.now)) ∷ since) state owed }
     ensures may_put { may_put_of result ≤ stage_puts stage }
 {
     match stage {
@@ -40,9 +42,10 @@ pub(crate) fn answered(device: Target, stage: Stage, reply: &Reply<'_>) -> Job
 /// The start after it read these credits: the event counter of an acceptor that was just reset is 0.
 #[tactic(auto, using(crate::proofs::Epochs::start_puts, crate::proofs::Epochs::start_unquiet))]
 fn after_reset(device: Target, mask: u16, credits: &Credits) -> Job
-    ensures device { (d : DeviceSetup) (c : Command) (since : List Line) (state : EpochState) (failed : ℕ)
-        → Asking d device (StartReads mask) failed c since state
-        → Stands d result c (exchange (Some ReadCredits) (Some (shown.credits credits.now)) ∷ since) state }
+    ensures device { (d : DeviceSetup) (c : Command) (since : List Line) (state : EpochState)
+        (owed : Option OpenOrder) (failed : ℕ)
+        → Asking d device (StartReads mask) failed c since state owed
+        → Stands d result c (exchange (Some ReadCredits) (Some (shown.credits credits.now)) ∷ since) state owed }
     ensures may_put { may_put_of result ≤ 1 }
 {
     if credits.counter == 0 {

@@ -5,7 +5,7 @@ ghost use Rattle.cct_model.specs.terms.device.DeviceSetup.{DeviceSetup};
 ghost use Rattle.cct_model.specs.Exchange.{device_at, got};
 ghost use Rattle.cct_model.specs.Reply.{reply_shown};
 ghost use Rattle.cct_model.specs.Request.{form_of};
-ghost use Rattle.cct_jobs.specs.Jobs.{after_failed, replied, target_of};
+ghost use Rattle.cct_jobs.specs.Jobs.{after_failed, reply_wanted, target_of};
 
 use cct_model::{CheckKind, DeviceSetup, Reply, ReplyForm, Request, Setup};
 use cct_msg::read_reply;
@@ -14,25 +14,26 @@ use cct_wire::{Heard, hear};
 /// How often a row is tried in succession.
 const TRIES: u8 = 3;
 
-/// What a job knows of its device: its address, its check, and whether it is a coin acceptor.
+/// What a job knows of its device: its address, its check, whether it is a coin acceptor, and its serial number.
 #[derive(Clone, Copy, Debug, PartialEq, Eq)]
 pub struct Target {
     pub addr: u8,
     pub kind: CheckKind,
     pub is_acceptor: bool,
+    pub serial: u32,
 }
 
 impl Target {
-    /// The wanted reply to a request to this device, in what was heard after it.
+    /// The reply of this device in the form that is wanted, in what was heard after a request.
     pub(crate) fn reply<'h>(
         &self,
-        request: Request,
+        wanted: Option<ReplyForm>,
         sent: &[u8],
         heard: &'h [u8],
     ) -> Option<Reply<'h>>
-        ensures { option_map reply_shown result ≡ replied self.now.kind self.now.addr request sent.now heard.now }
+        ensures { option_map reply_shown result ≡ reply_wanted self.now.kind self.now.addr wanted sent.now heard.now }
     {
-        match form_of(request) {
+        match wanted {
             Some(form) => wanted_reply(self.kind, self.addr, form, sent, heard),
             None => None,
         }
@@ -63,7 +64,7 @@ pub(crate) fn wanted_reply<'h>(
 
 /// The form of the reply that a request wants, where it wants one of header 0 in a message.
 #[tactic(auto, unfolding(cct_terms::specs::Request::form_of))]
-fn form_of(request: Request) -> Option<ReplyForm>
+pub(crate) fn form_of(request: Request) -> Option<ReplyForm>
     ensures { result ≡ form_of request }
 {
     match request {
@@ -113,6 +114,7 @@ fn target_of(device: &DeviceSetup) -> Target
         addr: device.addr,
         kind: device.kind,
         is_acceptor: device.body.is_acceptor(),
+        serial: device.serial,
     }
 }
 

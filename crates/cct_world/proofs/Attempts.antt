@@ -8,49 +8,59 @@ use Rattle.cct_model.specs.lines.entry.End.{End}
 use Rattle.cct_model.specs.lines.entry.Entry.{Entry}
 use Rattle.cct_model.specs.lines.entry.Entry.TheVariants as entry
 use Rattle.cct_model.specs.declared.judging.EpochState.{EpochState}
+use Rattle.cct_model.specs.declared.judging.OpenOrder.{OpenOrder}
 use Rattle.cct_model.specs.Exchange.{ask}
 use Rattle.cct_model.specs.Line.{Line}
 use Rattle.cct_model.specs.Line as line
 use Rattle.cct_model.specs.Job as model
-use Rattle.cct_model.specs.Order as model_order
+use Rattle.cct_model.specs.Order.{order, order_by}
 use Rattle.cct_model.specs.Legal.{PollEntries, RowEntries, with_end}
+use Rattle.cct_model.specs.Records.{id_of}
 use Rattle.cct_model.specs.Scan.{end_of_scan}
 use Rattle.cct_model.specs.Transcript.{lines_of, owner, scan_line}
 use Rattle.cct_jobs.specs.declared.job.Job.{Job}
 use Rattle.cct_jobs.specs.declared.job.Need.{Need}
 use Rattle.cct_jobs.specs.declared.job.Need.TheVariants as need
-use Rattle.cct_jobs.specs.Jobs.{Needs, PutsNext, Stands, line_heard}
+use Rattle.cct_jobs.specs.declared.owed.Owed.{Owed}
+use Rattle.cct_world.specs.declared.dues.Dues.{Dues}
+use Rattle.cct_jobs.specs.Jobs.{Needs, PutsNext, Stands, line_heard, order_of}
 use Rattle.cct_jobs.specs.Scans.{NeedsScan, StandsScan}
 use Rattle.cct_world.specs.declared.desk.JobDesk.{JobDesk}
 use Rattle.cct_world.specs.Attempt as attempt
 use Rattle.cct_world.specs.Desk.{Attempts, Goes, Keeps, Knows, Works}
 use Rattle.cct_world.specs.Exchange.{Converses, Ends, Talks}
-use Rattle.cct_world.specs.Place.{Asks, AsksNext, NextAt, Place, StandsAt, addr_of, device, end_at, line_at, lines_at, scans}
-use Rattle.cct_world.specs.Running.{Settles}
+use Rattle.cct_world.specs.Place.{Asks, AsksNext, IsOwnedAt, NextAt, Place, StandsAt, addr_of, device, end_at, line_at, lines_at, scans}
+use Rattle.cct_world.specs.Running.{Settles, dues_left}
 use Rattle.cct_world.proofs.Keeps.{asked_keeps, knows_same, left_keeps, put_keeps}
-use Rattle.cct_world.proofs.Lines.{dosed_at, end_at_too, epoch_dosed, idle_at, idle_line, job_dosed, own_wire, put_at, wire_at}
+use Rattle.cct_world.proofs.Lines.{dosed_at, end_at_too, epoch_dosed, idle_at, idle_line, job_dosed, order_dosed, own_wire, put_at, wire_at}
 
 -- wherever a job is, its row sends something next; at a device it puts this record next, and goes on by it; and it is
 -- no scan
 abbrev AsksOn : Job → Type 0
-AsksOn job = (place : Place) (c : Command) (since : List Line) (n : EpochState) → StandsAt place job c since n
-    → AsksNext place c since n
+AsksOn job = (place : Place) (c : Command) (since : List Line) (n : EpochState) (owed : Option OpenOrder)
+    → StandsAt place job c since n owed → AsksNext place c since n owed
 
 abbrev PutsOn : Job → Record → Type 0
-PutsOn job r = (d : DeviceSetup) (c : Command) (since : List Line) (n : EpochState) → Stands d job c since n
-    → PutsNext r d c since n
+PutsOn job r = (d : DeviceSetup) (c : Command) (since : List Line) (n : EpochState) (owed : Option OpenOrder)
+    → Stands d job c since n owed → PutsNext r d c since n owed
 
 abbrev GoesByPut : Job → Record → Job → Type 0
 GoesByPut old r new = (d : DeviceSetup) (c : Command) (since : List Line) (n after : EpochState)
-    → Stands d old c since n → Stands d new c (line.put r ∷ since) after
+    (owed : Option OpenOrder) → Stands d old c since n owed
+    → Stands d new c (line.put r ∷ since) after (order_by r owed)
+
+-- its put moves the open order
+abbrev OwesByPut : Job → Record → Option Owed → Option Owed → Type 0
+OwesByPut job r before after = (d : DeviceSetup) (c : Command) (since : List Line) (n : EpochState)
+    → Stands d job c since n (order_of before) → order_of after ≡ order_by r (order_of before)
 
 abbrev IsNoScan : Job → Type 0
 IsNoScan job = (since : List Line) → StandsScan job since → ⊥
 
 -- what a job needs, wherever it is
 abbrev NeedsAt : Job → Need → Type 0
-NeedsAt job n = (d : DeviceSetup) (c : Command) (since : List Line) (state : EpochState) → Stands d job c since state
-    → Needs n d c since state
+NeedsAt job n = (d : DeviceSetup) (c : Command) (since : List Line) (state : EpochState) (owed : Option OpenOrder)
+    → Stands d job c since state owed → Needs n d c since state owed
 
 abbrev NeedsScanning : Job → Need → Type 0
 NeedsScanning job n = (since : List Line) → StandsScan job since → NeedsScan n since
@@ -65,34 +75,36 @@ reported_with report told reported addr e (Some end) new kept told_is settled =
     ∙ append_assoc report (e ∷ []) (entry.Ended addr end ∷ [])
 
 -- no job: the address is idle
-idle_by : (hears : List ℕ → List ℕ) (place : Place) (past : List Entry) (state : EpochState) (j : model.Job)
-    → Works place None j state → NextAt hears place past j (entry.Idle (addr_of place) ∷ [])
-idle_by hears (device d) past state model.free works = refl
-idle_by hears scans past state model.free works = refl
-idle_by hears place past state (model.works c since) works = absurd works
+idle_by : (hears : List ℕ → List ℕ) (place : Place) (past : List Entry) (state : EpochState) (owed : Option OpenOrder)
+    (j : model.Job) → Works place None j state owed → NextAt hears place past j (entry.Idle (addr_of place) ∷ [])
+idle_by hears (device d) past state owed model.free works = refl
+idle_by hears scans past state owed model.free works = refl
+idle_by hears place past state owed (model.works c since) works = absurd works
 
-idle_goes : (hears : List ℕ → List ℕ) (place : Place) (past : List Entry) (state : EpochState)
-    → Keeps place None state (lines_at place past)
-    → Goes hears place past (entry.Idle (addr_of place) ∷ []) None state
-idle_goes hears place past state keeps = record {
-  entries = idle_by hears place past _ (model.job (lines_at place past)) keeps.works;
+idle_goes : (hears : List ℕ → List ℕ) (place : Place) (past : List Entry) (state : EpochState) (owed : Dues)
+    → Keeps place None state owed (lines_at place past)
+    → Goes hears place past (entry.Idle (addr_of place) ∷ []) None state owed
+idle_goes hears place past state owed keeps = record {
+  entries = idle_by hears place past _ _ (model.job (lines_at place past)) keeps.works;
   at = idle_at (addr_of place) past;
-  keeps = subst (Keeps place None state) (sym (idle_line (addr_of place) place past)) keeps;
+  keeps = subst (Keeps place None state owed) (sym (idle_line (addr_of place) place past)) keeps;
 }
 
 pub idle_attempts : {L : Type 0} (gives : L → List ℕ → List ℕ → L → Type 0) (link : L) (addr : ℕ) (state : EpochState)
-    (desk : JobDesk) (report reported : List Entry)
-    → desk.job ≡ None → desk.epoch ≡ state → reported ≡ report ++ entry.Idle addr ∷ []
-    → Attempts gives link link addr None state desk report reported
-idle_attempts gives link addr state desk report reported none same is = record {
+    (owed : Dues) (desk : JobDesk) (report reported : List Entry)
+    → desk.job ≡ None → desk.epoch ≡ state → desk.dues ≡ owed → reported ≡ report ++ entry.Idle addr ∷ []
+    → Attempts gives link link addr None state owed desk 0 report reported
+idle_attempts gives link addr state owed desk report reported none same ordered is = record {
   what = attempt.idle;
   reported_is = is;
   link = refl;
-  goes = λ hears place past heard at keeps.
-      subst (λ a. Goes hears place past (entry.Idle a ∷ []) desk.job desk.epoch) at
-      (subst (λ j. Goes hears place past (entry.Idle (addr_of place) ∷ []) j desk.epoch) (sym none)
-      (subst (λ n. Goes hears place past (entry.Idle (addr_of place) ∷ []) None n) (sym same)
-      (idle_goes hears place past state keeps)));
+  used_is = refl;
+  goes = λ hears place past heard at keeps owned.
+      subst (λ a. Goes hears place past (entry.Idle a ∷ []) desk.job desk.epoch desk.dues) at
+      (subst (λ j. Goes hears place past (entry.Idle (addr_of place) ∷ []) j desk.epoch desk.dues) (sym none)
+      (subst (λ n. Goes hears place past (entry.Idle (addr_of place) ∷ []) None n desk.dues) (sym same)
+      (subst (λ o. Goes hears place past (entry.Idle (addr_of place) ∷ []) None state o) (sym ordered)
+      (idle_goes hears place past state owed keeps))));
 }
 
 -- the entries of an exchange
@@ -110,12 +122,12 @@ device_entries hears d past c since q sent heard end sent_is heard_is end_is =
 
 asked_entries : (hears : List ℕ → List ℕ) (place : Place) (past : List Entry) (c : Command) (since : List Line)
     (sent heard : List ℕ) (end : Option End)
-    → Asks place c since (model.epoch (lines_at place past)) sent → heard ≡ hears sent
+    → Asks place c since (model.epoch (lines_at place past)) (order (lines_at place past)) sent → heard ≡ hears sent
     → end ≡ end_at place c (line_at place sent heard) since (model.epoch (lines_at place past))
     → NextAt hears place past (model.works c since)
     (with_end (addr_of place) (entry.Wire (addr_of place) sent heard) end)
 asked_entries hears (device d) past c since sent heard end asks heard_is end_is =
-    subst (λ r. RowEntries hears d past c since r (with_end d.addr (entry.Wire d.addr sent heard) end)) (sym (asks.1 (model_order.order (lines_of d past))))
+    subst (λ r. RowEntries hears d past c since r (with_end d.addr (entry.Wire d.addr sent heard) end)) (sym asks.1)
     (device_entries hears d past c since asks.0 sent heard end asks.2 heard_is end_is)
 asked_entries hears scans past c since sent heard end asks heard_is end_is =
     let a = addr_of scans in
@@ -125,113 +137,140 @@ asked_entries hears scans past c since sent heard end asks heard_is end_is =
     (ap (with_end a (entry.Wire a sent heard)) end_is
     ∙ ap (λ p. with_end a (entry.Wire a sent p) (end_of_scan (scan_line sent p ∷ since))) heard_is))
 
+-- a job that stands beside the epoch and the open order of a place stands beside those of its lines over a dose
+stands_dosed : (place : Place) (past : List Entry) (sent : List ℕ) (job : Job) (c : Command) (since : List Line)
+    → StandsAt place job c since (model.epoch (lines_at place past)) (order (lines_at place past))
+    → StandsAt place job c since (model.epoch (dosed_at place past sent ++ lines_at place past))
+    (order (dosed_at place past sent ++ lines_at place past))
+stands_dosed place past sent job c since stands =
+    subst (λ n. StandsAt place job c since n (order (dosed_at place past sent ++ lines_at place past)))
+    (sym (epoch_dosed place past sent))
+    (subst (λ o. StandsAt place job c since (model.epoch (lines_at place past)) o) (sym (order_dosed place past sent))
+    stands)
+
 asked_by : (hears : List ℕ → List ℕ) (place : Place) (past : List Entry) (old new : Job) (state : EpochState)
-    (sent heard : List ℕ) (end : Option End) (kept : Option Job) (told reported : List Entry) (j : model.Job)
-    → model.job (lines_at place past) ≡ j → Works place (Some old) j (model.epoch (lines_at place past))
-    → Knows place state (lines_at place past)
+    (owed : Dues) (sent heard : List ℕ) (end : Option End) (kept : Option Job) (told reported : List Entry)
+    (j : model.Job) → model.job (lines_at place past) ≡ j
+    → Works place (Some old) j (model.epoch (lines_at place past)) (order (lines_at place past))
+    → Knows place state owed (lines_at place past)
     → AsksOn old → Talks old sent heard new → Ends new end → heard ≡ hears sent
     → Settles end new (addr_of place) kept told reported
     → Goes hears place past (with_end (addr_of place) (entry.Wire (addr_of place) sent heard) end) kept state
-asked_by hears place past old new state sent heard end kept told reported model.free was works knows needs talks ends
-    heard_is settled = absurd works
-asked_by hears place past old new state sent heard end kept told reported (model.works c since) was works knows needs
-    talks ends heard_is settled =
+    (dues_left kept owed)
+asked_by hears place past old new state owed sent heard end kept told reported model.free was works knows needs talks
+    ends heard_is settled = absurd works
+asked_by hears place past old new state owed sent heard end kept told reported (model.works c since) was works knows
+    needs talks ends heard_is settled =
     let n = model.epoch (lines_at place past) in
+    let o = order (lines_at place past) in
     let e = entry.Wire (addr_of place) sent heard in
-    let after = talks place c since n works (needs place c since n works) in
+    let after = talks place c since n o works (needs place c since n o works) in
     record {
       entries = subst (λ k. NextAt hears place past k (with_end (addr_of place) e end)) (sym was)
           (asked_entries hears place past c since sent heard end after.0 heard_is
-          (ends place c (line_at place sent heard) since n after.1));
+          (ends place c (line_at place sent heard) since n o after.1));
       at = end_at_too (addr_of place) past e end (wire_at (addr_of place) past sent heard);
-      keeps = left_keeps place kept new state past e end told reported settled
-          (subst (Keeps place (Some new) state) (sym (own_wire place sent heard past))
-          (asked_keeps place c since state sent heard new (dosed_at place past sent ++ lines_at place past)
-          (subst (StandsAt place new c (line_at place sent heard ∷ since)) (sym (epoch_dosed place past sent)) after.1)
+      keeps = left_keeps place kept new state owed past e end told reported settled
+          (subst (Keeps place (Some new) state owed) (sym (own_wire place sent heard past))
+          (asked_keeps place c since state owed sent heard new (dosed_at place past sent ++ lines_at place past)
+          (stands_dosed place past sent new c (line_at place sent heard ∷ since) after.1)
           (job_dosed place past sent ∙ was)
-          (knows_same place state (lines_at place past) (dosed_at place past sent ++ lines_at place past)
-          (epoch_dosed place past sent) knows)));
+          (knows_same place state owed (lines_at place past) (dosed_at place past sent ++ lines_at place past)
+          (job_dosed place past sent) (epoch_dosed place past sent) (order_dosed place past sent) knows)));
     }
 
 -- a job asks
 pub ask_attempts : {L : Type 0} (gives : L → List ℕ → List ℕ → L → Type 0) (before after : L) (addr : ℕ) (old new : Job)
-    (state : EpochState) (desk : JobDesk) (end : Option End) (report told reported : List Entry)
+    (state : EpochState) (owed : Dues) (desk : JobDesk) (end : Option End) (report told reported : List Entry)
     → AsksOn old → Converses gives before after addr old new report told → Ends new end
     → Settles end new addr desk.job told reported
-    → desk.epoch ≡ state
-    → Attempts gives before after addr (Some old) state desk report reported
-ask_attempts gives before after addr old new state desk end report told reported needs talk ends settled same = record {
-  what = attempt.asked talk.sent talk.heard end;
-  reported_is = reported_with report told reported addr (entry.Wire addr talk.sent talk.heard) end new desk.job
-      talk.reported_is settled;
-  link = talk.goes;
-  goes = λ hears place past heard_is at keeps.
-      subst (λ n. Goes hears place past (with_end addr (entry.Wire addr talk.sent talk.heard) end) desk.job n)
-      (sym same)
-      (subst (λ a. Settles end new a desk.job told reported
-      → Goes hears place past (with_end a (entry.Wire a talk.sent talk.heard) end) desk.job state) at
-      (λ s. asked_by hears place past old new state talk.sent talk.heard end desk.job told reported
-      (model.job (lines_at place past)) refl keeps.works keeps.knows needs talk.talks ends heard_is s) settled);
-}
+    → desk.epoch ≡ state → desk.dues ≡ dues_left desk.job owed
+    → Attempts gives before after addr (Some old) state owed desk 0 report reported
+ask_attempts gives before after addr old new state owed desk end report told reported needs talk ends settled same
+    ordered = record {
+      what = attempt.asked talk.sent talk.heard end;
+      reported_is = reported_with report told reported addr (entry.Wire addr talk.sent talk.heard) end new desk.job
+          talk.reported_is settled;
+      link = talk.goes;
+      used_is = refl;
+      goes = λ hears place past heard_is at keeps owned.
+          let news = with_end addr (entry.Wire addr talk.sent talk.heard) end in
+          subst (λ n. Goes hears place past news desk.job n desk.dues) (sym same)
+          (subst (λ o. Goes hears place past news desk.job state o) (sym ordered)
+          (subst (λ a. Settles end new a desk.job told reported
+          → Goes hears place past (with_end a (entry.Wire a talk.sent talk.heard) end) desk.job state
+          (dues_left desk.job owed)) at
+          (λ s. asked_by hears place past old new state owed talk.sent talk.heard end desk.job told reported
+          (model.job (lines_at place past)) refl keeps.works keeps.knows needs talk.talks ends heard_is s) settled));
+    }
 
 -- what a put leaves
 put_by : (hears : List ℕ → List ℕ) (place : Place) (past : List Entry) (old new : Job) (r : Record)
-    (state last : EpochState) (end : Option End) (kept : Option Job) (told reported : List Entry) (j : model.Job)
-    → model.job (lines_at place past) ≡ j → Works place (Some old) j (model.epoch (lines_at place past))
-    → Knows place state (lines_at place past) → last ≡ model.epoch_by r state
-    → PutsOn old r → IsNoScan old → GoesByPut old r new → Ends new end
+    (state last : EpochState) (owed left : Dues) (end : Option End) (kept : Option Job)
+    (told reported : List Entry) (j : model.Job) → model.job (lines_at place past) ≡ j
+    → Works place (Some old) j (model.epoch (lines_at place past)) (order (lines_at place past))
+    → Knows place state owed (lines_at place past) → IsOwnedAt place past → last ≡ model.epoch_by r state
+    → PutsOn old r → IsNoScan old → GoesByPut old r new → OwesByPut old r owed.order left.order → left.id ≡ owed.id
+    → Ends new end
     → Settles end new (addr_of place) kept told reported
-    → Goes hears place past (with_end (addr_of place) (entry.Put r) end) kept last
-put_by hears place past old new r state last end kept told reported model.free was works knows moved needs no_scan goes
-    ends settled = absurd works
-put_by hears scans past old new r state last end kept told reported (model.works c since) was works knows moved needs
-    no_scan goes ends settled = absurd (no_scan since works)
-put_by hears (device d) past old new r state last end kept told reported (model.works c since) was works knows moved
-    needs no_scan goes ends settled =
+    → Goes hears place past (with_end (addr_of place) (entry.Put r) end) kept last (dues_left kept left)
+put_by hears place past old new r state last owed left end kept told reported model.free was works knows owned moved
+    needs no_scan goes owes same ends settled = absurd works
+put_by hears scans past old new r state last owed left end kept told reported (model.works c since) was works knows
+    owned moved needs no_scan goes owes same ends settled = absurd (no_scan since works)
+put_by hears (device d) past old new r state last owed left end kept told reported (model.works c since) was works knows
+    owned moved needs no_scan goes owes same ends settled =
     let n = model.epoch (lines_of d past) in
-    let puts = needs d c since n works in
-    let own : owner past r ≡ d.addr = puts.owned past in
+    let o = order (lines_of d past) in
+    let puts = needs d c since n o works in
+    let own : owner past r ≡ d.addr = puts.owned past owned in
     let end_is : end ≡ model.end_of d c (line.put r) since n =
-    ends (device d) c (line.put r) since n (goes d c since n n works) in
+    ends (device d) c (line.put r) since n (order_by r o) (goes d c since n n o works) in
     record {
       entries = subst (λ k. NextAt hears (device d) past k (with_end d.addr (entry.Put r) end)) (sym was)
-          (subst (λ x. RowEntries hears d past c since x (with_end d.addr (entry.Put r) end))
-          (sym (puts.row_is (model_order.order (lines_of d past))))
+          (subst (λ x. RowEntries hears d past c since x (with_end d.addr (entry.Put r) end)) (sym puts.row_is)
           (ap (with_end d.addr (entry.Put r)) end_is));
       at = end_at_too d.addr past (entry.Put r) end (put_at d.addr past r own);
-      keeps = left_keeps (device d) kept new last past (entry.Put r) end told reported settled
-          (put_keeps d c since r past last new own (λ after. goes d c since n after works) was
-          (moved ∙ ap (model.epoch_by r) knows));
+      keeps = left_keeps (device d) kept new last left past (entry.Put r) end told reported settled
+          (put_keeps d c since r past last left new own (λ after. goes d c since n after o works) was
+          (moved ∙ ap (model.epoch_by r) knows.0)
+          (owes d c since n (subst (Stands d old c since n) (sym knows.1) works) ∙ ap (order_by r) knows.1) (same
+          ∙ knows.2));
     }
 
 -- a job puts its record
 pub put_attempts : {L : Type 0} (gives : L → List ℕ → List ℕ → L → Type 0) (link : L) (addr : ℕ) (old new : Job)
-    (r : Record) (state : EpochState) (desk : JobDesk) (end : Option End) (report told reported : List Entry)
-    → PutsOn old r → IsNoScan old → GoesByPut old r new → Ends new end
+    (r : Record) (state : EpochState) (owed moves : Dues) (desk : JobDesk) (used : ℕ) (end : Option End)
+    (report told reported : List Entry)
+    → PutsOn old r → IsNoScan old → GoesByPut old r new → OwesByPut old r owed.order moves.order → moves.id ≡ owed.id
+    → Ends new end
     → told ≡ report ++ entry.Put r ∷ [] → Settles end new addr desk.job told reported
-    → desk.epoch ≡ model.epoch_by r state
-    → Attempts gives link link addr (Some old) state desk report reported
-put_attempts gives link addr old new r state desk end report told reported needs no_scan after ends told_is settled
-    moved = record {
+    → desk.epoch ≡ model.epoch_by r state → desk.dues ≡ dues_left desk.job moves → used ≡ id_of r
+    → Attempts gives link link addr (Some old) state owed desk used report reported
+put_attempts gives link addr old new r state owed moves desk used end report told reported needs no_scan after owes
+    same ends told_is settled moved left used_is = record {
       what = attempt.put r end;
       reported_is = reported_with report told reported addr (entry.Put r) end new desk.job told_is settled;
       link = refl;
-      goes = λ hears place past heard_is at keeps.
-          subst (λ a. Settles end new a desk.job told reported
-          → Goes hears place past (with_end a (entry.Put r) end) desk.job desk.epoch) at
-          (λ s. put_by hears place past old new r state desk.epoch end desk.job told reported
-          (model.job (lines_at place past)) refl keeps.works keeps.knows moved needs no_scan after ends s) settled;
+      used_is = used_is;
+      goes = λ hears place past heard_is at keeps owned.
+          subst (λ o. Goes hears place past (with_end addr (entry.Put r) end) desk.job desk.epoch o) (sym left)
+          (subst (λ a. Settles end new a desk.job told reported
+          → Goes hears place past (with_end a (entry.Put r) end) desk.job desk.epoch (dues_left desk.job moves)) at
+          (λ s. put_by hears place past old new r state desk.epoch owed moves end desk.job told reported
+          (model.job (lines_at place past)) refl keeps.works keeps.knows owned moved needs no_scan after owes same
+          ends s) settled);
     }
 
 -- what a job needs, wherever it is
 pub asks_next : (n : Need) (job : Job) → n ≡ need.Exchange → NeedsAt job n → NeedsScanning job n → AsksOn job
-asks_next n job is row scan (device d) c since state stands =
-    subst (λ k. Needs k d c since state) is (row d c since state stands)
-asks_next n job is row scan scans c since state stands = subst (λ k. NeedsScan k since) is (scan since stands)
+asks_next n job is row scan (device d) c since state owed stands =
+    subst (λ k. Needs k d c since state owed) is (row d c since state owed stands)
+asks_next n job is row scan scans c since state owed stands = subst (λ k. NeedsScan k since) is (scan since stands)
 
 pub puts_next : (n : Need) (job : Job) (r : Record) → n ≡ need.Put r → NeedsAt job n → PutsOn job r
-puts_next n job r is row d c since state stands =
-    subst (λ k. Needs k d c since state) is (row d c since state stands)
+puts_next n job r is row d c since state owed stands =
+    subst (λ k. Needs k d c since state owed) is (row d c since state owed stands)
 
 pub no_scan : (n : Need) (job : Job) (r : Record) → n ≡ need.Put r → NeedsScanning job n → IsNoScan job
 no_scan n job r is scan since stands = subst (λ k. NeedsScan k since) is (scan since stands)

@@ -1,5 +1,5 @@
 -- The desk of the device at an address, by its index.
-use Rattle.std.proofs.Common.{◌≡◌, ◌≢◌, ℕ, zero, suc, ◌<◌, ◌≤◌, ◌==◌, nat_lt, Bool, true, false, cond, List, [], ◌∷◌, ◌++◌, length, set, take, drop, get_or, Option, Some, None, refl, sym, ap, subst, ◌∙◌, arith}
+use Rattle.std.proofs.Common.{◌≡◌, ◌≢◌, ℕ, zero, suc, ◌<◌, ◌≤◌, ◌^◌, ◌==◌, nat_lt, Bool, true, false, cond, List, [], ◌∷◌, ◌++◌, length, set, take, drop, get_or, Option, Some, None, refl, sym, ap, subst, ◌∙◌, arith}
 use Rattle.std.specs.List.{All, position, position_or_len}
 use Rattle.std.proofs.lemmas.Bool.{eqb-true}
 use Rattle.std.proofs.lemmas.Bool.Decides.{nat_tests}
@@ -17,9 +17,16 @@ use Rattle.cct_model.specs.Device.{IsSound}
 use Rattle.cct_model.specs.Exchange.{device_at}
 use Rattle.cct_model.specs.Job as model
 use Rattle.cct_model.specs.Setup.{AreDistinct, IsSoundSetup}
+use Rattle.cct_jobs.specs.Jobs.{order_of}
 use Rattle.cct_world.specs.declared.desk.JobDesk.{JobDesk}
-use Rattle.cct_world.specs.Desk.{AllSit, IsFree, Sits, Works}
-use Rattle.cct_world.specs.Place.{AreAt, Place, device, scans}
+use Rattle.cct_world.specs.declared.dues.Dues.{Dues}
+use Rattle.cct_world.specs.Desk.{AllSit, IsFree, Sits, Works, greatest_paying}
+use Rattle.cct_model.specs.Records.{greatest_id, records}
+use Rattle.cct_model.specs.Refusal.{greatest_running, last_id, running_id}
+use Rattle.cct_model.specs.Transcript.{lines_of}
+use Rattle.std.specs.Prelude.{max}
+use Rattle.std.proofs.Math.Nat.{max-zero}
+use Rattle.cct_world.specs.Place.{AreAt, AreOwned, HasNoSale, IsOwnedAt, Place, device, scans}
 use Rattle.cct_world.proofs.Keeps.{keeps_other, keeps_quiet}
 use Rattle.cct_world.proofs.Lines.{IsQuiet}
 
@@ -98,6 +105,12 @@ desk_sits (e ∷ es) (m ∷ ms) zero d k past within is at all =
     subst (λ x. Sits past (device x) k) (sym is) (subst (λ x. Sits past (device e) x) (sym at) all.0)
 desk_sits (e ∷ es) (m ∷ ms) (suc i) d k past within is at all = desk_sits es ms i d k past (omega arith) is at all.1
 
+-- the open order of the device at an address
+pub owned_there : (setup : Setup) (d : DeviceSetup) (addr : ℕ) (past : List Entry)
+    → device_at setup.devices addr ≡ Some d → d.addr ≡ addr → AreOwned setup past → IsOwnedAt (device d) past
+owned_there setup d addr past there is owned =
+    owned d (subst (λ a. device_at setup.devices a ≡ Some d) (sym is) there)
+
 other_of : (a b : ℕ) → (a == b) ≡ false → a ≢ b
 other_of a b e = grind (arith, nat_tests)
 
@@ -109,7 +122,7 @@ desks_apart [] (m ∷ ms) addr past news none at all = absurd all
 desks_apart (e ∷ es) [] addr past news none at all = absurd all
 desks_apart (e ∷ es) (m ∷ ms) addr past news none at all =
     let parts : ((e.addr == addr) ≡ false) × (device_at es addr ≡ None) = none_here (e.addr == addr) e _ none in (
-      keeps_other (device e) m.job m.epoch past news (at (device e) (other_of _ _ parts.0)) all.0,
+      keeps_other (device e) m.job m.epoch m.dues past news (at (device e) (other_of _ _ parts.0)) all.0,
       desks_apart es ms addr
           past news parts.1 at all.1,
     )
@@ -136,7 +149,7 @@ desks_at (e ∷ es) (m ∷ ms) (suc i) x d addr past news distinct within is her
     let other : e.addr ≢ addr =
     (λ (same : e.addr ≡ addr). apart es i d e.addr (omega arith) distinct.0
     (ap (λ y. y.addr) (sym is) ∙ here ∙ sym same)) in (
-      keeps_other (device e) m.job m.epoch past news (at (device e) other) all.0,
+      keeps_other (device e) m.job m.epoch m.dues past news (at (device e) other) all.0,
       desks_at es ms i x d addr past news
           distinct.1 (omega arith) is here at sits all.1,
     )
@@ -155,6 +168,12 @@ not_zero a low is = omega (arith, low, is)
 
 not_host : (a : ℕ) → 2 ≤ a → a ≢ HOST
 not_host a low is = omega (arith, low, is)
+
+-- the serial number of a device fits its three bytes
+pub fits_three : (setup : Setup) (i : ℕ) (d : DeviceSetup) → IsSoundSetup setup → i < length setup.devices
+    → d ≡ get_or setup.devices i d → d.serial < 2 ^ 24
+fits_three setup i d sound within is =
+    (subst IsSound (sym is) (All-get_or IsSound setup.devices i d within sound.devices)).serial
 
 -- no device is at the host's own address, nor is a scan
 pub device_apart : (setup : Setup) (i : ℕ) (d : DeviceSetup) (addr : ℕ) → IsSoundSetup setup
@@ -187,7 +206,7 @@ device_turn setup ks items scan i x d addr past news sound lent found is at sits
     let other : BROADCAST ≢ addr = subst (λ a. BROADCAST ≢ a) place.2 (not_zero d.addr low) in (
       subst (AllSit (news ++ past) setup.devices) (sym (refilled ks items i x lent))
           (desks_at setup.devices ks i x d addr past news sound.distinct place.0 is place.2 at sits all),
-      keeps_other scans scan.job scan.epoch past news (at scans other) scanned,
+      keeps_other scans scan.job scan.epoch scan.dues past news (at scans other) scanned,
     )
 
 -- the desk of scans changes, and all else goes on
@@ -196,20 +215,41 @@ pub scan_turn : (setup : Setup) (ks : List JobDesk) (past news : List Entry) →
 scan_turn setup ks past news sound at all = desks_apart setup.devices ks BROADCAST past news
     (no_device_at_zero setup.devices sound.devices) at all
 
--- an entry that changes no job and no epoch
+-- an entry that changes no job, no epoch and no open order
 pub desks_quiet : (ds : List DeviceSetup) (ks : List JobDesk) (past : List Entry) (e : Entry) → IsQuiet past e
     → AllSit past ds ks → AllSit (e ∷ past) ds ks
 desks_quiet [] [] past e quiet all = tt
 desks_quiet [] (m ∷ ms) past e quiet all = absurd all
 desks_quiet (d ∷ ds) [] past e quiet all = absurd all
 desks_quiet (d ∷ ds) (m ∷ ms) past e quiet all =
-    (keeps_quiet (device d) m.job m.epoch past e quiet all.0, desks_quiet ds ms past e quiet all.1)
+    (keeps_quiet (device d) m.job m.epoch m.dues past e quiet all.0, desks_quiet ds ms past e quiet all.1)
+
+-- the last id: the greatest of the records and of the payments at work
+paying_is : (ds : List DeviceSetup) (ks : List JobDesk) (past : List Entry) → AllSit past ds ks
+    → greatest_paying ks ≡ greatest_running past ds
+paying_is [] [] past all = refl
+paying_is [] (m ∷ ms) past all = absurd all
+paying_is (d ∷ ds) [] past all = absurd all
+paying_is (d ∷ ds) (m ∷ ms) past all =
+    ap (λ id. max id (greatest_paying ms)) all.0.knows.2
+    ∙ ap (max (running_id (model.job (lines_of d past)))) (paying_is ds ms past all.1)
+
+pub last_is : (setup : Setup) (ks : List JobDesk) (past : List Entry) (recorded last : ℕ)
+    → AllSit past setup.devices ks → HasNoSale past → recorded ≡ greatest_id (records past)
+    → last ≡ max recorded (greatest_paying ks) → last ≡ last_id setup past
+last_is setup ks past recorded last all none recorded_is is =
+    let most = greatest_id (records past) in
+    is ∙ ap (λ r. max r (greatest_paying ks)) recorded_is
+    ∙ ap (max most) (paying_is setup.devices ks past all ∙ sym (max-zero (greatest_running past setup.devices))
+    ∙ ap (max (greatest_running past setup.devices)) (sym (ap running_id none)))
 
 -- at first
 pub free_keeps : (place : Place) (k : JobDesk) → IsFree k → Sits [] place k
-free_keeps (device d) k free =
-    record { works = subst (λ j. Works (device d) j model.free Idle) (sym free.0) tt; knows = free.1 }
-free_keeps scans k free = record { works = subst (λ j. Works scans j model.free Idle) (sym free.0) tt; knows = tt }
+free_keeps (device d) k free = record {
+  works = subst (λ j. Works (device d) j model.free Idle None) (sym free.0) tt;
+  knows = (free.1, ap (λ (x : Dues). order_of x.order) free.2, ap (λ (x : Dues). x.id) free.2);
+}
+free_keeps scans k free = record { works = subst (λ j. Works scans j model.free Idle None) (sym free.0) tt; knows = tt }
 
 pub desks_free : (ds : List DeviceSetup) (ks : List JobDesk) → length ks ≡ length ds → All IsFree ks → AllSit [] ds ks
 desks_free [] [] many free = tt

@@ -1,6 +1,6 @@
 -- What one step leaves of the host and the bus.
 use Rattle.std.proofs.Common.{◌≡◌, ℕ, Bool, true, false, cond, List, [], ◌∷◌, ◌++◌, reverse, refl, sym, ap, subst, ◌∙◌, Option, Some, None}
-use Rattle.std.specs.Prelude.{IsTrue, MatchBool, is_some}
+use Rattle.std.specs.Prelude.{IsTrue, MatchBool, is_some, not}
 use Rattle.std.proofs.lemmas.List.{reverse-reverse}
 use Rattle.cct_model.specs.terms.wire.TheConstants.{BROADCAST}
 use Rattle.cct_model.specs.terms.coin.Coin.{Coin}
@@ -15,7 +15,8 @@ use Rattle.cct_model.specs.lines.entry.Entry.TheVariants as entry
 use Rattle.cct_model.specs.Acceptor.{accepts}
 use Rattle.cct_model.specs.Device.{is_acceptor}
 use Rattle.cct_model.specs.Exchange.{acceptor_there}
-use Rattle.cct_model.specs.Legal.{BareNext, EntriesOfNext, OfAcceptor, OfDevice, OfNext, ScanEntries, coin_entry, command_entry, with_end}
+use Rattle.cct_model.specs.Legal.{BareNext, EntriesOfNext, OfAcceptor, OfDevice, OfHopper, OfNext, ScanEntries, coin_entry, command_entry, with_end}
+use Rattle.cct_model.specs.Records.{greatest_id}
 use Rattle.cct_model.specs.Refusal.{refusal}
 use Rattle.cct_model.specs.Job.{job}
 use Rattle.cct_model.specs.Transcript.{heard_after, met, scan_lines}
@@ -26,20 +27,21 @@ use Rattle.cct_bus.specs.declared.bus.Bus.{Bus}
 use Rattle.cct_bus.specs.Bus as wires
 use Rattle.cct_world.specs.declared.host.Host.{Host}
 use Rattle.cct_world.specs.Attempt.{Attempt, HeardBy, Links, asked, idle, news_of, put}
-use Rattle.cct_world.specs.Coin.{entry_of}
+use Rattle.cct_world.specs.Coin.{entry_of, fall_told, jam_told}
 use Rattle.cct_world.specs.Host as hosts
-use Rattle.cct_world.specs.Place.{scans}
+use Rattle.cct_world.specs.Place.{AreOwned, scans}
 use Rattle.cct_world.proofs.Keeps.{keeps_quiet}
 use Rattle.cct_world.proofs.Lines.{IsQuiet, accepted_quiet, inhibited_quiet, unsold}
 use Rattle.cct_world.proofs.Places.{desks_quiet}
 
--- an entry that changes no job and no epoch
+-- an entry that changes no job, no epoch and no open order
 pub host_quiet : (host : Host) (past : List Entry) (e : Entry) → IsQuiet past e → hosts.StandsFor host past
     → hosts.StandsFor host (e ∷ past)
 host_quiet host past e quiet stands = record {
   sound = stands.sound;
   desks = desks_quiet _ _ past e quiet stands.desks;
-  scan = keeps_quiet scans _ _ past e quiet stands.scan;
+  scan = keeps_quiet scans _ _ _ past e quiet stands.scan;
+  last = stands.last ∙ sym (ap greatest_id quiet.records_are);
   unsold = unsold past e quiet.sales stands.unsold;
 }
 
@@ -95,16 +97,17 @@ linked bus after addr past (put r end) link stands = (
 pub next_goes : (bus after : Bus) (host left : Host) (addr : ℕ) (past before report : List Entry) → before ≡ []
     → hosts.Nexts wires.Exchanges bus after addr host left before report
     → wires.setup_of bus ≡ hosts.setup_of host → hosts.StandsFor host past → wires.StandsFor bus past
+    → AreOwned (hosts.setup_of host) past
     → EntriesOfNext (heard_after (hosts.setup_of host) past) (hosts.setup_of host) past addr (reverse report)
     × Left left after past report
-next_goes bus after host left addr past before report none next same stands wired =
+next_goes bus after host left addr past before report none next same stands wired owned =
     let setup = hosts.setup_of host in
     let news : reverse report ≡ news_of addr next.what =
     ap reverse (next.reported_is ∙ ap (λ es. es ++ reverse (news_of addr next.what)) none)
     ∙ reverse-reverse (news_of addr next.what) in
     let wire = linked bus after addr past next.what next.link wired in
     let heard = subst (λ s. HeardBy (heard_after s past) next.what) same wire.0 in
-    let goes = next.goes (heard_after setup past) past heard stands in
+    let goes = next.goes (heard_after setup past) past heard stands owned in
     subst (λ ns. EntriesOfNext (heard_after setup past) setup past addr ns
     × (hosts.StandsFor left (ns ++ past) × wires.StandsFor after (ns ++ past))) (sym news) (goes.0, (goes.1, wire.1))
 
@@ -124,7 +127,7 @@ of_scan hears found P past news addr none is polls =
 pub one_entry : (before after : List Entry) (e : Entry) → before ≡ [] → after ≡ before ++ e ∷ [] → after ≡ e ∷ []
 one_entry before after e none is = is ∙ ap (λ es. es ++ e ∷ []) none
 
--- a step of one entry that changes no job and no epoch
+-- a step of one entry that changes no job, no epoch and no open order
 pub one_goes : (host : Host) (bus : Bus) (past : List Entry) (e : Entry) (report : List Entry) → report ≡ e ∷ []
     → IsQuiet past e → hosts.StandsFor host past → wires.StandsFor bus (e ∷ past)
     → (reverse report ≡ e ∷ []) × Left host bus past report
@@ -201,3 +204,40 @@ pub coin_goes : (found : Option DeviceSetup) (addr place : ℕ) (host : Host) (b
 coin_goes None addr place host bus past report result there told said stands = absurd told
 coin_goes (Some d) addr place host bus past report result there told said stands =
     coin_at (is_acceptor d.body) d addr place host bus past report result (there d refl) told said stands
+
+-- a coin that falls out of a hopper, or sticks in it
+pub fall_by : (none : Bool) (addr : ℕ)
+    → fall_told (not none) addr ≡ cond none (entry.NoFall addr) (entry.Fell addr)
+fall_by true addr = refl
+fall_by false addr = refl
+
+pub jam_by : (none : Bool) (addr : ℕ) → jam_told (not none) addr ≡ cond none (entry.NoJam addr) (entry.Jammed addr)
+jam_by true addr = refl
+jam_by false addr = refl
+
+-- what it gives and leaves
+abbrev pub HopperGoes : Option DeviceSetup → (DeviceSetup → Entry) → Host → Bus → List Entry → List Entry → Type 0
+HopperGoes found said host bus past report =
+    OfHopper found (λ d. reverse report ≡ said d ∷ []) × Left host bus past report
+
+hopper_at : (kind : Bool) (d : DeviceSetup) (addr : ℕ) (host : Host) (bus : Bus) (past report : List Entry)
+    (told : Bool → ℕ → Entry) (said : DeviceSetup → Entry) (is : Bool) (result : Bool) → d.addr ≡ addr
+    → told is d.addr ≡ said d → IsQuiet past (said d)
+    → MatchBool kind ⊥ ((result ≡ is) × wires.StandsFor bus (said d ∷ past))
+    → report ≡ told result addr ∷ [] → hosts.StandsFor host past
+    → MatchBool kind ⊥ (reverse report ≡ said d ∷ []) × Left host bus past report
+hopper_at true d addr host bus past report told said is result here same quiet goes report_is stands = absurd goes
+hopper_at false d addr host bus past report told said is result here same quiet goes report_is stands =
+    one_goes host bus past (said d) report
+    (report_is ∙ ap (λ x. x ∷ []) (ap (λ b. told b addr) goes.0 ∙ ap (told is) (sym here) ∙ same)) quiet stands goes.1
+
+pub hopper_goes : (found : Option DeviceSetup) (addr : ℕ) (host : Host) (bus : Bus) (past report : List Entry)
+    (told : Bool → ℕ → Entry) (said : DeviceSetup → Entry) (is : DeviceSetup → Bool) (result : Bool)
+    → ((d : DeviceSetup) → found ≡ Some d → d.addr ≡ addr) → ((d : DeviceSetup) → told (is d) d.addr ≡ said d)
+    → ((d : DeviceSetup) → IsQuiet past (said d))
+    → OfHopper found (λ d. (result ≡ is d) × wires.StandsFor bus (said d ∷ past))
+    → report ≡ told result addr ∷ [] → hosts.StandsFor host past → HopperGoes found said host bus past report
+hopper_goes None addr host bus past report told said is result there same quiet goes report_is stands = absurd goes
+hopper_goes (Some d) addr host bus past report told said is result there same quiet goes report_is stands =
+    hopper_at (is_acceptor d.body) d addr host bus past report told said (is d) result (there d refl) (same d) (quiet d)
+    goes report_is stands

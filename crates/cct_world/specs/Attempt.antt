@@ -6,6 +6,7 @@ use Rattle.cct_model.specs.lines.entry.End.{End}
 use Rattle.cct_model.specs.lines.entry.Entry.{Entry}
 use Rattle.cct_model.specs.lines.entry.Entry.TheVariants as entry
 use Rattle.cct_model.specs.Legal.{with_end}
+use Rattle.cct_model.specs.Records.{id_of}
 
 -- No job; a piece was sent, and this was heard; a record was put.
 pub data Attempt : Type 0 where
@@ -30,3 +31,8 @@ abbrev pub HeardBy : (List ℕ → List ℕ) → Attempt → Type 0
 HeardBy hears idle = ⊤
 HeardBy hears (asked sent heard end) = heard ≡ hears sent
 HeardBy hears (put r end) = ⊤
+
+-- The id that an attempt used by its put, 0 where it used none.
+abbrev pub used_by : Attempt → ℕ
+used_by (put r end) = id_of r
+used_by what = 0

@@ -1,5 +1,5 @@
--- The entry of a coin.
-use Rattle.std.specs.Prelude.{ℕ}
+-- The entries of coins.
+use Rattle.std.specs.Prelude.{ℕ, Bool, if◌then◌else◌}
 use Rattle.cct_model.specs.lines.entry.Entry.{Entry}
 use Rattle.cct_model.specs.lines.entry.Entry.TheVariants as entry
 use Rattle.cct_acceptor.specs.declared.acceptor.Inserted.{Inserted}
@@ -9,3 +9,11 @@ use Rattle.cct_acceptor.specs.declared.acceptor.Inserted.TheVariants as inserted
 abbrev pub entry_of : Inserted → ℕ → ℕ → Entry
 entry_of (inserted.Accepted c) addr place = entry.Accepted addr c
 entry_of inserted.Inhibited addr place = entry.Inhibited addr place
+
+-- The entry of a coin that may fall out of a hopper at an address, by whether it does.
+abbrev pub fall_told : Bool → ℕ → Entry
+fall_told fell addr = if fell then entry.Fell addr else entry.NoFall addr
+
+-- The entry of a coin that may stick in a hopper at an address, by whether it does.
+abbrev pub jam_told : Bool → ℕ → Entry
+jam_told stuck addr = if stuck then entry.Jammed addr else entry.NoJam addr

@@ -5,6 +5,7 @@ use Rattle.cct_model.specs.lines.entry.End.{End}
 use Rattle.cct_model.specs.lines.entry.Entry.{Entry}
 use Rattle.cct_model.specs.lines.entry.Entry.TheVariants as entry
 use Rattle.cct_model.specs.declared.judging.EpochState.{EpochState}
+use Rattle.cct_model.specs.declared.judging.OpenOrder.{OpenOrder}
 use Rattle.cct_model.specs.Line.{Line}
 use Rattle.cct_jobs.specs.declared.job.Job.{Job}
 use Rattle.cct_world.specs.Place.{Asks, AsksNext, Place, StandsAt, end_at, line_at}
@@ -12,15 +13,15 @@ use Rattle.cct_world.specs.Place.{Asks, AsksNext, Place, StandsAt, end_at, line_
 -- Wherever a job is, and its row sends something next, it sends that, and goes on by the line of what it heard.
 abbrev pub Talks : Job → List ℕ → List ℕ → Job → Type 0
 Talks old sent heard new =
-    (place : Place) (c : Command) (since : List Line) (state : EpochState) → StandsAt place old c since state
-    → AsksNext place c since state
-    → Asks place c since state sent × StandsAt place new c (line_at place sent heard ∷ since) state
+    (place : Place) (c : Command) (since : List Line) (state : EpochState) (owed : Option OpenOrder)
+    → StandsAt place old c since state owed → AsksNext place c since state owed
+    → Asks place c since state owed sent × StandsAt place new c (line_at place sent heard ∷ since) state owed
 
 -- Wherever a job is, this is the end that its newest line brought it, if it brought one.
 abbrev pub Ends : Job → Option End → Type 0
 Ends job end =
-    (place : Place) (c : Command) (line : Line) (since : List Line) (state : EpochState)
-    → StandsAt place job c (line ∷ since) state → end ≡ end_at place c line since state
+    (place : Place) (c : Command) (line : Line) (since : List Line) (state : EpochState) (owed : Option OpenOrder)
+    → StandsAt place job c (line ∷ since) state owed → end ≡ end_at place c line since state
 
 -- A job made an exchange at an address over a link, and this is its entry.
 pub record Fills {L : Type 0} (gives : L → List ℕ → List ℕ → L → Type 0) (before after : L) (addr : ℕ) (old new : Job)

@@ -7,6 +7,7 @@ use Rattle.cct_model.specs.Legal.{Entries}
 use Rattle.cct_bus.specs.Bus as wires
 use Rattle.cct_world.specs.declared.world.Machine.{Machine}
 use Rattle.cct_world.specs.Host as hosts
+use Rattle.cct_world.specs.Place.{AreOwned}
 
 -- The setup of a machine.
 abbrev pub setup_of : Machine → Setup
@@ -21,6 +22,7 @@ pub record StandsFor (machine : Machine) (past : List Entry) : Type 0 where
 abbrev pub Goes : Setup → Machine → List Entry → Step → List Entry → Type 0
 Goes setup new past s report = Entries None setup past s (reverse report) × StandsFor new (reverse report ++ past)
 
--- A step gives these entries, oldest first, whatever is behind it.
+-- A step gives these entries, oldest first, whatever is behind it, where each open order was opened at its own hopper.
 abbrev pub Plays : Machine → Machine → Step → List Entry → Type 0
-Plays old new s report = (past : List Entry) → StandsFor old past → Goes (setup_of old) new past s report
+Plays old new s report =
+    (past : List Entry) → StandsFor old past → AreOwned (setup_of old) past → Goes (setup_of old) new past s report

@@ -1,22 +1,24 @@
 -- Where the host may have a job: at each device, and at the address of all devices, where scans are.
-use Rattle.std.specs.Prelude.{◌≡◌, ◌≢◌, ℕ, List, ◌∷◌, ◌++◌, Option, Some}
+use Rattle.std.specs.Prelude.{◌≡◌, ◌≢◌, ℕ, List, ◌∷◌, ◌++◌, Option, Some, ⊤}
 use Rattle.cct_model.specs.terms.wire.TheConstants.{BROADCAST}
 use Rattle.cct_model.specs.terms.wire.CheckKind.{CheckKind}
 use Rattle.cct_model.specs.terms.device.DeviceSetup.{DeviceSetup}
+use Rattle.cct_model.specs.terms.device.Setup.{Setup}
 use Rattle.cct_model.specs.terms.request.Request.{Request}
 use Rattle.cct_model.specs.lines.command.Command.{Command}
 use Rattle.cct_model.specs.lines.entry.End.{End}
 use Rattle.cct_model.specs.lines.entry.Entry.{Entry}
 use Rattle.cct_model.specs.declared.judging.EpochState.{EpochState}
 use Rattle.cct_model.specs.declared.judging.OpenOrder.{OpenOrder}
-use Rattle.cct_model.specs.Exchange.{ask}
+use Rattle.cct_model.specs.Exchange.{ask, device_at}
 use Rattle.cct_model.specs.Line.{Line}
 use Rattle.cct_model.specs.Job as model
+use Rattle.cct_model.specs.Order.{order}
 use Rattle.cct_model.specs.Scan.{end_of_scan, poll_of, scan_row}
 use Rattle.cct_model.specs.Legal.{NextEntries, ScanEntries}
 use Rattle.cct_model.specs.Transcript.{lines_of, sale_lines, scan_line, scan_lines}
 use Rattle.cct_jobs.specs.declared.job.Job.{Job}
-use Rattle.cct_jobs.specs.Jobs.{SendsNext, Stands, line_heard}
+use Rattle.cct_jobs.specs.Jobs.{IsOpenedAt, SendsNext, Stands, line_heard}
 use Rattle.cct_jobs.specs.Scans.{PollsNext, StandsScan}
 
 -- A device of the setup, or the place of scans.
@@ -45,36 +47,47 @@ end_at (device d) c line since state = model.end_of d c line since state
 end_at scans c line since state = end_of_scan (line ∷ since)
 
 -- The row of a job at a place sends something next.
-abbrev pub AsksNext : Place → Command → List Line → EpochState → Type 0
-AsksNext (device d) c since state = SendsNext d c since state
-AsksNext scans c since state = PollsNext since
+abbrev pub AsksNext : Place → Command → List Line → EpochState → Option OpenOrder → Type 0
+AsksNext (device d) c since state owed = SendsNext d c since state owed
+AsksNext scans c since state owed = PollsNext since
 
 -- This piece is what the row of a job at a place sends.
-abbrev pub Asks : Place → Command → List Line → EpochState → List ℕ → Type 0
-Asks (device d) c since state sent =
-    (q : Request) × ((owed : Option OpenOrder) → model.row d c since state owed ≡ model.sends q) × (sent ≡ ask d.kind d.addr q)
-Asks scans c since state sent =
+abbrev pub Asks : Place → Command → List Line → EpochState → Option OpenOrder → List ℕ → Type 0
+Asks (device d) c since state owed sent =
+    (q : Request) × (model.row d c since state owed ≡ model.sends q) × (sent ≡ ask d.kind d.addr q)
+Asks scans c since state owed sent =
     (poll : CheckKind × ℕ) × (scan_row since ≡ Some poll) × (sent ≡ ask poll.0 poll.1 (poll_of poll.1))
 
 -- A job stands for the lines of a place since its command was taken.
-abbrev pub StandsAt : Place → Job → Command → List Line → EpochState → Type 0
-StandsAt (device d) job c since state = Stands d job c since state
-StandsAt scans job c since state = StandsScan job since
+abbrev pub StandsAt : Place → Job → Command → List Line → EpochState → Option OpenOrder → Type 0
+StandsAt (device d) job c since state owed = Stands d job c since state owed
+StandsAt scans job c since state owed = StandsScan job since
 
 -- The entries of a `next` at a place, newest first, by the job there. What follows a piece that is sent is an argument.
 abbrev pub NextAt : (List ℕ → List ℕ) → Place → List Entry → model.Job → List Entry → Type 0
 NextAt hears (device d) past job news = NextEntries hears d past job news
 NextAt hears scans past job news = ScanEntries hears job news
 
--- Entries change no job and no epoch at a place.
+-- Entries change no job, no epoch and no open order at a place.
 abbrev pub IsAsBefore : Place → List Entry → List Entry → Type 0
 IsAsBefore place past news =
     (model.job (lines_at place (news ++ past)) ≡ model.job (lines_at place past))
     × (model.epoch (lines_at place (news ++ past)) ≡ model.epoch (lines_at place past))
+    × (order (lines_at place (news ++ past)) ≡ order (lines_at place past))
 
--- Entries are of one address: they change no job and no epoch at another one.
+-- Entries are of one address: they change no job, no epoch and no open order at another one.
 abbrev pub AreAt : ℕ → List Entry → List Entry → Type 0
 AreAt addr past news = (place : Place) → addr_of place ≢ addr → IsAsBefore place past news
+
+-- The open order of a device was opened at the device's address, so that the record that closes it is the device's.
+abbrev pub IsOwnedAt : Place → List Entry → Type 0
+IsOwnedAt (device d) past = IsOpenedAt d (order (lines_of d past)) past
+IsOwnedAt scans past = ⊤
+
+-- So was that of each device of a setup.
+abbrev pub AreOwned : Setup → List Entry → Type 0
+AreOwned setup past =
+    (d : DeviceSetup) → device_at setup.devices d.addr ≡ Some d → IsOpenedAt d (order (lines_of d past)) past
 
 -- No sale is under way: the host makes none yet.
 abbrev pub HasNoSale : List Entry → Type 0

@@ -1,27 +1,33 @@
 //! The host's desk for one place: a device, or the address of all devices, where scans are.
-ghost use Rattle.std.specs.Prelude.{◌≡◌, ◌≢◌, ◌<◌, ◌≤◌, ℕ, List, [], ◌∷◌, ◌++◌, length, Option, Some, None, true, IsTrue, OnErr};
+ghost use Rattle.std.specs.Prelude.{◌≡◌, ◌≢◌, ◌<◌, ◌≤◌, ◌^◌, ℕ, List, [], ◌∷◌, ◌++◌, length, Option, Some, None, true, false, max, IsTrue, OnErr};
+ghost use Rattle.std.specs.Option.{option_map};
 ghost use Rattle.arrayvec.specs.ArrayVec.{array_vec_len};
+ghost use Rattle.cct_model.specs.declared.judging.OpenOrder.{OpenOrder};
 ghost use Rattle.cct_model.specs.lines.entry.Entry.{Entry};
 ghost use Rattle.cct_model.specs.Exchange.{device_at};
-ghost use Rattle.cct_model.specs.Job.{address_of, counted, epoch_by};
-ghost use Rattle.cct_model.specs.Legal.{is_played_command};
-ghost use Rattle.cct_model.specs.Refusal.{running_refusal, start_refusal};
-ghost use Rattle.cct_jobs.specs.Jobs.{MayBegin};
+ghost use Rattle.cct_model.specs.Job.{address_of, counted, epoch_by, works};
+ghost use Rattle.cct_model.specs.Records.{id_of};
+ghost use Rattle.cct_model.specs.Refusal.{id_refusal, pay_refusal, running_id, running_refusal, settle_refusal, start_refusal};
+ghost use Rattle.cct_jobs.specs.Jobs.{MayBegin, order_of};
 ghost use Rattle.cct_world.specs.Place as places;
-ghost use Rattle.cct_world.specs.Running.{acceptor_refusal, busy_by, is_running, refusal_beside};
+ghost use Rattle.cct_world.specs.Hosted.{is_halt, is_hosted};
+ghost use Rattle.cct_world.specs.Running.{acceptor_refusal, busy_by, halting_refusal, halts_in, hopper_refusal, id_left, is_running, refusal_beside};
 
+use crate::dues::Dues;
 use crate::exchange::{converse, settled};
+use crate::hosted::is_halt;
 use crate::values::valueless;
 use arrayvec::ArrayVec;
 use cct_jobs::{Job, Need};
-use cct_model::{Command, CommandNo, DeviceSetup, Entry, EpochState, Record, Setup};
+use cct_model::{Command, CommandNo, DeviceSetup, Entry, EpochState, OpenOrder, Record, Setup};
 use cct_wire::Link;
 
-/// The job at a place, and the epoch that is recorded of an acceptor there.
+/// The job at a place, and the epoch or the open order that is recorded of a device there.
 #[derive(Drop)]
 pub(crate) struct JobDesk {
     job: Option<Job>,
     epoch: EpochState,
+    dues: Dues,
     ghost runs: { is_running job ≡ true },
 }
 
@@ -34,12 +40,13 @@ impl Default for JobDesk {
         JobDesk {
             job: None,
             epoch: EpochState::Idle,
+            dues: Dues { order: None, id: 0 },
         }
     }
 }
 
 impl JobDesk {
-    ghost use Rattle.cct_world.specs.Desk.{Attempts, Commands, Keeps, Sits};
+    ghost use Rattle.cct_world.specs.Desk.{Attempts, Commands, CommandsAbove, Keeps, Sits, greatest_paying};
 
     /// A command to the device of this desk is taken, or refused for the first reason that holds; a refused one changes
     /// nothing.
@@ -48,19 +55,103 @@ impl JobDesk {
         command: &Command,
         device: &DeviceSetup,
         setup: &Setup,
+        last: u32,
     ) -> Result<(), CommandNo>
         requires there { device_at setup.now.devices (address_of command.now) ≡ Some device.now }
-        requires played { IsTrue (is_played_command command.now) }
+        requires hosted { IsTrue (is_hosted command.now) }
         requires no_scan { command.now ≢ Command.Scan }
+        ensures stays { OnErr result (self.new ≡ self.old) }
+        ensures commands { device.now.serial < 2 ^ 24
+            → CommandsAbove setup.now last (places.device device.now) self.old self.new command.now result }
+    {
+        if is_halt(command) {
+            self.halt(command, device, setup)
+        } else {
+            self.begin(command, device, setup, last)
+        }
+    }
+
+    /// A halt is taken, or refused where no payout could be stopped; a refused one changes nothing.
+    fn halt(
+        &mut self,
+        command: &Command,
+        device: &DeviceSetup,
+        setup: &Setup,
+    ) -> Result<(), CommandNo>
+        requires there { device_at setup.now.devices (address_of command.now) ≡ Some device.now }
+        requires halt { is_halt command.now ≡ true }
         ensures stays { OnErr result (self.new ≡ self.old) }
         ensures commands { Commands setup.now (places.device device.now) self.old self.new command.now result }
     {
-        match self.refusal(command, device) {
+        match self.halting_refusal(device) {
             Some(why) => Err(why),
             None => {
-                self.job = Some(Job::begin(command, setup, &self.epoch));
+                match self.job.take() {
+                    Some(job) => self.job = Some(job.halt()),
+                    None => unreachable!(),
+                }
                 Ok(())
             }
+        }
+    }
+
+    /// Why a halt is refused, if it is.
+    fn halting_refusal(&self, device: &DeviceSetup) -> Option<CommandNo>
+        ensures { result ≡ halting_refusal device.now self.now.job }
+    {
+        if device.body.is_acceptor() {
+            Some(CommandNo::WrongKind)
+        } else if self.can_halt() {
+            None
+        } else {
+            Some(CommandNo::NoPayout)
+        }
+    }
+
+    /// Whether there is a job that can be halted.
+    fn can_halt(&self) -> bool
+        ensures { result ≡ halts_in self.now.job }
+    {
+        match &self.job {
+            Some(job) => job.can_halt(),
+            None => false,
+        }
+    }
+
+    /// A command that begins a job is taken, or refused for the first reason that holds; a refused one changes nothing.
+    fn begin(
+        &mut self,
+        command: &Command,
+        device: &DeviceSetup,
+        setup: &Setup,
+        last: u32,
+    ) -> Result<(), CommandNo>
+        requires there { device_at setup.now.devices (address_of command.now) ≡ Some device.now }
+        requires hosted { IsTrue (is_hosted command.now) }
+        requires no_halt { is_halt command.now ≡ false }
+        requires no_scan { command.now ≢ Command.Scan }
+        ensures stays { OnErr result (self.new ≡ self.old) }
+        ensures commands { device.now.serial < 2 ^ 24
+            → CommandsAbove setup.now last (places.device device.now) self.old self.new command.now result }
+    {
+        match self.refusal(command, device, last) {
+            Some(why) => Err(why),
+            None => {
+                self.job = Some(Job::begin(command, setup, &self.epoch, self.order()));
+                self.dues.id = id_begun(command);
+                Ok(())
+            }
+        }
+    }
+
+    /// The open order, if there is one.
+    fn order(&self) -> Option<&OpenOrder>
+        ensures value { option_map (λ o. o.now) result ≡ order_of self.now.dues.order }
+        ensures life { (o : OpenOrder) → option_map (λ o. o.now) result ≡ Some o → o.life < 2 ^ 24 }
+    {
+        match &self.dues.order {
+            Some(owed) => Some(&owed.order),
+            None => None,
         }
     }
 
@@ -73,15 +164,15 @@ impl JobDesk {
         match self.busy() {
             Some(why) => Err(why),
             None => {
-                self.job = Some(Job::begin(command, setup, &self.epoch));
+                self.job = Some(Job::begin(command, setup, &self.epoch, None));
                 Ok(())
             }
         }
     }
 
     /// Why a command to a device is refused, if it is.
-    fn refusal(&self, command: &Command, device: &DeviceSetup) -> Option<CommandNo>
-        ensures { result ≡ refusal_beside device.now self.now.job self.now.epoch command.now }
+    fn refusal(&self, command: &Command, device: &DeviceSetup, last: u32) -> Option<CommandNo>
+        ensures { result ≡ refusal_beside device.now self.now.job self.now.epoch self.now.dues last command.now }
     {
         match *command {
             Command::Start { mask, .. } => self.acceptor_refusal(
@@ -91,6 +182,8 @@ impl JobDesk {
             Command::Round { .. } => self.acceptor_refusal(device, self.running_refusal(device)),
             Command::Stop { .. } => self.acceptor_refusal(device, self.running_refusal(device)),
             Command::Path { .. } => self.acceptor_refusal(device, None),
+            Command::Pay { id, .. } => self.hopper_refusal(device, self.pay_refusal(id, last)),
+            Command::Settle { .. } => self.hopper_refusal(device, self.settle_refusal()),
             Command::Ident { .. } => self.busy(),
             _ => None,
         }
@@ -111,6 +204,40 @@ impl JobDesk {
             }
         } else {
             Some(CommandNo::WrongKind)
+        }
+    }
+
+    /// Why a command to a hopper is refused, if it is: a further reason is the last.
+    fn hopper_refusal(&self, device: &DeviceSetup, further: Option<CommandNo>) -> Option<CommandNo>
+        ensures { result ≡ hopper_refusal device.now self.now.job further }
+    {
+        if device.body.is_acceptor() {
+            Some(CommandNo::WrongKind)
+        } else {
+            match self.busy() {
+                Some(why) => Some(why),
+                None => further,
+            }
+        }
+    }
+
+    /// Why a payment is refused beside the open order and the last id: an order is open, or its id isn't new.
+    fn pay_refusal(&self, id: u32, last: u32) -> Option<CommandNo>
+        ensures { result ≡ pay_refusal id last (order_of self.now.dues.order) }
+    {
+        match &self.dues.order {
+            None => id_refusal(id, last),
+            Some(owed) => Some(CommandNo::OrderOpen { id: owed.order.id }),
+        }
+    }
+
+    /// Why a settlement is refused beside the open order: there is none.
+    fn settle_refusal(&self) -> Option<CommandNo>
+        ensures { result ≡ settle_refusal (order_of self.now.dues.order) }
+    {
+        match &self.dues.order {
+            None => Some(CommandNo::NoOrder),
+            Some(_) => None,
         }
     }
 
@@ -147,44 +274,119 @@ impl JobDesk {
         }
     }
 
-    /// The job makes one attempt of one row over a link; with no job the address is idle.
-    pub(crate) fn next<L: Link>(&mut self, addr: u8, link: &mut L, report: &mut ArrayVec<Entry, 8>)
+    /// The job makes one attempt of one row over a link; with no job the address is idle. It gives the id that
+    /// its put used, or 0.
+    pub(crate) fn next<L: Link>(
+        &mut self,
+        addr: u8,
+        link: &mut L,
+        report: &mut ArrayVec<Entry, 8>,
+    ) -> u32
         requires room { array_vec_len report.old ≤ 6 }
-        ensures { Attempts L.gives link.old link.new addr self.old.job self.old.epoch self.new
-            report.old.items report.new.items }
+        ensures { Attempts L.gives link.old link.new addr self.old.job self.old.epoch self.old.dues
+            self.new result report.old.items report.new.items }
     {
         match self.job.take() {
-            None => report.push(Entry::Idle { addr }),
+            None => {
+                report.push(Entry::Idle { addr });
+                0
+            }
             Some(job) => self.attempt(job, addr, link, report),
         }
     }
 
-    /// A job that isn't done makes one attempt of its row.
+    /// A job that isn't done makes one attempt of its row, and gives the id that its put used, or 0.
     fn attempt<L: Link>(
         &mut self,
         job: Job,
         addr: u8,
         link: &mut L,
         report: &mut ArrayVec<Entry, 8>,
-    )
+    ) -> u32
         requires running { is_running (Some job) ≡ true }
         requires room { array_vec_len report.old ≤ 6 }
-        ensures { Attempts L.gives link.old link.new addr (Some job) self.old.epoch self.new
-            report.old.items report.new.items }
+        ensures { Attempts L.gives link.old link.new addr (Some job) self.old.epoch self.old.dues
+            self.new result report.old.items report.new.items }
     {
         match job.needs() {
             Need::Exchange => {
                 let job = converse(job, addr, link, report);
                 self.job = settled(job, addr, report);
+                self.dues.id = self.id_left();
+                0
             }
             Need::Put(entry) => {
                 self.epoch = epoch_by(&entry, self.epoch);
+                self.dues.order = job.order_after(self.dues.order);
+                let id = id_of(&entry);
                 report.push(Entry::Put(entry));
                 self.job = settled(job.was_put(), addr, report);
+                self.dues.id = self.id_left();
+                id
             }
             Need::Done(_) => unreachable!(),
         }
     }
+
+    /// The greatest id of the payments at work at desks.
+    pub(crate) fn greatest_paying(desks: &[JobDesk]) -> u32
+        ensures { result ≡ greatest_paying desks.now }
+    {
+        match desks {
+            [] => 0,
+            [desk, rest @ ..] => greater(desk.dues.id, JobDesk::greatest_paying(rest)),
+        }
+    }
+
+    /// The id of the payment that is still at work, or 0.
+    fn id_left(&self) -> u32
+        ensures { result ≡ id_left self.now.job self.now.dues.id }
+    {
+        match self.job {
+            None => 0,
+            Some(_) => self.dues.id,
+        }
+    }
+}
+
+/// The id of the payment or the sale that a command begins, or 0.
+fn id_begun(command: &Command) -> u32
+    ensures { result ≡ running_id (works command.now []) }
+{
+    match *command {
+        Command::Pay { id, .. } => id,
+        Command::Vend { id, .. } => id,
+        _ => 0,
+    }
+}
+
+/// Why an id is refused: it isn't above the last one.
+fn id_refusal(id: u32, last: u32) -> Option<CommandNo>
+    ensures { result ≡ id_refusal id last }
+{
+    if id <= last {
+        Some(CommandNo::OldId { last })
+    } else {
+        None
+    }
+}
+
+/// The id that a record uses, of an order that it opens or of a sale; 0 of others.
+fn id_of(entry: &Record) -> u32
+    ensures { result ≡ id_of entry.now }
+{
+    match entry {
+        Record::Opened { id, .. } => *id,
+        Record::Sold { id, .. } => *id,
+        _ => 0,
+    }
+}
+
+/// The greater of two ids.
+pub(crate) fn greater(one: u32, other: u32) -> u32
+    ensures { result ≡ max one other }
+{
+    one.max(other)
 }
 
 /// The epoch after a record: it begins with event counter 0, a reading moves its counter, and a break or its end ends

@@ -1,14 +1,14 @@
-//! The host: a job at each address, and the epochs of its acceptors.
-ghost use Rattle.std.specs.Prelude.{◌≡◌, ◌≢◌, ◌==◌, ◌<◌, ◌≤◌, ℕ, List, [], ◌∷◌, ◌++◌, IfSome, IsTrue, OnErr, Option, Some, None, length};
+//! The host: a job at each address, the epochs of its acceptors, and the open orders of its hoppers.
+ghost use Rattle.std.specs.Prelude.{◌≡◌, ◌≢◌, ◌==◌, ◌<◌, ◌≤◌, ℕ, List, [], ◌∷◌, ◌++◌, IfSome, IsTrue, OnErr, Option, Some, None, length, max};
 ghost use Rattle.std.specs.List.{All, position};
 ghost use Rattle.arrayvec.specs.ArrayVec.{array_vec_len};
 ghost use Rattle.cct_model.specs.Exchange.{device_at};
 ghost use Rattle.cct_model.specs.Job.{address_of};
-ghost use Rattle.cct_model.specs.Legal.{is_played_command};
 ghost use Rattle.cct_model.specs.Setup.{IsSoundSetup};
-ghost use Rattle.cct_world.specs.Desk.{IsFree};
+ghost use Rattle.cct_world.specs.Desk.{IsFree, greatest_paying};
+ghost use Rattle.cct_world.specs.Hosted.{is_hosted};
 
-use crate::desk::JobDesk;
+use crate::desk::{JobDesk, greater};
 use arrayvec::ArrayVec;
 use cct_model::{BROADCAST, Command, CommandNo, DEVICES, DeviceSetup, Entry, Setup};
 use cct_wire::Link;
@@ -22,6 +22,8 @@ pub struct Host<'s> {
     desks: ArrayVec<JobDesk, DEVICES>,
     /// The desk of scans.
     scan: JobDesk,
+    /// The greatest id of the records.
+    last: u32,
     ghost many: { length desks.items ≡ length setup.now.devices },
 }
 
@@ -38,12 +40,13 @@ impl<'s> Host<'s> {
             setup,
             desks: free_desks(setup.devices.as_slice()),
             scan: JobDesk::default(),
+            last: 0,
         }
     }
 
     /// The operator gives a command. A refused one, for the first reason that holds, changes nothing.
     pub fn command(&mut self, command: &Command) -> Result<(), CommandNo>
-        requires played { IsTrue (is_played_command command.now) }
+        requires hosted { IsTrue (is_hosted command.now) }
         ensures setup { setup_of self.new ≡ setup_of self.old }
         ensures stays { OnErr result (Stays self.old self.new) }
         ensures answers { Answers self.old self.new command.now result }
@@ -54,6 +57,9 @@ impl<'s> Host<'s> {
             Command::Round { addr } => self.command_at(addr, command),
             Command::Stop { addr } => self.command_at(addr, command),
             Command::Path { addr, .. } => self.command_at(addr, command),
+            Command::Pay { addr, .. } => self.command_at(addr, command),
+            Command::Settle { addr } => self.command_at(addr, command),
+            Command::Halt { addr } => self.command_at(addr, command),
             Command::Ident { addr } => self.command_at(addr, command),
             _ => unreachable!(),
         }
@@ -61,7 +67,7 @@ impl<'s> Host<'s> {
 
     /// The operator gives a command to the device at an address.
     fn command_at(&mut self, addr: u8, command: &Command) -> Result<(), CommandNo>
-        requires played { IsTrue (is_played_command command.now) }
+        requires hosted { IsTrue (is_hosted command.now) }
         requires no_scan { command.now ≢ Command.Scan }
         requires address { address_of command.now ≡ addr }
         ensures setup { setup_of self.new ≡ setup_of self.old }
@@ -69,10 +75,18 @@ impl<'s> Host<'s> {
         ensures answers { Answers self.old self.new command.now result }
     {
         let devices = self.setup.devices.as_slice();
+        let last = self.last_id();
         match index_of(devices, addr) {
             None => Err(CommandNo::NoDevice),
-            Some(index) => self.desks[index].command(command, &devices[index], self.setup),
+            Some(index) => self.desks[index].command(command, &devices[index], self.setup, last),
         }
+    }
+
+    /// The last id: the greatest of the records and of the payments at work, 0 where there is none.
+    fn last_id(&self) -> u32
+        ensures { result ≡ max self.now.last (greatest_paying self.now.desks.items) }
+    {
+        greater(self.last, JobDesk::greatest_paying(self.desks.as_slice()))
     }
 
     /// The job at an address makes one attempt of one row over a link, and adds its entries to the report: an exchange
@@ -83,7 +97,10 @@ impl<'s> Host<'s> {
         ensures nexts { Nexts L.gives link.old link.new addr self.old self.new report.old.items report.new.items }
     {
         match index_of(self.setup.devices.as_slice(), addr) {
-            Some(index) => self.desks[index].next(addr, link, report),
+            Some(index) => {
+                let used = self.desks[index].next(addr, link, report);
+                self.last = greater(used, self.last);
+            }
             None => self.bare_next(addr, link, report),
         }
     }
@@ -96,7 +113,8 @@ impl<'s> Host<'s> {
         ensures nexts { Nexts L.gives link.old link.new addr self.old self.new report.old.items report.new.items }
     {
         if addr == BROADCAST {
-            self.scan.next(addr, link, report);
+            let used = self.scan.next(addr, link, report);
+            self.last = greater(used, self.last);
         } else {
             report.push(Entry::Idle { addr });
         }

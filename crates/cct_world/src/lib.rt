@@ -3,8 +3,10 @@
 #![tactic(auto)]
 
 mod desk;
+mod dues;
 mod exchange;
 mod host;
+mod hosted;
 mod values;
 mod world;
 

@@ -3,12 +3,12 @@ ghost use Rattle.std.specs.Prelude.{◌≡◌, ◌≢◌, ◌==◌, ◌<◌, ◌
 ghost use Rattle.std.specs.List.{All};
 ghost use Rattle.cct_model.specs.lines.command.Step.TheVariants as step;
 ghost use Rattle.cct_model.specs.Device.{IsAcceptor};
-ghost use Rattle.cct_model.specs.Exchange.{acceptor_there, device_at};
+ghost use Rattle.cct_model.specs.Exchange.{acceptor_there, device_at, hopper_there};
 ghost use Rattle.cct_model.specs.Legal.{is_played, is_played_command};
 ghost use Rattle.cct_model.specs.Script.{IsFault, IsInRange, is_known};
 ghost use Rattle.cct_model.specs.Setup.{IsSoundSetup};
 ghost use Rattle.cct_bus.specs.Bus as wires;
-ghost use Rattle.cct_world.specs.Coin.{entry_of};
+ghost use Rattle.cct_world.specs.Coin.{entry_of, fall_told, jam_told};
 ghost use Rattle.cct_world.specs.Host as hosts;
 
 use crate::host::Host;
@@ -112,8 +112,8 @@ impl Machine<'_> {
             Step::Fault(fault) => self.fault(fault, report),
             Step::Command(command) => self.command(command, report),
             Step::Next { addr } => self.next(*addr, report),
-            Step::Fall { .. } => unreachable!(),
-            Step::Jam { .. } => unreachable!(),
+            Step::Fall { addr } => self.fall(*addr, report),
+            Step::Jam { addr } => self.jam(*addr, report),
             Step::Crash { .. } => unreachable!(),
             Step::Balance => unreachable!(),
             Step::End => unreachable!(),
@@ -142,6 +142,28 @@ impl Machine<'_> {
     {
         self.bus.alien(addr);
         report.push(Entry::Alien { addr });
+    }
+
+    /// A coin may fall out of a hopper: it does where the hopper has some left to pay.
+    fn fall(&mut self, addr: u8, report: &mut ArrayVec<Entry, 8>)
+        requires there { IsTrue (hopper_there (device_at (setup_of self.old).devices addr)) }
+        requires report { report.old.items ≡ [] }
+        ensures setup { setup_of self.new ≡ setup_of self.old }
+        ensures plays { Plays self.old self.new (step.Fall addr) report.new.items }
+    {
+        let does = self.bus.fall(addr);
+        report.push(fall_told(does, addr));
+    }
+
+    /// A coin may stick in a hopper: it does where the hopper has some left to pay.
+    fn jam(&mut self, addr: u8, report: &mut ArrayVec<Entry, 8>)
+        requires there { IsTrue (hopper_there (device_at (setup_of self.old).devices addr)) }
+        requires report { report.old.items ≡ [] }
+        ensures setup { setup_of self.new ≡ setup_of self.old }
+        ensures plays { Plays self.old self.new (step.Jam addr) report.new.items }
+    {
+        let does = self.bus.jam(addr);
+        report.push(jam_told(does, addr));
     }
 
     /// A device starts again as after power-up.
@@ -199,5 +221,27 @@ fn coin_entry(inserted: Inserted, addr: u8, place: u8) -> Entry
     match inserted {
         Inserted::Accepted(coin) => Entry::Accepted { addr, coin },
         Inserted::Inhibited => Entry::Inhibited { addr, place },
+    }
+}
+
+/// The entry of a coin that may fall out of a hopper, by whether it does.
+fn fall_told(fell: bool, addr: u8) -> Entry
+    ensures { result ≡ fall_told fell addr }
+{
+    if fell {
+        Entry::Fell { addr }
+    } else {
+        Entry::NoFall { addr }
+    }
+}
+
+/// The entry of a coin that may stick in a hopper, by whether it does.
+fn jam_told(stuck: bool, addr: u8) -> Entry
+    ensures { result ≡ jam_told stuck addr }
+{
+    if stuck {
+        Entry::Jammed { addr }
+    } else {
+        Entry::NoJam { addr }
     }
 }

@@ -14,7 +14,7 @@ unfolding form_of
 mask_in-requires c = c.requires.wanted ∙ ap (λ (s : Stage). form_of (request_of s)) c.in-Looks.is
 
 pub returns-in-Looks-clause-device : goal.returns-in-Looks-clause-device
-returns-in-Looks-clause-device c = λ d command since state failed at.
-    as_answered d _ command since state _ _ _ _ (ap request_of c.in-Looks.is) c.mask_in.ensures
-    (c.judged.ensures.device d command since state failed
-    (subst (λ (s : Stage). Asking d c.args.device s failed command since state) c.in-Looks.is at))
+returns-in-Looks-clause-device c = λ d command since state owed failed at.
+    as_answered d _ command since state owed _ _ _ _ (ap request_of c.in-Looks.is) c.mask_in.ensures
+    (c.judged.ensures.device d command since state owed failed
+    (subst (λ (s : Stage). Asking d c.args.device s failed command since state owed) c.in-Looks.is at))

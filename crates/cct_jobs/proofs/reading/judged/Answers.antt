@@ -10,23 +10,23 @@ use Rattle.cct_jobs.proofs.Epochs.{round_judges, stop_judges}
 use Rattle.cct_jobs.proofs.reading.judged.Goals as goal
 
 pub returns-in-Round-clause-device : goal.returns-in-Round-clause-device
-returns-in-Round-clause-device c = λ d command since state failed at.
+returns-in-Round-clause-device c = λ d command since state owed failed at.
     let device = c.args.device in
     let here =
     subst (λ (v : Visit). Asking d device
-    (Looks v c.args.recorded c.args.credits.now) failed command since state) c.in-Round.is at in
+    (Looks v c.args.recorded c.args.credits.now) failed command since state owed) c.in-Round.is at in
     subst (λ (job : Job). Stands d job command
-    (exchange (Some GetMask) (Some (reply.mask c.args.mask_seen)) ∷ since) state)
+    (exchange (Some GetMask) (Some (reply.mask c.args.mask_seen)) ∷ since) state owed)
     (sym c.round_judged.ensures.means)
     (round_judges here c.args.mask_seen c.judge-meaning.result (sym c.judge-meaning.ensures))
 
 pub returns-in-Stop-clause-device : goal.returns-in-Stop-clause-device
-returns-in-Stop-clause-device c = λ d command since state failed at.
+returns-in-Stop-clause-device c = λ d command since state owed failed at.
     let device = c.args.device in
     let here =
     subst (λ (v : Visit). Asking d device
-    (Looks v c.args.recorded c.args.credits.now) failed command since state) c.in-Stop.is at in
+    (Looks v c.args.recorded c.args.credits.now) failed command since state owed) c.in-Stop.is at in
     subst (λ (job : Job). Stands d job command
-    (exchange (Some GetMask) (Some (reply.mask c.args.mask_seen)) ∷ since) state)
+    (exchange (Some GetMask) (Some (reply.mask c.args.mask_seen)) ∷ since) state owed)
     (sym c.stop_judged.ensures.means)
     (stop_judges here c.args.mask_seen c.judge-meaning.result (sym c.judge-meaning.ensures))

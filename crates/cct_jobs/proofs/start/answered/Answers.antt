@@ -10,7 +10,7 @@ unfolding form_of
 credits_in-requires c = c.requires.wanted ∙ ap (λ (s : Stage). form_of (request_of s)) c.in-StartReads.is
 
 pub returns-in-StartReads-clause-device : goal.returns-in-StartReads-clause-device
-returns-in-StartReads-clause-device c = λ d command since state failed at.
-    as_answered d _ command since state _ _ _ _ (ap request_of c.in-StartReads.is) c.credits_in.ensures
-    (c.after_reset.ensures.device d command since state failed
-    (subst (λ (s : Stage). Asking d c.args.device s failed command since state) c.in-StartReads.is at))
+returns-in-StartReads-clause-device c = λ d command since state owed failed at.
+    as_answered d _ command since state owed _ _ _ _ (ap request_of c.in-StartReads.is) c.credits_in.ensures
+    (c.after_reset.ensures.device d command since state owed failed
+    (subst (λ (s : Stage). Asking d c.args.device s failed command since state owed) c.in-StartReads.is at))

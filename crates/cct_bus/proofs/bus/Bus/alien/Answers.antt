@@ -1,8 +1,14 @@
 use Rattle.std.proofs.Common.{◌∙◌}
 use Rattle.cct_model.specs.Transcript.{met}
-use Rattle.cct_bus.proofs.Buses.{one_stands}
+use Rattle.cct_bus.proofs.Buses.{acceptor_found, one_stands, setup_found}
 use Rattle.cct_bus.proofs.Hears.{setups_kept}
 use Rattle.cct_bus.proofs.bus.Bus.alien.Goals as goal
+
+pub alien-requires : goal.alien-requires
+alien-requires c =
+    let found = c.index_of-index.ensures.first in
+    let is = setup_found _ _ _ c.index_mut.result.now _ c.args.self.now.order found c.index_mut.ensures.value in
+    record { acceptor = acceptor_found _ _ is c.requires.there }
 
 pub invariant_of-self : goal.invariant_of-self
 invariant_of-self c = record {

@@ -3,4 +3,4 @@ use Rattle.std.proofs.lemmas.Grind.{merely}
 use Rattle.cct_bus.proofs.device.Device.new.Goals as goal
 
 pub invariant_of-result : goal.invariant_of-result
-invariant_of-result c = record { lived = merely ([], c.in_ok-acceptor.ensures.fresh) }
+invariant_of-result c = record { lived = merely ([], c.in_ok-body.ensures.fresh) }

@@ -11,9 +11,9 @@ use Rattle.cct_jobs.proofs.job.Job.heard.Goals as goal
 pub returns-in-Asks-clause-device : goal.returns-in-Asks-clause-device
 returns-in-Asks-clause-device c = λ d command since state owed q stands row is_ask.
     let a = c.in-Asks in
-    let at : Stands d (Asks a.device a.stage a.failed) command since state =
-    subst (λ (job : Job). Stands d job command since state) a.is stands in
-    c.heard.ensures.device d command since state at
+    let at : Stands d (Asks a.device a.stage a.failed) command since state owed =
+    subst (λ (job : Job). Stands d job command since state owed) a.is stands in
+    c.heard.ensures.device d command since state owed at
     (is_ask ∙ ap (ask d.kind d.addr) (stage_asked owed q at row))
 
 pub returns-in-ScanCallsSimple-clause-scan : goal.returns-in-ScanCallsSimple-clause-scan

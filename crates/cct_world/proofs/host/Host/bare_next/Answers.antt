@@ -1,7 +1,7 @@
 use Rattle.std.proofs.Common.{sym}
 use Rattle.cct_model.specs.Exchange.{device_at}
 use Rattle.cct_world.specs.Place.{scans}
-use Rattle.cct_world.proofs.Lines.{attempt_unsold}
+use Rattle.cct_world.proofs.Lines.{attempt_last, attempt_unsold}
 use Rattle.cct_world.proofs.Places.{scan_turn}
 use Rattle.cct_world.proofs.Steps.{of_scan}
 use Rattle.cct_world.proofs.host.Host.bare_next.Goals as goal
@@ -9,13 +9,13 @@ use Rattle.cct_world.proofs.host.Host.bare_next.Goals as goal
 pub returns-then-addr-eq-BROADCAST-clause-nexts : goal.returns-then-addr-eq-BROADCAST-clause-nexts
 returns-then-addr-eq-BROADCAST-clause-nexts g c =
     let setup = c.args.self.now.setup.now in
-    let attempt = c.next.ensures in
+    let attempt = c.next-used.ensures in
     record {
       what = attempt.what;
       reported_is = attempt.reported_is;
       link = attempt.link;
-      goes = λ hears past heard stands.
-          let goes = attempt.goes hears scans past heard (sym c.if-addr-eq-BROADCAST.true) stands.scan in (
+      goes = λ hears past heard stands owned.
+          let goes = attempt.goes hears scans past heard (sym c.if-addr-eq-BROADCAST.true) stands.scan tt in (
             of_scan hears (device_at setup.devices c.args.addr) _ past _ c.args.addr c.requires.bare
                 c.if-addr-eq-BROADCAST.true goes.entries,
             record {
@@ -23,6 +23,8 @@ returns-then-addr-eq-BROADCAST-clause-nexts g c =
               desks = scan_turn setup _ past _ stands.sound goes.at stands.desks;
               scan =
                   goes.keeps;
+              last = attempt_last past c.args.addr attempt.what c.next-used.result c.args.self.now.last _
+                  attempt.used_is stands.last c.greater-self.ensures;
               unsold = attempt_unsold past c.args.addr attempt.what stands.unsold;
             },
           );

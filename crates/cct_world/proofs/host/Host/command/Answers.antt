@@ -5,12 +5,12 @@ use Rattle.cct_model.specs.Legal.{command_entry}
 use Rattle.cct_world.specs.Desk.{no_of}
 use Rattle.cct_world.specs.Place.{AreAt}
 use Rattle.cct_world.proofs.Commands.{stays_by}
-use Rattle.cct_world.proofs.Lines.{command_at, command_unsold}
+use Rattle.cct_world.proofs.Lines.{command_at, command_last, command_unsold}
 use Rattle.cct_world.proofs.Places.{scan_apart, scan_turn}
 use Rattle.cct_world.proofs.host.Host.command.Goals as goal
 
 pub returns-in-Scan-clause-stays : goal.returns-in-Scan-clause-stays
-returns-in-Scan-clause-stays c = stays_by _ _ _ _ _ _ _ c.scan.ensures.stays (λ same. refl) (λ same. same)
+returns-in-Scan-clause-stays c = stays_by _ _ _ _ _ _ _ _ c.scan.ensures.stays (λ same. refl) (λ same. same)
 
 pub returns-in-Scan-clause-answers : goal.returns-in-Scan-clause-answers
 returns-in-Scan-clause-answers c past stands =
@@ -25,6 +25,7 @@ returns-in-Scan-clause-answers c past stands =
         desks =
             scan_turn c.args.self.now.setup.now _ past news stands.sound at stands.desks;
         scan = answered.1;
+        last = command_last past c.args.command.now refused c.args.self.now.last stands.last;
         unsold = command_unsold past c.args.command.now refused
             (subst (λ k. address_of k ≢ HOST) (sym c.in-Scan.is) scan_apart) stands.unsold;
       },

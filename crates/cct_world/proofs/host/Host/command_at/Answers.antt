@@ -7,8 +7,8 @@ use Rattle.cct_model.specs.Legal.{command_entry}
 use Rattle.cct_world.specs.Desk.{no_of}
 use Rattle.cct_world.specs.Place.{AreAt}
 use Rattle.cct_world.proofs.Commands.{absent_refused, stays_by}
-use Rattle.cct_world.proofs.Lines.{command_at, command_unsold, refused_quiet}
-use Rattle.cct_world.proofs.Places.{absent, desk_lent, desk_sits, device_apart, device_found, device_turn, found_in, is_at, refilled}
+use Rattle.cct_world.proofs.Lines.{command_at, command_last, command_unsold, refused_quiet}
+use Rattle.cct_world.proofs.Places.{absent, desk_lent, desk_sits, device_apart, device_found, device_turn, fits_three, found_in, is_at, last_is, refilled}
 use Rattle.cct_world.proofs.Steps.{host_quiet}
 use Rattle.cct_world.proofs.host.Host.command_at.Goals as goal
 
@@ -27,7 +27,7 @@ returns-in-None-clause-answers c past stands =
     let first = c.index_of.ensures.first ∙ ap (position (is_at c.args.addr)) c.as_slice-devices.ensures.value in
     let none = absent setup.devices c.args.addr _ first c.in-None.is in
     let bare = ap (device_at setup.devices) c.requires.address ∙ none in (
-      absent_refused setup past c.args.command.now c.requires.played c.requires.no_scan bare,
+      absent_refused setup past c.args.command.now c.requires.hosted c.requires.no_scan bare,
       host_quiet c.args.self.now past _ (refused_quiet past c.args.command.now NoDevice) stands,
     )
 
@@ -37,7 +37,7 @@ returns-in-Some-clause-stays c =
     let i = c.in-Some.index in
     let y = c.index-deref_mut-index.result in
     let lent = c.deref_mut.ensures.value in
-    stays_by _ _ _ _ _ _ _ c.command.ensures.stays
+    stays_by _ _ _ _ _ _ _ _ c.command.ensures.stays
     (λ same. refilled ks _ i c.command.new.self lent ∙ ap (set ks i) (same ∙ ap (λ ls. get_or ls i y) lent)
     ∙ set-get_or ks i y) (λ same. refl)
 
@@ -54,7 +54,9 @@ returns-in-Some-clause-answers c past stands =
     let y = desk_lent ks _ i c.index-deref_mut-index.result kept c.index-deref_mut-index.is in
     let within = (device_found setup.devices i d c.args.addr found is).0 in
     let sits = desk_sits setup.devices ks i d _ past within is y stands.desks in
-    let answered = c.command.ensures.commands past sits in
+    let answered = c.command.ensures.commands (fits_three setup i d stands.sound within is) past
+    (last_is setup ks past c.args.self.now.last c.last_id-last.result stands.desks stands.unsold stands.last
+    c.last_id-last.ensures) sits in
     let news = command_entry c.args.command.now (no_of c.command.result) ∷ [] in
     let at = subst (λ a. AreAt a past news) c.requires.address (command_at past c.args.command.now _) in
     let turned = device_turn setup ks _ c.args.self.now.scan i c.command.new.self d c.args.addr past news stands.sound
@@ -64,7 +66,9 @@ returns-in-Some-clause-answers c past stands =
         sound = stands.sound;
         desks = turned.0;
         scan = turned.1;
+        last = command_last past c.args.command.now (no_of c.command.result) c.args.self.now.last stands.last;
         unsold = command_unsold past c.args.command.now (no_of c.command.result)
-            (λ same. device_apart setup i d c.args.addr stands.sound found is (sym c.requires.address ∙ same)) stands.unsold;
+            (λ same. device_apart setup i d c.args.addr stands.sound found is (sym c.requires.address
+            ∙ same)) stands.unsold;
       },
     )

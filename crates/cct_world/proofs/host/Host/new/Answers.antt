@@ -8,5 +8,6 @@ returns-clause-fresh c = record {
   sound = c.requires.sound;
   desks = desks_free _ _ (c.free_desks.ensures.many ∙ ap length c.as_slice.ensures.value) c.free_desks.ensures.free;
   scan = free_keeps scans c.default.result c.default.ensures;
+  last = refl;
   unsold = refl;
 }

@@ -3,8 +3,8 @@ use Rattle.std.specs.List.{position}
 use Rattle.cct_model.specs.Exchange.{device_at}
 use Rattle.cct_world.specs.Attempt.{news_of}
 use Rattle.cct_world.specs.Place.{AreAt, device}
-use Rattle.cct_world.proofs.Lines.{attempt_unsold}
-use Rattle.cct_world.proofs.Places.{absent, at_this, desk_lent, desk_sits, device_found, device_turn, found_in, is_at}
+use Rattle.cct_world.proofs.Lines.{attempt_last, attempt_unsold}
+use Rattle.cct_world.proofs.Places.{absent, at_this, desk_lent, desk_sits, device_found, device_turn, found_in, is_at, owned_there}
 use Rattle.cct_world.proofs.Steps.{of_next}
 use Rattle.cct_world.proofs.host.Host.next.Goals as goal
 
@@ -18,7 +18,7 @@ returns-in-Some-clause-nexts g c =
     let setup = c.args.self.now.setup.now in
     let ks = c.args.self.now.desks.items in
     let i = c.in-Some.index in
-    let attempt = c.next.ensures in
+    let attempt = c.next-used.ensures in
     let news = news_of c.args.addr attempt.what in
     let lent = c.as_slice.ensures.value in
     let kept = c.deref_mut.ensures.value in
@@ -31,17 +31,21 @@ returns-in-Some-clause-nexts g c =
       what = attempt.what;
       reported_is = attempt.reported_is;
       link = attempt.link;
-      goes = λ hears past heard stands.
+      goes = λ hears past heard stands owned.
           let sits = desk_sits setup.devices ks i this.0 _ past within this.1 y stands.desks in
-          let goes = attempt.goes hears (device this.0) past heard place.2 sits in
+          let goes = attempt.goes hears (device this.0) past heard place.2 sits (owned_there setup this.0 c.args.addr
+          past
+          place.1 place.2 owned) in
           let at = subst (λ a. AreAt a past news) place.2 goes.at in
-          let turned = device_turn setup ks _ c.args.self.now.scan i c.next.new.self this.0 c.args.addr past news
+          let turned = device_turn setup ks _ c.args.self.now.scan i c.next-used.new.self this.0 c.args.addr past news
           stands.sound kept found this.1 at goes.keeps stands.desks stands.scan in (
             of_next (device_at setup.devices c.args.addr) this.0 _ _ place.1 goes.entries,
             record {
               sound = stands.sound;
               desks = turned.0;
               scan = turned.1;
+              last = attempt_last past c.args.addr attempt.what c.next-used.result c.args.self.now.last _
+                  attempt.used_is stands.last c.greater-self.ensures;
               unsold = attempt_unsold past c.args.addr attempt.what stands.unsold;
             },
           );

@@ -9,15 +9,15 @@ use cct_terms::{BROADCAST, DeviceSetup, HOST, Request};
 
 /// What a device is asked, and whom it answers.
 #[derive(Clone, Copy, Debug, PartialEq, Eq)]
-pub(crate) struct Asked {
-    pub(crate) request: Request,
-    pub(crate) asker: u8,
+pub struct Asked {
+    pub request: Request,
+    pub asker: u8,
 }
 
 /// What a piece asks of the device of a setup, or nothing where it is no message under the device's check, or none that
 /// asks something of it.
 #[tactic(auto, unfolding(cct_terms::specs::Exchange::asks_of, cct_terms::specs::Exchange::asker))]
-pub(crate) fn listen(setup: &DeviceSetup, piece: &[u8]) -> Option<Asked>
+pub fn listen(setup: &DeviceSetup, piece: &[u8]) -> Option<Asked>
     ensures { MatchOption result (asks_of setup.now piece.now ≡ None)
         (λ asked. (asks_of setup.now piece.now ≡ Some asked.request) × (asker setup.now.kind piece.now ≡ asked.asker)) }
 {

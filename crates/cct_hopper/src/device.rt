@@ -1,0 +1,53 @@
+//! What a hopper holds in whatever state it is (ccTalk Generic Specification 4, part 3).
+ghost use Rattle.std.specs.Prelude.{◌≡◌, ◌<◌, ◌==◌, ◌+◌, ◌^◌, if◌then◌else◌};
+
+use cct_life::LifeCount;
+use cct_terms::DeviceSetup;
+
+/// The hopper itself, without what its state tells: whether it may pay, and how many coins are left to fall.
+#[derive(Clone, Copy, Debug)]
+pub(crate) struct Device<'s> {
+    pub(crate) setup: &'s DeviceSetup,
+    /// How many coins it ever paid.
+    pub(crate) life: LifeCount,
+    /// The event counter, which counts payouts: 0 before the first, then 1 to 255, and 1 again.
+    pub(crate) counter: u8,
+    /// How many coins of the last payout were paid.
+    pub(crate) paid: u8,
+    /// How many coins of the last payout stayed unpaid.
+    pub(crate) unpaid: u8,
+    /// Whether a jam ended the last payout.
+    pub(crate) timeout: bool,
+    /// Whether the test register was read.
+    pub(crate) tested: bool,
+    ghost serial: { setup.now.serial < 2 ^ 24 },
+}
+
+impl<'s> Device<'s> {
+    ghost use Rattle.cct_life.specs.Life.{count_of};
+    ghost use Rattle.cct_hopper.specs.Hopper.{at_power_up, memory};
+
+    /// The hopper of a setup as after a reset, with this life count.
+    pub(crate) fn new(setup: &'s DeviceSetup, life: LifeCount) -> Device<'s>
+        requires serial { setup.now.serial < 2 ^ 24 }
+        ensures setup { result.setup.now ≡ setup.now }
+        ensures memory { memory result ≡ at_power_up (count_of life) }
+    {
+        Device {
+            setup,
+            life,
+            counter: 0,
+            paid: 0,
+            unpaid: 0,
+            timeout: false,
+            tested: false,
+        }
+    }
+}
+
+/// The event counter of one payout more: behind 255 stands 1.
+pub(crate) fn next_event(counter: u8) -> u8
+    ensures { result ≡ (if counter == 255 then 1 else counter + 1) }
+{
+    counter.checked_add(1).unwrap_or(1)
+}

@@ -1,0 +1,315 @@
+//! The hopper as a device (ccTalk Generic Specification 4, part 3).
+ghost use Rattle.std.specs.Prelude.{◌≡◌, ◌≢◌, ◌==◌, ℕ, List, [], ◌∷◌, false, true, not, Some, IfSome, MatchOption};
+ghost use Rattle.std.specs.Option.{option_map};
+ghost use Rattle.cct_terms.specs.declared.device.DeviceSetup.{DeviceSetup};
+ghost use Rattle.cct_terms.specs.declared.request.TheConstants.{ENABLE_CODE};
+ghost use Rattle.cct_terms.specs.declared.request.Request.TheVariants.{Dispense, Enable, StopNow, TestHopper};
+ghost use Rattle.cct_terms.specs.Device.{IsHopper, IsSound, reply_of};
+ghost use Rattle.cct_terms.specs.Exchange.{answer, asks_of};
+ghost use Rattle.cct_terms.specs.History.{Met, fall, heard, jam, reset};
+ghost use Rattle.cct_terms.specs.Hopper.{dispense_reply, hopper_reply, register_of, remaining, taken_of};
+ghost use Rattle.cct_terms.specs.Reply.{IsSayable, reply_shown};
+
+use crate::device::Device;
+use crate::register::Register;
+use crate::states::{AfterFall, HopperIdle, HopperOff, HopperPaying};
+use arrayvec::ArrayVec;
+use bitflags::Flags;
+use cct_device::{Asked, common_reply, give, listen};
+use cct_life::LifeCount;
+use cct_terms::{DeviceBody, DeviceSetup, ENABLE_CODE, MOST_SENT, Reply, Request};
+
+/// A hopper of a setup, in one of its three states. Its contracts tell it by all that it met, newest first.
+#[derive(Debug, Drop)]
+pub enum Hopper<'s> {
+    /// It may not pay.
+    Off(HopperOff<'s>),
+    /// It may pay, and has no coin left to pay.
+    Idle(HopperIdle<'s>),
+    /// It pays.
+    Paying(HopperPaying<'s>),
+}
+
+impl<'s> Hopper<'s> {
+    ghost use Rattle.cct_hopper.specs.Hopper.{StandsFor, device_of, is_change, left_of, may_pay, start_of};
+
+    /// A hopper as after a reset, with its life count where the setup starts it.
+    pub fn new(setup: &'s DeviceSetup) -> Hopper<'s>
+        requires sound { IsSound setup.now }
+        requires hopper { IsHopper setup.now.body }
+        ensures fresh { StandsFor result setup.now [] }
+    {
+        match &setup.body {
+            DeviceBody::Hopper { life, .. } => {
+                Hopper::Off(HopperOff::new(setup, LifeCount::new(*life)))
+            }
+            DeviceBody::Acceptor { .. } => unreachable!(),
+        }
+    }
+
+    /// A coin falls out, which is paid where the hopper is paying: true then, and false where it is nothing to it.
+    pub fn fall(&mut self) -> bool
+        ensures stands { (d : DeviceSetup) (past : List Met) → StandsFor self.old d past
+            → StandsFor self.new d (fall ∷ past) }
+        ensures answer { (d : DeviceSetup) (past : List Met) → StandsFor self.old d past
+            → result ≡ not (remaining d.serial past == 0) }
+    {
+        match self {
+            Hopper::Paying(hopper) => {
+                *self = match hopper.twin().fall() {
+                    AfterFall::Paying(hopper) => Hopper::Paying(hopper),
+                    AfterFall::Idle(hopper) => Hopper::Idle(hopper),
+                };
+                true
+            }
+            _ => false,
+        }
+    }
+
+    /// A coin is stuck, which ends the payout where the hopper is paying: true then, and false where it is nothing to
+    /// it.
+    pub fn jam(&mut self) -> bool
+        ensures stands { (d : DeviceSetup) (past : List Met) → StandsFor self.old d past
+            → StandsFor self.new d (jam ∷ past) }
+        ensures answer { (d : DeviceSetup) (past : List Met) → StandsFor self.old d past
+            → result ≡ not (remaining d.serial past == 0) }
+    {
+        match self {
+            Hopper::Paying(hopper) => {
+                *self = Hopper::Idle(hopper.twin().jam());
+                true
+            }
+            _ => false,
+        }
+    }
+
+    /// The hopper starts again as after power-up: it is off, and a payout is forgotten. The life count goes on.
+    pub fn reset(&mut self)
+        ensures { (d : DeviceSetup) (past : List Met) → StandsFor self.old d past
+            → StandsFor self.new d (reset ∷ past) }
+    {
+        let hopper = match self {
+            Hopper::Off(hopper) => hopper.twin().reset(),
+            Hopper::Idle(hopper) => hopper.twin().reset(),
+            Hopper::Paying(hopper) => hopper.twin().reset(),
+        };
+        *self = Hopper::Off(hopper);
+    }
+
+    /// Hears a piece, acts on what it asks, and answers: true with the answer in `out`, or false with nothing there
+    /// where the hopper is silent. It is silent to a piece that is no message under its check, to another address, to
+    /// a request that no hopper knows, and to every broadcast but the address poll, which asks nothing at its own
+    /// address.
+    pub fn hear(&mut self, piece: &[u8], out: &mut ArrayVec<u8, MOST_SENT>) -> bool
+        ensures stands { (d : DeviceSetup) (past : List Met) → StandsFor self.old d past
+            → StandsFor self.new d (heard (asks_of d piece.now) ∷ past) }
+        ensures answer { (d : DeviceSetup) (past : List Met) → StandsFor self.old d past
+            → MatchOption (answer d past piece.now) ((result ≡ false) × (out.new.items ≡ []))
+            (λ bytes. (result ≡ true) × (out.new.items ≡ bytes)) }
+    {
+        out.clear();
+        let setup = self.device().setup;
+        match listen(setup, piece) {
+            None => false,
+            Some(Asked { request, asker }) => {
+                let reply = self.act(request);
+                give(setup, asker, request, reply, out)
+            }
+        }
+    }
+
+    /// Acts on a request, and gives the reply, or none where no hopper knows the request.
+    #[tactic(auto, unfolding(cct_terms::specs::Device::reply_of, cct_terms::specs::Device::common_reply, cct_terms::specs::Hopper::hopper_reply), using(crate::proofs::Replies::own_is))]
+    fn act(&mut self, request: Request) -> Option<Reply<'s>>
+        ensures stands { (d : DeviceSetup) (past : List Met) → StandsFor self.old d past
+            → StandsFor self.new d (heard (Some request) ∷ past) }
+        ensures answer { (d : DeviceSetup) (past : List Met) → StandsFor self.old d past
+            → option_map reply_shown result ≡ reply_of d past request }
+        ensures sayable { IfSome result (λ y. IsSayable (reply_shown y)) }
+    {
+        match request {
+            Request::ResetDevice => {
+                self.reset();
+                Some(Reply::Ack)
+            }
+            Request::Enable { code } => {
+                self.set_enabled(code);
+                Some(Reply::Ack)
+            }
+            Request::Dispense { serial, count } => { Some(self.dispense(serial, count)) }
+            Request::StopNow => { Some(Reply::Remaining { count: self.stop() }) }
+            Request::TestHopper => {
+                let bits = self.register().bits();
+                self.set_tested();
+                Some(Reply::Register { bits })
+            }
+            _ => self.tell(request),
+        }
+    }
+
+    /// The reply to a request that changes nothing.
+    #[tactic(auto, unfolding(cct_terms::specs::Device::reply_of, cct_terms::specs::Device::common_reply), using(crate::proofs::Replies::own_is))]
+    fn tell(&self, request: Request) -> Option<Reply<'s>>
+        ensures stands { (d : DeviceSetup) (past : List Met) → StandsFor self.now d past → is_change request ≡ false
+            → StandsFor self.now d (heard (Some request) ∷ past) }
+        ensures answer { (d : DeviceSetup) (past : List Met) → StandsFor self.now d past → is_change request ≡ false
+            → option_map reply_shown result ≡ reply_of d past request }
+        ensures sayable { IfSome result (λ y. IsSayable (reply_shown y)) }
+    {
+        match common_reply(self.device().setup, request) {
+            None => self.tell_payout(request),
+            reply => reply,
+        }
+    }
+
+    /// The reply to a request for the hopper's payouts that changes nothing.
+    #[tactic(auto, unfolding(cct_terms::specs::Hopper::hopper_reply))]
+    fn tell_payout(&self, request: Request) -> Option<Reply<'s>>
+        ensures answer { (d : DeviceSetup) (past : List Met) → StandsFor self.now d past → is_change request ≡ false
+            → option_map reply_shown result ≡ hopper_reply d.serial (start_of d.body) past request }
+        ensures sayable { IfSome result (λ y. IsSayable (reply_shown y)) }
+    {
+        let device = self.device();
+        match request {
+            Request::GetStatus => Some(Reply::Status {
+                counter: device.counter,
+                remaining: self.remaining(),
+                paid: device.paid,
+                unpaid: device.unpaid,
+            }),
+            Request::GetLife => Some(Reply::Life {
+                count: device.life.now(),
+            }),
+            Request::CipherDispense => Some(Reply::Nak),
+            Request::PumpRng => Some(Reply::Nak),
+            Request::CipherKey => Some(Reply::Nak),
+            _ => None,
+        }
+    }
+
+    /// The test register.
+    fn register(&self) -> Register
+        ensures { (d : DeviceSetup) (past : List Met) → StandsFor self.now d past
+            → result.0 ≡ register_of d.serial past }
+    {
+        let device = self.device();
+        Register::with(device.timeout, !device.tested, !self.may_pay())
+    }
+
+    /// Header 164 with a code.
+    fn set_enabled(&mut self, code: u8)
+        ensures { (d : DeviceSetup) (past : List Met) → StandsFor self.old d past
+            → StandsFor self.new d (heard (Some (Enable code)) ∷ past) }
+    {
+        if code == ENABLE_CODE {
+            self.enable();
+        } else {
+            self.disable();
+        }
+    }
+
+    /// The hopper may pay. A payout goes on.
+    fn enable(&mut self)
+        ensures { (d : DeviceSetup) (past : List Met) → StandsFor self.old d past
+            → StandsFor self.new d (heard (Some (Enable ENABLE_CODE)) ∷ past) }
+    {
+        if let Hopper::Off(hopper) = self {
+            *self = Hopper::Idle(hopper.twin().enable());
+        }
+    }
+
+    /// The hopper may not pay any more, which ends a payout.
+    fn disable(&mut self)
+        ensures { (d : DeviceSetup) (past : List Met) (code : ℕ) → code ≢ ENABLE_CODE → StandsFor self.old d past
+            → StandsFor self.new d (heard (Some (Enable code)) ∷ past) }
+    {
+        match self {
+            Hopper::Off(_) => {}
+            Hopper::Idle(hopper) => *self = Hopper::Off(hopper.twin().disable()),
+            Hopper::Paying(hopper) => *self = Hopper::Off(hopper.twin().disable()),
+        }
+    }
+
+    /// Header 167 with four data bytes: pays, or refuses. One that is off or pays takes none.
+    fn dispense(&mut self, serial: u32, count: u8) -> Reply<'static>
+        ensures stands { (d : DeviceSetup) (past : List Met) → StandsFor self.old d past
+            → StandsFor self.new d (heard (Some (Dispense serial count)) ∷ past) }
+        ensures answer { (d : DeviceSetup) (past : List Met) → StandsFor self.old d past
+            → reply_shown result ≡ dispense_reply (taken_of d.serial past (Some (Dispense serial count))) }
+        ensures sayable { IsSayable (reply_shown result) }
+    {
+        match self {
+            Hopper::Idle(hopper) => match hopper.twin().dispense(serial, count) {
+                Ok(hopper) => {
+                    *self = Hopper::Paying(hopper);
+                    Reply::Ack
+                }
+                Err((hopper, _)) => {
+                    *self = Hopper::Idle(hopper);
+                    Reply::Nak
+                }
+            },
+            _ => Reply::Nak,
+        }
+    }
+
+    /// Header 172: stops a payout, and tells how many coins were left.
+    fn stop(&mut self) -> u8
+        ensures stands { (d : DeviceSetup) (past : List Met) → StandsFor self.old d past
+            → StandsFor self.new d (heard (Some StopNow) ∷ past) }
+        ensures answer { (d : DeviceSetup) (past : List Met) → StandsFor self.old d past
+            → result ≡ remaining d.serial past }
+    {
+        match self {
+            Hopper::Paying(hopper) => {
+                let (idle, left) = hopper.twin().stop();
+                *self = Hopper::Idle(idle);
+                left
+            }
+            _ => 0,
+        }
+    }
+
+    /// The test register was read.
+    fn set_tested(&mut self)
+        ensures { (d : DeviceSetup) (past : List Met) → StandsFor self.old d past
+            → StandsFor self.new d (heard (Some TestHopper) ∷ past) }
+    {
+        match self {
+            Hopper::Off(hopper) => hopper.device.tested = true,
+            Hopper::Idle(hopper) => hopper.device.tested = true,
+            Hopper::Paying(hopper) => hopper.device.tested = true,
+        }
+    }
+
+    /// The hopper itself, in whatever state it is.
+    fn device(&self) -> &Device<'s>
+        ensures { result.now ≡ device_of self.now }
+    {
+        match self {
+            Hopper::Off(hopper) => &hopper.device,
+            Hopper::Idle(hopper) => &hopper.device,
+            Hopper::Paying(hopper) => &hopper.device,
+        }
+    }
+
+    /// Whether it may pay.
+    fn may_pay(&self) -> bool
+        ensures { result ≡ may_pay self.now }
+    {
+        match self {
+            Hopper::Off(_) => false,
+            _ => true,
+        }
+    }
+
+    /// How many coins it has left to pay.
+    fn remaining(&self) -> u8
+        ensures { result ≡ left_of self.now }
+    {
+        match self {
+            Hopper::Paying(hopper) => hopper.remaining,
+            _ => 0,
+        }
+    }
+}

@@ -1,0 +1,222 @@
+//! The payment of an order, and the settlement of one that stayed open: the hopper is enabled, its life count read, the
+//! order opened and its coins dispensed once; when nothing is left to pay, the life count tells how many coins fell
+//! (ccTalk Generic Specification 4, part 3, headers 164, 166, 167, 168 and 172).
+ghost use Rattle.std.specs.Prelude.{◌≡◌, ◌≤◌, ◌<◌, ◌^◌, List, ℕ, ◌∷◌, Option, Some, true};
+ghost use Rattle.cct_model.specs.lines.command.Command.{Command};
+ghost use Rattle.cct_model.specs.terms.device.DeviceSetup.{DeviceSetup};
+ghost use Rattle.cct_model.specs.declared.judging.EpochState.{EpochState};
+ghost use Rattle.cct_model.specs.declared.judging.OpenOrder.{OpenOrder};
+ghost use Rattle.cct_model.specs.terms.request.ReplyForm.TheVariants as form;
+ghost use Rattle.cct_model.specs.terms.request.Request.TheVariants.{Dispense, GetLife, GetStatus};
+ghost use Rattle.cct_model.specs.Job.{answer_ends};
+ghost use Rattle.cct_model.specs.Line.{Line, exchange};
+ghost use Rattle.cct_model.specs.Reply as shown;
+ghost use Rattle.cct_model.specs.Reply.{reply_shown};
+ghost use Rattle.cct_model.specs.Request.{form_of};
+ghost use Rattle.cct_msg.specs.Forms.{form_shown};
+ghost use Rattle.cct_jobs.specs.declared.stage.Stage.TheVariants.{Pays};
+ghost use Rattle.cct_jobs.specs.declared.payout.Payout.TheVariants.{Counts, Dispenses, Recounts, Waits};
+ghost use Rattle.cct_jobs.specs.Jobs.{Asking, FitsLife, Stands, halted_row, halted_tries, may_put_of};
+ghost use Rattle.cct_jobs.specs.Jobs.{closing_end, payout_puts, payout_request, settling};
+ghost use Rattle.cct_jobs.specs.declared.payout.Closing.{Closing};
+ghost use Rattle.cct_jobs.specs.declared.target.Target.{Target};
+
+use crate::asks::first_try;
+use crate::job::Job;
+use crate::owed::Owed;
+use crate::payout::{Closing, Payout};
+use crate::stage::Stage;
+use crate::target::Target;
+use cct_model::{End, OpenOrder, Record, Reply};
+use cct_order::close;
+
+/// The payment or the settlement after its row got the wanted reply.
+pub(crate) fn answered(device: Target, row: Payout, reply: &Reply<'_>) -> Job
+    requires wanted { form_shown (reply_shown reply.now) ≡ form_of (payout_request row) }
+    requires life { FitsLife (reply_shown reply.now) }
+    ensures device { (d : DeviceSetup) (c : Command) (since : List Line) (state : EpochState)
+        (owed : Option OpenOrder) (failed : ℕ)
+        → Asking d device (Pays row) failed c since state owed
+        → Stands d result c (exchange (Some (payout_request row)) (Some (reply_shown reply.now)) ∷ since) state owed }
+    ensures may_put { may_put_of result ≤ payout_puts row }
+{
+    match row {
+        Payout::Enables { id, count, halted } => first_try(
+            device,
+            Stage::Pays {
+                row: Payout::Counts { id, count, halted },
+            },
+        ),
+        Payout::Counts { id, count, halted } => opens(device, id, count, halted, life_in(reply)),
+        Payout::Dispenses { owed, halted, .. } => dispensed(device, owed, halted),
+        Payout::Waits { closing, owed } => waited(device, closing, owed, is_paid_out(reply)),
+        Payout::Stops { closing, owed } => settles(device, closing, owed, false),
+        Payout::Recounts { owed, .. } => closes(owed, life_in(reply)),
+    }
+}
+
+/// The payment or the settlement at the row that waits for the last coin, or that stops the hopper before.
+fn settles(device: Target, closing: Closing, owed: Owed, halted: bool) -> Job
+    ensures { result ≡ Job.Asks device (Pays (settling closing owed halted)) 0 }
+{
+    let row = if halted {
+        Payout::Stops { closing, owed }
+    } else {
+        Payout::Waits { closing, owed }
+    };
+    first_try(device, Stage::Pays { row })
+}
+
+/// The payment after its dispense was sent, whatever was heard of it.
+#[tactic(auto, using(crate::proofs::Payments::dispense_leaves))]
+pub(crate) fn dispensed(device: Target, owed: Owed, halted: bool) -> Job
+    ensures device { (d : DeviceSetup) (c : Command) (since : List Line) (state : EpochState)
+        (open_order : Option OpenOrder) (serial failed : ℕ) (got : Option shown.Reply)
+        → Asking d device (Pays (Dispenses serial owed halted)) failed c since state open_order
+        → Stands d result c (exchange (Some (Dispense serial owed.order.count)) got ∷ since) state open_order }
+    ensures may_put { may_put_of result ≤ 1 }
+{
+    settles(device, Closing::Payment, owed, halted)
+}
+
+/// The payment or the settlement after it was told whether nothing is left to pay.
+#[tactic(auto, using(crate::proofs::Payments::status_paid, crate::proofs::Payments::status_goes_on))]
+fn waited(device: Target, closing: Closing, owed: Owed, is_paid_out: bool) -> Job
+    ensures device { (d : DeviceSetup) (c : Command) (since : List Line) (state : EpochState)
+        (open_order : Option OpenOrder) (failed : ℕ) (y : shown.Reply)
+        → is_paid_out ≡ answer_ends GetStatus y
+        → Asking d device (Pays (Waits closing owed)) failed c since state open_order
+        → Stands d result c (exchange (Some GetStatus) (Some y) ∷ since) state open_order }
+    ensures may_put { may_put_of result ≤ 1 }
+{
+    let row = if is_paid_out {
+        Payout::Recounts { closing, owed }
+    } else {
+        Payout::Waits { closing, owed }
+    };
+    first_try(device, Stage::Pays { row })
+}
+
+/// The payment after it read the life count of its hopper: its order is to be opened.
+#[tactic(auto, using(crate::proofs::Payments::count_opens))]
+fn opens(device: Target, id: u32, count: u8, halted: bool, life: u32) -> Job
+    requires { life < 2 ^ 24 }
+    ensures device { (d : DeviceSetup) (c : Command) (since : List Line) (state : EpochState)
+        (owed : Option OpenOrder) (failed : ℕ)
+        → Asking d device (Pays (Counts id count halted)) failed c since state owed
+        → Stands d result c (exchange (Some GetLife) (Some (shown.life life)) ∷ since) state owed }
+    ensures may_put { may_put_of result ≤ 2 }
+{
+    let owed = Owed {
+        order: OpenOrder {
+            id,
+            addr: device.addr,
+            count,
+            life,
+        },
+    };
+    Job::OrderOpens {
+        device,
+        owed,
+        halted,
+    }
+}
+
+/// The payment or the settlement after it read the life count of its hopper again: its order is to be closed.
+#[tactic(auto, using(crate::proofs::Payments::recount_closes))]
+fn closes(owed: Owed, life: u32) -> Job
+    requires { life < 2 ^ 24 }
+    ensures device { (d : DeviceSetup) (device : Target) (closing : Closing) (c : Command) (since : List Line)
+        (state : EpochState) (open_order : Option OpenOrder) (failed : ℕ)
+        → Asking d device (Pays (Recounts closing owed)) failed c since state open_order
+        → Stands d result c (exchange (Some GetLife) (Some (shown.life life)) ∷ since) state open_order }
+    ensures may_put { may_put_of result ≤ 1 }
+{
+    let entry = close(&owed.order, life);
+    let end = end_of(&entry);
+    Job::OrderCloses { entry, end }
+}
+
+/// How a job ends that closes an order by this record.
+fn end_of(entry: &Record) -> End
+    ensures { result ≡ closing_end entry.now }
+{
+    match entry {
+        Record::Closed { .. } => End::Closed,
+        _ => End::OddLife,
+    }
+}
+
+/// The life count that the reply to the question for it is.
+fn life_in(reply: &Reply<'_>) -> u32
+    requires wanted { form_shown (reply_shown reply.now) ≡ Some form.Life }
+    requires life { FitsLife (reply_shown reply.now) }
+    ensures value { reply_shown reply.now ≡ shown.life result }
+    ensures fits { result < 2 ^ 24 }
+{
+    match reply {
+        Reply::Life { count } => *count,
+        _ => unreachable!(),
+    }
+}
+
+/// Whether the reply to the question how a payout goes tells that nothing is left to pay.
+fn is_paid_out(reply: &Reply<'_>) -> bool
+    requires { form_shown (reply_shown reply.now) ≡ Some form.Status }
+    ensures { result ≡ answer_ends GetStatus (reply_shown reply.now) }
+{
+    match reply {
+        Reply::Status { remaining, .. } => *remaining == 0,
+        _ => unreachable!(),
+    }
+}
+
+/// The payment or the settlement after a halt, where it can be halted: what is halted already stays as it is.
+pub(crate) fn halted(device: Target, row: Payout, failed: u8) -> Job
+    ensures { result ≡ Job.Asks device (Pays (halted_row row)) (halted_tries row failed) }
+{
+    match row {
+        Payout::Enables { id, count, .. } => asks(
+            device,
+            Payout::Enables {
+                id,
+                count,
+                halted: true,
+            },
+            failed,
+        ),
+        Payout::Counts { id, count, .. } => asks(
+            device,
+            Payout::Counts {
+                id,
+                count,
+                halted: true,
+            },
+            failed,
+        ),
+        Payout::Dispenses { serial, owed, .. } => {
+            asks(
+                device,
+                Payout::Dispenses {
+                    serial,
+                    owed,
+                    halted: true,
+                },
+                failed,
+            )
+        }
+        Payout::Waits { closing, owed } => asks(device, Payout::Stops { closing, owed }, 0),
+        _ => asks(device, row, failed),
+    }
+}
+
+/// The job at a row after so many failed tries.
+fn asks(device: Target, row: Payout, failed: u8) -> Job
+    ensures { result ≡ Job.Asks device (Pays row) failed }
+{
+    Job::Asks {
+        device,
+        stage: Stage::Pays { row },
+        failed,
+    }
+}
