@@ -11,7 +11,7 @@ use Rattle.cct_model.specs.Legal.{Legal}
 use Rattle.cct_model.specs.lines.entry.Entry.TheVariants as entry
 use Rattle.cct_model.specs.lines.entry.LineKind.{LineKind}
 use Rattle.cct_model.specs.Script.{script, Refusal}
-use Rattle.cct_laws.proofs.Scripts.{played_holds}
+use Rattle.cct_laws.proofs.Scripts.{played_in_order, played_covers, played_paid}
 use Rattle.cct_bench.specs.declared.outcome.Status.{Status}
 use Rattle.cct_bench.specs.declared.outcome.Status.TheVariants as status
 use Rattle.cct_bench.specs.declared.play.Ending.{Ending}
@@ -32,7 +32,6 @@ ran_by : (bytes : List ℕ) (how : Ending) (s : Status) (left : Option (List ℕ
     (p : Played bytes how left Before Broken) → Ends s bytes p.taken p.played p.unplayed p.transcript Written Breaks
     → Ran bytes s left Written Breaks
 ran_by bytes how s left Before Written Broken Breaks p e =
-    let holds_of = played_holds None bytes p.played p.unplayed p.transcript in
     record {
       taken = p.taken;
       rest = p.rest;
@@ -43,8 +42,12 @@ ran_by bytes how s left Before Written Broken Breaks p e =
       left_is = p.left_is;
       steps_are = p.steps_are;
       legal = p.legal;
-      in_order = λ d own honest. (holds_of d p.steps_are p.legal honest own).0;
-      covers = λ d own honest. (holds_of d p.steps_are p.legal honest own).1;
+      in_order = λ d own honest.
+          played_in_order None bytes p.played p.unplayed p.transcript d p.steps_are p.legal honest own;
+      covers = λ d own honest.
+          played_covers None bytes p.played p.unplayed p.transcript d p.steps_are p.legal honest own;
+      paid = λ d own paying honest.
+          played_paid None bytes p.played p.unplayed p.transcript d p.steps_are p.legal honest own paying;
       ends = e;
     }
 
@@ -139,7 +142,6 @@ at_once : (bytes : List ℕ) (Written : List Entry → Type 0) (Breaks : List En
     → Ran bytes status.OutOfMemory (Some bytes) Written Breaks
 at_once bytes Written Breaks wrote =
     let legal : Legal None (script bytes).setup [] [] = refl in
-    let holds_of = played_holds None bytes [] (script bytes).steps [] in
     record {
       taken = [];
       rest = bytes;
@@ -150,8 +152,9 @@ at_once bytes Written Breaks wrote =
       left_is = refl;
       steps_are = refl;
       legal = legal;
-      in_order = λ d own honest. (holds_of d refl legal honest own).0;
-      covers = λ d own honest. (holds_of d refl legal honest own).1;
+      in_order = λ d own honest. played_in_order None bytes [] (script bytes).steps [] d refl legal honest own;
+      covers = λ d own honest. played_covers None bytes [] (script bytes).steps [] d refl legal honest own;
+      paid = λ d own paying honest. played_paid None bytes [] (script bytes).steps [] d refl legal honest own paying;
       ends = (refl, wrote);
     }
 

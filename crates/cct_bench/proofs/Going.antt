@@ -18,11 +18,11 @@ use Rattle.cct_model.specs.Script.{Script, script, closed_script, unfinished}
 use Rattle.cct_model.specs.Records.{hopper_of}
 use Rattle.cct_model.specs.Setup.{IsSoundSetup}
 use Rattle.cct_model.specs.Transcript.{onto}
-use Rattle.cct_laws.specs.Law.{IsSetupOfToday}
 use Rattle.cct_laws.proofs.Payments.{legal_ids}
-use Rattle.cct_laws.proofs.Scripts.{setup_of_today}
+use Rattle.cct_laws.proofs.Scripts.{setup_sound}
 use Rattle.cct_script.specs.Giving.{Standing}
-use Rattle.cct_world.specs.Place.{AreOwned}
+use Rattle.cct_world.specs.Machine.{StepOwnsItsPut}
+use Rattle.cct_world.proofs.Owned.{AreOwned, step_owns_its_put}
 use Rattle.cct_bench.specs.declared.lines.ScriptStop.{ScriptStop}
 use Rattle.cct_bench.specs.declared.lines.ScriptStop.TheVariants as stop
 use Rattle.cct_bench.specs.declared.play.Ending.TheVariants as ending
@@ -190,7 +190,8 @@ step_legal taken came held more rest number stage next setup played transcript r
     (legal_came taken came more played transcript legal)
     (subst (λ by. Entries None by (onto [] transcript) s (reverse report)) same entries)
 
--- each open order is the one that was opened last with its id, at its own hopper
+-- each open order is the one that was opened last with its id, at its own hopper; so an order that a step closes is
+-- its own address's
 owned_by : (setup : Setup) (played : List Step) (transcript : List Entry) → IsSoundSetup setup
     → Legal None setup played transcript → AreOwned setup (onto [] transcript)
 owned_by setup played transcript sound legal d there o is =
@@ -201,15 +202,16 @@ going_owned : (left0 left left1 : Option (List ℕ)) (held rest : List ℕ) (num
     (setup : Setup) (Before Written : List Entry → Type 0) (s : Step) → IsDone setup next
     → (g : Going left0 left held number stage Before Written)
     → Came held left left1 (λ bytes. ScriptGoesOn number stage bytes (plays s next) rest)
-    → AreOwned setup (onto [] g.transcript)
+    → StepOwnsItsPut setup (onto [] g.transcript) s
 going_owned left0 left left1 held rest number stage next setup Before Written s done g r =
     let bytes = (g.taken ++ r.0) ++ [] in
     let says = step_says g.taken r.0 held [] rest number stage next g.played s (g.says (r.0 ++ [])) r.2 in
     let same : (script bytes).setup ≡ setup =
     says.setup ∙ setup_stays (number + 1) setup next (slice_split is_line_feed (rest ++ [])) done in
-    subst (λ by. AreOwned by (onto [] g.transcript)) same
-    (owned_by (script bytes).setup g.played g.transcript (setup_of_today bytes).sound
-    (legal_came g.taken r.0 [] g.played g.transcript (g.legal (r.0 ++ []))))
+    subst (λ by. StepOwnsItsPut by (onto [] g.transcript) s) same
+    (step_owns_its_put (script bytes).setup (onto [] g.transcript) s
+    (owned_by (script bytes).setup g.played g.transcript (setup_sound bytes)
+    (legal_came g.taken r.0 [] g.played g.transcript (g.legal (r.0 ++ [])))))
 
 pub going_plays : (left0 left left1 : Option (List ℕ)) (held rest : List ℕ) (number : ℕ) (stage next : Stage)
     (setup : Setup) (Before After : List Entry → Type 0) (s : Step) (Written WritesThem Written1 : List Entry → Type 0)
@@ -409,14 +411,14 @@ played_broke (Some bytes) left left1 held rest number stage next setup Before Af
       };
     }
 
--- the setup that was read is one of today
+-- the setup that was read is sound
 pub going_setup : (left0 left : Option (List ℕ)) (held : List ℕ) (number : ℕ) (setup : Setup)
     (Stands Written : List Entry → Type 0) →
-    Going left0 left held number (at_steps setup) Stands Written → IsSetupOfToday setup
+    Going left0 left held number (at_steps setup) Stands Written → IsSoundSetup setup
 going_setup left0 left held number setup Stands Written g =
-    subst IsSetupOfToday ((g.says []).setup
+    subst IsSoundSetup ((g.says []).setup
     ∙ setup_stays number setup (at_steps setup) (slice_split is_line_feed (held ++ [])) refl)
-    (setup_of_today (g.taken ++ []))
+    (setup_sound (g.taken ++ []))
 
 -- there was no memory before the first step
 pub played_none : (left0 left : Option (List ℕ)) (held : List ℕ) (number : ℕ) (stage : Stage)

@@ -8,7 +8,7 @@ use Rattle.cct_model.specs.lines.command.Step.{Step}
 use Rattle.cct_model.specs.lines.entry.LineKind.{LineKind}
 use Rattle.cct_model.specs.lines.entry.LineKind.TheVariants as kind
 use Rattle.cct_model.specs.Grammar.{setup_line, step_line, added}
-use Rattle.cct_model.specs.Script.{word_of, is_setup_word, is_step_word, is_known, at_setup, at_steps, Read, opens}
+use Rattle.cct_model.specs.Script.{word_of, is_later_word, is_known, at_setup, at_steps, Read, opens}
 use Rattle.cct_model.specs.Script.{plays, refuses, opened, read_known, read_setup_line, read_step_line, read_form}
 use Rattle.cct_model.specs.Script.{IsInRange}
 use Rattle.cct_model.specs.Legal.{is_played}
@@ -18,23 +18,15 @@ use Rattle.cct_bench.specs.Setup.{stage_of, opened_by}
 use Rattle.cct_bench.specs.Playing.{is_end, read_as, CanPlay}
 use Rattle.cct_laws.proofs.Said.{IfSaid, IsToday, step_said}
 
--- a word that is no setup word of today
-pub other_setup_word : (setup : Setup) (line : List ℕ) → is_setup_word (word_of line) ≡ false
-    → read_form (at_setup setup) line ≡ refuses kind.Word
-unfolding read_form
-other_setup_word setup line later = rw later refl
-
 -- a setup line is what it says
-pub setup_form : (setup : Setup) (line : List ℕ) → is_setup_word (word_of line) ≡ true
-    → read_form (at_setup setup) line ≡ read_setup_line setup (setup_line line)
+setup_form : (setup : Setup) (line : List ℕ) → read_form (at_setup setup) line ≡ read_setup_line setup (setup_line line)
 unfolding read_form
-setup_form setup line today = rw today refl
+setup_form setup line = refl
 
 -- a line that is in no form
-pub setup_refused : (setup : Setup) (line : List ℕ) (why : LineKind) → is_setup_word (word_of line) ≡ true
-    → setup_line line ≡ Err why →
+pub setup_refused : (setup : Setup) (line : List ℕ) (why : LineKind) → setup_line line ≡ Err why →
     read_form (at_setup setup) line ≡ refuses why
-setup_refused setup line why today e = setup_form setup line today ∙ ap (read_setup_line setup) e
+setup_refused setup line why e = setup_form setup line ∙ ap (read_setup_line setup) e
 
 -- what is added
 added_opens : (setup new : Setup) (said : SetupLine) → added setup said ≡ Ok new
@@ -55,17 +47,15 @@ added_refuses setup (says.Value addr place value id) why e = ap opened e
 added_refuses setup (says.Named addr texts) why e = ap opened e
 added_refuses setup says.Begin why e = cc e
 
-pub setup_adds : (setup new : Setup) (line : List ℕ) (said : SetupLine) → is_setup_word (word_of line) ≡ true
-    → setup_line line ≡ Ok said → added setup said ≡ Ok new →
-    read_form (at_setup setup) line ≡ opens (stage_of (opened_by said) new)
-setup_adds setup new line said today e adds = setup_form setup line today
-    ∙ (ap (read_setup_line setup) e ∙ added_opens setup new said adds)
+pub setup_adds : (setup new : Setup) (line : List ℕ) (said : SetupLine) → setup_line line ≡ Ok said
+    → added setup said ≡ Ok new → read_form (at_setup setup) line ≡ opens (stage_of (opened_by said) new)
+setup_adds setup new line said e adds =
+    setup_form setup line ∙ (ap (read_setup_line setup) e ∙ added_opens setup new said adds)
 
-pub setup_adds_not : (setup : Setup) (line : List ℕ) (said : SetupLine) (why : LineKind)
-    → is_setup_word (word_of line) ≡ true → setup_line line ≡ Ok said →
-    added setup said ≡ Err why → read_form (at_setup setup) line ≡ refuses why
-setup_adds_not setup line said why today e not_added = setup_form setup line today
-    ∙ (ap (read_setup_line setup) e ∙ added_refuses setup said why not_added)
+pub setup_adds_not : (setup : Setup) (line : List ℕ) (said : SetupLine) (why : LineKind) → setup_line line ≡ Ok said
+    → added setup said ≡ Err why → read_form (at_setup setup) line ≡ refuses why
+setup_adds_not setup line said why e not_added =
+    setup_form setup line ∙ (ap (read_setup_line setup) e ∙ added_refuses setup said why not_added)
 
 -- an error that is passed up is the one that came
 pub passes_up : {T E : Type 0} (r : Result T E) (why : E) → IsErr r × IsErrAnd r (λ e. e ≡ why) → r ≡ Err why
@@ -83,18 +73,18 @@ setup_passes setup new line r why h refused =
     (λ e. read_form (at_setup setup) line ≡ refuses e))
     (sym (passes_up r why h)) refused
 
--- a word that is no step word of today
-pub other_step_word : (setup : Setup) (line : List ℕ) → is_step_word (word_of line) ≡ false
+-- a step word that isn't played
+pub later_step_word : (setup : Setup) (line : List ℕ) → is_later_word (word_of line) ≡ true
     → read_form (at_steps setup) line ≡ refuses kind.Word
 unfolding read_form
-other_step_word setup line later = rw later refl
+later_step_word setup line later = rw later refl
 
--- a step line is what it says
-pub step_form : (setup : Setup) (line : List ℕ) (read : Read) → is_step_word (word_of line) ≡ true
+-- any other step line is what it says
+pub step_form : (setup : Setup) (line : List ℕ) (read : Read) → is_later_word (word_of line) ≡ false
     → read_step_line setup (step_line line) ≡ read →
     read_form (at_steps setup) line ≡ read
 unfolding read_form
-step_form setup line read today e = rw today e
+step_form setup line read played e = rw played e
 
 -- a step whose device is there is played
 known_plays : (setup : Setup) (s : Step) → is_known setup s ≡ true → read_known setup s ≡ plays s (at_steps setup)
@@ -113,23 +103,25 @@ unknown_reads : (setup : Setup) (s : Step) → is_known setup s ≡ false
 unknown_reads setup step.End unknown = cc unknown
 unknown_reads setup s unknown = known_refuses setup s unknown
 
-pub step_unknown : (setup : Setup) (line : List ℕ) (s : Step) → is_step_word (word_of line) ≡ true
+pub step_unknown : (setup : Setup) (line : List ℕ) (s : Step) → is_later_word (word_of line) ≡ false
     → step_line line ≡ Ok s → is_known setup s ≡ false →
     read_form (at_steps setup) line ≡ refuses kind.Device
-step_unknown setup line s today says unknown =
-    step_form setup line (refuses kind.Device) today (ap (read_step_line setup) says ∙ unknown_reads setup s unknown)
+step_unknown setup line s played says unknown =
+    step_form setup line (refuses kind.Device) played (ap (read_step_line setup) says ∙ unknown_reads setup s unknown)
 
 -- what a step line says
-pub step_reads : (setup : Setup) (line : List ℕ) (s : Step) → is_step_word (word_of line) ≡ true → step_line line ≡ Ok s
-    → is_known setup s ≡ true →
+pub step_reads : (setup : Setup) (line : List ℕ) (s : Step) → is_later_word (word_of line) ≡ false
+    → step_line line ≡ Ok s → is_known setup s ≡ true →
     read_form (at_steps setup) line ≡ read_as setup s
-step_reads setup line s today says known =
-    step_form setup line (read_as setup s) today (ap (read_step_line setup) says ∙ known_reads setup s known)
+step_reads setup line s played says known =
+    step_form setup line (read_as setup s) played (ap (read_step_line setup) says ∙ known_reads setup s known)
 
--- a step of today that is no end
+-- a step that is played and is no end
 of_today : (s : Step) → is_end s ≡ false → IsToday s → IsInRange s × IsTrue (is_played s)
 of_today (step.Coin addr place) e today = (today, refl)
 of_today (step.Alien addr) e today = (tt, refl)
+of_today (step.Fall addr) e today = (tt, refl)
+of_today (step.Jam addr) e today = (tt, refl)
 of_today (step.Reset addr) e today = (tt, refl)
 of_today (step.Fault f) e today = (today.0, refl)
 of_today (step.Next addr) e today = (tt, refl)
@@ -137,8 +129,8 @@ of_today (step.Command c) e today = (today.1, today.0)
 of_today step.End e today = cc e
 of_today s e today = absurd today
 
-pub step_can : (setup : Setup) (line : List ℕ) (s : Step) → is_step_word (word_of line) ≡ true → step_line line ≡ Ok s
-    → is_known setup s ≡ true → is_end s ≡ false → CanPlay setup s
-step_can setup line s today says known going =
-    let plays = of_today s going (subst (IfSaid IsToday) says (step_said line today)) in
+pub step_can : (setup : Setup) (line : List ℕ) (s : Step) → is_later_word (word_of line) ≡ false
+    → step_line line ≡ Ok s → is_known setup s ≡ true → is_end s ≡ false → CanPlay setup s
+step_can setup line s played says known going =
+    let plays = of_today s going (subst (IfSaid IsToday) says (step_said line played)) in
     record { in_range = plays.0; known = known; played = plays.1 }

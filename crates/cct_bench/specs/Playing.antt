@@ -6,7 +6,7 @@ use Rattle.cct_model.specs.terms.device.Setup.{Setup}
 use Rattle.cct_model.specs.lines.entry.Entry.{Entry}
 use Rattle.cct_model.specs.Legal.{Entries, is_played}
 use Rattle.cct_model.specs.Script.{Read, at_steps, at_end, opens, plays, is_known, IsInRange}
-use Rattle.cct_world.specs.Place.{AreOwned}
+use Rattle.cct_world.specs.Machine.{StepOwnsItsPut}
 
 -- The step is `end`.
 abbrev pub is_end : Step → Bool
@@ -17,18 +17,18 @@ is_end s = false
 abbrev pub read_as : Setup → Step → Read
 read_as setup s = if is_end s then opens (at_end setup) else plays s (at_steps setup)
 
--- A step that a machine of this setup plays: its numbers are in their ranges, it names a device that is there, and it
--- is one of those that are played today.
+-- A step that a machine of this setup plays: its numbers are in their ranges, it names a device that is there and of the
+-- kind that it needs, and it is one of those that are played.
 pub record CanPlay (setup : Setup) (s : Step) : Type 0 where
   pub in_range : IsInRange s
   pub known : IsTrue (is_known setup s)
   pub played : IsTrue (is_played s)
 
--- A step gives these entries, oldest first, whatever is behind it, where each open order was opened at its own hopper:
+-- A step gives these entries, oldest first, whatever is behind it, where an order that it closes is its own address's:
 -- one past stands for the machine before, and the past with them for the machine after.
 abbrev pub Plays : (List Entry → Type 0) → (List Entry → Type 0) → Setup → Step → List Entry → Type 0
 Plays Before After setup s report =
-    (past : List Entry) → Before past → AreOwned setup past
+    (past : List Entry) → Before past → StepOwnsItsPut setup past s
     → Entries None setup past s (reverse report) × After (reverse report ++ past)
 
 -- A step was played, and its entries were written so, which holds by the answer.

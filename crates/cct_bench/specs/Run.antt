@@ -8,6 +8,8 @@ use Rattle.cct_model.specs.terms.device.Setup.{Setup}
 use Rattle.cct_model.specs.terms.device.DeviceSetup.{DeviceSetup}
 use Rattle.cct_model.specs.lines.entry.Entry.{Entry}
 use Rattle.cct_model.specs.Claims.{InOrder, Covers, Pace}
+use Rattle.cct_model.specs.Device.{IsHopper}
+use Rattle.cct_model.specs.Paid.{Paid}
 use Rattle.cct_model.specs.Honest.{Honest}
 use Rattle.cct_laws.specs.Law.{IsOf, lines_in}
 use Rattle.cct_model.specs.lines.entry.Entry.TheVariants as entry
@@ -69,8 +71,9 @@ Ends s bytes taken played unplayed transcript Written Breaks =
 
 -- A run over a script of these bytes: what it took of them, the steps that it played, and their transcript; and what it
 -- wrote, where `Written` holds of entries that were written whole, and `Breaks` where a put failed in the second list.
--- Where the wire was honest, the posts of each device are its accepted coins in order, none twice; and at each
--- device that kept the pace, none is lost in silence.
+-- Where the wire was honest, the posts of each device are its accepted coins in order, none twice; at each device that
+-- kept the pace, none is lost in silence; and at each hopper, each order is paid at most once, and closed with exactly
+-- the coins that fell.
 pub record Ran (bytes : List ℕ) (s : Status) (left : Option (List ℕ)) (Written : List Entry → Type 0)
     (Breaks : List Entry → List Entry → Type 0) : Type 0 where
   pub taken : List ℕ
@@ -85,6 +88,8 @@ pub record Ran (bytes : List ℕ) (s : Status) (left : Option (List ℕ)) (Writt
   pub in_order : (d : DeviceSetup) → IsOf (script bytes).setup d → Honest transcript → InOrder (lines_in d transcript)
   pub covers : (d : DeviceSetup) → IsOf (script bytes).setup d → Honest transcript → Pace (lines_in d transcript)
       → Covers (lines_in d transcript)
+  pub paid : (d : DeviceSetup) → IsOf (script bytes).setup d → IsHopper d.body → Honest transcript
+      → Paid (lines_in d transcript)
   pub ends : Ends s bytes taken played unplayed transcript Written Breaks
 
 -- How a run ends where a script is read no further.

@@ -38,8 +38,8 @@ pub fn bench<S: Source, K: Sink>(
     script: &mut S,
     out: &mut K,
 ) -> Status
-    // With the word `run`: what was taken, played and written, and that over an honest wire the posts of
-    // each device are in order and cover its coins.
+    // With the word `run`: what was taken, played and written, and that over an honest wire the posts of each device are
+    // in order and cover its coins, and each order of a hopper is paid at most once.
     ensures ran { IsRun words.now → IfSome (S.left script.old) (λ bytes. Ran bytes result (S.left script.new)
         (Wrote K.written K.puts out.old out.new) (Broke K.written K.puts out.old out.new)) }
 

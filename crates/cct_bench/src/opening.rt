@@ -3,13 +3,13 @@ ghost use Rattle.std.specs.Prelude.{◌≡◌, ◌≤◌, ◌+◌, Err, Ok, IfOk
 ghost use Rattle.std.specs.Result.{IfErr};
 ghost use Rattle.cct_edge.specs.Bytes.{TellsAsBefore};
 ghost use Rattle.cct_edge.specs.Faults.{Rose};
-ghost use Rattle.cct_model.specs.Script.{at_setup, opens, refuses, is_setup_word, read_form};
+ghost use Rattle.cct_model.specs.Script.{at_setup, opens, refuses, read_form};
 ghost use Rattle.cct_script.specs.Giving.{standing_of};
 ghost use Rattle.cct_bench.specs.Lines.{IsNext, ScriptGoesOn, StopsAt, Came};
 ghost use Rattle.cct_bench.specs.SetupLines.{OpensLine};
 ghost use Rattle.cct_bench.specs.Setup.{stage_of, opened_by};
 
-use crate::lines::{ScriptStop, before_end, word_of};
+use crate::lines::{ScriptStop, before_end};
 use cct_edge::Source;
 use cct_model::{LineKind, Setup, SetupLine};
 use cct_script::{Lines, add, read_setup_line};
@@ -21,16 +21,6 @@ pub enum Opened {
     Added,
     /// The setup is done, and the steps begin.
     Begun,
-}
-
-/// Whether a word is one of the setup words that are played today.
-fn is_setup_word(word: &[u8]) -> bool
-    ensures { result ≡ is_setup_word word.now }
-{
-    word == b"acceptor".as_slice()
-        || word == b"value".as_slice()
-        || word == b"texts".as_slice()
-        || word == b"begin".as_slice()
 }
 
 fn opened_by(line: &SetupLine) -> Opened
@@ -48,9 +38,6 @@ fn take_setup_line(setup: &mut Setup, line: &[u8]) -> Result<Opened, LineKind>
         (λ opened. read_form (at_setup setup.old) line.now ≡ opens (stage_of opened setup.new))
         (λ why. read_form (at_setup setup.old) line.now ≡ refuses why) }
 {
-    if !is_setup_word(word_of(line)) {
-        return Err(LineKind::Word);
-    }
     let said = read_setup_line(line)?;
     add(setup, &said)?;
     Ok(opened_by(&said))

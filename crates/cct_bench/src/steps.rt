@@ -3,7 +3,7 @@ ghost use Rattle.std.specs.Prelude.{◌≡◌, ◌≤◌, ◌+◌, false, Err, O
 ghost use Rattle.std.specs.Result.{IfErr};
 ghost use Rattle.cct_edge.specs.Bytes.{TellsAsBefore};
 ghost use Rattle.cct_edge.specs.Faults.{Rose};
-ghost use Rattle.cct_model.specs.Script.{at_steps, refuses, is_step_word, read_form};
+ghost use Rattle.cct_model.specs.Script.{at_steps, refuses, is_later_word, read_form};
 ghost use Rattle.cct_script.specs.Giving.{standing_of};
 ghost use Rattle.cct_world.specs.World.{setup_of};
 ghost use Rattle.cct_bench.specs.Lines.{IsNext, ScriptGoesOn, StopsAt, Came};
@@ -15,22 +15,11 @@ use cct_model::{LineKind, Step};
 use cct_script::{Lines, read_step_line};
 use cct_world::World;
 
-/// Whether a word is one of the step words that are played today.
-fn is_step_word(word: &[u8]) -> bool
-    ensures { result ≡ is_step_word word.now }
+/// Whether a word is one of the step words that aren't played yet.
+fn is_later_word(word: &[u8]) -> bool
+    ensures { result ≡ is_later_word word.now }
 {
-    word == b"coin".as_slice()
-        || word == b"alien".as_slice()
-        || word == b"reset".as_slice()
-        || word == b"next".as_slice()
-        || word == b"fault".as_slice()
-        || word == b"start".as_slice()
-        || word == b"round".as_slice()
-        || word == b"stop".as_slice()
-        || word == b"scan".as_slice()
-        || word == b"ident".as_slice()
-        || word == b"path".as_slice()
-        || word == b"end".as_slice()
+    word == b"vend".as_slice() || word == b"crash".as_slice() || word == b"balance".as_slice()
 }
 
 /// Whether a step is `end`.
@@ -47,7 +36,7 @@ fn take_step_line(world: &World<'_>, line: &[u8], step: &mut Step) -> Result<(),
         (λ why. read_form (at_steps (setup_of world.now)) line.now ≡ refuses why) }
     ensures can { OnOk result (is_end step.new ≡ false → CanPlay (setup_of world.now) step.new) }
 {
-    if !is_step_word(word_of(line)) {
+    if is_later_word(word_of(line)) {
         return Err(LineKind::Word);
     }
     match read_step_line(line) {

@@ -4,22 +4,26 @@ use cct_edge::{MemSink, MemSource};
 use std::alloc::Global;
 use std::test::Fail;
 
-/// Each word of a script once at least.
+/// Each word of a script that is played, once at least.
 const SCRIPT: &[u8] =
-    b"acceptor 2 simple 1 0\nvalue 2 5 100 XX100A\ntexts 2 A B C D\nbegin\nstart 2 0010\nnext 2\nnext 2\nnext 2\n\
-      next 2\ncoin 2 5\nalien 2\nround 2\nnext 2\nnext 2\nnext 2\nfault devices -\nfault host -\nfault whole -\n\
-      path 2 5 3\nnext 2\nstop 2\nident 2\nscan\nnext 0\nreset 2\nend\n";
+    b"acceptor 2 simple 1 0\nvalue 2 5 100 XX100A\ntexts 2 A B C D\nhopper 3 simple 7 10 20\nbegin\nstart 2 0010\n\
+      next 2\nnext 2\nnext 2\nnext 2\ncoin 2 5\nalien 2\nround 2\nnext 2\nnext 2\nnext 2\n\
+      fault devices -\nfault host -\nfault whole -\npath 2 5 3\nnext 2\nstop 2\nident 2\nscan\nnext 0\n\
+      pay 3 1 2\nhalt 3\nfall 3\njam 3\nsettle 3\nnext 3\nreset 2\nend\n";
 
 const TRANSCRIPT: &[u8] = b"ok start 2 0010\nwire 2 02000101fc 02000101fc01000200fd\n\
       wire 2 020001e518 020001e518010b02000000000000000000000000f2\nput epoch 2 0010\n\
       wire 2 020201e7100004 020201e710000401000200fd\nstarted 2\naccepted 2 5 1\nalien 2\nok round 2\n\
       wire 2 020001e518 020001e518010b02000200010501000000000000e9\nwire 2 020001e617 020001e617010202001000eb\n\
       put reading 2 2 0 5/1\nposted 2\nfault devices -\nfault host -\nfault whole -\nok path 2 5 3\n\
-      wire 2 020201d2050321 -\nno stop 2 busy\nno ident 2 busy\nok scan\nwire 0 000001fd02 000001fd0202\nreset 2\n";
+      wire 2 020201d2050321 -\nno stop 2 busy\nno ident 2 busy\nok scan\nwire 0 000001fd02 000001fd020203\n\
+      ok pay 3 1 2\nok halt 3\nnofall 3\nnojam 3\nno settle 3 busy\n\
+      wire 3 030101a4a5b2 030101a4a5b201000300fc\nreset 2\n";
 
 /// How many transcript lines the lines of that script give, one after the other.
-const LINES: [usize; 26] = [
-    0, 0, 0, 0, 1, 1, 1, 1, 2, 1, 1, 1, 1, 1, 2, 1, 1, 1, 1, 1, 1, 1, 1, 1, 1, 0,
+const LINES: [usize; 33] = [
+    0, 0, 0, 0, 0, 1, 1, 1, 1, 2, 1, 1, 1, 1, 1, 2, 1, 1, 1, 1, 1, 1, 1, 1, 1, 1, 1, 1, 1, 1, 1, 1,
+    0,
 ];
 
 /// Plays that script from a source that gives at most so many bytes a take, with the takes and puts of these numbers

@@ -2,7 +2,7 @@
 //! against every request and event, and pieces that are damaged, cut, lengthened or for others while it pays.
 ghost use Rattle.cct_terms.specs.Device.{IsHopper, IsPrinting, IsSound, IsWord};
 
-use crate::Hopper;
+use crate::{DispenseNo, Hopper};
 use arrayvec::ArrayVec;
 use cct_terms::{CheckKind, DeviceBody, DeviceSetup, MOST_SENT, Name, Texts};
 use std::test::Fail;
@@ -64,7 +64,7 @@ const TABLE: [Meets; 97] = [
     // Off: it takes no dispense, has nothing to stop, and no coin falls or sticks.
     Heard(b"\x03\x01\x01\xa4\x00\x57", b"\x01\x00\x03\x00\xfc"),
     Heard(
-        b"\x03\x04\x01\xa7\x01\x02\x03\x02\x49",
+        b"\x03\x04\x01\xa7\x01\x02\x03\x04\x47",
         b"\x01\x00\x03\x05\xf7",
     ),
     Heard(b"\x03\x00\x01\xac\x50", b"\x01\x01\x03\x00\x00\xfb"),
@@ -247,7 +247,7 @@ const TABLE: [Meets; 97] = [
         b"\x03\x09\x01\xa7\x00\x00\x00\x00\x00\x00\x00\x00\x00\x4c",
         b"\x01\x00\x03\x05\xf7",
     ),
-    Heard(b"\x03\x01\x01\xa1\x01\x59", b"\x01\x00\x03\x05\xf7"),
+    Heard(b"\x03\x00\x01\xa1\x5b", b"\x01\x00\x03\x05\xf7"),
     Heard(b"\x03\x00\x01\xa0\x5c", b"\x01\x00\x03\x05\xf7"),
     Heard(b"\x03\x00\x01\xe5\x17", &[]),
     Heard(b"\x03\x00\x01\xe6\x16", &[]),
@@ -255,67 +255,94 @@ const TABLE: [Meets; 97] = [
     Heard(b"\x03\x00\x01\xe1\x1b", &[]),
 ];
 
-/// Each request cut, lengthened, with another check, for another address and for all, and with a data byte too many or
-/// too few.
-const HOSTILE: [&[u8]; 57] = [
-    b"\x03\x00\x01\xfe",
-    b"\x03\x00\x01\xfe\xfe\x00",
-    b"\x03\x00\x01\xfe\xff",
-    b"\x04\x00\x01\xfe\xfd",
-    b"\x00\x00\x01\xfe\x01",
-    b"\x03\x01\x01\xfe\x00\xfd",
-    b"\x03\x00\x01\x01",
-    b"\x03\x00\x01\x01\xfb\x00",
-    b"\x03\x00\x01\x01\xfc",
-    b"\x04\x00\x01\x01\xfa",
-    b"\x00\x00\x01\x01\xfe",
-    b"\x03\x01\x01\x01\x00\xfa",
-    b"\x03\x01\x01\xa4\xa5",
-    b"\x03\x01\x01\xa4\xa5\xb2\x00",
-    b"\x03\x01\x01\xa4\xa5\xb3",
-    b"\x04\x01\x01\xa4\xa5\xb1",
-    b"\x00\x01\x01\xa4\xa5\xb5",
-    b"\x03\x02\x01\xa4\xa5\x00\xb1",
-    b"\x03\x00\x01\xa4\x58",
-    b"\x03\x01\x01\xa4\x00",
-    b"\x03\x01\x01\xa4\x00\x57\x00",
-    b"\x03\x01\x01\xa4\x00\x58",
-    b"\x04\x01\x01\xa4\x00\x56",
-    b"\x00\x01\x01\xa4\x00\x5a",
-    b"\x03\x02\x01\xa4\x00\x00\x56",
-    b"\x03\x00\x01\xa4\x58",
-    b"\x03\x04\x01\xa7\x01\x02\x03\x09",
-    b"\x03\x04\x01\xa7\x01\x02\x03\x09\x42\x00",
-    b"\x03\x04\x01\xa7\x01\x02\x03\x09\x43",
-    b"\x04\x04\x01\xa7\x01\x02\x03\x09\x41",
-    b"\x00\x04\x01\xa7\x01\x02\x03\x09\x45",
-    b"\x03\x05\x01\xa7\x01\x02\x03\x09\x00\x41",
-    b"\x03\x03\x01\xa7\x01\x02\x03\x4c",
-    b"\x03\x00\x01\xa6",
-    b"\x03\x00\x01\xa6\x56\x00",
-    b"\x03\x00\x01\xa6\x57",
-    b"\x04\x00\x01\xa6\x55",
-    b"\x00\x00\x01\xa6\x59",
-    b"\x03\x01\x01\xa6\x00\x55",
-    b"\x03\x00\x01\xa8",
-    b"\x03\x00\x01\xa8\x54\x00",
-    b"\x03\x00\x01\xa8\x55",
-    b"\x04\x00\x01\xa8\x53",
-    b"\x00\x00\x01\xa8\x57",
-    b"\x03\x01\x01\xa8\x00\x53",
-    b"\x03\x00\x01\xac",
-    b"\x03\x00\x01\xac\x50\x00",
-    b"\x03\x00\x01\xac\x51",
-    b"\x04\x00\x01\xac\x4f",
-    b"\x00\x00\x01\xac\x53",
-    b"\x03\x01\x01\xac\x00\x4f",
-    b"\x03\x00\x01\xa3",
-    b"\x03\x00\x01\xa3\x59\x00",
-    b"\x03\x00\x01\xa3\x5a",
-    b"\x04\x00\x01\xa3\x58",
-    b"\x00\x00\x01\xa3\x5c",
-    b"\x03\x01\x01\xa3\x00\x58",
+/// A request of each kind that a hopper answers, and of its address alone.
+const REQUESTS: [&[u8]; 18] = [
+    b"\x03\x00\x01\xfe\xfe",
+    b"\x03\x00\x01\xf6\x06",
+    b"\x03\x00\x01\xf5\x07",
+    b"\x03\x00\x01\xf4\x08",
+    b"\x03\x00\x01\xf2\x0a",
+    b"\x03\x00\x01\xf1\x0b",
+    b"\x03\x00\x01\xc0\x3c",
+    b"\x03\x00\x01\x04\xf8",
+    b"\x03\x00\x01\x01\xfb",
+    b"\x03\x01\x01\xa4\xa5\xb2",
+    b"\x03\x01\x01\xa4\x00\x57",
+    b"\x03\x04\x01\xa7\x01\x02\x03\x09\x42",
+    b"\x03\x00\x01\xa6\x56",
+    b"\x03\x00\x01\xa8\x54",
+    b"\x03\x00\x01\xac\x50",
+    b"\x03\x00\x01\xa3\x59",
+    b"\x03\x00\x01\xa1\x5b",
+    b"\x03\x00\x01\xa0\x5c",
 ];
+
+/// Requests with a data byte too many or too few, and polls of all addresses that are cut, lengthened, with another sum,
+/// for one device, or with a data byte.
+const OTHERS: [&[u8]; 24] = [
+    b"\x03\x01\x01\xfe\x00\xfd",
+    b"\x03\x01\x01\xf6\x00\x05",
+    b"\x03\x01\x01\xf5\x00\x06",
+    b"\x03\x01\x01\xf4\x00\x07",
+    b"\x03\x01\x01\xf2\x00\x09",
+    b"\x03\x01\x01\xf1\x00\x0a",
+    b"\x03\x01\x01\xc0\x00\x3b",
+    b"\x03\x01\x01\x04\x00\xf7",
+    b"\x03\x01\x01\x01\x00\xfa",
+    b"\x03\x02\x01\xa4\xa5\x00\xb1",
+    b"\x03\x02\x01\xa4\x00\x00\x56",
+    b"\x03\x05\x01\xa7\x01\x02\x03\x09\x00\x41",
+    b"\x03\x01\x01\xa6\x00\x55",
+    b"\x03\x01\x01\xa8\x00\x53",
+    b"\x03\x01\x01\xac\x00\x4f",
+    b"\x03\x01\x01\xa3\x00\x58",
+    b"\x03\x00\x01\xa4\x58",
+    b"\x03\x03\x01\xa7\x01\x02\x03\x4c",
+    b"\x00\x00\x01\xfd",
+    b"\x00\x00\x01\xfd\x02\x00",
+    b"\x00\x00\x01\xfd\x03",
+    b"\x04\x00\x01\xfd\xfe",
+    b"\x03\x00\x01\xfd\xff",
+    b"\x00\x01\x01\xfd\x00\x01",
+];
+
+/// What happens to a request on its way.
+#[derive(Clone, Copy, Debug)]
+enum Damage {
+    Cut,
+    Lengthened,
+    OtherSum,
+    ForDevice(u8),
+}
+
+/// For device 0 means for all.
+const DAMAGES: [Damage; 5] = [
+    Damage::Cut,
+    Damage::Lengthened,
+    Damage::OtherSum,
+    Damage::ForDevice(4),
+    Damage::ForDevice(0),
+];
+
+/// A piece without its last byte, with a further one, with another sum, or with the address and the sum of a message
+/// to another device. None where there is no room for it, or nothing to damage.
+fn damaged(piece: &[u8], damage: Damage) -> Option<ArrayVec<u8, MOST_SENT>> {
+    let (sum, front) = piece.split_last()?;
+    let (to, rest) = front.split_first()?;
+    let mut out = ArrayVec::new();
+    match damage {
+        Damage::ForDevice(addr) => out.try_push(addr).ok()?,
+        _ => out.try_push(*to).ok()?,
+    }
+    out.try_extend_from_slice(rest).ok()?;
+    match damage {
+        Damage::Cut => {}
+        Damage::Lengthened => out.try_extend_from_slice(&[*sum, 0]).ok()?,
+        Damage::OtherSum => out.try_push(sum.wrapping_add(1)).ok()?,
+        Damage::ForDevice(addr) => out.try_push(sum.wrapping_add(*to).wrapping_sub(addr)).ok()?,
+    }
+    Some(out)
+}
 
 const ON: &[u8] = b"\x03\x01\x01\xa4\xa5\xb2";
 
@@ -332,6 +359,11 @@ fn answers(hopper: &mut Hopper<'_>, piece: &[u8], answer: &[u8]) -> bool {
     let mut out = ArrayVec::<u8, MOST_SENT>::new();
     let answered = hopper.hear(piece, &mut out);
     answered != answer.is_empty() && out.as_slice() == answer
+}
+
+/// Whether the hopper, which has two coins to pay, is silent to a piece, and has two to pay still.
+fn is_unmoved(hopper: &mut Hopper<'_>, piece: &[u8]) -> bool {
+    answers(hopper, piece, &[]) && answers(hopper, STATUS, TWO_TO_PAY)
 }
 
 #[test]
@@ -360,9 +392,34 @@ fn a_paying_hopper_is_silent_to_pieces_that_ask_nothing_of_it(rt: HostRuntime) -
     for (piece, answer) in [(ON, ACK), (PAY_TWO, ACK), (STATUS, TWO_TO_PAY)] {
         assert!(rt; answers(&mut hopper, piece, answer));
     }
-    for piece in HOSTILE {
-        assert!(rt; answers(&mut hopper, piece, &[]));
-        assert!(rt; answers(&mut hopper, STATUS, TWO_TO_PAY));
+    for piece in REQUESTS {
+        for damage in DAMAGES {
+            let is_so = match damaged(piece, damage) {
+                Some(hostile) => is_unmoved(&mut hopper, hostile.as_slice()),
+                None => false,
+            };
+            assert!(rt; is_so);
+        }
     }
+    for piece in OTHERS {
+        assert!(rt; is_unmoved(&mut hopper, piece));
+    }
+    Ok(())
+}
+
+#[test]
+fn a_refused_dispense_gives_the_idle_hopper_back(rt: HostRuntime) -> Result<(), Fail> {
+    let setup = setup();
+    let is_so = match Hopper::new(&setup) {
+        Hopper::Off(off) => match off.enable().dispense(0x0003_0202, 4) {
+            Err((idle, DispenseNo::WrongSerial)) => match idle.dispense(0x0003_0201, 0) {
+                Err((idle, DispenseNo::Nothing)) => idle.dispense(0x0003_0201, 4).is_ok(),
+                _ => false,
+            },
+            _ => false,
+        },
+        _ => false,
+    };
+    assert!(rt; is_so);
     Ok(())
 }

@@ -27,9 +27,9 @@ use Rattle.cct_jobs.specs.declared.stage.Stage.{Stage}
 use Rattle.cct_jobs.specs.declared.stage.Stage.TheVariants.{StartResets, StartReads, StartSets, Reads, Looks, Pays}
 use Rattle.cct_jobs.specs.declared.stage.Visit.TheVariants.{Round, Stop}
 use Rattle.cct_jobs.specs.declared.target.Target.{Target}
-use Rattle.cct_jobs.specs.Jobs.{Asking, IsAfter, IsPut, Needs, Putting, Stands, after_put, asks_at, closing_by, end_of_job, may_put_of, need_of, newest_end, opened_by, own_of, request_of, sending_of, stage_puts}
+use Rattle.cct_jobs.specs.Jobs.{Asking, ClosesItsOwn, IsAfter, IsPut, Needs, Putting, Stands, after_put, asks_at, closing_by, end_of_job, may_put_of, need_of, newest_end, opened_by, own_of, request_of, sending_of, stage_puts}
 use Rattle.cct_jobs.specs.Scans.{NeedsScan, StandsScan}
-use Rattle.cct_jobs.proofs.Owners.{close_owner, round_owner, stop_owner}
+use Rattle.cct_jobs.proofs.Owners.{closing_owner, round_owner, stop_owner}
 use Rattle.cct_jobs.proofs.Payouts.{closes_here, closing_may_put, payout_may_put}
 use Rattle.cct_jobs.proofs.Scans.{calls_simple_row, calls_crc_row, calls_simple_on, calls_crc_on, polls_row, polls_on}
 use Rattle.cct_jobs.proofs.Stages.{stage_row}
@@ -45,35 +45,36 @@ needs_by d (Asks device stage failed) c since state owed at = record {
 needs_by d (StartPuts device mask) c since state owed (device_is, rows_are, at) = record {
   is_here = ap address_of at.command_is;
   row_is = at.row_is ∙ ap (λ (t : Target). puts (Epoch t.addr mask)) (sym device_is);
-  owned = λ past opened. ap (λ (t : Target). t.addr) device_is;
+  owned = λ past owns. ap (λ (t : Target). t.addr) device_is;
 }
 needs_by d (RoundPuts entry end) c since state owed at = record {
   is_here = ap address_of at.command_is;
   row_is = at.row_is;
-  owned = λ past opened. round_owner d.addr (done since) state (credits_read since) (mask_read since) past entry
+  owned = λ past owns. round_owner d.addr (done since) state (credits_read since) (mask_read since) past entry
       (ap (λ k. row d k since state owed) (sym at.command_is) ∙ at.row_is);
 }
 needs_by d (StopPuts device entry end) c since state owed (device_is, rows_are, apart, at) = record {
   is_here = ap address_of at.command_is;
   row_is = at.row_is;
-  owned = λ past opened. stop_owner d.addr (done since) state (credits_read since) (mask_read since) past entry
+  owned = λ past owns. stop_owner d.addr (done since) state (credits_read since) (mask_read since) past entry
       (ap (λ k. row d k since state owed) (sym at.command_is) ∙ at.row_is);
 }
 needs_by d (StopEnds device) c since state owed (device_is, at) = record {
   is_here = ap address_of at.command_is;
   row_is = at.row_is ∙ ap (λ (t : Target). puts (EpochEnd t.addr)) (sym device_is);
-  owned = λ past opened. ap (λ (t : Target). t.addr) device_is;
+  owned = λ past owns. ap (λ (t : Target). t.addr) device_is;
 }
 needs_by d (OrderOpens device own halted) c since state owed at = record {
   is_here = ap address_of at.at.command_is;
   row_is = at.at.row_is;
-  owned = λ past opened. at.is_here;
+  owned = λ past owns. at.is_here;
 }
 needs_by d (OrderCloses entry end) c since state owed at = record {
   is_here = ap address_of at.at.command_is ∙ closes_here at.closing at.order d.addr;
   row_is = at.at.row_is;
-  owned = λ past opened. ap (owner past) at.closes ∙ close_owner past at.order at.life
-      ∙ opened at.order at.owed_is;
+  owned = λ past owns.
+      subst (λ r. ClosesItsOwn past d.addr r → owner past r ≡ d.addr) (sym at.closes)
+      (closing_owner past d.addr at.order at.life) owns;
 }
 needs_by d (Done end) c since state owed at = at
 needs_by d job c since state owed at = absurd at

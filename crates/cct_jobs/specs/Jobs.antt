@@ -494,16 +494,19 @@ pub record SendsNext (d : DeviceSetup) (c : Command) (since : List Line) (state 
   pub request : Request
   pub row_is : row d c since state owed ≡ sends request
 
--- The open order was opened at the address of a device.
-abbrev pub IsOpenedAt : DeviceSetup → Option OpenOrder → List Entry → Type 0
-IsOpenedAt d owed past = (o : OpenOrder) → owed ≡ Some o → opened_at o.id past ≡ d.addr
+-- A record that closes an order closes one that was opened last at this address; of any other record nothing is asked.
+abbrev pub ClosesItsOwn : List Entry → ℕ → Record → Type 0
+ClosesItsOwn past addr (record_of.Closed id paid unpaid) = opened_at id past ≡ addr
+ClosesItsOwn past addr (record_of.Odd id life_before life_after) = opened_at id past ≡ addr
+ClosesItsOwn past addr r = ⊤
 
--- A job at a device puts this record next, which is one of the device's address where the open order was opened there.
+-- A job at a device puts this record next, which is one of the device's address, after any past in which the order that
+-- it closes, if it closes one, was opened there.
 pub record PutsNext (entry : Record) (d : DeviceSetup) (c : Command) (since : List Line) (state : EpochState)
     (owed : Option OpenOrder) : Type 0 where
   pub is_here : address_of c ≡ d.addr
   pub row_is : row d c since state owed ≡ puts entry
-  pub owned : (past : List Entry) → IsOpenedAt d owed past → owner past entry ≡ d.addr
+  pub owned : (past : List Entry) → ClosesItsOwn past d.addr entry → owner past entry ≡ d.addr
 
 -- What a job at a device needs, by its lines: its row sends a request or puts this record, or its newest line ended it
 -- so.

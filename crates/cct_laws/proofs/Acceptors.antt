@@ -159,7 +159,7 @@ keeps_crashed past lines keeps = record {
 }
 
 -- no put ends a job clean
-put_other : (c : Command) (r : Record) → IfOther (end_of_put c r)
+pub put_other : (c : Command) (r : Record) → IfOther (end_of_put c r)
 put_other (command.Round at) (record_of.Reading addr counter lost posted) = tt
 put_other (command.Round at) (record_of.Broken addr seen counter posted) = tt
 put_other (command.Stop at) (record_of.Broken addr seen counter posted) = tt

@@ -3,8 +3,6 @@ use Rattle.std.proofs.Common.{◌≡◌, ◌≢◌, ℕ, true, List, refl, subst
 use Rattle.std.specs.Prelude.{⊤}
 use Rattle.cct_model.specs.terms.device.DeviceSetup.{DeviceSetup}
 use Rattle.cct_model.specs.terms.device.Setup.{Setup}
-use Rattle.cct_model.specs.terms.device.DeviceBody.{DeviceBody}
-use Rattle.cct_model.specs.terms.device.DeviceBody.TheVariants.{Acceptor, Hopper}
 use Rattle.cct_model.specs.terms.request.Request.{Request}
 use Rattle.cct_model.specs.terms.request.Request.TheVariants.{Dispense}
 use Rattle.cct_model.specs.declared.judging.Judged.{Judged}
@@ -26,7 +24,7 @@ use Rattle.cct_msg.proofs.Exchanges.{asked_back}
 use Rattle.cct_laws.specs.Kept.{Fate, unheard, silenced, answered, IsRefused, WorksAt, suits}
 use Rattle.cct_laws.specs.Law.{IsOf, IsAnswered, IsUnanswered}
 use Rattle.cct_laws.proofs.Setups.{found_in}
-use Rattle.cct_laws.proofs.EitherKind.{for_acceptor, for_hopper, one_kind}
+use Rattle.cct_laws.proofs.EitherKind.{for_acceptor, for_hopper, kind_of, one_kind}
 use Rattle.cct_laws.proofs.Exchanges.{Replied, Answers, fits_of, undisturbed_got, undisturbed_refused, fares}
 use Rattle.cct_laws.proofs.AcceptorReplies.{Sane, acceptor_replied}
 use Rattle.cct_laws.proofs.HopperReplies.{Payer, hopper_answers}
@@ -55,10 +53,6 @@ paid_at setup past d c rows judged p q sound own paying suited asks =
     subst (RowHolds (Answers d (met d past)) (λ r. ⊤)) asks
     (each_row (Answers d (met d past)) (λ r. ⊤) d c rows judged p
     (hopper_answers d (met d past) c judged p payer (for_hopper d.body c paying suited)))
-
-kind_of : (body : DeviceBody) → IsAcceptor body ⊎ IsHopper body
-kind_of (Acceptor accepts values ids) = inl tt
-kind_of (Hopper life value) = inr tt
 
 pub answers_at : (setup : Setup) (past : List Entry) (d : DeviceSetup) (c : Command) (rows : ℕ) (judged : Judged)
     (p : Payment) (q : Request) → IsSoundSetup setup → IsOf setup d → suits d.body c ≡ true → IsCommand c →

@@ -1,8 +1,7 @@
 -- Pieces of bytes: what is sent, what a device answers, and what is read of what is heard.
-use Rattle.std.proofs.Common.{ℕ, zero, suc, ◌*◌, ◌/◌, ◌%◌, ◌<◌, ◌==◌, ◌&&◌, ◌++◌, rules, Bool, true, false, cond, List, [], ◌∷◌, length, take, fold, slice_index, bit_xor, Option, Some, None, arith}
+use Rattle.std.proofs.Common.{ℕ, ◌*◌, ◌/◌, ◌%◌, ◌<◌, ◌==◌, ◌&&◌, ◌++◌, rules, Bool, true, false, cond, List, [], ◌∷◌, length, fold, bit_xor, Option, Some, None, arith}
 use Rattle.std.specs.Prelude.{⊤, unwrap_or, option_and_then, flat_map}
 use Rattle.std.proofs.lemmas.Nat.{xor_of_16}
-use Rattle.hex.specs.Hex.{IsBytes}
 use Rattle.cct_model.specs.terms.wire.CheckKind.{CheckKind}
 use Rattle.cct_model.specs.terms.wire.CheckKind.TheVariants.{Simple, Crc}
 use Rattle.cct_model.specs.terms.request.Request.{Request}
@@ -14,30 +13,7 @@ use Rattle.cct_model.specs.Request.{requests_with, open_requests, with_header, r
 use Rattle.cct_model.specs.Reply.{Reply}
 use Rattle.cct_model.specs.Reply as reply
 use Rattle.cct_model.specs.Exchange.{after_echo, is_for_host, reply_from, got, asker, to_all, to_one}
-use Rattle.cct_laws.proofs.Said.{IfThere}
-
--- each of them is below 256
-abbrev pub Bytes : List ℕ → Type 0
-Bytes [] = ⊤
-Bytes (b ∷ bs) = (b < 256) × Bytes bs
-
-pub bytes_are : (bs : List ℕ) → Bytes bs → (i : ℕ) → slice_index bs i < 256
-bytes_are [] all i = omega arith
-bytes_are (b ∷ bs) all zero = all.0
-bytes_are (b ∷ bs) all (suc i) = bytes_are bs all.1 i
-
-pub are_bytes : (bs : List ℕ) → IsBytes bs → Bytes bs
-are_bytes [] h = tt
-are_bytes (b ∷ bs) h = (h 0, are_bytes bs (λ i. h (suc i)))
-
-pub bytes_more : (xs ys : List ℕ) → Bytes xs → Bytes ys → Bytes (xs ++ ys)
-bytes_more [] ys h k = k
-bytes_more (x ∷ xs) ys h k = (h.0, bytes_more xs ys h.1 k)
-
-pub bytes_taken : (n : ℕ) (xs : List ℕ) → Bytes xs → Bytes (take n xs)
-bytes_taken zero xs h = tt
-bytes_taken (suc n) [] h = tt
-bytes_taken (suc n) (x ∷ xs) h = (h.0, bytes_taken n xs h.1)
+use Rattle.cct_terms.proofs.OfBytes.{Bytes, IfThere, bytes_more, there_then, there_when, rest_bytes, IsOfBytes, message_bytes}
 
 -- the register of a CRC has 16 bits
 xored_fits : (t : Bool) (x : ℕ) → x < 65536 → cond t x (bit_xor x 4129) < 65536
@@ -73,32 +49,7 @@ spelled_bytes Crc m fits =
     let small : check < 65536 = crc_fits (m.to ∷ length m.body ∷ m.header ∷ m.body) in
     (fits.to, (fits.short, (omega arith, (fits.header, bytes_more m.body (check / 256 ∷ []) fits.body (omega (arith, small), tt)))))
 
--- what follows of what is there
-pub there_then : {A B : Type 0} (P : A → Type 0) (Q : B → Type 0) (f : A → Option B) (found : Option A) → IfThere P found → ((x : A) → P x → IfThere Q (f x)) → IfThere Q (option_and_then f found)
-there_then P Q f None h k = tt
-there_then P Q f (Some x) h k = k x h
-
-there_if : {A : Type 0} (P : A → Type 0) (b : Bool) (x : A) → P x → IfThere P (cond b (Some x) None)
-there_if P true x h = h
-there_if P false x h = tt
-
-there_when : {A : Type 0} (P : A → Type 0) (b : Bool) (found : Option A) → IfThere P found → IfThere P (cond b found None)
-there_when P true found h = h
-there_when P false found h = tt
-
--- the message that a piece of bytes is
-pub record IsOfBytes (m : Message) : Type 0 where
-  pub from : unwrap_or m.from 1 < 256
-  pub body : Bytes m.body
-
-pub message_bytes : (kind : CheckKind) (piece : List ℕ) → Bytes piece → IfThere IsOfBytes (message kind piece)
-unfolding message
-message_bytes Simple (to ∷ said ∷ from ∷ header ∷ rest) h =
-    there_if IsOfBytes _ (record { to = to; from = Some from; header = header; body = take said rest }) (record { from = h.1.1.0; body = bytes_taken said rest h.1.1.1.1 })
-message_bytes Crc (to ∷ said ∷ low ∷ header ∷ rest) h =
-    there_if IsOfBytes _ (record { to = to; from = None; header = header; body = take said rest }) (record { from = omega arith; body = bytes_taken said rest h.1.1.1.1 })
-message_bytes kind piece h = tt
-
+-- the asker that a piece of bytes names
 asker_by : (found : Option Message) → IfThere IsOfBytes found → unwrap_or (option_and_then (λ m. m.from) found) 1 < 256
 asker_by None h = omega arith
 asker_by (Some m) h = h.from
@@ -213,12 +164,6 @@ reply_in_fits form.Revision body h = three_fits FitsReply _ body (λ a b c. tt)
 reply_in_fits form.Accepts body h = three_fits FitsReply _ body (λ a b c. tt)
 
 -- the reply that is got in what is heard
-rest_bytes : (sent heard : List ℕ) → Bytes heard → IfThere Bytes (after_echo sent heard)
-unfolding after_echo
-rest_bytes [] heard h = h
-rest_bytes (s ∷ sent) [] h = tt
-rest_bytes (s ∷ sent) (b ∷ heard) h = there_when Bytes (s == b) (after_echo sent heard) (rest_bytes sent heard h.1)
-
 pub got_fits : (kind : CheckKind) (addr : ℕ) (f : ReplyForm) (sent heard : List ℕ) → Bytes heard → IfThere FitsReply (got kind addr f sent heard)
 unfolding got
 got_fits kind addr f sent heard h =

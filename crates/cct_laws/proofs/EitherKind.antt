@@ -1,5 +1,5 @@
 -- What is kept by all that comes to a device of one kind is kept by all that comes to a device of either.
-use Rattle.std.proofs.Common.{◌≡◌, true, List, ◌∷◌, ◌++◌, sym, subst, Some}
+use Rattle.std.proofs.Common.{◌≡◌, ◌⊎◌, inl, inr, true, List, ◌∷◌, ◌++◌, sym, subst, Some}
 use Rattle.cct_model.specs.terms.device.DeviceBody.{DeviceBody}
 use Rattle.cct_model.specs.terms.device.DeviceBody.TheVariants.{Acceptor, Hopper}
 use Rattle.cct_model.specs.terms.device.DeviceSetup.{DeviceSetup}
@@ -18,6 +18,10 @@ use Rattle.cct_model.proofs.Doses.{no_doses}
 pub one_kind : (body : DeviceBody) → IsAcceptor body → IsHopper body → ⊥
 one_kind (Acceptor accepts values ids) accepting paying = paying
 one_kind (Hopper life value) accepting paying = accepting
+
+pub kind_of : (body : DeviceBody) → IsAcceptor body ⊎ IsHopper body
+kind_of (Acceptor accepts values ids) = inl tt
+kind_of (Hopper life value) = inr tt
 
 pub for_acceptor : (body : DeviceBody) (c : Command) → IsAcceptor body → suits body c ≡ true → is_for_acceptor c ≡ true
 for_acceptor (Acceptor accepts values ids) c accepting suited = suited

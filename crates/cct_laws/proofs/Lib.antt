@@ -8,6 +8,7 @@ pub mod Books
 pub mod Brought
 pub mod Bytes
 pub mod Causes
+pub mod Coinless
 pub mod Coins
 pub mod CommonReplies
 pub mod Counting

@@ -13,8 +13,7 @@ use Rattle.cct_model.specs.Line.{Line, scanned}
 use Rattle.cct_model.specs.Scan.{echoes, answers, is_acknowledged, is_due, next_due, noted, poll_after, poll_due, polls, scan_row, scan_tries, set_of, found, listed_in, end_by_row, end_of_scan}
 use Rattle.cct_model.proofs.Polls.{length_below}
 use Rattle.cct_text.specs.Written.{IsListed, IsEnd}
-use Rattle.cct_laws.proofs.Said.{IfThere}
-use Rattle.cct_laws.proofs.Bytes.{Bytes, bytes_more}
+use Rattle.cct_terms.proofs.OfBytes.{Bytes, IfThere, bytes_more}
 
 -- what holds of an address of a device in the lines of a scan: its polls under the simple check go before any answer, and
 -- there is one of them at the most

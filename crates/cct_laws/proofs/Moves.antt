@@ -172,7 +172,7 @@ pub other_if : (b : Bool) (end : End) → IsOtherEnd end → IfOther (cond b (So
 other_if true end other = other
 other_if false end other = tt
 
-tries_end : (failed : ℕ) → IfOther (end_of_tries failed)
+pub tries_end : (failed : ℕ) → IfOther (end_of_tries failed)
 tries_end failed = other_if (failed == 3) _ tt
 
 -- an exchange without its reply is tried again, or ends the job

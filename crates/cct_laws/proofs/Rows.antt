@@ -190,7 +190,7 @@ judged_owned : (past : List Entry) (addr : ℕ) (state : EpochState) (credits : 
 judged_owned past addr state credits seen =
     judged_holds (IsRecordOf past addr) addr state credits seen (λ counter lost posted. refl) (λ mask counter posted. refl)
 
-any_sent : (qs : List Request) → Each (λ q. ⊤) qs
+pub any_sent : (qs : List Request) → Each (λ q. ⊤) qs
 any_sent [] = tt
 any_sent (q ∷ qs) = (tt, any_sent qs)
 

@@ -1,4 +1,4 @@
--- What a line says that is played today: a device of a sound setup, or a step in range.
+-- What a line says: a setup line, which keeps each device sound, or a step in range.
 use Rattle.std.proofs.Common.{◌≡◌, ℕ, ◌+◌, ◌-◌, ◌*◌, ◌%◌, ◌^◌, ◌<◌, ◌≤◌, ◌≢◌, ◌==◌, ◌&&◌, nat_le, Bool, true, false, cond, List, [], ◌∷◌, length, get_or, bytes_eq, codes, refl, ap, sym, ◌∙◌, subst, Option, Some, None, option_map, ok_or, Result, Ok, Err, All, lit≤, arith}
 use Rattle.std.specs.Prelude.{⊤}
 use Rattle.std.specs.List.{list_all, slice_set}
@@ -22,20 +22,16 @@ use Rattle.cct_model.specs.lines.command.Step.{Step}
 use Rattle.cct_model.specs.lines.command.Step.TheVariants as step
 use Rattle.cct_model.specs.lines.entry.LineKind.{LineKind}
 use Rattle.cct_model.specs.lines.entry.LineKind.TheVariants as kind
-use Rattle.cct_model.specs.Device.{IsPrinting, IsWord, IsId, IsSound, IsSoundBody, IsAcceptor}
-use Rattle.cct_model.specs.Grammar.{◌>>=◌, is_space, number_in, within, ranged, three_byte_in, check_in, is_printing, word_in, id_in, bytes_in, piece_in, plain_acceptor, plain_device, acceptor_line, value_line, texts_line, alone, setup_fields, setup_line, mask_of_bytes, mask_in, address_in, step_at, coin_step, fault_step, start_step, path_step, step_fields, step_line, valued}
+use Rattle.cct_model.specs.Device.{IsPrinting, IsWord, IsId, IsSound, IsSoundBody}
+use Rattle.cct_model.specs.Grammar.{◌>>=◌, is_space, number_in, within, ranged, three_byte_in, check_in, is_printing, word_in, id_in, bytes_in, piece_in, plain_acceptor, plain_device, acceptor_line, hopper_line, value_line, texts_line, alone, setup_fields, setup_line, mask_of_bytes, mask_in, address_in, step_at, coin_step, fault_step, start_step, pay_step, path_step, step_fields, step_line, valued}
 use Rattle.cct_model.specs.Legal.{is_played_command}
-use Rattle.cct_model.specs.Script.{word_of, is_setup_word, is_step_word, IsCommand, IsFault}
+use Rattle.cct_model.specs.Script.{word_of, is_later_word, IsCommand, IsFault}
 use Rattle.cct_model.proofs.Added.{KeepsEach}
+use Rattle.cct_terms.proofs.OfBytes.{IfThere}
 use Rattle.cct_laws.specs.Law.{IsCommandOfBytes, HasBytes}
 use Rattle.cct_laws.proofs.Words.{first_part, no_word}
 
--- a fact of what is there, if it is
-abbrev pub IfThere : {A : Type 0} → (A → Type 0) → Option A → Type 0
-IfThere P None = ⊤
-IfThere P (Some x) = P x
-
--- and of what a line says, if it isn't refused
+-- a fact of what a line says, if it isn't refused
 abbrev pub IfSaid : {A : Type 0} → (A → Type 0) → Result A LineKind → Type 0
 IfSaid P (Ok x) = P x
 IfSaid P (Err why) = ⊤
@@ -166,139 +162,147 @@ unfolding piece_in
 piece_bytes most [] piece found = absurd cc
 piece_bytes most (byte ∷ bytes) piece found = decoded_by (bytes_eq (byte ∷ bytes) (codes "-")) (nat_le (length (byte ∷ bytes)) (2 * most)) (byte ∷ bytes) piece found
 
--- a sound acceptor
-pub record Fit (d : DeviceSetup) : Type 0 where
-  pub sound : IsSound d
-  pub accepting : IsAcceptor d.body
+-- a setup line keeps each device sound
+abbrev pub KeepsSound : SetupLine → Type 0
+KeepsSound line = KeepsEach IsSound line
 
--- a setup line that is played today
-abbrev pub IsFitLine : SetupLine → Type 0
-IsFitLine (says.Hopper d) = ⊥
-IsFitLine line = KeepsEach Fit line
-
-plain_sound : (accepts : ℕ) → accepts < 2 ^ 24 → IsSoundBody (plain_acceptor accepts)
-plain_sound accepts few =
+acceptor_sound : (accepts : ℕ) → accepts < 2 ^ 24 → IsSoundBody (plain_acceptor accepts)
+acceptor_sound accepts few =
     (few, All-replicate (λ value. value ≤ 1000000) 16 0 (lit≤ tt), All-replicate IsId 16 (codes "......") (refl, printing_all (codes "......") refl), refl, refl)
 
 plain_word : (text : List ℕ) → 1 ≤ length text → length text ≤ 24 → list_all is_printing text ≡ true → IsWord text
 plain_word text some few printing = (some, few, printing_all text printing)
 
-plain_fit : (addr : ℕ) (check : CheckKind) (serial accepts : ℕ) → 2 ≤ addr → addr ≤ 255 → serial < 2 ^ 24 → accepts < 2 ^ 24 → Fit (plain_device addr check serial (plain_acceptor accepts))
-plain_fit addr check serial accepts low high serial_few accepts_few = record {
-  sound = record {
-    low = low;
-    high = high;
-    serial = serial_few;
-    maker = plain_word (codes "BENCH") (lit≤ tt) (lit≤ tt) refl;
-    product = plain_word (codes "CCT") (lit≤ tt) (lit≤ tt) refl;
-    software = plain_word (codes "1") (lit≤ tt) (lit≤ tt) refl;
-    build = plain_word (codes "1") (lit≤ tt) (lit≤ tt) refl;
-    body = plain_sound accepts accepts_few;
-  };
-  accepting = tt;
+device_sound : (addr : ℕ) (check : CheckKind) (serial : ℕ) (body : DeviceBody) → 2 ≤ addr → addr ≤ 255 →
+    serial < 2 ^ 24 → IsSoundBody body → IsSound (plain_device addr check serial body)
+device_sound addr check serial body low high few sound = record {
+  low = low;
+  high = high;
+  serial = few;
+  maker = plain_word (codes "BENCH") (lit≤ tt) (lit≤ tt) refl;
+  product = plain_word (codes "CCT") (lit≤ tt) (lit≤ tt) refl;
+  software = plain_word (codes "1") (lit≤ tt) (lit≤ tt) refl;
+  build = plain_word (codes "1") (lit≤ tt) (lit≤ tt) refl;
+  body = sound;
 }
 
-acceptor_said : (fields : List (List ℕ)) → IfThere IsFitLine (acceptor_line fields)
+three_bytes : (field : List ℕ) (n : ℕ) → three_byte_in field ≡ Some n → n < 2 ^ 24
+three_bytes field n found = omega (arith, (ranged_in 0 16777215 field n found).1)
+
+acceptor_said : (fields : List (List ℕ)) → IfThere KeepsSound (acceptor_line fields)
 acceptor_said (a ∷ c ∷ s ∷ n ∷ []) =
-    bind IsFitLine (ranged 2 255 a) _ (λ addr at.
-    bind IsFitLine (check_in c) _ (λ check under.
-    bind IsFitLine (three_byte_in s) _ (λ serial numbered.
-    bind IsFitLine (three_byte_in n) _ (λ accepts counted.
-    plain_fit addr check serial accepts (ranged_in 2 255 a addr at).0 (ranged_in 2 255 a addr at).1
-    (omega (arith, (ranged_in 0 16777215 s serial numbered).1)) (omega (arith, (ranged_in 0 16777215 n accepts counted).1))))))
+    bind KeepsSound (ranged 2 255 a) _ (λ addr at.
+    bind KeepsSound (check_in c) _ (λ check under.
+    bind KeepsSound (three_byte_in s) _ (λ serial numbered.
+    bind KeepsSound (three_byte_in n) _ (λ accepts counted.
+    device_sound addr check serial (plain_acceptor accepts) (ranged_in 2 255 a addr at).0 (ranged_in 2 255 a addr at).1
+    (three_bytes s serial numbered) (acceptor_sound accepts (three_bytes n accepts counted))))))
 acceptor_said fields = tt
 
--- a value keeps an acceptor fit
-fit_with : (d : DeviceSetup) (body : DeviceBody) → Fit d → IsSoundBody body → IsAcceptor body → Fit (record d { body = body })
-fit_with d body fit sound accepting = record {
-  sound = record {
-    low = fit.sound.low;
-    high = fit.sound.high;
-    serial = fit.sound.serial;
-    maker = fit.sound.maker;
-    product = fit.sound.product;
-    software = fit.sound.software;
-    build = fit.sound.build;
-    body = sound;
-  };
-  accepting = accepting;
-}
+hopper_said : (fields : List (List ℕ)) → IfThere KeepsSound (hopper_line fields)
+hopper_said (a ∷ c ∷ s ∷ n ∷ v ∷ []) =
+    bind KeepsSound (ranged 2 255 a) _ (λ addr at.
+    bind KeepsSound (check_in c) _ (λ check under.
+    bind KeepsSound (three_byte_in s) _ (λ serial numbered.
+    bind KeepsSound (three_byte_in n) _ (λ life counted.
+    bind KeepsSound (ranged 1 1000000 v) _ (λ value worth.
+    device_sound addr check serial (Hopper life value) (ranged_in 2 255 a addr at).0 (ranged_in 2 255 a addr at).1
+    (three_bytes s serial numbered)
+    (three_bytes n life counted, (ranged_in 1 1000000 v value worth).0, (ranged_in 1 1000000 v value worth).1))))))
+hopper_said fields = tt
 
-valued_by : (b : Bool) (d e : DeviceSetup) (body : DeviceBody) → Fit (record d { body = body }) → cond b (Ok (record d { body = body })) (Err kind.Again) ≡ Ok e → Fit e
-valued_by true d e body fit was =
+-- a value keeps an acceptor sound
+valued_by : (b : Bool) (d e : DeviceSetup) (body : DeviceBody) → IsSound d → IsSoundBody body →
+    cond b (Ok (record d { body = body })) (Err kind.Again) ≡ Ok e → IsSound e
+valued_by true d e body sound fits was =
     let is : record d { body = body } ≡ e = cc in
-    subst Fit is fit
-valued_by false d e body fit was = absurd cc
+    let made : IsSound (record d { body = body }) = record {
+      low = sound.low;
+      high = sound.high;
+      serial = sound.serial;
+      maker = sound.maker;
+      product = sound.product;
+      software = sound.software;
+      build = sound.build;
+      body = fits;
+    } in
+    subst IsSound is made
+valued_by false d e body sound fits was = absurd cc
 
-valued_fit : (d e : DeviceSetup) (place value : ℕ) (id : List ℕ) (body : DeviceBody) → value ≤ 1000000 → IsId id → Fit d → IsSoundBody body → valued d place value id body ≡ Ok e → Fit e
-valued_fit d e place value id (Acceptor accepts values ids) few is_id fit sound was =
-    let new : DeviceBody = Acceptor accepts (slice_set values (place - 1) value) (slice_set ids (place - 1) id) in
-    valued_by _ d e new
-    (fit_with d new fit (sound.0, All-set (λ worth. worth ≤ 1000000) values (place - 1) value few sound.1, All-set IsId ids (place - 1) id is_id sound.2, length-set values (place - 1) value ∙ sound.3, length-set ids (place - 1) id ∙ sound.4) tt) was
-valued_fit d e place value id (Hopper life worth) few is_id fit sound was = absurd cc
+valued_sound : (d e : DeviceSetup) (place value : ℕ) (id : List ℕ) (body : DeviceBody) → value ≤ 1000000 → IsId id →
+    IsSound d → IsSoundBody body → valued d place value id body ≡ Ok e → IsSound e
+valued_sound d e place value id (Acceptor accepts values ids) few is_id sound body was =
+    valued_by _ d e (Acceptor accepts (slice_set values (place - 1) value) (slice_set ids (place - 1) id)) sound (
+      body.0,
+      All-set (λ worth. worth ≤ 1000000) values (place - 1) value few body.1,
+      All-set IsId ids (place - 1) id is_id body.2,
+      length-set values (place - 1) value ∙ body.3,
+      length-set ids (place - 1) id ∙ body.4,
+    ) was
+valued_sound d e place value id (Hopper life worth) few is_id sound body was = absurd cc
 
-value_said : (fields : List (List ℕ)) → IfThere IsFitLine (value_line fields)
+value_said : (fields : List (List ℕ)) → IfThere KeepsSound (value_line fields)
 value_said (a ∷ p ∷ v ∷ i ∷ []) =
-    bind IsFitLine (ranged 2 255 a) _ (λ addr at.
-    bind IsFitLine (ranged 1 16 p) _ (λ place placed.
-    bind IsFitLine (ranged 1 1000000 v) _ (λ value worth.
-    bind IsFitLine (id_in i) _ (λ id named.
-    λ d e fit was. valued_fit d e place value id d.body (ranged_in 1 1000000 v value worth).1 (id_found i id named) fit fit.sound.body was))))
+    bind KeepsSound (ranged 2 255 a) _ (λ addr at.
+    bind KeepsSound (ranged 1 16 p) _ (λ place placed.
+    bind KeepsSound (ranged 1 1000000 v) _ (λ value worth.
+    bind KeepsSound (id_in i) _ (λ id named.
+    λ d e sound was. valued_sound d e place value id d.body (ranged_in 1 1000000 v value worth).1 (id_found i id named) sound sound.body was))))
 value_said fields = tt
 
-named_fit : (b : Bool) (d e : DeviceSetup) (texts : Texts) → IsWord texts.maker → IsWord texts.product → IsWord texts.software → IsWord texts.build → Fit d →
-    cond b (Err kind.Again) (Ok (record d { texts = texts; named = true })) ≡ Ok e → Fit e
-named_fit true d e texts maker product software build fit was = absurd cc
-named_fit false d e texts maker product software build fit was =
+named_sound : (b : Bool) (d e : DeviceSetup) (texts : Texts) → IsWord texts.maker → IsWord texts.product →
+    IsWord texts.software → IsWord texts.build → IsSound d →
+    cond b (Err kind.Again) (Ok (record d { texts = texts; named = true })) ≡ Ok e → IsSound e
+named_sound true d e texts maker product software build sound was = absurd cc
+named_sound false d e texts maker product software build sound was =
     let is : record d { texts = texts; named = true } ≡ e = cc in
-    let made : Fit (record d { texts = texts; named = true }) = record {
-      sound = record {
-        low = fit.sound.low;
-        high = fit.sound.high;
-        serial = fit.sound.serial;
-        maker = maker;
-        product = product;
-        software = software;
-        build = build;
-        body = fit.sound.body;
-      };
-      accepting = fit.accepting;
+    let made : IsSound (record d { texts = texts; named = true }) = record {
+      low = sound.low;
+      high = sound.high;
+      serial = sound.serial;
+      maker = maker;
+      product = product;
+      software = software;
+      build = build;
+      body = sound.body;
     } in
-    subst Fit is made
+    subst IsSound is made
 
-texts_said : (fields : List (List ℕ)) → IfThere IsFitLine (texts_line fields)
+texts_said : (fields : List (List ℕ)) → IfThere KeepsSound (texts_line fields)
 texts_said (a ∷ m ∷ p ∷ s ∷ b ∷ []) =
-    bind IsFitLine (ranged 2 255 a) _ (λ addr at.
-    bind IsFitLine (word_in m) _ (λ maker by.
-    bind IsFitLine (word_in p) _ (λ product of.
-    bind IsFitLine (word_in s) _ (λ software with.
-    bind IsFitLine (word_in b) _ (λ build from.
-    λ d e fit was. named_fit d.named d e _ (word_found m maker by) (word_found p product of) (word_found s software with) (word_found b build from) fit was)))))
+    bind KeepsSound (ranged 2 255 a) _ (λ addr at.
+    bind KeepsSound (word_in m) _ (λ maker by.
+    bind KeepsSound (word_in p) _ (λ product of.
+    bind KeepsSound (word_in s) _ (λ software with.
+    bind KeepsSound (word_in b) _ (λ build from.
+    λ d e sound was. named_sound d.named d e _ (word_found m maker by) (word_found p product of) (word_found s software with) (word_found b build from) sound was)))))
 texts_said fields = tt
 
 alone_said : {A : Type 0} (P : A → Type 0) (x : A) (fields : List (List ℕ)) → P x → IfThere P (alone x fields)
 alone_said P x [] holds = holds
 alone_said P x (field ∷ fields) holds = tt
 
-setup_fields_said : (word : List ℕ) (fields : List (List ℕ)) → is_setup_word word ≡ true → IfSaid IsFitLine (setup_fields (word ∷ fields))
-setup_fields_said word fields played =
-    word_by IsFitLine (bytes_eq word (codes "acceptor")) _ _ (λ _. said_or IsFitLine (acceptor_line fields) kind.Form (acceptor_said fields))
-    (word_by IsFitLine (bytes_eq word (codes "hopper")) _ _ (λ here. absurd (no_word is_setup_word word (codes "hopper") here refl played))
-    (word_by IsFitLine (bytes_eq word (codes "value")) _ _ (λ _. said_or IsFitLine (value_line fields) kind.Form (value_said fields))
-    (word_by IsFitLine (bytes_eq word (codes "texts")) _ _ (λ _. said_or IsFitLine (texts_line fields) kind.Form (texts_said fields))
-    (word_by IsFitLine (bytes_eq word (codes "begin")) _ _ (λ _. said_or IsFitLine (alone says.Begin fields) kind.Form (alone_said IsFitLine says.Begin fields tt)) tt))))
+setup_fields_said : (word : List ℕ) (fields : List (List ℕ)) → IfSaid KeepsSound (setup_fields (word ∷ fields))
+setup_fields_said word fields =
+    word_by KeepsSound (bytes_eq word (codes "acceptor")) _ _ (λ _. said_or KeepsSound (acceptor_line fields) kind.Form (acceptor_said fields))
+    (word_by KeepsSound (bytes_eq word (codes "hopper")) _ _ (λ _. said_or KeepsSound (hopper_line fields) kind.Form (hopper_said fields))
+    (word_by KeepsSound (bytes_eq word (codes "value")) _ _ (λ _. said_or KeepsSound (value_line fields) kind.Form (value_said fields))
+    (word_by KeepsSound (bytes_eq word (codes "texts")) _ _ (λ _. said_or KeepsSound (texts_line fields) kind.Form (texts_said fields))
+    (word_by KeepsSound (bytes_eq word (codes "begin")) _ _ (λ _. said_or KeepsSound (alone says.Begin fields) kind.Form (alone_said KeepsSound says.Begin fields tt)) tt))))
 
--- a setup line whose word is played today
-pub setup_said : (line : List ℕ) → is_setup_word (word_of line) ≡ true → IfSaid IsFitLine (setup_line line)
+-- a setup line
+pub setup_said : (line : List ℕ) → IfSaid KeepsSound (setup_line line)
 unfolding setup_line
-setup_said line played =
+setup_said line =
     let first = first_part is_space line in
-    subst (λ parts. IfSaid IsFitLine (setup_fields parts)) (sym first.1) (setup_fields_said (word_of line) first.0 played)
+    subst (λ parts. IfSaid KeepsSound (setup_fields parts)) (sym first.1) (setup_fields_said (word_of line) first.0)
 
--- a step in range that is played today, or the end
+-- a step in range that is played, or the end
 abbrev pub IsToday : Step → Type 0
 IsToday (step.Coin addr place) = (1 ≤ place) × (place ≤ 16)
 IsToday (step.Alien addr) = ⊤
+IsToday (step.Fall addr) = ⊤
+IsToday (step.Jam addr) = ⊤
 IsToday (step.Reset addr) = ⊤
 IsToday (step.Fault f) = IsFault f × HasBytes (step.Fault f)
 IsToday (step.Next addr) = addr < 256
@@ -352,6 +356,14 @@ start_said (a ∷ m ∷ []) =
     (refl, (mask_found m mask has).0, (small_address a addr at, (mask_found m mask has).1))))
 start_said fields = tt
 
+pay_said : (fields : List (List ℕ)) → IfThere IsToday (pay_step fields)
+pay_said (a ∷ i ∷ n ∷ []) =
+    bind IsToday (address_in a) _ (λ addr at.
+    bind IsToday (ranged 1 4294967295 i) _ (λ id numbered.
+    bind IsToday (ranged 1 255 n) _ (λ count many.
+    (refl, ((ranged_in 1 4294967295 i id numbered).0, (ranged_in 1 255 n count many).0, (ranged_in 1 255 n count many).1), small_address a addr at))))
+pay_said fields = tt
+
 path_said : (fields : List (List ℕ)) → IfThere IsToday (path_step fields)
 path_said (a ∷ p ∷ q ∷ []) =
     bind IsToday (address_in a) _ (λ addr at.
@@ -376,26 +388,28 @@ fault_said (whom ∷ p ∷ []) =
 fault_said fields = tt
 
 -- a word that isn't played
-not_today : (word name : List ℕ) (x : Result Step LineKind) → is_step_word name ≡ false → is_step_word word ≡ true → bytes_eq word name ≡ true → IfSaid IsToday x
-not_today word name x never played here = absurd (no_word is_step_word word name here never played)
+not_today : (word name : List ℕ) (x : Result Step LineKind) → is_later_word name ≡ true →
+    is_later_word word ≡ false → bytes_eq word name ≡ true → IfSaid IsToday x
+not_today word name x later played here = absurd (no_word is_later_word word name here later played)
 
-step_fields_said : (word : List ℕ) (fields : List (List ℕ)) → is_step_word word ≡ true → IfSaid IsToday (step_fields (word ∷ fields))
+step_fields_said : (word : List ℕ) (fields : List (List ℕ)) → is_later_word word ≡ false →
+    IfSaid IsToday (step_fields (word ∷ fields))
 step_fields_said word fields played =
     let at = λ (make : ℕ → Step) (holds : (addr : ℕ) → addr < 256 → IsToday (make addr)). said_or IsToday (step_at make fields) kind.Form (at_said make fields holds) in
     word_by IsToday (bytes_eq word (codes "coin")) _ _ (λ _. said_or IsToday (coin_step fields) kind.Form (coin_said fields))
     (word_by IsToday (bytes_eq word (codes "alien")) _ _ (λ _. at step.Alien (λ addr small. tt))
-    (word_by IsToday (bytes_eq word (codes "fall")) _ _ (not_today word (codes "fall") _ refl played)
-    (word_by IsToday (bytes_eq word (codes "jam")) _ _ (not_today word (codes "jam") _ refl played)
+    (word_by IsToday (bytes_eq word (codes "fall")) _ _ (λ _. at step.Fall (λ addr small. tt))
+    (word_by IsToday (bytes_eq word (codes "jam")) _ _ (λ _. at step.Jam (λ addr small. tt))
     (word_by IsToday (bytes_eq word (codes "reset")) _ _ (λ _. at step.Reset (λ addr small. tt))
     (word_by IsToday (bytes_eq word (codes "next")) _ _ (λ _. at step.Next (λ addr small. small))
     (word_by IsToday (bytes_eq word (codes "fault")) _ _ (λ _. said_or IsToday (fault_step fields) kind.Form (fault_said fields))
     (word_by IsToday (bytes_eq word (codes "start")) _ _ (λ _. said_or IsToday (start_step fields) kind.Form (start_said fields))
     (word_by IsToday (bytes_eq word (codes "round")) _ _ (λ _. at (λ a. step.Command (command.Round a)) (λ addr small. (refl, tt, small)))
     (word_by IsToday (bytes_eq word (codes "stop")) _ _ (λ _. at (λ a. step.Command (command.Stop a)) (λ addr small. (refl, tt, small)))
-    (word_by IsToday (bytes_eq word (codes "settle")) _ _ (not_today word (codes "settle") _ refl played)
-    (word_by IsToday (bytes_eq word (codes "halt")) _ _ (not_today word (codes "halt") _ refl played)
+    (word_by IsToday (bytes_eq word (codes "settle")) _ _ (λ _. at (λ a. step.Command (command.Settle a)) (λ addr small. (refl, tt, small)))
+    (word_by IsToday (bytes_eq word (codes "halt")) _ _ (λ _. at (λ a. step.Command (command.Halt a)) (λ addr small. (refl, tt, small)))
     (word_by IsToday (bytes_eq word (codes "ident")) _ _ (λ _. at (λ a. step.Command (command.Ident a)) (λ addr small. (refl, tt, small)))
-    (word_by IsToday (bytes_eq word (codes "pay")) _ _ (not_today word (codes "pay") _ refl played)
+    (word_by IsToday (bytes_eq word (codes "pay")) _ _ (λ _. said_or IsToday (pay_step fields) kind.Form (pay_said fields))
     (word_by IsToday (bytes_eq word (codes "scan")) _ _ (λ _. said_or IsToday (alone (step.Command command.Scan) fields) kind.Form (alone_said IsToday (step.Command command.Scan) fields (refl, tt, omega arith)))
     (word_by IsToday (bytes_eq word (codes "path")) _ _ (λ _. said_or IsToday (path_step fields) kind.Form (path_said fields))
     (word_by IsToday (bytes_eq word (codes "vend")) _ _ (not_today word (codes "vend") _ refl played)
@@ -403,8 +417,8 @@ step_fields_said word fields played =
     (word_by IsToday (bytes_eq word (codes "balance")) _ _ (not_today word (codes "balance") _ refl played)
     (word_by IsToday (bytes_eq word (codes "end")) _ _ (λ _. said_or IsToday (alone step.End fields) kind.Form (alone_said IsToday step.End fields tt)) tt)))))))))))))))))))
 
--- a step line whose word is played today
-pub step_said : (line : List ℕ) → is_step_word (word_of line) ≡ true → IfSaid IsToday (step_line line)
+-- a step line whose word is played
+pub step_said : (line : List ℕ) → is_later_word (word_of line) ≡ false → IfSaid IsToday (step_line line)
 unfolding step_line
 step_said line played =
     let first = first_part is_space line in

@@ -13,18 +13,20 @@ use Rattle.cct_model.specs.lines.entry.Entry.{Entry}
 use Rattle.cct_model.specs.lines.entry.LineKind.{LineKind}
 use Rattle.cct_model.specs.lines.entry.LineKind.TheVariants as kind
 use Rattle.cct_model.specs.Claims.{InOrder, Covers, Pace}
-use Rattle.cct_model.specs.Device.{IsSound, IsAcceptor}
+use Rattle.cct_model.specs.Device.{IsSound, IsHopper}
 use Rattle.cct_model.specs.Grammar.{setup_line, step_line, added}
 use Rattle.cct_model.specs.Legal.{Legal, is_played}
-use Rattle.cct_model.specs.Script.{Stage, at_setup, at_steps, at_end, setup_at, Read, opens, plays, refuses, opened, read_setup_line, read_step_line, read_form, most_lines, most_bytes, is_over, read_line, Script, stage_after, goes_on, script_from, no_devices, script, word_of, is_setup_word, is_step_word, is_line_feed, IsInRange}
+use Rattle.cct_model.specs.Script.{Stage, at_setup, at_steps, at_end, setup_at, Read, opens, plays, refuses, opened, read_setup_line, read_step_line, read_form, most_lines, most_bytes, is_over, read_line, Script, stage_after, goes_on, script_from, no_devices, script, word_of, is_later_word, is_line_feed, IsInRange}
 use Rattle.cct_model.proofs.Added.{AreAll, KeepsEach, added_keeps}
 use Rattle.cct_model.specs.Text.{text}
 use Rattle.cct_text.proofs.Whole.{text_is_one}
 use Rattle.cct_model.specs.Honest.{Honest}
-use Rattle.cct_laws.specs.Law.{IsOf, HasBytes, AreOfToday, IsSetupOfToday, lines_in}
-use Rattle.cct_laws.proofs.Setups.{found_in}
-use Rattle.cct_laws.proofs.Said.{Fit, IsFitLine, IfSaid, IsToday, setup_said, step_said}
-use Rattle.cct_laws.proofs.Posts.{legal_in_order, legal_covers}
+use Rattle.cct_model.specs.Paid.{Paid}
+use Rattle.cct_model.specs.Setup.{IsSoundSetup}
+use Rattle.cct_laws.specs.Law.{IsOf, HasBytes, AreOfToday, lines_in}
+use Rattle.cct_laws.proofs.Coinless.{each_in_order, each_covers}
+use Rattle.cct_laws.proofs.Payments.{legal_paid}
+use Rattle.cct_laws.proofs.Said.{KeepsSound, IfSaid, IsToday, setup_said, step_said}
 use Rattle.cct_laws.proofs.Texts.{legal_written}
 
 -- a step that a script can have
@@ -33,38 +35,40 @@ IsPlain s = IsInRange s × (is_played s ≡ true) × HasBytes s
 
 -- a line keeps the setup, and plays a step that a script can have
 abbrev IsRead : Read → Type 0
-IsRead (opens next) = AreAll Fit (setup_at next)
-IsRead (plays s next) = IsPlain s × AreAll Fit (setup_at next)
+IsRead (opens next) = AreAll IsSound (setup_at next)
+IsRead (plays s next) = IsPlain s × AreAll IsSound (setup_at next)
 IsRead (refuses why) = ⊤
 
 -- what the lines from a stage on say
 pub record IsAllSaid (said : Script) : Type 0 where
-  pub fits : AreAll Fit said.setup
+  pub fits : AreAll IsSound said.setup
   pub plain : AllByRecursion IsPlain said.steps
 
 -- a setup line
-opened_read : (setup : Setup) (line : SetupLine) (r : Result Setup LineKind) → added setup line ≡ r → KeepsEach Fit line → AreAll Fit setup → IsRead (opened r)
-opened_read setup line (Ok new) was keeps all = added_keeps Fit setup new line keeps all was
+opened_read : (setup : Setup) (line : SetupLine) (r : Result Setup LineKind) → added setup line ≡ r → KeepsEach IsSound line → AreAll IsSound setup → IsRead (opened r)
+opened_read setup line (Ok new) was keeps all = added_keeps IsSound setup new line keeps all was
 opened_read setup line (Err why) was keeps all = tt
 
-setup_read : (setup : Setup) (r : Result SetupLine LineKind) → IfSaid IsFitLine r → AreAll Fit setup → IsRead (read_setup_line setup r)
+setup_read : (setup : Setup) (r : Result SetupLine LineKind) → IfSaid KeepsSound r → AreAll IsSound setup → IsRead (read_setup_line setup r)
 setup_read setup (Err why) fit all = tt
 setup_read setup (Ok says.Begin) fit all = all
 setup_read setup (Ok (says.Acceptor d)) fit all = opened_read setup (says.Acceptor d) _ refl fit all
-setup_read setup (Ok (says.Hopper d)) fit all = absurd fit
+setup_read setup (Ok (says.Hopper d)) fit all = opened_read setup (says.Hopper d) _ refl fit all
 setup_read setup (Ok (says.Value addr place value id)) fit all = opened_read setup (says.Value addr place value id) _ refl fit all
 setup_read setup (Ok (says.Named addr texts)) fit all = opened_read setup (says.Named addr texts) _ refl fit all
 
 -- a step line
-known_read : (known : Bool) (setup : Setup) (s : Step) → AreAll Fit setup → IsPlain s → IsRead (cond known (plays s (at_steps setup)) (refuses kind.Device))
+known_read : (known : Bool) (setup : Setup) (s : Step) → AreAll IsSound setup → IsPlain s → IsRead (cond known (plays s (at_steps setup)) (refuses kind.Device))
 known_read true setup s all plain = (plain, all)
 known_read false setup s all plain = tt
 
-step_read : (setup : Setup) (r : Result Step LineKind) → IfSaid IsToday r → AreAll Fit setup → IsRead (read_step_line setup r)
+step_read : (setup : Setup) (r : Result Step LineKind) → IfSaid IsToday r → AreAll IsSound setup → IsRead (read_step_line setup r)
 step_read setup (Err why) today all = tt
 step_read setup (Ok step.End) today all = all
 step_read setup (Ok (step.Coin addr place)) today all = known_read _ setup (step.Coin addr place) all (today, refl, tt)
 step_read setup (Ok (step.Alien addr)) today all = known_read _ setup (step.Alien addr) all (tt, refl, tt)
+step_read setup (Ok (step.Fall addr)) today all = known_read _ setup (step.Fall addr) all (tt, refl, tt)
+step_read setup (Ok (step.Jam addr)) today all = known_read _ setup (step.Jam addr) all (tt, refl, tt)
 step_read setup (Ok (step.Reset addr)) today all = known_read _ setup (step.Reset addr) all (tt, refl, tt)
 step_read setup (Ok (step.Next addr)) today all = known_read true setup (step.Next addr) all (tt, refl, today)
 step_read setup (Ok (step.Fault f)) today all = known_read true setup (step.Fault f) all (today.0, refl, today.1)
@@ -72,38 +76,39 @@ step_read setup (Ok (step.Command c)) today all = known_read true setup (step.Co
 step_read setup (Ok s) today all = absurd today
 
 -- a line
-read_if : (b : Bool) (r : Read) → (b ≡ true → IsRead r) → IsRead (cond b r (refuses kind.Word))
-read_if true r holds = holds refl
-read_if false r holds = tt
+read_unless : (b : Bool) (r : Read) → (b ≡ false → IsRead r) → IsRead (cond b (refuses kind.Word) r)
+read_unless true r holds = tt
+read_unless false r holds = holds refl
 
-form_read : (stage : Stage) (line : List ℕ) → AreAll Fit (setup_at stage) → IsRead (read_form stage line)
+form_read : (stage : Stage) (line : List ℕ) → AreAll IsSound (setup_at stage) → IsRead (read_form stage line)
 unfolding read_form
-form_read (at_setup setup) line all = read_if (is_setup_word (word_of line)) _ (λ played. setup_read setup (setup_line line) (setup_said line played) all)
-form_read (at_steps setup) line all = read_if (is_step_word (word_of line)) _ (λ played. step_read setup (step_line line) (step_said line played) all)
+form_read (at_setup setup) line all = setup_read setup (setup_line line) (setup_said line) all
+form_read (at_steps setup) line all =
+    read_unless (is_later_word (word_of line)) _ (λ played. step_read setup (step_line line) (step_said line played) all)
 form_read (at_end setup) line all = tt
 
 refused_if : (b : Bool) (why : LineKind) (r : Read) → IsRead r → IsRead (cond b (refuses why) r)
 refused_if true why r known = tt
 refused_if false why r known = known
 
-line_read : (number : ℕ) (stage : Stage) (line : List ℕ) → AreAll Fit (setup_at stage) → IsRead (read_line number stage line)
+line_read : (number : ℕ) (stage : Stage) (line : List ℕ) → AreAll IsSound (setup_at stage) → IsRead (read_line number stage line)
 line_read number stage line all =
     refused_if (is_over stage) kind.Trailing _
     (refused_if (nat_lt most_lines number) kind.Lines _ (refused_if (nat_lt most_bytes (length line)) kind.Long _ (form_read stage line all)))
 
 -- the setup after it
-after_fits : (stage : Stage) (r : Read) → IsRead r → AreAll Fit (setup_at stage) → AreAll Fit (setup_at (stage_after stage r))
+after_fits : (stage : Stage) (r : Read) → IsRead r → AreAll IsSound (setup_at stage) → AreAll IsSound (setup_at (stage_after stage r))
 after_fits stage (opens next) known all = known
 after_fits stage (plays s next) known all = known.1
 after_fits stage (refuses why) known all = all
 
 -- a line, and what the lines after it say
-said_on : (number : ℕ) (stage : Stage) (r : Read) (rest : Script) → IsRead r → AreAll Fit (setup_at stage) → IsAllSaid rest → IsAllSaid (goes_on number stage r rest)
+said_on : (number : ℕ) (stage : Stage) (r : Read) (rest : Script) → IsRead r → AreAll IsSound (setup_at stage) → IsAllSaid rest → IsAllSaid (goes_on number stage r rest)
 said_on number stage (opens next) rest known all said = said
 said_on number stage (plays s next) rest known all said = record { fits = said.fits; plain = (known.0, said.plain) }
 said_on number stage (refuses why) rest known all said = record { fits = all; plain = tt }
 
-said_from : (number : ℕ) (stage : Stage) (parts : List (List ℕ)) → AreAll Fit (setup_at stage) → IsAllSaid (script_from number stage parts)
+said_from : (number : ℕ) (stage : Stage) (parts : List (List ℕ)) → AreAll IsSound (setup_at stage) → IsAllSaid (script_from number stage parts)
 said_from number stage [] all = record { fits = all; plain = tt }
 said_from number stage (rest ∷ []) all = record { fits = all; plain = tt }
 said_from number stage (line ∷ next ∷ parts) all =
@@ -114,7 +119,7 @@ said_from number stage (line ∷ next ∷ parts) all =
 -- what bytes say
 said : (bytes : List ℕ) → IsAllSaid (script bytes)
 unfolding script
-said bytes = said_from 1 (at_setup no_devices) (slice_split is_line_feed bytes) (record { each = All-nil Fit; distinct = tt })
+said bytes = said_from 1 (at_setup no_devices) (slice_split is_line_feed bytes) (record { each = All-nil IsSound; distinct = tt })
 
 -- a front of the steps
 front_plain : (played rest : List Step) → AllByRecursion IsPlain (played ++ rest) → AllByRecursion IsPlain played
@@ -122,13 +127,8 @@ front_plain [] rest all = tt
 front_plain (s ∷ played) rest all = (all.0, front_plain played rest all.1)
 
 -- the setup of a script
-pub setup_of_today : (bytes : List ℕ) → IsSetupOfToday (script bytes).setup
-setup_of_today bytes =
-    let all = (said bytes).fits in
-    record {
-      sound = record { devices = All-weaker Fit IsSound (λ d fit. fit.sound) (script bytes).setup.devices all.each; distinct = all.distinct };
-      acceptors = All-weaker Fit (λ d. IsAcceptor d.body) (λ d fit. fit.accepting) (script bytes).setup.devices all.each;
-    }
+pub setup_sound : (bytes : List ℕ) → IsSoundSetup (script bytes).setup
+setup_sound bytes = let all = (said bytes).fits in record { devices = all.each; distinct = all.distinct }
 
 -- a front of the steps of a script
 pub front_of_today : (bytes : List ℕ) (played rest : List Step) → (script bytes).steps ≡ played ++ rest → AreOfToday played
@@ -144,19 +144,32 @@ front_of_today bytes played rest fronts =
 pub steps_of_today : (bytes : List ℕ) → AreOfToday (script bytes).steps
 steps_of_today bytes = front_of_today bytes (script bytes).steps [] (sym (append-nil (script bytes).steps))
 
--- a script that was played up to a step posts in order, and under the pace loses none in silence
-pub played_holds : (capacity : Option ℕ) (bytes : List ℕ) (played rest : List Step) (transcript : List Entry)
+-- a script that was played up to a step posts in order at each device
+pub played_in_order : (capacity : Option ℕ) (bytes : List ℕ) (played rest : List Step) (transcript : List Entry)
     (d : DeviceSetup) → (script bytes).steps ≡ played ++ rest →
     Legal capacity (script bytes).setup played transcript → Honest transcript → IsOf (script bytes).setup d →
-    InOrder (lines_in d transcript) × (Pace (lines_in d transcript) → Covers (lines_in d transcript))
-played_holds capacity bytes played rest transcript d fronts legal honest own =
-    let setup = (script bytes).setup in
-    let of_setup = setup_of_today bytes in
-    let of_steps = front_of_today bytes played rest fronts in
-    let accepting = (found_in (λ e. IsAcceptor e.body) setup.devices d.addr d of_setup.acceptors own).0 in (
-      legal_in_order capacity setup played transcript d of_setup.sound own accepting of_steps.in_range legal honest,
-      legal_covers capacity setup played transcript d of_setup.sound own accepting of_steps.in_range legal honest,
-    )
+    InOrder (lines_in d transcript)
+played_in_order capacity bytes played rest transcript d fronts legal honest own =
+    each_in_order capacity (script bytes).setup played transcript d (setup_sound bytes) own
+    (front_of_today bytes played rest fronts).in_range legal honest
+
+-- under the pace loses none in silence
+pub played_covers : (capacity : Option ℕ) (bytes : List ℕ) (played rest : List Step) (transcript : List Entry)
+    (d : DeviceSetup) → (script bytes).steps ≡ played ++ rest →
+    Legal capacity (script bytes).setup played transcript → Honest transcript → IsOf (script bytes).setup d →
+    Pace (lines_in d transcript) → Covers (lines_in d transcript)
+played_covers capacity bytes played rest transcript d fronts legal honest own =
+    each_covers capacity (script bytes).setup played transcript d (setup_sound bytes) own
+    (front_of_today bytes played rest fronts).in_range legal honest
+
+-- and pays each order of a hopper at most once
+pub played_paid : (capacity : Option ℕ) (bytes : List ℕ) (played rest : List Step) (transcript : List Entry)
+    (d : DeviceSetup) → (script bytes).steps ≡ played ++ rest →
+    Legal capacity (script bytes).setup played transcript → Honest transcript → IsOf (script bytes).setup d →
+    IsHopper d.body → Paid (lines_in d transcript)
+played_paid capacity bytes played rest transcript d fronts legal honest own paying =
+    legal_paid capacity (script bytes).setup played transcript d (setup_sound bytes) own paying
+    (front_of_today bytes played rest fronts).in_range legal honest
 
 -- the texts of two scripts that were played up to a step tell their transcripts, whatever the journals take
 pub played_texts : (capacity room : Option ℕ) (bytes other : List ℕ) (played rest others more : List Step)
@@ -167,7 +180,7 @@ played_texts capacity room bytes other played rest others more first second fron
     let steps = front_of_today bytes played rest fronts in
     let other_steps = front_of_today other others more other_fronts in
     text_is_one first second
-    (legal_written capacity (script bytes).setup played first (setup_of_today bytes).sound steps.in_range steps.bytes
+    (legal_written capacity (script bytes).setup played first (setup_sound bytes) steps.in_range steps.bytes
     legal)
-    (legal_written room (script other).setup others second (setup_of_today other).sound other_steps.in_range
+    (legal_written room (script other).setup others second (setup_sound other) other_steps.in_range
     other_steps.bytes other_legal) same

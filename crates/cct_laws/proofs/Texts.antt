@@ -33,7 +33,7 @@ use Rattle.cct_laws.specs.Law.{IsOf, IsCommandOfBytes, HasBytes}
 use Rattle.cct_laws.proofs.Setups.{found_in}
 use Rattle.cct_laws.proofs.Brought.{Comes, takes_coin, leaves_coin, leaves_alien, drops_coin, drops_none, jams, jams_none, is_reset, AtWork, row_after, AtDevice, came, took, halted, idled, made_exchange, made_put, wire_of, wire_end, record_end, poll_wire, poll_end, Brought, of_device, faulted, refused, began_scan, began_sale, nobody, polled, sold, balanced, lost_power, lost_in_put, lost_in_sale}
 use Rattle.cct_laws.proofs.Seen.{unscanned, along}
-use Rattle.cct_laws.proofs.Said.{IfThere}
+use Rattle.cct_terms.proofs.OfBytes.{IfThere}
 use Rattle.cct_laws.proofs.Lists.{Fine, IsAsked, fine_begun, row_asked, fine_more, scan_ends}
 use Rattle.cct_laws.proofs.Told.{FitsCommand, IsTold, AllTold, all_written, heard_bytes, FitsAsk, ask_bytes, poll_fits, FitsJob, job_fits, FitsRow, row_fits, exchange_ends, put_end}
 

@@ -41,9 +41,9 @@ use Rattle.cct_model.specs.Job.{Job, free, works, job, begun, with_line, done, c
 use Rattle.cct_model.specs.Transcript.{pending, heard_by_devices, heard_by_host, met, answers, heard_after, got_by, dispensed_by, doses, doses_of, owner, lines_of}
 use Rattle.cct_model.proofs.Requests.{request_short}
 use Rattle.cct_text.specs.Written.{IsMask, IsCommand, IsRecord, IsFault, IsEnd, IsWritten}
-use Rattle.cct_laws.proofs.Said.{IfThere}
+use Rattle.cct_terms.proofs.OfBytes.{Bytes, IfThere, bytes_are, are_bytes, bytes_more}
 use Rattle.cct_laws.proofs.Rows.{Each, RowHolds, JudgedHolds, RoundHolds, SettleHolds, CommandHolds, each_row}
-use Rattle.cct_laws.proofs.Bytes.{Bytes, bytes_are, are_bytes, bytes_more, spelled_bytes, FitsReply, got_fits}
+use Rattle.cct_laws.proofs.Bytes.{spelled_bytes, FitsReply, got_fits}
 use Rattle.cct_laws.proofs.Answering.{FitsMet, FitsAll, there_or, answer_bytes, asks_fit}
 
 -- a command whose mask has 16 bits, and whose count, place and path are bytes

@@ -1,5 +1,5 @@
 -- No order is ever closed with life counts that don't fit it.
-use Rattle.std.proofs.Common.{◌≡◌, ℕ, zero, suc, ◌==◌, ◌||◌, cond, true, false, Bool, List, [], ◌∷◌, ◌++◌, length, refl, subst, Option, Some, None, All}
+use Rattle.std.proofs.Common.{◌≡◌, ℕ, zero, suc, ◌==◌, ◌||◌, cond, true, false, Bool, List, [], ◌++◌, length, refl, subst, Option, Some, None, All}
 use Rattle.std.specs.Prelude.{⊤}
 use Rattle.cct_model.specs.terms.coin.Credits.{Credits}
 use Rattle.cct_model.specs.terms.wire.CheckKind.{CheckKind}
@@ -45,7 +45,7 @@ use Rattle.cct_laws.proofs.EitherKind.{both_hopper}
 use Rattle.cct_laws.proofs.Keeping.{IsRanged, ranged_step, kept_step}
 use Rattle.cct_laws.proofs.Paying.{pays_kept, never_odd}
 use Rattle.cct_laws.proofs.Payouts.{Pays}
-use Rattle.cct_laws.proofs.Rows.{RowHolds, CommandHolds, JudgedHolds, each_row, Each, judged_holds}
+use Rattle.cct_laws.proofs.Rows.{RowHolds, CommandHolds, JudgedHolds, each_row, any_sent, judged_holds}
 use Rattle.cct_laws.proofs.Seen.{along}
 use Rattle.cct_laws.proofs.Whole.{honest_before}
 
@@ -150,10 +150,6 @@ judged_fit : (addr : ℕ) (state : EpochState) (credits : Option Credits) (seen 
 judged_fit addr state credits seen =
     judged_holds IsNotOdd addr state credits seen (λ counter lost posted. tt) (λ mask counter posted. tt)
 
-any_asked : (qs : List Request) → Each (λ q. ⊤) qs
-any_asked [] = tt
-any_asked (q ∷ qs) = (tt, any_asked qs)
-
 command_fit : (d : DeviceSetup) (c : Command) (since : List Line) (state : EpochState) (owed : Option OpenOrder) →
     is_for_acceptor c ≡ true →
     CommandHolds (λ q. ⊤) IsNotOdd d c (judged_in c since state) (payment_in since owed)
@@ -164,7 +160,7 @@ command_fit d (command.Round addr) since state owed suited =
 command_fit d (command.Stop addr) since state owed suited =
     let means = judged_fit addr state (credits_read since) (mask_read since) in
     record { shuts = tt; round = record { reads = tt; looks = tt; means = means }; over = tt }
-command_fit d (command.Ident addr) since state owed suited = any_asked (ident_requests d.body)
+command_fit d (command.Ident addr) since state owed suited = any_sent (ident_requests d.body)
 command_fit d (command.Path addr place path) since state owed suited = (tt, tt)
 command_fit d c since state owed suited = absurd cc
 

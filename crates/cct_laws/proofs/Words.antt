@@ -1,4 +1,4 @@
--- The first field of a line, and the words that are played today.
+-- The first field of a line, and the words that aren't played.
 use Rattle.std.proofs.Common.{◌≡◌, ℕ, suc, ◌+◌, not, Bool, true, false, cond, List, [], ◌∷◌, take, bytes_eq, refl, ap, sym, ◌∙◌, arith}
 use Rattle.std.specs.List.{slice_split, before_first, onto_first, position_or_len}
 use Rattle.std.specs.Cmp.Lexicographic.{bytes_decides}
@@ -18,9 +18,10 @@ pub first_part : (p : ℕ → Bool) (xs : List ℕ) → FirstPart (before_first 
 first_part p [] = ([], refl)
 first_part p (x ∷ xs) = first_by p (p x) x xs (position_or_len p xs) (slice_split p xs) (first_part p xs)
 
--- a word that isn't played is none of these
-pub no_word : (plays : List ℕ → Bool) (word name : List ℕ) → bytes_eq word name ≡ true → plays name ≡ false → plays word ≡ true → ⊥
-no_word plays word name same never played = clash (sym never ∙ ap plays (sym ((bytes_decides word name).0 same)) ∙ played)
+-- a word that is none of these is no name of them
+pub no_word : (is_one : List ℕ → Bool) (word name : List ℕ) → bytes_eq word name ≡ true → is_one name ≡ true →
+    is_one word ≡ false → ⊥
+no_word is_one word name same one none = clash (sym one ∙ ap is_one (sym ((bytes_decides word name).0 same)) ∙ none)
   where
-    clash : false ≡ true → ⊥
+    clash : true ≡ false → ⊥
     clash e = cc

@@ -10,23 +10,18 @@ use Rattle.cct_model.specs.lines.command.Step.{Step}
 use Rattle.cct_model.specs.lines.command.Step.TheVariants as step
 use Rattle.cct_model.specs.lines.entry.Entry.{Entry}
 use Rattle.cct_model.specs.Reply.{Reply}
-use Rattle.cct_model.specs.Device.{IsAcceptor, reply_of}
+use Rattle.cct_model.specs.Device.{reply_of}
 use Rattle.cct_model.specs.Exchange.{ask, device_at}
 use Rattle.cct_model.specs.Line.{Line}
 use Rattle.cct_model.specs.Job.{address_of}
 use Rattle.cct_model.specs.Legal.{is_played}
 use Rattle.cct_model.specs.Script.{IsInRange}
-use Rattle.cct_model.specs.Setup.{IsSoundSetup}
 use Rattle.cct_model.specs.Transcript.{met, lines_of, heard_after, got_by, onto}
 use Rattle.cct_text.specs.Written.{IsFault}
 
 -- The device is the one of a setup at its address.
 abbrev pub IsOf : Setup → DeviceSetup → Type 0
 IsOf setup d = device_at setup.devices d.addr ≡ Some d
-
--- All devices of a setup are coin acceptors.
-abbrev pub AreAcceptors : Setup → Type 0
-AreAcceptors setup = All (λ d. IsAcceptor d.body) setup.devices
 
 -- The lines of a device's address, newest first, in a transcript, which is oldest first.
 abbrev pub lines_in : DeviceSetup → List Entry → List Line
@@ -66,8 +61,3 @@ pub record AreOfToday (steps : List Step) : Type 0 where
   pub in_range : All IsInRange steps
   pub bytes : All HasBytes steps
   pub played : All (λ s. is_played s ≡ true) steps
-
--- A setup that a script can have today: it is sound, and its devices are coin acceptors.
-pub record IsSetupOfToday (setup : Setup) : Type 0 where
-  pub sound : IsSoundSetup setup
-  pub acceptors : AreAcceptors setup

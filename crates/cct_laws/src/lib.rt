@@ -8,9 +8,9 @@
 //!
 //! A crate above cites the lemmas behind them, each of which is named in its function's `Answers.antt`; and beside them
 //! `kept_legal`, `kept_since_legal` and `kept_hopper_legal` of `proofs/Whole.antt`, by which any fact of a device holds
-//! that each thing that can come keeps; `along` of `proofs/Seen.antt`, by which one of all entries does; `setup_of_today`,
-//! `steps_of_today` and `front_of_today` of `proofs/Scripts.antt`, and there `played_holds`, which joins them for the
-//! front of a script; and `legal_written` of `proofs/Texts.antt`.
+//! that each thing that can come keeps; `along` of `proofs/Seen.antt`, by which one of all entries does; `setup_sound`,
+//! `steps_of_today` and `front_of_today` of `proofs/Scripts.antt`, and there `played_in_order`, `played_covers` and
+//! `played_paid`, which say three laws of the front of a script; and `legal_written` of `proofs/Texts.antt`.
 #![tactic(auto)]
 
 ghost use Rattle.std.specs.Prelude.{ℕ, ◌≡◌, ◌<◌, ◌≤◌, ◌⊎◌, false, List, [], ◌++◌, None, true, Option, Some, ◌≢◌, ◌+◌, length};
@@ -60,7 +60,7 @@ ghost use Rattle.cct_laws.specs.Recorded.{HasNoJob, IsRestart, open_orders, tota
 ghost use Rattle.cct_laws.specs.Ending.{nexts_at, EndsRound, IsUndisturbed, nexts_needed, is_payment, EndsAs, IsPaidOut};
 ghost use Rattle.cct_laws.specs.Faults.{FailsByFault, EchoFailsByFault, EndsByFaults, is_dispense, FailsByFaultBut};
 ghost use Rattle.cct_model.specs.Honest.{Honest, IsHonestFault};
-ghost use Rattle.cct_laws.specs.Law.{IsOf, EachEntry, HasBytes, IsAnswered, IsUnanswered, AreOfToday, IsSetupOfToday, lines_in};
+ghost use Rattle.cct_laws.specs.Law.{IsOf, EachEntry, HasBytes, IsAnswered, IsUnanswered, AreOfToday, lines_in};
 ghost use Rattle.cct_laws.specs.Since.{since_epoch_in, mask_set_in, IsMaskedBy, MayBreak, HaveCauses};
 ghost use Rattle.cct_laws.specs.Tries.{TriesAt, ScanTriesAt, HasFewTries, failed_in};
 
@@ -196,23 +196,33 @@ pub fn a_job_given_up_had_three_faults()
         → EachEntry (EndsByFaults BROADCAST) (onto [] transcript) }
 {}
 
-/// Whatever bytes a script has, its setup is one of today, and so are its steps and every front of them: the laws above
-/// hold of them, also where a line of the script is refused.
+/// Whatever bytes a script has, its setup is sound, and its steps and every front of them are in range, say bytes and are
+/// played: the laws above hold of them, also where a line of the script is refused. The devices of the setup may be of
+/// either kind.
 pub fn scripts_are_in_range()
-    ensures setup { (bytes : List ℕ) → IsSetupOfToday (script bytes).setup }
+    ensures setup { (bytes : List ℕ) → IsSoundSetup (script bytes).setup }
     ensures steps { (bytes : List ℕ) → AreOfToday (script bytes).steps }
     ensures fronts { (bytes : List ℕ) (played rest : List Step) → (script bytes).steps ≡ played ++ rest
         → AreOfToday played }
 {}
 
 /// A script that was played up to any of its steps, over an honest wire, posts in order at each device of its setup,
-/// and at each device that keeps the pace it loses no coin in silence.
+/// where a hopper posts nothing; at each device that keeps the pace it loses no coin in silence; and at each hopper it
+/// pays each order at most once, and closes it with exactly the coins that fell.
 pub fn played_scripts_keep_the_laws()
-    ensures { (capacity : Option ℕ) (bytes : List ℕ) (played rest : List Step) (transcript : List Entry)
+    ensures in_order { (capacity : Option ℕ) (bytes : List ℕ) (played rest : List Step) (transcript : List Entry)
+        (d : DeviceSetup)
+        → (script bytes).steps ≡ played ++ rest → Legal capacity (script bytes).setup played transcript
+        → Honest transcript → IsOf (script bytes).setup d → InOrder (lines_in d transcript) }
+    ensures covers { (capacity : Option ℕ) (bytes : List ℕ) (played rest : List Step) (transcript : List Entry)
         (d : DeviceSetup)
         → (script bytes).steps ≡ played ++ rest → Legal capacity (script bytes).setup played transcript
         → Honest transcript → IsOf (script bytes).setup d
-        → InOrder (lines_in d transcript) × (Pace (lines_in d transcript) → Covers (lines_in d transcript)) }
+        → Pace (lines_in d transcript) → Covers (lines_in d transcript) }
+    ensures paid { (capacity : Option ℕ) (bytes : List ℕ) (played rest : List Step) (transcript : List Entry)
+        (d : DeviceSetup)
+        → (script bytes).steps ≡ played ++ rest → Legal capacity (script bytes).setup played transcript
+        → Honest transcript → IsOf (script bytes).setup d → IsHopper d.body → Paid (lines_in d transcript) }
 {}
 
 /// A text tells its legal transcript: two legal transcripts of one setup with the same text are the same. The setup is

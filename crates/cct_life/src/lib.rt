@@ -4,3 +4,6 @@
 mod count;
 
 pub use count::{LifeCount, since};
+
+#[cfg(test)]
+mod tests;

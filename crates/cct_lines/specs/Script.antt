@@ -27,17 +27,9 @@ is_line_feed byte = byte == 10
 abbrev pub word_of : List ℕ → List ℕ
 word_of line = before_first is_space line
 
--- The setup words that are played today.
-abbrev pub is_setup_word : List ℕ → Bool
-is_setup_word word =
-    bytes_eq word (codes "acceptor") || bytes_eq word (codes "value") || bytes_eq word (codes "texts") || bytes_eq word (codes "begin")
-
--- The step words that are played today.
-abbrev pub is_step_word : List ℕ → Bool
-is_step_word word =
-    bytes_eq word (codes "coin") || bytes_eq word (codes "alien") || bytes_eq word (codes "reset") || bytes_eq word (codes "next")
-    || bytes_eq word (codes "fault") || bytes_eq word (codes "start") || bytes_eq word (codes "round") || bytes_eq word (codes "stop")
-    || bytes_eq word (codes "scan") || bytes_eq word (codes "ident") || bytes_eq word (codes "path") || bytes_eq word (codes "end")
+-- The step words that no program plays yet: for now they are no words.
+abbrev pub is_later_word : List ℕ → Bool
+is_later_word word = bytes_eq word (codes "vend") || bytes_eq word (codes "crash") || bytes_eq word (codes "balance")
 
 -- Which line a script wants next: one of its setup, a step, or none.
 pub data Stage : Type 0 where
@@ -87,10 +79,10 @@ read_step_line setup (Err why) = refuses why
 read_step_line setup (Ok step.End) = opens (at_end setup)
 read_step_line setup (Ok s) = read_known setup s
 
--- A whole line, by its word and its form; a word that isn't played today is no word.
+-- A whole line, by its word and its form; a word that isn't played yet is no word.
 unfoldable pub read_form : Stage → List ℕ → Read
-read_form (at_setup setup) line = if is_setup_word (word_of line) then read_setup_line setup (setup_line line) else refuses kind.Word
-read_form (at_steps setup) line = if is_step_word (word_of line) then read_step_line setup (step_line line) else refuses kind.Word
+read_form (at_setup setup) line = read_setup_line setup (setup_line line)
+read_form (at_steps setup) line = if is_later_word (word_of line) then refuses kind.Word else read_step_line setup (step_line line)
 read_form (at_end setup) line = refuses kind.Trailing
 
 -- The most lines of a script.

@@ -232,8 +232,8 @@ worth_sold = refl
 worth_broken : totals setup (put_all (Broken 2 0 2 (coin 1 1 ∷ coin 2 1 ∷ []) ∷ posted)) ≡ amounts 300 0 0 0
 worth_broken = refl
 
--- a coin of a place without a value is worth nothing
-worth_valueless : totals sparse (put_all (Reading 2 2 0 (coin 3 1 ∷ coin 17 1 ∷ []) ∷ posted)) ≡ amounts 100 0 0 0
+-- a coin of a place without a value is worth nothing, and so is one of a place that an acceptor doesn't have
+worth_valueless : totals sparse (put_all (Reading 2 2 0 (coin 3 1 ∷ coin 0 1 ∷ coin 17 1 ∷ []) ∷ posted)) ≡ amounts 100 0 0 0
 worth_valueless = refl
 
 -- five coins, oldest first

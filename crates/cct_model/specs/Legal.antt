@@ -182,25 +182,18 @@ Entries capacity setup past (step.Crash at choice) news = EntriesOfCrash setup p
 Entries capacity setup past step.Balance news = news ≡ entry.Balance (totals setup past) ∷ []
 Entries capacity setup past step.End news = ⊥
 
--- A command that is played today.
+-- A command that the program plays: all but a sale.
 abbrev pub is_played_command : Command → Bool
-is_played_command (command.Start addr mask) = true
-is_played_command (command.Round addr) = true
-is_played_command (command.Stop addr) = true
-is_played_command command.Scan = true
-is_played_command (command.Ident addr) = true
-is_played_command (command.Path addr place path) = true
-is_played_command c = false
+is_played_command (command.Vend id price) = false
+is_played_command c = true
 
--- A step that is played today.
+-- A step that the program plays: all but a sale, a loss of power and a balance.
 abbrev pub is_played : Step → Bool
-is_played (step.Coin addr place) = true
-is_played (step.Alien addr) = true
-is_played (step.Reset addr) = true
-is_played (step.Fault f) = true
-is_played (step.Next addr) = true
 is_played (step.Command c) = is_played_command c
-is_played s = false
+is_played (step.Crash at choice) = false
+is_played step.Balance = false
+is_played step.End = false
+is_played s = true
 
 -- A past goes on by the entries of these steps, and ends as this one.
 abbrev pub LegalFrom : Option ℕ → Setup → List Entry → List Step → List Entry → Type 0

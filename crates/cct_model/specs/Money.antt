@@ -1,5 +1,5 @@
 -- What the operator has, as sums over all records and over the jobs that run.
-use Rattle.std.specs.Prelude.{ℕ, ◌+◌, ◌-◌, ◌*◌, nat_le, List, [], ◌∷◌, if◌then◌else◌, Option, Some, None}
+use Rattle.std.specs.Prelude.{ℕ, ◌+◌, ◌-◌, ◌*◌, ◌==◌, nat_le, List, [], ◌∷◌, if◌then◌else◌, Option, Some, None}
 use Rattle.cct_model.specs.terms.coin.Coin.{Coin}
 use Rattle.cct_model.specs.terms.device.DeviceBody.{DeviceBody}
 use Rattle.cct_model.specs.terms.device.DeviceBody.TheVariants.{Acceptor, Hopper}
@@ -17,10 +17,10 @@ use Rattle.cct_model.specs.Job.{Job, works, job, done}
 use Rattle.cct_model.specs.Records.{records, order_named, opened_in, order_in}
 use Rattle.cct_model.specs.Transcript.{lines_of, sale_lines}
 
--- The value of a coin of a place at a device, 0 where there is none or the place has none.
+-- The value of a coin of a place at a device, 0 where there is none or the place has none; places are numbered from 1.
 abbrev pub place_value : Option DeviceSetup → ℕ → ℕ
 place_value None place = 0
-place_value (Some d) place = value_at d.body place
+place_value (Some d) place = if place == 0 then 0 else value_at d.body place
 
 -- The value of coins that a device accepted.
 abbrev pub coins_value : Option DeviceSetup → List Coin → ℕ

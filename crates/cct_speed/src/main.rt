@@ -2,8 +2,9 @@
 //!
 //! Its three words are what each pass does (`none`, `crc16`, `simple` or `crc`), the number of data bytes of a frame, and
 //! the number of passes. With `credits` in the place of the first, a pass is an acceptor that hears the request for its
-//! credits and answers it; the number of data bytes is then not used. Other words end it with exit status 2, and want of
-//! memory ends it with 3.
+//! credits and answers it; the number of data bytes is then not used. With `puts` a pass puts a record into a new journal
+//! on a disk in memory, and what is printed is how many it has at the end; `reopened` does the same, and then opens that
+//! journal again. Other words end it with exit status 2, and want of memory ends it with 3.
 #![tactic(auto)]
 
 ghost use Rattle.std.specs.Prelude.{◌≤◌, length};
@@ -12,7 +13,10 @@ ghost use Rattle.cct_terms.specs.Device.{IsAcceptor, IsSound, IsSoundBody, IsWor
 use arrayvec::ArrayVec;
 use cct_acceptor::Acceptor;
 use cct_check::crc16;
+use cct_disk::MemDisk;
 use cct_frame::{read, write};
+use cct_journal::Journal;
+use cct_record::Record;
 use cct_terms::{COIN_PLACES, CheckKind, DeviceBody, DeviceSetup, HOST, MOST_SENT, Name, Texts};
 use std::alloc::{AllocError, Global};
 use std::process::ExitCode;
@@ -38,7 +42,14 @@ enum Work {
     Read(CheckKind),
     /// An acceptor hears the request for its credits, and answers.
     Credits,
+    /// A journal takes a record.
+    Puts,
+    /// The same, and behind the last pass the journal is opened again.
+    Reopened,
 }
+
+/// The bytes of a disk with room for 65,535 records.
+const DISK: u64 = 2_097_152;
 
 /// The data bytes of the longest frame. A shorter one has a front of them.
 static DATA: [u8; 255] = [0x55; 255];
@@ -66,6 +77,8 @@ fn asked(rt: &(impl Env + AllocGlobal)) -> Option<Task> {
         "simple" => Work::Read(CheckKind::Simple),
         "crc" => Work::Read(CheckKind::Crc),
         "credits" => Work::Credits,
+        "puts" => Work::Puts,
+        "reopened" => Work::Reopened,
         _ => return None,
     };
     Some(Task {
@@ -79,6 +92,8 @@ fn asked(rt: &(impl Env + AllocGlobal)) -> Option<Task> {
 fn run(alloc: Global, task: Task) -> Result<u64, AllocError> {
     match task.work {
         Work::Credits => exchanges(alloc, task.passes),
+        Work::Puts => puts(alloc, task.passes),
+        Work::Reopened => reopened(alloc, task.passes),
         _ => Ok(readings(task)),
     }
 }
@@ -105,6 +120,41 @@ fn request(from: u8) -> ArrayVec<u8, MOST_SENT> {
     let mut out = ArrayVec::new();
     write(CheckKind::Simple, 2, from, 229, &[], &mut out);
     out
+}
+
+/// How many records a new journal has behind so many puts.
+fn puts(alloc: Global, passes: u32) -> Result<u64, AllocError> {
+    match filled(alloc, passes)? {
+        Some(journal) => Ok(u64::from(journal.used())),
+        None => Ok(0),
+    }
+}
+
+/// How many records are found where a journal is opened again behind so many puts.
+fn reopened(alloc: Global, passes: u32) -> Result<u64, AllocError> {
+    match filled(alloc, passes)? {
+        Some(journal) => match Journal::reopen(journal.into_disk()) {
+            Ok((_journal, used)) => Ok(u64::from(used)),
+            Err(_) => Ok(0),
+        },
+        None => Ok(0),
+    }
+}
+
+/// A new journal with so many records on a disk in memory, or none where a call of it fails.
+fn filled(alloc: Global, passes: u32) -> Result<Option<Journal<MemDisk>>, AllocError> {
+    let disk = MemDisk::new(alloc, DISK, Vec::new(alloc))?;
+    Ok(filled_on(disk, passes))
+}
+
+/// The same on this disk, which is blank.
+fn filled_on(disk: MemDisk, passes: u32) -> Option<Journal<MemDisk>> {
+    let mut journal = Journal::create(disk).ok()?;
+    let entry = Record::EpochEnd { addr: 2 };
+    for _pass in 0..passes {
+        journal.put(&entry).ok()?;
+    }
+    Some(journal)
 }
 
 /// A coin acceptor at address 2.
@@ -168,7 +218,8 @@ fn frame(work: Work, from: u8, body: &[u8]) -> ArrayVec<u8, MOST_SENT>
 {
     let kind = match work {
         Work::Read(kind) => kind,
-        Work::Nothing | Work::Crc16 | Work::Credits => CheckKind::Simple,
+        Work::Nothing | Work::Crc16 | Work::Credits | Work::Puts | Work::Reopened =>
+            CheckKind::Simple,
     };
     let mut out = ArrayVec::new();
     write(kind, HOST, from, 0, body, &mut out);
@@ -178,7 +229,7 @@ fn frame(work: Work, from: u8, body: &[u8]) -> ArrayVec<u8, MOST_SENT>
 /// The length of a frame, its CRC, or the header and the number of data bytes of the message that it is, added up.
 fn answer(work: Work, frame: &[u8]) -> u64 {
     match work {
-        Work::Nothing | Work::Credits => frame.len() as u64,
+        Work::Nothing | Work::Credits | Work::Puts | Work::Reopened => frame.len() as u64,
         Work::Crc16 => crc16(frame) as u64,
         Work::Read(kind) => match read(kind, frame) {
             Ok(view) => view.header as u64 + view.body.len() as u64,

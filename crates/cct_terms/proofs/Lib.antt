@@ -4,3 +4,4 @@ mod Payouts
 pub mod Requests
 pub mod Replaced
 pub mod Hoppers
+pub mod OfBytes

@@ -1,5 +1,6 @@
 -- One attempt of a job at a place, and what it leaves.
 use Rattle.std.proofs.Common.{◌≡◌, ℕ, List, [], ◌∷◌, ◌++◌, append_assoc, reverse, refl, sym, ap, subst, ◌∙◌, Option, Some, None}
+use Rattle.std.specs.Option.{IfSome}
 use Rattle.cct_model.specs.terms.device.DeviceSetup.{DeviceSetup}
 use Rattle.cct_model.specs.terms.request.Request.{Request}
 use Rattle.cct_model.specs.lines.record.Record.{Record}
@@ -14,7 +15,7 @@ use Rattle.cct_model.specs.Line.{Line}
 use Rattle.cct_model.specs.Line as line
 use Rattle.cct_model.specs.Job as model
 use Rattle.cct_model.specs.Order.{order, order_by}
-use Rattle.cct_model.specs.Legal.{PollEntries, RowEntries, with_end}
+use Rattle.cct_model.specs.Legal.{PollEntries, RowEntries, due_of, record_due, with_end}
 use Rattle.cct_model.specs.Records.{id_of}
 use Rattle.cct_model.specs.Scan.{end_of_scan}
 use Rattle.cct_model.specs.Transcript.{lines_of, owner, scan_line}
@@ -23,13 +24,13 @@ use Rattle.cct_jobs.specs.declared.job.Need.{Need}
 use Rattle.cct_jobs.specs.declared.job.Need.TheVariants as need
 use Rattle.cct_jobs.specs.declared.owed.Owed.{Owed}
 use Rattle.cct_world.specs.declared.dues.Dues.{Dues}
-use Rattle.cct_jobs.specs.Jobs.{Needs, PutsNext, Stands, line_heard, order_of}
+use Rattle.cct_jobs.specs.Jobs.{ClosesItsOwn, Needs, PutsNext, Stands, line_heard, order_of}
 use Rattle.cct_jobs.specs.Scans.{NeedsScan, StandsScan}
 use Rattle.cct_world.specs.declared.desk.JobDesk.{JobDesk}
 use Rattle.cct_world.specs.Attempt as attempt
 use Rattle.cct_world.specs.Desk.{Attempts, Goes, Keeps, Knows, Works}
 use Rattle.cct_world.specs.Exchange.{Converses, Ends, Talks}
-use Rattle.cct_world.specs.Place.{Asks, AsksNext, IsOwnedAt, NextAt, Place, StandsAt, addr_of, device, end_at, line_at, lines_at, scans}
+use Rattle.cct_world.specs.Place.{Asks, AsksNext, NextAt, OwnsAt, Place, StandsAt, addr_of, device, end_at, line_at, lines_at, scans}
 use Rattle.cct_world.specs.Running.{Settles, dues_left}
 use Rattle.cct_world.proofs.Keeps.{asked_keeps, knows_same, left_keeps, put_keeps}
 use Rattle.cct_world.proofs.Lines.{dosed_at, end_at_too, epoch_dosed, idle_at, idle_line, job_dosed, order_dosed, own_wire, put_at, wire_at}
@@ -99,7 +100,7 @@ idle_attempts gives link addr state owed desk report reported none same ordered 
   reported_is = is;
   link = refl;
   used_is = refl;
-  goes = λ hears place past heard at keeps owned.
+  goes = λ hears place past heard at keeps owns.
       subst (λ a. Goes hears place past (entry.Idle a ∷ []) desk.job desk.epoch desk.dues) at
       (subst (λ j. Goes hears place past (entry.Idle (addr_of place) ∷ []) j desk.epoch desk.dues) (sym none)
       (subst (λ n. Goes hears place past (entry.Idle (addr_of place) ∷ []) None n desk.dues) (sym same)
@@ -193,7 +194,7 @@ ask_attempts gives before after addr old new state owed desk end report told rep
           talk.reported_is settled;
       link = talk.goes;
       used_is = refl;
-      goes = λ hears place past heard_is at keeps owned.
+      goes = λ hears place past heard_is at keeps owns.
           let news = with_end addr (entry.Wire addr talk.sent talk.heard) end in
           subst (λ n. Goes hears place past news desk.job n desk.dues) (sym same)
           (subst (λ o. Goes hears place past news desk.job state o) (sym ordered)
@@ -204,26 +205,32 @@ ask_attempts gives before after addr old new state owed desk end report told rep
           (model.job (lines_at place past)) refl keeps.works keeps.knows needs talk.talks ends heard_is s) settled));
     }
 
+-- the record that is due
+due_owns : (past : List Entry) (addr : ℕ) (r : Record) (due : Option Record) → due ≡ Some r
+    → IfSome due (ClosesItsOwn past addr) → ClosesItsOwn past addr r
+due_owns past addr r due is owns = subst (λ x. IfSome x (ClosesItsOwn past addr)) is owns
+
 -- what a put leaves
 put_by : (hears : List ℕ → List ℕ) (place : Place) (past : List Entry) (old new : Job) (r : Record)
     (state last : EpochState) (owed left : Dues) (end : Option End) (kept : Option Job)
     (told reported : List Entry) (j : model.Job) → model.job (lines_at place past) ≡ j
     → Works place (Some old) j (model.epoch (lines_at place past)) (order (lines_at place past))
-    → Knows place state owed (lines_at place past) → IsOwnedAt place past → last ≡ model.epoch_by r state
+    → Knows place state owed (lines_at place past) → OwnsAt place past → last ≡ model.epoch_by r state
     → PutsOn old r → IsNoScan old → GoesByPut old r new → OwesByPut old r owed.order left.order → left.id ≡ owed.id
     → Ends new end
     → Settles end new (addr_of place) kept told reported
     → Goes hears place past (with_end (addr_of place) (entry.Put r) end) kept last (dues_left kept left)
-put_by hears place past old new r state last owed left end kept told reported model.free was works knows owned moved
+put_by hears place past old new r state last owed left end kept told reported model.free was works knows owns moved
     needs no_scan goes owes same ends settled = absurd works
 put_by hears scans past old new r state last owed left end kept told reported (model.works c since) was works knows
-    owned moved needs no_scan goes owes same ends settled = absurd (no_scan since works)
+    owns moved needs no_scan goes owes same ends settled = absurd (no_scan since works)
 put_by hears (device d) past old new r state last owed left end kept told reported (model.works c since) was works knows
-    owned moved needs no_scan goes owes same ends settled =
+    owns moved needs no_scan goes owes same ends settled =
     let n = model.epoch (lines_of d past) in
     let o = order (lines_of d past) in
     let puts = needs d c since n o works in
-    let own : owner past r ≡ d.addr = puts.owned past owned in
+    let own : owner past r ≡ d.addr =
+    puts.owned past (due_owns past d.addr r _ (ap (due_of d (lines_of d past)) was ∙ ap record_due puts.row_is) owns) in
     let end_is : end ≡ model.end_of d c (line.put r) since n =
     ends (device d) c (line.put r) since n (order_by r o) (goes d c since n n o works) in
     record {
@@ -253,12 +260,12 @@ put_attempts gives link addr old new r state owed moves desk used end report tol
       reported_is = reported_with report told reported addr (entry.Put r) end new desk.job told_is settled;
       link = refl;
       used_is = used_is;
-      goes = λ hears place past heard_is at keeps owned.
+      goes = λ hears place past heard_is at keeps owns.
           subst (λ o. Goes hears place past (with_end addr (entry.Put r) end) desk.job desk.epoch o) (sym left)
           (subst (λ a. Settles end new a desk.job told reported
           → Goes hears place past (with_end a (entry.Put r) end) desk.job desk.epoch (dues_left desk.job moves)) at
           (λ s. put_by hears place past old new r state desk.epoch owed moves end desk.job told reported
-          (model.job (lines_at place past)) refl keeps.works keeps.knows owned moved needs no_scan after owes same
+          (model.job (lines_at place past)) refl keeps.works keeps.knows owns moved needs no_scan after owes same
           ends s) settled);
     }
 

@@ -18,6 +18,7 @@ use Rattle.cct_model.specs.declared.judging.OpenOrder.{OpenOrder}
 use Rattle.cct_model.specs.Device.{is_acceptor}
 use Rattle.cct_model.specs.Exchange.{acceptor_there, device_at, hopper_there}
 use Rattle.cct_model.specs.Job as model
+use Rattle.cct_model.specs.Legal.{is_played_command}
 use Rattle.cct_model.specs.Job.{address_of}
 use Rattle.cct_model.specs.Order.{order}
 use Rattle.cct_model.specs.Refusal.{at_acceptor, at_device, at_hopper, busy, halt_refusal, last_id, pay_refusal, refusal, running_id, running_refusal, settle_refusal, start_refusal, when_free, when_unpaid}
@@ -28,8 +29,7 @@ use Rattle.cct_jobs.specs.Jobs.{IsRunning, MayBegin, Stands, end_of_job, halts, 
 use Rattle.cct_jobs.specs.Scans.{StandsScan}
 use Rattle.cct_world.specs.Desk.{Keeps, Works}
 use Rattle.cct_world.specs.Place.{Place, device, scans}
-use Rattle.cct_world.specs.Hosted.{is_halt, is_hosted}
-use Rattle.cct_world.specs.Running.{acceptor_refusal, busy_by, halting_refusal, halts_in, hopper_refusal, is_running, refusal_beside}
+use Rattle.cct_world.specs.Running.{acceptor_refusal, busy_by, halting_refusal, halts_in, hopper_refusal, is_halt, is_running, refusal_beside}
 use Rattle.cct_jobs.proofs.Halts.{halts_known}
 use Rattle.cct_jobs.proofs.Needs.{end_known}
 use Rattle.cct_world.proofs.Keeps.{GoesByHalt, halt_keeps, keeps_quiet, taken_keeps}
@@ -106,7 +106,7 @@ halting_is setup d job state owed past c runs halt there keeps = absurd cc
 -- the tests of a command that begins a job at a device
 refusal_is : (setup : Setup) (d : DeviceSetup) (job : Option Job) (state : EpochState) (owed : Dues) (last : ℕ)
     (past : List Entry) (c : Command) → last ≡ last_id setup past → c ≢ command.Scan → is_halt c ≡ false
-    → IsTrue (is_hosted c) → device_at setup.devices (address_of c) ≡ Some d
+    → IsTrue (is_played_command c) → device_at setup.devices (address_of c) ≡ Some d
     → Keeps (device d) job state owed (lines_of d past) → refusal_beside d job state owed last c ≡ refusal None setup
     past c
 refusal_is setup d job state owed last past (command.Start addr mask) is_last no_scan no_halt hosted there keeps =
@@ -160,7 +160,7 @@ runs_where_free d Idle free = absurd cc
 runs_where_free d (Running mask counter) free = tt
 
 pub may_begin : (devices : List DeviceSetup) (d : DeviceSetup) (job : Option Job) (state : EpochState)
-    (owed : Dues) (last : ℕ) (c : Command) → IsTrue (is_hosted c) → is_halt c ≡ false → c ≢ command.Scan
+    (owed : Dues) (last : ℕ) (c : Command) → IsTrue (is_played_command c) → is_halt c ≡ false → c ≢ command.Scan
     → device_at devices (address_of c) ≡ Some d → refusal_beside d job state owed last c ≡ None
     → MayBegin c devices state (order_of owed.order)
 may_begin devices d job state owed last (command.Start addr mask) hosted no_halt no_scan there free =
@@ -213,7 +213,7 @@ address_there (e ∷ es) addr d is = there_by (e.addr == addr) e d (device_at es
 -- a command at a device
 pub command_taken : (setup : Setup) (d : DeviceSetup) (c : Command) (before : Option Job) (job : Job)
     (state : EpochState) (owed after : Dues) (last : ℕ) (past : List Entry) → last ≡ last_id setup past
-    → c ≢ command.Scan → is_halt c ≡ false → IsTrue (is_hosted c) → after.order ≡ owed.order
+    → c ≢ command.Scan → is_halt c ≡ false → IsTrue (is_played_command c) → after.order ≡ owed.order
     → after.id ≡ running_id (model.works c [])
     → device_at setup.devices (address_of c) ≡ Some d → refusal_beside d before state owed last c ≡ None
     → MayBegin c setup.devices state (order_of owed.order) → Stands d job c [] state (order_of owed.order)
@@ -235,7 +235,7 @@ command_taken setup d c before job state owed after last past is_last no_scan no
 
 pub command_refused : (setup : Setup) (d : DeviceSetup) (c : Command) (job : Option Job) (state : EpochState)
     (owed : Dues) (last : ℕ) (past : List Entry) (why : CommandNo) → last ≡ last_id setup past → c ≢ command.Scan
-    → is_halt c ≡ false → IsTrue (is_hosted c)
+    → is_halt c ≡ false → IsTrue (is_played_command c)
     → device_at setup.devices (address_of c) ≡ Some d → refusal_beside d job state owed last c ≡ Some why
     → Keeps (device d) job state owed (lines_of d past)
     → (Some why ≡ refusal None setup past c) × Keeps (device d) job state owed (lines_of d (entry.No c why ∷ past))
@@ -297,7 +297,7 @@ scan_refused setup c job state owed past why is refused keeps = (
 )
 
 -- no device
-pub absent_refused : (setup : Setup) (past : List Entry) (c : Command) → IsTrue (is_hosted c) → c ≢ command.Scan
+pub absent_refused : (setup : Setup) (past : List Entry) (c : Command) → IsTrue (is_played_command c) → c ≢ command.Scan
     → device_at setup.devices (address_of c) ≡ None → Some NoDevice ≡ refusal None setup past c
 absent_refused setup past (command.Start addr mask) hosted no_scan none =
     sym (ap (λ f. at_acceptor f (when_free past (start_refusal mask))) none)

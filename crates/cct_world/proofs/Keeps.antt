@@ -21,9 +21,8 @@ use Rattle.cct_jobs.specs.declared.job.Job.{Job}
 use Rattle.cct_world.specs.declared.dues.Dues.{Dues}
 use Rattle.cct_jobs.specs.Jobs.{Stands, order_of}
 use Rattle.cct_world.specs.Desk.{Keeps, Knows, Works}
-use Rattle.cct_world.specs.Hosted.{is_halt}
 use Rattle.cct_world.specs.Place.{IsAsBefore, Place, StandsAt, addr_of, device, line_at, lines_at, scans}
-use Rattle.cct_world.specs.Running.{Settles, dues_left}
+use Rattle.cct_world.specs.Running.{Settles, dues_left, is_halt}
 use Rattle.cct_world.proofs.Lines.{IsQuiet, job_asked, own_ended, own_put, own_taken}
 
 -- a line more of a job is of the same payment

@@ -3,6 +3,7 @@ pub mod CoinPlaces
 pub mod Commands
 pub mod Keeps
 pub mod Lines
+pub mod Owned
 pub mod Places
 pub mod Steps
 pub mod Talks

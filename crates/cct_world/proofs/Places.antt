@@ -1,6 +1,7 @@
 -- The desk of the device at an address, by its index.
 use Rattle.std.proofs.Common.{◌≡◌, ◌≢◌, ℕ, zero, suc, ◌<◌, ◌≤◌, ◌^◌, ◌==◌, nat_lt, Bool, true, false, cond, List, [], ◌∷◌, ◌++◌, length, set, take, drop, get_or, Option, Some, None, refl, sym, ap, subst, ◌∙◌, arith}
 use Rattle.std.specs.List.{All, position, position_or_len}
+use Rattle.std.specs.Option.{IfSome}
 use Rattle.std.proofs.lemmas.Bool.{eqb-true}
 use Rattle.std.proofs.lemmas.Bool.Decides.{nat_tests}
 use Rattle.std.proofs.Math.ListN.{length-set}
@@ -16,8 +17,9 @@ use Rattle.cct_model.specs.declared.judging.EpochState.TheVariants.{Idle}
 use Rattle.cct_model.specs.Device.{IsSound}
 use Rattle.cct_model.specs.Exchange.{device_at}
 use Rattle.cct_model.specs.Job as model
+use Rattle.cct_model.specs.Legal.{due_of, due_there}
 use Rattle.cct_model.specs.Setup.{AreDistinct, IsSoundSetup}
-use Rattle.cct_jobs.specs.Jobs.{order_of}
+use Rattle.cct_jobs.specs.Jobs.{ClosesItsOwn, order_of}
 use Rattle.cct_world.specs.declared.desk.JobDesk.{JobDesk}
 use Rattle.cct_world.specs.declared.dues.Dues.{Dues}
 use Rattle.cct_world.specs.Desk.{AllSit, IsFree, Sits, Works, greatest_paying}
@@ -26,7 +28,7 @@ use Rattle.cct_model.specs.Refusal.{greatest_running, last_id, running_id}
 use Rattle.cct_model.specs.Transcript.{lines_of}
 use Rattle.std.specs.Prelude.{max}
 use Rattle.std.proofs.Math.Nat.{max-zero}
-use Rattle.cct_world.specs.Place.{AreAt, AreOwned, HasNoSale, IsOwnedAt, Place, device, scans}
+use Rattle.cct_world.specs.Place.{AreAt, HasNoSale, OwnsAt, OwnsItsPut, Place, device, scans}
 use Rattle.cct_world.proofs.Keeps.{keeps_other, keeps_quiet}
 use Rattle.cct_world.proofs.Lines.{IsQuiet}
 
@@ -105,11 +107,12 @@ desk_sits (e ∷ es) (m ∷ ms) zero d k past within is at all =
     subst (λ x. Sits past (device x) k) (sym is) (subst (λ x. Sits past (device e) x) (sym at) all.0)
 desk_sits (e ∷ es) (m ∷ ms) (suc i) d k past within is at all = desk_sits es ms i d k past (omega arith) is at all.1
 
--- the open order of the device at an address
-pub owned_there : (setup : Setup) (d : DeviceSetup) (addr : ℕ) (past : List Entry)
-    → device_at setup.devices addr ≡ Some d → d.addr ≡ addr → AreOwned setup past → IsOwnedAt (device d) past
-owned_there setup d addr past there is owned =
-    owned d (subst (λ a. device_at setup.devices a ≡ Some d) (sym is) there)
+-- what the device at an address is about to put
+pub owns_there : (setup : Setup) (d : DeviceSetup) (addr : ℕ) (past : List Entry)
+    → device_at setup.devices addr ≡ Some d → d.addr ≡ addr → OwnsItsPut setup past addr → OwnsAt (device d) past
+owns_there setup d addr past there is owns =
+    subst (λ a. IfSome (due_of d (lines_of d past) (model.job (lines_of d past))) (ClosesItsOwn past a)) (sym is)
+    (subst (λ found. IfSome (due_there past addr found) (ClosesItsOwn past addr)) there owns)
 
 other_of : (a b : ℕ) → (a == b) ≡ false → a ≢ b
 other_of a b e = grind (arith, nat_tests)

@@ -29,7 +29,7 @@ use Rattle.cct_world.specs.declared.host.Host.{Host}
 use Rattle.cct_world.specs.Attempt.{Attempt, HeardBy, Links, asked, idle, news_of, put}
 use Rattle.cct_world.specs.Coin.{entry_of, fall_told, jam_told}
 use Rattle.cct_world.specs.Host as hosts
-use Rattle.cct_world.specs.Place.{AreOwned, scans}
+use Rattle.cct_world.specs.Place.{OwnsItsPut, scans}
 use Rattle.cct_world.proofs.Keeps.{keeps_quiet}
 use Rattle.cct_world.proofs.Lines.{IsQuiet, accepted_quiet, inhibited_quiet, unsold}
 use Rattle.cct_world.proofs.Places.{desks_quiet}
@@ -97,17 +97,17 @@ linked bus after addr past (put r end) link stands = (
 pub next_goes : (bus after : Bus) (host left : Host) (addr : ℕ) (past before report : List Entry) → before ≡ []
     → hosts.Nexts wires.Exchanges bus after addr host left before report
     → wires.setup_of bus ≡ hosts.setup_of host → hosts.StandsFor host past → wires.StandsFor bus past
-    → AreOwned (hosts.setup_of host) past
+    → OwnsItsPut (hosts.setup_of host) past addr
     → EntriesOfNext (heard_after (hosts.setup_of host) past) (hosts.setup_of host) past addr (reverse report)
     × Left left after past report
-next_goes bus after host left addr past before report none next same stands wired owned =
+next_goes bus after host left addr past before report none next same stands wired owns =
     let setup = hosts.setup_of host in
     let news : reverse report ≡ news_of addr next.what =
     ap reverse (next.reported_is ∙ ap (λ es. es ++ reverse (news_of addr next.what)) none)
     ∙ reverse-reverse (news_of addr next.what) in
     let wire = linked bus after addr past next.what next.link wired in
     let heard = subst (λ s. HeardBy (heard_after s past) next.what) same wire.0 in
-    let goes = next.goes (heard_after setup past) past heard stands owned in
+    let goes = next.goes (heard_after setup past) past heard stands owns in
     subst (λ ns. EntriesOfNext (heard_after setup past) setup past addr ns
     × (hosts.StandsFor left (ns ++ past) × wires.StandsFor after (ns ++ past))) (sym news) (goes.0, (goes.1, wire.1))
 

@@ -18,7 +18,7 @@ use Rattle.cct_world.specs.declared.dues.Dues.{Dues}
 use Rattle.cct_jobs.specs.Jobs.{order_of}
 use Rattle.cct_world.specs.declared.desk.JobDesk.{JobDesk}
 use Rattle.cct_world.specs.Attempt.{Attempt, HeardBy, Links, news_of, used_by}
-use Rattle.cct_world.specs.Place.{AreAt, IsOwnedAt, NextAt, Place, StandsAt, addr_of, device, lines_at, scans}
+use Rattle.cct_world.specs.Place.{AreAt, NextAt, OwnsAt, Place, StandsAt, addr_of, device, lines_at, scans}
 
 -- What the host has at a place is the job that its lines tell, beside the epoch and the open order.
 abbrev pub Works : Place → Option Job → model.Job → EpochState → Option OpenOrder → Type 0
@@ -87,7 +87,7 @@ pub record Goes (hears : List ℕ → List ℕ) (place : Place) (past news : Lis
 
 -- A job, an epoch and an open order make one attempt over a link, and leave this desk; this is the id that its put used,
 -- or 0. What it adds to the report are the entries of a `next` at its place, where what it heard is what follows the
--- piece that it sent, and the open order was opened there.
+-- piece that it sent, and an order that it closes was opened there.
 pub record Attempts {L : Type 0} (gives : L → List ℕ → List ℕ → L → Type 0) (old new : L) (addr : ℕ) (job : Option Job)
     (state : EpochState) (owed : Dues) (desk : JobDesk) (used : ℕ)
     (report reported : List Entry) : Type 0 where
@@ -96,5 +96,5 @@ pub record Attempts {L : Type 0} (gives : L → List ℕ → List ℕ → L → 
   pub link : Links gives old new what
   pub used_is : used ≡ used_by what
   pub goes : (hears : List ℕ → List ℕ) (place : Place) (past : List Entry) → HeardBy hears what → addr_of place ≡ addr
-      → Keeps place job state owed (lines_at place past) → IsOwnedAt place past
+      → Keeps place job state owed (lines_at place past) → OwnsAt place past
       → Goes hears place past (news_of addr what) desk.job desk.epoch desk.dues

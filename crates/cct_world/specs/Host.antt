@@ -11,7 +11,7 @@ use Rattle.cct_model.specs.Setup.{IsSoundSetup}
 use Rattle.cct_world.specs.declared.host.Host.{Host}
 use Rattle.cct_world.specs.Attempt.{Attempt, HeardBy, Links, news_of}
 use Rattle.cct_world.specs.Desk.{AllSit, Sits, no_of}
-use Rattle.cct_world.specs.Place.{AreOwned, HasNoSale, scans}
+use Rattle.cct_world.specs.Place.{HasNoSale, OwnsItsPut, scans}
 
 -- The setup of a host.
 abbrev pub setup_of : Host → Setup
@@ -39,14 +39,14 @@ Answers old new c result =
     → (no_of result ≡ refusal None (setup_of old) past c) × StandsFor new (command_entry c (no_of result) ∷ past)
 
 -- A `next` at an address makes one attempt over a link. What it adds to the report are the entries of a `next` after
--- whatever happened, where what it heard is what follows the piece that it sent, and each open order was opened at its
--- own hopper; and the host goes on by them.
+-- whatever happened, where what it heard is what follows the piece that it sent, and an order that it closes was opened at
+-- that address; and the host goes on by them.
 pub record Nexts {L : Type 0} (gives : L → List ℕ → List ℕ → L → Type 0) (old new : L) (addr : ℕ) (before after : Host)
     (report reported : List Entry) : Type 0 where
   pub what : Attempt
   pub reported_is : reported ≡ report ++ reverse (news_of addr what)
   pub link : Links gives old new what
   pub goes : (hears : List ℕ → List ℕ) (past : List Entry) → HeardBy hears what → StandsFor before past
-      → AreOwned (setup_of before) past
+      → OwnsItsPut (setup_of before) past addr
       → EntriesOfNext hears (setup_of before) past addr (news_of addr what) × StandsFor after
       (news_of addr what ++ past)

@@ -6,6 +6,5 @@ pub mod Exchange
 pub mod Running
 pub mod Desk
 pub mod Host
-pub mod Hosted
 pub mod Machine
 pub mod World

@@ -1,13 +1,14 @@
 -- A host and a bus that stand for all that happened on them.
-use Rattle.std.specs.Prelude.{List, ◌++◌, None, reverse}
+use Rattle.std.specs.Prelude.{List, ◌++◌, None, reverse, ⊤}
 use Rattle.cct_model.specs.terms.device.Setup.{Setup}
 use Rattle.cct_model.specs.lines.command.Step.{Step}
+use Rattle.cct_model.specs.lines.command.Step.TheVariants as step
 use Rattle.cct_model.specs.lines.entry.Entry.{Entry}
 use Rattle.cct_model.specs.Legal.{Entries}
 use Rattle.cct_bus.specs.Bus as wires
 use Rattle.cct_world.specs.declared.world.Machine.{Machine}
 use Rattle.cct_world.specs.Host as hosts
-use Rattle.cct_world.specs.Place.{AreOwned}
+use Rattle.cct_world.specs.Place.{OwnsItsPut}
 
 -- The setup of a machine.
 abbrev pub setup_of : Machine → Setup
@@ -22,7 +23,14 @@ pub record StandsFor (machine : Machine) (past : List Entry) : Type 0 where
 abbrev pub Goes : Setup → Machine → List Entry → Step → List Entry → Type 0
 Goes setup new past s report = Entries None setup past s (reverse report) × StandsFor new (reverse report ++ past)
 
--- A step gives these entries, oldest first, whatever is behind it, where each open order was opened at its own hopper.
+-- What a step takes for granted of the past: where it makes the job at an address put a record that closes an order,
+-- that order was opened there. Of any other step nothing is asked.
+abbrev pub StepOwnsItsPut : Setup → List Entry → Step → Type 0
+StepOwnsItsPut setup past (step.Next addr) = OwnsItsPut setup past addr
+StepOwnsItsPut setup past s = ⊤
+
+-- A step gives these entries, oldest first, whatever is behind it, where an order that it closes is its own address's.
 abbrev pub Plays : Machine → Machine → Step → List Entry → Type 0
 Plays old new s report =
-    (past : List Entry) → StandsFor old past → AreOwned (setup_of old) past → Goes (setup_of old) new past s report
+    (past : List Entry) → StandsFor old past → StepOwnsItsPut (setup_of old) past s
+    → Goes (setup_of old) new past s report

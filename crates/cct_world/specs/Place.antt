@@ -1,5 +1,6 @@
 -- Where the host may have a job: at each device, and at the address of all devices, where scans are.
 use Rattle.std.specs.Prelude.{◌≡◌, ◌≢◌, ℕ, List, ◌∷◌, ◌++◌, Option, Some, ⊤}
+use Rattle.std.specs.Option.{IfSome}
 use Rattle.cct_model.specs.terms.wire.TheConstants.{BROADCAST}
 use Rattle.cct_model.specs.terms.wire.CheckKind.{CheckKind}
 use Rattle.cct_model.specs.terms.device.DeviceSetup.{DeviceSetup}
@@ -10,15 +11,15 @@ use Rattle.cct_model.specs.lines.entry.End.{End}
 use Rattle.cct_model.specs.lines.entry.Entry.{Entry}
 use Rattle.cct_model.specs.declared.judging.EpochState.{EpochState}
 use Rattle.cct_model.specs.declared.judging.OpenOrder.{OpenOrder}
-use Rattle.cct_model.specs.Exchange.{ask, device_at}
+use Rattle.cct_model.specs.Exchange.{ask}
 use Rattle.cct_model.specs.Line.{Line}
 use Rattle.cct_model.specs.Job as model
 use Rattle.cct_model.specs.Order.{order}
 use Rattle.cct_model.specs.Scan.{end_of_scan, poll_of, scan_row}
-use Rattle.cct_model.specs.Legal.{NextEntries, ScanEntries}
+use Rattle.cct_model.specs.Legal.{NextEntries, ScanEntries, due_at, due_of}
 use Rattle.cct_model.specs.Transcript.{lines_of, sale_lines, scan_line, scan_lines}
 use Rattle.cct_jobs.specs.declared.job.Job.{Job}
-use Rattle.cct_jobs.specs.Jobs.{IsOpenedAt, SendsNext, Stands, line_heard}
+use Rattle.cct_jobs.specs.Jobs.{ClosesItsOwn, SendsNext, Stands, line_heard}
 use Rattle.cct_jobs.specs.Scans.{PollsNext, StandsScan}
 
 -- A device of the setup, or the place of scans.
@@ -79,15 +80,14 @@ IsAsBefore place past news =
 abbrev pub AreAt : ℕ → List Entry → List Entry → Type 0
 AreAt addr past news = (place : Place) → addr_of place ≢ addr → IsAsBefore place past news
 
--- The open order of a device was opened at the device's address, so that the record that closes it is the device's.
-abbrev pub IsOwnedAt : Place → List Entry → Type 0
-IsOwnedAt (device d) past = IsOpenedAt d (order (lines_of d past)) past
-IsOwnedAt scans past = ⊤
+-- The record that the job at an address is about to put, if it puts one, closes no order of another address.
+abbrev pub OwnsItsPut : Setup → List Entry → ℕ → Type 0
+OwnsItsPut setup past addr = IfSome (due_at setup past addr) (ClosesItsOwn past addr)
 
--- So was that of each device of a setup.
-abbrev pub AreOwned : Setup → List Entry → Type 0
-AreOwned setup past =
-    (d : DeviceSetup) → device_at setup.devices d.addr ≡ Some d → IsOpenedAt d (order (lines_of d past)) past
+-- The same of a place; a scan puts nothing.
+abbrev pub OwnsAt : Place → List Entry → Type 0
+OwnsAt (device d) past = IfSome (due_of d (lines_of d past) (model.job (lines_of d past))) (ClosesItsOwn past d.addr)
+OwnsAt scans past = ⊤
 
 -- No sale is under way: the host makes none yet.
 abbrev pub HasNoSale : List Entry → Type 0

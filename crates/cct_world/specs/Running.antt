@@ -34,6 +34,11 @@ acceptor_refusal d job further = if is_acceptor d.body then option_or (busy_by j
 abbrev pub hopper_refusal : DeviceSetup → Option Job → Option CommandNo → Option CommandNo
 hopper_refusal d job further = if is_acceptor d.body then Some WrongKind else option_or (busy_by job) further
 
+-- A command that halts a job, and begins none.
+abbrev pub is_halt : Command → Bool
+is_halt (command.Halt addr) = true
+is_halt c = false
+
 -- There is a job that can be halted.
 abbrev pub halts_in : Option Job → Bool
 halts_in None = false

@@ -14,6 +14,6 @@ setup_of world = machines.setup_of world.machine.value
 abbrev pub StandsFor : World → List Entry → Type 0
 StandsFor world past = machines.StandsFor world.machine.value past
 
--- A step gives these entries, oldest first, whatever is behind it.
+-- A step gives these entries, oldest first, whatever is behind it, where an order that it closes is its own address's.
 abbrev pub Plays : World → World → Step → List Entry → Type 0
 Plays old new s report = machines.Plays old.machine.value new.machine.value s report

@@ -6,16 +6,15 @@ ghost use Rattle.cct_model.specs.declared.judging.OpenOrder.{OpenOrder};
 ghost use Rattle.cct_model.specs.lines.entry.Entry.{Entry};
 ghost use Rattle.cct_model.specs.Exchange.{device_at};
 ghost use Rattle.cct_model.specs.Job.{address_of, counted, epoch_by, works};
+ghost use Rattle.cct_model.specs.Legal.{is_played_command};
 ghost use Rattle.cct_model.specs.Records.{id_of};
 ghost use Rattle.cct_model.specs.Refusal.{id_refusal, pay_refusal, running_id, running_refusal, settle_refusal, start_refusal};
 ghost use Rattle.cct_jobs.specs.Jobs.{MayBegin, order_of};
 ghost use Rattle.cct_world.specs.Place as places;
-ghost use Rattle.cct_world.specs.Hosted.{is_halt, is_hosted};
-ghost use Rattle.cct_world.specs.Running.{acceptor_refusal, busy_by, halting_refusal, halts_in, hopper_refusal, id_left, is_running, refusal_beside};
+ghost use Rattle.cct_world.specs.Running.{acceptor_refusal, busy_by, halting_refusal, halts_in, hopper_refusal, id_left, is_halt, is_running, refusal_beside};
 
 use crate::dues::Dues;
 use crate::exchange::{converse, settled};
-use crate::hosted::is_halt;
 use crate::values::valueless;
 use arrayvec::ArrayVec;
 use cct_jobs::{Job, Need};
@@ -58,7 +57,7 @@ impl JobDesk {
         last: u32,
     ) -> Result<(), CommandNo>
         requires there { device_at setup.now.devices (address_of command.now) ≡ Some device.now }
-        requires hosted { IsTrue (is_hosted command.now) }
+        requires played { IsTrue (is_played_command command.now) }
         requires no_scan { command.now ≢ Command.Scan }
         ensures stays { OnErr result (self.new ≡ self.old) }
         ensures commands { device.now.serial < 2 ^ 24
@@ -127,7 +126,7 @@ impl JobDesk {
         last: u32,
     ) -> Result<(), CommandNo>
         requires there { device_at setup.now.devices (address_of command.now) ≡ Some device.now }
-        requires hosted { IsTrue (is_hosted command.now) }
+        requires played { IsTrue (is_played_command command.now) }
         requires no_halt { is_halt command.now ≡ false }
         requires no_scan { command.now ≢ Command.Scan }
         ensures stays { OnErr result (self.new ≡ self.old) }
@@ -346,6 +345,16 @@ impl JobDesk {
             None => 0,
             Some(_) => self.dues.id,
         }
+    }
+}
+
+/// Whether a command halts a job, and begins none.
+fn is_halt(command: &Command) -> bool
+    ensures { result ≡ is_halt command.now }
+{
+    match command {
+        Command::Halt { .. } => true,
+        _ => false,
     }
 }
 

@@ -4,9 +4,9 @@ ghost use Rattle.std.specs.List.{All, position};
 ghost use Rattle.arrayvec.specs.ArrayVec.{array_vec_len};
 ghost use Rattle.cct_model.specs.Exchange.{device_at};
 ghost use Rattle.cct_model.specs.Job.{address_of};
+ghost use Rattle.cct_model.specs.Legal.{is_played_command};
 ghost use Rattle.cct_model.specs.Setup.{IsSoundSetup};
 ghost use Rattle.cct_world.specs.Desk.{IsFree, greatest_paying};
-ghost use Rattle.cct_world.specs.Hosted.{is_hosted};
 
 use crate::desk::{JobDesk, greater};
 use arrayvec::ArrayVec;
@@ -46,7 +46,7 @@ impl<'s> Host<'s> {
 
     /// The operator gives a command. A refused one, for the first reason that holds, changes nothing.
     pub fn command(&mut self, command: &Command) -> Result<(), CommandNo>
-        requires hosted { IsTrue (is_hosted command.now) }
+        requires played { IsTrue (is_played_command command.now) }
         ensures setup { setup_of self.new ≡ setup_of self.old }
         ensures stays { OnErr result (Stays self.old self.new) }
         ensures answers { Answers self.old self.new command.now result }
@@ -67,7 +67,7 @@ impl<'s> Host<'s> {
 
     /// The operator gives a command to the device at an address.
     fn command_at(&mut self, addr: u8, command: &Command) -> Result<(), CommandNo>
-        requires hosted { IsTrue (is_hosted command.now) }
+        requires played { IsTrue (is_played_command command.now) }
         requires no_scan { command.now ≢ Command.Scan }
         requires address { address_of command.now ≡ addr }
         ensures setup { setup_of self.new ≡ setup_of self.old }

@@ -6,7 +6,6 @@ mod desk;
 mod dues;
 mod exchange;
 mod host;
-mod hosted;
 mod values;
 mod world;
 

@@ -1,8 +1,6 @@
 //! The world of a script: the host, and the bus with its devices.
 ghost use Rattle.std.specs.Prelude.{◌≡◌, ◌≢◌, ◌==◌, ◌<◌, ◌≤◌, ℕ, List, [], true, ◌∷◌, ◌++◌, IfOk, IsTrue, Option, Some, None, is_some};
-ghost use Rattle.std.specs.List.{All};
 ghost use Rattle.cct_model.specs.lines.command.Step.TheVariants as step;
-ghost use Rattle.cct_model.specs.Device.{IsAcceptor};
 ghost use Rattle.cct_model.specs.Exchange.{acceptor_there, device_at, hopper_there};
 ghost use Rattle.cct_model.specs.Legal.{is_played, is_played_command};
 ghost use Rattle.cct_model.specs.Script.{IsFault, IsInRange, is_known};
@@ -34,7 +32,6 @@ impl<'s> World<'s> {
     /// Fails only where there is no memory for it.
     pub fn build(alloc: Global, setup: &'s Setup) -> Result<World<'s>, AllocError>
         requires sound { IsSoundSetup setup.now }
-        requires acceptors { All (λ d. IsAcceptor d.body) setup.now.devices }
         ensures setup { IfOk result (λ world. setup_of world ≡ setup.now) }
         ensures fresh { IfOk result (λ world. StandsFor world []) }
     {

@@ -1,5 +1,5 @@
-use Rattle.cct_laws.proofs.Scripts.{setup_of_today, steps_of_today, front_of_today}
+use Rattle.cct_laws.proofs.Scripts.{setup_sound, steps_of_today, front_of_today}
 use Rattle.cct_laws.proofs.scripts_are_in_range.Goals as goal
 
 pub returns : goal.returns
-returns c = record { setup = setup_of_today; steps = steps_of_today; fronts = front_of_today }
+returns c = record { setup = setup_sound; steps = steps_of_today; fronts = front_of_today }

@@ -8,17 +8,14 @@ use Rattle.cct_bench.proofs.Writing.{wrote_none, wrote_nothing}
 use Rattle.cct_bench.proofs.Going.{going_setup, going_stands, going_by, played_by, played_none}
 use Rattle.cct_bench.proofs.play.Bench.play_script.Goals as goal
 
-pub build-requires-clause-sound : goal.build-requires-clause-sound
-build-requires-clause-sound g c =
+pub build-requires : goal.build-requires
+build-requires g c =
     let left0 = g.S.Source.left c.args.script.now in
-    (going_setup left0 (g.S.Source.left c.read_setup.new.script) (standing_of c.read_setup.new.lines).held c.in-Ok.first
-    c.read_setup.new.setup IsNothing IsNothing c.in-Ok.ensures.opened).sound
-
-pub build-requires-clause-acceptors : goal.build-requires-clause-acceptors
-build-requires-clause-acceptors g c =
-    let left0 = g.S.Source.left c.args.script.now in
-    (going_setup left0 (g.S.Source.left c.read_setup.new.script) (standing_of c.read_setup.new.lines).held c.in-Ok.first
-    c.read_setup.new.setup IsNothing IsNothing c.in-Ok.ensures.opened).acceptors
+    record {
+      sound =
+          going_setup left0 (g.S.Source.left c.read_setup.new.script) (standing_of c.read_setup.new.lines).held
+          c.in-Ok.first c.read_setup.new.setup IsNothing IsNothing c.in-Ok.ensures.opened;
+    }
 
 pub returns-in-Err-clause-played : goal.returns-in-Err-clause-played
 returns-in-Err-clause-played g c =

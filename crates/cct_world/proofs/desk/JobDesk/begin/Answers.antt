@@ -6,7 +6,7 @@ use Rattle.cct_world.proofs.desk.JobDesk.begin.Goals as goal
 pub returns-in-Some-clause-commands : goal.returns-in-Some-clause-commands
 returns-in-Some-clause-commands c fits past is_last sits =
     command_refused c.args.setup.now c.args.device.now c.args.command.now c.args.self.now.job c.args.self.now.epoch
-    c.args.self.now.dues c.args.last past c.in-Some.why is_last c.requires.no_scan c.requires.no_halt c.requires.hosted
+    c.args.self.now.dues c.args.last past c.in-Some.why is_last c.requires.no_scan c.requires.no_halt c.requires.played
     c.requires.there (sym c.refusal.ensures ∙ c.in-Some.is) sits
 
 pub returns-in-None-clause-commands : goal.returns-in-None-clause-commands
@@ -14,9 +14,9 @@ returns-in-None-clause-commands c fits past is_last sits =
     let free = sym c.refusal.ensures ∙ c.in-None.is in
     command_taken c.args.setup.now c.args.device.now c.args.command.now c.args.self.now.job c.begin.result
     c.args.self.now.epoch c.args.self.now.dues _ c.args.last past is_last
-    c.requires.no_scan c.requires.no_halt c.requires.hosted refl c.id_begun-self.ensures c.requires.there free
+    c.requires.no_scan c.requires.no_halt c.requires.played refl c.id_begun-self.ensures c.requires.there free
     (may_begin c.args.setup.now.devices c.args.device.now c.args.self.now.job c.args.self.now.epoch
     c.args.self.now.dues c.args.last c.args.command.now
-    c.requires.hosted c.requires.no_halt c.requires.no_scan c.requires.there free)
+    c.requires.played c.requires.no_halt c.requires.no_scan c.requires.there free)
     (subst (Stands c.args.device.now c.begin.result c.args.command.now [] c.args.self.now.epoch) c.order.ensures.value
     (c.begin.ensures.device c.args.device.now c.requires.there fits c.requires.no_scan)) sits

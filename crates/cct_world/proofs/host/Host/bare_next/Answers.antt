@@ -14,7 +14,7 @@ returns-then-addr-eq-BROADCAST-clause-nexts g c =
       what = attempt.what;
       reported_is = attempt.reported_is;
       link = attempt.link;
-      goes = λ hears past heard stands owned.
+      goes = λ hears past heard stands owns.
           let goes = attempt.goes hears scans past heard (sym c.if-addr-eq-BROADCAST.true) stands.scan tt in (
             of_scan hears (device_at setup.devices c.args.addr) _ past _ c.args.addr c.requires.bare
                 c.if-addr-eq-BROADCAST.true goes.entries,

@@ -27,7 +27,7 @@ returns-in-None-clause-answers c past stands =
     let first = c.index_of.ensures.first ∙ ap (position (is_at c.args.addr)) c.as_slice-devices.ensures.value in
     let none = absent setup.devices c.args.addr _ first c.in-None.is in
     let bare = ap (device_at setup.devices) c.requires.address ∙ none in (
-      absent_refused setup past c.args.command.now c.requires.hosted c.requires.no_scan bare,
+      absent_refused setup past c.args.command.now c.requires.played c.requires.no_scan bare,
       host_quiet c.args.self.now past _ (refused_quiet past c.args.command.now NoDevice) stands,
     )
 

@@ -4,7 +4,7 @@ use Rattle.cct_model.specs.Exchange.{device_at}
 use Rattle.cct_world.specs.Attempt.{news_of}
 use Rattle.cct_world.specs.Place.{AreAt, device}
 use Rattle.cct_world.proofs.Lines.{attempt_last, attempt_unsold}
-use Rattle.cct_world.proofs.Places.{absent, at_this, desk_lent, desk_sits, device_found, device_turn, found_in, is_at, owned_there}
+use Rattle.cct_world.proofs.Places.{absent, at_this, desk_lent, desk_sits, device_found, device_turn, found_in, is_at, owns_there}
 use Rattle.cct_world.proofs.Steps.{of_next}
 use Rattle.cct_world.proofs.host.Host.next.Goals as goal
 
@@ -31,11 +31,10 @@ returns-in-Some-clause-nexts g c =
       what = attempt.what;
       reported_is = attempt.reported_is;
       link = attempt.link;
-      goes = λ hears past heard stands owned.
+      goes = λ hears past heard stands owns.
           let sits = desk_sits setup.devices ks i this.0 _ past within this.1 y stands.desks in
-          let goes = attempt.goes hears (device this.0) past heard place.2 sits (owned_there setup this.0 c.args.addr
-          past
-          place.1 place.2 owned) in
+          let goes = attempt.goes hears (device this.0) past heard place.2 sits (owns_there setup this.0 c.args.addr
+          past place.1 place.2 owns) in
           let at = subst (λ a. AreAt a past news) place.2 goes.at in
           let turned = device_turn setup ks _ c.args.self.now.scan i c.next-used.new.self this.0 c.args.addr past news
           stands.sound kept found this.1 at goes.keeps stands.desks stands.scan in (

@@ -1,0 +1,3 @@
+mod Cuts
+mod Images
+pub mod Ranges

@@ -1,0 +1,6 @@
+pub mod Content
+pub mod Disk
+pub mod File
+pub mod Laws
+pub mod Memory
+pub mod Traced

@@ -1,0 +1,120 @@
+// A disk of a fixed length, with what a read gives and what a loss of power may leave.
+ghost use Rattle.std.specs.Prelude.{◌≡◌, ℕ, ◌+◌, ◌≤◌, Bool, true, Option, Some, is_some, List, OnOk, OnErr};
+ghost use Rattle.std.specs.Prelude.{length, take, drop};
+ghost use Rattle.cct_disk.specs.Disk.{put_at, SameOutside, Follows, IsWithin, Only, Elapses};
+ghost use Rattle.cct_edge.specs.Faults.{HasCause, Rose};
+
+use cct_edge::Failed;
+
+/// A disk of a fixed number of bytes, which may lose its power between any two calls.
+///
+/// Of a disk that is honest and tells what a read gives, the clauses say all that may be relied on: bytes that were
+/// synced stay. `docs/JOURNAL.md` says what is trusted of it. A failed call may succeed when it is made again.
+pub trait Disk {
+    /// How many bytes it has.
+    ghost size: { Self → ℕ };
+
+    /// Whether it keeps what was synced, and gives what was written.
+    ghost honest: { Self → Bool };
+
+    /// The bytes that a read gives, where the object tells them.
+    ghost seen: { Self → Option (List ℕ) };
+
+    /// The images that a loss of power may leave now.
+    ghost may_leave: { Self → List ℕ → Type 0 };
+
+    /// The clock: a number that never falls.
+    ghost moment: { Self → ℕ };
+
+    /// The images that a loss of power might have left at some moment from that reading of the clock on, during a call
+    /// or between two.
+    ghost left_since: { Self → ℕ → List ℕ → Type 0 };
+
+    /// How often a call has failed: a count that never falls, and may stand still at 2^64 - 1.
+    ghost faults: { Self → ℕ };
+
+    /// How often the power was cut: a count that never falls, and may stand still at 2^64 - 1.
+    ghost cuts: { Self → ℕ };
+
+    /// How many bytes it has.
+    fn len(&self) -> u64
+        ensures { result ≡ size self.now };
+
+    /// Fills `room` with the bytes from `at` on. A call that fails may have filled it in part.
+    fn read(&mut self, at: u64, room: &mut [u8]) -> Result<(), Failed>
+        requires { at + length room.old ≤ size self.old }
+        ensures gives { OnOk result ((s : List ℕ) → seen self.old ≡ Some s →
+            room.new ≡ take (length room.new) (drop at s)) }
+        ensures room { length room.new ≡ length room.old }
+        ensures seen { seen self.new ≡ seen self.old }
+        ensures images { honest self.old ≡ true → IsWithin (may_leave self.old) (may_leave self.new) }
+        ensures size { size self.new ≡ size self.old }
+        ensures honest { honest self.new ≡ honest self.old }
+        ensures cuts { cuts self.new ≡ cuts self.old }
+        ensures time { Elapses (moment self.old) (moment self.new) (left_since self.old) (left_since self.new)
+            (may_leave self.new) }
+        ensures cause { HasCause (faults self.old) (faults self.new) result };
+
+    /// Puts `bytes` in place of those from `at` on. Until a sync or a cut a loss of power may leave any bytes there,
+    /// also where the call failed; a read after a call that failed may give any there, too.
+    fn write(&mut self, at: u64, bytes: &[u8]) -> Result<(), Failed>
+        requires { at + length bytes.now ≤ size self.old }
+        ensures written { OnOk result (honest self.old ≡ true → (s : List ℕ) → seen self.old ≡ Some s →
+            seen self.new ≡ Some (put_at s at bytes.now)) }
+        ensures torn { OnErr result (honest self.old ≡ true → (s : List ℕ) → seen self.old ≡ Some s →
+            (c : List ℕ) × (seen self.new ≡ Some c) × SameOutside at (length bytes.now) s c) }
+        ensures images { honest self.old ≡ true →
+            Follows (SameOutside at (length bytes.now)) (may_leave self.old) (may_leave self.new) }
+        ensures tells { is_some (seen self.new) ≡ is_some (seen self.old) }
+        ensures size { size self.new ≡ size self.old }
+        ensures honest { honest self.new ≡ honest self.old }
+        ensures cuts { cuts self.new ≡ cuts self.old }
+        ensures time { Elapses (moment self.old) (moment self.new) (left_since self.old) (left_since self.new)
+            (may_leave self.new) }
+        ensures cause { HasCause (faults self.old) (faults self.new) result };
+
+    /// Keeps what was written: from here on a loss of power leaves what a read gives. A call that fails may have kept
+    /// some of it.
+    fn sync(&mut self) -> Result<(), Failed>
+        ensures kept { OnOk result (honest self.old ≡ true → (s : List ℕ) → seen self.new ≡ Some s →
+            Only s (may_leave self.new)) }
+        ensures seen { honest self.old ≡ true → seen self.new ≡ seen self.old }
+        ensures images { honest self.old ≡ true → IsWithin (may_leave self.old) (may_leave self.new) }
+        ensures tells { is_some (seen self.new) ≡ is_some (seen self.old) }
+        ensures size { size self.new ≡ size self.old }
+        ensures honest { honest self.new ≡ honest self.old }
+        ensures cuts { cuts self.new ≡ cuts self.old }
+        ensures time { Elapses (moment self.old) (moment self.new) (left_since self.old) (left_since self.new)
+            (may_leave self.new) }
+        ensures cause { HasCause (faults self.old) (faults self.new) result };
+
+    /// Loses the power: from here on a read gives one of the images that this might leave, which one by `choice`, and
+    /// a further loss of power leaves just that. A call that fails cuts nothing.
+    fn power_cut(&mut self, choice: u64) -> Result<(), Failed>
+        ensures left { OnOk result (honest self.old ≡ true → (s : List ℕ) → seen self.new ≡ Some s →
+            may_leave self.old s) }
+        ensures kept { OnOk result (honest self.old ≡ true → (s : List ℕ) → seen self.new ≡ Some s →
+            Only s (may_leave self.new)) }
+        ensures seen { OnErr result (honest self.old ≡ true → seen self.new ≡ seen self.old) }
+        ensures images { honest self.old ≡ true → IsWithin (may_leave self.old) (may_leave self.new) }
+        ensures tells { is_some (seen self.new) ≡ is_some (seen self.old) }
+        ensures size { size self.new ≡ size self.old }
+        ensures honest { honest self.new ≡ honest self.old }
+        ensures cut { OnOk result (Rose (cuts self.old) (cuts self.new)) }
+        ensures not_cut { OnErr result (cuts self.new ≡ cuts self.old) }
+        ensures time { Elapses (moment self.old) (moment self.new) (left_since self.old) (left_since self.new)
+            (may_leave self.new) }
+        ensures cause { HasCause (faults self.old) (faults self.new) result };
+
+    /// What a read gives is as long as the disk.
+    ghost fits: { (disk : Self) (s : List ℕ) → seen disk ≡ Some s → length s ≡ size disk };
+
+    /// What a read gives is one of the images.
+    ghost is_image: { (disk : Self) (s : List ℕ) → honest disk ≡ true → seen disk ≡ Some s → may_leave disk s };
+
+    /// This moment is one of those since an earlier one.
+    ghost counts_now: { (disk : Self) (t : ℕ) (c : List ℕ) → t ≤ moment disk → may_leave disk c → left_since disk t c };
+
+    /// Since this moment there is no other.
+    ghost only_now: { (disk : Self) (c : List ℕ) → left_since disk (moment disk) c → may_leave disk c };
+}

@@ -1,0 +1,17 @@
+//! A disk of a fixed length that may lose its power between any two calls: the trait, a disk in memory and a file.
+#![tactic(auto)]
+
+mod calls;
+mod disk;
+mod file;
+mod memory;
+mod traced;
+
+pub use disk::Disk;
+pub use file::FileDisk;
+pub use memory::MemDisk;
+
+#[cfg(test)]
+mod file_tests;
+#[cfg(test)]
+mod tests;

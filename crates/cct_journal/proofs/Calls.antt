@@ -1,0 +1,150 @@
+-- What the calls of a put make of a disk on which a journal stands.
+use Rattle.std.proofs.Common.{◌≡◌, ◌⊎◌, inl, inr, ⊎_elim, ◌≤◌, true, is_some, ℕ, ◌+◌, ◌*◌, ◌<◌, Bool, Option, Some}
+use Rattle.std.proofs.Common.{List, [], ◌∷◌, ◌++◌, length, sym, ◌∙◌, ap, subst, arith, length-append}
+use Rattle.cct_lines.specs.declared.record.Record.{Record}
+use Rattle.cct_record.specs.Body.{InRange, body_of}
+use Rattle.cct_disk.specs.Disk.{Holds, LeavesOnly, Only, SameOutside}
+use Rattle.cct_journal.specs.declared.place.Place.{Place}
+use Rattle.cct_journal.specs.Image.{Keeps, KeepsOneOf, capacity_of}
+use Rattle.cct_journal.specs.Gated.{IsBegun, behind_open_gate}
+use Rattle.cct_journal.specs.Stands.{GoesOn, Leaves, LeavesOneOf, Reads, Settled, Stands}
+use Rattle.cct_journal.proofs.Moments.{now_too, weaker}
+use Rattle.cct_journal.proofs.Puts.{begun_keeps, body_torn, written_keeps}
+use Rattle.cct_journal.proofs.Blanks.{told_image}
+
+module _ {D : Type 0} (size : D → ℕ) (honest : D → Bool) (seen : D → Option (List ℕ)) (may_leave : D → List ℕ → Type 0)
+    (moment : D → ℕ) (left_since : D → ℕ → List ℕ → Type 0)
+    (fits : (disk : D) (s : List ℕ) → seen disk ≡ Some s → length s ≡ size disk)
+    (old : D) (place : Place) (entry : Record) (body : List ℕ) (room : place.used < capacity_of (size old))
+    (in_range : InRange entry) (spelt : body ≡ body_of entry) (whole : length body ≡ 31) (gate : ℕ)
+    (gate_is : gate ≡ 32 * (place.used + 1)) where
+  few : (records : List Record) (stands : Stands honest seen may_leave old place records)
+      → length records < capacity_of (length stands.image)
+  few records stands =
+      subst (λ k. k < capacity_of (length stands.image)) stands.count
+      (subst (λ n. place.used < capacity_of n) (sym (fits old stands.image stands.held.tells)) room)
+
+  place_is : (records : List Record) (stands : Stands honest seen may_leave old place records)
+      → 32 * (length records + 1) ≡ gate
+  place_is records stands = ap (λ k. 32 * (k + 1)) (sym stands.count) ∙ sym gate_is
+
+  -- at each moment an image stands for the records, or for these and the new one
+  pub slot_moments : (new : D) (records : List Record) → Stands honest seen may_leave old place records
+      → ((image : List ℕ) → Holds honest seen may_leave old image
+      → LeavesOnly moment left_since old new (IsBegun gate body image))
+      → LeavesOnly moment left_since old new (KeepsOneOf records entry)
+  slot_moments new records stands run =
+      weaker moment left_since old new (IsBegun gate body stands.image) (KeepsOneOf records entry)
+      (subst (λ g. (c : List ℕ) → IsBegun g body stands.image c → KeepsOneOf records entry c) (place_is records stands)
+      (begun_keeps stands.image records entry body stands.keeps (few records stands) in_range spelt whole))
+      (run stands.image stands.held)
+
+  -- and for the records alone while the gate isn't written
+  pub slot_early : (new : D) (records : List Record) → Stands honest seen may_leave old place records
+      → ((image : List ℕ) → Holds honest seen may_leave old image
+      → LeavesOnly moment left_since old new (SameOutside (gate + 1) (length body) image))
+      → LeavesOnly moment left_since old new (λ c. Keeps c records)
+  slot_early new records stands run =
+      weaker moment left_since old new (SameOutside (gate + 1) (length body) stands.image) (λ c. Keeps c records)
+      (λ c torn. body_torn stands.image records stands.keeps (few records stands) c
+      (subst (λ n. SameOutside (32 * (length records + 1) + 1) n stands.image c) whole
+      (subst (λ g. SameOutside (g + 1) (length body) stands.image c) (sym (place_is records stands)) torn)))
+      (run stands.image stands.held)
+
+  -- at the end for these and the new one
+  pub slot_done : (new : D) (after : Place) (records : List Record) → Stands honest seen may_leave old place records
+      → after.used ≡ place.used + 1
+      → ((image : List ℕ) → Holds honest seen may_leave old image
+      → Holds honest seen may_leave new (behind_open_gate gate body image))
+      → Stands honest seen may_leave new after (records ++ entry ∷ [])
+  slot_done new after records stands one_more run = record {
+    image = behind_open_gate gate body stands.image;
+    held = run stands.image stands.held;
+    keeps = subst (λ g. Keeps (behind_open_gate g body stands.image) (records ++ entry ∷ [])) (place_is records stands)
+        (written_keeps stands.image records entry body stands.keeps (few records stands) in_range spelt whole);
+    count = omega (arith, one_more, stands.count, length-append records (entry ∷ []));
+  }
+
+module _ {D : Type 0} (size : D → ℕ) (honest : D → Bool) (seen : D → Option (List ℕ)) (may_leave : D → List ℕ → Type 0)
+    (moment : D → ℕ) (left_since : D → ℕ → List ℕ → Type 0) (cuts : D → ℕ)
+    (counts_now : (disk : D) (t : ℕ) (c : List ℕ) → t ≤ moment disk → may_leave disk c → left_since disk t c)
+    (old new : D) (place : Place) (records : List Record)
+    (stands : Stands honest seen may_leave old place records) (goes_on : GoesOn size honest seen cuts old new) where
+  still_told : is_some (seen new) ≡ true
+  still_told = goes_on.same_telling ∙ ap is_some stands.held.tells
+
+  -- what a loss of power may leave behind a run that adds none
+  pub leaves_same : LeavesOnly moment left_since old new (λ c. Keeps c records)
+      → Leaves honest seen may_leave new records
+  leaves_same run = record {
+    keeps_synced = goes_on.same_honest ∙ stands.held.keeps_synced;
+    tells = still_told;
+    each = now_too moment left_since old new (λ c. Keeps c records) (may_leave new) (counts_now new) run;
+  }
+
+  -- and behind one that may add one
+  pub leaves_one_of : (entry : Record) → LeavesOnly moment left_since old new (KeepsOneOf records entry)
+      → LeavesOneOf honest seen may_leave new records entry
+  leaves_one_of entry run = record {
+    keeps_synced = goes_on.same_honest ∙ stands.held.keeps_synced;
+    tells = still_told;
+    each = now_too moment left_since old new (KeepsOneOf records entry) (may_leave new) (counts_now new) run;
+  }
+
+-- An honest disk whose power was lost keeps one of the images that this might leave.
+module _ {D : Type 0} (honest : D → Bool) (seen : D → Option (List ℕ)) (may_leave : D → List ℕ → Type 0) (old new : D)
+    (same_honest : honest new ≡ honest old) (same_telling : is_some (seen new) ≡ is_some (seen old))
+    (left : honest old ≡ true → (s : List ℕ) → seen new ≡ Some s → may_leave old s)
+    (kept : honest old ≡ true → (s : List ℕ) → seen new ≡ Some s → Only s (may_leave new)) where
+  cut_holds : honest old ≡ true → is_some (seen old) ≡ true
+      → (image : List ℕ) × Holds honest seen may_leave new image × may_leave old image
+  cut_holds is_honest told =
+      let found = told_image (seen new) (same_telling ∙ told) in (
+        found.0,
+        record {
+          keeps_synced = same_honest
+              ∙ is_honest;
+          tells = found.1;
+          only = kept is_honest found.0 found.1;
+        },
+        left is_honest found.0 found.1,
+      )
+
+  pub cut_settled : (records : List Record) → Leaves honest seen may_leave old records
+      → Settled honest seen may_leave new records
+  cut_settled records leaves =
+      let found = cut_holds leaves.keeps_synced leaves.tells in
+      record { image = found.0; held = found.1; keeps = leaves.each found.0 found.2 }
+
+  pub cut_one_of : (records : List Record) (entry : Record) → LeavesOneOf honest seen may_leave old records entry
+      → Settled honest seen may_leave new records ⊎ Settled honest seen may_leave new (records ++ entry ∷ [])
+  cut_one_of records entry leaves =
+      let found = cut_holds leaves.keeps_synced leaves.tells in
+      ⊎_elim (λ keeps. inl (record { image = found.0; held = found.1; keeps = keeps }))
+      (λ keeps. inr (record { image = found.0; held = found.1; keeps = keeps })) (leaves.each found.0 found.2)
+
+-- A journal's disk keeps just one image, and a loss of power leaves that.
+pub stands_settled : {D : Type 0} {honest : D → Bool} {seen : D → Option (List ℕ)} {may_leave : D → List ℕ → Type 0}
+    {disk : D} {place : Place} {records : List Record}
+    → Stands honest seen may_leave disk place records → Settled honest seen may_leave disk records
+stands_settled stands = record { image = stands.image; held = stands.held; keeps = stands.keeps }
+
+pub settled_leaves : {D : Type 0} {honest : D → Bool} {seen : D → Option (List ℕ)} {may_leave : D → List ℕ → Type 0}
+    {disk : D} {records : List Record}
+    → Settled honest seen may_leave disk records → Leaves honest seen may_leave disk records
+settled_leaves settled = record {
+  keeps_synced = settled.held.keeps_synced;
+  tells = ap is_some settled.held.tells;
+  each = λ c left. subst (λ (image : List ℕ). Keeps image _) (sym (settled.held.only c left)) settled.keeps;
+}
+
+-- What a read gives of a journal's disk stands for its records.
+pub stands_reads : {D : Type 0} {honest : D → Bool} {seen : D → Option (List ℕ)} {may_leave : D → List ℕ → Type 0}
+    {disk : D} {place : Place} {records : List Record} → Stands honest seen may_leave disk place records
+    → Reads seen disk place records
+stands_reads stands = record {
+  image = stands.image;
+  tells = stands.held.tells;
+  stands = stands.keeps.stands;
+  count = stands.count;
+}

@@ -1,0 +1,8 @@
+pub mod Moments
+mod Bytes
+mod Rooms
+mod Puts
+pub mod Calls
+mod Walks
+mod Blanks
+mod Opens

@@ -1,0 +1,22 @@
+-- What an image is to a journal that is created on it.
+use Rattle.std.specs.Prelude.{◌≡◌, ◌⊎◌, ℕ, ◌<◌, ◌≤◌, Option, Some, List, [], ⊤}
+use Rattle.cct_journal.specs.Image.{IsAlien, IsFirstByteFrom, Keeps, least_size}
+use Rattle.cct_journal.specs.declared.refusal.CreateNo.{CreateNo}
+use Rattle.cct_journal.specs.declared.refusal.CreateNo.TheVariants.{Small, Disk, NotBlank}
+
+-- Why a disk whose reads give these bytes isn't found to be blank.
+abbrev pub IsNotBlank : Option (List ℕ) → CreateNo → Type 0
+IsNotBlank seen (Small len) = ⊥
+IsNotBlank seen Disk = ⊤
+IsNotBlank seen (NotBlank at) = (image : List ℕ) → seen ≡ Some image → IsFirstByteFrom 0 image at
+
+-- Why no journal is created on a disk of this size, whose reads give these bytes.
+abbrev pub RefusesCreate : ℕ → Option (List ℕ) → CreateNo → Type 0
+RefusesCreate size seen (Small len) = (len ≡ size) × (size < least_size)
+RefusesCreate size seen Disk = least_size ≤ size
+RefusesCreate size seen (NotBlank at) = (least_size ≤ size)
+    × ((image : List ℕ) → seen ≡ Some image → IsFirstByteFrom 0 image at)
+
+-- What may stand on a disk while a journal is created on it: what stood there, no journal, or an empty one.
+abbrev pub IsCreated : List ℕ → List ℕ → Type 0
+IsCreated old image = (image ≡ old) ⊎ (IsAlien image ⊎ Keeps image [])

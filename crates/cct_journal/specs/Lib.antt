@@ -1,0 +1,6 @@
+pub mod Image
+pub mod Gated
+pub mod Stands
+pub mod Opening
+pub mod Creating
+pub mod Journal

@@ -1,0 +1,41 @@
+-- What an image is to a journal that is opened on it.
+use Rattle.std.specs.Prelude.{◌≡◌, ℕ, ◌+◌, ◌-◌, ◌*◌, List, ◌++◌, length, drop, map, All, ⊤}
+use Rattle.cct_lines.specs.declared.record.Record.{Record}
+use Rattle.cct_record.specs.Body.{InRange, IsRefused, body_of}
+use Rattle.cct_journal.specs.Image.{IsAlien, IsBadAt, IsRefusedAt, bodies, bodies_in, capacity_of}
+use Rattle.cct_journal.specs.declared.refusal.OpenNo.{OpenNo}
+use Rattle.cct_journal.specs.declared.refusal.OpenNo.TheVariants.{Disk, Alien, BadRecord}
+use Rattle.cct_journal.specs.declared.refusal.ReadNo.{ReadNo}
+use Rattle.cct_journal.specs.declared.refusal.ReadNo.TheVariants as reading
+
+-- The bodies of an image are those of so many records.
+pub record CountsIn (image : List ℕ) (used : ℕ) : Type 0 where
+  pub records : List Record
+  pub bodies_are : bodies_in image ≡ map body_of records
+  pub in_range : All InRange records
+  pub count : used ≡ length records
+
+-- The first bodies of an image are those of so many records, and the others stand in the slots behind.
+pub record Walked (image : List ℕ) (index : ℕ) : Type 0 where
+  pub records : List Record
+  pub bodies_are : bodies_in image ≡ map body_of records ++ bodies (capacity_of (length image) - index)
+      (drop (32 * (index + 1)) image)
+  pub in_range : All InRange records
+  pub count : index ≡ length records
+
+-- Why the records of an image can't be counted.
+abbrev pub StopsCount : OpenNo → List ℕ → Type 0
+StopsCount Disk image = ⊤
+StopsCount Alien image = ⊥
+StopsCount (BadRecord index) image = IsRefusedAt image index
+
+-- Why no journal is opened on an image.
+abbrev pub RefusesOpen : OpenNo → List ℕ → Type 0
+RefusesOpen Disk image = ⊤
+RefusesOpen Alien image = IsAlien image
+RefusesOpen (BadRecord index) image = IsBadAt image index
+
+-- Why the record of an index isn't read, whose body this is.
+abbrev pub RefusesRead : ℕ → List ℕ → ReadNo → Type 0
+RefusesRead index body reading.Disk = ⊤
+RefusesRead index body (reading.BadRecord told) = (told ≡ index) × IsRefused body

@@ -1,0 +1,84 @@
+//! A journal is created on a blank disk.
+ghost use Rattle.std.specs.Prelude.{◌≡◌, ◌≢◌, ℕ, ◌+◌, ◌<◌, ◌≤◌, true, Err, Some, is_some, List, [], length};
+ghost use Rattle.std.specs.Prelude.{IfErr, IfOk, IfSome, MatchOption, OnOk};
+ghost use Rattle.cct_edge.specs.Faults.{HasCause, Rose};
+ghost use Rattle.cct_disk.specs.Disk.{Holds, LeavesOnly, OnlyReads};
+ghost use Rattle.cct_journal.specs.Image.{IsBlank, IsBlankBetween, IsFirstByteFrom};
+ghost use Rattle.cct_journal.specs.Creating.{IsCreated, IsNotBlank, RefusesCreate};
+ghost use Rattle.cct_journal.specs.Stands.{GoesOn, IsPlaced, Stands};
+
+use crate::CreateNo;
+use crate::format::{HEADER, LEAST, PIECE};
+use crate::place::Place;
+use crate::range::{GATED_CALLS, write_gated};
+use cct_disk::Disk;
+use cct_edge::Failed;
+
+/// The first byte that isn't 0.
+fn first_byte(bytes: &[u8]) -> Option<usize>
+    ensures { MatchOption result (IsBlank bytes.now) (IsFirstByteFrom 0 bytes.now) }
+{
+    bytes.iter().position(|byte| *byte != 0)
+}
+
+/// Reads as many bytes as the room has, and tells where among them the first stands that isn't 0.
+fn read_piece<D: Disk>(disk: &mut D, at: u64, room: &mut [u8]) -> Result<Option<usize>, Failed>
+    requires { at + length room.old ≤ D.size disk.old }
+    ensures within { IfOk result (λ found. IfSome found (λ index. index < length room.old)) }
+    ensures found { IfOk result (λ found. (image : List ℕ) → D.seen disk.old ≡ Some image
+        → MatchOption found (IsBlankBetween at (at + length room.old) image)
+        (λ index. IsFirstByteFrom at image (at + index))) }
+    ensures reads { OnlyReads D.size D.honest D.seen D.may_leave D.moment D.left_since D.cuts disk.old disk.new }
+    ensures cause { HasCause (D.faults disk.old) (D.faults disk.new) result }
+{
+    disk.read(at, room)?;
+    Ok(first_byte(room))
+}
+
+/// Whether every byte of the disk is 0, which is read in pieces. Where one isn't, the answer tells the first.
+fn check_blank<D: Disk>(disk: &mut D) -> Result<(), CreateNo>
+    ensures blank { OnOk result ((image : List ℕ) → D.seen disk.old ≡ Some image → IsBlank image) }
+    ensures refused { IfErr result (λ why. IsNotBlank (D.seen disk.old) why) }
+    ensures reads { OnlyReads D.size D.honest D.seen D.may_leave D.moment D.left_since D.cuts disk.old disk.new }
+    ensures later { D.faults disk.old ≤ D.faults disk.new }
+    ensures cause { result ≡ Err CreateNo.Disk → Rose (D.faults disk.old) (D.faults disk.new) }
+{
+    let len = disk.len();
+    let mut room = [0; PIECE];
+    let mut at = 0;
+    while at < len {
+        let count = (len - at).min(PIECE as u64) as usize;
+        if let Some(index) = read_piece(disk, at, &mut room[..count])? {
+            return Err(CreateNo::NotBlank {
+                at: at + index as u64,
+            });
+        }
+        at += count as u64;
+    }
+    Ok(())
+}
+
+/// Lays the header of a journal on a blank disk, and gives the place of its first record.
+pub(crate) fn lay_header<D: Disk>(disk: &mut D) -> Result<Place, CreateNo>
+    ensures placed { IfOk result (IsPlaced (D.size disk.old)) }
+    ensures none { IfOk result (λ place. place.used ≡ 0) }
+    ensures blank { OnOk result ((image : List ℕ) → D.seen disk.old ≡ Some image → IsBlank image) }
+    ensures stands { IfOk result (λ place. D.honest disk.old ≡ true → is_some (D.seen disk.old) ≡ true
+        → Stands D.honest D.seen D.may_leave disk.new place []) }
+    ensures refused { IfErr result (RefusesCreate (D.size disk.old) (D.seen disk.old)) }
+    ensures unchanged { IfErr result (λ why. why ≢ CreateNo.Disk → OnlyReads D.size D.honest D.seen D.may_leave
+        D.moment D.left_since D.cuts disk.old disk.new) }
+    ensures moments { (image : List ℕ) → Holds D.honest D.seen D.may_leave disk.old image
+        → LeavesOnly D.moment D.left_since disk.old disk.new (IsCreated image) }
+    ensures goes_on { GoesOn D.size D.honest D.seen D.cuts disk.old disk.new }
+    ensures later { D.faults disk.old ≤ D.faults disk.new }
+    ensures cause { result ≡ Err CreateNo.Disk → Rose (D.faults disk.old) (D.faults disk.new) }
+{
+    let len = disk.len();
+    if len < LEAST {
+        return Err(CreateNo::Small { len });
+    }
+    check_blank(disk)?;
+    write_gated(disk, 0, &HEADER[1..], GATED_CALLS)?;
+    Ok(Place { used: 0 })
+}

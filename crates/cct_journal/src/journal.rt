@@ -1,0 +1,320 @@
+//! The journal.
+ghost use Rattle.std.specs.Prelude.{◌≡◌, ◌≢◌, ◌⊎◌, ◌↔◌, ◌<◌, ◌≤◌, ◌+◌, ℕ, true, false, Err, Some, is_some, List, []};
+ghost use Rattle.std.specs.Prelude.{◌∷◌, ◌++◌};
+ghost use Rattle.std.specs.Prelude.{IfErr, IfOk, IsErrAnd, MatchResult, OnErr, OnOk, slice_get};
+ghost use Rattle.cct_edge.specs.Faults.{Rose};
+ghost use Rattle.cct_lines.specs.declared.record.Record.{Record};
+ghost use Rattle.cct_record.specs.Body.{Encodable, Spells};
+ghost use Rattle.cct_disk.specs.Disk.{Holds, IsWithin, LeavesOnly, Only, OnlyReads};
+ghost use Rattle.cct_journal.specs.Image.{IsBlank, Keeps, KeepsOneOf, StandsFor, capacity_of, least_size};
+ghost use Rattle.cct_journal.specs.Creating.{IsCreated, RefusesCreate};
+ghost use Rattle.cct_journal.specs.Opening.{RefusesOpen, RefusesRead};
+ghost use Rattle.cct_journal.specs.Stands.{GoesOn, IsPlaced, Leaves, LeavesOneOf, Reads, Settled, Stands, body_in};
+
+use crate::creating::lay_header;
+use crate::opening::find_place;
+use crate::place::Place;
+use crate::range::GATED_CALLS;
+use crate::reading::{capacity_in, read_record};
+use crate::slot::put_slot;
+use crate::{CreateNo, JournalNo, OpenNo, ReadNo};
+use cct_disk::Disk;
+use cct_edge::Failed;
+use cct_lines::Record;
+
+/// A journal of records on a disk (`docs/JOURNAL.md`).
+///
+/// Whenever the power is lost, what was put stands on the disk, and what is being put stands there or doesn't. This
+/// rests on an honest disk alone, of which bytes that were synced stay.
+#[derive(Drop)]
+pub struct Journal<D: Disk> {
+    disk: D,
+    place: Place,
+    /// Whether a put failed, behind which nothing more may be put.
+    failed: bool,
+    ghost placed: { IsPlaced (D.size disk) place },
+}
+
+impl<D: Disk> Journal<D> {
+    ghost use Rattle.cct_journal.specs.Journal.{disk_back, disk_of, has_failed, place_of, used_of};
+
+    /// Creates a journal without records on a blank disk.
+    ///
+    /// The refusals come in the order of [`CreateNo`]. [`CreateNo::Small`] comes where the disk has fewer than 64 bytes
+    /// and [`CreateNo::NotBlank`] where a byte isn't 0; then nothing is written. Behind [`CreateNo::Disk`] the disk is
+    /// as it was, or has no journal, or one without records.
+    pub fn create(disk: D) -> Result<Journal<D>, (D, CreateNo)>
+        ensures stands { IfOk result (λ journal. D.honest disk ≡ true → is_some (D.seen disk) ≡ true
+            → Stands D.honest D.seen D.may_leave (disk_of journal) (place_of journal) []) }
+        ensures none { IfOk result (λ journal. used_of journal ≡ 0) }
+        ensures unbroken { IfOk result (λ journal. has_failed journal ≡ false) }
+        ensures blank { OnOk result ((image : List ℕ) → D.seen disk ≡ Some image → IsBlank image) }
+        ensures long { OnOk result (least_size ≤ D.size disk) }
+
+        // why it is refused
+        ensures refused { IfErr result (λ e. RefusesCreate (D.size disk) (D.seen disk) e.1) }
+        ensures unchanged { IfErr result (λ e. e.1 ≢ CreateNo.Disk → OnlyReads D.size D.honest D.seen D.may_leave
+            D.moment D.left_since D.cuts disk e.0) }
+        ensures cause { IfErr result (λ e. e.1 ≡ CreateNo.Disk → Rose (D.faults disk) (D.faults e.0)) }
+
+        // the disk at each moment, and behind the call
+        ensures moments { (image : List ℕ) → Holds D.honest D.seen D.may_leave disk image → MatchResult result
+            (λ journal. LeavesOnly D.moment D.left_since disk (disk_of journal) (IsCreated image))
+            (λ e. LeavesOnly D.moment D.left_since disk e.0 (IsCreated image)) }
+        ensures goes_on { MatchResult result
+            (λ journal. GoesOn D.size D.honest D.seen D.cuts disk (disk_of journal))
+            (λ e. GoesOn D.size D.honest D.seen D.cuts disk e.0) }
+        ensures later { MatchResult result (λ journal. D.faults disk ≤ D.faults (disk_of journal))
+            (λ e. D.faults disk ≤ D.faults e.0) }
+    {
+        let mut disk = disk;
+        match lay_header(&mut disk) {
+            Ok(place) => Ok(Journal {
+                disk,
+                place,
+                failed: false,
+            }),
+            Err(why) => Err((disk, why)),
+        }
+    }
+
+    /// Opens the journal that stands on a disk, and tells how many records it has. The disk is only read.
+    ///
+    /// [`OpenNo::Alien`] comes where the disk has fewer than 64 bytes or doesn't begin with the header, and
+    /// [`OpenNo::BadRecord`] at the first body behind an open gate that spells no record, where no shut gate stands
+    /// before it.
+    pub fn reopen(disk: D) -> Result<(Journal<D>, u32), (D, OpenNo)>
+        ensures found { IfOk result (λ opened. (image : List ℕ) → D.seen disk ≡ Some image
+            → (records : List Record) × Reads D.seen (disk_of opened.0) (place_of opened.0) records) }
+        ensures every { IfOk result (λ opened. (image : List ℕ) (records : List Record) → D.seen disk ≡ Some image
+            → StandsFor image records → Reads D.seen (disk_of opened.0) (place_of opened.0) records) }
+        ensures stands { IfOk result (λ opened. (records : List Record)
+            → Settled D.honest D.seen D.may_leave disk records
+            → Stands D.honest D.seen D.may_leave (disk_of opened.0) (place_of opened.0) records) }
+        ensures counted { IfOk result (λ opened. opened.1 ≡ used_of opened.0) }
+        ensures unbroken { IfOk result (λ opened. has_failed opened.0 ≡ false) }
+
+        // why it is refused
+        ensures refused { IfErr result (λ e. (image : List ℕ) → D.seen disk ≡ Some image → RefusesOpen e.1 image) }
+        ensures never { IfErr result (λ e. (image : List ℕ) (records : List Record) → D.seen disk ≡ Some image
+            → StandsFor image records → e.1 ≡ OpenNo.Disk) }
+        ensures short { D.size disk < least_size → IsErrAnd result (λ e. e.1 ≡ OpenNo.Alien) }
+        ensures cause { IfErr result (λ e. e.1 ≡ OpenNo.Disk → Rose (D.faults disk) (D.faults e.0)) }
+
+        // the disk
+        ensures reads { MatchResult result
+            (λ opened. OnlyReads D.size D.honest D.seen D.may_leave D.moment D.left_since D.cuts disk
+            (disk_of opened.0))
+            (λ e. OnlyReads D.size D.honest D.seen D.may_leave D.moment D.left_since D.cuts disk e.0) }
+        ensures later { MatchResult result (λ opened. D.faults disk ≤ D.faults (disk_of opened.0))
+            (λ e. D.faults disk ≤ D.faults e.0) }
+    {
+        let mut disk = disk;
+        match find_place(&mut disk) {
+            Ok(place) => {
+                let journal = Journal {
+                    disk,
+                    place,
+                    failed: false,
+                };
+                Ok((journal, place.used))
+            }
+            Err(why) => Err((disk, why)),
+        }
+    }
+
+    /// How many records the journal has.
+    pub fn used(&self) -> u32
+        ensures value { result ≡ used_of self.now }
+        ensures fits { result ≤ capacity_of (D.size (disk_of self.now)) }
+    {
+        self.place.used
+    }
+
+    /// How many records the journal takes at the most.
+    pub fn capacity(&self) -> u32
+        ensures { result ≡ capacity_of (D.size (disk_of self.now)) }
+    {
+        capacity_in(self.disk.len())
+    }
+
+    /// The disk.
+    pub fn into_disk(self) -> D
+        ensures { result ≡ disk_of self }
+    {
+        let Journal {
+            disk,
+            place: _,
+            failed: _,
+        } = self;
+        disk
+    }
+
+    /// Reads the record of an index, the first at 0. The disk is only read.
+    ///
+    /// [`ReadNo::BadRecord`] comes where the body of that record spells none, which never happens on a disk whose reads
+    /// give what the journal was opened on.
+    pub fn read_at(&mut self, index: u32) -> Result<Record, ReadNo>
+        requires { index < used_of self.old }
+        ensures given { IfOk result (λ entry. (records : List Record)
+            → Reads D.seen (disk_of self.old) (place_of self.old) records → slice_get records index ≡ Some entry) }
+        ensures spelt { IfOk result (λ entry. (image : List ℕ) → D.seen (disk_of self.old) ≡ Some image
+            → Spells entry (body_in (place_of self.old) index image)) }
+
+        // why it is refused
+        ensures refused { IfErr result (λ why. (image : List ℕ) → D.seen (disk_of self.old) ≡ Some image
+            → RefusesRead index (body_in (place_of self.old) index image) why) }
+        ensures never { IfErr result (λ why. (records : List Record)
+            → Reads D.seen (disk_of self.old) (place_of self.old) records → why ≡ ReadNo.Disk) }
+        ensures cause { result ≡ Err ReadNo.Disk → Rose (D.faults (disk_of self.old)) (D.faults (disk_of self.new)) }
+
+        // the journal stays as it is
+        ensures stands { (records : List Record)
+            → Stands D.honest D.seen D.may_leave (disk_of self.old) (place_of self.old) records
+            → Stands D.honest D.seen D.may_leave (disk_of self.new) (place_of self.new) records }
+        ensures told { (records : List Record) → Reads D.seen (disk_of self.old) (place_of self.old) records
+            → Reads D.seen (disk_of self.new) (place_of self.new) records }
+        ensures place { place_of self.new ≡ place_of self.old }
+        ensures unbroken { has_failed self.new ≡ has_failed self.old }
+        ensures reads { OnlyReads D.size D.honest D.seen D.may_leave D.moment D.left_since D.cuts (disk_of self.old)
+            (disk_of self.new) }
+        ensures later { D.faults (disk_of self.old) ≤ D.faults (disk_of self.new) }
+    {
+        read_record(&mut self.disk, self.place, index)
+    }
+
+    /// Puts a record behind the others, by four disk calls. At `Ok` every loss of power leaves it.
+    ///
+    /// No earlier put on this value may have failed. [`JournalNo::Full`] comes where the journal has as many records as
+    /// it takes, and changes nothing. Behind [`JournalNo::Disk`] it is open whether the record stands, and the disk has
+    /// to be opened again.
+    pub fn put(&mut self, entry: &Record) -> Result<(), JournalNo>
+        requires whole { has_failed self.old ≡ false }
+        requires encodable { Encodable entry.now }
+
+        // each image that a loss of power at a moment of the call may leave
+        ensures moments { (records : List Record)
+            → Stands D.honest D.seen D.may_leave (disk_of self.old) (place_of self.old) records
+            → LeavesOnly D.moment D.left_since (disk_of self.old) (disk_of self.new) (KeepsOneOf records entry.now) }
+
+        // at the end
+        ensures done { OnOk result ((records : List Record)
+            → Stands D.honest D.seen D.may_leave (disk_of self.old) (place_of self.old) records
+            → Stands D.honest D.seen D.may_leave (disk_of self.new) (place_of self.new) (records ++ entry.now ∷ [])) }
+        ensures left { OnErr result ((records : List Record)
+            → Stands D.honest D.seen D.may_leave (disk_of self.old) (place_of self.old) records
+            → LeavesOneOf D.honest D.seen D.may_leave (disk_of self.new) records entry.now) }
+        ensures counted { OnOk result (used_of self.new ≡ used_of self.old + 1) }
+        ensures unbroken { OnOk result (has_failed self.new ≡ false) }
+        ensures broken { result ≡ Err JournalNo.Disk → has_failed self.new ≡ true }
+
+        // why it is refused
+        ensures full { (result ≡ Err (JournalNo.Full (used_of self.old)))
+            ↔ (used_of self.old ≡ capacity_of (D.size (disk_of self.old))) }
+        ensures why { IfErr result (λ why. (why ≡ JournalNo.Disk) ⊎ (why ≡ JournalNo.Full (used_of self.old))) }
+        ensures unchanged { result ≡ Err (JournalNo.Full (used_of self.old)) → self.new ≡ self.old }
+        ensures cause { result ≡ Err JournalNo.Disk
+            → Rose (D.faults (disk_of self.old)) (D.faults (disk_of self.new)) }
+
+        // the disk
+        ensures goes_on { GoesOn D.size D.honest D.seen D.cuts (disk_of self.old) (disk_of self.new) }
+        ensures later { D.faults (disk_of self.old) ≤ D.faults (disk_of self.new) }
+    {
+        let used = self.place.used;
+        if used == self.capacity() {
+            return Err(JournalNo::Full { used });
+        }
+        match put_slot(&mut self.disk, &mut self.place, entry, GATED_CALLS) {
+            Ok(()) => Ok(()),
+            Err(_) => {
+                self.failed = true;
+                Err(JournalNo::Disk)
+            }
+        }
+    }
+
+    /// Makes the first `calls` of the four disk calls of a put and gives the disk back, for a crash in the midst of a
+    /// put.
+    pub fn put_calls(self, entry: &Record, calls: u8) -> Result<D, (D, Failed)>
+        requires few { calls ≤ 4 }
+        requires room { used_of self < capacity_of (D.size (disk_of self)) }
+        requires encodable { Encodable entry.now }
+
+        // each image that a loss of power at a moment of the call may leave
+        ensures moments { (records : List Record)
+            → Stands D.honest D.seen D.may_leave (disk_of self) (place_of self) records
+            → LeavesOnly D.moment D.left_since (disk_of self) (disk_back result) (KeepsOneOf records entry.now) }
+        ensures early { calls ≤ 2 → (records : List Record)
+            → Stands D.honest D.seen D.may_leave (disk_of self) (place_of self) records
+            → LeavesOnly D.moment D.left_since (disk_of self) (disk_back result) (λ c. Keeps c records) }
+
+        // and at the end
+        ensures done { OnOk result (calls ≡ 4 → (records : List Record)
+            → Stands D.honest D.seen D.may_leave (disk_of self) (place_of self) records
+            → Settled D.honest D.seen D.may_leave (disk_back result) (records ++ entry.now ∷ [])) }
+        ensures left { (records : List Record)
+            → Stands D.honest D.seen D.may_leave (disk_of self) (place_of self) records
+            → LeavesOneOf D.honest D.seen D.may_leave (disk_back result) records entry.now }
+        ensures left_early { calls ≤ 2 → (records : List Record)
+            → Stands D.honest D.seen D.may_leave (disk_of self) (place_of self) records
+            → Leaves D.honest D.seen D.may_leave (disk_back result) records }
+
+        // the disk
+        ensures goes_on { GoesOn D.size D.honest D.seen D.cuts (disk_of self) (disk_back result) }
+        ensures later { D.faults (disk_of self) ≤ D.faults (disk_back result) }
+        ensures cause { OnErr result (Rose (D.faults (disk_of self)) (D.faults (disk_back result))) }
+    {
+        let Journal {
+            mut disk,
+            mut place,
+            failed: _,
+        } = self;
+        match put_slot(&mut disk, &mut place, entry, calls) {
+            Ok(()) => Ok(disk),
+            Err(failed) => Err((disk, failed)),
+        }
+    }
+
+    /// Loses the power and gives the disk back, which then keeps one of the images that this might leave, which one by
+    /// `choice`.
+    pub fn power_cut(self, choice: u64) -> Result<D, (D, Failed)>
+        ensures stands { OnOk result ((records : List Record)
+            → Leaves D.honest D.seen D.may_leave (disk_of self) records
+            → Settled D.honest D.seen D.may_leave (disk_back result) records) }
+        ensures one_of { OnOk result ((records : List Record) (entry : Record)
+            → LeavesOneOf D.honest D.seen D.may_leave (disk_of self) records entry
+            → Settled D.honest D.seen D.may_leave (disk_back result) records
+            ⊎ Settled D.honest D.seen D.may_leave (disk_back result) (records ++ entry ∷ [])) }
+        ensures cut { OnOk result (Rose (D.cuts (disk_of self)) (D.cuts (disk_back result))) }
+        ensures left { OnOk result (D.honest (disk_of self) ≡ true → (s : List ℕ)
+            → D.seen (disk_back result) ≡ Some s → D.may_leave (disk_of self) s) }
+        ensures kept { OnOk result (D.honest (disk_of self) ≡ true → (s : List ℕ)
+            → D.seen (disk_back result) ≡ Some s → Only s (D.may_leave (disk_back result))) }
+
+        // a cut that fails
+        ensures seen { OnErr result (D.honest (disk_of self) ≡ true
+            → D.seen (disk_back result) ≡ D.seen (disk_of self)) }
+        ensures not_cut { OnErr result (D.cuts (disk_back result) ≡ D.cuts (disk_of self)) }
+        ensures cause { OnErr result (Rose (D.faults (disk_of self)) (D.faults (disk_back result))) }
+
+        // either
+        ensures images { D.honest (disk_of self) ≡ true
+            → IsWithin (D.may_leave (disk_of self)) (D.may_leave (disk_back result)) }
+        ensures moments { D.honest (disk_of self) ≡ true → LeavesOnly D.moment D.left_since (disk_of self)
+            (disk_back result) (D.may_leave (disk_of self)) }
+        ensures tells { is_some (D.seen (disk_back result)) ≡ is_some (D.seen (disk_of self)) }
+        ensures size { D.size (disk_back result) ≡ D.size (disk_of self) }
+        ensures honest { D.honest (disk_back result) ≡ D.honest (disk_of self) }
+        ensures later { D.faults (disk_of self) ≤ D.faults (disk_back result) }
+    {
+        let Journal {
+            mut disk,
+            place: _,
+            failed: _,
+        } = self;
+        match disk.power_cut(choice) {
+            Ok(()) => Ok(disk),
+            Err(failed) => Err((disk, failed)),
+        }
+    }
+}

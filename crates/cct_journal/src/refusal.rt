@@ -1,0 +1,85 @@
+//! Why a journal's call is refused.
+ghost use Rattle.std.specs.Prelude.{◌≡◌};
+
+use cct_edge::Failed;
+use thiserror::Error;
+
+/// Why no journal was created.
+#[derive(Debug, Drop, Error)]
+pub enum CreateNo {
+    /// The disk is shorter than a header and one slot: it has `len` bytes.
+    #[error("a disk of {len} bytes is too small for a journal")]
+    Small { len: u64 },
+    /// The disk failed.
+    #[error("the disk failed")]
+    Disk,
+    /// The disk isn't blank: the first byte that isn't 0 is that at `at`.
+    #[error("the disk isn't blank: byte {at} isn't 0")]
+    NotBlank { at: u64 },
+}
+
+impl From<Failed> for CreateNo {
+    ghost use Rattle.cct_journal.specs.declared.refusal.CreateNo.TheVariants.{Disk};
+
+    ghost from_gives = { λ _ e. e ≡ Disk };
+
+    fn from(_: Failed) -> Self {
+        CreateNo::Disk
+    }
+}
+
+/// Why no journal was opened.
+#[derive(Debug, Drop, Error)]
+pub enum OpenNo {
+    /// The disk failed.
+    #[error("the disk failed")]
+    Disk,
+    /// The disk has no header of a journal of this version.
+    #[error("the disk has no journal")]
+    Alien,
+    /// The body behind so many records spells none, though its gate is open.
+    #[error("record {index} of the journal is spelt wrongly")]
+    BadRecord { index: u32 },
+}
+
+impl From<Failed> for OpenNo {
+    ghost use Rattle.cct_journal.specs.declared.refusal.OpenNo.TheVariants.{Disk};
+
+    ghost from_gives = { λ _ e. e ≡ Disk };
+
+    fn from(_: Failed) -> Self {
+        OpenNo::Disk
+    }
+}
+
+/// Why a record wasn't read.
+#[derive(Debug, Drop, Error)]
+pub enum ReadNo {
+    /// The disk failed.
+    #[error("the disk failed")]
+    Disk,
+    /// The body of the record at `index` spells none.
+    #[error("record {index} of the journal is spelt wrongly")]
+    BadRecord { index: u32 },
+}
+
+impl From<Failed> for ReadNo {
+    ghost use Rattle.cct_journal.specs.declared.refusal.ReadNo.TheVariants.{Disk};
+
+    ghost from_gives = { λ _ e. e ≡ Disk };
+
+    fn from(_: Failed) -> Self {
+        ReadNo::Disk
+    }
+}
+
+/// Why a record wasn't put.
+#[derive(Debug, Drop, Error)]
+pub enum JournalNo {
+    /// The journal has all `used` records that it takes.
+    #[error("the journal is full with {used} records")]
+    Full { used: u32 },
+    /// The disk failed: whether the record stands is open, and the journal has to be opened again.
+    #[error("the disk failed")]
+    Disk,
+}

@@ -1,0 +1,173 @@
+-- The devices of a setup by their places in it.
+use Rattle.std.proofs.Common.{◌≡◌, ◌≢◌, ℕ, zero, suc, ◌+◌, ◌-◌, ◌≤◌, ◌==◌, ◌&&◌, not, Bool, true, false, cond, List, [], ◌∷◌, map, set, get_or, sum_by, refl, ap, ap₂, sym, ◌∙◌, Some, None, All, arith, eq-eqb, eqb-true, true≢false}
+use Rattle.std.specs.Prelude.{slice_get}
+use Rattle.std.specs.List.{list_any, position}
+use Rattle.std.proofs.lemmas.Bool.{and_parts, ne_eqb, or_parts, not-true}
+use Rattle.std.proofs.lemmas.List.Elements.{All-head, All-tail}
+use Rattle.std.proofs.lemmas.List.Sums.{sum_by-cons}
+use Rattle.cct_model.specs.terms.device.DeviceBody.{DeviceBody}
+use Rattle.cct_model.specs.terms.device.DeviceBody.TheVariants.{Acceptor, Hopper}
+use Rattle.cct_model.specs.terms.device.DeviceSetup.{DeviceSetup}
+use Rattle.cct_model.specs.Device.{IsSound, IsSoundBody, is_acceptor, value_at}
+use Rattle.cct_model.specs.Exchange.{device_at, hopper_there}
+use Rattle.cct_model.specs.Setup.{AreDistinct}
+use Rattle.cct_model.specs.Money.{place_value, sum_over}
+use Rattle.cct_ledger.proofs.Positions.{at_position, none_passes}
+
+-- a device has no address that no device has
+pub apart : (ds : List DeviceSetup) (addr i : ℕ) (d : DeviceSetup) → device_at ds addr ≡ None →
+    slice_get ds i ≡ Some d →
+    d.addr ≢ addr
+apart [] addr i d none is = absurd cc
+apart (e ∷ ds) addr zero d none is = by_here (e.addr == addr) refl none
+  where
+    own : e ≡ d
+    own = cc
+
+    by_here : (here : Bool) → (e.addr == addr) ≡ here → cond here (Some e) (device_at ds addr) ≡ None → d.addr ≢ addr
+    by_here true test found = absurd cc
+    by_here false test found =
+        λ same. true≢false (sym (eq-eqb e.addr addr (ap (λ (x : DeviceSetup). x.addr) own ∙ same)) ∙ test)
+apart (e ∷ ds) addr (suc i) d none is = apart ds addr i d (later (e.addr == addr) none) is
+  where
+    later : (here : Bool) → cond here (Some e) (device_at ds addr) ≡ None → device_at ds addr ≡ None
+    later true found = absurd cc
+    later false found = found
+
+-- the device at a place is the one at its address
+pub at_place : (ds : List DeviceSetup) (i : ℕ) (d : DeviceSetup) → AreDistinct ds → slice_get ds i ≡ Some d →
+    device_at ds d.addr ≡ Some d
+at_place [] i d distinct is = absurd cc
+at_place (e ∷ ds) zero d distinct is =
+    let own : e ≡ d = cc in
+    ap (λ b. cond b (Some e) (device_at ds d.addr)) (eq-eqb e.addr d.addr (ap (λ (x : DeviceSetup). x.addr) own))
+    ∙ ap Some own
+at_place (e ∷ ds) (suc i) d distinct is =
+    let other : e.addr ≢ d.addr = λ same. apart ds e.addr i d distinct.0 is (sym same) in
+    ap (λ b. cond b (Some e) (device_at ds d.addr)) (ne_eqb e.addr d.addr other) ∙ at_place ds i d distinct.1 is
+
+-- devices of one address are at one place
+pub same_place : (ds : List DeviceSetup) (i j : ℕ) (d e : DeviceSetup) → AreDistinct ds → slice_get ds i ≡ Some d →
+    slice_get ds j ≡ Some e → d.addr ≡ e.addr → i ≡ j
+same_place [] i j d e distinct is at same = absurd cc
+same_place (x ∷ ds) zero zero d e distinct is at same = refl
+same_place (x ∷ ds) zero (suc j) d e distinct is at same =
+    let own : x ≡ d = cc in
+    absurd (apart ds x.addr j e distinct.0 at (sym same ∙ ap (λ (y : DeviceSetup). y.addr) (sym own)))
+same_place (x ∷ ds) (suc i) zero d e distinct is at same =
+    let own : x ≡ e = cc in
+    absurd (apart ds x.addr i d distinct.0 is (same ∙ ap (λ (y : DeviceSetup). y.addr) (sym own)))
+same_place (x ∷ ds) (suc i) (suc j) d e distinct is at same = ap suc (same_place ds i j d e distinct.1 is at same)
+
+-- two functions that agree at each device, at each address but one, and at each but one device
+pub map_same : {X : Type 0} (f g : DeviceSetup → X) (ds : List DeviceSetup) → ((d : DeviceSetup) → g d ≡ f d) →
+    map f ds ≡ map g ds
+map_same f g [] same = refl
+map_same f g (d ∷ ds) same = ap₂ (λ x xs. x ∷ xs) (sym (same d)) (map_same f g ds same)
+
+map_apart : {X : Type 0} (f g : DeviceSetup → X) (ds : List DeviceSetup) (addr : ℕ) → device_at ds addr ≡ None →
+    ((d : DeviceSetup) → d.addr ≢ addr → g d ≡ f d) → map f ds ≡ map g ds
+map_apart f g [] addr none same = refl
+map_apart f g (e ∷ ds) addr none same =
+    let rest : device_at ds addr ≡ None = later (e.addr == addr) none in
+    ap₂ (λ x xs. x ∷ xs) (sym (same e (apart (e ∷ ds) addr 0 e none refl))) (map_apart f g ds addr rest same)
+  where
+    later : (here : Bool) → cond here (Some e) (device_at ds addr) ≡ None → device_at ds addr ≡ None
+    later true found = absurd cc
+    later false found = found
+
+pub map_set : {X : Type 0} (f g : DeviceSetup → X) (ds : List DeviceSetup) (i : ℕ) (d : DeviceSetup) (v : X) →
+    AreDistinct ds → slice_get ds i ≡ Some d → g d ≡ v → ((e : DeviceSetup) → e.addr ≢ d.addr → g e ≡ f e) →
+    set (map f ds) i v ≡ map g ds
+map_set f g [] i d v distinct is here same = absurd cc
+map_set f g (e ∷ ds) zero d v distinct is here same =
+    let own : e ≡ d = cc in
+    let addrs : e.addr ≡ d.addr = ap (λ (x : DeviceSetup). x.addr) own in
+    ap₂ (λ x xs. x ∷ xs) (sym here ∙ ap g (sym own))
+    (map_apart f g ds e.addr distinct.0 (λ x other. same x (λ at. other (at ∙ sym addrs))))
+map_set f g (e ∷ ds) (suc i) d v distinct is here same =
+    let other : e.addr ≢ d.addr = λ at. apart ds e.addr i d distinct.0 is (sym at) in
+    ap₂ (λ x xs. x ∷ xs) (sym (same e other)) (map_set f g ds i d v distinct.1 is here same)
+
+-- a sum over devices is one over a list of what is at each
+pub sum_over-map : {X : Type 0} (worth : X → ℕ) (f : DeviceSetup → X) (ds : List DeviceSetup) →
+    sum_over (λ d. worth (f d)) ds ≡ sum_by worth (map f ds)
+sum_over-map worth f [] = refl
+sum_over-map worth f (d ∷ ds) =
+    ap (λ n. worth (f d) + n) (sum_over-map worth f ds) ∙ sym (sum_by-cons worth (f d) (map f ds))
+
+-- a hopper is found by its address
+
+abbrev pub is_hopper : ℕ → DeviceSetup → Bool
+is_hopper addr d = (d.addr == addr) && not (is_acceptor d.body)
+
+pub record IsHopperAt (ds : List DeviceSetup) (addr place : ℕ) : Type 0 where
+  pub device : DeviceSetup
+  pub there : slice_get ds place ≡ Some device
+  pub here : device.addr ≡ addr
+  pub kind : is_acceptor device.body ≡ false
+
+pub hopper_at : (ds : List DeviceSetup) (addr place : ℕ) → position (is_hopper addr) ds ≡ Some place →
+    IsHopperAt ds addr place
+hopper_at ds addr place is =
+    let at = at_position (is_hopper addr) ds place is in
+    let parts = and_parts (at.item.addr == addr) (not (is_acceptor at.item.body)) at.passes in
+    record {
+      device = at.item;
+      there = at.there;
+      here = eqb-true at.item.addr addr parts.0;
+      kind = not-true (is_acceptor at.item.body) parts.1;
+    }
+
+pub hopper_there_at : (ds : List DeviceSetup) (addr place : ℕ) → AreDistinct ds → IsHopperAt ds addr place →
+    hopper_there (device_at ds addr) ≡ true
+hopper_there_at ds addr place distinct at =
+    let found = ap (device_at ds) (sym at.here) ∙ at_place ds place at.device distinct at.there in
+    ap hopper_there found ∙ ap not at.kind
+
+no_hopper : (ds : List DeviceSetup) (addr : ℕ) → list_any (is_hopper addr) ds ≡ false →
+    hopper_there (device_at ds addr) ≡ false
+no_hopper [] addr none = refl
+no_hopper (e ∷ ds) addr none =
+    let parts = or_parts (is_hopper addr e) (list_any (is_hopper addr) ds) none in
+    by_here (e.addr == addr) parts.0 (no_hopper ds addr parts.1)
+  where
+    by_here : (here : Bool) → (here && not (is_acceptor e.body)) ≡ false → hopper_there (device_at ds addr) ≡ false →
+        hopper_there (cond here (Some e) (device_at ds addr)) ≡ false
+    by_here true test rest = test
+    by_here false test rest = rest
+
+pub hopper_nowhere : (ds : List DeviceSetup) (addr : ℕ) → position (is_hopper addr) ds ≡ None →
+    hopper_there (device_at ds addr) ≡ false
+hopper_nowhere ds addr none = no_hopper ds addr (none_passes (is_hopper addr) ds none)
+
+-- what a coin is worth at most
+
+index_most : (values : List ℕ) (i most : ℕ) → All (λ value. value ≤ most) values → get_or values i 0 ≤ most
+index_most [] i most each = omega arith
+index_most (v ∷ vs) zero most each = All-head (λ value. value ≤ most) v vs each
+index_most (v ∷ vs) (suc i) most each = index_most vs i most (All-tail (λ value. value ≤ most) v vs each)
+
+body_most : (body : DeviceBody) (place : ℕ) → IsSoundBody body → value_at body place ≤ 1000000
+body_most (Acceptor accepts values ids) place sound =
+    index_most values (place - 1) 1000000 sound.1
+body_most (Hopper life value) place sound = omega arith
+
+device_most : (d : DeviceSetup) (place : ℕ) → IsSound d → place_value (Some d) place ≤ 1000000
+device_most d place sound = by_none (place == 0) (body_most d.body place sound.body)
+  where
+    by_none : (none : Bool) → value_at d.body place ≤ 1000000 → cond none 0 (value_at d.body place) ≤ 1000000
+    by_none true most = omega arith
+    by_none false most = most
+
+pub values_most : (ds : List DeviceSetup) (addr place : ℕ) → All IsSound ds →
+    place_value (device_at ds addr) place ≤ 1000000
+values_most [] addr place sound = omega arith
+values_most (d ∷ ds) addr place sound =
+    by_here (d.addr == addr) (device_most d place (All-head IsSound d ds sound))
+    (values_most ds addr place (All-tail IsSound d ds sound))
+  where
+    by_here : (here : Bool) → place_value (Some d) place ≤ 1000000 → place_value (device_at ds addr) place ≤ 1000000 →
+        place_value (cond here (Some d) (device_at ds addr)) place ≤ 1000000
+    by_here true own rest = own
+    by_here false own rest = rest

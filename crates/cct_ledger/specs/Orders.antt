@@ -1,0 +1,19 @@
+-- The open orders that a ledger keeps.
+use Rattle.std.specs.Prelude.{◌≡◌, ℕ, ◌==◌, Bool, false, List, map, Option, Some, None, slice_get}
+use Rattle.std.specs.List.{list_any}
+use Rattle.cct_model.specs.terms.device.Setup.{Setup}
+use Rattle.cct_model.specs.lines.record.Record.{Record}
+use Rattle.cct_model.specs.declared.judging.OpenOrder.{OpenOrder}
+use Rattle.cct_model.specs.Records.{order_in, order_named, is_open}
+
+-- It is an open order with this id.
+abbrev pub has_id : ℕ → Option OpenOrder → Bool
+has_id id None = false
+has_id id (Some o) = o.id == id
+
+-- These are the open orders of the devices of a setup, in its order: an order is open by its id where one of them has
+-- it, and each of them is the one that was opened last with its id.
+pub record KeepsOrders (setup : Setup) (before : List Record) (orders : List (Option OpenOrder)) : Type 0 where
+  pub at_devices : orders ≡ map (λ d. order_in d.addr before) setup.devices
+  pub opened : (id : ℕ) → is_open id before ≡ list_any (has_id id) orders
+  pub named : (place : ℕ) (o : OpenOrder) → slice_get orders place ≡ Some (Some o) → order_named o.id before ≡ Some o

@@ -1,0 +1,28 @@
+//! How what a ledger takes and tells stands to the definitions of records and of money.
+ghost use Rattle.std.specs.Prelude.{◌≡◌, ℕ, true, List};
+ghost use Rattle.cct_model.specs.terms.device.Setup.{Setup};
+ghost use Rattle.cct_model.specs.lines.record.Record.{Record};
+ghost use Rattle.cct_model.specs.lines.entry.Entry.{Entry};
+ghost use Rattle.cct_model.specs.Following.{follows};
+ghost use Rattle.cct_model.specs.Money.{available, reserved_at_work, totals};
+ghost use Rattle.cct_model.specs.Records.{records};
+ghost use Rattle.cct_ledger.specs.Allowed.{available_beside, totals_beside, is_allowed, is_of_money};
+
+/// Where nothing is reserved beside the records, a ledger takes a record of an order or of a sale exactly where it
+/// follows those before it; and whatever is reserved, only where it does.
+#[tactic(auto, using(crate::proofs::Following::allowed_alone, crate::proofs::Following::allowed_follows))]
+pub fn a_ledger_takes_what_follows()
+    ensures alone { (setup : Setup) (before : List Record) (r : Record) → is_of_money r ≡ true
+        → is_allowed setup before 0 r ≡ follows setup before r }
+    ensures only { (setup : Setup) (before : List Record) (beside : ℕ) (r : Record) → is_of_money r ≡ true
+        → is_allowed setup before beside r ≡ true → follows setup before r ≡ true }
+{}
+
+/// With what all running jobs reserve beside the records, what a ledger tells is what the operator has after these
+/// entries.
+pub fn a_ledger_tells_what_the_operator_has()
+    ensures available { (setup : Setup) (past : List Entry)
+        → available_beside setup (records past) (reserved_at_work setup past) ≡ available setup past }
+    ensures totals { (setup : Setup) (past : List Entry)
+        → totals_beside setup (records past) (reserved_at_work setup past) ≡ totals setup past }
+{}

@@ -1,0 +1,294 @@
+//! The ledger: what became of the money of all coins posted.
+ghost use Rattle.std.specs.Prelude.{◌≡◌, ◌+◌, ◌-◌, ◌*◌, ◌^◌, ◌<◌, ◌≤◌, ◌==◌, ◌&&◌, nat_le, not, true, false};
+ghost use Rattle.std.specs.Prelude.{ℕ, List, [], None, length, sum_by, is_ok, is_none, OnOk, OnErr, slice_index_or};
+ghost use Rattle.std.specs.List.{list_any};
+ghost use Rattle.cct_model.specs.terms.coin.TheConstants.{EVENTS};
+ghost use Rattle.cct_model.specs.lines.record.Record.{Record};
+ghost use Rattle.cct_model.specs.lines.record.Record.TheVariants as record_of;
+ghost use Rattle.cct_model.specs.Exchange.{device_at};
+ghost use Rattle.cct_model.specs.Setup.{IsSoundSetup};
+ghost use Rattle.cct_model.specs.Money.{place_value, amount, posted_in};
+ghost use Rattle.cct_ledger.specs.Allowed.{available_beside, totals_beside, is_of_money};
+ghost use Rattle.cct_ledger.specs.Orders.{has_id};
+
+use crate::lookup::{hopper_place, none_open, opened, put_order};
+use crate::worth::{coins_of, coins_value};
+use arrayvec::ArrayVec;
+use cct_model::{Coins, DEVICES, OpenOrder, Record, Setup, Totals};
+use thiserror::Error;
+
+/// A record of an order or of a sale that doesn't follow those applied before, or that takes more than is available.
+#[derive(Clone, Copy, Debug, Error, PartialEq, Eq)]
+#[error("the record doesn't follow those before it")]
+pub struct NotAllowed;
+
+/// What the operator has, in units of value (`docs/DEFINITIONS.md`, `specs/Money.antt` of `cct_model`).
+///
+/// A contract tells a ledger by the list of all records that it took, newest first, and by how much was reserved beside
+/// them and isn't released. It takes no memory.
+#[derive(Debug, Drop)]
+pub struct Ledger<'s> {
+    setup: &'s Setup,
+    /// How many records were applied. Each posts five coins at the most, so their number bounds every sum.
+    records: u32,
+    /// The open order of each device of the setup, in its order.
+    orders: ArrayVec<Option<OpenOrder>, DEVICES>,
+    available: u64,
+    /// What orders reserve: those that are open, and those whose counts of life didn't fit them.
+    owed: u64,
+    /// What is reserved by [`Ledger::reserve`].
+    reserved: u64,
+    paid: u64,
+    sold: u64,
+    ghost places: { length orders.items ≡ length setup.now.devices },
+    ghost values: { (addr place : ℕ) → place_value (device_at setup.now.devices addr) place ≤ 1000000 },
+    ghost owes: { sum_by (amount setup.now) orders.items ≤ owed },
+    ghost fits: { available + owed + reserved + paid + sold ≤ EVENTS * 1000000 * records },
+}
+
+impl<'s> Ledger<'s> {
+    ghost use Rattle.cct_ledger.specs.Ledger.{StandsFor, Judges, GoesOn, setup_of, applied, available_of, reserved_of};
+
+    /// The ledger over a setup before any record.
+    pub fn new(setup: &'s Setup) -> Ledger<'s>
+        requires sound { IsSoundSetup setup.now }
+        ensures setup { setup_of result ≡ setup.now }
+        ensures reserved { reserved_of result ≡ 0 }
+        ensures counted { applied result ≡ 0 }
+        ensures fresh { StandsFor result [] 0 }
+    {
+        Ledger {
+            setup,
+            records: 0,
+            orders: none_open(setup),
+            available: 0,
+            owed: 0,
+            reserved: 0,
+            paid: 0,
+            sold: 0,
+        }
+    }
+
+    /// Applies a record of the journal, of which fewer than 2^32 - 1 may have been applied before.
+    ///
+    /// A [`Record::Opened`], [`Record::Closed`], [`Record::Odd`] or [`Record::Sold`] is refused where it doesn't follow
+    /// the records before it, or where what it takes isn't available beside all that is reserved. A closed order pays
+    /// the coins that fell and frees the others; an order whose counts of life don't fit it stays reserved.
+    ///
+    /// A record of another kind is taken whether it follows or not. Each coin that it posts has the value of its place
+    /// at the acceptor of that address, and none where the place has no value or no acceptor is there.
+    pub fn apply(&mut self, entry: &Record) -> Result<(), NotAllowed>
+        requires few { applied self.old < 2 ^ 32 - 1 }
+        ensures setup { setup_of self.new ≡ setup_of self.old }
+        ensures reserved { reserved_of self.new ≡ reserved_of self.old }
+        ensures counted { OnOk result (applied self.new ≡ applied self.old + 1) }
+        ensures exactly { Judges self.old entry.now (is_ok result) }
+        ensures others { is_of_money entry.now ≡ false → is_ok result ≡ true }
+        ensures taken { OnOk result (GoesOn self.old self.new entry.now) }
+        ensures refused { OnErr result (self.new ≡ self.old) }
+    {
+        match entry {
+            Record::Epoch { .. } => {
+                self.records += 1;
+                Ok(())
+            }
+            Record::Reading { addr, posted, .. } => {
+                self.post(*addr, posted);
+                Ok(())
+            }
+            Record::Broken { addr, posted, .. } => {
+                self.post(*addr, posted);
+                Ok(())
+            }
+            Record::EpochEnd { .. } => {
+                self.records += 1;
+                Ok(())
+            }
+            Record::Opened {
+                id,
+                addr,
+                count,
+                life,
+            } => self.open(OpenOrder {
+                id: *id,
+                addr: *addr,
+                count: *count,
+                life: *life,
+            }),
+            Record::Closed { id, paid, unpaid } => self.close(*id, *paid, *unpaid),
+            Record::Odd { id, .. } => self.set_aside(*id),
+            Record::Sold { id, price } => self.sell(*id, *price),
+        }
+    }
+
+    /// What is available: the value of all coins posted, less what is reserved, paid and sold.
+    pub fn available(&self) -> u64
+        ensures value { result ≡ available_of self.now }
+        ensures stands { (before : List Record) (beside : ℕ) → StandsFor self.now before beside
+            → result ≡ available_beside (setup_of self.now) before beside }
+    {
+        self.available
+    }
+
+    /// Reserves what is available, for a payment or a sale whose record is still to be put.
+    pub fn reserve(&mut self, amount: u64)
+        requires { amount ≤ available_of self.old }
+        ensures setup { setup_of self.new ≡ setup_of self.old }
+        ensures available { available_of self.new ≡ available_of self.old - amount }
+        ensures reserved { reserved_of self.new ≡ reserved_of self.old + amount }
+        ensures counted { applied self.new ≡ applied self.old }
+        ensures stands { (before : List Record) (beside : ℕ) → StandsFor self.old before beside
+            → StandsFor self.new before (beside + amount) }
+    {
+        self.available -= amount;
+        self.reserved += amount;
+    }
+
+    /// Frees what was reserved: before the record is applied that takes it, or where no such record comes.
+    pub fn release(&mut self, amount: u64)
+        requires { amount ≤ reserved_of self.old }
+        ensures setup { setup_of self.new ≡ setup_of self.old }
+        ensures available { available_of self.new ≡ available_of self.old + amount }
+        ensures reserved { reserved_of self.new ≡ reserved_of self.old - amount }
+        ensures counted { applied self.new ≡ applied self.old }
+        ensures stands { (before : List Record) (beside : ℕ) → StandsFor self.old before beside
+            → StandsFor self.new before (beside - amount) }
+    {
+        self.reserved -= amount;
+        self.available += amount;
+    }
+
+    /// What is available, reserved, paid and sold. What is reserved are the amounts of open orders and of those whose
+    /// counts of life didn't fit, and what is reserved by [`Ledger::reserve`].
+    pub fn totals(&self) -> Totals
+        ensures stands { (before : List Record) (beside : ℕ) → StandsFor self.now before beside
+            → result ≡ totals_beside (setup_of self.now) before beside }
+        ensures whole { (before : List Record) (beside : ℕ) → StandsFor self.now before beside
+            → result.available + result.reserved + result.paid + result.sold ≡ posted_in (setup_of self.now) before }
+    {
+        Totals {
+            available: self.available,
+            reserved: self.owed + self.reserved,
+            paid: self.paid,
+            sold: self.sold,
+        }
+    }
+
+    /// Posts coins that the acceptor at an address took.
+    fn post(&mut self, addr: u8, coins: &Coins)
+        requires few { applied self.old < 2 ^ 32 - 1 }
+        ensures setup { setup_of self.new ≡ setup_of self.old }
+        ensures reserved { reserved_of self.new ≡ reserved_of self.old }
+        ensures counted { applied self.new ≡ applied self.old + 1 }
+        ensures reading { (counter lost : ℕ)
+            → GoesOn self.old self.new (record_of.Reading addr counter lost coins.now) }
+        ensures broken { (seen counter : ℕ)
+            → GoesOn self.old self.new (record_of.Broken addr seen counter coins.now) }
+    {
+        self.available += coins_value(self.setup, addr, coins.as_slice());
+        self.records += 1;
+    }
+
+    /// Opens an order at a hopper that has none, where its coins are available.
+    fn open(&mut self, order: OpenOrder) -> Result<(), NotAllowed>
+        requires few { applied self.old < 2 ^ 32 - 1 }
+        ensures setup { setup_of self.new ≡ setup_of self.old }
+        ensures reserved { reserved_of self.new ≡ reserved_of self.old }
+        ensures counted { OnOk result (applied self.new ≡ applied self.old + 1) }
+        ensures exactly { Judges self.old (record_of.Opened order.id order.addr order.count order.life) (is_ok result) }
+        ensures taken { OnOk result
+            (GoesOn self.old self.new (record_of.Opened order.id order.addr order.count order.life)) }
+        ensures refused { OnErr result (self.new ≡ self.old) }
+    {
+        let Some(place) = hopper_place(self.setup, order.addr) else {
+            return Err(NotAllowed);
+        };
+        let amount = coins_of(self.setup, order.addr, order.count);
+        if !self.may_open(place, &order, amount) {
+            return Err(NotAllowed);
+        }
+        self.available -= amount;
+        self.owed += amount;
+        put_order(&mut self.orders, place, Some(order));
+        self.records += 1;
+        Ok(())
+    }
+
+    /// Closes an open order: the coins that fell are paid, and the others are available again.
+    fn close(&mut self, id: u32, paid: u8, unpaid: u8) -> Result<(), NotAllowed>
+        requires few { applied self.old < 2 ^ 32 - 1 }
+        ensures setup { setup_of self.new ≡ setup_of self.old }
+        ensures reserved { reserved_of self.new ≡ reserved_of self.old }
+        ensures counted { OnOk result (applied self.new ≡ applied self.old + 1) }
+        ensures exactly { Judges self.old (record_of.Closed id paid unpaid) (is_ok result) }
+        ensures taken { OnOk result (GoesOn self.old self.new (record_of.Closed id paid unpaid)) }
+        ensures refused { OnErr result (self.new ≡ self.old) }
+    {
+        let Some((place, order)) = opened(&self.orders, id) else {
+            return Err(NotAllowed);
+        };
+        if u16::from(paid) + u16::from(unpaid) != u16::from(order.count) {
+            return Err(NotAllowed);
+        }
+        self.owed -= coins_of(self.setup, order.addr, order.count);
+        self.paid += coins_of(self.setup, order.addr, paid);
+        self.available += coins_of(self.setup, order.addr, unpaid);
+        put_order(&mut self.orders, place, None);
+        self.records += 1;
+        Ok(())
+    }
+
+    /// Closes an open order whose counts of life don't fit it: its amount stays reserved.
+    fn set_aside(&mut self, id: u32) -> Result<(), NotAllowed>
+        requires few { applied self.old < 2 ^ 32 - 1 }
+        ensures setup { setup_of self.new ≡ setup_of self.old }
+        ensures reserved { reserved_of self.new ≡ reserved_of self.old }
+        ensures counted { OnOk result (applied self.new ≡ applied self.old + 1) }
+        ensures exactly { (life_before life_after : ℕ)
+            → Judges self.old (record_of.Odd id life_before life_after) (is_ok result) }
+        ensures taken { (life_before life_after : ℕ)
+            → OnOk result (GoesOn self.old self.new (record_of.Odd id life_before life_after)) }
+        ensures refused { OnErr result (self.new ≡ self.old) }
+    {
+        let Some((odd_place, _order)) = opened(&self.orders, id) else {
+            return Err(NotAllowed);
+        };
+        put_order(&mut self.orders, odd_place, None);
+        self.records += 1;
+        Ok(())
+    }
+
+    /// Sells something for what is available.
+    fn sell(&mut self, id: u32, price: u32) -> Result<(), NotAllowed>
+        requires few { applied self.old < 2 ^ 32 - 1 }
+        ensures setup { setup_of self.new ≡ setup_of self.old }
+        ensures reserved { reserved_of self.new ≡ reserved_of self.old }
+        ensures counted { OnOk result (applied self.new ≡ applied self.old + 1) }
+        ensures exactly { Judges self.old (record_of.Sold id price) (is_ok result) }
+        ensures taken { OnOk result (GoesOn self.old self.new (record_of.Sold id price)) }
+        ensures refused { OnErr result (self.new ≡ self.old) }
+    {
+        let price = u64::from(price);
+        if id == 0 || price == 0 || self.available < price {
+            return Err(NotAllowed);
+        }
+        self.available -= price;
+        self.sold += price;
+        self.records += 1;
+        Ok(())
+    }
+
+    /// Whether an order whose coins are worth this may be opened at the place of its hopper.
+    fn may_open(&self, place: usize, order: &OpenOrder, amount: u64) -> bool
+        requires { place < length self.now.orders.items }
+        ensures { result ≡ (is_none (slice_index_or self.now.orders.items place None) && not (order.now.id == 0)
+            && not (list_any (has_id order.now.id) self.now.orders.items) && not (order.now.count == 0)
+            && nat_le amount self.now.available) }
+    {
+        self.orders[place].is_none()
+            && order.id != 0
+            && opened(&self.orders, order.id).is_none()
+            && order.count != 0
+            && amount <= self.available
+    }
+}
