@@ -22,7 +22,8 @@ use Rattle.cct_laws.proofs.Payments.{legal_ids}
 use Rattle.cct_laws.proofs.Scripts.{setup_sound}
 use Rattle.cct_script.specs.Giving.{Standing}
 use Rattle.cct_world.specs.Machine.{StepOwnsItsPut}
-use Rattle.cct_world.proofs.Owned.{AreOwned, step_owns_its_put}
+use Rattle.cct_host.proofs.Owned.{AreOwned}
+use Rattle.cct_world.proofs.Owned.{step_owns_its_put}
 use Rattle.cct_bench.specs.declared.lines.ScriptStop.{ScriptStop}
 use Rattle.cct_bench.specs.declared.lines.ScriptStop.TheVariants as stop
 use Rattle.cct_bench.specs.declared.play.Ending.TheVariants as ending

@@ -1,5 +1,6 @@
 pub mod Begins
 pub mod Epochs
+pub mod Fits
 pub mod Halts
 pub mod Heard
 pub mod Lives
@@ -9,6 +10,7 @@ pub mod Owners
 pub mod Payments
 pub mod Payouts
 pub mod Questions
+pub mod Reserves
 pub mod Scans
 pub mod Sets
 pub mod Stages

@@ -31,6 +31,7 @@ use Rattle.cct_model.specs.Job.{address_of, sends, puts, row, credits_read, end_
 use Rattle.cct_model.specs.Order.{close, is_marked}
 use Rattle.cct_model.specs.Scan.{poll_of}
 use Rattle.cct_model.specs.Transcript.{got_by, opened_at, owner}
+use Rattle.cct_record.specs.Body.{Encodable}
 use Rattle.cct_jobs.specs.declared.target.Target.{Target}
 use Rattle.cct_jobs.specs.declared.owed.Owed.{Owed}
 use Rattle.cct_jobs.specs.declared.payout.Closing.{Closing}
@@ -297,6 +298,59 @@ records_of (command.Stop addr) = 2
 records_of (command.Pay addr id count) = 2
 records_of (command.Settle addr) = 1
 records_of c = 0
+
+-- A stage is one of a payment or a settlement.
+abbrev pub stage_closes : Stage → Bool
+stage_closes (Pays row) = true
+stage_closes stage = false
+
+-- A job is a payment or a settlement, which is at work to close an order.
+abbrev pub closes_order : Job → Bool
+closes_order (Asks device stage failed) = stage_closes stage
+closes_order (OrderOpens device own halted) = true
+closes_order (OrderCloses entry end) = true
+closes_order job = false
+
+-- A command is one whose job is at work to close an order.
+abbrev pub is_closing : Command → Bool
+is_closing (command.Pay addr id count) = true
+is_closing (command.Settle addr) = true
+is_closing c = false
+
+-- How many coins a payment reserves that hasn't opened its order yet, by its row.
+abbrev pub payout_reserves : Payout → ℕ
+payout_reserves (Enables id count halted) = count
+payout_reserves (Counts id count halted) = count
+payout_reserves row = 0
+
+-- How many coins a job reserves, by its stage.
+abbrev pub stage_reserves : Stage → ℕ
+stage_reserves (Pays row) = payout_reserves row
+stage_reserves stage = 0
+
+-- How many coins a job reserves: those of the order that a payment is still to open.
+abbrev pub coins_reserved : Job → ℕ
+coins_reserved (Asks device stage failed) = stage_reserves stage
+coins_reserved (OrderOpens device own halted) = own.order.count
+coins_reserved job = 0
+
+-- How many coins a command asks to pay.
+abbrev pub coins_asked : Command → ℕ
+coins_asked (command.Pay addr id count) = count
+coins_asked c = 0
+
+-- The record that a job is about to put, if it is about to put one, can be spelt in a journal.
+abbrev pub PutsFit : Job → Type 0
+PutsFit (RoundPuts entry end) = Encodable entry
+PutsFit (StopPuts device entry end) = Encodable entry
+PutsFit (OrderCloses entry end) = Encodable entry
+PutsFit job = ⊤
+
+-- What was judged of a reading can be spelt in a journal, if it is a record.
+abbrev pub JudgedFits : Judged → Type 0
+JudgedFits Nothing = ⊤
+JudgedFits (Reading entry) = Encodable entry
+JudgedFits (Broken entry) = Encodable entry
 
 -- An epoch runs with this inhibit mask and event counter recorded.
 abbrev pub runs : Recorded → EpochState

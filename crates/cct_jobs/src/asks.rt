@@ -1,5 +1,5 @@
 //! What a job hears from the device that it asked: the wanted reply, or a failed try.
-ghost use Rattle.std.specs.Prelude.{Option, ◌≡◌, ◌≤◌, List, ℕ, ◌∷◌, Some, None};
+ghost use Rattle.std.specs.Prelude.{Option, ◌≡◌, ◌≤◌, List, ℕ, ◌∷◌, Some, None, true};
 ghost use Rattle.cct_model.specs.lines.command.Command.{Command};
 ghost use Rattle.cct_model.specs.terms.device.DeviceSetup.{DeviceSetup};
 ghost use Rattle.cct_model.specs.declared.judging.EpochState.{EpochState};
@@ -10,8 +10,8 @@ ghost use Rattle.cct_model.specs.Reply.{reply_shown};
 ghost use Rattle.cct_model.specs.Request.{form_of};
 ghost use Rattle.cct_msg.specs.Forms.{form_shown};
 ghost use Rattle.cct_jobs.specs.declared.stage.Stage.TheVariants.{Pays};
-ghost use Rattle.cct_jobs.specs.Jobs.{payout_puts, payout_request};
-ghost use Rattle.cct_jobs.specs.Jobs.{Asking, FitsLife, IsAgain, Stands, line_heard, may_put_of, request_of, stage_puts};
+ghost use Rattle.cct_jobs.specs.Jobs.{closes_order, coins_reserved, payout_puts, payout_request, payout_reserves, stage_closes, stage_reserves};
+ghost use Rattle.cct_jobs.specs.Jobs.{Asking, FitsLife, IsAgain, PutsFit, Stands, line_heard, may_put_of, request_of, stage_puts};
 
 use crate::job::Job;
 use crate::payout::Payout;
@@ -38,6 +38,9 @@ pub(crate) fn heard(device: Target, stage: Stage, failed: u8, sent: &[u8], heard
         → sent.now ≡ ask d.kind d.addr (request_of stage)
         → Stands d result c (line_heard d sent.now heard.now ∷ since) state owed }
     ensures may_put { may_put_of result ≤ stage_puts stage }
+    ensures fits { PutsFit result }
+    ensures closes { stage_closes stage ≡ true → 1 ≤ may_put_of result → closes_order result ≡ true }
+    ensures reserves { coins_reserved result ≤ stage_reserves stage }
 {
     match device.reply(stage.wanted(), sent, heard) {
         Some(reply) => answered(device, stage, &reply),
@@ -52,6 +55,9 @@ fn unanswered(device: Target, stage: Stage, failed: u8) -> Job
         (owed : Option OpenOrder) → Asking d device stage failed c since state owed
         → Stands d result c (exchange (Some (request_of stage)) None ∷ since) state owed }
     ensures may_put { may_put_of result ≤ stage_puts stage }
+    ensures fits { PutsFit result }
+    ensures closes { stage_closes stage ≡ true → 1 ≤ may_put_of result → closes_order result ≡ true }
+    ensures reserves { coins_reserved result ≤ stage_reserves stage }
 {
     match stage {
         Stage::StartSets { .. } => Job::Done(End::StartUnsure),
@@ -66,6 +72,9 @@ fn payout_unanswered(device: Target, row: Payout, failed: u8) -> Job
         (owed : Option OpenOrder) → Asking d device (Pays row) failed c since state owed
         → Stands d result c (exchange (Some (payout_request row)) None ∷ since) state owed }
     ensures may_put { may_put_of result ≤ payout_puts row }
+    ensures fits { PutsFit result }
+    ensures closes { 1 ≤ may_put_of result → closes_order result ≡ true }
+    ensures reserves { coins_reserved result ≤ payout_reserves row }
 {
     match row {
         Payout::Dispenses { owed, halted, .. } => payment::dispensed(device, owed, halted),
@@ -80,6 +89,9 @@ fn tried_again(device: Target, stage: Stage, failed: u8) -> Job
         (owed : Option OpenOrder) → Asking d device stage failed c since state owed
         → Stands d result c (exchange (Some (request_of stage)) None ∷ since) state owed }
     ensures may_put { may_put_of result ≤ stage_puts stage }
+    ensures fits { PutsFit result }
+    ensures closes { stage_closes stage ≡ true → 1 ≤ may_put_of result → closes_order result ≡ true }
+    ensures reserves { coins_reserved result ≤ stage_reserves stage }
 {
     match after_failed(failed) {
         Some(failed) => Job::Asks {
@@ -92,6 +104,7 @@ fn tried_again(device: Target, stage: Stage, failed: u8) -> Job
 }
 
 /// The job after its stage got the wanted reply: each kind of job has its own.
+#[tactic(auto, using(crate::proofs::Reserves::few_reserve_none))]
 fn answered(device: Target, stage: Stage, reply: &Reply<'_>) -> Job
     requires wanted { form_shown (reply_shown reply.now) ≡ form_of (request_of stage) }
     requires life { FitsLife (reply_shown reply.now) }
@@ -100,6 +113,9 @@ fn answered(device: Target, stage: Stage, reply: &Reply<'_>) -> Job
         → Asking d device stage failed c since state owed
         → Stands d result c (exchange (Some (request_of stage)) (Some (reply_shown reply.now)) ∷ since) state owed }
     ensures may_put { may_put_of result ≤ stage_puts stage }
+    ensures fits { PutsFit result }
+    ensures closes { stage_closes stage ≡ true → 1 ≤ may_put_of result → closes_order result ≡ true }
+    ensures reserves { coins_reserved result ≤ stage_reserves stage }
 {
     match stage {
         Stage::StartResets { .. } => start::answered(device, stage, reply),

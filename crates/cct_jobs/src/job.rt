@@ -4,6 +4,7 @@ ghost use Rattle.std.specs.Option.{option_map};
 ghost use Rattle.cct_model.specs.lines.command.Command.{Command};
 ghost use Rattle.cct_model.specs.lines.command.Command.TheVariants as command;
 ghost use Rattle.cct_model.specs.terms.device.DeviceSetup.{DeviceSetup};
+ghost use Rattle.cct_model.specs.terms.device.Setup.{Setup};
 ghost use Rattle.cct_model.specs.declared.judging.EpochState.{EpochState};
 ghost use Rattle.cct_model.specs.lines.record.Record.{Record};
 ghost use Rattle.cct_model.specs.terms.request.Request.{Request};
@@ -12,10 +13,12 @@ ghost use Rattle.cct_model.specs.Exchange.{ask, device_at};
 ghost use Rattle.cct_model.specs.declared.judging.OpenOrder.{OpenOrder};
 ghost use Rattle.cct_model.specs.Job.{address_of, can_halt, done, puts_at, row, sends, works};
 ghost use Rattle.cct_model.specs.Line.{Line, put, taken};
+ghost use Rattle.cct_model.specs.Money.{coins_of, reserved_by};
 ghost use Rattle.cct_model.specs.Order.{order_by};
 ghost use Rattle.cct_model.specs.Scan.{end_of_scan, poll_of, scan_row};
 ghost use Rattle.cct_model.specs.Transcript.{scan_line};
-ghost use Rattle.cct_jobs.specs.Jobs.{IsPut, IsRunning, MayBegin, Needs, Stands, after_halt, after_put, end_of_job, halts, line_heard, may_put_of, need_of, newest_end, opened_by, order_of, owed_after, records_of, runs, sending_of};
+ghost use Rattle.cct_record.specs.Body.{Encodable};
+ghost use Rattle.cct_jobs.specs.Jobs.{IsPut, IsRunning, MayBegin, Needs, PutsFit, Stands, after_halt, after_put, closes_order, coins_asked, coins_reserved, end_of_job, halts, is_closing, line_heard, may_put_of, need_of, newest_end, opened_by, order_of, owed_after, records_of, runs, sending_of};
 ghost use Rattle.cct_jobs.specs.Scans.{NeedsScan, StandsScan};
 
 use crate::asks::first_try;
@@ -134,6 +137,9 @@ impl Job {
         ensures scan { command.now ≡ Command.Scan → StandsScan result [] }
         ensures asks { need_of result ≡ Need.Exchange }
         ensures may_put { may_put_of result ≡ records_of command.now }
+        ensures fits { PutsFit result }
+        ensures closes { closes_order result ≡ is_closing command.now }
+        ensures reserves { coins_reserved result ≡ coins_asked command.now }
     {
         match *command {
             Command::Start { addr, mask } => {
@@ -186,10 +192,11 @@ impl Job {
     }
 
     /// What the job needs next.
-    #[tactic(auto, using(crate::proofs::Needs::need_known, crate::proofs::Needs::scan_need_known, crate::proofs::Needs::put_allowed))]
+    #[tactic(auto, using(crate::proofs::Needs::need_known, crate::proofs::Needs::scan_need_known, crate::proofs::Needs::put_allowed, crate::proofs::Fits::put_fits))]
     pub fn needs(&self) -> Need
         ensures value { result ≡ need_of self.now }
         ensures may_put { (entry : Record) → result ≡ Need.Put entry → 1 ≤ may_put_of self.now }
+        ensures fits { PutsFit self.now → (entry : Record) → result ≡ Need.Put entry → Encodable entry }
         ensures row { (d : DeviceSetup) (c : Command) (since : List Line) (state : EpochState)
             (owed : Option OpenOrder) → Stands d self.now c since state owed → Needs result d c since state owed }
         ensures scan { (since : List Line) → StandsScan self.now since → NeedsScan result since }
@@ -263,6 +270,43 @@ impl Job {
         }
     }
 
+    /// Whether the job is a payment or a settlement, which is at work to close an order.
+    #[tactic(auto, using(crate::proofs::Reserves::closes_known))]
+    pub fn closes_order(&self) -> bool
+        ensures value { result ≡ closes_order self.now }
+        ensures row { (d : DeviceSetup) (c : Command) (since : List Line) (state : EpochState)
+            (owed : Option OpenOrder) → Stands d self.now c since state owed → newest_end d c since state ≡ None
+            → result ≡ is_closing c }
+    {
+        match self {
+            Job::Asks {
+                stage: Stage::Pays { .. },
+                ..
+            } => true,
+            Job::OrderOpens { .. } => true,
+            Job::OrderCloses { .. } => true,
+            _ => false,
+        }
+    }
+
+    /// How many coins the job reserves: those of the order that a payment is still to open.
+    #[tactic(auto, using(crate::proofs::Reserves::reserves_known))]
+    pub fn coins_reserved(&self) -> u8
+        ensures value { result ≡ coins_reserved self.now }
+        ensures row { (setup : Setup) (d : DeviceSetup) (c : Command) (since : List Line) (state : EpochState)
+            (owed : Option OpenOrder) → Stands d self.now c since state owed → newest_end d c since state ≡ None
+            → coins_of setup d.addr result ≡ reserved_by setup (works c since) }
+    {
+        match self {
+            Job::Asks {
+                stage: Stage::Pays { row },
+                ..
+            } => row.coins_reserved(),
+            Job::OrderOpens { owed, .. } => owed.order.count,
+            _ => 0,
+        }
+    }
+
     /// The request that the job sends next. The job stays at its row until it has heard what follows.
     pub fn sending(self) -> (Sending, Job)
         requires asks { need_of self ≡ Need.Exchange }
@@ -311,6 +355,9 @@ impl Job {
             → StandsScan self since → scan_row since ≡ Some (check, addr) → sent.now ≡ ask check addr (poll_of addr)
             → StandsScan result (scan_line sent.now heard.now ∷ since) }
         ensures may_put { may_put_of result ≤ may_put_of self }
+        ensures fits { PutsFit result }
+        ensures closes { closes_order self ≡ true → 1 ≤ may_put_of result → closes_order result ≡ true }
+        ensures reserves { coins_reserved result ≤ coins_reserved self }
     {
         match self {
             Job::Asks {
@@ -332,7 +379,7 @@ impl Job {
 
     /// The job after its record was put. What it does then no longer depends on the epoch, which the record has
     /// moved, and beside an order the record has moved it.
-    #[tactic(auto, using(crate::proofs::Epochs::put_leaves, crate::proofs::Needs::fewer_after))]
+    #[tactic(auto, using(crate::proofs::Epochs::put_leaves, crate::proofs::Needs::fewer_after, crate::proofs::Fits::after_put_fits))]
     pub fn was_put(self) -> Job
         requires puts { IsPut (need_of self) }
         ensures put { (d : DeviceSetup) (c : Command) (since : List Line) (state after : EpochState)
@@ -340,6 +387,8 @@ impl Job {
             → need_of self ≡ Need.Put entry → Stands d self c since state owed
             → Stands d result c (put entry ∷ since) after (order_by entry owed) }
         ensures may_put { may_put_of result < may_put_of self }
+        ensures fits { PutsFit result }
+        ensures value { result ≡ after_put self }
     {
         self.after_put()
     }
@@ -382,6 +431,7 @@ impl Job {
         ensures put { (d : DeviceSetup) (c : Command) (since : List Line) (state : EpochState) (entry : Record)
             → need_of self.now ≡ Need.Put entry → Stands d self.now c since state (order_of before)
             → order_of result ≡ order_by entry (order_of before) }
+        ensures value { result ≡ owed_after self.now before }
     {
         self.owed_after(before)
     }
@@ -423,7 +473,7 @@ impl Job {
 
     /// The job after it was halted: before its hopper is next asked how the payout goes, it is stopped. A job that is
     /// halted already stays as it is.
-    #[tactic(auto, using(crate::proofs::Halts::halt_leaves, crate::proofs::Halts::halt_again, crate::proofs::Halts::halt_runs, crate::proofs::Halts::halt_puts))]
+    #[tactic(auto, using(crate::proofs::Halts::halt_leaves, crate::proofs::Halts::halt_again, crate::proofs::Halts::halt_runs, crate::proofs::Halts::halt_puts, crate::proofs::Reserves::halt_closes, crate::proofs::Reserves::halt_reserves, crate::proofs::Fits::halt_fits))]
     pub fn halt(self) -> Job
         requires { halts self ≡ true }
         ensures row { (d : DeviceSetup) (c : Command) (since : List Line) (state : EpochState)
@@ -432,6 +482,9 @@ impl Job {
         ensures again { after_halt result ≡ result }
         ensures runs { end_of_job result ≡ None }
         ensures may_put { may_put_of result ≡ may_put_of self }
+        ensures fits { PutsFit result }
+        ensures closes { closes_order result ≡ closes_order self }
+        ensures reserves { coins_reserved result ≡ coins_reserved self }
     {
         self.halted()
     }

@@ -16,8 +16,8 @@ ghost use Rattle.cct_model.specs.Request.{form_of};
 ghost use Rattle.cct_msg.specs.Forms.{form_shown};
 ghost use Rattle.cct_jobs.specs.declared.stage.Stage.TheVariants.{Pays};
 ghost use Rattle.cct_jobs.specs.declared.payout.Payout.TheVariants.{Counts, Dispenses, Recounts, Waits};
-ghost use Rattle.cct_jobs.specs.Jobs.{Asking, FitsLife, Stands, halted_row, halted_tries, may_put_of};
-ghost use Rattle.cct_jobs.specs.Jobs.{closing_end, payout_puts, payout_request, settling};
+ghost use Rattle.cct_jobs.specs.Jobs.{Asking, FitsLife, PutsFit, Stands, halted_row, halted_tries, may_put_of};
+ghost use Rattle.cct_jobs.specs.Jobs.{closes_order, closing_end, coins_reserved, payout_puts, payout_request, payout_reserves, settling};
 ghost use Rattle.cct_jobs.specs.declared.payout.Closing.{Closing};
 ghost use Rattle.cct_jobs.specs.declared.target.Target.{Target};
 
@@ -39,6 +39,9 @@ pub(crate) fn answered(device: Target, row: Payout, reply: &Reply<'_>) -> Job
         → Asking d device (Pays row) failed c since state owed
         → Stands d result c (exchange (Some (payout_request row)) (Some (reply_shown reply.now)) ∷ since) state owed }
     ensures may_put { may_put_of result ≤ payout_puts row }
+    ensures fits { PutsFit result }
+    ensures closes { closes_order result ≡ true }
+    ensures reserves { coins_reserved result ≤ payout_reserves row }
 {
     match row {
         Payout::Enables { id, count, halted } => first_try(
@@ -75,6 +78,9 @@ pub(crate) fn dispensed(device: Target, owed: Owed, halted: bool) -> Job
         → Asking d device (Pays (Dispenses serial owed halted)) failed c since state open_order
         → Stands d result c (exchange (Some (Dispense serial owed.order.count)) got ∷ since) state open_order }
     ensures may_put { may_put_of result ≤ 1 }
+    ensures fits { PutsFit result }
+    ensures closes { closes_order result ≡ true }
+    ensures reserves { coins_reserved result ≡ 0 }
 {
     settles(device, Closing::Payment, owed, halted)
 }
@@ -88,6 +94,9 @@ fn waited(device: Target, closing: Closing, owed: Owed, is_paid_out: bool) -> Jo
         → Asking d device (Pays (Waits closing owed)) failed c since state open_order
         → Stands d result c (exchange (Some GetStatus) (Some y) ∷ since) state open_order }
     ensures may_put { may_put_of result ≤ 1 }
+    ensures fits { PutsFit result }
+    ensures closes { closes_order result ≡ true }
+    ensures reserves { coins_reserved result ≡ 0 }
 {
     let row = if is_paid_out {
         Payout::Recounts { closing, owed }
@@ -106,6 +115,9 @@ fn opens(device: Target, id: u32, count: u8, halted: bool, life: u32) -> Job
         → Asking d device (Pays (Counts id count halted)) failed c since state owed
         → Stands d result c (exchange (Some GetLife) (Some (shown.life life)) ∷ since) state owed }
     ensures may_put { may_put_of result ≤ 2 }
+    ensures fits { PutsFit result }
+    ensures closes { closes_order result ≡ true }
+    ensures reserves { coins_reserved result ≡ count }
 {
     let owed = Owed {
         order: OpenOrder {
@@ -123,7 +135,7 @@ fn opens(device: Target, id: u32, count: u8, halted: bool, life: u32) -> Job
 }
 
 /// The payment or the settlement after it read the life count of its hopper again: its order is to be closed.
-#[tactic(auto, using(crate::proofs::Payments::recount_closes))]
+#[tactic(auto, using(crate::proofs::Payments::recount_closes, crate::proofs::Fits::closed_fits))]
 fn closes(owed: Owed, life: u32) -> Job
     requires { life < 2 ^ 24 }
     ensures device { (d : DeviceSetup) (device : Target) (closing : Closing) (c : Command) (since : List Line)
@@ -131,6 +143,9 @@ fn closes(owed: Owed, life: u32) -> Job
         → Asking d device (Pays (Recounts closing owed)) failed c since state open_order
         → Stands d result c (exchange (Some GetLife) (Some (shown.life life)) ∷ since) state open_order }
     ensures may_put { may_put_of result ≤ 1 }
+    ensures fits { PutsFit result }
+    ensures closes { closes_order result ≡ true }
+    ensures reserves { coins_reserved result ≡ 0 }
 {
     let entry = close(&owed.order, life);
     let end = end_of(&entry);

@@ -2,7 +2,7 @@
 //! headers 164, 166, 167, 168 and 172).
 ghost use Rattle.std.specs.Prelude.{◌≡◌, Some};
 ghost use Rattle.cct_model.specs.Request.{form_of};
-ghost use Rattle.cct_jobs.specs.Jobs.{payout_halts, payout_puts, payout_request};
+ghost use Rattle.cct_jobs.specs.Jobs.{payout_halts, payout_puts, payout_request, payout_reserves};
 
 use crate::owed::Owed;
 use cct_model::{ENABLE_CODE, OpenOrder, ReplyForm, Request};
@@ -93,6 +93,17 @@ impl Payout {
             Payout::Enables { .. } => 2,
             Payout::Counts { .. } => 2,
             _ => 1,
+        }
+    }
+
+    /// How many coins are reserved there for an order that is still to be opened.
+    pub(crate) fn coins_reserved(&self) -> u8
+        ensures { result ≡ payout_reserves self.now }
+    {
+        match self {
+            Payout::Enables { count, .. } => *count,
+            Payout::Counts { count, .. } => *count,
+            _ => 0,
         }
     }
 

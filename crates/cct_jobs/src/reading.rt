@@ -14,8 +14,8 @@ ghost use Rattle.cct_model.specs.Reply.{reply_shown};
 ghost use Rattle.cct_model.specs.Request.{form_of};
 ghost use Rattle.cct_msg.specs.Forms.{form_shown};
 ghost use Rattle.cct_jobs.specs.declared.stage.Stage.TheVariants.{Looks};
-ghost use Rattle.cct_jobs.specs.Jobs.{Asking, IsOfVisit, Stands, may_put_of, request_of, round_after, stage_puts};
-ghost use Rattle.cct_jobs.specs.Jobs.{stop_after, visit_puts};
+ghost use Rattle.cct_jobs.specs.Jobs.{Asking, IsOfVisit, PutsFit, Stands, may_put_of, request_of, round_after, stage_puts};
+ghost use Rattle.cct_jobs.specs.Jobs.{JudgedFits, coins_reserved, stop_after, visit_puts};
 
 use crate::asks::first_try;
 use crate::job::Job;
@@ -33,6 +33,8 @@ pub(crate) fn answered(device: Target, stage: Stage, reply: &Reply<'_>) -> Job
         → Asking d device stage failed c since state owed
         → Stands d result c (exchange (Some (request_of stage)) (Some (reply_shown reply.now)) ∷ since) state owed }
     ensures may_put { may_put_of result ≤ stage_puts stage }
+    ensures fits { PutsFit result }
+    ensures reserves { coins_reserved result ≡ 0 }
 {
     match stage {
         Stage::StopInhibits { recorded } => first_try(
@@ -82,6 +84,7 @@ fn mask_in(reply: &Reply<'_>) -> u16
 }
 
 /// The round or the stop after it read these credits and this mask.
+#[tactic(auto, using(crate::proofs::Fits::judged_fits))]
 fn judged(
     device: Target,
     visit: Visit,
@@ -94,6 +97,8 @@ fn judged(
         → Asking d device (Looks visit recorded credits.now) failed c since state owed
         → Stands d result c (exchange (Some GetMask) (Some (shown.mask mask_seen)) ∷ since) state owed }
     ensures may_put { may_put_of result ≤ visit_puts visit }
+    ensures fits { PutsFit result }
+    ensures reserves { coins_reserved result ≡ 0 }
 {
     let meaning = judge(
         device.addr,
@@ -112,6 +117,8 @@ fn judged(
 fn round_judged(meaning: Judged) -> Job
     ensures means { result ≡ round_after meaning }
     ensures may_put { may_put_of result ≤ 1 }
+    ensures fits { JudgedFits meaning → PutsFit result }
+    ensures reserves { coins_reserved result ≡ 0 }
 {
     match meaning {
         Judged::Nothing => Job::Done(End::Clean),
@@ -130,6 +137,8 @@ fn round_judged(meaning: Judged) -> Job
 fn stop_judged(device: Target, meaning: Judged) -> Job
     ensures means { result ≡ stop_after device meaning }
     ensures may_put { may_put_of result ≤ 2 }
+    ensures fits { JudgedFits meaning → PutsFit result }
+    ensures reserves { coins_reserved result ≡ 0 }
 {
     match meaning {
         Judged::Nothing => Job::StopEnds { device },

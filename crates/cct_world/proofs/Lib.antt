@@ -1,9 +1,2 @@
-pub mod Attempts
-pub mod CoinPlaces
-pub mod Commands
-pub mod Keeps
-pub mod Lines
 pub mod Owned
-pub mod Places
 pub mod Steps
-pub mod Talks

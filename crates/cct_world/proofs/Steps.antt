@@ -2,7 +2,6 @@
 use Rattle.std.proofs.Common.{◌≡◌, ℕ, Bool, true, false, cond, List, [], ◌∷◌, ◌++◌, reverse, refl, sym, ap, subst, ◌∙◌, Option, Some, None}
 use Rattle.std.specs.Prelude.{IsTrue, MatchBool, is_some, not}
 use Rattle.std.proofs.lemmas.List.{reverse-reverse}
-use Rattle.cct_model.specs.terms.wire.TheConstants.{BROADCAST}
 use Rattle.cct_model.specs.terms.coin.Coin.{Coin}
 use Rattle.cct_model.specs.terms.device.DeviceSetup.{DeviceSetup}
 use Rattle.cct_model.specs.terms.device.Setup.{Setup}
@@ -15,35 +14,21 @@ use Rattle.cct_model.specs.lines.entry.Entry.TheVariants as entry
 use Rattle.cct_model.specs.Acceptor.{accepts}
 use Rattle.cct_model.specs.Device.{is_acceptor}
 use Rattle.cct_model.specs.Exchange.{acceptor_there}
-use Rattle.cct_model.specs.Legal.{BareNext, EntriesOfNext, OfAcceptor, OfDevice, OfHopper, OfNext, ScanEntries, coin_entry, command_entry, with_end}
-use Rattle.cct_model.specs.Records.{greatest_id}
+use Rattle.cct_model.specs.Legal.{EntriesOfNext, OfAcceptor, OfDevice, OfHopper, coin_entry, command_entry, with_end}
 use Rattle.cct_model.specs.Refusal.{refusal}
-use Rattle.cct_model.specs.Job.{job}
-use Rattle.cct_model.specs.Transcript.{heard_after, met, scan_lines}
+use Rattle.cct_model.specs.Transcript.{heard_after, met}
 use Rattle.cct_acceptor.specs.declared.acceptor.Inserted.{Inserted}
 use Rattle.cct_acceptor.specs.declared.acceptor.Inserted.TheVariants as taken
 use Rattle.cct_acceptor.specs.Acceptor.{inserted}
 use Rattle.cct_bus.specs.declared.bus.Bus.{Bus}
 use Rattle.cct_bus.specs.Bus as wires
-use Rattle.cct_world.specs.declared.host.Host.{Host}
-use Rattle.cct_world.specs.Attempt.{Attempt, HeardBy, Links, asked, idle, news_of, put}
+use Rattle.cct_host.specs.declared.desks.Desks.{Desks}
+use Rattle.cct_host.specs.Attempt.{Attempt, HeardBy, Links, asked, idle, news_of, put}
 use Rattle.cct_world.specs.Coin.{entry_of, fall_told, jam_told}
-use Rattle.cct_world.specs.Host as hosts
-use Rattle.cct_world.specs.Place.{OwnsItsPut, scans}
-use Rattle.cct_world.proofs.Keeps.{keeps_quiet}
-use Rattle.cct_world.proofs.Lines.{IsQuiet, accepted_quiet, inhibited_quiet, unsold}
-use Rattle.cct_world.proofs.Places.{desks_quiet}
-
--- an entry that changes no job, no epoch and no open order
-pub host_quiet : (host : Host) (past : List Entry) (e : Entry) → IsQuiet past e → hosts.StandsFor host past
-    → hosts.StandsFor host (e ∷ past)
-host_quiet host past e quiet stands = record {
-  sound = stands.sound;
-  desks = desks_quiet _ _ past e quiet stands.desks;
-  scan = keeps_quiet scans _ _ _ past e quiet stands.scan;
-  last = stands.last ∙ sym (ap greatest_id quiet.records_are);
-  unsold = unsold past e quiet.sales stands.unsold;
-}
+use Rattle.cct_host.specs.Desks as hosts
+use Rattle.cct_host.specs.Place.{OwnsItsPut}
+use Rattle.cct_host.proofs.Lines.{IsQuiet, accepted_quiet, inhibited_quiet}
+use Rattle.cct_host.proofs.Standing.{desks_stand}
 
 -- an end, an idle address, a record and a command change nothing on the wire
 ended_wire : (bus : Bus) (past : List Entry) (addr : ℕ) (end : End) → wires.StandsFor bus past
@@ -69,7 +54,7 @@ with_end_wire bus past addr e None s = s
 with_end_wire bus past addr e (Some end) s = ended_wire bus (e ∷ past) addr end s
 
 -- what a step leaves that gave this report
-abbrev pub Left : Host → Bus → List Entry → List Entry → Type 0
+abbrev pub Left : Desks → Bus → List Entry → List Entry → Type 0
 Left host bus past report = hosts.StandsFor host (reverse report ++ past) × wires.StandsFor bus (reverse report ++ past)
 
 -- an attempt on the bus
@@ -94,7 +79,7 @@ linked bus after addr past (put r end) link stands = (
       (with_end_wire bus past addr (entry.Put r) end (put_wire bus past r stands)),
 )
 
-pub next_goes : (bus after : Bus) (host left : Host) (addr : ℕ) (past before report : List Entry) → before ≡ []
+pub next_goes : (bus after : Bus) (host left : Desks) (addr : ℕ) (past before report : List Entry) → before ≡ []
     → hosts.Nexts wires.Exchanges bus after addr host left before report
     → wires.setup_of bus ≡ hosts.setup_of host → hosts.StandsFor host past → wires.StandsFor bus past
     → OwnsItsPut (hosts.setup_of host) past addr
@@ -111,29 +96,17 @@ next_goes bus after host left addr past before report none next same stands wire
     subst (λ ns. EntriesOfNext (heard_after setup past) setup past addr ns
     × (hosts.StandsFor left (ns ++ past) × wires.StandsFor after (ns ++ past))) (sym news) (goes.0, (goes.1, wire.1))
 
--- a next at an address with a device, and at one without
-pub of_next : (found : Option DeviceSetup) (d : DeviceSetup) (P : DeviceSetup → Type 0) (Q : Type 0) → found ≡ Some d
-    → P d → OfNext found P Q
-of_next found d P Q is fact = subst (λ f. OfNext f P Q) (sym is) fact
-
-pub of_scan : (hears : List ℕ → List ℕ) (found : Option DeviceSetup) (P : DeviceSetup → Type 0) (past news : List Entry)
-    (addr : ℕ) → found ≡ None → addr ≡ BROADCAST
-    → ScanEntries hears (job (scan_lines past)) news → OfNext found P (BareNext hears past addr news)
-of_scan hears found P past news addr none is polls =
-    subst (λ f. OfNext f P (BareNext hears past addr news)) (sym none)
-    (subst (λ a. BareNext hears past a news) (sym is) polls)
-
 -- a report with one entry
 pub one_entry : (before after : List Entry) (e : Entry) → before ≡ [] → after ≡ before ++ e ∷ [] → after ≡ e ∷ []
 one_entry before after e none is = is ∙ ap (λ es. es ++ e ∷ []) none
 
 -- a step of one entry that changes no job, no epoch and no open order
-pub one_goes : (host : Host) (bus : Bus) (past : List Entry) (e : Entry) (report : List Entry) → report ≡ e ∷ []
+pub one_goes : (host : Desks) (bus : Bus) (past : List Entry) (e : Entry) (report : List Entry) → report ≡ e ∷ []
     → IsQuiet past e → hosts.StandsFor host past → wires.StandsFor bus (e ∷ past)
     → (reverse report ≡ e ∷ []) × Left host bus past report
 one_goes host bus past e report is quiet stands wired =
     subst (λ r. (reverse r ≡ e ∷ []) × Left host bus past r) (sym is)
-    (refl, (host_quiet host past e quiet stands, wired))
+    (refl, (desks_stand host past e quiet stands, wired))
 
 match_true : (test : Bool) (A : Type 0) → IsTrue test → A → MatchBool test A ⊥
 match_true true A holds a = a
@@ -150,7 +123,7 @@ of_device None A there a = absurd cc
 of_device (Some d) A there a = a
 
 -- a command
-pub command_goes : (setup : Setup) (host : Host) (bus : Bus) (past : List Entry) (c : Command)
+pub command_goes : (setup : Setup) (host : Desks) (bus : Bus) (past : List Entry) (c : Command)
     (refused : Option CommandNo) (report : List Entry) → refused ≡ refusal None setup past c
     → hosts.StandsFor host (command_entry c refused ∷ past) → wires.StandsFor bus past
     → report ≡ command_entry c refused ∷ []
@@ -180,11 +153,11 @@ coin_quiet true addr place c past = accepted_quiet past addr c
 coin_quiet false addr place c past = inhibited_quiet past addr place
 
 -- what a coin gives and leaves
-abbrev pub CoinGoes : Option DeviceSetup → Host → Bus → List Entry → ℕ → List Entry → Type 0
+abbrev pub CoinGoes : Option DeviceSetup → Desks → Bus → List Entry → ℕ → List Entry → Type 0
 CoinGoes found host bus past place report =
     OfAcceptor found (λ d. reverse report ≡ coin_entry d past place ∷ []) × Left host bus past report
 
-coin_at : (kind : Bool) (d : DeviceSetup) (addr place : ℕ) (host : Host) (bus : Bus) (past report : List Entry)
+coin_at : (kind : Bool) (d : DeviceSetup) (addr place : ℕ) (host : Desks) (bus : Bus) (past report : List Entry)
     (result : Inserted) → d.addr ≡ addr
     → MatchBool kind ((result ≡ inserted (met d past) place) × wires.StandsFor bus (coin_entry d past place ∷ past)) ⊥
     → report ≡ entry_of result addr place ∷ [] → hosts.StandsFor host past
@@ -195,7 +168,7 @@ coin_at true d addr place host bus past report result here told said stands =
     (coin_quiet (accepts (met d past) place) d.addr place _ past) stands told.1
 coin_at false d addr place host bus past report result here told said stands = absurd told
 
-pub coin_goes : (found : Option DeviceSetup) (addr place : ℕ) (host : Host) (bus : Bus) (past report : List Entry)
+pub coin_goes : (found : Option DeviceSetup) (addr place : ℕ) (host : Desks) (bus : Bus) (past report : List Entry)
     (result : Inserted) → ((d : DeviceSetup) → found ≡ Some d → d.addr ≡ addr)
     → OfAcceptor found
     (λ d. (result ≡ inserted (met d past) place) × wires.StandsFor bus (coin_entry d past place ∷ past))
@@ -216,11 +189,11 @@ jam_by true addr = refl
 jam_by false addr = refl
 
 -- what it gives and leaves
-abbrev pub HopperGoes : Option DeviceSetup → (DeviceSetup → Entry) → Host → Bus → List Entry → List Entry → Type 0
+abbrev pub HopperGoes : Option DeviceSetup → (DeviceSetup → Entry) → Desks → Bus → List Entry → List Entry → Type 0
 HopperGoes found said host bus past report =
     OfHopper found (λ d. reverse report ≡ said d ∷ []) × Left host bus past report
 
-hopper_at : (kind : Bool) (d : DeviceSetup) (addr : ℕ) (host : Host) (bus : Bus) (past report : List Entry)
+hopper_at : (kind : Bool) (d : DeviceSetup) (addr : ℕ) (host : Desks) (bus : Bus) (past report : List Entry)
     (told : Bool → ℕ → Entry) (said : DeviceSetup → Entry) (is : Bool) (result : Bool) → d.addr ≡ addr
     → told is d.addr ≡ said d → IsQuiet past (said d)
     → MatchBool kind ⊥ ((result ≡ is) × wires.StandsFor bus (said d ∷ past))
@@ -231,7 +204,7 @@ hopper_at false d addr host bus past report told said is result here same quiet 
     one_goes host bus past (said d) report
     (report_is ∙ ap (λ x. x ∷ []) (ap (λ b. told b addr) goes.0 ∙ ap (told is) (sym here) ∙ same)) quiet stands goes.1
 
-pub hopper_goes : (found : Option DeviceSetup) (addr : ℕ) (host : Host) (bus : Bus) (past report : List Entry)
+pub hopper_goes : (found : Option DeviceSetup) (addr : ℕ) (host : Desks) (bus : Bus) (past report : List Entry)
     (told : Bool → ℕ → Entry) (said : DeviceSetup → Entry) (is : DeviceSetup → Bool) (result : Bool)
     → ((d : DeviceSetup) → found ≡ Some d → d.addr ≡ addr) → ((d : DeviceSetup) → told (is d) d.addr ≡ said d)
     → ((d : DeviceSetup) → IsQuiet past (said d))

@@ -1,10 +1,3 @@
 pub mod Coin
-pub mod CoinPlaces
-pub mod Place
-pub mod Attempt
-pub mod Exchange
-pub mod Running
-pub mod Desk
-pub mod Host
 pub mod Machine
 pub mod World

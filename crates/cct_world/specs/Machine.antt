@@ -6,9 +6,9 @@ use Rattle.cct_model.specs.lines.command.Step.TheVariants as step
 use Rattle.cct_model.specs.lines.entry.Entry.{Entry}
 use Rattle.cct_model.specs.Legal.{Entries}
 use Rattle.cct_bus.specs.Bus as wires
+use Rattle.cct_host.specs.Desks as hosts
+use Rattle.cct_host.specs.Place.{OwnsItsPut}
 use Rattle.cct_world.specs.declared.world.Machine.{Machine}
-use Rattle.cct_world.specs.Host as hosts
-use Rattle.cct_world.specs.Place.{OwnsItsPut}
 
 -- The setup of a machine.
 abbrev pub setup_of : Machine → Setup

@@ -6,13 +6,13 @@ ghost use Rattle.cct_model.specs.Legal.{is_played, is_played_command};
 ghost use Rattle.cct_model.specs.Script.{IsFault, IsInRange, is_known};
 ghost use Rattle.cct_model.specs.Setup.{IsSoundSetup};
 ghost use Rattle.cct_bus.specs.Bus as wires;
+ghost use Rattle.cct_host.specs.Desks as hosts;
 ghost use Rattle.cct_world.specs.Coin.{entry_of, fall_told, jam_told};
-ghost use Rattle.cct_world.specs.Host as hosts;
 
-use crate::host::Host;
 use arrayvec::ArrayVec;
 use cct_acceptor::Inserted;
 use cct_bus::Bus;
+use cct_host::Desks;
 use cct_model::{COIN_PLACES, Command, Entry, Setup, Step, WireFault};
 use std::alloc::{AllocError, Global};
 
@@ -39,7 +39,7 @@ impl<'s> World<'s> {
         let machine = Box::new(
             alloc,
             Machine {
-                host: Host::new(setup),
+                host: Desks::new(setup),
                 bus,
             },
         )?;
@@ -68,7 +68,7 @@ impl<'s> World<'s> {
 /// What stands in the box of a [`World`], so that a world that is moved costs a pointer.
 #[derive(Drop)]
 struct Machine<'s> {
-    host: Host<'s>,
+    host: Desks<'s>,
     bus: Bus<'s>,
     ghost same: { wires.setup_of bus ≡ hosts.setup_of host },
 }

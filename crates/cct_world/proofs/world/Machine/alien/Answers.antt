@@ -1,5 +1,5 @@
 use Rattle.cct_model.specs.lines.entry.Entry.TheVariants.{Alien}
-use Rattle.cct_world.proofs.Lines.{alien_quiet}
+use Rattle.cct_host.proofs.Lines.{alien_quiet}
 use Rattle.cct_world.proofs.Steps.{of_acceptor, one_entry, one_goes}
 use Rattle.cct_world.proofs.world.Machine.alien.Goals as goal
 

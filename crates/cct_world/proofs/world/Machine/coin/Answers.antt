@@ -1,7 +1,7 @@
 use Rattle.std.proofs.Common.{◌∙◌, [], ◌∷◌, ap, subst}
 use Rattle.cct_model.specs.Exchange.{device_at}
 use Rattle.cct_bus.specs.Bus as wires
-use Rattle.cct_world.proofs.Commands.{address_there}
+use Rattle.cct_host.proofs.Commands.{address_there}
 use Rattle.cct_world.proofs.Steps.{CoinGoes, coin_goes, one_entry}
 use Rattle.cct_world.proofs.world.Machine.coin.Goals as goal
 

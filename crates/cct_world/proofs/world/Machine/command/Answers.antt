@@ -1,7 +1,7 @@
 use Rattle.std.proofs.Common.{◌≡◌, ◌∷◌, Some, subst, ap, sym, ◌∙◌}
 use Rattle.cct_model.specs.Legal.{command_entry}
-use Rattle.cct_world.specs.Desk.{no_of}
-use Rattle.cct_world.specs.Host as hosts
+use Rattle.cct_host.specs.Desk.{no_of}
+use Rattle.cct_host.specs.Desks as hosts
 use Rattle.cct_world.proofs.Steps.{command_goes, one_entry}
 use Rattle.cct_world.proofs.world.Machine.command.Goals as goal
 

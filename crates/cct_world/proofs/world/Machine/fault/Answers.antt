@@ -1,7 +1,7 @@
 use Rattle.std.proofs.Common.{◌∷◌, [], ap, subst, ◌∙◌}
 use Rattle.cct_model.specs.lines.entry.Entry.TheVariants.{Fault}
 use Rattle.cct_bus.specs.Bus as wires
-use Rattle.cct_world.proofs.Lines.{fault_quiet}
+use Rattle.cct_host.proofs.Lines.{fault_quiet}
 use Rattle.cct_world.proofs.Steps.{one_entry, one_goes}
 use Rattle.cct_world.proofs.world.Machine.fault.Goals as goal
 

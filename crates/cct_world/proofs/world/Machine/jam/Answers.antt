@@ -6,8 +6,8 @@ use Rattle.cct_model.specs.Legal.{jam_entry}
 use Rattle.cct_model.specs.Transcript.{met}
 use Rattle.cct_bus.specs.Bus as wires
 use Rattle.cct_world.specs.Coin.{jam_told}
-use Rattle.cct_world.proofs.Commands.{address_there}
-use Rattle.cct_world.proofs.Lines.{jam_quiet}
+use Rattle.cct_host.proofs.Commands.{address_there}
+use Rattle.cct_host.proofs.Lines.{jam_quiet}
 use Rattle.cct_world.proofs.Steps.{HopperGoes, jam_by, hopper_goes, one_entry}
 use Rattle.cct_world.proofs.world.Machine.jam.Goals as goal
 

@@ -1,5 +1,5 @@
 use Rattle.cct_model.specs.lines.entry.Entry.TheVariants.{Reset}
-use Rattle.cct_world.proofs.Lines.{reset_quiet}
+use Rattle.cct_host.proofs.Lines.{reset_quiet}
 use Rattle.cct_world.proofs.Steps.{of_device, one_entry, one_goes}
 use Rattle.cct_world.proofs.world.Machine.reset.Goals as goal
 

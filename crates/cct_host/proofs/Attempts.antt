@@ -1,0 +1,283 @@
+-- One attempt of a job at a place, and what it leaves.
+use Rattle.std.proofs.Common.{◌≡◌, ℕ, List, [], ◌∷◌, ◌++◌, append_assoc, reverse, refl, sym, ap, subst, ◌∙◌, Option, Some, None}
+use Rattle.std.specs.Option.{IfSome}
+use Rattle.cct_model.specs.terms.device.DeviceSetup.{DeviceSetup}
+use Rattle.cct_model.specs.terms.request.Request.{Request}
+use Rattle.cct_model.specs.lines.record.Record.{Record}
+use Rattle.cct_model.specs.lines.command.Command.{Command}
+use Rattle.cct_model.specs.lines.entry.End.{End}
+use Rattle.cct_model.specs.lines.entry.Entry.{Entry}
+use Rattle.cct_model.specs.lines.entry.Entry.TheVariants as entry
+use Rattle.cct_model.specs.declared.judging.EpochState.{EpochState}
+use Rattle.cct_model.specs.declared.judging.OpenOrder.{OpenOrder}
+use Rattle.cct_model.specs.Exchange.{ask}
+use Rattle.cct_model.specs.Line.{Line}
+use Rattle.cct_model.specs.Line as line
+use Rattle.cct_model.specs.Job as model
+use Rattle.cct_model.specs.Order.{order, order_by}
+use Rattle.cct_model.specs.Legal.{PollEntries, RowEntries, due_of, record_due, with_end}
+use Rattle.cct_model.specs.Records.{id_of}
+use Rattle.cct_model.specs.Scan.{end_of_scan}
+use Rattle.cct_model.specs.Transcript.{lines_of, owner, scan_line}
+use Rattle.cct_jobs.specs.declared.job.Job.{Job}
+use Rattle.cct_jobs.specs.declared.job.Need.{Need}
+use Rattle.cct_jobs.specs.declared.job.Need.TheVariants as need
+use Rattle.cct_jobs.specs.declared.owed.Owed.{Owed}
+use Rattle.cct_host.specs.declared.dues.Dues.{Dues}
+use Rattle.cct_jobs.specs.Jobs.{ClosesItsOwn, Needs, PutsNext, Stands, line_heard, order_of}
+use Rattle.cct_jobs.specs.Scans.{NeedsScan, StandsScan}
+use Rattle.cct_host.specs.declared.desk.JobDesk.{JobDesk}
+use Rattle.cct_host.specs.Attempt as attempt
+use Rattle.cct_host.specs.Desk.{Attempts, Goes, Keeps, Knows, Works}
+use Rattle.cct_host.specs.Exchange.{Converses, Ends, Talks}
+use Rattle.cct_host.specs.Place.{Asks, AsksNext, NextAt, OwnsAt, Place, StandsAt, addr_of, device, end_at, line_at, lines_at, scans}
+use Rattle.cct_host.specs.Running.{Settles, dues_left}
+use Rattle.cct_host.proofs.Keeps.{asked_keeps, knows_same, left_keeps, put_keeps}
+use Rattle.cct_host.proofs.Lines.{dosed_at, end_at_too, epoch_dosed, idle_at, idle_line, job_dosed, order_dosed, own_wire, put_at, wire_at}
+
+-- wherever a job is, its row sends something next; at a device it puts this record next, and goes on by it; and it is
+-- no scan
+abbrev AsksOn : Job → Type 0
+AsksOn job = (place : Place) (c : Command) (since : List Line) (n : EpochState) (owed : Option OpenOrder)
+    → StandsAt place job c since n owed → AsksNext place c since n owed
+
+abbrev PutsOn : Job → Record → Type 0
+PutsOn job r = (d : DeviceSetup) (c : Command) (since : List Line) (n : EpochState) (owed : Option OpenOrder)
+    → Stands d job c since n owed → PutsNext r d c since n owed
+
+abbrev GoesByPut : Job → Record → Job → Type 0
+GoesByPut old r new = (d : DeviceSetup) (c : Command) (since : List Line) (n after : EpochState)
+    (owed : Option OpenOrder) → Stands d old c since n owed
+    → Stands d new c (line.put r ∷ since) after (order_by r owed)
+
+-- its put moves the open order
+abbrev OwesByPut : Job → Record → Option Owed → Option Owed → Type 0
+OwesByPut job r before after = (d : DeviceSetup) (c : Command) (since : List Line) (n : EpochState)
+    → Stands d job c since n (order_of before) → order_of after ≡ order_by r (order_of before)
+
+abbrev IsNoScan : Job → Type 0
+IsNoScan job = (since : List Line) → StandsScan job since → ⊥
+
+-- what a job needs, wherever it is
+abbrev NeedsAt : Job → Need → Type 0
+NeedsAt job n = (d : DeviceSetup) (c : Command) (since : List Line) (state : EpochState) (owed : Option OpenOrder)
+    → Stands d job c since state owed → Needs n d c since state owed
+
+abbrev NeedsScanning : Job → Need → Type 0
+NeedsScanning job n = (since : List Line) → StandsScan job since → NeedsScan n since
+
+-- what a report tells after an entry, and the end that it brought
+reported_with : (report told reported : List Entry) (addr : ℕ) (e : Entry) (end : Option End) (new : Job)
+    (kept : Option Job) → told ≡ report ++ e ∷ []
+    → Settles end new addr kept told reported → reported ≡ report ++ reverse (with_end addr e end)
+reported_with report told reported addr e None new kept told_is settled = settled.1 ∙ told_is
+reported_with report told reported addr e (Some end) new kept told_is settled =
+    settled.1 ∙ ap (λ es. es ++ entry.Ended addr end ∷ []) told_is
+    ∙ append_assoc report (e ∷ []) (entry.Ended addr end ∷ [])
+
+-- no job: the address is idle
+idle_by : (hears : List ℕ → List ℕ) (place : Place) (past : List Entry) (state : EpochState) (owed : Option OpenOrder)
+    (j : model.Job) → Works place None j state owed → NextAt hears place past j (entry.Idle (addr_of place) ∷ [])
+idle_by hears (device d) past state owed model.free works = refl
+idle_by hears scans past state owed model.free works = refl
+idle_by hears place past state owed (model.works c since) works = absurd works
+
+idle_goes : (hears : List ℕ → List ℕ) (place : Place) (past : List Entry) (state : EpochState) (owed : Dues)
+    → Keeps place None state owed (lines_at place past)
+    → Goes hears place past (entry.Idle (addr_of place) ∷ []) None state owed
+idle_goes hears place past state owed keeps = record {
+  entries = idle_by hears place past _ _ (model.job (lines_at place past)) keeps.works;
+  at = idle_at (addr_of place) past;
+  keeps = subst (Keeps place None state owed) (sym (idle_line (addr_of place) place past)) keeps;
+}
+
+pub idle_attempts : {L : Type 0} (gives : L → List ℕ → List ℕ → L → Type 0) (link : L) (addr : ℕ) (state : EpochState)
+    (owed : Dues) (desk : JobDesk) (report reported : List Entry)
+    → desk.job ≡ None → desk.epoch ≡ state → desk.dues ≡ owed → reported ≡ report ++ entry.Idle addr ∷ []
+    → Attempts gives link link addr None state owed desk 0 report reported
+idle_attempts gives link addr state owed desk report reported none same ordered is = record {
+  what = attempt.idle;
+  reported_is = is;
+  link = refl;
+  used_is = refl;
+  goes = λ hears place past heard at keeps owns.
+      subst (λ a. Goes hears place past (entry.Idle a ∷ []) desk.job desk.epoch desk.dues) at
+      (subst (λ j. Goes hears place past (entry.Idle (addr_of place) ∷ []) j desk.epoch desk.dues) (sym none)
+      (subst (λ n. Goes hears place past (entry.Idle (addr_of place) ∷ []) None n desk.dues) (sym same)
+      (subst (λ o. Goes hears place past (entry.Idle (addr_of place) ∷ []) None state o) (sym ordered)
+      (idle_goes hears place past state owed keeps))));
+}
+
+-- the entries of an exchange
+device_entries : (hears : List ℕ → List ℕ) (d : DeviceSetup) (past : List Entry) (c : Command) (since : List Line)
+    (q : Request) (sent heard : List ℕ) (end : Option End)
+    → sent ≡ ask d.kind d.addr q → heard ≡ hears sent
+    → end ≡ model.end_of d c (line_heard d sent heard) since (model.epoch (lines_of d past))
+    → RowEntries hears d past c since (model.sends q) (with_end d.addr (entry.Wire d.addr sent heard) end)
+device_entries hears d past c since q sent heard end sent_is heard_is end_is =
+    let n = model.epoch (lines_of d past) in
+    subst (λ s. with_end d.addr (entry.Wire d.addr sent heard) end ≡ with_end d.addr (entry.Wire d.addr s (hears s))
+    (model.end_of d c (line_heard d s (hears s)) since n)) sent_is
+    (ap (with_end d.addr (entry.Wire d.addr sent heard)) end_is
+    ∙ ap (λ p. with_end d.addr (entry.Wire d.addr sent p) (model.end_of d c (line_heard d sent p) since n)) heard_is)
+
+asked_entries : (hears : List ℕ → List ℕ) (place : Place) (past : List Entry) (c : Command) (since : List Line)
+    (sent heard : List ℕ) (end : Option End)
+    → Asks place c since (model.epoch (lines_at place past)) (order (lines_at place past)) sent → heard ≡ hears sent
+    → end ≡ end_at place c (line_at place sent heard) since (model.epoch (lines_at place past))
+    → NextAt hears place past (model.works c since)
+    (with_end (addr_of place) (entry.Wire (addr_of place) sent heard) end)
+asked_entries hears (device d) past c since sent heard end asks heard_is end_is =
+    subst (λ r. RowEntries hears d past c since r (with_end d.addr (entry.Wire d.addr sent heard) end)) (sym asks.1)
+    (device_entries hears d past c since asks.0 sent heard end asks.2 heard_is end_is)
+asked_entries hears scans past c since sent heard end asks heard_is end_is =
+    let a = addr_of scans in
+    subst (λ r. PollEntries hears since r (with_end a (entry.Wire a sent heard) end)) (sym asks.1)
+    (subst (λ s. with_end a (entry.Wire a sent heard) end ≡ with_end a (entry.Wire a s (hears s))
+    (end_of_scan (scan_line s (hears s) ∷ since))) asks.2
+    (ap (with_end a (entry.Wire a sent heard)) end_is
+    ∙ ap (λ p. with_end a (entry.Wire a sent p) (end_of_scan (scan_line sent p ∷ since))) heard_is))
+
+-- a job that stands beside the epoch and the open order of a place stands beside those of its lines over a dose
+stands_dosed : (place : Place) (past : List Entry) (sent : List ℕ) (job : Job) (c : Command) (since : List Line)
+    → StandsAt place job c since (model.epoch (lines_at place past)) (order (lines_at place past))
+    → StandsAt place job c since (model.epoch (dosed_at place past sent ++ lines_at place past))
+    (order (dosed_at place past sent ++ lines_at place past))
+stands_dosed place past sent job c since stands =
+    subst (λ n. StandsAt place job c since n (order (dosed_at place past sent ++ lines_at place past)))
+    (sym (epoch_dosed place past sent))
+    (subst (λ o. StandsAt place job c since (model.epoch (lines_at place past)) o) (sym (order_dosed place past sent))
+    stands)
+
+asked_by : (hears : List ℕ → List ℕ) (place : Place) (past : List Entry) (old new : Job) (state : EpochState)
+    (owed : Dues) (sent heard : List ℕ) (end : Option End) (kept : Option Job) (told reported : List Entry)
+    (j : model.Job) → model.job (lines_at place past) ≡ j
+    → Works place (Some old) j (model.epoch (lines_at place past)) (order (lines_at place past))
+    → Knows place state owed (lines_at place past)
+    → AsksOn old → Talks old sent heard new → Ends new end → heard ≡ hears sent
+    → Settles end new (addr_of place) kept told reported
+    → Goes hears place past (with_end (addr_of place) (entry.Wire (addr_of place) sent heard) end) kept state
+    (dues_left kept owed)
+asked_by hears place past old new state owed sent heard end kept told reported model.free was works knows needs talks
+    ends heard_is settled = absurd works
+asked_by hears place past old new state owed sent heard end kept told reported (model.works c since) was works knows
+    needs talks ends heard_is settled =
+    let n = model.epoch (lines_at place past) in
+    let o = order (lines_at place past) in
+    let e = entry.Wire (addr_of place) sent heard in
+    let after = talks place c since n o works (needs place c since n o works) in
+    record {
+      entries = subst (λ k. NextAt hears place past k (with_end (addr_of place) e end)) (sym was)
+          (asked_entries hears place past c since sent heard end after.0 heard_is
+          (ends place c (line_at place sent heard) since n o after.1));
+      at = end_at_too (addr_of place) past e end (wire_at (addr_of place) past sent heard);
+      keeps = left_keeps place kept new state owed past e end told reported settled
+          (subst (Keeps place (Some new) state owed) (sym (own_wire place sent heard past))
+          (asked_keeps place c since state owed sent heard new (dosed_at place past sent ++ lines_at place past)
+          (stands_dosed place past sent new c (line_at place sent heard ∷ since) after.1)
+          (job_dosed place past sent ∙ was)
+          (knows_same place state owed (lines_at place past) (dosed_at place past sent ++ lines_at place past)
+          (job_dosed place past sent) (epoch_dosed place past sent) (order_dosed place past sent) knows)));
+    }
+
+-- a job asks
+pub ask_attempts : {L : Type 0} (gives : L → List ℕ → List ℕ → L → Type 0) (before after : L) (addr : ℕ) (old new : Job)
+    (state : EpochState) (owed : Dues) (desk : JobDesk) (end : Option End) (report told reported : List Entry)
+    → AsksOn old → Converses gives before after addr old new report told → Ends new end
+    → Settles end new addr desk.job told reported
+    → desk.epoch ≡ state → desk.dues ≡ dues_left desk.job owed
+    → Attempts gives before after addr (Some old) state owed desk 0 report reported
+ask_attempts gives before after addr old new state owed desk end report told reported needs talk ends settled same
+    ordered = record {
+      what = attempt.asked talk.sent talk.heard end;
+      reported_is = reported_with report told reported addr (entry.Wire addr talk.sent talk.heard) end new desk.job
+          talk.reported_is settled;
+      link = talk.goes;
+      used_is = refl;
+      goes = λ hears place past heard_is at keeps owns.
+          let news = with_end addr (entry.Wire addr talk.sent talk.heard) end in
+          subst (λ n. Goes hears place past news desk.job n desk.dues) (sym same)
+          (subst (λ o. Goes hears place past news desk.job state o) (sym ordered)
+          (subst (λ a. Settles end new a desk.job told reported
+          → Goes hears place past (with_end a (entry.Wire a talk.sent talk.heard) end) desk.job state
+          (dues_left desk.job owed)) at
+          (λ s. asked_by hears place past old new state owed talk.sent talk.heard end desk.job told reported
+          (model.job (lines_at place past)) refl keeps.works keeps.knows needs talk.talks ends heard_is s) settled));
+    }
+
+-- the record that is due
+due_owns : (past : List Entry) (addr : ℕ) (r : Record) (due : Option Record) → due ≡ Some r
+    → IfSome due (ClosesItsOwn past addr) → ClosesItsOwn past addr r
+due_owns past addr r due is owns = subst (λ x. IfSome x (ClosesItsOwn past addr)) is owns
+
+-- what a put leaves
+put_by : (hears : List ℕ → List ℕ) (place : Place) (past : List Entry) (old new : Job) (r : Record)
+    (state last : EpochState) (owed left : Dues) (end : Option End) (kept : Option Job)
+    (told reported : List Entry) (j : model.Job) → model.job (lines_at place past) ≡ j
+    → Works place (Some old) j (model.epoch (lines_at place past)) (order (lines_at place past))
+    → Knows place state owed (lines_at place past) → OwnsAt place past → last ≡ model.epoch_by r state
+    → PutsOn old r → IsNoScan old → GoesByPut old r new → OwesByPut old r owed.order left.order → left.id ≡ owed.id
+    → Ends new end
+    → Settles end new (addr_of place) kept told reported
+    → Goes hears place past (with_end (addr_of place) (entry.Put r) end) kept last (dues_left kept left)
+put_by hears place past old new r state last owed left end kept told reported model.free was works knows owns moved
+    needs no_scan goes owes same ends settled = absurd works
+put_by hears scans past old new r state last owed left end kept told reported (model.works c since) was works knows
+    owns moved needs no_scan goes owes same ends settled = absurd (no_scan since works)
+put_by hears (device d) past old new r state last owed left end kept told reported (model.works c since) was works knows
+    owns moved needs no_scan goes owes same ends settled =
+    let n = model.epoch (lines_of d past) in
+    let o = order (lines_of d past) in
+    let puts = needs d c since n o works in
+    let own : owner past r ≡ d.addr =
+    puts.owned past (due_owns past d.addr r _ (ap (due_of d (lines_of d past)) was ∙ ap record_due puts.row_is) owns) in
+    let end_is : end ≡ model.end_of d c (line.put r) since n =
+    ends (device d) c (line.put r) since n (order_by r o) (goes d c since n n o works) in
+    record {
+      entries = subst (λ k. NextAt hears (device d) past k (with_end d.addr (entry.Put r) end)) (sym was)
+          (subst (λ x. RowEntries hears d past c since x (with_end d.addr (entry.Put r) end)) (sym puts.row_is)
+          (ap (with_end d.addr (entry.Put r)) end_is));
+      at = end_at_too d.addr past (entry.Put r) end (put_at d.addr past r own);
+      keeps = left_keeps (device d) kept new last left past (entry.Put r) end told reported settled
+          (put_keeps d c since r past last left new own (λ after. goes d c since n after o works) was
+          (moved ∙ ap (model.epoch_by r) knows.0)
+          (owes d c since n (subst (Stands d old c since n) (sym knows.1) works) ∙ ap (order_by r) knows.1) (same
+          ∙ knows.2));
+    }
+
+-- a job puts its record
+pub put_attempts : {L : Type 0} (gives : L → List ℕ → List ℕ → L → Type 0) (link : L) (addr : ℕ) (old new : Job)
+    (r : Record) (state : EpochState) (owed moves : Dues) (desk : JobDesk) (used : ℕ) (end : Option End)
+    (report told reported : List Entry)
+    → PutsOn old r → IsNoScan old → GoesByPut old r new → OwesByPut old r owed.order moves.order → moves.id ≡ owed.id
+    → Ends new end
+    → told ≡ report ++ entry.Put r ∷ [] → Settles end new addr desk.job told reported
+    → desk.epoch ≡ model.epoch_by r state → desk.dues ≡ dues_left desk.job moves → used ≡ id_of r
+    → Attempts gives link link addr (Some old) state owed desk used report reported
+put_attempts gives link addr old new r state owed moves desk used end report told reported needs no_scan after owes
+    same ends told_is settled moved left used_is = record {
+      what = attempt.put r end;
+      reported_is = reported_with report told reported addr (entry.Put r) end new desk.job told_is settled;
+      link = refl;
+      used_is = used_is;
+      goes = λ hears place past heard_is at keeps owns.
+          subst (λ o. Goes hears place past (with_end addr (entry.Put r) end) desk.job desk.epoch o) (sym left)
+          (subst (λ a. Settles end new a desk.job told reported
+          → Goes hears place past (with_end a (entry.Put r) end) desk.job desk.epoch (dues_left desk.job moves)) at
+          (λ s. put_by hears place past old new r state desk.epoch owed moves end desk.job told reported
+          (model.job (lines_at place past)) refl keeps.works keeps.knows owns moved needs no_scan after owes same
+          ends s) settled);
+    }
+
+-- what a job needs, wherever it is
+pub asks_next : (n : Need) (job : Job) → n ≡ need.Exchange → NeedsAt job n → NeedsScanning job n → AsksOn job
+asks_next n job is row scan (device d) c since state owed stands =
+    subst (λ k. Needs k d c since state owed) is (row d c since state owed stands)
+asks_next n job is row scan scans c since state owed stands = subst (λ k. NeedsScan k since) is (scan since stands)
+
+pub puts_next : (n : Need) (job : Job) (r : Record) → n ≡ need.Put r → NeedsAt job n → PutsOn job r
+puts_next n job r is row d c since state owed stands =
+    subst (λ k. Needs k d c since state owed) is (row d c since state owed stands)
+
+pub no_scan : (n : Need) (job : Job) (r : Record) → n ≡ need.Put r → NeedsScanning job n → IsNoScan job
+no_scan n job r is scan since stands = subst (λ k. NeedsScan k since) is (scan since stands)

@@ -1,0 +1,13 @@
+pub mod Attempts
+pub mod CoinPlaces
+pub mod Commands
+pub mod Held
+pub mod Holding
+pub mod Keeps
+pub mod Lines
+pub mod Over
+pub mod Owned
+pub mod Places
+pub mod Standing
+pub mod Talks
+pub mod Turning

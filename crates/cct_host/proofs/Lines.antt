@@ -1,0 +1,390 @@
+-- Which lines an entry is at which place.
+use Rattle.std.proofs.Common.{◌≡◌, ◌≢◌, ℕ, ◌==◌, Bool, true, false, cond, List, [], ◌∷◌, ◌++◌, append_assoc, refl, sym, ap, ◌∙◌, eq-eqb, arith, Option, Some, None}
+use Rattle.std.specs.Prelude.{max, ⊤}
+use Rattle.std.proofs.Math.Nat.{zero-max}
+use Rattle.std.proofs.lemmas.Bool.Decides.{nat_tests}
+use Rattle.cct_model.specs.terms.coin.Coin.{Coin}
+use Rattle.cct_model.specs.terms.wire.CheckKind.TheVariants.{Simple, Crc}
+use Rattle.cct_model.specs.terms.wire.TheConstants.{HOST}
+use Rattle.cct_model.specs.terms.device.DeviceSetup.{DeviceSetup}
+use Rattle.cct_model.specs.lines.record.Record.{Record}
+use Rattle.cct_model.specs.lines.record.Record.TheVariants as record_of
+use Rattle.cct_model.specs.lines.command.Command.{Command}
+use Rattle.cct_model.specs.lines.command.CommandNo.{CommandNo}
+use Rattle.cct_model.specs.lines.command.WireFault.{WireFault}
+use Rattle.cct_model.specs.lines.entry.End.{End}
+use Rattle.cct_model.specs.lines.entry.Entry.{Entry}
+use Rattle.cct_model.specs.lines.entry.Entry.TheVariants as entry
+use Rattle.cct_model.specs.Line.{Line}
+use Rattle.cct_model.specs.Line as line
+use Rattle.cct_model.specs.Job as model
+use Rattle.cct_model.specs.Job.{address_of}
+use Rattle.cct_model.specs.Order.{order}
+use Rattle.cct_model.specs.Legal.{command_entry, with_end}
+use Rattle.cct_model.specs.Records.{greatest_id, id_of, records}
+use Rattle.cct_model.specs.Transcript.{doses_of, heard_by_devices, lines_of, met, owner, pending, sale_lines, scan_line, scan_lines, sold_line}
+use Rattle.cct_model.specs.Exchange.{asks_of}
+use Rattle.cct_model.proofs.Doses.{epoch_undosed, job_undosed, order_undosed}
+use Rattle.cct_host.specs.Attempt.{Attempt, news_of, used_by}
+use Rattle.cct_host.specs.Attempt as attempt
+use Rattle.cct_host.specs.Place.{AreAt, HasNoSale, IsAsBefore, Place, addr_of, device, line_at, lines_at, scans}
+
+-- what stands at an address, where that is a place's
+abbrev pub only : ℕ → Place → Line → List Line
+only addr place x = cond (addr == addr_of place) (x ∷ []) []
+
+other_test : (a b : ℕ) → b ≢ a → (a == b) ≡ false
+other_test a b e = grind (arith, nat_tests)
+
+elsewhere : (addr : ℕ) (place : Place) (x : Line) (lines : List Line) → addr_of place ≢ addr
+    → only addr place x ++ lines ≡ lines
+elsewhere addr place x lines other =
+    ap (λ b. cond b (x ∷ []) [] ++ lines) (other_test addr (addr_of place) other)
+
+here : (addr : ℕ) (place : Place) (x : Line) (lines : List Line) → addr ≡ addr_of place
+    → only addr place x ++ lines ≡ x ∷ lines
+here addr place x lines is = ap (λ b. cond b (x ∷ []) [] ++ lines) (eq-eqb addr (addr_of place) is)
+
+-- what the device of a place takes in an exchange
+abbrev pub dosed_at : Place → List Entry → List ℕ → List Line
+dosed_at (device d) past sent = doses_of d past sent
+dosed_at scans past sent = []
+
+-- it changes no job, no epoch and no open order
+pub job_dosed : (place : Place) (past : List Entry) (sent : List ℕ)
+    → model.job (dosed_at place past sent ++ lines_at place past) ≡ model.job (lines_at place past)
+job_dosed (device d) past sent =
+    job_undosed d.body d.serial (met d past) (asks_of d (heard_by_devices (pending past) sent)) (lines_of d past)
+job_dosed scans past sent = refl
+
+pub epoch_dosed : (place : Place) (past : List Entry) (sent : List ℕ)
+    → model.epoch (dosed_at place past sent ++ lines_at place past) ≡ model.epoch (lines_at place past)
+epoch_dosed (device d) past sent =
+    epoch_undosed d.body d.serial (met d past) (asks_of d (heard_by_devices (pending past) sent)) (lines_of d past)
+epoch_dosed scans past sent = refl
+
+pub order_dosed : (place : Place) (past : List Entry) (sent : List ℕ)
+    → order (dosed_at place past sent ++ lines_at place past) ≡ order (lines_at place past)
+order_dosed (device d) past sent =
+    order_undosed d.body d.serial (met d past) (asks_of d (heard_by_devices (pending past) sent)) (lines_of d past)
+order_dosed scans past sent = refl
+
+-- the lines of an exchange, an end and a command
+wire_line : (place : Place) (addr : ℕ) (sent heard : List ℕ) (past : List Entry) →
+    lines_at place (entry.Wire addr sent heard ∷ past) ≡ only addr place (line_at place sent heard)
+    ++ (dosed_at place past sent ++ lines_at place past)
+wire_line (device d) addr sent heard past = append_assoc (only addr (device d) (line_at (device d) sent heard)) _ _
+wire_line scans addr sent heard past = refl
+
+ended_line : (place : Place) (addr : ℕ) (end : End) (past : List Entry)
+    → lines_at place (entry.Ended addr end ∷ past) ≡ only addr place (line.ended end) ++ lines_at place past
+ended_line (device d) addr end past = refl
+ended_line scans addr end past = refl
+
+taken_line : (place : Place) (c : Command) (past : List Entry)
+    → lines_at place (entry.Taken c ∷ past) ≡ only (address_of c) place (line.taken c) ++ lines_at place past
+taken_line (device d) c past = refl
+taken_line scans c past = refl
+
+-- at their own place
+pub own_wire : (place : Place) (sent heard : List ℕ) (past : List Entry)
+    → lines_at place (entry.Wire (addr_of place) sent heard ∷ past) ≡ line_at place sent heard
+    ∷ dosed_at place past sent ++ lines_at place past
+own_wire place sent heard past =
+    wire_line place (addr_of place) sent heard past
+    ∙ here (addr_of place) place _ (dosed_at place past sent ++ lines_at place past) refl
+
+pub own_ended : (place : Place) (end : End) (past : List Entry)
+    → lines_at place (entry.Ended (addr_of place) end ∷ past) ≡ line.ended end ∷ lines_at place past
+own_ended place end past =
+    ended_line place (addr_of place) end past ∙ here (addr_of place) place _ (lines_at place past) refl
+
+pub own_taken : (place : Place) (c : Command) (past : List Entry) → address_of c ≡ addr_of place
+    → lines_at place (entry.Taken c ∷ past) ≡ line.taken c ∷ lines_at place past
+own_taken place c past is = taken_line place c past ∙ here (address_of c) place _ (lines_at place past) is
+
+pub own_put : (d : DeviceSetup) (r : Record) (past : List Entry) → owner past r ≡ d.addr
+    → lines_of d (entry.Put r ∷ past) ≡ line.put r ∷ lines_of d past
+own_put d r past is = here (owner past r) (device d) (line.put r) (lines_of d past) is
+
+pub idle_line : (addr : ℕ) (place : Place) (past : List Entry)
+    → lines_at place (entry.Idle addr ∷ past) ≡ lines_at place past
+idle_line addr (device d) past = refl
+idle_line addr scans past = refl
+
+-- entries that are no line there change nothing there
+same_lines : (place : Place) (past news : List Entry) → lines_at place (news ++ past) ≡ lines_at place past
+    → IsAsBefore place past news
+same_lines place past news same = (ap model.job same, ap model.epoch same, ap order same)
+
+-- entries of one address
+pub idle_at : (addr : ℕ) (past : List Entry) → AreAt addr past (entry.Idle addr ∷ [])
+idle_at addr past place other = same_lines place past (entry.Idle addr ∷ []) (idle_line addr place past)
+
+pub wire_at : (addr : ℕ) (past : List Entry) (sent heard : List ℕ) → AreAt addr past (entry.Wire addr sent heard ∷ [])
+wire_at addr past sent heard place other =
+    let only_dosed = wire_line place addr sent heard past
+    ∙ elsewhere addr place _ (dosed_at place past sent ++ lines_at place past) other in (
+      ap model.job only_dosed ∙ job_dosed place past sent,
+      ap model.epoch only_dosed ∙ epoch_dosed place past sent,
+      ap order only_dosed ∙ order_dosed place past sent,
+    )
+
+pub put_at : (addr : ℕ) (past : List Entry) (r : Record) → owner past r ≡ addr → AreAt addr past (entry.Put r ∷ [])
+put_at addr past r is (device d) other =
+    same_lines (device d) past (entry.Put r ∷ [])
+    (elsewhere (owner past r) (device d) (line.put r) (lines_of d past) (λ at. other (at ∙ is)))
+put_at addr past r is scans other = (refl, refl, refl)
+
+pub taken_at : (c : Command) (past : List Entry) → AreAt (address_of c) past (entry.Taken c ∷ [])
+taken_at c past place other =
+    same_lines place past (entry.Taken c ∷ [])
+    (taken_line place c past ∙ elsewhere (address_of c) place _ (lines_at place past) other)
+
+ended_before : (addr : ℕ) (past : List Entry) (e : Entry) (end : End) → AreAt addr past (e ∷ [])
+    → AreAt addr past (entry.Ended addr end ∷ e ∷ [])
+ended_before addr past e end before place other =
+    let none = ended_line place addr end (e ∷ past) ∙ elsewhere addr place _ (lines_at place (e ∷ past)) other in
+    let was = before place other in
+    (ap model.job none ∙ was.0, ap model.epoch none ∙ was.1, ap order none ∙ was.2)
+
+pub end_at_too : (addr : ℕ) (past : List Entry) (e : Entry) (end : Option End) → AreAt addr past (e ∷ [])
+    → AreAt addr past (with_end addr e end)
+end_at_too addr past e None before = before
+end_at_too addr past e (Some end) before = ended_before addr past e end before
+
+-- an exchange is a line more of the job, and none of the epoch
+scanned_by : (b : Bool) (addr : ℕ) (rest : Option (List ℕ)) (lines : List Line) →
+    model.job (cond b (line.scanned Simple addr rest) (line.scanned Crc addr rest) ∷ lines) ≡ model.with_line
+    (cond b (line.scanned Simple addr rest) (line.scanned Crc addr rest)) (model.job lines)
+scanned_by true addr rest lines = refl
+scanned_by false addr rest lines = refl
+
+job_scanned : (sent heard : List ℕ) (lines : List Line)
+    → model.job (scan_line sent heard ∷ lines) ≡ model.with_line (scan_line sent heard) (model.job lines)
+unfolding scan_line
+job_scanned sent heard lines = scanned_by _ _ _ lines
+
+pub job_asked : (place : Place) (sent heard : List ℕ) (lines : List Line)
+    → model.job (line_at place sent heard ∷ lines) ≡ model.with_line (line_at place sent heard) (model.job lines)
+job_asked (device d) sent heard lines = refl
+job_asked scans sent heard lines = job_scanned sent heard lines
+
+-- an entry begins no sale
+abbrev pub BeginsNoSale : Entry → Type 0
+BeginsNoSale (entry.Taken c) = address_of c ≢ HOST
+BeginsNoSale e = ⊤
+
+unsold_put : (r : Record) (past : List Entry) → HasNoSale past → model.job (sold_line r ++ sale_lines past) ≡ model.free
+unsold_put (record_of.Sold id price) past none = ap (model.with_line (line.put (record_of.Sold id price))) none
+unsold_put r past none = none
+
+unsold_end : (same : Bool) (end : End) (past : List Entry) → HasNoSale past
+    → model.job (cond same (line.ended end ∷ []) [] ++ sale_lines past) ≡ model.free
+unsold_end true end past none = refl
+unsold_end false end past none = none
+
+unsold_taken : (c : Command) (past : List Entry) → address_of c ≢ HOST → HasNoSale past
+    → HasNoSale (entry.Taken c ∷ past)
+unsold_taken c past other none =
+    ap (λ b. model.job (cond b (line.taken c ∷ []) [] ++ sale_lines past))
+    (other_test (address_of c) HOST (λ same. other (sym same))) ∙ none
+
+pub unsold : (past : List Entry) (e : Entry) → BeginsNoSale e → HasNoSale past → HasNoSale (e ∷ past)
+unsold past (entry.Taken c) other none = unsold_taken c past other none
+unsold past (entry.Put r) other none = unsold_put r past none
+unsold past (entry.Kept r) other none = unsold_put r past none
+unsold past (entry.Ended addr end) other none = unsold_end (addr == HOST) end past none
+unsold past (entry.Crash records) other none = refl
+unsold past e other none = none
+
+unsold_with_end : (past : List Entry) (addr : ℕ) (e : Entry) (end : Option End) → BeginsNoSale e → HasNoSale past
+    → HasNoSale (with_end addr e end ++ past)
+unsold_with_end past addr e None begins none = unsold past e begins none
+unsold_with_end past addr e (Some end) begins none =
+    unsold (e ∷ past) (entry.Ended addr end) tt (unsold past e begins none)
+
+-- no attempt begins one, and no command of a device or of a scan
+pub attempt_unsold : (past : List Entry) (addr : ℕ) (what : Attempt) → HasNoSale past
+    → HasNoSale (news_of addr what ++ past)
+attempt_unsold past addr attempt.idle none = none
+attempt_unsold past addr (attempt.asked sent heard end) none =
+    unsold_with_end past addr (entry.Wire addr sent heard) end tt none
+attempt_unsold past addr (attempt.put r end) none = unsold_with_end past addr (entry.Put r) end tt none
+
+pub command_unsold : (past : List Entry) (c : Command) (refused : Option CommandNo) → address_of c ≢ HOST
+    → HasNoSale past → HasNoSale (command_entry c refused ∷ past)
+command_unsold past c None other none = unsold_taken c past other none
+command_unsold past c (Some why) other none = none
+
+-- an entry that changes no job, no epoch and no open order, wherever they are
+pub record IsQuiet (past : List Entry) (e : Entry) : Type 0 where
+  pub sales : BeginsNoSale e
+  pub jobs : (place : Place) → model.job (lines_at place (e ∷ past)) ≡ model.job (lines_at place past)
+  pub epochs : (place : Place) → model.epoch (lines_at place (e ∷ past)) ≡ model.epoch (lines_at place past)
+  pub orders : (place : Place) → order (lines_at place (e ∷ past)) ≡ order (lines_at place past)
+  pub records_are : records (e ∷ past) ≡ records past
+
+-- a line that changes none
+abbrev Passes : Line → Type 0
+Passes x =
+    (lines : List Line) → (model.job (x ∷ lines) ≡ model.job lines) × (model.epoch (x ∷ lines) ≡ model.epoch lines)
+    × (order (x ∷ lines) ≡ order lines)
+
+job_passes : (same : Bool) (x : Line) (lines : List Line) → Passes x
+    → model.job (cond same (x ∷ []) [] ++ lines) ≡ model.job lines
+job_passes true x lines passes = (passes lines).0
+job_passes false x lines passes = refl
+
+epoch_passes : (same : Bool) (x : Line) (lines : List Line) → Passes x
+    → model.epoch (cond same (x ∷ []) [] ++ lines) ≡ model.epoch lines
+epoch_passes true x lines passes = (passes lines).1
+epoch_passes false x lines passes = refl
+
+order_passes : (same : Bool) (x : Line) (lines : List Line) → Passes x
+    → order (cond same (x ∷ []) [] ++ lines) ≡ order lines
+order_passes true x lines passes = (passes lines).2
+order_passes false x lines passes = refl
+
+-- an entry that is such a line at each device of an address, and none of a scan
+abbrev IsOnly : ℕ → Line → List Entry → Entry → Type 0
+IsOnly addr x past e = ((d : DeviceSetup) → lines_of d (e ∷ past) ≡ only addr (device d) x ++ lines_of d past)
+    × (scan_lines (e ∷ past) ≡ scan_lines past) × (records (e ∷ past) ≡ records past)
+
+job_quiet : (x : Line) (addr : ℕ) (past : List Entry) (e : Entry) → Passes x → IsOnly addr x past e → (place : Place)
+    → model.job (lines_at place (e ∷ past)) ≡ model.job (lines_at place past)
+job_quiet x addr past e passes is (device d) =
+    ap model.job (is.0 d) ∙ job_passes (addr == d.addr) x (lines_of d past) passes
+job_quiet x addr past e passes is scans = ap model.job is.1
+
+epoch_quiet : (x : Line) (addr : ℕ) (past : List Entry) (e : Entry) → Passes x → IsOnly addr x past e
+    → (place : Place) → model.epoch (lines_at place (e ∷ past)) ≡ model.epoch (lines_at place past)
+epoch_quiet x addr past e passes is (device d) =
+    ap model.epoch (is.0 d) ∙ epoch_passes (addr == d.addr) x (lines_of d past) passes
+epoch_quiet x addr past e passes is scans = ap model.epoch is.1
+
+order_quiet : (x : Line) (addr : ℕ) (past : List Entry) (e : Entry) → Passes x → IsOnly addr x past e
+    → (place : Place) → order (lines_at place (e ∷ past)) ≡ order (lines_at place past)
+order_quiet x addr past e passes is (device d) =
+    ap order (is.0 d) ∙ order_passes (addr == d.addr) x (lines_of d past) passes
+order_quiet x addr past e passes is scans = ap order is.1
+
+quiet : (x : Line) (addr : ℕ) (past : List Entry) (e : Entry) → BeginsNoSale e → Passes x → IsOnly addr x past e
+    → IsQuiet past e
+quiet x addr past e sales passes is = record {
+  sales = sales;
+  jobs = job_quiet x addr past e passes is;
+  epochs = epoch_quiet x addr past e passes is;
+  orders = order_quiet x addr past e passes is;
+  records_are = is.2;
+}
+
+pub accepted_quiet : (past : List Entry) (addr : ℕ) (c : Coin) → IsQuiet past (entry.Accepted addr c)
+accepted_quiet past addr c = quiet (line.accepted c) addr past _ tt (λ ls. (refl, refl, refl)) ((λ d. refl), refl, refl)
+
+pub inhibited_quiet : (past : List Entry) (addr place : ℕ) → IsQuiet past (entry.Inhibited addr place)
+inhibited_quiet past addr place = quiet (line.inhibited place) addr past _ tt (λ ls. (refl, refl, refl)) (
+  (λ d. refl),
+  refl,
+  refl,
+)
+
+pub alien_quiet : (past : List Entry) (addr : ℕ) → IsQuiet past (entry.Alien addr)
+alien_quiet past addr = quiet line.alien addr past _ tt (λ ls. (refl, refl, refl)) ((λ d. refl), refl, refl)
+
+pub reset_quiet : (past : List Entry) (addr : ℕ) → IsQuiet past (entry.Reset addr)
+reset_quiet past addr = quiet line.reset addr past _ tt (λ ls. (refl, refl, refl)) ((λ d. refl), refl, refl)
+
+pub fell_quiet : (past : List Entry) (addr : ℕ) → IsQuiet past (entry.Fell addr)
+fell_quiet past addr = quiet line.fell addr past _ tt (λ ls. (refl, refl, refl)) ((λ d. refl), refl, refl)
+
+-- an entry that is no line
+no_line : (past : List Entry) (e : Entry) → BeginsNoSale e → records (e ∷ past) ≡ records past
+    → ((place : Place) → lines_at place (e ∷ past) ≡ lines_at place past) → IsQuiet past e
+no_line past e sales put same = record {
+  sales = sales;
+  jobs = λ place. ap model.job (same place);
+  epochs = λ place. ap model.epoch (same place);
+  orders = λ place. ap order (same place);
+  records_are = put;
+}
+
+fault_line : (f : WireFault) (place : Place) (past : List Entry)
+    → lines_at place (entry.Fault f ∷ past) ≡ lines_at place past
+fault_line f (device d) past = refl
+fault_line f scans past = refl
+
+refused_line : (c : Command) (why : CommandNo) (place : Place) (past : List Entry)
+    → lines_at place (entry.No c why ∷ past) ≡ lines_at place past
+refused_line c why (device d) past = refl
+refused_line c why scans past = refl
+
+pub idle_quiet : (past : List Entry) (addr : ℕ) → IsQuiet past (entry.Idle addr)
+idle_quiet past addr = no_line past _ tt refl (λ place. idle_line addr place past)
+
+pub fault_quiet : (past : List Entry) (f : WireFault) → IsQuiet past (entry.Fault f)
+fault_quiet past f = no_line past _ tt refl (λ place. fault_line f place past)
+
+pub refused_quiet : (past : List Entry) (c : Command) (why : CommandNo) → IsQuiet past (entry.No c why)
+refused_quiet past c why = no_line past _ tt refl (λ place. refused_line c why place past)
+
+no_fall_line : (addr : ℕ) (place : Place) (past : List Entry)
+    → lines_at place (entry.NoFall addr ∷ past) ≡ lines_at place past
+no_fall_line addr (device d) past = refl
+no_fall_line addr scans past = refl
+
+jammed_line : (addr : ℕ) (place : Place) (past : List Entry)
+    → lines_at place (entry.Jammed addr ∷ past) ≡ lines_at place past
+jammed_line addr (device d) past = refl
+jammed_line addr scans past = refl
+
+no_jam_line : (addr : ℕ) (place : Place) (past : List Entry)
+    → lines_at place (entry.NoJam addr ∷ past) ≡ lines_at place past
+no_jam_line addr (device d) past = refl
+no_jam_line addr scans past = refl
+
+pub fall_quiet : (none : Bool) (past : List Entry) (addr : ℕ)
+    → IsQuiet past (cond none (entry.NoFall addr) (entry.Fell addr))
+fall_quiet true past addr = no_line past _ tt refl (λ place. no_fall_line addr place past)
+fall_quiet false past addr = fell_quiet past addr
+
+pub jam_quiet : (none : Bool) (past : List Entry) (addr : ℕ)
+    → IsQuiet past (cond none (entry.NoJam addr) (entry.Jammed addr))
+jam_quiet true past addr = no_line past _ tt refl (λ place. no_jam_line addr place past)
+jam_quiet false past addr = no_line past _ tt refl (λ place. jammed_line addr place past)
+
+-- the answer to a command, at the command's address
+pub command_at : (past : List Entry) (c : Command) (refused : Option CommandNo)
+    → AreAt (address_of c) past (command_entry c refused ∷ [])
+command_at past c None = taken_at c past
+command_at past c (Some why) = λ place other.
+    same_lines place past (entry.No c why ∷ []) (refused_line c why place past)
+
+-- the greatest id of the records after an attempt, and after a command
+put_last : (past : List Entry) (addr : ℕ) (r : Record) (end : Option End)
+    → greatest_id (records (with_end addr (entry.Put r) end ++ past)) ≡ max (id_of r) (greatest_id (records past))
+put_last past addr r None = refl
+put_last past addr r (Some end) = refl
+
+wire_last : (past : List Entry) (addr : ℕ) (sent heard : List ℕ) (end : Option End)
+    → records (with_end addr (entry.Wire addr sent heard) end ++ past) ≡ records past
+wire_last past addr sent heard None = refl
+wire_last past addr sent heard (Some end) = refl
+
+last_by : (past : List Entry) (addr : ℕ) (what : Attempt)
+    → greatest_id (records (news_of addr what ++ past)) ≡ max (used_by what) (greatest_id (records past))
+last_by past addr attempt.idle = sym (zero-max (greatest_id (records past)))
+last_by past addr (attempt.asked sent heard end) =
+    ap greatest_id (wire_last past addr sent heard end) ∙ sym (zero-max (greatest_id (records past)))
+last_by past addr (attempt.put r end) = put_last past addr r end
+
+pub attempt_last : (past : List Entry) (addr : ℕ) (what : Attempt) (used last after : ℕ) → used ≡ used_by what
+    → last ≡ greatest_id (records past) → after ≡ max used last
+    → after ≡ greatest_id (records (news_of addr what ++ past))
+attempt_last past addr what used last after used_is last_is after_is =
+    after_is ∙ ap (λ u. max u last) used_is ∙ ap (max (used_by what)) last_is ∙ sym (last_by past addr what)
+
+pub command_last : (past : List Entry) (c : Command) (refused : Option CommandNo) (last : ℕ)
+    → last ≡ greatest_id (records past) → last ≡ greatest_id (records (command_entry c refused ∷ past))
+command_last past c None last is = is
+command_last past c (Some why) last is = is

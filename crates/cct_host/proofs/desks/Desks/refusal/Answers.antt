@@ -1,0 +1,11 @@
+use Rattle.std.proofs.Common.{◌∙◌, None, ap, sym}
+use Rattle.cct_model.specs.Refusal.{refusal}
+use Rattle.cct_host.specs.Place.{scans}
+use Rattle.cct_host.proofs.Commands.{busy_is}
+use Rattle.cct_host.proofs.desks.Desks.refusal.Goals as goal
+
+pub returns-in-Scan : goal.returns-in-Scan
+returns-in-Scan c past stands =
+    let scan = c.args.self.now.scan in
+    c.busy.ensures ∙ busy_is scans scan.job _ _ _ stands.scan.works
+    ∙ sym (ap (refusal None c.args.self.now.setup.now past) c.in-Scan.is)

@@ -1,0 +1,86 @@
+-- Desks that stand for all that happened.
+use Rattle.std.specs.Prelude.{◌≡◌, ◌==◌, ℕ, List, ◌∷◌, ◌++◌, Option, Some, None, Result, option_and_then, reverse, slice_get}
+use Rattle.std.specs.List.{position}
+use Rattle.cct_model.specs.terms.device.Setup.{Setup}
+use Rattle.cct_model.specs.lines.command.Command.{Command}
+use Rattle.cct_model.specs.lines.command.CommandNo.{CommandNo}
+use Rattle.cct_model.specs.lines.record.Record.{Record}
+use Rattle.cct_model.specs.lines.entry.Entry.{Entry}
+use Rattle.cct_model.specs.Legal.{EntriesOfNext, command_entry}
+use Rattle.cct_model.specs.Records.{greatest_id, records}
+use Rattle.cct_model.specs.Refusal.{refusal}
+use Rattle.cct_model.specs.Setup.{IsSoundSetup}
+use Rattle.cct_host.specs.declared.desk.JobDesk.{JobDesk}
+use Rattle.cct_host.specs.declared.desks.Desks.{Desks}
+use Rattle.cct_host.specs.Attempt.{Attempt, HeardBy, Links, news_of}
+use Rattle.cct_host.specs.Desk.{AllSit, Sits, held_in, no_of, reserved_over}
+use Rattle.cct_host.specs.Held.{coins_by, due_by}
+use Rattle.cct_host.specs.Place.{HasNoSale, OwnsItsPut, scans}
+
+-- The setup of desks.
+abbrev pub setup_of : Desks → Setup
+setup_of desks = desks.setup.now
+
+-- How many records are held: those that jobs may still put, and one for each open order that no job is at work to close.
+abbrev pub held_of : Desks → ℕ
+held_of desks = held_in desks.devices.items
+
+-- What all jobs reserve.
+abbrev pub reserved_of : Desks → ℕ
+reserved_of desks = reserved_over (setup_of desks) (setup_of desks).devices desks.devices.items
+
+-- The desk of the device at an address, if there is one.
+abbrev pub desk_there : Desks → ℕ → Option JobDesk
+desk_there desks addr =
+    option_and_then (slice_get desks.devices.items) (position (λ d. d.addr == addr) (setup_of desks).devices)
+
+-- The record that the job at an address is about to put, if it is about to put one.
+abbrev pub due_on : Desks → ℕ → Option Record
+due_on desks addr = option_and_then (λ desk. due_by desk.job) (desk_there desks addr)
+
+-- How many coins the job at the desk that is there reserves, 0 where there is none.
+abbrev pub coins_there : Option JobDesk → ℕ
+coins_there None = 0
+coins_there (Some desk) = coins_by desk.job
+
+-- How many coins the job at an address reserves.
+abbrev pub coins_on : Desks → ℕ → ℕ
+coins_on desks addr = coins_there (desk_there desks addr)
+
+-- Desks stand for a transcript, newest entry first: their setup is sound, each has the job, the epoch and the open order
+-- that the lines of its device tell, the scan is that of the lines of address 0, the greatest id of the records is known,
+-- and no sale is under way.
+pub record StandsFor (desks : Desks) (past : List Entry) : Type 0 where
+  pub sound : IsSoundSetup (setup_of desks)
+  pub devices : AllSit past (setup_of desks).devices desks.devices.items
+  pub scan : Sits past scans desks.scan
+  pub last : desks.last ≡ greatest_id (records past)
+  pub unsold : HasNoSale past
+
+-- Nothing changed.
+abbrev pub Stays : Desks → Desks → Type 0
+Stays old new =
+    (new.setup ≡ old.setup) × (new.devices.items ≡ old.devices.items) × (new.scan ≡ old.scan) × (new.last ≡ old.last)
+
+-- A command is taken or refused as it has to be after whatever happened, and the desks go on by its entry.
+abbrev pub Answers : Desks → Desks → Command → Result Unit CommandNo → Type 0
+Answers old new c result =
+    (past : List Entry) → StandsFor old past
+    → (no_of result ≡ refusal None (setup_of old) past c) × StandsFor new (command_entry c (no_of result) ∷ past)
+
+-- A command is refused for this reason, if for any, after whatever happened.
+abbrev pub Refuses : Desks → Command → Option CommandNo → Type 0
+Refuses desks c why = (past : List Entry) → StandsFor desks past → why ≡ refusal None (setup_of desks) past c
+
+-- A `next` at an address makes one attempt over a link. What it adds to the report are the entries of a `next` after
+-- whatever happened, where what it heard is what follows the piece that it sent, and an order that it closes was opened at
+-- that address; and the desks go on by them.
+pub record Nexts {L : Type 0} (gives : L → List ℕ → List ℕ → L → Type 0) (old new : L) (addr : ℕ) (before after : Desks)
+    (report reported : List Entry) : Type 0 where
+  pub what : Attempt
+  pub reported_is : reported ≡ report ++ reverse (news_of addr what)
+  pub link : Links gives old new what
+  pub goes : (hears : List ℕ → List ℕ) (past : List Entry) → HeardBy hears what → StandsFor before past
+      → OwnsItsPut (setup_of before) past addr
+      → EntriesOfNext hears (setup_of before) past addr (news_of addr what) × StandsFor after
+      (news_of addr what ++ past)

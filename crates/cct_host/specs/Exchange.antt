@@ -1,0 +1,50 @@
+-- One exchange that a job makes over a link.
+use Rattle.std.specs.Prelude.{◌≡◌, ℕ, ◌≤◌, true, List, [], ◌∷◌, ◌++◌, Option}
+use Rattle.cct_model.specs.lines.command.Command.{Command}
+use Rattle.cct_model.specs.lines.entry.End.{End}
+use Rattle.cct_model.specs.lines.entry.Entry.{Entry}
+use Rattle.cct_model.specs.lines.entry.Entry.TheVariants as entry
+use Rattle.cct_model.specs.declared.judging.EpochState.{EpochState}
+use Rattle.cct_model.specs.declared.judging.OpenOrder.{OpenOrder}
+use Rattle.cct_model.specs.Line.{Line}
+use Rattle.cct_jobs.specs.declared.job.Job.{Job}
+use Rattle.cct_jobs.specs.Jobs.{closes_order, coins_reserved, may_put_of}
+use Rattle.cct_host.specs.Place.{Asks, AsksNext, Place, StandsAt, end_at, line_at}
+
+-- Wherever a job is, and its row sends something next, it sends that, and goes on by the line of what it heard.
+abbrev pub Talks : Job → List ℕ → List ℕ → Job → Type 0
+Talks old sent heard new =
+    (place : Place) (c : Command) (since : List Line) (state : EpochState) (owed : Option OpenOrder)
+    → StandsAt place old c since state owed → AsksNext place c since state owed
+    → Asks place c since state owed sent × StandsAt place new c (line_at place sent heard ∷ since) state owed
+
+-- Wherever a job is, this is the end that its newest line brought it, if it brought one.
+abbrev pub Ends : Job → Option End → Type 0
+Ends job end =
+    (place : Place) (c : Command) (line : Line) (since : List Line) (state : EpochState) (owed : Option OpenOrder)
+    → StandsAt place job c (line ∷ since) state owed → end ≡ end_at place c line since state
+
+-- What a job may still put and what it reserves is no more than before, and while it may put anything it is at work to
+-- close its order where it was so before.
+pub record HoldsLess (old new : Job) : Type 0 where
+  pub puts : may_put_of new ≤ may_put_of old
+  pub closes : closes_order old ≡ true → 1 ≤ may_put_of new → closes_order new ≡ true
+  pub coins : coins_reserved new ≤ coins_reserved old
+
+-- A job made an exchange at an address over a link, and this is its entry.
+pub record Fills {L : Type 0} (gives : L → List ℕ → List ℕ → L → Type 0) (before after : L) (addr : ℕ) (old new : Job)
+    (said : Entry) : Type 0 where
+  pub sent : List ℕ
+  pub heard : List ℕ
+  pub said_is : said ≡ entry.Wire addr sent heard
+  pub goes : gives before sent heard after
+  pub talks : Talks old sent heard new
+
+-- A job made an exchange at an address over a link, and added its entry to a report.
+pub record Converses {L : Type 0} (gives : L → List ℕ → List ℕ → L → Type 0) (before after : L) (addr : ℕ)
+    (old new : Job) (report reported : List Entry) : Type 0 where
+  pub sent : List ℕ
+  pub heard : List ℕ
+  pub reported_is : reported ≡ report ++ entry.Wire addr sent heard ∷ []
+  pub goes : gives before sent heard after
+  pub talks : Talks old sent heard new

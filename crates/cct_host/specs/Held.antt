@@ -1,0 +1,68 @@
+-- What the job at a place is still to do: the records that it may put, what it reserves, and the record that is next.
+use Rattle.std.specs.Prelude.{ℕ, ◌+◌, if◌then◌else◌, Option, Some, None, ⊤}
+use Rattle.std.proofs.Props.{props}
+use Rattle.cct_model.specs.lines.record.Record.{Record}
+use Rattle.cct_model.specs.lines.record.Record.TheVariants as record_of
+use Rattle.cct_model.specs.declared.judging.OpenOrder.{OpenOrder}
+use Rattle.cct_jobs.specs.declared.job.Need.{Need}
+use Rattle.cct_jobs.specs.declared.job.Need.TheVariants as need
+use Rattle.cct_record.specs.Body.{Encodable}
+use Rattle.cct_jobs.specs.declared.job.Job.{Job}
+use Rattle.cct_jobs.specs.declared.job.Job.TheVariants.{RoundPuts, StopPuts, OrderCloses}
+use Rattle.cct_jobs.specs.Jobs.{PutsFit, closes_order, coins_reserved, may_put_of, need_of}
+
+-- How many records the job at a place may still put.
+abbrev pub puts_left : Option Job → ℕ
+puts_left None = 0
+puts_left (Some job) = may_put_of job
+
+-- One record for the open order of a place that no job there is at work to close.
+abbrev pub order_left : Option Job → Option OpenOrder → ℕ
+order_left job None = 0
+order_left None (Some o) = 1
+order_left (Some job) (Some o) = if closes_order job then 0 else 1
+
+-- How many records are held for a place.
+abbrev pub held_by : Option Job → Option OpenOrder → ℕ
+held_by job owed = puts_left job + order_left job owed
+
+-- The record that is needed to be put, if one is.
+abbrev pub put_in : Need → Option Record
+put_in (need.Put entry) = Some entry
+put_in other = None
+
+-- The record that the job at a place is about to put, if it is about to put one.
+abbrev pub due_by : Option Job → Option Record
+due_by None = None
+due_by (Some job) = put_in (need_of job)
+
+-- How many coins the job at a place reserves.
+abbrev pub coins_by : Option Job → ℕ
+coins_by None = 0
+coins_by (Some job) = coins_reserved job
+
+-- What the job at a place is about to put, if it is about to put something, can be spelt in a journal.
+abbrev pub FitsIn : Option Job → Type 0
+FitsIn None = ⊤
+FitsIn (Some job) = PutsFit job
+
+-- Each of these facts has one proof at the most.
+pub Encodable-prop : (r : Record) → IsProp (Encodable r)
+Encodable-prop (record_of.Epoch addr mask) = hlevel props
+Encodable-prop (record_of.Reading addr counter lost posted) = hlevel props
+Encodable-prop (record_of.Broken addr seen counter posted) = hlevel props
+Encodable-prop (record_of.EpochEnd addr) = hlevel props
+Encodable-prop (record_of.Opened id addr count life) = hlevel props
+Encodable-prop (record_of.Closed id paid unpaid) = hlevel props
+Encodable-prop (record_of.Odd id life_before life_after) = hlevel props
+Encodable-prop (record_of.Sold id price) = hlevel props
+
+pub PutsFit-prop : (job : Job) → IsProp (PutsFit job)
+PutsFit-prop (RoundPuts entry end) = Encodable-prop entry
+PutsFit-prop (StopPuts target entry end) = Encodable-prop entry
+PutsFit-prop (OrderCloses entry end) = Encodable-prop entry
+PutsFit-prop job = hlevel props
+
+pub FitsIn-prop : (job : Option Job) → IsProp (FitsIn job)
+FitsIn-prop None = hlevel props
+FitsIn-prop (Some job) = PutsFit-prop job

@@ -1,0 +1,542 @@
+//! The host's desk for one place: a device, or the address of all devices, where scans are.
+ghost use Rattle.std.specs.Prelude.{◌≡◌, ◌≢◌, ◌<◌, ◌≤◌, ◌^◌, ℕ, List, [], ◌∷◌, ◌++◌, ◌*◌, ◌+◌, length, Option, Some, None, true, false, max, IfSome, IsTrue, OnErr, OnOk};
+ghost use Rattle.std.specs.Option.{option_map};
+ghost use Rattle.arrayvec.specs.ArrayVec.{array_vec_len};
+ghost use Rattle.cct_model.specs.declared.judging.OpenOrder.{OpenOrder};
+ghost use Rattle.cct_model.specs.lines.entry.Entry.{Entry};
+ghost use Rattle.cct_model.specs.terms.device.Setup.{Setup};
+ghost use Rattle.cct_model.specs.Exchange.{device_at};
+ghost use Rattle.cct_model.specs.Job.{address_of, counted, epoch_by, works};
+ghost use Rattle.cct_model.specs.Legal.{is_played_command};
+ghost use Rattle.cct_model.specs.Records.{id_of};
+ghost use Rattle.cct_model.specs.Refusal.{id_refusal, pay_refusal, running_id, running_refusal, settle_refusal, start_refusal};
+ghost use Rattle.cct_record.specs.Body.{Encodable};
+ghost use Rattle.cct_jobs.specs.Jobs.{MayBegin, coins_asked, order_of};
+ghost use Rattle.cct_host.specs.Held.{FitsIn, FitsIn-prop, coins_by, due_by, held_by, order_left, put_in, puts_left};
+ghost use Rattle.cct_host.specs.Place as places;
+ghost use Rattle.cct_host.specs.Running.{acceptor_refusal, busy_by, halting_refusal, halts_in, hopper_refusal, id_left, is_halt, is_running, needed, refusal_beside};
+
+use crate::dues::Dues;
+use crate::exchange::{converse, settled};
+use crate::values::valueless;
+use arrayvec::ArrayVec;
+use cct_jobs::{Job, Need};
+use cct_model::{
+    Command, CommandNo, DEVICES, DeviceSetup, Entry, EpochState, OpenOrder, Record, Setup,
+};
+use cct_wire::Link;
+
+/// The job at a place, and the epoch or the open order that is recorded of a device there.
+#[derive(Drop)]
+pub(crate) struct JobDesk {
+    job: Option<Job>,
+    epoch: EpochState,
+    dues: Dues,
+    ghost runs: { is_running job ≡ true },
+    ghost fits: { FitsIn job } by { FitsIn-prop job },
+}
+
+impl Default for JobDesk {
+    ghost use Rattle.cct_host.specs.Desk.{IsFree};
+
+    ghost is_default = { IsFree };
+
+    fn default() -> Self {
+        JobDesk {
+            job: None,
+            epoch: EpochState::Idle,
+            dues: Dues { order: None, id: 0 },
+        }
+    }
+}
+
+impl JobDesk {
+    ghost use Rattle.cct_host.specs.Desk.{Attempts, Commands, CommandsAbove, Keeps, RefusesAbove, Sits, greatest_paying, held_at, held_in};
+
+    /// A command to the device of this desk is taken, or refused for the first reason that holds; a refused one changes
+    /// nothing.
+    pub(crate) fn command(
+        &mut self,
+        command: &Command,
+        device: &DeviceSetup,
+        setup: &Setup,
+        last: u32,
+    ) -> Result<(), CommandNo>
+        requires there { device_at setup.now.devices (address_of command.now) ≡ Some device.now }
+        requires played { IsTrue (is_played_command command.now) }
+        requires no_scan { command.now ≢ Command.Scan }
+        ensures stays { OnErr result (self.new ≡ self.old) }
+        ensures holds { OnOk result (held_at self.new ≤ held_at self.old + needed command.now) }
+        ensures reserves { OnOk result (coins_by self.new.job ≡ coins_by self.old.job + coins_asked command.now) }
+        ensures commands { device.now.serial < 2 ^ 24
+            → CommandsAbove setup.now last (places.device device.now) self.old self.new command.now result }
+    {
+        if is_halt(command) {
+            self.halt(command, device, setup)
+        } else {
+            self.begin(command, device, setup, last)
+        }
+    }
+
+    /// Why a command to the device of this desk is refused, if it is: the first reason that holds, whatever room there
+    /// is for its records.
+    pub(crate) fn command_refusal(
+        &self,
+        command: &Command,
+        device: &DeviceSetup,
+        last: u32,
+    ) -> Option<CommandNo>
+        requires played { IsTrue (is_played_command command.now) }
+        requires no_scan { command.now ≢ Command.Scan }
+        ensures { (setup : Setup) → device_at setup.devices (address_of command.now) ≡ Some device.now
+            → RefusesAbove setup last (places.device device.now) self.now command.now result }
+    {
+        if is_halt(command) {
+            self.halting_refusal(device)
+        } else {
+            self.refusal(command, device, last)
+        }
+    }
+
+    /// A halt is taken, or refused where no payout could be stopped; a refused one changes nothing.
+    fn halt(
+        &mut self,
+        command: &Command,
+        device: &DeviceSetup,
+        setup: &Setup,
+    ) -> Result<(), CommandNo>
+        requires there { device_at setup.now.devices (address_of command.now) ≡ Some device.now }
+        requires halt { is_halt command.now ≡ true }
+        ensures stays { OnErr result (self.new ≡ self.old) }
+        ensures holds { OnOk result (held_at self.new ≤ held_at self.old + needed command.now) }
+        ensures reserves { OnOk result (coins_by self.new.job ≡ coins_by self.old.job + coins_asked command.now) }
+        ensures commands { Commands setup.now (places.device device.now) self.old self.new command.now result }
+    {
+        match self.halting_refusal(device) {
+            Some(why) => Err(why),
+            None => {
+                match self.job.take() {
+                    Some(job) => self.job = Some(job.halt()),
+                    None => unreachable!(),
+                }
+                Ok(())
+            }
+        }
+    }
+
+    /// Why a halt is refused, if it is.
+    fn halting_refusal(&self, device: &DeviceSetup) -> Option<CommandNo>
+        ensures { result ≡ halting_refusal device.now self.now.job }
+    {
+        if device.body.is_acceptor() {
+            Some(CommandNo::WrongKind)
+        } else if self.can_halt() {
+            None
+        } else {
+            Some(CommandNo::NoPayout)
+        }
+    }
+
+    /// Whether there is a job that can be halted.
+    fn can_halt(&self) -> bool
+        ensures { result ≡ halts_in self.now.job }
+    {
+        match &self.job {
+            Some(job) => job.can_halt(),
+            None => false,
+        }
+    }
+
+    /// A command that begins a job is taken, or refused for the first reason that holds; a refused one changes nothing.
+    fn begin(
+        &mut self,
+        command: &Command,
+        device: &DeviceSetup,
+        setup: &Setup,
+        last: u32,
+    ) -> Result<(), CommandNo>
+        requires there { device_at setup.now.devices (address_of command.now) ≡ Some device.now }
+        requires played { IsTrue (is_played_command command.now) }
+        requires no_halt { is_halt command.now ≡ false }
+        requires no_scan { command.now ≢ Command.Scan }
+        ensures stays { OnErr result (self.new ≡ self.old) }
+        ensures holds { OnOk result (held_at self.new ≤ held_at self.old + needed command.now) }
+        ensures reserves { OnOk result (coins_by self.new.job ≡ coins_by self.old.job + coins_asked command.now) }
+        ensures commands { device.now.serial < 2 ^ 24
+            → CommandsAbove setup.now last (places.device device.now) self.old self.new command.now result }
+    {
+        match self.refusal(command, device, last) {
+            Some(why) => Err(why),
+            None => {
+                self.job = Some(Job::begin(command, setup, &self.epoch, self.order()));
+                self.dues.id = id_begun(command);
+                Ok(())
+            }
+        }
+    }
+
+    /// The open order, if there is one.
+    fn order(&self) -> Option<&OpenOrder>
+        ensures value { option_map (λ o. o.now) result ≡ order_of self.now.dues.order }
+        ensures life { (o : OpenOrder) → option_map (λ o. o.now) result ≡ Some o → o.life < 2 ^ 24 }
+    {
+        match &self.dues.order {
+            Some(owed) => Some(&owed.order),
+            None => None,
+        }
+    }
+
+    /// A scan is taken, or refused since one runs; a refused one changes nothing.
+    pub(crate) fn scan(&mut self, command: &Command, setup: &Setup) -> Result<(), CommandNo>
+        requires { command.now ≡ Command.Scan }
+        ensures stays { OnErr result (self.new ≡ self.old) }
+        ensures commands { Commands setup.now places.scans self.old self.new command.now result }
+    {
+        match self.busy() {
+            Some(why) => Err(why),
+            None => {
+                self.job = Some(Job::begin(command, setup, &self.epoch, None));
+                Ok(())
+            }
+        }
+    }
+
+    /// Why a command to a device is refused, if it is.
+    fn refusal(&self, command: &Command, device: &DeviceSetup, last: u32) -> Option<CommandNo>
+        ensures { result ≡ refusal_beside device.now self.now.job self.now.epoch self.now.dues last command.now }
+    {
+        match *command {
+            Command::Start { mask, .. } => self.acceptor_refusal(
+                device,
+                self.start_refusal(device, mask),
+            ),
+            Command::Round { .. } => self.acceptor_refusal(device, self.running_refusal(device)),
+            Command::Stop { .. } => self.acceptor_refusal(device, self.running_refusal(device)),
+            Command::Path { .. } => self.acceptor_refusal(device, None),
+            Command::Pay { id, .. } => self.hopper_refusal(device, self.pay_refusal(id, last)),
+            Command::Settle { .. } => self.hopper_refusal(device, self.settle_refusal()),
+            Command::Ident { .. } => self.busy(),
+            _ => None,
+        }
+    }
+
+    /// Why a command to a coin acceptor is refused, if it is: a further reason is the last.
+    fn acceptor_refusal(
+        &self,
+        device: &DeviceSetup,
+        further: Option<CommandNo>,
+    ) -> Option<CommandNo>
+        ensures { result ≡ acceptor_refusal device.now self.now.job further }
+    {
+        if device.body.is_acceptor() {
+            match self.busy() {
+                Some(why) => Some(why),
+                None => further,
+            }
+        } else {
+            Some(CommandNo::WrongKind)
+        }
+    }
+
+    /// Why a command to a hopper is refused, if it is: a further reason is the last.
+    fn hopper_refusal(&self, device: &DeviceSetup, further: Option<CommandNo>) -> Option<CommandNo>
+        ensures { result ≡ hopper_refusal device.now self.now.job further }
+    {
+        if device.body.is_acceptor() {
+            Some(CommandNo::WrongKind)
+        } else {
+            match self.busy() {
+                Some(why) => Some(why),
+                None => further,
+            }
+        }
+    }
+
+    /// Why a payment is refused beside the open order and the last id: an order is open, or its id isn't new.
+    fn pay_refusal(&self, id: u32, last: u32) -> Option<CommandNo>
+        ensures { result ≡ pay_refusal id last (order_of self.now.dues.order) }
+    {
+        match &self.dues.order {
+            None => id_refusal(id, last),
+            Some(owed) => Some(CommandNo::OrderOpen { id: owed.order.id }),
+        }
+    }
+
+    /// Why a settlement is refused beside the open order: there is none.
+    fn settle_refusal(&self) -> Option<CommandNo>
+        ensures { result ≡ settle_refusal (order_of self.now.dues.order) }
+    {
+        match &self.dues.order {
+            None => Some(CommandNo::NoOrder),
+            Some(_) => None,
+        }
+    }
+
+    /// Why a start with a mask is refused beside the epoch: one runs, or a place of the mask has no value.
+    fn start_refusal(&self, device: &DeviceSetup, mask: u16) -> Option<CommandNo>
+        ensures { result ≡ start_refusal mask device.now self.now.epoch }
+    {
+        match self.epoch {
+            EpochState::Idle => match valueless(&device.body, mask) {
+                None => None,
+                Some(place) => Some(CommandNo::NoValue { place }),
+            },
+            EpochState::Running { .. } => Some(CommandNo::EpochRuns),
+        }
+    }
+
+    /// Why a round or a stop is refused beside the epoch: none runs.
+    fn running_refusal(&self, device: &DeviceSetup) -> Option<CommandNo>
+        ensures { result ≡ running_refusal device.now self.now.epoch }
+    {
+        match self.epoch {
+            EpochState::Idle => Some(CommandNo::NoEpoch),
+            EpochState::Running { .. } => None,
+        }
+    }
+
+    /// Why a command is refused because of the job: there is one.
+    pub(crate) fn busy(&self) -> Option<CommandNo>
+        ensures { result ≡ busy_by self.now.job }
+    {
+        match self.job {
+            None => None,
+            Some(_) => Some(CommandNo::Busy),
+        }
+    }
+
+    /// The job makes one attempt of one row over a link; with no job the address is idle. It gives the id that
+    /// its put used, or 0.
+    pub(crate) fn next<L: Link>(
+        &mut self,
+        addr: u8,
+        link: &mut L,
+        report: &mut ArrayVec<Entry, 8>,
+    ) -> u32
+        requires room { array_vec_len report.old ≤ 6 }
+        ensures attempts { Attempts L.gives link.old link.new addr self.old.job self.old.epoch self.old.dues
+            self.new result report.old.items report.new.items }
+        ensures holds { held_at self.new ≤ held_at self.old }
+        ensures puts { IfSome (due_by self.old.job) (λ r. held_at self.new < held_at self.old) }
+        ensures reserves { coins_by self.new.job ≤ coins_by self.old.job }
+    {
+        match self.job.take() {
+            None => {
+                report.push(Entry::Idle { addr });
+                0
+            }
+            Some(job) => self.attempt(job, addr, link, report),
+        }
+    }
+
+    /// A job that isn't done makes one attempt of its row, and gives the id that its put used, or 0.
+    fn attempt<L: Link>(
+        &mut self,
+        job: Job,
+        addr: u8,
+        link: &mut L,
+        report: &mut ArrayVec<Entry, 8>,
+    ) -> u32
+        requires running { is_running (Some job) ≡ true }
+        requires fits { FitsIn (Some job) }
+        requires room { array_vec_len report.old ≤ 6 }
+        ensures attempts { Attempts L.gives link.old link.new addr (Some job) self.old.epoch self.old.dues
+            self.new result report.old.items report.new.items }
+        ensures holds { held_at self.new ≤ held_by (Some job) (order_of self.old.dues.order) }
+        ensures puts { IfSome (due_by (Some job)) (λ r. held_at self.new
+            < held_by (Some job) (order_of self.old.dues.order)) }
+        ensures reserves { coins_by self.new.job ≤ coins_by (Some job) }
+    {
+        match job.needs() {
+            Need::Exchange => {
+                let job = converse(job, addr, link, report);
+                self.job = settled(job, addr, report);
+                self.dues.id = self.id_left();
+                0
+            }
+            Need::Put(entry) => {
+                self.epoch = epoch_by(&entry, self.epoch);
+                self.dues.order = job.order_after(self.dues.order);
+                let id = id_of(&entry);
+                report.push(Entry::Put(entry));
+                self.job = settled(job.was_put(), addr, report);
+                self.dues.id = self.id_left();
+                id
+            }
+            Need::Done(_) => unreachable!(),
+        }
+    }
+
+    /// How many records are held for this place: those that its job may still put, and one for an open order that no
+    /// job is at work to close.
+    fn held(&self) -> u32
+        ensures value { result ≡ held_at self.now }
+        ensures few { result ≤ 3 }
+    {
+        self.puts_left() + self.order_left()
+    }
+
+    /// How many records are held for the places of desks.
+    pub(crate) fn held_in(desks: &[JobDesk]) -> u32
+        requires { length desks.now ≤ DEVICES }
+        ensures value { result ≡ held_in desks.now }
+        ensures few { result ≤ 3 * length desks.now }
+    {
+        match desks {
+            [] => 0,
+            [desk, rest @ ..] => desk.held() + JobDesk::held_in(rest),
+        }
+    }
+
+    /// How many records the job may still put.
+    #[tactic(auto, using(crate::proofs::Held::few_left))]
+    fn puts_left(&self) -> u32
+        ensures value { result ≡ puts_left self.now.job }
+        ensures few { result ≤ 2 }
+    {
+        match &self.job {
+            Some(job) => job.may_put(),
+            None => 0,
+        }
+    }
+
+    /// One record for the open order that no job is at work to close, if there is one.
+    fn order_left(&self) -> u32
+        ensures value { result ≡ order_left self.now.job (order_of self.now.dues.order) }
+        ensures few { result ≤ 1 }
+    {
+        match (&self.dues.order, &self.job) {
+            (None, _) => 0,
+            (Some(_), None) => 1,
+            (Some(_), Some(job)) => u32::from(!job.closes_order()),
+        }
+    }
+
+    /// The record that the job is about to put, if it is about to put one.
+    pub(crate) fn due(&self) -> Option<Record>
+        ensures value { result ≡ due_by self.now.job }
+        ensures fits { IfSome result Encodable }
+    {
+        match &self.job {
+            Some(job) => put_in(job.needs()),
+            None => None,
+        }
+    }
+
+    /// How many coins the job reserves.
+    pub(crate) fn coins_reserved(&self) -> u8
+        ensures { result ≡ coins_by self.now.job }
+    {
+        match &self.job {
+            Some(job) => job.coins_reserved(),
+            None => 0,
+        }
+    }
+
+    /// The greatest id of the payments at work at desks.
+    pub(crate) fn greatest_paying(desks: &[JobDesk]) -> u32
+        ensures { result ≡ greatest_paying desks.now }
+    {
+        match desks {
+            [] => 0,
+            [desk, rest @ ..] => greater(desk.dues.id, JobDesk::greatest_paying(rest)),
+        }
+    }
+
+    /// The id of the payment that is still at work, or 0.
+    fn id_left(&self) -> u32
+        ensures { result ≡ id_left self.now.job self.now.dues.id }
+    {
+        match self.job {
+            None => 0,
+            Some(_) => self.dues.id,
+        }
+    }
+}
+
+/// The record that is needed to be put, if one is.
+fn put_in(need: Need) -> Option<Record>
+    ensures { result ≡ put_in need }
+{
+    match need {
+        Need::Put(entry) => Some(entry),
+        _ => None,
+    }
+}
+
+/// Whether a command halts a job, and begins none.
+fn is_halt(command: &Command) -> bool
+    ensures { result ≡ is_halt command.now }
+{
+    match command {
+        Command::Halt { .. } => true,
+        _ => false,
+    }
+}
+
+/// The id of the payment or the sale that a command begins, or 0.
+fn id_begun(command: &Command) -> u32
+    ensures { result ≡ running_id (works command.now []) }
+{
+    match *command {
+        Command::Pay { id, .. } => id,
+        Command::Vend { id, .. } => id,
+        _ => 0,
+    }
+}
+
+/// Why an id is refused: it isn't above the last one.
+fn id_refusal(id: u32, last: u32) -> Option<CommandNo>
+    ensures { result ≡ id_refusal id last }
+{
+    if id <= last {
+        Some(CommandNo::OldId { last })
+    } else {
+        None
+    }
+}
+
+/// The id that a record uses, of an order that it opens or of a sale; 0 of others.
+fn id_of(entry: &Record) -> u32
+    ensures { result ≡ id_of entry.now }
+{
+    match entry {
+        Record::Opened { id, .. } => *id,
+        Record::Sold { id, .. } => *id,
+        _ => 0,
+    }
+}
+
+/// The greater of two ids.
+pub(crate) fn greater(one: u32, other: u32) -> u32
+    ensures { result ≡ max one other }
+{
+    one.max(other)
+}
+
+/// The epoch after a record: it begins with event counter 0, a reading moves its counter, and a break or its end ends
+/// it.
+fn epoch_by(entry: &Record, before: EpochState) -> EpochState
+    ensures { result ≡ epoch_by entry.now before }
+{
+    match entry {
+        Record::Epoch { mask, .. } => EpochState::Running {
+            mask: *mask,
+            counter: 0,
+        },
+        Record::Reading { counter, .. } => counted(*counter, before),
+        Record::Broken { .. } => EpochState::Idle,
+        Record::EpochEnd { .. } => EpochState::Idle,
+        _ => before,
+    }
+}
+
+/// An epoch, where one runs, with another event counter.
+fn counted(counter: u8, before: EpochState) -> EpochState
+    ensures { result ≡ counted counter before }
+{
+    match before {
+        EpochState::Idle => EpochState::Idle,
+        EpochState::Running { mask, .. } => EpochState::Running { mask, counter },
+    }
+}

@@ -1,0 +1,123 @@
+-- What a job puts can be spelt in a journal.
+use Rattle.std.specs.Prelude.{⊤}
+use Rattle.std.proofs.Common.{◌≡◌, ℕ, ◌-◌, ◌<◌, ◌≤◌, ◌^◌, ◌==◌, ◌||◌, ◌&&◌, not, nat_le, Bool, true, false, cond, List, [], ◌∷◌, take, reverse, min, refl, sym, ap, subst, ◌∙◌, Option, Some, None, arith}
+use Rattle.std.specs.List.{All}
+use Rattle.std.proofs.lemmas.Bool.Decides.{nat_tests}
+use Rattle.std.proofs.lemmas.List.{reverse-append}
+use Rattle.std.proofs.lemmas.List.Elements.{All-append, All-cons, All-head, All-nil, All-tail}
+use Rattle.cct_model.specs.terms.coin.TheConstants.{EVENTS}
+use Rattle.cct_model.specs.terms.coin.Coin.{Coin}
+use Rattle.cct_model.specs.terms.coin.Pair.{Pair}
+use Rattle.cct_model.specs.terms.coin.Credits.{Credits}
+use Rattle.cct_model.specs.lines.record.Record.{Record}
+use Rattle.cct_model.specs.lines.record.Record.TheVariants as record_of
+use Rattle.cct_model.specs.declared.judging.Judged.{Judged}
+use Rattle.cct_model.specs.declared.judging.Judged.TheVariants.{Nothing, Reading, Broken}
+use Rattle.cct_model.specs.declared.judging.OpenOrder.{OpenOrder}
+use Rattle.cct_model.specs.Order.{close, life_between}
+use Rattle.cct_model.specs.Reading.{coins_among, distance, judge, posted_of, shows_break}
+use Rattle.cct_record.specs.Body.{Encodable, IsPlaced}
+use Rattle.cct_jobs.specs.declared.job.Job.{Job}
+use Rattle.cct_jobs.specs.declared.job.Job.TheVariants.{Asks, StartPuts, RoundPuts, StopPuts, StopEnds, OrderOpens, OrderCloses, Done}
+use Rattle.cct_jobs.specs.declared.job.Need.{Need}
+use Rattle.cct_jobs.specs.declared.job.Need.TheVariants as need
+use Rattle.cct_jobs.specs.declared.payout.Payout.{Payout}
+use Rattle.cct_jobs.specs.declared.stage.Stage.TheVariants.{Pays}
+use Rattle.cct_jobs.specs.Jobs.{IsPut, JudgedFits, PutsFit, after_halt, after_put, halts, need_of}
+
+-- the coins that a reading posts have a place
+
+coin_by : (none : Bool) (pair : Pair) (coins : List Coin) → (pair.a == 0) ≡ none → All IsPlaced coins
+    → All IsPlaced (cond none coins (record { place = pair.a; path = pair.b } ∷ coins))
+coin_by true pair coins is placed = placed
+coin_by false pair coins is placed = All-cons IsPlaced _ coins (grind (arith, nat_tests, is)) placed
+
+among_placed : (pairs : List Pair) → All IsPlaced (coins_among pairs)
+among_placed [] = All-nil IsPlaced
+among_placed (pair ∷ pairs) = coin_by (pair.a == 0) pair (coins_among pairs) refl (among_placed pairs)
+
+reversed_placed : (coins : List Coin) → All IsPlaced coins → All IsPlaced (reverse coins)
+reversed_placed [] placed = placed
+reversed_placed (coin ∷ coins) placed =
+    subst (All IsPlaced) (sym (reverse-append (coin ∷ []) coins))
+    (All-append IsPlaced (reverse coins) (coin ∷ [])
+    (reversed_placed coins (All-tail IsPlaced coin coins placed))
+    (All-cons IsPlaced coin [] (All-head IsPlaced coin coins placed) (All-nil IsPlaced)))
+
+posted_placed : (n : ℕ) (pairs : List Pair) → All IsPlaced (posted_of n pairs)
+posted_placed n pairs = reversed_placed (coins_among (take (min n EVENTS) pairs)) (among_placed (take (min n EVENTS) pairs))
+
+judged_by : (breaks none : Bool) (addr seen read lost : ℕ) (posted : List Coin) → All IsPlaced posted
+    → JudgedFits (cond breaks (Broken (record_of.Broken addr seen read posted))
+    (cond none Nothing (Reading (record_of.Reading addr read lost posted))))
+judged_by true none addr seen read lost posted placed = placed
+judged_by false true addr seen read lost posted placed = tt
+judged_by false false addr seen read lost posted placed = placed
+
+judge_fits : (addr mask counter : ℕ) (c : Credits) (seen : ℕ) → JudgedFits (judge addr mask counter c seen)
+unfolding judge
+judge_fits addr mask counter c seen =
+    judged_by (shows_break mask counter seen c.counter) (distance counter c.counter == 0) addr seen c.counter _ _
+    (posted_placed (distance counter c.counter) c.pairs)
+
+pub judged_fits : (addr mask counter : ℕ) (c : Credits) (seen : ℕ) (meaning : Judged)
+    → meaning ≡ judge addr mask counter c seen → JudgedFits meaning
+judged_fits addr mask counter c seen meaning is = subst JudgedFits (sym is) (judge_fits addr mask counter c seen)
+
+-- an order is closed with life counts of three bytes
+
+close_by : (paid : Bool) (o : OpenOrder) (n after : ℕ) → o.life < 2 ^ 24 → after < 2 ^ 24
+    → Encodable (cond paid (record_of.Closed o.id n (o.count - n)) (record_of.Odd o.id o.life after))
+close_by true o n after first second = tt
+close_by false o n after first second = (first, second)
+
+close_fits : (o : OpenOrder) (after : ℕ) → o.life < 2 ^ 24 → after < 2 ^ 24 → Encodable (close o after)
+unfolding close
+close_fits o after first second =
+    close_by (nat_le (life_between o.life after) o.count) o (life_between o.life after) after first second
+
+pub closed_fits : (o : OpenOrder) (after : ℕ) (r : Record) → o.life < 2 ^ 24 → after < 2 ^ 24 → r ≡ close o after
+    → Encodable r
+closed_fits o after r first second is = subst Encodable (sym is) (close_fits o after first second)
+
+-- what is needed to be put
+
+same_record : (r entry : Record) → need.Put r ≡ need.Put entry → r ≡ entry
+same_record r entry is = cc
+
+fits_by : (job : Job) (entry : Record) → need_of job ≡ need.Put entry → PutsFit job → Encodable entry
+fits_by (StartPuts target mask) entry is fits = subst Encodable (same_record _ entry is) tt
+fits_by (RoundPuts own end) entry is fits = subst Encodable (same_record own entry is) fits
+fits_by (StopPuts target own end) entry is fits = subst Encodable (same_record own entry is) fits
+fits_by (StopEnds target) entry is fits = subst Encodable (same_record _ entry is) tt
+fits_by (OrderOpens target own halted) entry is fits = subst Encodable (same_record _ entry is) own.fits
+fits_by (OrderCloses own end) entry is fits = subst Encodable (same_record own entry is) fits
+fits_by job entry is fits = absurd cc
+
+pub put_fits : (job : Job) (n : Need) (entry : Record) → n ≡ need_of job → PutsFit job → n ≡ need.Put entry
+    → Encodable entry
+put_fits job n entry is fits puts = fits_by job entry (sym is ∙ puts) fits
+
+-- after a put, and after a halt
+
+put_leaves_fit : (job : Job) → IsPut (need_of job) → PutsFit (after_put job)
+put_leaves_fit (StartPuts target mask) is = tt
+put_leaves_fit (RoundPuts entry end) is = tt
+put_leaves_fit (StopPuts target entry None) is = tt
+put_leaves_fit (StopPuts target entry (Some end)) is = tt
+put_leaves_fit (StopEnds target) is = tt
+put_leaves_fit (OrderOpens target own halted) is = tt
+put_leaves_fit (OrderCloses entry end) is = tt
+put_leaves_fit job is = absurd is
+
+pub after_put_fits : (job after : Job) → after ≡ after_put job → IsPut (need_of job) → PutsFit after
+after_put_fits job after goes is = subst PutsFit (sym goes) (put_leaves_fit job is)
+
+halted_fits : (job : Job) → halts job ≡ true → PutsFit (after_halt job)
+halted_fits (Asks target (Pays row) failed) can = tt
+halted_fits (Asks target stage failed) can = tt
+halted_fits (OrderOpens target own halted) can = tt
+halted_fits job can = absurd cc
+
+pub halt_fits : (job after : Job) → after ≡ after_halt job → halts job ≡ true → PutsFit after
+halt_fits job after goes can = subst PutsFit (sym goes) (halted_fits job can)
