@@ -1,6 +1,6 @@
 -- The last line of a run, and what its status says.
-use Rattle.std.proofs.Common.{◌≡◌, ℕ, List, [], ◌∷◌, ◌++◌, Option, None, Some, Result, Ok, Err, refl, sym, subst, inl}
-use Rattle.std.proofs.Common.{inr, arith}
+use Rattle.std.proofs.Common.{◌≡◌, ◌≢◌, ℕ, List, [], ◌∷◌, ◌++◌, Option, None, Some, Result, Ok, Err, refl}
+use Rattle.std.proofs.Common.{sym, ap, subst, inl, inr, arith}
 use Rattle.std.specs.Prelude.{IfSome}
 use Rattle.std.proofs.lemmas.List.{append-nil}
 use Rattle.cct_edge.specs.declared.fault.Failed.{Failed}
@@ -9,15 +9,20 @@ use Rattle.cct_model.specs.lines.command.Step.{Step}
 use Rattle.cct_model.specs.lines.entry.Entry.{Entry}
 use Rattle.cct_model.specs.Legal.{Legal}
 use Rattle.cct_model.specs.lines.entry.Entry.TheVariants as entry
-use Rattle.cct_model.specs.lines.entry.LineKind.{LineKind}
 use Rattle.cct_model.specs.Script.{script, Refusal}
-use Rattle.cct_laws.proofs.Scripts.{played_in_order, played_covers, played_paid}
+use Rattle.cct_model.specs.Transcript.{onto}
+use Rattle.cct_laws.proofs.Scripts.{played_in_order, played_covers, played_paid, front_of_today}
+use Rattle.cct_journal.specs.Image.{IsBlank, IsFirstByteFrom}
 use Rattle.cct_bench.specs.declared.outcome.Status.{Status}
 use Rattle.cct_bench.specs.declared.outcome.Status.TheVariants as status
 use Rattle.cct_bench.specs.declared.play.Ending.{Ending}
 use Rattle.cct_bench.specs.declared.play.Ending.TheVariants as ending
+use Rattle.cct_bench.specs.declared.play.TheConstants.{JOURNAL_BYTES}
+use Rattle.cct_bench.specs.Disks.{Disks, crashes, most_records}
 use Rattle.cct_bench.specs.Writing.{Writes, Wrote, Broke}
-use Rattle.cct_bench.specs.Run.{Ends, BreaksOff, Ran, Played, status_by, Completes}
+use Rattle.cct_bench.specs.Run.{Book, Closes, Ends, BreaksOff, Over, Ran, Played, last_entry, listed, status_by}
+use Rattle.cct_bench.specs.Run.{status_of, Completes}
+use Rattle.cct_bench.proofs.Powered.{legal_quiet}
 use Rattle.cct_bench.proofs.Writing.{writes_then}
 
 -- what holds where an object tells, also holds by a weaker fact
@@ -27,54 +32,49 @@ some_weaker P Q None f h = tt
 some_weaker P Q (Some bytes) f h = f bytes h
 
 -- a run by its status, from what was played
-ran_by : (bytes : List ℕ) (how : Ending) (s : Status) (left : Option (List ℕ)) (Before Written : List Entry → Type 0)
-    (Broken Breaks : List Entry → List Entry → Type 0) →
-    (p : Played bytes how left Before Broken) → Ends s bytes p.taken p.played p.unplayed p.transcript Written Breaks
-    → Ran bytes s left Written Breaks
-ran_by bytes how s left Before Written Broken Breaks p e =
+ran_by : (bytes : List ℕ) (how : Ending) (s : Status) (tail : List Entry) (left : Option (List ℕ)) (disks : Disks)
+    (Before Written : List Entry → Type 0) (Broken Breaks : List Entry → List Entry → Type 0)
+    → disks.cuts_after ≡ disks.cuts → (p : Played bytes how left Before Broken (Over disks))
+    → Ends disks bytes p.taken p.played p.unplayed p.transcript s tail Written Breaks
+    → (disks.trusted → p.taken ≢ [] → Book disks bytes p.taken p.played p.unplayed p.transcript tail)
+    → Ran bytes s left Written Breaks disks
+ran_by bytes how s tail left disks Before Written Broken Breaks uncut p ends book =
+    let quiet : crashes (onto [] p.transcript) ≡ 0 =
+    legal_quiet most_records (script bytes).setup p.played p.transcript
+    (front_of_today bytes p.played p.unplayed p.steps_are).played p.legal in
     record {
       taken = p.taken;
       rest = p.rest;
       played = p.played;
       unplayed = p.unplayed;
       transcript = p.transcript;
+      tail = tail;
       took = p.took;
       left_is = p.left_is;
       steps_are = p.steps_are;
       legal = p.legal;
       in_order = λ d own honest.
-          played_in_order None bytes p.played p.unplayed p.transcript d p.steps_are p.legal honest own;
+          played_in_order most_records bytes p.played p.unplayed p.transcript d p.steps_are p.legal honest own;
       covers = λ d own honest.
-          played_covers None bytes p.played p.unplayed p.transcript d p.steps_are p.legal honest own;
+          played_covers most_records bytes p.played p.unplayed p.transcript d p.steps_are p.legal honest own;
       paid = λ d own paying honest.
-          played_paid None bytes p.played p.unplayed p.transcript d p.steps_are p.legal honest own paying;
-      ends = e;
+          played_paid most_records bytes p.played p.unplayed p.transcript d p.steps_are p.legal honest own paying;
+      ends = ends;
+      book = book;
+      cuts = omega (arith, quiet, uncut);
     }
 
-pub ran_done : (bytes : List ℕ) (left : Option (List ℕ)) (Written : List Entry → Type 0)
-    (Breaks : List Entry → List Entry → Type 0) →
-    Played bytes ending.Done left Written Breaks → Ran bytes status.Done left Written Breaks
-ran_done bytes left Written Breaks p =
-    ran_by bytes ending.Done status.Done left Written Written Breaks Breaks p
-    ([], p.stops.0, subst Written (sym (append-nil p.transcript)) p.stops.1)
-
-pub ran_broke : (bytes : List ℕ) (left : Option (List ℕ)) (Written : List Entry → Type 0)
-    (Breaks : List Entry → List Entry → Type 0) →
-    Played bytes ending.Unwritten left Written Breaks → Ran bytes status.WriteFault left Written Breaks
-ran_broke bytes left Written Breaks p =
-    ran_by bytes ending.Unwritten status.WriteFault left Written Written Breaks Breaks p ([], inl refl, p.stops)
-
-pub ran_none : (bytes : List ℕ) (left : Option (List ℕ)) (Written : List Entry → Type 0)
-    (Breaks : List Entry → List Entry → Type 0) →
-    Played bytes ending.NoMemory left Written Breaks → Ran bytes status.OutOfMemory left Written Breaks
-ran_none bytes left Written Breaks p =
-    ran_by bytes ending.NoMemory status.OutOfMemory left Written Written Breaks Breaks p p.stops
+-- a last line was written whole, or broke off
+abbrev pub LastLine : (List Entry → Type 0) → (List Entry → Type 0) → (List Entry → List Entry → Type 0) → List Entry
+    → Result (Unit {0}) Failed → Type 0
+LastLine Before Written Breaks tail (Ok done) = (xs : List Entry) → Before xs → Written (xs ++ tail)
+LastLine Before Written Breaks tail (Err failed) = (xs : List Entry) → Before xs → Breaks xs tail
 
 -- the sink failed within the last line
-breaks_last : (setup : Setup) (played : List Step) (transcript : List Entry) (e : Entry)
-    (Breaks : List Entry → List Entry → Type 0) →
-    Legal None setup played transcript → Breaks transcript (e ∷ []) → BreaksOff setup played transcript (e ∷ []) Breaks
-breaks_last setup played transcript e Breaks legal breaks = record {
+breaks_last : (setup : Setup) (played : List Step) (transcript tail : List Entry)
+    (Breaks : List Entry → List Entry → Type 0) → Legal most_records setup played transcript → Breaks transcript tail
+    → BreaksOff setup played transcript tail Breaks
+breaks_last setup played transcript tail Breaks legal breaks = record {
   before = played;
   last = [];
   whole = transcript;
@@ -88,81 +88,170 @@ breaks_last setup played transcript e Breaks legal breaks = record {
   breaks = breaks;
 }
 
--- a last line was written whole, or broke off
-abbrev pub LastLine : (List Entry → Type 0) → (List Entry → Type 0) → (List Entry → List Entry → Type 0) → Entry
-    → Result (Unit {0}) Failed → Type 0
-LastLine Before Written Breaks e (Ok done) = (xs : List Entry) → Before xs → Written (xs ++ e ∷ [])
-LastLine Before Written Breaks e (Err failed) = (xs : List Entry) → Before xs → Breaks xs (e ∷ [])
+-- what a status with a last line says, where that was written whole
+abbrev HasLine : Status → Type 0
+HasLine status.WriteFault = ⊥
+HasLine status.OutOfMemory = ⊥
+HasLine s = Unit
 
--- a run that ends by a refused line
-pub ran_refused : (bytes : List ℕ) (number : ℕ) (why : LineKind) (answer : Result (Unit {0}) Failed)
-    (left : Option (List ℕ)) (Before Written : List Entry → Type 0) (Broken Breaks : List Entry → List Entry → Type 0) →
-    LastLine Before Written Breaks (entry.Line number why) answer
-    → Played bytes (ending.Refused number why) left Before Broken →
-    Ran bytes (status_by answer status.ScriptRefused) left Written Breaks
-ran_refused bytes number why (Ok done) left Before Written Broken Breaks line p =
-    ran_by bytes (ending.Refused number why) status.ScriptRefused left Before Written Broken Breaks p
-    (entry.Line number why ∷ [], p.stops.0, line p.transcript p.stops.1)
-ran_refused bytes number why (Err failed) left Before Written Broken Breaks line p =
-    let e : Entry = entry.Line number why in
-    ran_by bytes (ending.Refused number why) status.WriteFault left Before Written Broken Breaks p (
-      e ∷ [],
-      inr (status.ScriptRefused, p.stops.0),
-      breaks_last (script bytes).setup p.played p.transcript e Breaks
-          p.legal (line p.transcript p.stops.1),
-    )
+module _ (disks : Disks) (bytes taken : List ℕ) (played unplayed : List Step) (transcript : List Entry)
+    (Written : List Entry → Type 0) (Breaks : List Entry → List Entry → Type 0) where
+  ends_whole : (s : Status) (tail : List Entry) → HasLine s → Closes disks bytes taken played unplayed transcript s tail
+      → Written (transcript ++ tail) → Ends disks bytes taken played unplayed transcript s tail Written Breaks
+  ends_whole status.WriteFault tail has closes wrote = absurd has
+  ends_whole status.OutOfMemory tail has closes wrote = absurd has
+  ends_whole s tail has closes wrote = (closes, wrote)
 
--- a run that ends by a fault in reading
-pub ran_unread : (bytes : List ℕ) (answer : Result (Unit {0}) Failed) (left : Option (List ℕ))
-    (Before Written : List Entry → Type 0) (Broken Breaks : List Entry → List Entry → Type 0) →
-    LastLine Before Written Breaks entry.ReadFault answer → Played bytes ending.Unread left Before Broken →
-    Ran bytes (status_by answer status.ReadFault) left Written Breaks
-ran_unread bytes (Ok done) left Before Written Broken Breaks line p =
-    ran_by bytes ending.Unread status.ReadFault left Before Written Broken Breaks p
-    (entry.ReadFault ∷ [], p.stops.0, line p.transcript p.stops.1)
-ran_unread bytes (Err failed) left Before Written Broken Breaks line p =
-    let e : Entry = entry.ReadFault in
-    ran_by bytes ending.Unread status.WriteFault left Before Written Broken Breaks p (
-      e ∷ [],
-      inr (status.ReadFault, p.stops.0),
-      breaks_last (script bytes).setup p.played p.transcript e Breaks p.legal
-          (line p.transcript p.stops.1),
-    )
+-- a run whose last line was put
+ran_last : (bytes : List ℕ) (how : Ending) (s : Status) (tail : List Entry) (answer : Result (Unit {0}) Failed)
+    (left : Option (List ℕ)) (disks : Disks) (Before Written : List Entry → Type 0)
+    (Broken Breaks : List Entry → List Entry → Type 0) → HasLine s → disks.cuts_after ≡ disks.cuts
+    → LastLine Before Written Breaks tail answer
+    → (p : Played bytes how left Before Broken (Over disks)) → Before p.transcript
+    → Closes disks bytes p.taken p.played p.unplayed p.transcript s tail
+    → (disks.trusted → p.taken ≢ [] → Book disks bytes p.taken p.played p.unplayed p.transcript tail)
+    → Ran bytes (status_by answer s) left Written Breaks disks
+ran_last bytes how s tail (Ok done) left disks Before Written Broken Breaks has uncut line p wrote closes book =
+    ran_by bytes how s tail left disks Before Written Broken Breaks uncut p
+    (ends_whole disks bytes p.taken p.played p.unplayed p.transcript Written Breaks s tail has closes
+    (line p.transcript wrote)) book
+ran_last bytes how s tail (Err failed) left disks Before Written Broken Breaks has uncut line p wrote closes book =
+    ran_by bytes how status.WriteFault tail left disks Before Written Broken Breaks uncut p (
+      inr (s, closes),
+      breaks_last (script bytes).setup p.played p.transcript tail Breaks p.legal (line p.transcript wrote),
+    ) book
 
--- what was written before, and then one entry more
-pub last_line : {K : Type 0} (written : K → Option (List ℕ)) (puts : K → List ℕ → Result (Unit {0}) Failed → K → Type 0)
-    (a b c : K) (e : Entry) (answer : Result (Unit {0}) Failed) →
-    Writes written puts b (e ∷ []) answer c
-    → LastLine (Wrote written puts a b) (Wrote written puts a c) (Broke written puts a c) e answer
-last_line written puts a b c e (Ok tt) h = λ xs before. writes_then written puts a b c xs (e ∷ []) (Ok tt) before h
-last_line written puts a b c e (Err failed) h = λ xs before. (b, failed, before, h)
+-- the record that was being put, where the disk failed
+torn_book : (disks : Disks) (bytes taken : List ℕ) (played unplayed : List Step) (transcript : List Entry)
+    → Over disks ending.DiskFailed (script bytes).setup taken played unplayed (onto [] transcript) → disks.trusted
+    → taken ≢ [] → Book disks bytes taken played unplayed transcript (entry.DiskFault ∷ [])
+torn_book disks bytes taken played unplayed transcript (sized, inl none) trusted some = absurd (some none.0)
+torn_book disks bytes taken played unplayed transcript (sized, inr torn) trusted some =
+    (torn.0, torn.1, torn.3 trusted)
+
+torn_closes : (disks : Disks) (bytes taken : List ℕ) (played unplayed : List Step) (transcript : List Entry)
+    → Over disks ending.DiskFailed (script bytes).setup taken played unplayed (onto [] transcript)
+    → Closes disks bytes taken played unplayed transcript status.DiskFault (entry.DiskFault ∷ [])
+torn_closes disks bytes taken played unplayed transcript (sized, inl none) = (sized, refl, inl none)
+torn_closes disks bytes taken played unplayed transcript (sized, inr torn) =
+    (sized, refl, inr (torn.0, torn.1, torn.2))
+
+breaks_by : (setup : Setup) (played : List Step) (transcript tail : List Entry)
+    (Broken Breaks : List Entry → List Entry → Type 0) → ((xs ys : List Entry) → Broken xs ys → Breaks xs ys)
+    → BreaksOff setup played transcript tail Broken → BreaksOff setup played transcript tail Breaks
+breaks_by setup played transcript tail Broken Breaks b h = record {
+  before = h.before;
+  last = h.last;
+  whole = h.whole;
+  cut = h.cut;
+  steps_are = h.steps_are;
+  one_step = h.one_step;
+  transcript_is = h.transcript_is;
+  legal = h.legal;
+  goes_on = h.goes_on;
+  in_one = h.in_one;
+  breaks = b h.whole (h.cut ++ tail) h.breaks;
+}
+
+-- a run by how its steps came to their end, where its last line is put in this way
+ran_ends : (bytes : List ℕ) (how : Ending) (answer : Result (Unit {0}) Failed) (left : Option (List ℕ)) (disks : Disks)
+    (Before Written : List Entry → Type 0) (Broken Breaks : List Entry → List Entry → Type 0)
+    → disks.cuts_after ≡ disks.cuts → LastLine Before Written Breaks (listed (last_entry how)) answer
+    → ((xs ys : List Entry) → last_entry how ≡ None → Broken xs ys → Breaks xs ys)
+    → ((failed : Failed) → answer ≡ Err failed → last_entry how ≡ None → ⊥)
+    → Played bytes how left Before Broken (Over disks)
+    → Ran bytes (status_by answer (status_of how)) left Written Breaks disks
+ran_ends bytes ending.Done answer left disks Before Written Broken Breaks uncut line broke fails p =
+    ran_last bytes ending.Done status.Done [] answer left disks Before Written Broken Breaks tt uncut line p p.stops.2
+    (p.stops.0, p.stops.1, refl, p.beside.0) (λ trusted some. p.beside.1 trusted)
+ran_ends bytes (ending.Refused number why) answer left disks Before Written Broken Breaks uncut line broke fails p =
+    ran_last bytes (ending.Refused number why) status.ScriptRefused (entry.Line number why ∷ []) answer left disks
+    Before Written Broken Breaks tt uncut line p p.stops.2
+    (record { number = number; why = why }, p.stops.0, p.stops.1, refl, p.beside.0) (λ trusted some. p.beside.1 trusted)
+ran_ends bytes ending.Unread answer left disks Before Written Broken Breaks uncut line broke fails p =
+    ran_last bytes ending.Unread status.ReadFault (entry.ReadFault ∷ []) answer left disks Before Written Broken Breaks
+    tt uncut line p p.stops.1 (p.stops.0, refl, p.beside.0) (λ trusted some. p.beside.1 trusted)
+ran_ends bytes ending.Unwritten (Ok done) left disks Before Written Broken Breaks uncut line broke fails p =
+    ran_by bytes ending.Unwritten status.WriteFault [] left disks Before Written Broken Breaks uncut p (
+      inl (refl, p.beside.0),
+      breaks_by (script bytes).setup p.played p.transcript [] Broken Breaks (λ xs ys b. broke xs ys refl b) p.stops,
+    ) (λ trusted some. p.beside.1 trusted)
+ran_ends bytes ending.Unwritten (Err failed) left disks Before Written Broken Breaks uncut line broke fails p =
+    absurd (fails failed refl refl)
+ran_ends bytes ending.NoMemory (Ok done) left disks Before Written Broken Breaks uncut line broke fails p =
+    ran_by bytes ending.NoMemory status.OutOfMemory [] left disks Before Written Broken Breaks uncut p
+    (p.stops.0, refl, line [] p.stops.1) (λ trusted some. p.beside trusted)
+ran_ends bytes ending.NoMemory (Err failed) left disks Before Written Broken Breaks uncut line broke fails p =
+    absurd (fails failed refl refl)
+ran_ends bytes ending.DiskFailed answer left disks Before Written Broken Breaks uncut line broke fails p =
+    ran_last bytes ending.DiskFailed status.DiskFault (entry.DiskFault ∷ []) answer left disks Before Written Broken
+    Breaks tt uncut line p p.stops (torn_closes disks bytes p.taken p.played p.unplayed p.transcript p.beside)
+    (torn_book disks bytes p.taken p.played p.unplayed p.transcript p.beside)
+ran_ends bytes (ending.NotBlank at) answer left disks Before Written Broken Breaks uncut line broke fails p =
+    ran_last bytes (ending.NotBlank at) status.NotBlank (entry.NotBlank at ∷ []) answer left disks Before Written Broken
+    Breaks tt uncut line p p.stops (at, p.beside.0, refl, p.beside.1, p.beside.2)
+    (λ trusted some. absurd (some p.beside.1.0))
+ran_ends bytes (ending.OtherSize len) answer left disks Before Written Broken Breaks uncut line broke fails p =
+    ran_last bytes (ending.OtherSize len) status.DiskSize (entry.DiskSize len ∷ []) answer left disks Before Written
+    Broken Breaks tt uncut line p p.stops (p.beside.0, ap (λ n. entry.DiskSize n ∷ []) p.beside.2, p.beside.1)
+    (λ trusted some. absurd (some p.beside.1.0))
+
+-- what was written before, and then the last line
+module _ {K : Type 0} (written : K → Option (List ℕ)) (puts : K → List ℕ → Result (Unit {0}) Failed → K → Type 0) where
+  last_line : (a b c : K) (tail : List Entry) (answer : Result (Unit {0}) Failed) → Writes written puts b tail answer c
+      → LastLine (Wrote written puts a b) (Wrote written puts a c) (Broke written puts a c) tail answer
+  last_line a b c tail (Ok done) h = λ xs before. writes_then written puts a b c xs tail (Ok done) before h
+  last_line a b c tail (Err failed) h = λ xs before. (b, failed, before, h)
+
+  -- with no last line nothing more was put
+  no_line : (b c : K) (last : Option Entry) (answer : Result (Unit {0}) Failed) → last ≡ None
+      → Writes written puts b (listed last) answer c → (answer ≡ Ok tt) × (c ≡ b)
+  no_line b c None answer is h = h.put
+  no_line b c (Some e) answer is h = cc is
+
+  pub ran_written : (a b c : K) (bytes : List ℕ) (how : Ending) (s : Status) (answer : Result (Unit {0}) Failed)
+      (left : Option (List ℕ)) (disks : Disks) → disks.cuts_after ≡ disks.cuts
+      → Writes written puts b (listed (last_entry how)) answer c → s ≡ status_by answer (status_of how)
+      → Played bytes how left (Wrote written puts a b) (Broke written puts a b) (Over disks)
+      → Ran bytes s left (Wrote written puts a c) (Broke written puts a c) disks
+  ran_written a b c bytes how s answer left disks uncut h is p =
+      subst (λ s. Ran bytes s left (Wrote written puts a c) (Broke written puts a c) disks) (sym is)
+      (ran_ends bytes how answer left disks (Wrote written puts a b) (Wrote written puts a c) (Broke written puts a b)
+      (Broke written puts a c) uncut (last_line a b c (listed (last_entry how)) answer h)
+      (λ xs ys none broke. subst (λ k. Broke written puts a k xs ys)
+      (sym (no_line b c (last_entry how) answer none h).1) broke)
+      (λ failed err none. cc (err, (no_line b c (last_entry how) answer none h).0)) p)
 
 -- a run that had no memory for its buffers
-at_once : (bytes : List ℕ) (Written : List Entry → Type 0) (Breaks : List Entry → List Entry → Type 0) → Written []
-    → Ran bytes status.OutOfMemory (Some bytes) Written Breaks
-at_once bytes Written Breaks wrote =
-    let legal : Legal None (script bytes).setup [] [] = refl in
+at_once : (bytes : List ℕ) (Written : List Entry → Type 0) (Breaks : List Entry → List Entry → Type 0) (disks : Disks)
+    → disks.cuts_after ≡ disks.cuts → Written [] → Ran bytes status.OutOfMemory (Some bytes) Written Breaks disks
+at_once bytes Written Breaks disks uncut wrote =
+    let legal : Legal most_records (script bytes).setup [] [] = refl in
     record {
       taken = [];
       rest = bytes;
       played = [];
       unplayed = (script bytes).steps;
       transcript = [];
+      tail = [];
       took = refl;
       left_is = refl;
       steps_are = refl;
       legal = legal;
-      in_order = λ d own honest. played_in_order None bytes [] (script bytes).steps [] d refl legal honest own;
-      covers = λ d own honest. played_covers None bytes [] (script bytes).steps [] d refl legal honest own;
-      paid = λ d own paying honest. played_paid None bytes [] (script bytes).steps [] d refl legal honest own paying;
-      ends = (refl, wrote);
+      in_order = λ d own honest. played_in_order most_records bytes [] (script bytes).steps [] d refl legal honest own;
+      covers = λ d own honest. played_covers most_records bytes [] (script bytes).steps [] d refl legal honest own;
+      paid = λ d own paying honest.
+          played_paid most_records bytes [] (script bytes).steps [] d refl legal honest own paying;
+      ends = (refl, refl, wrote);
+      book = λ trusted some. absurd (some refl);
+      cuts = omega (arith, uncut);
     }
 
 pub no_memory : (left : Option (List ℕ)) (Written : List Entry → Type 0) (Breaks : List Entry → List Entry → Type 0)
-    → Written [] →
-    IfSome left (λ bytes. Ran bytes status.OutOfMemory left Written Breaks)
-no_memory None Written Breaks wrote = tt
-no_memory (Some bytes) Written Breaks wrote = at_once bytes Written Breaks wrote
+    (disks : Disks) → disks.cuts_after ≡ disks.cuts → Written []
+    → IfSome left (λ bytes. Ran bytes status.OutOfMemory left Written Breaks disks)
+no_memory None Written Breaks disks uncut wrote = tt
+no_memory (Some bytes) Written Breaks disks uncut wrote = at_once bytes Written Breaks disks uncut wrote
 
 completes_none : (refused : Option Refusal) → refused ≡ None → Completes refused status.Done
 completes_none None e = inl refl
@@ -177,15 +266,38 @@ completes_memory : (refused : Option Refusal) → Completes refused status.OutOf
 completes_memory None = inr refl
 completes_memory (Some line) = inr refl
 
--- with no fault a run's status is as the script says
+-- a blank disk has no byte that isn't 0
+blank_first : (image : List ℕ) (at : ℕ) → IsBlank image → IsFirstByteFrom 0 image at → ⊥
+blank_first image at blank first = first.not_zero (blank at first.behind first.is_there)
+
+-- with no fault on a blank disk a run's status is as the script says
 pub ran_completes : (bytes : List ℕ) (s : Status) (left : Option (List ℕ)) (Written : List Entry → Type 0)
-    (Breaks : List Entry → List Entry → Type 0) → (s ≡ status.ReadFault → ⊥) → (s ≡ status.WriteFault → ⊥)
-    → Ran bytes s left Written Breaks →
-    Completes (script bytes).refused s
-ran_completes bytes status.Done left Written Breaks r w h = completes_none (script bytes).refused h.ends.1.1
-ran_completes bytes status.ScriptRefused left Written Breaks r w h =
-    completes_some (script bytes).refused h.ends.1.0 h.ends.1.2
-ran_completes bytes status.WordsRefused left Written Breaks r w h = absurd h.ends.1
-ran_completes bytes status.ReadFault left Written Breaks r w h = absurd (r refl)
-ran_completes bytes status.WriteFault left Written Breaks r w h = absurd (w refl)
-ran_completes bytes status.OutOfMemory left Written Breaks r w h = completes_memory (script bytes).refused
+    (Breaks : List Entry → List Entry → Type 0) (disks : Disks) (image : List ℕ) → disks.seen ≡ Some image
+    → disks.size ≡ JOURNAL_BYTES → IsBlank image → (s ≡ status.ReadFault → ⊥) → (s ≡ status.WriteFault → ⊥)
+    → (s ≡ status.DiskFault → ⊥) → Ran bytes s left Written Breaks disks → Completes (script bytes).refused s
+ran_completes bytes status.Done left Written Breaks disks image told sized blank r w d h =
+    completes_none (script bytes).refused h.ends.0.1
+ran_completes bytes status.ScriptRefused left Written Breaks disks image told sized blank r w d h =
+    completes_some (script bytes).refused h.ends.0.0 h.ends.0.2
+ran_completes bytes status.WordsRefused left Written Breaks disks image told sized blank r w d h = absurd h.ends.0
+ran_completes bytes status.ReadFault left Written Breaks disks image told sized blank r w d h = absurd (r refl)
+ran_completes bytes status.WriteFault left Written Breaks disks image told sized blank r w d h = absurd (w refl)
+ran_completes bytes status.DiskFault left Written Breaks disks image told sized blank r w d h = absurd (d refl)
+ran_completes bytes status.NotBlank left Written Breaks disks image told sized blank r w d h =
+    absurd (blank_first image h.ends.0.0 blank (h.ends.0.4 image told))
+ran_completes bytes status.DiskSize left Written Breaks disks image told sized blank r w d h =
+    absurd (h.ends.0.0 sized)
+ran_completes bytes status.OutOfMemory left Written Breaks disks image told sized blank r w d h =
+    completes_memory (script bytes).refused
+
+-- with a told disk, and a cause for each fault
+pub told_completes : (bytes : List ℕ) (s : Status) (left : Option (List ℕ)) (Written : List Entry → Type 0)
+    (Breaks : List Entry → List Entry → Type 0) (disks : Disks) (Read Write Disk : Type 0) (seen : Option (List ℕ))
+    → disks.seen ≡ seen → (s ≡ status.ReadFault → Read) → (s ≡ status.WriteFault → Write)
+    → (s ≡ status.DiskFault → Disk) → Ran bytes s left Written Breaks disks
+    → IfSome seen (λ image. disks.size ≡ JOURNAL_BYTES → IsBlank image → (Read → ⊥) → (Write → ⊥) → (Disk → ⊥)
+    → Completes (script bytes).refused s)
+told_completes bytes s left Written Breaks disks Read Write Disk None told read write disk ran = tt
+told_completes bytes s left Written Breaks disks Read Write Disk (Some image) told read write disk ran =
+    λ sized blank r w d. ran_completes bytes s left Written Breaks disks image told sized blank (λ is. r (read is))
+    (λ is. w (write is)) (λ is. d (disk is)) ran

@@ -22,7 +22,9 @@ use Rattle.cct_script.specs.declared.lines.LinesNo.TheVariants as no
 use Rattle.cct_bench.specs.declared.lines.ScriptStop.{ScriptStop}
 use Rattle.cct_bench.specs.declared.lines.ScriptStop.TheVariants as stop
 use Rattle.cct_bench.specs.SetupLines.{OpensLine}
-use Rattle.cct_bench.specs.Lines.{said_from, IsNext, before_end, behind_end, ScriptGoesOn, IsClosed, StopsAt, Came}
+use Rattle.cct_bench.specs.Lines.{said_from, IsNext, before_end, behind_end, ScriptGoesOn, IsClosed, StopsAt, EndsAt}
+use Rattle.cct_bench.specs.Lines.{Came}
+use Rattle.cct_bench.specs.Run.{ending_at}
 
 -- a whole line, and more lines behind it
 whole_line : (number : ℕ) (stage : Stage) (line : List ℕ) (lines : List (List ℕ)) → Begins lines →
@@ -355,3 +357,9 @@ pub answer_ends : (old new : Standing) (left_before left : Option (List ℕ)) (a
 answer_ends old new left_before left answer number setup end gives is =
     subst (Ends old left_before left number setup) is
     (reads_behind_end old new left_before left answer number setup gives)
+
+-- a script that stops behind its line `end`
+pub stops_end : (number : ℕ) (setup : Setup) (why : ScriptStop) (left : Option (List ℕ)) (held : List ℕ)
+    → StopsAt number (at_end setup) why left held → EndsAt number setup (ending_at number why) left held
+stops_end number setup stop.Unread left held stops = stops
+stops_end number setup (stop.Refused why) left held stops = (refl, stops)

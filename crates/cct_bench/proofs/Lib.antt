@@ -4,6 +4,9 @@ pub mod Reading
 pub mod Staying
 pub mod SetupLines
 pub mod Writing
+pub mod Suiting
+pub mod Powered
+pub mod Keeping
 pub mod Going
 pub mod Closing
 pub mod Words

@@ -126,6 +126,7 @@ of_today (step.Reset addr) e today = (tt, refl)
 of_today (step.Fault f) e today = (today.0, refl)
 of_today (step.Next addr) e today = (tt, refl)
 of_today (step.Command c) e today = (today.1, today.0)
+of_today step.Balance e today = (tt, refl)
 of_today step.End e today = cc e
 of_today s e today = absurd today
 

@@ -1,11 +1,12 @@
 -- What a run keeps from line to line.
-use Rattle.std.specs.Prelude.{◌≡◌, ℕ, List, [], ◌++◌, Option, None, ⊤}
+use Rattle.std.specs.Prelude.{◌≡◌, ℕ, List, [], ◌++◌, Option}
 use Rattle.std.specs.Io.KnownBytes.{Consumes}
 use Rattle.cct_model.specs.lines.command.Step.{Step}
 use Rattle.cct_model.specs.lines.entry.Entry.{Entry}
 use Rattle.cct_model.specs.Legal.{Legal}
 use Rattle.cct_model.specs.Script.{Stage, Script, script}
 use Rattle.cct_model.specs.Transcript.{onto}
+use Rattle.cct_bench.specs.Disks.{most_records}
 use Rattle.cct_bench.specs.Lines.{said_from}
 
 -- A script says these steps, and then what the rest says.
@@ -23,10 +24,6 @@ pub record Going (left0 left : Option (List ℕ)) (held : List ℕ) (number : �
   pub transcript : List Entry
   pub consumed : Consumes left0 left taken
   pub says : (more : List ℕ) → AlsoSays (script (taken ++ more)) played (said_from number stage (held ++ more))
-  pub legal : (more : List ℕ) → Legal None (script (taken ++ more)).setup played transcript
+  pub legal : (more : List ℕ) → Legal most_records (script (taken ++ more)).setup played transcript
   pub stands : Stands (onto [] transcript)
   pub wrote : Written transcript
-
--- Whatever was played.
-abbrev pub IsAnything : List Entry → Type 0
-IsAnything past = ⊤

@@ -3,6 +3,7 @@ pub mod Lines
 pub mod Setup
 pub mod SetupLines
 pub mod Writing
+pub mod Disks
 pub mod Going
 pub mod Playing
 pub mod Run

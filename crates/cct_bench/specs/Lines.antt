@@ -4,14 +4,18 @@ use Rattle.std.specs.Borrow.{Bor}
 use Rattle.std.specs.List.{slice_split, position}
 use Rattle.std.specs.Io.KnownBytes.{Consumes}
 use Rattle.cct_model.specs.lines.entry.LineKind.{LineKind}
+use Rattle.cct_model.specs.terms.device.Setup.{Setup}
 use Rattle.cct_model.specs.lines.entry.LineKind.TheVariants as kind
-use Rattle.cct_model.specs.Script.{is_line_feed, Stage, setup_at, Read, stage_after, goes_on, Script, script_from}
+use Rattle.cct_model.specs.Script.{is_line_feed, Stage, setup_at, at_end, Read, stage_after, goes_on, Script}
+use Rattle.cct_model.specs.Script.{script_from}
 use Rattle.cct_model.specs.Script.{closed_script}
 use Rattle.cct_script.specs.declared.lines.LinesNo.{LinesNo}
 use Rattle.cct_script.specs.declared.lines.LinesNo.TheVariants as no
 use Rattle.cct_script.specs.Giving.{Standing}
 use Rattle.cct_bench.specs.declared.lines.ScriptStop.{ScriptStop}
 use Rattle.cct_bench.specs.declared.lines.ScriptStop.TheVariants as stop
+use Rattle.cct_bench.specs.declared.play.Ending.{Ending}
+use Rattle.cct_bench.specs.declared.play.Ending.TheVariants as ending
 
 -- What the lines from this number on say.
 abbrev pub said_from : ℕ → Stage → List ℕ → Script
@@ -56,6 +60,15 @@ IsClosed number stage why left held =
 abbrev pub StopsAt : ℕ → Stage → ScriptStop → Option (List ℕ) → List ℕ → Type 0
 StopsAt number stage stop.Unread left held = position is_line_feed held ≡ None
 StopsAt number stage (stop.Refused why) left held = IsClosed number stage (Some why) left held
+
+-- How the steps of a script end behind its line `end`, where the next line has this number: nothing follows, or it is
+-- read no further.
+abbrev pub EndsAt : ℕ → Setup → Ending → Option (List ℕ) → List ℕ → Type 0
+EndsAt number setup ending.Done left held = IsClosed number (at_end setup) None left held
+EndsAt number setup (ending.Refused line why) left held =
+    (line ≡ number) × IsClosed number (at_end setup) (Some why) left held
+EndsAt number setup ending.Unread left held = position is_line_feed held ≡ None
+EndsAt number setup how left held = ⊥
 
 -- More bytes came from the source behind those held, and then this holds of all of them.
 abbrev pub Came : List ℕ → Option (List ℕ) → Option (List ℕ) → (List ℕ → Type 0) → Type 0

@@ -1,12 +1,13 @@
 -- The steps of a script that are played.
-use Rattle.std.specs.Prelude.{List, ◌++◌, None, reverse, Bool, true, false, if◌then◌else◌, IsTrue}
+use Rattle.std.specs.Prelude.{List, ◌++◌, reverse, Bool, true, false, if◌then◌else◌, IsTrue}
 use Rattle.cct_model.specs.lines.command.Step.{Step}
 use Rattle.cct_model.specs.lines.command.Step.TheVariants as step
 use Rattle.cct_model.specs.terms.device.Setup.{Setup}
 use Rattle.cct_model.specs.lines.entry.Entry.{Entry}
 use Rattle.cct_model.specs.Legal.{Entries, is_played}
 use Rattle.cct_model.specs.Script.{Read, at_steps, at_end, opens, plays, is_known, IsInRange}
-use Rattle.cct_world.specs.Machine.{StepOwnsItsPut}
+use Rattle.cct_world.specs.Machine.{StepSuits}
+use Rattle.cct_bench.specs.Disks.{most_records}
 
 -- The step is `end`.
 abbrev pub is_end : Step → Bool
@@ -17,19 +18,19 @@ is_end s = false
 abbrev pub read_as : Setup → Step → Read
 read_as setup s = if is_end s then opens (at_end setup) else plays s (at_steps setup)
 
--- A step that a machine of this setup plays: its numbers are in their ranges, it names a device that is there and of the
--- kind that it needs, and it is one of those that are played.
+-- A step that a machine of this setup plays: its numbers are in their ranges, it names a device that is there and of
+-- the kind that it needs, and it is one of those that are played.
 pub record CanPlay (setup : Setup) (s : Step) : Type 0 where
   pub in_range : IsInRange s
   pub known : IsTrue (is_known setup s)
   pub played : IsTrue (is_played s)
 
--- A step gives these entries, oldest first, whatever is behind it, where an order that it closes is its own address's:
--- one past stands for the machine before, and the past with them for the machine after.
+-- A step gives these entries, oldest first, whatever is behind it, where a record that it puts suits those before it:
+-- one past stands for what was before, and the past with them for what is after.
 abbrev pub Plays : (List Entry → Type 0) → (List Entry → Type 0) → Setup → Step → List Entry → Type 0
 Plays Before After setup s report =
-    (past : List Entry) → Before past → StepOwnsItsPut setup past s
-    → Entries None setup past s (reverse report) × After (reverse report ++ past)
+    (past : List Entry) → Before past → StepSuits setup past s
+    → Entries most_records setup past s (reverse report) × After (reverse report ++ past)
 
 -- A step was played, and its entries were written so, which holds by the answer.
 abbrev pub PlaysOn : (List Entry → Type 0) → (List Entry → Type 0) → Setup → Step → (List Entry → Type 0) → Type 0

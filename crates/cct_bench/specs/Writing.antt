@@ -40,10 +40,6 @@ Broke {K} written puts before now whole cut =
 abbrev pub IsNothing : List Entry → Type 0
 IsNothing past = past ≡ []
 
--- Just these entries were written.
-abbrev pub IsJust : List Entry → List Entry → Type 0
-IsJust these entries = entries ≡ these
-
 -- No put failed.
 abbrev pub NeverBroke : List Entry → List Entry → Type 0
 NeverBroke whole cut = ⊥

@@ -15,6 +15,12 @@ pub enum Status {
     ReadFault,
     /// 4: writing the transcript failed. What was written is a front of it.
     WriteFault,
+    /// 5: a call of the disk failed: `diskfault`. Whether the record that was being put stands on the disk is open.
+    DiskFault,
+    /// 6: a byte of the disk isn't 0, which is told by the first such place: `notblank PLACE`.
+    NotBlank,
+    /// 7: the disk has another length than 2,097,152 bytes: `disksize LENGTH`.
+    DiskSize,
     /// 8: there was no memory for the run. Nothing was written.
     OutOfMemory,
 }
@@ -30,6 +36,9 @@ impl Status {
             Status::WordsRefused => 2,
             Status::ReadFault => 3,
             Status::WriteFault => 4,
+            Status::DiskFault => 5,
+            Status::NotBlank => 6,
+            Status::DiskSize => 7,
             Status::OutOfMemory => 8,
         }
     }

@@ -1,34 +1,45 @@
 //! A run: the script is read a line at a time, and each step is played and its entries are written before the next line
 //! is read.
-ghost use Rattle.std.specs.Prelude.{◌≡◌, ◌≢◌, ◌⊎◌, ℕ, ◌+◌, ◌≤◌, List, [], ◌∷◌, Option, Result, IfSome, IfOk};
-ghost use Rattle.std.specs.Prelude.{IfErr, Err};
+ghost use Rattle.std.specs.Prelude.{◌≡◌, ◌≢◌, false, ◌⊎◌, ℕ, ◌+◌, ◌≤◌, List, ◌∷◌, [], Option, Result, Ok, Err};
+ghost use Rattle.std.specs.Prelude.{IfSome, IfOk, IfErr, MatchResult};
 ghost use Rattle.cct_edge.specs.Bytes.{TellsAsBefore};
 ghost use Rattle.cct_edge.specs.declared.fault.Failed.{Failed};
 ghost use Rattle.cct_edge.specs.Faults.{HasCause, Rose};
 ghost use Rattle.cct_model.specs.lines.entry.Entry.{Entry};
 ghost use Rattle.cct_model.specs.terms.device.Setup.{Setup};
-ghost use Rattle.cct_model.specs.Script.{no_devices, at_steps, at_end};
+ghost use Rattle.cct_model.specs.Script.{no_devices, at_steps};
 ghost use Rattle.cct_model.specs.Text.{line_of};
 ghost use Rattle.cct_script.specs.Giving.{none_given, standing_of};
-ghost use Rattle.cct_world.specs.World.{StandsFor, setup_of};
-ghost use Rattle.cct_bench.specs.Lines.{IsNext};
-ghost use Rattle.cct_bench.specs.Going.{Going, IsAnything};
+ghost use Rattle.cct_disk.specs.Disk.{IsTrusted};
+ghost use Rattle.cct_journal.specs.Journal as journals;
+ghost use Rattle.cct_journal.specs.Stands.{GoesOn, Stands};
+ghost use Rattle.cct_world.specs.World.{Breaks, StandsFor, disk_of, setup_of};
+ghost use Rattle.cct_bench.specs.Lines.{Came, EndsAt, IsNext};
+ghost use Rattle.cct_bench.specs.Disks.{Books, IsReady, disks};
+ghost use Rattle.cct_bench.specs.Going.{Going};
 ghost use Rattle.cct_bench.specs.SetupLines.{TookOpening, TookSetup};
-ghost use Rattle.cct_bench.specs.Writing.{Writes, Wrote, Broke, IsNothing, IsJust, NeverBroke};
+ghost use Rattle.cct_bench.specs.Writing.{Writes, Wrote, Broke, IsNothing, NeverBroke};
 ghost use Rattle.cct_bench.specs.Playing.{CanPlay, PlaysOn};
-ghost use Rattle.cct_bench.specs.Run.{Played, Ran, ClosedBy, status_by, ending_at};
+ghost use Rattle.cct_bench.specs.Run.{BeforeSteps, ClosedBy, IsOfScript, Over, Played, Ran, ending_at, last_entry};
+ghost use Rattle.cct_bench.specs.Run.{listed};
+ghost use Rattle.cct_bench.specs.Run.{status_by, status_of, uncreated};
 
 use crate::lines::{ScriptStop, behind_end};
 use crate::opening::{Opened, read_opening};
 use crate::outcome::Status;
 use crate::steps::{is_end, read_step};
 use arrayvec::ArrayVec;
+use cct_disk::Disk;
 use cct_edge::{Failed, Sink, Source};
+use cct_journal::{CreateNo, Journal};
 use cct_model::{Devices, Entry, LineKind, Setup, Step};
 use cct_script::Lines;
 use cct_text::{TextLine, write_entry};
-use cct_world::World;
+use cct_world::{World, WorldNo};
 use std::alloc::Global;
+
+/// How many bytes the disk of a journal has.
+const JOURNAL_BYTES: u64 = 2_097_152;
 
 /// How the steps of a script came to their end.
 #[derive(Clone, Copy, Debug, PartialEq, Eq)]
@@ -43,6 +54,12 @@ pub enum Ending {
     Unwritten,
     /// There was no memory for the machine.
     NoMemory,
+    /// The disk failed, before the first byte of the script or in a put.
+    DiskFailed,
+    /// The disk isn't blank: this is its first byte that isn't 0.
+    NotBlank { at: u64 },
+    /// The disk has another length than a journal wants.
+    OtherSize { len: u64 },
 }
 
 /// How a run ends where its script is read no further at a line of this number.
@@ -52,6 +69,17 @@ fn ending_at(number: u32, why: ScriptStop) -> Ending
     match why {
         ScriptStop::Unread => Ending::Unread,
         ScriptStop::Refused(kind) => Ending::Refused { number, kind },
+    }
+}
+
+/// How a run ends where no journal is created on its disk.
+fn uncreated(why: CreateNo) -> Ending
+    ensures { result ≡ uncreated why }
+{
+    match why {
+        CreateNo::Small { len } => Ending::OtherSize { len },
+        CreateNo::Disk => Ending::DiskFailed,
+        CreateNo::NotBlank { at } => Ending::NotBlank { at },
     }
 }
 
@@ -82,9 +110,9 @@ fn read_setup<S: Source>(
         TookOpening S.takes S.left script.old script.new (standing_of lines.new).held number (at_steps setup.new)) }
     ensures next { IfOk result (λ number. IsNext number (standing_of lines.new)) }
     ensures ended { IfErr result (λ how.
-        IfSome (S.left script.old) (λ bytes. Played bytes how (S.left script.new) IsNothing NeverBroke)) }
+        IfSome (S.left script.old) (λ bytes. Played bytes how (S.left script.new) IsNothing NeverBroke BeforeSteps)) }
     ensures unread { result ≡ Err Ending.Unread → Rose (S.faults script.old) (S.faults script.new) }
-    ensures other { (result ≢ Err Ending.Unwritten) × (result ≢ Err Ending.NoMemory) }
+    ensures of_script { IfErr result IsOfScript }
     ensures tells { TellsAsBefore (S.left script.old) (S.left script.new) }
     ensures later { S.faults script.old ≤ S.faults script.new }
 {
@@ -107,22 +135,48 @@ struct Page {
 }
 
 impl Page {
-    /// Plays a step, and writes its entries.
-    fn play<K: Sink>(
+    /// Plays a step, and writes its entries; or tells how the run ends, and gives the disk back.
+    fn play<'s, K: Sink, D: Disk>(
         &mut self,
         step: &Step,
-        world: &mut World<'_>,
+        world: World<'s, D>,
         out: &mut K,
-    ) -> Result<(), Failed>
-        requires { CanPlay (setup_of world.old) step.now }
-        ensures plays { PlaysOn (StandsFor world.old) (StandsFor world.new) (setup_of world.old) step.now
-            (λ report. Writes K.written K.puts out.old report result out.new) }
-        ensures setup { setup_of world.new ≡ setup_of world.old }
+    ) -> Result<World<'s, D>, (Ending, D)>
+        requires can { CanPlay (setup_of world) step.now }
+        requires size { D.size (disk_of world) ≡ JOURNAL_BYTES }
+        ensures plays { IfOk result (λ next. PlaysOn (StandsFor world.entry) (StandsFor next) (setup_of world.entry)
+            step.now (λ report. Writes K.written K.puts out.old report (Ok tt) out.new)) }
+        ensures setup { IfOk result (λ next. setup_of next ≡ setup_of world.entry) }
+
+        // how the run ends
+        ensures unwritten { IfErr result (λ e. e.0 ≡ Ending.Unwritten → (failed : Failed)
+            × PlaysOn (StandsFor world.entry) (Books D.honest D.seen D.may_leave e.1) (setup_of world.entry) step.now
+            (λ report. Writes K.written K.puts out.old report (Err failed) out.new)) }
+        ensures breaks { IfErr result (λ e. e.0 ≡ Ending.DiskFailed → Breaks world.entry e.1 step.now
+            × (out.new ≡ out.old)) }
+        ensures other { IfErr result (λ e. (e.0 ≡ Ending.Unwritten) ⊎ (e.0 ≡ Ending.DiskFailed)) }
+        ensures write_cause { IfErr result (λ e. e.0 ≡ Ending.Unwritten → Rose (K.faults out.old) (K.faults out.new)) }
+        ensures disk_cause { IfErr result (λ e. e.0 ≡ Ending.DiskFailed
+            → Rose (D.faults (disk_of world.entry)) (D.faults e.1)) }
+
+        // the sink and the disk
         ensures tells { TellsAsBefore (K.written out.old) (K.written out.new) }
-        ensures cause { HasCause (K.faults out.old) (K.faults out.new) result }
+        ensures later { K.faults out.old ≤ K.faults out.new }
+        ensures goes_on { MatchResult result
+            (λ next. GoesOn D.size D.honest D.seen D.cuts (disk_of world.entry) (disk_of next))
+            (λ e. GoesOn D.size D.honest D.seen D.cuts (disk_of world.entry) e.1) }
+        ensures disk_later { MatchResult result
+            (λ next. D.faults (disk_of world.entry) ≤ D.faults (disk_of next))
+            (λ e. D.faults (disk_of world.entry) ≤ D.faults e.1) }
     {
-        world.step(step, &mut self.report);
-        write_report(out, &mut self.line, self.report.as_slice())
+        let world = match world.step(step, &mut self.report) {
+            Ok(world) => world,
+            Err((disk, WorldNo::Disk)) => return Err((Ending::DiskFailed, disk)),
+        };
+        match write_report(out, &mut self.line, self.report.as_slice()) {
+            Ok(()) => Ok(world),
+            Err(Failed) => Err((Ending::Unwritten, world.into_disk())),
+        }
     }
 }
 
@@ -136,52 +190,58 @@ struct ScriptDesk {
 }
 
 impl ScriptDesk {
-    /// Plays the steps of a script, from the line of this number on, each before the next line is read.
-    fn play_steps<S: Source, K: Sink>(
+    /// Plays the steps of a script, from the line of this number on, each before the next is read.
+    fn play_steps<S: Source, K: Sink, D: Disk>(
         &mut self,
-        world: &mut World<'_>,
+        world: World<'_, D>,
         first: u32,
         script: &mut S,
         out: &mut K,
-    ) -> Ending
-        requires { IsNext first (standing_of self.old.lines) }
-        ensures played { (left0 : Option (List ℕ))
-            → Going left0 (S.left script.old) (standing_of self.old.lines).held first (at_steps (setup_of world.old))
-            (StandsFor world.old) (Wrote K.written K.puts out.old out.old)
-            → IfSome left0 (λ bytes. Played bytes result (S.left script.new)
-            (Wrote K.written K.puts out.old out.new) (Broke K.written K.puts out.old out.new)) }
-        ensures unread { result ≡ Ending.Unread → Rose (S.faults script.old) (S.faults script.new) }
-        ensures unwritten { result ≡ Ending.Unwritten → Rose (K.faults out.old) (K.faults out.new) }
-        ensures memory { result ≢ Ending.NoMemory }
+    ) -> (Ending, D)
+        requires next { IsNext first (standing_of self.old.lines) }
+        requires size { D.size (disk_of world) ≡ JOURNAL_BYTES }
+        ensures played { (left0 : Option (List ℕ)) (given : D) → IsReady (D.size given) (D.seen given)
+            → GoesOn D.size D.honest D.seen D.cuts given (disk_of world.entry)
+            → Going left0 (S.left script.old) (standing_of self.old.lines).held first (at_steps (setup_of world.entry))
+            (StandsFor world.entry) (Wrote K.written K.puts out.old out.old)
+            → IfSome left0 (λ bytes. Played bytes result.0 (S.left script.new)
+            (Wrote K.written K.puts out.old out.new) (Broke K.written K.puts out.old out.new)
+            (Over (disks D.size D.honest D.seen D.may_leave D.cuts given result.1))) }
+        ensures unread { result.0 ≡ Ending.Unread → Rose (S.faults script.old) (S.faults script.new) }
+        ensures unwritten { result.0 ≡ Ending.Unwritten → Rose (K.faults out.old) (K.faults out.new) }
+        ensures disk { result.0 ≡ Ending.DiskFailed → Rose (D.faults (disk_of world.entry)) (D.faults result.1) }
+        ensures memory { result.0 ≢ Ending.NoMemory }
         ensures source { TellsAsBefore (S.left script.old) (S.left script.new) }
         ensures sink { TellsAsBefore (K.written out.old) (K.written out.new) }
+        ensures goes_on { GoesOn D.size D.honest D.seen D.cuts (disk_of world.entry) result.1 }
         ensures source_later { S.faults script.old ≤ S.faults script.new }
         ensures sink_later { K.faults out.old ≤ K.faults out.new }
+        ensures disk_later { D.faults (disk_of world.entry) ≤ D.faults result.1 }
     {
+        let mut world = world;
         let mut number = first;
         loop {
-            match read_step(&mut self.lines, world, number, script, &mut self.step) {
+            match read_step(&mut self.lines, &world, number, script, &mut self.step) {
                 Ok(()) => {}
-                Err(why) => return ending_at(number, why),
+                Err(why) => return (ending_at(number, why), world.into_disk()),
             }
             if is_end(&self.step) {
-                return self.finish(number + 1, script);
+                return (self.finish(number + 1, script), world.into_disk());
             }
             match self.page.play(&self.step, world, out) {
-                Ok(()) => number += 1,
-                Err(Failed) => return Ending::Unwritten,
+                Ok(next) => world = next,
+                Err(ended) => return ended,
             }
+            number += 1;
         }
     }
 
     /// Ends the steps of a script behind its line `end`: the next line has this number.
     fn finish<S: Source>(&mut self, number: u32, script: &mut S) -> Ending
-        ensures ended { (left0 : Option (List ℕ)) (setup : Setup) (written : List Entry)
-            → Going left0 (S.left script.old) (standing_of self.old.lines).held number (at_end setup) IsAnything
-            (IsJust written)
-            → IfSome left0 (λ bytes. Played bytes result (S.left script.new) (IsJust written) NeverBroke) }
+        ensures ended { (setup : Setup) → Came (standing_of self.old.lines).held (S.left script.old)
+            (S.left script.new) (EndsAt number setup result (S.left script.new)) }
         ensures unread { result ≡ Ending.Unread → Rose (S.faults script.old) (S.faults script.new) }
-        ensures other { (result ≢ Ending.Unwritten) × (result ≢ Ending.NoMemory) }
+        ensures of_script { IsOfScript result }
         ensures tells { TellsAsBefore (S.left script.old) (S.left script.new) }
         ensures later { S.faults script.old ≤ S.faults script.new }
     {
@@ -220,69 +280,161 @@ impl Bench {
         }
     }
 
-    /// Reads the setup of a script, builds its machine, and plays its steps.
-    fn play_script<S: Source, K: Sink>(
+    /// Reads the setup of a script, builds its machine over a journal without records, and plays its steps.
+    fn play_script<S: Source, K: Sink, D: Disk>(
         &mut self,
         alloc: Global,
         script: &mut S,
         out: &mut K,
-    ) -> Ending
+        journal: Journal<D>,
+    ) -> (Ending, D)
         requires lines { standing_of self.old.desk.lines ≡ none_given }
         requires setup { self.old.setup ≡ no_devices }
-        ensures played { IfSome (S.left script.old) (λ bytes. Played bytes result (S.left script.new)
-            (Wrote K.written K.puts out.old out.new) (Broke K.written K.puts out.old out.new)) }
-        ensures unread { result ≡ Ending.Unread → Rose (S.faults script.old) (S.faults script.new) }
-        ensures unwritten { result ≡ Ending.Unwritten → Rose (K.faults out.old) (K.faults out.new) }
-        ensures memory { result ≡ Ending.NoMemory →
+        requires unused { journals.used_of journal ≡ 0 }
+        requires whole { journals.has_failed journal ≡ false }
+        requires size { D.size (journals.disk_of journal) ≡ JOURNAL_BYTES }
+        ensures played { (given : D) → IsReady (D.size given) (D.seen given)
+            → GoesOn D.size D.honest D.seen D.cuts given (journals.disk_of journal)
+            → (IsTrusted D.honest D.seen (journals.disk_of journal)
+            → Stands D.honest D.seen D.may_leave (journals.disk_of journal) (journals.place_of journal) [])
+            → IfSome (S.left script.old) (λ bytes. Played bytes result.0 (S.left script.new)
+            (Wrote K.written K.puts out.old out.new) (Broke K.written K.puts out.old out.new)
+            (Over (disks D.size D.honest D.seen D.may_leave D.cuts given result.1))) }
+        ensures unread { result.0 ≡ Ending.Unread → Rose (S.faults script.old) (S.faults script.new) }
+        ensures unwritten { result.0 ≡ Ending.Unwritten → Rose (K.faults out.old) (K.faults out.new) }
+        ensures disk { result.0 ≡ Ending.DiskFailed → Rose (D.faults (journals.disk_of journal)) (D.faults result.1) }
+        ensures memory { result.0 ≡ Ending.NoMemory →
             (out.new ≡ out.old) × TookSetup S.takes S.left script.old script.new }
         ensures source { TellsAsBefore (S.left script.old) (S.left script.new) }
         ensures sink { TellsAsBefore (K.written out.old) (K.written out.new) }
+        ensures goes_on { GoesOn D.size D.honest D.seen D.cuts (journals.disk_of journal) result.1 }
         ensures source_later { S.faults script.old ≤ S.faults script.new }
         ensures sink_later { K.faults out.old ≤ K.faults out.new }
+        ensures disk_later { D.faults (journals.disk_of journal) ≤ D.faults result.1 }
     {
         let first = match read_setup(&mut self.desk.lines, &mut self.setup, script) {
             Ok(first) => first,
-            Err(how) => return how,
+            Err(how) => return (how, journal.into_disk()),
         };
-        match World::build(alloc, &self.setup) {
-            Ok(mut world) => self.desk.play_steps(&mut world, first, script, out),
-            Err(_) => Ending::NoMemory,
+        match World::build(alloc, &self.setup, journal) {
+            Ok(world) => self.desk.play_steps(world, first, script, out),
+            Err((disk, _)) => (Ending::NoMemory, disk),
         }
     }
 
-    /// Plays a script, and writes the last line of the run where its status has one.
-    pub fn run<S: Source, K: Sink>(&mut self, alloc: Global, script: &mut S, out: &mut K) -> Status
+    /// Creates the journal on a blank disk, and plays a script over it.
+    fn play_over<S: Source, K: Sink, D: Disk>(
+        &mut self,
+        alloc: Global,
+        script: &mut S,
+        out: &mut K,
+        disk: D,
+    ) -> (Ending, D)
         requires lines { standing_of self.old.desk.lines ≡ none_given }
         requires setup { self.old.setup ≡ no_devices }
-        ensures ran { IfSome (S.left script.old) (λ bytes. Ran bytes result (S.left script.new)
-            (Wrote K.written K.puts out.old out.new) (Broke K.written K.puts out.old out.new)) }
-        ensures read_cause { result ≡ Status.ReadFault → Rose (S.faults script.old) (S.faults script.new) }
-        ensures write_cause { result ≡ Status.WriteFault → Rose (K.faults out.old) (K.faults out.new) }
-        ensures memory { result ≡ Status.OutOfMemory →
+        ensures played { IfSome (S.left script.old) (λ bytes. Played bytes result.0 (S.left script.new)
+            (Wrote K.written K.puts out.old out.new) (Broke K.written K.puts out.old out.new)
+            (Over (disks D.size D.honest D.seen D.may_leave D.cuts disk result.1))) }
+        ensures unread { result.0 ≡ Ending.Unread → Rose (S.faults script.old) (S.faults script.new) }
+        ensures unwritten { result.0 ≡ Ending.Unwritten → Rose (K.faults out.old) (K.faults out.new) }
+        ensures disk { result.0 ≡ Ending.DiskFailed → Rose (D.faults disk) (D.faults result.1) }
+        ensures memory { result.0 ≡ Ending.NoMemory →
             (out.new ≡ out.old) × TookSetup S.takes S.left script.old script.new }
         ensures source { TellsAsBefore (S.left script.old) (S.left script.new) }
         ensures sink { TellsAsBefore (K.written out.old) (K.written out.new) }
+        ensures goes_on { GoesOn D.size D.honest D.seen D.cuts disk result.1 }
         ensures source_later { S.faults script.old ≤ S.faults script.new }
         ensures sink_later { K.faults out.old ≤ K.faults out.new }
-        ensures other { result ≢ Status.WordsRefused }
+        ensures disk_later { D.faults disk ≤ D.faults result.1 }
     {
-        match self.play_script(alloc, script, out) {
-            Ending::Done => Status::Done,
-            Ending::Refused { number, kind } => {
-                let entry = Entry::Line { number, kind };
-                close(out, &mut self.desk.page.line, &entry, Status::ScriptRefused)
-            }
-            Ending::Unread => {
-                close(
-                    out,
-                    &mut self.desk.page.line,
-                    &Entry::ReadFault,
-                    Status::ReadFault,
-                )
-            }
-            Ending::Unwritten => Status::WriteFault,
-            Ending::NoMemory => Status::OutOfMemory,
+        let len = disk.len();
+        if len != JOURNAL_BYTES {
+            return (Ending::OtherSize { len }, disk);
         }
+        match Journal::create(disk) {
+            Ok(journal) => self.play_script(alloc, script, out, journal),
+            Err((disk, why)) => (uncreated(why), disk),
+        }
+    }
+
+    /// Plays a script over a disk, which it gives back, and writes the last line of the run where its status has one.
+    pub fn run<S: Source, K: Sink, D: Disk>(
+        &mut self,
+        alloc: Global,
+        script: &mut S,
+        out: &mut K,
+        disk: D,
+    ) -> (Status, D)
+        requires lines { standing_of self.old.desk.lines ≡ none_given }
+        requires setup { self.old.setup ≡ no_devices }
+        ensures ran { IfSome (S.left script.old) (λ bytes. Ran bytes result.0 (S.left script.new)
+            (Wrote K.written K.puts out.old out.new) (Broke K.written K.puts out.old out.new)
+            (disks D.size D.honest D.seen D.may_leave D.cuts disk result.1)) }
+        ensures read_cause { result.0 ≡ Status.ReadFault → Rose (S.faults script.old) (S.faults script.new) }
+        ensures write_cause { result.0 ≡ Status.WriteFault → Rose (K.faults out.old) (K.faults out.new) }
+        ensures disk_cause { result.0 ≡ Status.DiskFault → Rose (D.faults disk) (D.faults result.1) }
+        ensures memory { result.0 ≡ Status.OutOfMemory →
+            (out.new ≡ out.old) × TookSetup S.takes S.left script.old script.new }
+        ensures source { TellsAsBefore (S.left script.old) (S.left script.new) }
+        ensures sink { TellsAsBefore (K.written out.old) (K.written out.new) }
+        ensures goes_on { GoesOn D.size D.honest D.seen D.cuts disk result.1 }
+        ensures source_later { S.faults script.old ≤ S.faults script.new }
+        ensures sink_later { K.faults out.old ≤ K.faults out.new }
+        ensures disk_later { D.faults disk ≤ D.faults result.1 }
+        ensures other { result.0 ≢ Status.WordsRefused }
+    {
+        let (how, disk) = self.play_over(alloc, script, out, disk);
+        (finish_run(how, out, &mut self.desk.page.line), disk)
+    }
+}
+
+/// The last line of a run that came to this end, if it has one.
+fn last_entry(how: Ending) -> Option<Entry>
+    ensures { result ≡ last_entry how }
+{
+    match how {
+        Ending::Done => None,
+        Ending::Refused { number, kind } => Some(Entry::Line { number, kind }),
+        Ending::Unread => Some(Entry::ReadFault),
+        Ending::Unwritten => None,
+        Ending::NoMemory => None,
+        Ending::DiskFailed => Some(Entry::DiskFault),
+        Ending::NotBlank { at } => Some(Entry::NotBlank { at }),
+        Ending::OtherSize { len } => Some(Entry::DiskSize { len }),
+    }
+}
+
+/// The status of a run that came to this end, where its last line is written.
+fn status_of(how: Ending) -> Status
+    ensures { result ≡ status_of how }
+{
+    match how {
+        Ending::Done => Status::Done,
+        Ending::Refused { .. } => Status::ScriptRefused,
+        Ending::Unread => Status::ReadFault,
+        Ending::Unwritten => Status::WriteFault,
+        Ending::NoMemory => Status::OutOfMemory,
+        Ending::DiskFailed => Status::DiskFault,
+        Ending::NotBlank { .. } => Status::NotBlank,
+        Ending::OtherSize { .. } => Status::DiskSize,
+    }
+}
+
+/// Ends a run that came to this end: its last line is written where it has one.
+fn finish_run<K: Sink>(how: Ending, out: &mut K, line: &mut TextLine) -> Status
+    ensures writes { (answer : Result (Unit {0}) Failed)
+        × Writes K.written K.puts out.old (listed (last_entry how)) answer out.new
+        × (result ≡ status_by answer (status_of how)) }
+    ensures tells { TellsAsBefore (K.written out.old) (K.written out.new) }
+    ensures cause { (result ≡ status_of how) ⊎ (Rose (K.faults out.old) (K.faults out.new)
+        × (result ≡ Status.WriteFault)) }
+    ensures later { K.faults out.old ≤ K.faults out.new }
+    ensures memory { how ≡ Ending.NoMemory → out.new ≡ out.old }
+{
+    let status = status_of(how);
+    match last_entry(how) {
+        Some(entry) => close(out, line, &entry, status),
+        None => status,
     }
 }
 

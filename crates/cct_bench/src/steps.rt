@@ -10,6 +10,7 @@ ghost use Rattle.cct_bench.specs.Lines.{IsNext, ScriptGoesOn, StopsAt, Came};
 ghost use Rattle.cct_bench.specs.Playing.{is_end, read_as, CanPlay};
 
 use crate::lines::{ScriptStop, before_end, word_of};
+use cct_disk::Disk;
 use cct_edge::Source;
 use cct_model::{LineKind, Step};
 use cct_script::{Lines, read_step_line};
@@ -19,7 +20,7 @@ use cct_world::World;
 fn is_later_word(word: &[u8]) -> bool
     ensures { result ≡ is_later_word word.now }
 {
-    word == b"vend".as_slice() || word == b"crash".as_slice() || word == b"balance".as_slice()
+    word == b"vend".as_slice() || word == b"crash".as_slice()
 }
 
 /// Whether a step is `end`.
@@ -30,7 +31,11 @@ pub fn is_end(step: &Step) -> bool
 }
 
 /// Reads what one whole step line says into the room for a step.
-fn take_step_line(world: &World<'_>, line: &[u8], step: &mut Step) -> Result<(), LineKind>
+fn take_step_line<D: Disk>(
+    world: &World<'_, D>,
+    line: &[u8],
+    step: &mut Step,
+) -> Result<(), LineKind>
     ensures reads { MatchResult result
         (λ _. read_form (at_steps (setup_of world.now)) line.now ≡ read_as (setup_of world.now) step.new)
         (λ why. read_form (at_steps (setup_of world.now)) line.now ≡ refuses why) }
@@ -50,9 +55,9 @@ fn take_step_line(world: &World<'_>, line: &[u8], step: &mut Step) -> Result<(),
 }
 
 /// Reads the next step line of a script into the room for a step. A step is wide, so it is moved once.
-pub fn read_step<S: Source>(
+pub fn read_step<S: Source, D: Disk>(
     lines: &mut Lines,
-    world: &World<'_>,
+    world: &World<'_, D>,
     number: u32,
     script: &mut S,
     step: &mut Step,

@@ -1,7 +1,13 @@
-//! Runs over a source that gives little at a time, and over a source and a sink that fail.
+//! Runs over a source that gives little at a time, over a source, a sink and a disk that fail, over a disk that isn't as
+//! a journal wants it, and up to a journal that is full.
 use crate::{Status, bench};
+use cct_disk::{Disk, MemDisk};
 use cct_edge::{MemSink, MemSource};
+use cct_journal::{Journal, OpenNo};
+use cct_model::Entry;
+use cct_text::put_entry;
 use std::alloc::Global;
+use std::process::Abort;
 use std::test::Fail;
 
 /// Each word of a script that is played, once at least.
@@ -9,7 +15,7 @@ const SCRIPT: &[u8] =
     b"acceptor 2 simple 1 0\nvalue 2 5 100 XX100A\ntexts 2 A B C D\nhopper 3 simple 7 10 20\nbegin\nstart 2 0010\n\
       next 2\nnext 2\nnext 2\nnext 2\ncoin 2 5\nalien 2\nround 2\nnext 2\nnext 2\nnext 2\n\
       fault devices -\nfault host -\nfault whole -\npath 2 5 3\nnext 2\nstop 2\nident 2\nscan\nnext 0\n\
-      pay 3 1 2\nhalt 3\nfall 3\njam 3\nsettle 3\nnext 3\nreset 2\nend\n";
+      pay 3 1 2\nhalt 3\nfall 3\njam 3\nsettle 3\nnext 3\nbalance\nreset 2\nend\n";
 
 const TRANSCRIPT: &[u8] = b"ok start 2 0010\nwire 2 02000101fc 02000101fc01000200fd\n\
       wire 2 020001e518 020001e518010b02000000000000000000000000f2\nput epoch 2 0010\n\
@@ -18,34 +24,95 @@ const TRANSCRIPT: &[u8] = b"ok start 2 0010\nwire 2 02000101fc 02000101fc0100020
       put reading 2 2 0 5/1\nposted 2\nfault devices -\nfault host -\nfault whole -\nok path 2 5 3\n\
       wire 2 020201d2050321 -\nno stop 2 busy\nno ident 2 busy\nok scan\nwire 0 000001fd02 000001fd020203\n\
       ok pay 3 1 2\nok halt 3\nnofall 3\nnojam 3\nno settle 3 busy\n\
-      wire 3 030101a4a5b2 030101a4a5b201000300fc\nreset 2\n";
+      wire 3 030101a4a5b2 030101a4a5b201000300fc\nbalance 60 40 0 0\nreset 2\n";
 
 /// How many transcript lines the lines of that script give, one after the other.
-const LINES: [usize; 33] = [
+const LINES: [usize; 34] = [
     0, 0, 0, 0, 0, 1, 1, 1, 1, 2, 1, 1, 1, 1, 1, 2, 1, 1, 1, 1, 1, 1, 1, 1, 1, 1, 1, 1, 1, 1, 1, 1,
-    0,
+    1, 0,
 ];
 
-/// Plays that script from a source that gives at most so many bytes a take, with the takes and puts of these numbers
-/// failing.
+/// A coin is posted, and a second round finds nothing to post.
+const POSTED: &[u8] =
+    b"acceptor 2 simple 1 0\nvalue 2 1 100 XX100A\nvalue 2 2 100 XX100A\nvalue 2 3 100 XX100A\n\
+      value 2 4 100 XX100A\nvalue 2 5 100 XX100A\nvalue 2 6 100 XX100A\nvalue 2 7 100 XX100A\n\
+      value 2 8 100 XX100A\nvalue 2 9 100 XX100A\nvalue 2 10 100 XX100A\nvalue 2 11 100 XX100A\n\
+      value 2 12 100 XX100A\nvalue 2 13 100 XX100A\nvalue 2 14 100 XX100A\nvalue 2 15 100 XX100A\n\
+      value 2 16 100 XX100A\nbegin\nstart 2 ffff\nnext 2\nnext 2\nnext 2\nnext 2\ncoin 2 5\n\
+      round 2\nnext 2\nnext 2\nnext 2\nround 2\nnext 2\nnext 2\nend\n";
+
+const POSTED_TEXT: &[u8] = b"ok start 2 ffff\nwire 2 02000101fc 02000101fc01000200fd\n\
+      wire 2 020001e518 020001e518010b02000000000000000000000000f2\nput epoch 2 ffff\n\
+      wire 2 020201e7ffff16 020201e7ffff1601000200fd\nstarted 2\naccepted 2 5 1\nok round 2\n\
+      wire 2 020001e518 020001e518010b02000105010000000000000000eb\nwire 2 020001e617 020001e61701020200fffffd\n\
+      put reading 2 1 0 5/1\nposted 2\nok round 2\n\
+      wire 2 020001e518 020001e518010b02000105010000000000000000eb\nwire 2 020001e617 020001e61701020200fffffd\n\
+      clean 2\n";
+
+/// The first so many puts of that transcript, which has two.
+fn first_puts(count: usize) -> &'static [u8] {
+    match count {
+        0 => b"",
+        1 => b"put epoch 2 ffff\n",
+        _ => b"put epoch 2 ffff\nput reading 2 1 0 5/1\n",
+    }
+}
+
+/// How many bytes a disk has that a journal is created on.
+const DISK: u64 = 2_097_152;
+
+/// Plays a script by one word or two over a disk, from a source that gives at most so many bytes a take, with the takes
+/// and puts of these numbers failing. A transcript has room where it is no longer than eight times its script.
 fn play(
+    alloc: Global,
+    words: &[&str],
+    script: Vec<u8>,
+    most: usize,
+    takes: &[u64],
+    puts: &[u64],
+    disk: MemDisk,
+) -> Result<(Status, Vec<u8>, MemDisk), Fail> {
+    let mut said = Vec::new(alloc);
+    for word in words {
+        said.push(String::from_str(alloc, word)?)?;
+    }
+    let room = script.len().saturating_mul(8).saturating_add(4096);
+    let mut source = MemSource::new(script, most.max(1), takes.to_vec(alloc)?);
+    let mut sink = MemSink::new(alloc, room, puts.to_vec(alloc)?)?;
+    let (status, disk) = bench(alloc, said.as_slice(), &mut source, &mut sink, disk);
+    Ok((status, sink.bytes().to_vec(alloc)?, disk))
+}
+
+/// A blank disk of so many bytes whose calls with these numbers fail.
+fn disk(alloc: Global, len: u64, fails: &[u64]) -> Result<MemDisk, Fail> {
+    Ok(MemDisk::new(alloc, len, fails.to_vec(alloc)?)?)
+}
+
+/// Plays the script of each word with these takes and puts failing.
+fn play_words(
     alloc: Global,
     most: usize,
     takes: &[u64],
     puts: &[u64],
 ) -> Result<(Status, Vec<u8>), Fail> {
-    let words = vec![in alloc; String::from_str(alloc, "run")?]?;
-    let mut source = MemSource::new(SCRIPT.to_vec(alloc)?, most.max(1), takes.to_vec(alloc)?);
-    let mut sink = MemSink::new(alloc, TRANSCRIPT.len() + 16, puts.to_vec(alloc)?)?;
-    let status = bench(alloc, words.as_slice(), &mut source, &mut sink);
-    Ok((status, sink.bytes().to_vec(alloc)?))
+    let blank = disk(alloc, DISK, &[])?;
+    let (status, written, _) = play(
+        alloc,
+        &["run"],
+        SCRIPT.to_vec(alloc)?,
+        most,
+        takes,
+        puts,
+        blank,
+    )?;
+    Ok((status, written))
 }
 
-/// The first so many lines of the transcript.
-fn first_lines(alloc: Global, count: usize) -> Result<Vec<u8>, Fail> {
+/// The first so many lines of a text, and behind them a last one.
+fn lines_and(alloc: Global, text: &[u8], count: usize, last: &[u8]) -> Result<Vec<u8>, Fail> {
     let mut front = Vec::new(alloc);
     let mut ended = 0;
-    for byte in TRANSCRIPT {
+    for byte in text {
         if ended == count {
             break;
         }
@@ -54,11 +121,12 @@ fn first_lines(alloc: Global, count: usize) -> Result<Vec<u8>, Fail> {
             ended = ended.saturating_add(1);
         }
     }
+    front.extend_from_slice(last)?;
     Ok(front)
 }
 
-/// What the whole lines among the first so many bytes of the script give.
-fn lines_played(alloc: Global, taken: usize) -> Result<Vec<u8>, Fail> {
+/// How many lines the whole lines among the first so many bytes of the script of each word give.
+fn lines_played(taken: usize) -> usize {
     let whole = SCRIPT
         .iter()
         .take(taken)
@@ -68,14 +136,14 @@ fn lines_played(alloc: Global, taken: usize) -> Result<Vec<u8>, Fail> {
     for count in LINES.iter().take(whole) {
         lines = count.saturating_add(lines);
     }
-    first_lines(alloc, lines)
+    lines
 }
 
 #[test]
 fn plays_by_any_amount(rt: HostRuntime) -> Result<(), Fail> {
     let alloc = rt.alloc();
     for most in [1usize, 7, 4096] {
-        let (status, written) = play(alloc, most, &[], &[])?;
+        let (status, written) = play_words(alloc, most, &[], &[])?;
         assert_eq!(rt; status, Status::Done, "by {most}");
         assert_eq!(rt; written.as_slice(), TRANSCRIPT, "by {most}");
     }
@@ -87,8 +155,8 @@ fn stops_at_each_fault_of_the_sink(rt: HostRuntime) -> Result<(), Fail> {
     let alloc = rt.alloc();
     let count = TRANSCRIPT.iter().filter(|byte| **byte == b'\n').count();
     for put in 1..=count {
-        let (status, written) = play(alloc, 4096, &[], &[put as u64])?;
-        let text = first_lines(alloc, put.saturating_sub(1))?;
+        let (status, written) = play_words(alloc, 4096, &[], &[put as u64])?;
+        let text = lines_and(alloc, TRANSCRIPT, put.saturating_sub(1), b"")?;
         assert_eq!(rt; status, Status::WriteFault, "put {put}");
         assert_eq!(rt; written.as_slice(), text.as_slice(), "put {put}");
     }
@@ -100,11 +168,216 @@ fn stops_at_each_fault_of_the_source(rt: HostRuntime) -> Result<(), Fail> {
     let alloc = rt.alloc();
     // The last take gives nothing: it tells the end of the script.
     for taken in 0..=SCRIPT.len() {
-        let (status, written) = play(alloc, 1, &[taken.saturating_add(1) as u64], &[])?;
-        let mut text = lines_played(alloc, taken)?;
-        text.extend_from_slice(b"readfault\n")?;
+        let (status, written) = play_words(alloc, 1, &[taken.saturating_add(1) as u64], &[])?;
+        let text = lines_and(alloc, TRANSCRIPT, lines_played(taken), b"readfault\n")?;
         assert_eq!(rt; status, Status::ReadFault, "behind {taken}");
         assert_eq!(rt; written.as_slice(), text.as_slice(), "behind {taken}");
+    }
+    Ok(())
+}
+
+/// Words, a disk by its length and a place of it that isn't blank, and how a run ends. What comes first of these decides.
+const REFUSED: [(&[&str], u64, Option<u64>, Status, &[u8]); 7] = [
+    (
+        &["run", "now"],
+        DISK,
+        None,
+        Status::WordsRefused,
+        b"words\n",
+    ),
+    (&["now"], 64, Some(0), Status::WordsRefused, b"words\n"),
+    (&["run"], 64, None, Status::DiskSize, b"disksize 64\n"),
+    (&["run"], 64, Some(0), Status::DiskSize, b"disksize 64\n"),
+    (&["run"], 0, None, Status::DiskSize, b"disksize 0\n"),
+    (
+        &["run"],
+        DISK,
+        Some(100),
+        Status::NotBlank,
+        b"notblank 100\n",
+    ),
+    (
+        &["run"],
+        DISK,
+        Some(DISK - 1),
+        Status::NotBlank,
+        b"notblank 2097151\n",
+    ),
+];
+
+#[test]
+fn words_and_disk_come_before_the_script(rt: HostRuntime) -> Result<(), Fail> {
+    let alloc = rt.alloc();
+    for (words, len, place, status, text) in REFUSED {
+        let mut blank = disk(alloc, len, &[])?;
+        match place {
+            Some(place) => {
+                assert!(rt; place < blank.len());
+                blank.poke(place, 1);
+            }
+            None => {}
+        }
+        let script = b"no script".to_vec(alloc)?;
+        let (ended, written, _) = play(alloc, words, script, 4096, &[1], &[], blank)?;
+        assert_eq!(rt; ended, status);
+        assert_eq!(rt; written.as_slice(), text);
+    }
+    Ok(())
+}
+
+/// A take, a put or a call of the disk that fails, how the run of a posted coin ends then, how many lines of its
+/// transcript are written, and the last line. All of its script comes by the first take.
+const ONE_FAULT: [(&[u64], &[u64], &[u64], Status, usize, &[u8]); 3] = [
+    (&[], &[3], &[], Status::WriteFault, 2, b""),
+    (&[2], &[], &[], Status::ReadFault, 16, b"readfault\n"),
+    (&[], &[], &[1], Status::DiskFault, 0, b"diskfault\n"),
+];
+
+#[test]
+fn one_fault_ends_a_run(rt: HostRuntime) -> Result<(), Fail> {
+    let alloc = rt.alloc();
+    for (takes, puts, calls, status, lines, last) in ONE_FAULT {
+        let blank = disk(alloc, DISK, calls)?;
+        let script = POSTED.to_vec(alloc)?;
+        let (ended, written, _) = play(alloc, &["run"], script, 4096, takes, puts, blank)?;
+        let text = lines_and(alloc, POSTED_TEXT, lines, last)?;
+        assert_eq!(rt; ended, status);
+        assert_eq!(rt; written.as_slice(), text.as_slice());
+    }
+    Ok(())
+}
+
+/// How many calls of the disk the run of a posted coin makes: 512 reads of a blank disk, four for the header, and four
+/// for each of two puts.
+const CALLS: u64 = 524;
+
+/// How many lines of the transcript of a posted coin come before this call of the disk, and how many of these are puts;
+/// before call 0, which there is none, come all.
+fn lines_before(call: u64) -> (usize, usize) {
+    match call {
+        1..=516 => (0, 0),
+        517..=520 => (3, 0),
+        521..=524 => (10, 1),
+        _ => (16, 2),
+    }
+}
+
+/// Plays the script of a posted coin over a disk whose call with this number fails, or none where it is 0.
+fn play_posted(alloc: Global, call: u64) -> Result<(Status, Vec<u8>, MemDisk), Fail> {
+    let blank = disk(alloc, DISK, &[call])?;
+    play(
+        alloc,
+        &["run"],
+        POSTED.to_vec(alloc)?,
+        4096,
+        &[],
+        &[],
+        blank,
+    )
+}
+
+#[test]
+fn stops_at_each_fault_of_the_disk(rt: HostRuntime) -> Result<(), Fail> {
+    let alloc = rt.alloc();
+    for call in 1..=CALLS {
+        let (status, written, _) = play_posted(alloc, call)?;
+        let (lines, _) = lines_before(call);
+        let text = lines_and(alloc, POSTED_TEXT, lines, b"diskfault\n")?;
+        assert_eq!(rt; status, Status::DiskFault, "call {call}");
+        assert_eq!(rt; written.as_slice(), text.as_slice(), "call {call}");
+    }
+    let (status, written, _) = play_posted(alloc, 0)?;
+    assert_eq!(rt; status, Status::Done);
+    assert_eq!(rt; written.as_slice(), POSTED_TEXT);
+    Ok(())
+}
+
+/// The records that a loss of power leaves of a journal, each as the line of its put, or none where it leaves no header.
+fn left_by_a_cut(alloc: Global, disk: MemDisk, choice: u64) -> Result<Option<Vec<u8>>, Fail> {
+    let mut disk = disk;
+    disk.power_cut(choice)?;
+    let (mut journal, used) = match Journal::reopen(disk) {
+        Ok(opened) => opened,
+        Err((_, OpenNo::Alien)) => return Ok(None),
+        Err((_, why)) => return Err(Fail::from(why)),
+    };
+    let mut sink = MemSink::new(alloc, 4096, Vec::new(alloc))?;
+    for index in 0..used {
+        if index < journal.used() {
+            put_entry(&mut sink, &Entry::Put(journal.read_at(index)?))?;
+        }
+    }
+    Ok(Some(sink.bytes().to_vec(alloc)?))
+}
+
+/// Behind a run whose disk's call with this number failed, each loss of power leaves the records that were told as put,
+/// or one more.
+fn try_cuts(rt: &impl Abort, alloc: Global, call: u64) -> Result<(), Fail> {
+    for choice in 0..4u64 {
+        let (_, _, disk) = play_posted(alloc, call)?;
+        let (_, puts) = lines_before(call);
+        match left_by_a_cut(alloc, disk, choice)? {
+            Some(left) => assert!(rt;
+                left.as_slice() == first_puts(puts)
+                    || left.as_slice() == first_puts(puts.saturating_add(1)),
+                "call {call}, choice {choice}"
+            ),
+            None => assert!(rt; (513..=516).contains(&call), "call {call}, choice {choice}"),
+        }
+    }
+    Ok(())
+}
+
+#[test]
+fn a_loss_of_power_leaves_the_puts_or_one_more(rt: HostRuntime) -> Result<(), Fail> {
+    for call in 513..=CALLS {
+        try_cuts(&rt, rt.alloc(), call)?;
+    }
+    try_cuts(&rt, rt.alloc(), 0)
+}
+
+/// What is played where two records more fit into a journal. A payment wants two; an order that it opened holds one.
+const FULL: &[u8] =
+    b"pay 3 1 2\nround 2\nstart 4 0001\nstop 2\nnext 3\nnext 3\nnext 3\nround 2\nnext 3\nfall 3\nfall 3\n\
+      fault host -\nnext 3\nfault host -\nnext 3\nfault host -\nnext 3\nround 2\nsettle 3\nnext 3\nnext 3\nnext 3\n\
+      round 2\npay 3 2 1\nbalance\nend\n";
+
+const FULL_TEXT: &[u8] =
+    b"ok pay 3 1 2\nno round 2 journalfull 65533 2 1\nno start 4 0001 journalfull 65533 2 1\n\
+      no stop 2 journalfull 65533 2 2\nwire 3 030101a4a5b2 030101a4a5b201000300fc\n\
+      wire 3 030001a854 030001a85401030300000000f9\nput opened 1 3 2 0\nno round 2 journalfull 65534 1 1\n\
+      wire 3 030401a70700000248 030401a7070000024801000300fc\nfell 3\nfell 3\n\
+      fault host -\nwire 3 030001a656 030001a656\nfault host -\nwire 3 030001a656 030001a656\n\
+      fault host -\nwire 3 030001a656 030001a656\nnoanswer 3\nno round 2 journalfull 65534 1 1\nok settle 3\n\
+      wire 3 030001a656 030001a6560104030001000200f5\nwire 3 030001a854 030001a85401030300020000f7\n\
+      put closed 1 2 0\nclosed 3\nno round 2 journalfull 65535 0 1\nno pay 3 2 1 journalfull 65535 0 2\n\
+      balance 6553180 0 20 0\n";
+
+#[test]
+fn a_full_journal_refuses_commands_and_no_put(rt: HostRuntime) -> Result<(), Fail> {
+    let alloc = rt.alloc();
+    let mut script = Vec::new(alloc);
+    script.extend_from_slice(
+        b"acceptor 2 simple 1 0\nvalue 2 5 100 XX100A\nacceptor 4 crc 4 0\nvalue 4 1 5 XX005A\n\
+          hopper 3 simple 7 0 10\nbegin\nstart 2 0010\nnext 2\nnext 2\nnext 2\nnext 2\n",
+    )?;
+    for _ in 0..65_532 {
+        script.extend_from_slice(b"coin 2 5\nround 2\nnext 2\nnext 2\nnext 2\n")?;
+    }
+    script.extend_from_slice(FULL)?;
+    let blank = disk(alloc, DISK, &[])?;
+    let (status, written, disk) = play(alloc, &["run"], script, 4096, &[], &[], blank)?;
+    assert_eq!(rt; status, Status::Done);
+    assert!(rt; written.as_slice().ends_with(FULL_TEXT));
+    let puts = written
+        .as_slice()
+        .windows(5)
+        .filter(|front| *front == b"\nput ".as_slice())
+        .count();
+    assert_eq!(rt; puts, 65_535);
+    match Journal::reopen(disk) {
+        Ok((_, used)) => assert_eq!(rt; used, 65_535),
+        Err((_, why)) => return Err(Fail::from(why)),
     }
     Ok(())
 }

@@ -1,5 +1,5 @@
 -- What the calls of a disk do to its bytes, and what a loss of power may make of them.
-use Rattle.std.specs.Prelude.{◌≡◌, ◌⊎◌, ℕ, ◌+◌, ◌≤◌, Bool, true, Option, Some, List, ◌++◌, length, take, drop}
+use Rattle.std.specs.Prelude.{◌≡◌, ◌⊎◌, ℕ, ◌+◌, ◌≤◌, Bool, true, Option, Some, is_some, List, ◌++◌, length, take, drop}
 
 -- `old` with `bytes` in place of those from `at` on
 abbrev pub put_at : List ℕ → ℕ → List ℕ → List ℕ
@@ -43,6 +43,10 @@ pub record Holds {D : Type 0} (honest : D → Bool) (seen : D → Option (List �
   pub keeps_synced : honest disk ≡ true
   pub tells : seen disk ≡ Some image
   pub only : Only image (may_leave disk)
+
+-- The disk is honest, and tells what a read gives.
+abbrev pub IsTrusted : {D : Type 0} → (D → Bool) → (D → Option (List ℕ)) → D → Type 0
+IsTrusted honest seen disk = (honest disk ≡ true) × (is_some (seen disk) ≡ true)
 
 -- From `old` to `new` the disk was only read: a read gives the same, and no cut might have left anything new.
 pub record OnlyReads {D : Type 0} (size : D → ℕ) (honest : D → Bool) (seen : D → Option (List ℕ))

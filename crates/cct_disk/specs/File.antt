@@ -3,7 +3,7 @@ use Rattle.std.specs.Prelude.{◌≡◌, ℕ, Bool, Result, is_some, MatchResult
 use Rattle.cct_edge.specs.Faults.{next_count}
 use Rattle.cct_disk.specs.declared.file.FileDisk.{FileDisk}
 
--- there is a file
+-- there is a file, of which no sync failed
 abbrev pub is_open : {R F D : Type 0} → FileDisk R F D → Bool
 is_open disk = is_some disk.file
 

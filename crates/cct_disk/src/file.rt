@@ -16,7 +16,8 @@ const MADE_LEN: u64 = 2_097_152;
 
 /// A disk over a file, which tells nothing of its bytes. `docs/JOURNAL.md` says what a real file does and doesn't do.
 ///
-/// A cut leaves what was written, and answers Ok where there is a file.
+/// A cut leaves what was written, and answers Ok where there is a file. Behind a sync that failed there is none, and
+/// each call fails: the system may have dropped what was to be synced, and answer a later sync as done all the same.
 #[derive(Drop)]
 pub struct FileDisk<R: Files> {
     file: Option<R::File>,
@@ -155,12 +156,16 @@ impl<R: Files> Disk for FileDisk<R> {
         ensures cause { HasCause (file_faults self.old) (file_faults self.new) result }
         ensures counted { CountsFaults (file_faults self.old) (file_faults self.new) result }
         ensures closed { is_open self.old ≡ false → IsErr result }
-        ensures open { is_open self.new ≡ is_open self.old }
+        ensures open { OnOk result (is_open self.new ≡ is_open self.old) }
+        ensures given_up { OnErr result (is_open self.new ≡ false) }
     {
         let done = match &self.file {
             Some(file) => file.sync_data().is_ok(),
             None => false,
         };
+        if !done {
+            self.file = None;
+        }
         answer(done, &mut self.faults)
     }
 

@@ -215,7 +215,8 @@ impl Files for Faulty {
     }
 }
 
-// Whether the file is there, what goes wrong, and whether a read, a write, a sync and a cut then succeed.
+// Whether the file is there, what goes wrong, and whether a read, a write, a sync and a cut then succeed, one after the
+// other.
 const FAULTS: [(bool, Wrong, [bool; 4]); 17] = [
     (true, Wrong::Nothing, [true, true, true, true]),
     (true, Wrong::Opening, [false, false, false, false]),
@@ -226,7 +227,7 @@ const FAULTS: [(bool, Wrong, [bool; 4]); 17] = [
     (true, Wrong::Writing, [true, false, true, true]),
     (true, Wrong::WritingLittle, [true, false, true, true]),
     (true, Wrong::Flushing, [true, false, true, true]),
-    (true, Wrong::Syncing, [true, true, false, true]),
+    (true, Wrong::Syncing, [true, true, false, false]),
     (false, Wrong::Nothing, [true, true, true, true]),
     (false, Wrong::Making, [false, false, false, false]),
     (false, Wrong::Filling, [false, false, false, false]),
@@ -236,17 +237,33 @@ const FAULTS: [(bool, Wrong, [bool; 4]); 17] = [
     (false, Wrong::Writing, [true, false, true, true]),
 ];
 
+// Whether a read, a write, a sync and a cut succeed, one after the other.
+fn four_calls<D: Disk>(disk: &mut D) -> [bool; 4] {
+    [
+        read_three(disk, 5) == Some([0, 0, 0]),
+        is_written(disk, 5, &[1, 2, 3]),
+        disk.sync().is_ok(),
+        disk.power_cut(0).is_ok(),
+    ]
+}
+
 #[test]
 fn each_fault_of_a_file_is_told(rt: HostRuntime) {
     for (is_there, wrong, want) in FAULTS {
         let mut disk = FileDisk::open_file(&Faulty { wrong, is_there }, "any.jnl");
         assert_eq!(rt; disk.len(), 2_097_152);
-        let done = [
-            read_three(&mut disk, 5) == Some([0, 0, 0]),
-            is_written(&mut disk, 5, &[1, 2, 3]),
-            disk.sync().is_ok(),
-            disk.power_cut(0).is_ok(),
-        ];
-        assert_eq!(rt; done, want);
+        assert_eq!(rt; four_calls(&mut disk), want);
     }
+}
+
+#[test]
+fn each_call_behind_a_failed_sync_fails(rt: HostRuntime) {
+    let files = Faulty {
+        wrong: Wrong::Syncing,
+        is_there: true,
+    };
+    let mut disk = FileDisk::open_file(&files, "any.jnl");
+    assert_eq!(rt; four_calls(&mut disk), [true, true, false, false]);
+    assert_eq!(rt; four_calls(&mut disk), [false, false, false, false]);
+    assert_eq!(rt; disk.len(), 2_097_152);
 }

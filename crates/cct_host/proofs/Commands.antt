@@ -21,7 +21,7 @@ use Rattle.cct_model.specs.Job as model
 use Rattle.cct_model.specs.Legal.{is_played_command}
 use Rattle.cct_model.specs.Job.{address_of}
 use Rattle.cct_model.specs.Order.{order}
-use Rattle.cct_model.specs.Refusal.{at_acceptor, at_device, at_hopper, busy, halt_refusal, last_id, pay_refusal, refusal, running_id, running_refusal, settle_refusal, start_refusal, when_free, when_unpaid}
+use Rattle.cct_model.specs.Refusal.{at_acceptor, at_device, at_hopper, busy, halt_refusal, last_id, pay_refusal, state_refusal, running_id, running_refusal, settle_refusal, start_refusal, when_free, when_unpaid}
 use Rattle.cct_model.specs.Transcript.{lines_of, scan_lines}
 use Rattle.cct_jobs.specs.declared.job.Job.{Job}
 use Rattle.cct_host.specs.declared.dues.Dues.{Dues}
@@ -96,7 +96,7 @@ halts_is d (Some job) model.free state owed runs works = absurd works
 pub halting_is : (setup : Setup) (d : DeviceSetup) (job : Option Job) (state : EpochState) (owed : Dues)
     (past : List Entry) (c : Command) → is_running job ≡ true → is_halt c ≡ true
     → device_at setup.devices (address_of c) ≡ Some d → Keeps (device d) job state owed (lines_of d past)
-    → halting_refusal d job ≡ refusal None setup past c
+    → halting_refusal d job ≡ state_refusal setup past c
 halting_is setup d job state owed past (command.Halt addr) runs halt there keeps =
     ap (λ b. cond (is_acceptor d.body) (Some WrongKind) (cond b None (Some NoPayout)))
     (halts_is d job _ _ _ runs keeps.works)
@@ -107,7 +107,7 @@ halting_is setup d job state owed past c runs halt there keeps = absurd cc
 pub refusal_is : (setup : Setup) (d : DeviceSetup) (job : Option Job) (state : EpochState) (owed : Dues) (last : ℕ)
     (past : List Entry) (c : Command) → last ≡ last_id setup past → c ≢ command.Scan → is_halt c ≡ false
     → IsTrue (is_played_command c) → device_at setup.devices (address_of c) ≡ Some d
-    → Keeps (device d) job state owed (lines_of d past) → refusal_beside d job state owed last c ≡ refusal None setup
+    → Keeps (device d) job state owed (lines_of d past) → refusal_beside d job state owed last c ≡ state_refusal setup
     past c
 refusal_is setup d job state owed last past (command.Start addr mask) is_last no_scan no_halt hosted there keeps =
     free_refusal _ d job state owed past (start_refusal mask) there keeps
@@ -218,7 +218,7 @@ pub command_taken : (setup : Setup) (d : DeviceSetup) (c : Command) (before : Op
     → device_at setup.devices (address_of c) ≡ Some d → refusal_beside d before state owed last c ≡ None
     → MayBegin c setup.devices state (order_of owed.order) → Stands d job c [] state (order_of owed.order)
     → Keeps (device d) before state owed (lines_of d past)
-    → (None ≡ refusal None setup past c) × Keeps (device d) (Some job) state after (lines_of d (entry.Taken c ∷ past))
+    → (None ≡ state_refusal setup past c) × Keeps (device d) (Some job) state after (lines_of d (entry.Taken c ∷ past))
 command_taken setup d c before job state owed after last past is_last no_scan no_halt hosted ordered named there free
     may
     stands keeps = (
@@ -238,7 +238,7 @@ pub command_refused : (setup : Setup) (d : DeviceSetup) (c : Command) (job : Opt
     → is_halt c ≡ false → IsTrue (is_played_command c)
     → device_at setup.devices (address_of c) ≡ Some d → refusal_beside d job state owed last c ≡ Some why
     → Keeps (device d) job state owed (lines_of d past)
-    → (Some why ≡ refusal None setup past c) × Keeps (device d) job state owed (lines_of d (entry.No c why ∷ past))
+    → (Some why ≡ state_refusal setup past c) × Keeps (device d) job state owed (lines_of d (entry.No c why ∷ past))
 command_refused setup d c job state owed last past why is_last no_scan no_halt hosted there is keeps = (
   sym is ∙ refusal_is setup d job state owed last past c is_last no_scan no_halt hosted there keeps,
   keeps_quiet (device d) job state owed past
@@ -250,7 +250,7 @@ pub halt_taken : (setup : Setup) (d : DeviceSetup) (c : Command) (before : Optio
     (state : EpochState) (owed : Dues) (past : List Entry) → before ≡ Some old → is_running before ≡ true
     → is_halt c ≡ true → device_at setup.devices (address_of c) ≡ Some d → halting_refusal d before ≡ None
     → GoesByHalt old new → Keeps (device d) before state owed (lines_of d past)
-    → (None ≡ refusal None setup past c) × Keeps (device d) (Some new) state owed (lines_of d (entry.Taken c ∷ past))
+    → (None ≡ state_refusal setup past c) × Keeps (device d) (Some new) state owed (lines_of d (entry.Taken c ∷ past))
 halt_taken setup d c before old new state owed past was runs halt there free goes keeps = (
   sym free ∙ halting_is setup d before state owed past c runs halt there keeps,
   halt_keeps d c old new state owed past (sym (address_there setup.devices (address_of c) d there)) halt goes
@@ -261,7 +261,7 @@ pub halt_refused : (setup : Setup) (d : DeviceSetup) (c : Command) (job : Option
     (owed : Dues) (past : List Entry) (why : CommandNo) → is_running job ≡ true → is_halt c ≡ true
     → device_at setup.devices (address_of c) ≡ Some d → halting_refusal d job ≡ Some why
     → Keeps (device d) job state owed (lines_of d past)
-    → (Some why ≡ refusal None setup past c) × Keeps (device d) job state owed (lines_of d (entry.No c why ∷ past))
+    → (Some why ≡ state_refusal setup past c) × Keeps (device d) job state owed (lines_of d (entry.No c why ∷ past))
 halt_refused setup d c job state owed past why runs halt there is keeps = (
   sym is ∙ halting_is setup d job state owed past c runs halt there keeps,
   keeps_quiet (device d) job state owed past (entry.No c why) (refused_quiet past c why) keeps,
@@ -270,13 +270,13 @@ halt_refused setup d c job state owed past why runs halt there is keeps = (
 -- a scan
 scan_refusal : (setup : Setup) (c : Command) (job : Option Job) (state : EpochState) (owed : Dues)
     (past : List Entry) → c ≡ command.Scan → Keeps scans job state owed (scan_lines past)
-    → busy_by job ≡ refusal None setup past c
+    → busy_by job ≡ state_refusal setup past c
 scan_refusal setup c job state owed past is keeps = busy_is scans job _ _ _ keeps.works
-    ∙ sym (ap (refusal None setup past) is)
+    ∙ sym (ap (state_refusal setup past) is)
 
 pub scan_taken : (setup : Setup) (c : Command) (before : Option Job) (job : Job) (state : EpochState)
     (owed : Dues) (past : List Entry) → c ≡ command.Scan → busy_by before ≡ None → StandsScan job []
-    → Keeps scans before state owed (scan_lines past) → (None ≡ refusal None setup past c)
+    → Keeps scans before state owed (scan_lines past) → (None ≡ state_refusal setup past c)
     × Keeps scans (Some job) state owed
     (scan_lines (entry.Taken c ∷ past))
 scan_taken setup c before job state owed past is free stands keeps = (
@@ -288,7 +288,7 @@ scan_taken setup c before job state owed past is free stands keeps = (
 pub scan_refused : (setup : Setup) (c : Command) (job : Option Job) (state : EpochState) (owed : Dues) (past : List
     Entry)
     (why : CommandNo) → c ≡ command.Scan → busy_by job ≡ Some why
-    → Keeps scans job state owed (scan_lines past) → (Some why ≡ refusal None setup past c) × Keeps scans job state owed
+    → Keeps scans job state owed (scan_lines past) → (Some why ≡ state_refusal setup past c) × Keeps scans job state owed
     (scan_lines (entry.No c why ∷ past))
 scan_refused setup c job state owed past why is refused keeps = (
   sym refused ∙ scan_refusal setup c job state owed past is keeps,
@@ -298,7 +298,7 @@ scan_refused setup c job state owed past why is refused keeps = (
 
 -- no device
 pub absent_refused : (setup : Setup) (past : List Entry) (c : Command) → IsTrue (is_played_command c) → c ≢ command.Scan
-    → device_at setup.devices (address_of c) ≡ None → Some NoDevice ≡ refusal None setup past c
+    → device_at setup.devices (address_of c) ≡ None → Some NoDevice ≡ state_refusal setup past c
 absent_refused setup past (command.Start addr mask) hosted no_scan none =
     sym (ap (λ f. at_acceptor f (when_free past (start_refusal mask))) none)
 absent_refused setup past (command.Round addr) hosted no_scan none =

@@ -1,6 +1,7 @@
 -- How many records are held, what is about to be put, and what jobs reserve, by the lines of the places.
-use Rattle.std.proofs.Common.{◌≡◌, ℕ, ◌+◌, ◌*◌, ◌≤◌, ◌==◌, Bool, true, false, cond, List, [], ◌∷◌, length, refl, sym, ap, ap₂, subst, ◌∙◌, Option, Some, None, arith}
+use Rattle.std.proofs.Common.{◌≡◌, ℕ, zero, suc, ◌+◌, ◌*◌, ◌≤◌, ◌<◌, ◌==◌, Bool, true, false, cond, List, [], ◌∷◌, length, get_or, refl, sym, ap, ap₂, subst, ◌∙◌, Option, Some, None, arith}
 use Rattle.std.specs.Prelude.{is_some, not}
+use Rattle.std.specs.Option.{IfSome}
 use Rattle.cct_model.specs.terms.wire.TheConstants.{HOST}
 use Rattle.cct_model.specs.terms.device.DeviceSetup.{DeviceSetup}
 use Rattle.cct_model.specs.terms.device.Setup.{Setup}
@@ -16,25 +17,24 @@ use Rattle.cct_model.specs.Job as model
 use Rattle.cct_model.specs.Job.{done, row}
 use Rattle.cct_model.specs.Legal.{due_of, due_of_sale, due_there, record_due}
 use Rattle.cct_model.specs.Line.{Line}
-use Rattle.cct_model.specs.Money.{coins_of, hopper_value, reserved_at_work, reserved_by, sum_over}
+use Rattle.cct_model.specs.Money.{coins_of, freed_by, hopper_value, reserved_at_work, reserved_by, sum_over}
 use Rattle.cct_model.specs.Order.{order}
 use Rattle.cct_model.specs.Refusal.{held, holds_at, job_holds, order_holds, sale_holds}
 use Rattle.cct_model.specs.Transcript.{lines_of, sale_lines}
 use Rattle.cct_jobs.specs.declared.job.Job.{Job}
-use Rattle.cct_jobs.specs.declared.job.Job.TheVariants.{Asks, OrderOpens, StopPuts}
+use Rattle.cct_jobs.specs.declared.job.Job.TheVariants.{Asks}
 use Rattle.cct_jobs.specs.declared.job.Need.{Need}
 use Rattle.cct_jobs.specs.declared.job.Need.TheVariants as need
-use Rattle.cct_jobs.specs.declared.payout.Payout.{Payout}
 use Rattle.cct_jobs.specs.declared.payout.Payout.TheVariants.{Enables, Counts}
 use Rattle.cct_jobs.specs.declared.stage.Stage.{Stage}
-use Rattle.cct_jobs.specs.declared.stage.Stage.TheVariants.{StopInhibits, Reads, Looks, Pays}
+use Rattle.cct_jobs.specs.declared.stage.Stage.TheVariants.{Reads, Looks, Pays}
 use Rattle.cct_jobs.specs.declared.stage.Visit.TheVariants.{Round, Stop}
-use Rattle.cct_jobs.specs.Jobs.{Needs, Stands, closes_order, coins_reserved, end_in, end_of_job, is_closing, may_put_of, need_of, newest_end, order_of, stage_puts}
+use Rattle.cct_jobs.specs.Jobs.{Needs, Stands, closes_order, coins_reserved, end_of_job, is_closing, may_put_of, need_of, newest_end, stage_puts}
 use Rattle.cct_jobs.proofs.Needs.{end_known, may_put_known, need_known}
-use Rattle.cct_jobs.proofs.Reserves.{closes_known, reserves_known}
+use Rattle.cct_jobs.proofs.Reserves.{closes_known, frees_by, reserves_known}
 use Rattle.cct_host.specs.declared.desk.JobDesk.{JobDesk}
 use Rattle.cct_host.specs.Desk.{AllSit, Sits, Works, held_at, held_in, reserved_over}
-use Rattle.cct_host.specs.Held.{coins_by, due_by, held_by, order_left, put_in, puts_left}
+use Rattle.cct_host.specs.Held.{coins_by, due_by, held_by, order_left, put_in}
 use Rattle.cct_host.specs.Place.{HasNoSale, device}
 use Rattle.cct_host.specs.Running.{is_running}
 
@@ -145,6 +145,16 @@ pub none_due : (past : List Entry) (addr : ℕ) (found : Option DeviceSetup) →
 none_due past addr found is none =
     bare_due (addr == HOST) (model.job (sale_lines past)) none ∙ sym (ap (due_there past addr) is)
 
+-- a list of desks holds what each of them holds
+pub held_there : (ks : List JobDesk) (i : ℕ) (k : JobDesk) → i < length ks → k ≡ get_or ks i k → held_at k ≤ held_in ks
+held_there [] i k within is = absurd (omega arith)
+held_there (m ∷ ms) zero k within is =
+    let same : held_at k ≡ held_at m = ap held_at is in
+    omega arith
+held_there (m ∷ ms) (suc i) k within is =
+    let rest = held_there ms i k (omega arith) is in
+    omega arith
+
 -- what it reserves
 
 no_coins : (value : ℕ) → 0 * value ≡ 0
@@ -173,3 +183,33 @@ reserved_is setup ks past all none =
     let sum = reserved_each setup setup.devices ks past all in
     let sale : reserved_by setup (model.job (sale_lines past)) ≡ 0 = ap (reserved_by setup) none in
     omega arith
+
+-- the record that is due frees just that
+
+frees_need : (n : Need) (setup : Setup) (d : DeviceSetup) (job : Job) (c : Command) (since : List Line)
+    (state : EpochState) (owed : Option OpenOrder) → need_of job ≡ n → Stands d job c since state owed
+    → IfSome (put_in n) (λ r. coins_of setup d.addr (coins_reserved job) ≡ freed_by setup r)
+frees_need need.Exchange setup d job c since state owed is at = tt
+frees_need (need.Put r) setup d job c since state owed is at = frees_by setup d job c since state owed r is at
+frees_need (need.Done end) setup d job c since state owed is at = tt
+
+frees_works : (setup : Setup) (d : DeviceSetup) (job : Option Job) (j : model.Job) (state : EpochState)
+    (owed : Option OpenOrder) → Works (device d) job j state owed
+    → IfSome (due_by job) (λ r. coins_of setup d.addr (coins_by job) ≡ freed_by setup r)
+frees_works setup d None j state owed works = tt
+frees_works setup d (Some job) (model.works c since) state owed works =
+    frees_need (need_of job) setup d job c since state owed refl works
+frees_works setup d (Some job) model.free state owed works = absurd works
+
+pub frees_is : (setup : Setup) (d : DeviceSetup) (k : JobDesk) (past : List Entry) (addr n : ℕ) (due : Option Record)
+    → due ≡ due_by k.job → d.addr ≡ addr → n ≡ coins_by k.job → Sits past (device d) k
+    → IfSome due (λ r. coins_of setup addr n ≡ freed_by setup r)
+frees_is setup d k past addr n due is here coins sits =
+    subst (λ x. IfSome x (λ r. coins_of setup addr n ≡ freed_by setup r)) (sym is)
+    (subst (λ a. IfSome (due_by k.job) (λ r. coins_of setup a n ≡ freed_by setup r)) here
+    (subst (λ m. IfSome (due_by k.job) (λ r. coins_of setup d.addr m ≡ freed_by setup r)) (sym coins)
+    (frees_works setup d k.job _ _ _ sits.works)))
+
+pub none_frees : (due : Option Record) (P : Record → Type 0) → due ≡ None → IfSome due P
+none_frees None P is = tt
+none_frees (Some r) P is = absurd cc

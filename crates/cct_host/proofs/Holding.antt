@@ -16,7 +16,7 @@ use Rattle.std.specs.Option.{IfSome, option_or}
 use Rattle.cct_model.specs.Legal.{is_played_command}
 use Rattle.cct_model.specs.Refusal.{pay_refusal, running_refusal, settle_refusal, start_refusal}
 use Rattle.cct_jobs.specs.declared.job.Job.{Job}
-use Rattle.cct_jobs.specs.declared.job.Job.TheVariants.{Asks, StartPuts, RoundPuts, StopPuts, StopEnds, OrderOpens, OrderCloses, Done}
+use Rattle.cct_jobs.specs.declared.job.Job.TheVariants.{Asks, StartPuts, RoundPuts, StopPuts, StopEnds, OrderOpens, OrderCloses}
 use Rattle.cct_jobs.specs.declared.job.Need.{Need}
 use Rattle.cct_jobs.specs.declared.job.Need.TheVariants as need
 use Rattle.cct_jobs.specs.declared.owed.Owed.{Owed}
@@ -154,19 +154,16 @@ coins_put (OrderOpens target own halted) is = refl
 coins_put (OrderCloses entry end) is = refl
 coins_put job is = absurd is
 
-none_kept : (end : Option End) (new : Job) (kept : Option Job) (addr n : ℕ) (report reported : List Entry)
-    → coins_reserved new ≡ 0 → Settles end new addr kept report reported → coins_by kept ≤ n
-none_kept None new kept addr n report reported none settled =
-    subst (λ k. coins_by k ≤ n) (sym settled.0) (omega (arith, none))
-none_kept (Some end) new kept addr n report reported none settled =
-    subst (λ k. coins_by k ≤ n) (sym settled.0) (omega arith)
+none_after : (end : Option End) (new : Job) (kept : Option Job) (addr : ℕ) (report reported : List Entry)
+    → coins_reserved new ≡ 0 → Settles end new addr kept report reported → coins_by kept ≡ 0
+none_after None new kept addr report reported none settled = ap coins_by settled.0 ∙ none
+none_after (Some end) new kept addr report reported none settled = ap coins_by settled.0
 
-pub put_reserves : (job new : Job) (kept : Option Job) (addr : ℕ) (report reported : List Entry)
+pub put_clears : (job new : Job) (kept : Option Job) (addr : ℕ) (report reported : List Entry)
     → IsPut (need_of job) → new ≡ after_put job → Settles (end_of_job new) new addr kept report reported
-    → coins_by kept ≤ coins_by (Some job)
-put_reserves job new kept addr report reported is goes settled =
-    none_kept (end_of_job new) new kept addr (coins_by (Some job)) report reported
-    (ap coins_reserved goes ∙ coins_put job is) settled
+    → coins_by kept ≡ 0
+put_clears job new kept addr report reported is goes settled =
+    none_after (end_of_job new) new kept addr report reported (ap coins_reserved goes ∙ coins_put job is) settled
 
 -- a need of a put is one
 pub is_put_by : (n : Need) (r : Record) → n ≡ need.Put r → IsPut n
@@ -176,6 +173,26 @@ pub some_put : (n : Need) (P : Type 0) → P → IfSome (put_in n) (λ r. P)
 some_put need.Exchange P p = tt
 some_put (need.Put entry) P p = p
 some_put (need.Done end) P p = tt
+
+-- what is about to be put may be put
+due_puts : (job : Job) → IfSome (put_in (need_of job)) (λ r. 1 ≤ may_put_of job)
+due_puts (StartPuts target mask) = omega arith
+due_puts (RoundPuts entry end) = omega arith
+due_puts (StopPuts target entry end) = omega arith
+due_puts (StopEnds target) = omega arith
+due_puts (OrderOpens target own halted) = omega arith
+due_puts (OrderCloses entry end) = omega arith
+due_puts job = tt
+
+some_more : (found : Option Record) (m n : ℕ) → m ≤ n → IfSome found (λ r. 1 ≤ m) → IfSome found (λ r. 1 ≤ n)
+some_more None m n less one = tt
+some_more (Some r) m n less one = omega (arith, one)
+
+pub due_held : (job : Option Job) (owed : Option OpenOrder) → IfSome (due_by job) (λ r. 1 ≤ held_by job owed)
+due_held None owed = tt
+due_held (Some job) owed =
+    some_more (put_in (need_of job)) (may_put_of job) (may_put_of job + order_left (Some job) owed) (omega arith)
+    (due_puts job)
 
 -- a job that begins
 

@@ -3,11 +3,14 @@ pub mod CoinPlaces
 pub mod Commands
 pub mod Held
 pub mod Holding
+pub mod Hosts
 pub mod Keeps
 pub mod Lines
-pub mod Over
+pub mod Money
 pub mod Owned
 pub mod Places
+pub mod Putting
+pub mod Quiet
 pub mod Standing
 pub mod Talks
 pub mod Turning

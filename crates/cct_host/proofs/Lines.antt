@@ -361,22 +361,22 @@ command_at past c (Some why) = λ place other.
     same_lines place past (entry.No c why ∷ []) (refused_line c why place past)
 
 -- the greatest id of the records after an attempt, and after a command
-put_last : (past : List Entry) (addr : ℕ) (r : Record) (end : Option End)
+greatest_put : (past : List Entry) (addr : ℕ) (r : Record) (end : Option End)
     → greatest_id (records (with_end addr (entry.Put r) end ++ past)) ≡ max (id_of r) (greatest_id (records past))
-put_last past addr r None = refl
-put_last past addr r (Some end) = refl
+greatest_put past addr r None = refl
+greatest_put past addr r (Some end) = refl
 
-wire_last : (past : List Entry) (addr : ℕ) (sent heard : List ℕ) (end : Option End)
+pub wire_records : (past : List Entry) (addr : ℕ) (sent heard : List ℕ) (end : Option End)
     → records (with_end addr (entry.Wire addr sent heard) end ++ past) ≡ records past
-wire_last past addr sent heard None = refl
-wire_last past addr sent heard (Some end) = refl
+wire_records past addr sent heard None = refl
+wire_records past addr sent heard (Some end) = refl
 
 last_by : (past : List Entry) (addr : ℕ) (what : Attempt)
     → greatest_id (records (news_of addr what ++ past)) ≡ max (used_by what) (greatest_id (records past))
 last_by past addr attempt.idle = sym (zero-max (greatest_id (records past)))
 last_by past addr (attempt.asked sent heard end) =
-    ap greatest_id (wire_last past addr sent heard end) ∙ sym (zero-max (greatest_id (records past)))
-last_by past addr (attempt.put r end) = put_last past addr r end
+    ap greatest_id (wire_records past addr sent heard end) ∙ sym (zero-max (greatest_id (records past)))
+last_by past addr (attempt.put r end) = greatest_put past addr r end
 
 pub attempt_last : (past : List Entry) (addr : ℕ) (what : Attempt) (used last after : ℕ) → used ≡ used_by what
     → last ≡ greatest_id (records past) → after ≡ max used last

@@ -14,12 +14,10 @@ use Rattle.cct_model.specs.lines.command.CommandNo.{CommandNo}
 use Rattle.cct_model.specs.lines.record.Record.{Record}
 use Rattle.cct_model.specs.Exchange.{device_at}
 use Rattle.cct_model.specs.Money.{coins_of, hopper_value}
-use Rattle.cct_jobs.specs.declared.job.Job.{Job}
 use Rattle.cct_jobs.specs.Jobs.{order_of}
 use Rattle.cct_host.specs.declared.desk.JobDesk.{JobDesk}
 use Rattle.cct_host.specs.declared.dues.Dues.{Dues}
 use Rattle.cct_host.specs.Desk.{IsFree, held_at, held_in, reserved_over}
-use Rattle.cct_host.specs.Desks.{coins_there}
 use Rattle.cct_host.specs.Held.{coins_by, held_by}
 use Rattle.cct_host.proofs.Places.{is_at, refilled}
 

@@ -13,7 +13,7 @@ use Rattle.cct_model.specs.Job as model
 use Rattle.cct_model.specs.Legal.{command_entry}
 use Rattle.cct_model.specs.Money.{coins_of}
 use Rattle.cct_model.specs.Order.{order}
-use Rattle.cct_model.specs.Refusal.{last_id, refusal, running_id}
+use Rattle.cct_model.specs.Refusal.{last_id, state_refusal, running_id}
 use Rattle.cct_jobs.specs.declared.job.Job.{Job}
 use Rattle.cct_host.specs.declared.dues.Dues.{Dues}
 use Rattle.cct_jobs.specs.Jobs.{order_of}
@@ -65,19 +65,19 @@ no_of (Err why) = Some why
 -- A command at a place is taken or refused as it has to be, and the desk there goes on by its entry.
 abbrev pub Commands : Setup → Place → JobDesk → JobDesk → Command → Result Unit CommandNo → Type 0
 Commands setup place old new c result =
-    (past : List Entry) → Sits past place old → (no_of result ≡ refusal None setup past c) × Sits
+    (past : List Entry) → Sits past place old → (no_of result ≡ state_refusal setup past c) × Sits
     (command_entry c (no_of result) ∷ past) place new
 
 -- The same of a command that begins a job, after a past with this last id.
 abbrev pub CommandsAbove : Setup → ℕ → Place → JobDesk → JobDesk → Command → Result Unit CommandNo → Type 0
 CommandsAbove setup last place old new c result =
     (past : List Entry) → last ≡ last_id setup past → Sits past place old
-    → (no_of result ≡ refusal None setup past c) × Sits (command_entry c (no_of result) ∷ past) place new
+    → (no_of result ≡ state_refusal setup past c) × Sits (command_entry c (no_of result) ∷ past) place new
 
 -- A command that begins or halts a job is refused for this reason, if for any, after a past with this last id.
 abbrev pub RefusesAbove : Setup → ℕ → Place → JobDesk → Command → Option CommandNo → Type 0
 RefusesAbove setup last place desk c why =
-    (past : List Entry) → last ≡ last_id setup past → Sits past place desk → why ≡ refusal None setup past c
+    (past : List Entry) → last ≡ last_id setup past → Sits past place desk → why ≡ state_refusal setup past c
 
 -- The greatest id of the payments at work at desks.
 abbrev pub greatest_paying : List JobDesk → ℕ

@@ -8,7 +8,7 @@ use Rattle.cct_model.specs.lines.record.Record.{Record}
 use Rattle.cct_model.specs.lines.entry.Entry.{Entry}
 use Rattle.cct_model.specs.Legal.{EntriesOfNext, command_entry}
 use Rattle.cct_model.specs.Records.{greatest_id, records}
-use Rattle.cct_model.specs.Refusal.{refusal}
+use Rattle.cct_model.specs.Refusal.{state_refusal}
 use Rattle.cct_model.specs.Setup.{IsSoundSetup}
 use Rattle.cct_host.specs.declared.desk.JobDesk.{JobDesk}
 use Rattle.cct_host.specs.declared.desks.Desks.{Desks}
@@ -66,11 +66,11 @@ Stays old new =
 abbrev pub Answers : Desks → Desks → Command → Result Unit CommandNo → Type 0
 Answers old new c result =
     (past : List Entry) → StandsFor old past
-    → (no_of result ≡ refusal None (setup_of old) past c) × StandsFor new (command_entry c (no_of result) ∷ past)
+    → (no_of result ≡ state_refusal (setup_of old) past c) × StandsFor new (command_entry c (no_of result) ∷ past)
 
 -- A command is refused for this reason, if for any, after whatever happened.
 abbrev pub Refuses : Desks → Command → Option CommandNo → Type 0
-Refuses desks c why = (past : List Entry) → StandsFor desks past → why ≡ refusal None (setup_of desks) past c
+Refuses desks c why = (past : List Entry) → StandsFor desks past → why ≡ state_refusal (setup_of desks) past c
 
 -- A `next` at an address makes one attempt over a link. What it adds to the report are the entries of a `next` after
 -- whatever happened, where what it heard is what follows the piece that it sent, and an order that it closes was opened at

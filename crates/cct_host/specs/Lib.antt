@@ -6,3 +6,4 @@ pub mod Running
 pub mod Held
 pub mod Desk
 pub mod Desks
+pub mod Host

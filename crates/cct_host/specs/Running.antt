@@ -14,7 +14,7 @@ use Rattle.cct_model.specs.declared.judging.EpochState.{EpochState}
 use Rattle.cct_model.specs.Device.{is_acceptor}
 use Rattle.cct_model.specs.Job.{address_of}
 use Rattle.cct_model.specs.Money.{coins_of}
-use Rattle.cct_model.specs.Refusal.{full_refusal, pay_refusal, running_refusal, settle_refusal, spending, start_refusal}
+use Rattle.cct_model.specs.Refusal.{pay_refusal, running_refusal, settle_refusal, start_refusal}
 use Rattle.cct_jobs.specs.declared.job.Job.{Job}
 use Rattle.cct_host.specs.declared.dues.Dues.{Dues}
 use Rattle.cct_jobs.specs.Jobs.{coins_asked, end_of_job, halts, order_of}
@@ -74,18 +74,6 @@ needed (command.Stop addr) = 2
 needed (command.Pay addr id count) = 2
 needed (command.Vend id price) = 1
 needed c = 0
-
--- The tests of a command that need a journal with this capacity: what it spends is available, and there is room for what
--- it may put.
-abbrev pub room_refusal : ℕ → Setup → List Entry → Command → Option CommandNo
-room_refusal capacity setup past (command.Start addr mask) = full_refusal setup past 1 capacity
-room_refusal capacity setup past (command.Round addr) = full_refusal setup past 1 capacity
-room_refusal capacity setup past (command.Stop addr) = full_refusal setup past 2 capacity
-room_refusal capacity setup past (command.Pay addr id count) =
-    spending setup past (coins_of setup addr count) 2 capacity
-room_refusal capacity setup past (command.Settle addr) = full_refusal setup past 0 capacity
-room_refusal capacity setup past (command.Vend id price) = spending setup past price 1 capacity
-room_refusal capacity setup past c = None
 
 -- What a command reserves until its order is opened.
 abbrev pub amount_of : Setup → Command → ℕ

@@ -319,6 +319,7 @@ impl JobDesk {
         ensures holds { held_at self.new ≤ held_at self.old }
         ensures puts { IfSome (due_by self.old.job) (λ r. held_at self.new < held_at self.old) }
         ensures reserves { coins_by self.new.job ≤ coins_by self.old.job }
+        ensures clears { IfSome (due_by self.old.job) (λ r. coins_by self.new.job ≡ 0) }
     {
         match self.job.take() {
             None => {
@@ -346,6 +347,7 @@ impl JobDesk {
         ensures puts { IfSome (due_by (Some job)) (λ r. held_at self.new
             < held_by (Some job) (order_of self.old.dues.order)) }
         ensures reserves { coins_by self.new.job ≤ coins_by (Some job) }
+        ensures clears { IfSome (due_by (Some job)) (λ r. coins_by self.new.job ≡ 0) }
     {
         match job.needs() {
             Need::Exchange => {

@@ -6,7 +6,7 @@ ghost use Rattle.cct_model.specs.Exchange.{device_at};
 ghost use Rattle.cct_model.specs.Job.{address_of};
 ghost use Rattle.cct_model.specs.lines.entry.Entry.{Entry};
 ghost use Rattle.cct_model.specs.Legal.{due_at, is_played_command};
-ghost use Rattle.cct_model.specs.Money.{coins_of};
+ghost use Rattle.cct_model.specs.Money.{coins_of, freed_by};
 ghost use Rattle.cct_model.specs.Refusal.{held};
 ghost use Rattle.cct_model.specs.Setup.{IsSoundSetup};
 ghost use Rattle.cct_record.specs.Body.{Encodable};
@@ -50,6 +50,13 @@ impl<'s> Desks<'s> {
             scan: JobDesk::default(),
             last: 0,
         }
+    }
+
+    /// The setup.
+    pub fn setup(&self) -> &'s Setup
+        ensures { result.now ≡ setup_of self.now }
+    {
+        self.setup
     }
 
     /// The operator gives a command. A refused one, for the first reason that holds, changes nothing.
@@ -146,6 +153,7 @@ impl<'s> Desks<'s> {
     pub fn due(&self, addr: u8) -> Option<Record>
         ensures value { result ≡ due_on self.now addr }
         ensures fits { IfSome result Encodable }
+        ensures holds { IfSome result (λ r. 1 ≤ held_of self.now) }
         ensures stands { (past : List Entry) → StandsFor self.now past
             → result ≡ due_at (setup_of self.now) past addr }
     {
@@ -155,9 +163,12 @@ impl<'s> Desks<'s> {
         }
     }
 
-    /// How many coins the job at an address reserves: those of the order that a payment there is still to open.
+    /// How many coins the job at an address reserves: those of the order that a payment there is still to open. The
+    /// record that the job is about to put, if it is about to put one, takes just their value.
     pub fn coins_reserved(&self, addr: u8) -> u8
-        ensures { result ≡ coins_on self.now addr }
+        ensures value { result ≡ coins_on self.now addr }
+        ensures frees { (past : List Entry) → StandsFor self.now past → IfSome (due_on self.now addr)
+            (λ r. coins_of (setup_of self.now) addr result ≡ freed_by (setup_of self.now) r) }
     {
         match index_of(self.setup.devices.as_slice(), addr) {
             Some(index) => self.devices[index].coins_reserved(),
@@ -173,6 +184,7 @@ impl<'s> Desks<'s> {
         ensures holds { held_of self.new ≤ held_of self.old }
         ensures puts { IfSome (due_on self.old addr) (λ r. held_of self.new < held_of self.old) }
         ensures reserves { coins_on self.new addr ≤ coins_on self.old addr }
+        ensures clears { IfSome (due_on self.old addr) (λ r. coins_on self.new addr ≡ 0) }
         ensures frees { reserved_of self.new
             + coins_of (setup_of self.old) addr (coins_on self.old addr - coins_on self.new addr)
             ≡ reserved_of self.old }
@@ -196,6 +208,7 @@ impl<'s> Desks<'s> {
         ensures holds { held_of self.new ≤ held_of self.old }
         ensures puts { IfSome (due_on self.old addr) (λ r. held_of self.new < held_of self.old) }
         ensures reserves { coins_on self.new addr ≤ coins_on self.old addr }
+        ensures clears { IfSome (due_on self.old addr) (λ r. coins_on self.new addr ≡ 0) }
         ensures frees { reserved_of self.new
             + coins_of (setup_of self.old) addr (coins_on self.old addr - coins_on self.new addr)
             ≡ reserved_of self.old }

@@ -1,10 +1,17 @@
-//! The host: a job at each address, the epochs of its acceptors, and the open orders of its hoppers, over any link.
+//! The host: a job at each address, the epochs of its acceptors, and the open orders of its hoppers, over any link; and
+//! its records in a journal, with what they are worth.
 #![tactic(auto)]
 
+mod advance;
 mod desk;
 mod desks;
 mod dues;
 mod exchange;
+mod host;
 mod values;
 
 pub use desks::Desks;
+pub use host::{Host, StartNo};
+
+#[cfg(test)]
+mod tests;

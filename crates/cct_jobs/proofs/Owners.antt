@@ -1,11 +1,12 @@
 -- Which records a job puts: each is of the address of its command, and those of an epoch leave the open order as it is;
--- one that closes an order closes the open one.
+-- one that closes an order closes the open one. Neither frees what is reserved.
 use Rattle.std.proofs.Common.{◌≡◌, ℕ, zero, suc, List, refl, subst, cond, Bool, true, false, Option, Some, None}
 use Rattle.std.specs.Prelude.{slice_get}
 use Rattle.std.specs.Option.{IfSome}
 use Rattle.cct_model.specs.terms.coin.Coin.{Coin}
 use Rattle.cct_model.specs.terms.coin.Credits.{Credits}
 use Rattle.cct_model.specs.terms.device.DeviceSetup.{DeviceSetup}
+use Rattle.cct_model.specs.terms.device.Setup.{Setup}
 use Rattle.cct_model.specs.terms.request.Request.{Request}
 use Rattle.cct_model.specs.lines.command.Command.{Command}
 use Rattle.cct_model.specs.lines.command.Command.TheVariants as command
@@ -20,6 +21,7 @@ use Rattle.cct_model.specs.Reading.{judge}
 use Rattle.cct_model.specs.Job.{Payment, Row, close_row, credits_read, done, ident_requests, judged_by, mask_read, no_row, open_row, path_row, pay_row, payment_in, put_or, puts, round_row, row, send_row, settle_row, start_row, stop_row}
 use Rattle.cct_model.specs.Legal.{record_due}
 use Rattle.cct_model.specs.Line.{Line}
+use Rattle.cct_model.specs.Money.{freed_by}
 use Rattle.cct_model.specs.Order.{close, order_by}
 use Rattle.cct_model.specs.Transcript.{opened_at, owner}
 use Rattle.cct_jobs.specs.Jobs.{ClosesItsOwn}
@@ -107,6 +109,22 @@ pub stop_owes : (owed : Option OpenOrder) (addr rows : ℕ) (state : EpochState)
     → order_by e owed ≡ owed
 stop_owes owed addr rows state credits seen e h = of_stop (still_owed owed addr) rows state credits seen e h
 
+-- and frees nothing
+none_freed : (setup : Setup) (addr : ℕ) → OfEpochs (λ r. 0 ≡ freed_by setup r) addr
+none_freed setup addr = record {
+  broken = λ seen counter posted. refl;
+  reading = λ counter lost posted. refl;
+  ends = refl;
+}
+
+pub round_frees : (setup : Setup) (addr rows : ℕ) (state : EpochState) (credits : Option Credits) (seen : Option ℕ)
+    (e : Record) → round_row rows (judged_by addr state credits seen) ≡ puts e → 0 ≡ freed_by setup e
+round_frees setup addr rows state credits seen e h = of_round (none_freed setup addr) rows state credits seen e h
+
+pub stop_frees : (setup : Setup) (addr rows : ℕ) (state : EpochState) (credits : Option Credits) (seen : Option ℕ)
+    (e : Record) → stop_row addr rows (judged_by addr state credits seen) ≡ puts e → 0 ≡ freed_by setup e
+stop_frees setup addr rows state credits seen e h = of_stop (none_freed setup addr) rows state credits seen e h
+
 -- an order that is closed
 
 closed_owner : (b : Bool) (past : List Entry) (addr id paid unpaid before after : ℕ)
@@ -130,6 +148,16 @@ none_by false owed id paid unpaid before after = refl
 pub close_leaves_none : (owed : Option OpenOrder) (o : OpenOrder) (life : ℕ) → order_by (close o life) owed ≡ None
 unfolding close
 close_leaves_none owed o life = none_by _ owed o.id _ _ o.life life
+
+-- nor is anything freed then
+closed_frees : (setup : Setup) (b : Bool) (id paid unpaid before after : ℕ)
+    → 0 ≡ freed_by setup (cond b (record_of.Closed id paid unpaid) (record_of.Odd id before after))
+closed_frees setup true id paid unpaid before after = refl
+closed_frees setup false id paid unpaid before after = refl
+
+pub close_frees : (setup : Setup) (o : OpenOrder) (life : ℕ) → 0 ≡ freed_by setup (close o life)
+unfolding close
+close_frees setup o life = closed_frees setup _ o.id _ _ o.life life
 
 -- where the open order was opened at an address, each record that a row puts closes none of another one
 

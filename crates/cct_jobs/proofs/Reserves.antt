@@ -1,18 +1,19 @@
 -- What a payment or a settlement is at work to close, and how many coins a payment reserves.
-use Rattle.std.proofs.Common.{◌≡◌, ℕ, suc, ◌≤◌, ◌*◌, Bool, true, false, cond, List, refl, sym, ap, subst, ◌∙◌, Option, Some, None, arith}
+use Rattle.std.proofs.Common.{◌≡◌, ℕ, suc, ◌≤◌, ◌*◌, Bool, true, cond, List, refl, sym, ap, subst, ◌∙◌, Option, None, arith}
 use Rattle.std.specs.Prelude.{nat_le}
 use Rattle.cct_model.specs.lines.command.Command.{Command}
-use Rattle.cct_model.specs.lines.command.Command.TheVariants as command
+use Rattle.cct_model.specs.lines.record.Record.{Record}
 use Rattle.cct_model.specs.terms.device.DeviceSetup.{DeviceSetup}
 use Rattle.cct_model.specs.terms.device.Setup.{Setup}
 use Rattle.cct_model.specs.declared.judging.EpochState.{EpochState}
 use Rattle.cct_model.specs.declared.judging.OpenOrder.{OpenOrder}
 use Rattle.cct_model.specs.Exchange.{device_at}
-use Rattle.cct_model.specs.Job.{done, works}
+use Rattle.cct_model.specs.Job.{credits_read, done, mask_read, puts, row, works}
 use Rattle.cct_model.specs.Line.{Line}
-use Rattle.cct_model.specs.Money.{coins_of, hopper_value, reserved_by}
+use Rattle.cct_model.specs.Money.{coins_of, freed_by, hopper_value, reserved_by}
 use Rattle.cct_jobs.specs.declared.job.Job.{Job}
 use Rattle.cct_jobs.specs.declared.job.Job.TheVariants.{Asks, StartPuts, RoundPuts, StopPuts, StopEnds, OrderOpens, OrderCloses, Done}
+use Rattle.cct_jobs.specs.declared.job.Need.TheVariants as need
 use Rattle.cct_jobs.specs.declared.payout.Closing.{Closing}
 use Rattle.cct_jobs.specs.declared.payout.Closing.TheVariants as closing_of
 use Rattle.cct_jobs.specs.declared.payout.Payout.{Payout}
@@ -20,7 +21,8 @@ use Rattle.cct_jobs.specs.declared.payout.Payout.TheVariants.{Enables, Counts, D
 use Rattle.cct_jobs.specs.declared.stage.Stage.{Stage}
 use Rattle.cct_jobs.specs.declared.stage.Stage.TheVariants.{Reads, Looks, Pays}
 use Rattle.cct_jobs.specs.declared.stage.Visit.TheVariants.{Round, Stop}
-use Rattle.cct_jobs.specs.Jobs.{IsAfter, IsAfterPayout, Stands, after_halt, closes_order, closing_by, coins_reserved, halted_row, halts, is_closing, may_put_of, newest_end, own_of, payout_by, payout_reserves, rows_paid, stage_closes, stage_reserves}
+use Rattle.cct_jobs.specs.Jobs.{IsAfter, IsAfterPayout, Stands, after_halt, closes_order, closing_by, coins_reserved, halted_row, is_closing, may_put_of, need_of, newest_end, opened_by, own_of, payout_by, payout_reserves, rows_paid, stage_closes, stage_reserves}
+use Rattle.cct_jobs.proofs.Owners.{close_frees, round_frees, stop_frees}
 
 -- what puts one record at the most reserves nothing
 pub few_reserve_none : (job : Job) (n : ℕ) → n ≤ 1 → may_put_of job ≤ n → coins_reserved job ≡ 0
@@ -175,3 +177,31 @@ pub reserves_known : (setup : Setup) (d : DeviceSetup) (job : Job) (c : Command)
     → newest_end d c since state ≡ None → coins_of setup d.addr n ≡ reserved_by setup (works c since)
 reserves_known setup d job c since state owed n is at on =
     ap (coins_of setup d.addr) is ∙ reserves_by setup d job c since state owed at on
+
+-- the record that a job is about to put frees just what it reserves
+
+freed_put : (setup : Setup) (entry r : Record) (n : ℕ) → need.Put entry ≡ need.Put r → n ≡ freed_by setup entry
+    → n ≡ freed_by setup r
+freed_put setup entry r n is freed =
+    let same : entry ≡ r = cc in
+    freed ∙ ap (freed_by setup) same
+
+pub frees_by : (setup : Setup) (d : DeviceSetup) (job : Job) (c : Command) (since : List Line) (state : EpochState)
+    (owed : Option OpenOrder) (r : Record) → need_of job ≡ need.Put r → Stands d job c since state owed
+    → coins_of setup d.addr (coins_reserved job) ≡ freed_by setup r
+frees_by setup d (StartPuts device mask) c since state owed r is at = nothing setup d.addr ∙ freed_put setup _ r _ is refl
+frees_by setup d (RoundPuts entry end) c since state owed r is at =
+    nothing setup d.addr ∙ freed_put setup entry r _ is
+    (round_frees setup d.addr (done since) state (credits_read since) (mask_read since) entry
+    (subst (λ k. row d k since state owed ≡ puts entry) at.command_is at.row_is))
+frees_by setup d (StopPuts device entry end) c since state owed r is (device_is, rows_are, apart, at) =
+    nothing setup d.addr ∙ freed_put setup entry r _ is
+    (stop_frees setup d.addr (done since) state (credits_read since) (mask_read since) entry
+    (subst (λ k. row d k since state owed ≡ puts entry) at.command_is at.row_is))
+frees_by setup d (StopEnds device) c since state owed r is at = nothing setup d.addr ∙ freed_put setup _ r _ is refl
+frees_by setup d (OrderOpens device own halted) c since state owed r is at =
+    ap (λ a. coins_of setup a own.order.count) (sym at.is_here) ∙ freed_put setup (opened_by own.order) r _ is refl
+frees_by setup d (OrderCloses entry end) c since state owed r is at =
+    nothing setup d.addr ∙ freed_put setup entry r _ is
+    (close_frees setup at.order at.life ∙ ap (freed_by setup) (sym at.closes))
+frees_by setup d job c since state owed r is at = absurd cc

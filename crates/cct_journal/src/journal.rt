@@ -205,6 +205,7 @@ impl<D: Disk> Journal<D> {
             → Stands D.honest D.seen D.may_leave (disk_of self.old) (place_of self.old) records
             → LeavesOneOf D.honest D.seen D.may_leave (disk_of self.new) records entry.now) }
         ensures counted { OnOk result (used_of self.new ≡ used_of self.old + 1) }
+        ensures still { OnErr result (place_of self.new ≡ place_of self.old) }
         ensures unbroken { OnOk result (has_failed self.new ≡ false) }
         ensures broken { result ≡ Err JournalNo.Disk → has_failed self.new ≡ true }
 

@@ -1,5 +1,5 @@
 //! A record is put into the slot behind the others.
-ghost use Rattle.std.specs.Prelude.{◌≡◌, ◌+◌, ◌<◌, ◌≤◌, List, [], ◌∷◌, ◌++◌, OnOk};
+ghost use Rattle.std.specs.Prelude.{◌≡◌, ◌+◌, ◌<◌, ◌≤◌, List, [], ◌∷◌, ◌++◌, OnErr, OnOk};
 ghost use Rattle.cct_edge.specs.Faults.{HasCause};
 ghost use Rattle.cct_lines.specs.declared.record.Record.{Record};
 ghost use Rattle.cct_record.specs.Body.{Encodable};
@@ -36,6 +36,7 @@ pub(crate) fn put_slot<D: Disk>(
         → Stands D.honest D.seen D.may_leave disk.new place.new (records ++ entry.now ∷ [])) }
     ensures counted { OnOk result (calls ≡ GATED_CALLS → place.new.used ≡ place.old.used + 1) }
     ensures at_most { place.new.used ≤ place.old.used + 1 }
+    ensures still { OnErr result (place.new ≡ place.old) }
     ensures goes_on { GoesOn D.size D.honest D.seen D.cuts disk.old disk.new }
     ensures cause { HasCause (D.faults disk.old) (D.faults disk.new) result }
 {

@@ -14,12 +14,12 @@ use Rattle.cct_model.specs.Reply.{Reply}
 use Rattle.cct_model.specs.Setup.{AreDistinct}
 use Rattle.cct_model.specs.Line.{Line, exchange, put}
 use Rattle.cct_model.specs.Order.{order_by}
-use Rattle.cct_model.specs.Job.{works, job, done, puts, open_row, pay_row, Payment, payment_in, row, row_of_sale, vend_row}
+use Rattle.cct_model.specs.Job.{works, job, done, puts, open_row, pay_row, Payment, payment_in, row}
 use Rattle.cct_model.specs.Records.{records}
 use Rattle.cct_model.specs.Money.{coins_of, posted_in, reserved_by, reserved_at_work, spoken_for, available}
 use Rattle.cct_model.specs.Transcript.{lines_of, sale_lines}
 use Rattle.cct_laws.specs.Law.{IsOf}
-use Rattle.cct_laws.proofs.Sums.{sum_grows, sum_moved}
+use Rattle.cct_laws.proofs.Sums.{sum_moved}
 use Rattle.cct_laws.proofs.Orders.{order_as}
 use Rattle.cct_laws.proofs.Covered.{spoken_in}
 use Rattle.cct_laws.proofs.Held.{done_grows, same_record, settle_row_closes}
@@ -46,17 +46,6 @@ at_work_moved setup d past after distinct is_of others sale =
     let moved =
     sum_moved (λ e. reserved_by setup (job (lines_of e after))) (λ e. reserved_by setup (job (lines_of e past)))
     setup.devices d distinct is_of others in
-    omega arith
-
--- what the sale reserves changes, and no more is reserved by the devices
-pub at_work_sold : (setup : Setup) (past after : List Entry) →
-    ((e : DeviceSetup) → reserved_by setup (job (lines_of e after)) ≤ reserved_by setup (job (lines_of e past))) →
-    reserved_at_work setup after + reserved_by setup (job (sale_lines past))
-    ≤ reserved_at_work setup past + reserved_by setup (job (sale_lines after))
-at_work_sold setup past after devices =
-    let grows =
-    sum_grows (λ e. reserved_by setup (job (lines_of e after))) (λ e. reserved_by setup (job (lines_of e past)))
-    setup.devices devices in
     omega arith
 
 -- a payment of which more rows are done reserves no more
@@ -133,16 +122,6 @@ pub work_opened : (setup : Setup) (d : DeviceSetup) (addr id count : ℕ) (since
 work_opened setup d addr id count since state owed opened counted at life is =
     opened_rows setup d.serial addr id count since (record_of.Opened opened at counted life) (done since)
     (payment_in since owed) refl is opened counted at life refl
-
--- a sale reserves its price until it puts that
-pub work_sold : (setup : Setup) (c : Command) (since : List Line) (id price : ℕ) →
-    row_of_sale c since ≡ puts (record_of.Sold id price) → reserved_by setup (works c since) ≡ price
-work_sold setup (command.Vend own asked) since id price is = by_rows (done since) is
-  where
-    by_rows : (rows : ℕ) → vend_row own asked rows ≡ puts (record_of.Sold id price) → asked ≡ price
-    by_rows zero at = cc
-    by_rows (suc rows) at = absurd cc
-work_sold setup c since id price is = absurd cc
 
 -- what a command spends is reserved as its job begins
 abbrev pub spent_by : Setup → Command → ℕ

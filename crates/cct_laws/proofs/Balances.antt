@@ -1,5 +1,5 @@
--- Over a journal with a capacity each balance that is told is conserved.
-use Rattle.std.proofs.Common.{ℕ, List, [], ◌∷◌, ◌++◌, Option, Some, All}
+-- Each balance that is told is conserved.
+use Rattle.std.proofs.Common.{ℕ, List, [], ◌∷◌, ◌++◌, All}
 use Rattle.cct_model.specs.terms.wire.TheConstants.{BROADCAST}
 use Rattle.cct_model.specs.terms.device.DeviceSetup.{DeviceSetup}
 use Rattle.cct_model.specs.terms.device.Setup.{Setup}
@@ -34,7 +34,7 @@ came_balanced setup d seen past _ _ _ _ (jams paying is) before = (tt, before)
 came_balanced setup d seen past _ _ _ _ (jams_none paying is) before = (tt, before)
 came_balanced setup d seen past _ _ _ _ is_reset before = (tt, before)
 
-there_balanced : (capacity : Option ℕ) (setup : Setup) (d : DeviceSetup) (past news : List Entry) (s : Step) →
+there_balanced : (capacity : ℕ) (setup : Setup) (d : DeviceSetup) (past news : List Entry) (s : Step) →
     AtDevice capacity setup d past s news → AllBalanced setup past → AllBalanced setup (news ++ past)
 there_balanced capacity setup d past _ _ (came s e m ls comes) before =
     came_balanced setup d _ past s e m ls comes before
@@ -49,10 +49,10 @@ there_balanced capacity setup d past _ _ (made_put c since r at_work is_row) bef
     before
 
 step_balanced : (capacity : ℕ) (setup : Setup) (past news : List Entry) (s : Step) →
-    Brought (Some capacity) setup past s news → Books capacity setup past → AllBalanced setup past →
+    Brought capacity setup past s news → Books capacity setup past → AllBalanced setup past →
     AllBalanced setup (news ++ past)
 step_balanced capacity setup past _ _ (of_device d s news own told) books before =
-    there_balanced (Some capacity) setup d past news s told before
+    there_balanced capacity setup d past news s told before
 step_balanced capacity setup past _ _ (faulted f) books before = (tt, before)
 step_balanced capacity setup past _ _ (refused c why was) books before = (tt, before)
 step_balanced capacity setup past _ _ (began_scan is_free) books before = (tt, before)
@@ -69,12 +69,12 @@ step_balanced capacity setup past _ _ (lost_in_put at choice d c since r own at_
 step_balanced capacity setup past _ _ (lost_in_sale at choice id price since none selling) books before =
     (tt, (tt, before))
 
--- each balance is conserved in every legal transcript over a journal with a capacity, whatever the wire does
+-- each balance is conserved in every legal transcript, whatever the wire does
 pub legal_balances : (capacity : ℕ) (setup : Setup) (steps : List Step) (transcript : List Entry) →
-    IsSoundSetup setup → All IsInRange steps → Legal (Some capacity) setup steps transcript →
+    IsSoundSetup setup → All IsInRange steps → Legal capacity setup steps transcript →
     EachEntry (IsBalanced setup) (onto [] transcript)
 legal_balances capacity setup steps transcript sound in_range legal =
-    (along (Some capacity) setup IsInRange (λ past. Books capacity setup past × AllBalanced setup past) sound
+    (along capacity setup IsInRange (λ past. Books capacity setup past × AllBalanced setup past) sound
     (λ past news s range ids told both. (
       books_step capacity setup past news s sound range ids told both.0,
       step_balanced capacity setup past news s told both.0 both.1,

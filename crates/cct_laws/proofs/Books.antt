@@ -1,6 +1,6 @@
--- Over a journal with a capacity every legal step, whatever the wire does, keeps the books: each record follows those
--- before it, what is posted covers what is spoken for, and there is room for all records that are held.
-use Rattle.std.proofs.Common.{ap₂, ◌≡◌, ◌≢◌, ℕ, zero, suc, ◌+◌, ◌-◌, ◌≤◌, cond, List, [], ◌∷◌, ◌++◌, length, refl, ap, sym, ◌∙◌, subst, Some, None, All, inl, inr, arith}
+-- Every legal step, whatever the wire does, keeps the books: each record follows those before it, what is posted covers
+-- what is spoken for, and there is room for all records that are held.
+use Rattle.std.proofs.Common.{◌≡◌, ◌≢◌, ℕ, zero, suc, ◌+◌, ◌-◌, ◌≤◌, cond, List, [], ◌∷◌, ◌++◌, length, refl, ap, sym, subst, Some, None, All, inl, inr, arith}
 use Rattle.std.proofs.lemmas.Bool.{and_from, ne_eqb}
 use Rattle.cct_model.specs.terms.wire.TheConstants.{BROADCAST, HOST}
 use Rattle.cct_model.specs.terms.device.DeviceSetup.{DeviceSetup}
@@ -15,39 +15,36 @@ use Rattle.cct_model.specs.lines.entry.Entry.{Entry}
 use Rattle.cct_model.specs.lines.entry.Entry.TheVariants as entry
 use Rattle.cct_model.specs.Setup.{IsSoundSetup}
 use Rattle.cct_model.specs.Line.{Line, put, crashed}
-use Rattle.cct_model.specs.Order.{order}
-use Rattle.cct_model.specs.Job.{works, job, done, epoch, puts}
+use Rattle.cct_model.specs.Job.{job}
 use Rattle.cct_model.specs.Records.{records}
-use Rattle.cct_model.specs.Money.{totals, sum_over, coins_of, posted_in, reserved_by, reserved_at_work, spoken_for}
+use Rattle.cct_model.specs.Money.{totals, sum_over, posted_in, reserved_by, spoken_for}
 use Rattle.cct_model.specs.Refusal.{holds_at, sale_holds, held, refusal}
-use Rattle.cct_model.specs.Legal.{with_end, keeping_crash, Legal}
+use Rattle.cct_model.specs.Legal.{with_end, keeping_crash, LegalFrom}
 use Rattle.cct_model.specs.Script.{IsInRange}
-use Rattle.cct_model.specs.Transcript.{met, lines_of, sale_lines, onto}
+use Rattle.cct_model.specs.Transcript.{met, lines_of, sale_lines}
 use Rattle.cct_laws.specs.Ids.{Ids}
 use Rattle.cct_laws.specs.Law.{IsOf}
 use Rattle.cct_laws.specs.Recorded.{need_of}
-use Rattle.cct_laws.proofs.AtWork.{spoken_both, spent_by}
-use Rattle.cct_laws.proofs.Brought.{AtWork, row_after, wire_of, wire_end, record_end, poll_wire, poll_end, AtDevice, came, took, halted, idled, made_exchange, made_put, Selling, Brought, of_device, faulted, refused, began_scan, began_sale, nobody, polled, sold, balanced, lost_power, lost_in_put, lost_in_sale}
+use Rattle.cct_laws.proofs.AtWork.{spent_by}
+use Rattle.cct_laws.proofs.Brought.{wire_of, wire_end, record_end, poll_wire, poll_end, AtDevice, came, took, halted, idled, made_exchange, made_put, Selling, Due, from_job, from_sale, Brought, of_device, faulted, refused, began_scan, began_sale, nobody, polled, sold, balanced, lost_power, lost_in_put, lost_in_sale}
 use Rattle.cct_laws.proofs.Covered.{spoken_in, sold_spoken}
-use Rattle.cct_laws.proofs.Follow.{Follows}
+use Rattle.cct_laws.proofs.Follow.{Follows, follows_by}
 use Rattle.cct_laws.proofs.Held.{holds_of, holds_crashed, held_crashed, held_kept}
-use Rattle.cct_laws.proofs.Ids.{put_owned}
+use Rattle.cct_laws.proofs.Ids.{ids_start, put_owned}
 use Rattle.cct_laws.proofs.Keeping.{works_at}
+use Rattle.cct_laws.proofs.Orders.{belongs_all}
 use Rattle.cct_laws.proofs.Recorded.{restart_frees}
 use Rattle.cct_laws.proofs.Room.{room_for, money_for}
-use Rattle.cct_laws.proofs.Seen.{not_zero, along}
+use Rattle.cct_laws.proofs.Seen.{not_zero, along_from}
 use Rattle.cct_laws.proofs.Setups.{same_or_other}
-use Rattle.cct_laws.proofs.Sums.{sum_grows_each, sum_holds, all_found}
+use Rattle.cct_laws.proofs.Sums.{sum_grows_each, all_found}
 use Rattle.cct_laws.proofs.Unmoved.{off_host, AreSame, same_lines, came_quiet, same_came, same_taken, same_put, same_end, same_wire, same_elsewhere, records_end}
 use Rattle.cct_laws.proofs.Counting.{Counts, counts_start, counts_moved, counts_sold, counts_same, counts_lost}
 use Rattle.cct_laws.proofs.Spending.{moves_taken, moves_halted, moves_asked, moves_put}
-use Rattle.cct_laws.proofs.Fitted.{Base, base_start, base_step, put_fits, sale_fits, scan_unsold}
-use Rattle.cct_laws.proofs.Follow.{IsAffordable, follows_by}
-use Rattle.cct_laws.proofs.AtWork.{work_opened}
-use Rattle.cct_laws.proofs.Unmoved.{row_uses}
-use Rattle.cct_laws.proofs.Opening.{UsesOwn}
+use Rattle.cct_laws.proofs.Fitted.{Base, base_start, base_step, due_fits, scan_unsold}
+use Rattle.cct_laws.proofs.Freed.{affords, due_frees}
 
--- the books: what the records and the sums over them keep, beside what is kept over any journal
+-- the books: what the records and the sums over them keep, beside what running jobs need
 pub record Books (capacity : ℕ) (setup : Setup) (past : List Entry) : Type 0 where
   pub base : Base setup past
   pub counts : Counts capacity setup past
@@ -64,7 +61,7 @@ one_kept many later now capacity le room = omega (arith, le, room)
 
 -- a command that is taken has room for its records, and what it spends is available
 full_taken : (capacity : ℕ) (setup : Setup) (past : List Entry) (c : Command) →
-    refusal (Some capacity) setup past c ≡ None → Counts capacity setup past →
+    refusal capacity setup past c ≡ None → Counts capacity setup past →
     length (records past) + held setup past + need_of c ≤ capacity
 full_taken capacity setup past c lets counts = by_need (need_of c) refl
   where
@@ -84,89 +81,43 @@ afford : (wanted all posted : ℕ) → wanted ≤ posted - all → all ≤ poste
 afford wanted all posted le covered = omega (arith, le, covered)
 
 paid_taken : (capacity : ℕ) (setup : Setup) (past : List Entry) (c : Command) →
-    refusal (Some capacity) setup past c ≡ None → Counts capacity setup past →
+    refusal capacity setup past c ≡ None → Counts capacity setup past →
     spoken_for setup past + spent_by setup c ≤ posted_in setup (records past)
 paid_taken capacity setup past c lets counts =
     afford (spent_by setup c) (spoken_for setup past) (posted_in setup (records past))
     (money_for capacity setup past c lets) counts.covered
 
--- what one job reserves is available beside the records
-reserved_affords : (part all spoken spoken_all posted : ℕ) → part ≤ all → spoken_all ≡ spoken + all →
-    spoken_all ≤ posted → part ≤ posted - spoken
-reserved_affords part all spoken spoken_all posted le both covered = omega (arith, le, both, covered)
-
--- the money of what a job at a device puts is available: it had reserved it
-put_affords : (capacity : ℕ) (setup : Setup) (d : DeviceSetup) (past : List Entry) (c : Command) (since : List Line)
-    (r : Record) → IsOf setup d → Counts capacity setup past → job (lines_of d past) ≡ works c since →
-    row_after d past c since ≡ puts r → UsesOwn r c (done since) → IsAffordable setup (records past) r
-put_affords capacity setup d past (command.Pay addr id count) since (record_of.Opened opened at counted life) own counts
-    is row_is uses_own =
-    let opens =
-    work_opened setup d addr id count since (epoch (lines_of d past)) (order (lines_of d past)) opened counted at life
-    row_is in
-    let reserves : reserved_by setup (job (lines_of d past)) ≡ coins_of setup at counted =
-    ap (reserved_by setup) is ∙ opens.3.reserved_before ∙ sym (ap₂ (coins_of setup) opens.1 opens.2) in
-    reserved_affords (coins_of setup at counted) (reserved_at_work setup past) (spoken_in setup (records past))
-    (spoken_for setup past) (posted_in setup (records past))
-    (within (sum_over (λ e. reserved_by setup (job (lines_of e past))) setup.devices)
-    (reserved_by setup (job (sale_lines past))) reserves
-    (sum_holds (λ e. reserved_by setup (job (lines_of e past))) setup.devices d d.addr own))
-    (spoken_both setup past) counts.covered
-  where
-    within : {coins here : ℕ} (devices sale : ℕ) → here ≡ coins → here ≤ devices → coins ≤ devices + sale
-    within devices sale same le = omega (arith, same, le)
-put_affords capacity setup d past c since (record_of.Opened opened at counted life) own counts is row_is uses_own =
-    absurd uses_own
-put_affords capacity setup d past c since (record_of.Sold id price) own counts is row_is uses_own = absurd uses_own
-put_affords capacity setup d past c since r own counts is row_is uses_own = tt
-
-put_follows : (capacity : ℕ) (setup : Setup) (d : DeviceSetup) (past : List Entry) (c : Command) (since : List Line)
-    (r : Record) → Ids setup past → IsOf setup d → Books capacity setup past → AtWork d past c since →
-    row_after d past c since ≡ puts r → Follows setup (records past) r
-put_follows capacity setup d past c since r ids own books at_work is_row =
-    follows_by setup (records past) r (put_fits setup d past c since r ids own books.base at_work is_row)
-    (put_affords capacity setup d past c since r own books.counts at_work.job_is is_row
-    (row_uses d past c since r is_row))
-
--- and so is the price of a sale
-sale_follows : (capacity : ℕ) (setup : Setup) (past : List Entry) (id price : ℕ) (since : List Line) →
-    Books capacity setup past → Selling past id price since →
-    Follows setup (records past) (record_of.Sold id price)
-sale_follows capacity setup past id price since books selling =
-    let reserves : reserved_by setup (job (sale_lines past)) ≡ price = ap (reserved_by setup) selling.job_is in
-    follows_by setup (records past) (record_of.Sold id price)
-    (sale_fits setup past id price since books.base.told selling)
-    (reserved_affords price (reserved_at_work setup past) (spoken_in setup (records past)) (spoken_for setup past)
-    (posted_in setup (records past))
-    (within (sum_over (λ e. reserved_by setup (job (lines_of e past))) setup.devices) reserves)
-    (spoken_both setup past) books.counts.covered)
-  where
-    within : {here : ℕ} (devices : ℕ) → here ≡ price → price ≤ devices + here
-    within devices same = omega (arith, same)
+-- a record that is due follows those before it
+pub due_follows : (capacity : ℕ) (setup : Setup) (past : List Entry) (r : Record) → Ids setup past →
+    Books capacity setup past → Due setup past r → Follows setup (records past) r
+due_follows capacity setup past r ids books due =
+    follows_by setup (records past) r
+    (due_fits setup past r ids books.base (belongs_all setup (records past) books.counts.follow) due)
+    (affords setup past r (due_frees setup past r due) books.counts.covered)
 
 -- what a step brought at a device
 counts_there : (capacity : ℕ) (setup : Setup) (d : DeviceSetup) (past news : List Entry) (s : Step) →
     IsSoundSetup setup → Ids setup past → IsOf setup d → Books capacity setup past →
-    AtDevice (Some capacity) setup d past s news → Counts capacity setup (news ++ past)
+    AtDevice capacity setup d past s news → Counts capacity setup (news ++ past)
 counts_there capacity setup d past _ _ sound ids own books (came s x m ls comes) =
     let is_quiet = came_quiet d (met d past) s x m ls comes in
     counts_same capacity setup past (x ∷ past) sound
     (λ e is_of. elim (same_or_other setup d e e.addr own is_of) [
       | inl same ↦ subst (λ y. AreSame (lines_of y (x ∷ past)) (lines_of y past)) (sym same)
           (same_came d past s x m ls comes)
-      | inr other ↦ same_elsewhere (Some capacity) setup d e past (x ∷ []) s ids own (λ same. other (sym same))
+      | inr other ↦ same_elsewhere capacity setup d e past (x ∷ []) s ids own (λ same. other (sym same))
           (came s x m ls comes)
     ])
     (ap (λ front. job (front ++ sale_lines past)) is_quiet.no_sale) (is_quiet.no_record past) books.counts
 counts_there capacity setup d past _ _ sound ids own books (took c suited here is_free is_taken is_owed lets) =
     counts_moved capacity setup d past (entry.Taken c ∷ past) (spent_by setup c) (need_of c) sound own books.counts
     (paid_taken capacity setup past c lets books.counts) (full_taken capacity setup past c lets books.counts)
-    (moves_taken (Some capacity) setup d past c sound ids own books.counts.follow suited here is_free is_owed
+    (moves_taken capacity setup d past c sound ids own books.counts.follow suited here is_free is_owed
     (took c suited here is_free is_taken is_owed lets))
 counts_there capacity setup d past _ _ sound ids own books (halted paying can) =
     counts_moved capacity setup d past (entry.Taken (command.Halt d.addr) ∷ past) 0 0 sound own books.counts
     (as_is _ _ books.counts.covered) (as_is _ _ books.counts.room)
-    (moves_halted (Some capacity) setup d past sound ids own books.counts.follow can (halted paying can))
+    (moves_halted capacity setup d past sound ids own books.counts.follow can (halted paying can))
 counts_there capacity setup d past _ _ sound ids own books (idled is_free) =
     counts_same capacity setup past (entry.Idle d.addr ∷ past) sound (λ e is_of. same_lines _ _ refl) refl refl
     books.counts
@@ -174,13 +125,13 @@ counts_there capacity setup d past _ _ sound ids own books (made_exchange c sinc
     counts_moved capacity setup d past
     (with_end d.addr (wire_of setup d past q) (wire_end setup d past c since q) ++ past) 0 0 sound own books.counts
     (as_is _ _ books.counts.covered) (as_is _ _ books.counts.room)
-    (moves_asked (Some capacity) setup d past c since q sound ids own books.counts.follow at_work is_row
+    (moves_asked capacity setup d past c since q sound ids own books.counts.follow at_work is_row
     (works_at d past c since at_work (books.base.ranged d own)))
 counts_there capacity setup d past _ _ sound ids own books (made_put c since r at_work is_row) =
     counts_moved capacity setup d past (with_end d.addr (entry.Put r) (record_end d past c since r) ++ past) 0 0 sound
     own books.counts (as_is _ _ books.counts.covered) (as_is _ _ books.counts.room)
-    (moves_put (Some capacity) setup d past c since r sound ids own books.counts.follow at_work is_row
-    (put_follows capacity setup d past c since r ids own books at_work is_row))
+    (moves_put capacity setup d past c since r sound ids own books.counts.follow at_work is_row
+    (due_follows capacity setup past r ids books (from_job d c since r own at_work is_row)))
 
 -- the host loses its power with the record of a sale kept
 held_sale_kept : (setup : Setup) (past : List Entry) (n id price : ℕ) (since : List Line) → IsSoundSetup setup →
@@ -204,7 +155,7 @@ held_sale_kept setup past n id price since sound selling =
 
 -- each step keeps the sums
 counts_step : (capacity : ℕ) (setup : Setup) (past news : List Entry) (s : Step) → IsSoundSetup setup →
-    Ids setup past → Brought (Some capacity) setup past s news → Books capacity setup past →
+    Ids setup past → Brought capacity setup past s news → Books capacity setup past →
     Counts capacity setup (news ++ past)
 counts_step capacity setup past _ _ sound ids (of_device d s news own told) books =
     counts_there capacity setup d past news s sound ids own books told
@@ -252,7 +203,8 @@ counts_step capacity setup past _ _ sound ids (sold id price since none selling)
       devices = λ e own.
           let other = off_host setup e sound own in
           same_end e past HOST (entry.Put r) (Some Sold) other (same_put e past r other);
-      follow = and_from _ _ (sale_follows capacity setup past id price since books selling) books.counts.follow;
+      follow = and_from _ _ (due_follows capacity setup past r ids books (from_sale id price since none selling))
+          books.counts.follow;
       spends = sold_spends (spoken_in setup (records past)) (spoken_in setup (r ∷ records past))
           (reserved_by setup (job (sale_lines past))) (posted_in setup (records past))
           (sold_spoken setup (records past) id price)
@@ -285,30 +237,31 @@ counts_step capacity setup past _ _ sound ids (lost_in_put at choice d c since r
     held_kept setup d past n c since r sound.distinct own (put_owned setup past d c since r own ids at_work is_row)
     at_work.job_is is_row in
     counts_lost capacity setup later sound (restart_frees later tt)
-    (and_from _ _ (put_follows capacity setup d past c since r ids own books at_work is_row) books.counts.follow)
+    (and_from _ _ (due_follows capacity setup past r ids books (from_job d c since r own at_work is_row))
+    books.counts.follow)
     (one_kept (length (records past)) (held setup later) (held setup past) capacity fewer books.counts.room)
 counts_step capacity setup past _ _ sound ids (lost_in_sale at choice id price since none selling) books =
     let r = record_of.Sold id price in
     let later = keeping_crash past r ++ past in
     let fewer = held_sale_kept setup past (suc (length (records past))) id price since sound selling in
     counts_lost capacity setup later sound (restart_frees later tt)
-    (and_from _ _ (sale_follows capacity setup past id price since books selling) books.counts.follow)
+    (and_from _ _ (due_follows capacity setup past r ids books (from_sale id price since none selling))
+    books.counts.follow)
     (one_kept (length (records past)) (held setup later) (held setup past) capacity fewer books.counts.room)
 
 -- each step keeps the books
 pub books_step : (capacity : ℕ) (setup : Setup) (past news : List Entry) (s : Step) → IsSoundSetup setup →
-    IsInRange s → Ids setup past → Brought (Some capacity) setup past s news → Books capacity setup past →
+    IsInRange s → Ids setup past → Brought capacity setup past s news → Books capacity setup past →
     Books capacity setup (news ++ past)
 books_step capacity setup past news s sound range ids told books = record {
-  base = base_step (Some capacity) setup past news s sound range ids told books.base;
+  base = base_step capacity setup past news s sound range ids told books.base;
   counts = counts_step capacity setup past news s sound ids told books;
 }
 
--- so they are kept after every legal transcript, whatever the wire does
-pub books_legal : (capacity : ℕ) (setup : Setup) (steps : List Step) (transcript : List Entry) →
-    IsSoundSetup setup → All IsInRange steps → Legal (Some capacity) setup steps transcript →
-    Books capacity setup (onto [] transcript)
-books_legal capacity setup steps transcript sound in_range legal =
-    along (Some capacity) setup IsInRange (Books capacity setup) sound
-    (λ past news s range ids told books. books_step capacity setup past news s sound range ids told books) steps
-    (onto [] transcript) in_range legal (books_start capacity setup)
+-- so they are kept along every legal past, whatever the wire does
+pub books_legal : (capacity : ℕ) (setup : Setup) (steps : List Step) (past : List Entry) → IsSoundSetup setup →
+    All IsInRange steps → LegalFrom capacity setup [] steps past → Ids setup past × Books capacity setup past
+books_legal capacity setup steps past sound in_range legal =
+    along_from capacity setup IsInRange (Books capacity setup) sound
+    (λ before news s range ids told books. books_step capacity setup before news s sound range ids told books) [] steps
+    past in_range (ids_start setup) legal (books_start capacity setup)

@@ -35,14 +35,15 @@ use Rattle.cct_model.specs.Order.{order}
 use Rattle.cct_model.specs.Job.{Job, free, works, job, begun, with_line, done, epoch, Row, sends, puts, no_row, row, row_of_sale, vend_row, can_halt, address_of, end_of, end_of_put}
 use Rattle.cct_model.specs.Money.{totals}
 use Rattle.cct_model.specs.Scan.{scan_row, end_of_scan, poll_of}
-use Rattle.cct_model.specs.Refusal.{at_device, at_acceptor, at_hopper, busy, over_journal, pay_refusal, halt_refusal, last_id, refusal}
-use Rattle.cct_model.specs.Legal.{coin_entry, fall_entry, jam_entry, command_entry, with_end, RowEntries, NextEntries, PollEntries, ScanEntries, SaleRowEntries, SaleEntries, BareNext, OfDevice, OfAcceptor, OfHopper, OfNext, record_due, due_of, due_of_sale, due_there, bare_crash, keeping_crash, CrashEntries, EntriesOfCrash, Entries}
+use Rattle.cct_model.specs.Refusal.{at_device, at_acceptor, at_hopper, busy, pay_refusal, halt_refusal, last_id, state_refusal, refusal}
+use Rattle.cct_model.specs.Legal.{coin_entry, fall_entry, jam_entry, command_entry, with_end, RowEntries, NextEntries, PollEntries, ScanEntries, SaleRowEntries, SaleEntries, BareNext, OfDevice, OfAcceptor, OfHopper, OfNext, record_due, due_of, due_of_sale, due_there, due_at, bare_crash, keeping_crash, CrashEntries, EntriesOfCrash, Entries}
 use Rattle.cct_model.specs.Transcript.{met, owner, lines_of, scan_lines, scan_line, sale_lines, heard_after, heard_by_devices, pending, got_by, doses_of}
 use Rattle.cct_laws.specs.Kept.{is_for_acceptor, is_for_hopper, suits, IsTaken}
 use Rattle.cct_laws.specs.KeptHopper.{IsOwed}
 use Rattle.cct_laws.specs.Law.{IsOf}
 use Rattle.cct_model.proofs.Doses.{job_undosed}
 use Rattle.cct_laws.proofs.Setups.{address_found}
+use Rattle.cct_laws.proofs.Tests.{tests_pass}
 
 -- what comes to a device that met all this without being asked, over a step: the entry, what the device then met, and
 -- its line, if it is one
@@ -96,7 +97,7 @@ poll_end setup past since check addr =
 
 -- what a step brought at a device: something came, a command was taken, a payment was halted, it was idle, or its job
 -- made an exchange or a put
-pub data AtDevice (capacity : Option ℕ) (setup : Setup) (d : DeviceSetup) (past : List Entry) : Step → List Entry → Type 0 where
+pub data AtDevice (capacity : ℕ) (setup : Setup) (d : DeviceSetup) (past : List Entry) : Step → List Entry → Type 0 where
   came : (s : Step) (e : Entry) (m : Met) (ls : List Line) → Comes d (met d past) s e m ls →
       AtDevice capacity setup d past s (e ∷ [])
   took : (c : Command) → suits d.body c ≡ true → address_of c ≡ d.addr → job (lines_of d past) ≡ free →
@@ -117,9 +118,16 @@ pub record Selling (past : List Entry) (id price : ℕ) (since : List Line) : Ty
   pub job_is : job (sale_lines past) ≡ works (command.Vend id price) since
   pub first : done since ≡ 0
 
+-- a record is due: a job at a device of the setup is about to put it, or a sale is
+pub data Due (setup : Setup) (past : List Entry) : Record → Type 0 where
+  from_job : (d : DeviceSetup) (c : Command) (since : List Line) (r : Record) → IsOf setup d → AtWork d past c since →
+      row_after d past c since ≡ puts r → Due setup past r
+  from_sale : (id price : ℕ) (since : List Line) → device_at setup.devices HOST ≡ None → Selling past id price since →
+      Due setup past (record_of.Sold id price)
+
 -- what a step brought: something at a device of the setup; or a fault was set, a command was refused, a scan or a sale was
 -- begun or went on, nobody was there, the balance was read; or the host lost its power, within a put or not
-pub data Brought (capacity : Option ℕ) (setup : Setup) (past : List Entry) : Step → List Entry → Type 0 where
+pub data Brought (capacity : ℕ) (setup : Setup) (past : List Entry) : Step → List Entry → Type 0 where
   of_device : (d : DeviceSetup) (s : Step) (news : List Entry) → IsOf setup d → AtDevice capacity setup d past s news →
       Brought capacity setup past s news
   faulted : (f : WireFault) → Brought capacity setup past (step.Fault f) (entry.Fault f ∷ [])
@@ -232,7 +240,7 @@ pub of_found : (setup : Setup) (addr : ℕ) (d : DeviceSetup) → device_at setu
 of_found setup addr d was = ap (device_at setup.devices) (address_found setup addr d was) ∙ was
 
 -- what a step brought at a device, told by its address
-there : (capacity : Option ℕ) (setup : Setup) (past : List Entry) (s : ℕ → Step) (news : ℕ → List Entry) (addr : ℕ)
+there : (capacity : ℕ) (setup : Setup) (past : List Entry) (s : ℕ → Step) (news : ℕ → List Entry) (addr : ℕ)
     (d : DeviceSetup) → device_at setup.devices addr ≡ Some d →
     AtDevice capacity setup d past (s d.addr) (news d.addr) → Brought capacity setup past (s addr) (news addr)
 there capacity setup past s news addr d was told =
@@ -257,7 +265,7 @@ hopper_holds : (b : Bool) (P : Type 0) → MatchBool b ⊥ P → (b ≡ false) �
 hopper_holds true P known = absurd known
 hopper_holds false P known = (refl, known)
 
-coin_comes : (capacity : Option ℕ) (setup : Setup) (d : DeviceSetup) (past : List Entry) (place : ℕ) (test : Bool) →
+coin_comes : (capacity : ℕ) (setup : Setup) (d : DeviceSetup) (past : List Entry) (place : ℕ) (test : Bool) →
     IsAcceptor d.body →
     accepts (met d past) place ≡ test → AtDevice capacity setup d past (step.Coin d.addr place)
     (cond test (entry.Accepted d.addr (record { place = place; path = path_of (met d past) place }))
@@ -265,19 +273,19 @@ coin_comes : (capacity : Option ℕ) (setup : Setup) (d : DeviceSetup) (past : L
 coin_comes capacity setup d past place true accepting is = came _ _ _ _ (takes_coin place accepting is)
 coin_comes capacity setup d past place false accepting is = came _ _ _ _ (leaves_coin place accepting is)
 
-fall_comes : (capacity : Option ℕ) (setup : Setup) (d : DeviceSetup) (past : List Entry) (none_left : Bool) → IsHopper d.body →
+fall_comes : (capacity : ℕ) (setup : Setup) (d : DeviceSetup) (past : List Entry) (none_left : Bool) → IsHopper d.body →
     (remaining d.serial (met d past) == 0) ≡ none_left → AtDevice capacity setup d past (step.Fall d.addr)
     (cond none_left (entry.NoFall d.addr) (entry.Fell d.addr) ∷ [])
 fall_comes capacity setup d past true paying is = came _ _ _ _ (drops_none paying is)
 fall_comes capacity setup d past false paying is = came _ _ _ _ (drops_coin paying is)
 
-jam_comes : (capacity : Option ℕ) (setup : Setup) (d : DeviceSetup) (past : List Entry) (none_left : Bool) → IsHopper d.body →
+jam_comes : (capacity : ℕ) (setup : Setup) (d : DeviceSetup) (past : List Entry) (none_left : Bool) → IsHopper d.body →
     (remaining d.serial (met d past) == 0) ≡ none_left → AtDevice capacity setup d past (step.Jam d.addr)
     (cond none_left (entry.NoJam d.addr) (entry.Jammed d.addr) ∷ [])
 jam_comes capacity setup d past true paying is = came _ _ _ _ (jams_none paying is)
 jam_comes capacity setup d past false paying is = came _ _ _ _ (jams paying is)
 
-coin_brought : (capacity : Option ℕ) (setup : Setup) (past news : List Entry) (addr place : ℕ) (found : Option DeviceSetup) →
+coin_brought : (capacity : ℕ) (setup : Setup) (past news : List Entry) (addr place : ℕ) (found : Option DeviceSetup) →
     device_at setup.devices addr ≡ found → OfAcceptor found (λ d. news ≡ coin_entry d past place ∷ []) →
     Brought capacity setup past (step.Coin addr place) news
 coin_brought capacity setup past news addr place None was told = absurd told
@@ -287,7 +295,7 @@ coin_brought capacity setup past news addr place (Some d) was told =
     (there capacity setup past (λ a. step.Coin a place) (λ a. coin_entry d past place ∷ []) addr d was
     (coin_comes capacity setup d past place (accepts (met d past) place) (accepting_by d.body is.0) refl))
 
-alien_brought : (capacity : Option ℕ) (setup : Setup) (past news : List Entry) (addr : ℕ) (found : Option DeviceSetup) →
+alien_brought : (capacity : ℕ) (setup : Setup) (past news : List Entry) (addr : ℕ) (found : Option DeviceSetup) →
     device_at setup.devices addr ≡ found → OfAcceptor found (λ d. news ≡ entry.Alien addr ∷ []) →
     Brought capacity setup past (step.Alien addr) news
 alien_brought capacity setup past news addr None was told = absurd told
@@ -297,7 +305,7 @@ alien_brought capacity setup past news addr (Some d) was told =
     (there capacity setup past step.Alien (λ a. entry.Alien a ∷ []) addr d was
     (came _ _ _ _ (leaves_alien (accepting_by d.body is.0))))
 
-fall_brought : (capacity : Option ℕ) (setup : Setup) (past news : List Entry) (addr : ℕ) (found : Option DeviceSetup) →
+fall_brought : (capacity : ℕ) (setup : Setup) (past news : List Entry) (addr : ℕ) (found : Option DeviceSetup) →
     device_at setup.devices addr ≡ found → OfHopper found (λ d. news ≡ fall_entry d past ∷ []) →
     Brought capacity setup past (step.Fall addr) news
 fall_brought capacity setup past news addr None was told = absurd told
@@ -307,7 +315,7 @@ fall_brought capacity setup past news addr (Some d) was told =
     (there capacity setup past step.Fall (λ a. fall_entry d past ∷ []) addr d was
     (fall_comes capacity setup d past (remaining d.serial (met d past) == 0) (paying_by d.body is.0) refl))
 
-jam_brought : (capacity : Option ℕ) (setup : Setup) (past news : List Entry) (addr : ℕ) (found : Option DeviceSetup) →
+jam_brought : (capacity : ℕ) (setup : Setup) (past news : List Entry) (addr : ℕ) (found : Option DeviceSetup) →
     device_at setup.devices addr ≡ found → OfHopper found (λ d. news ≡ jam_entry d past ∷ []) →
     Brought capacity setup past (step.Jam addr) news
 jam_brought capacity setup past news addr None was told = absurd told
@@ -317,7 +325,7 @@ jam_brought capacity setup past news addr (Some d) was told =
     (there capacity setup past step.Jam (λ a. jam_entry d past ∷ []) addr d was
     (jam_comes capacity setup d past (remaining d.serial (met d past) == 0) (paying_by d.body is.0) refl))
 
-reset_brought : (capacity : Option ℕ) (setup : Setup) (past news : List Entry) (addr : ℕ) (found : Option DeviceSetup) →
+reset_brought : (capacity : ℕ) (setup : Setup) (past news : List Entry) (addr : ℕ) (found : Option DeviceSetup) →
     device_at setup.devices addr ≡ found → OfDevice found (λ d. news ≡ entry.Reset addr ∷ []) →
     Brought capacity setup past (step.Reset addr) news
 reset_brought capacity setup past news addr None was told = absurd told
@@ -334,16 +342,6 @@ free_by (works c since) further none = absurd cc
 free_if : (at_work : Job) → busy at_work ≡ None → at_work ≡ free
 free_if free none = refl
 free_if (works c since) none = absurd cc
-
-both_none : (first second : Option CommandNo) → option_or first second ≡ None → first ≡ None
-both_none None second none = refl
-both_none (Some why) second none = absurd cc
-
--- what a host over a journal tests besides doesn't matter to its own tests
-let_by : (capacity : Option ℕ) (further : ℕ → Option CommandNo) (first : Option CommandNo) →
-    over_journal capacity further first ≡ None → first ≡ None
-let_by None further first none = none
-let_by (Some capacity) further first none = both_none first (further capacity) none
 
 unowed : (id last : ℕ) (owed : Option OpenOrder) → pay_refusal id last owed ≡ None → owed ≡ None
 unowed id last None none = refl
@@ -387,7 +385,7 @@ hopper_lets (Some d) further none = let is = paying (is_acceptor d.body) none in
     paying false none = (refl, none)
 
 -- a command that begins a job, told by its address
-taken_there : (capacity : Option ℕ) (setup : Setup) (past : List Entry) (c : ℕ → Command) (addr : ℕ) (d : DeviceSetup) →
+taken_there : (capacity : ℕ) (setup : Setup) (past : List Entry) (c : ℕ → Command) (addr : ℕ) (d : DeviceSetup) →
     device_at setup.devices addr ≡ Some d → refusal capacity setup past (c addr) ≡ None → suits d.body (c d.addr) ≡ true →
     address_of (c d.addr) ≡ d.addr → job (lines_of d past) ≡ free → IsTaken d (c d.addr) (epoch (lines_of d past)) →
     IsOwed (c d.addr) (order (lines_of d past)) → Brought capacity setup past (step.Command (c addr)) (entry.Taken (c addr) ∷ [])
@@ -408,58 +406,60 @@ suits_ident : (body : DeviceBody) (addr : ℕ) → suits body (command.Ident add
 suits_ident (Acceptor accepts values ids) addr = refl
 suits_ident (Hopper life value) addr = refl
 
-taken_brought : (capacity : Option ℕ) (setup : Setup) (past : List Entry) (c : Command) →
-    refusal capacity setup past c ≡ None → Brought capacity setup past (step.Command c) (entry.Taken c ∷ [])
+taken_brought : (capacity : ℕ) (setup : Setup) (past : List Entry) (c : Command) →
+    refusal capacity setup past c ≡ None → state_refusal setup past c ≡ None →
+    Brought capacity setup past (step.Command c) (entry.Taken c ∷ [])
 unfolding IsLetBy
-taken_brought capacity setup past (command.Start addr mask) none =
-    let at_it = acceptor_lets (device_at setup.devices addr) _ none in
+taken_brought capacity setup past (command.Start addr mask) none lets =
+    let at_it = acceptor_lets (device_at setup.devices addr) _ lets in
     let is = free_by (job (lines_of at_it.0 past)) _ at_it.3 in
     taken_there capacity setup past (λ a. command.Start a mask) addr at_it.0 at_it.1 none
-    (suits_acceptor at_it.0.body (command.Start at_it.0.addr mask) at_it.2 refl) refl is.0 (let_by capacity _ _ is.1) tt
-taken_brought capacity setup past (command.Round addr) none =
-    let at_it = acceptor_lets (device_at setup.devices addr) _ none in
+    (suits_acceptor at_it.0.body (command.Start at_it.0.addr mask) at_it.2 refl) refl is.0 is.1 tt
+taken_brought capacity setup past (command.Round addr) none lets =
+    let at_it = acceptor_lets (device_at setup.devices addr) _ lets in
     let is = free_by (job (lines_of at_it.0 past)) _ at_it.3 in
     taken_there capacity setup past command.Round addr at_it.0 at_it.1 none
-    (suits_acceptor at_it.0.body (command.Round at_it.0.addr) at_it.2 refl) refl is.0 (let_by capacity _ _ is.1) tt
-taken_brought capacity setup past (command.Stop addr) none =
-    let at_it = acceptor_lets (device_at setup.devices addr) _ none in
+    (suits_acceptor at_it.0.body (command.Round at_it.0.addr) at_it.2 refl) refl is.0 is.1 tt
+taken_brought capacity setup past (command.Stop addr) none lets =
+    let at_it = acceptor_lets (device_at setup.devices addr) _ lets in
     let is = free_by (job (lines_of at_it.0 past)) _ at_it.3 in
     taken_there capacity setup past command.Stop addr at_it.0 at_it.1 none
-    (suits_acceptor at_it.0.body (command.Stop at_it.0.addr) at_it.2 refl) refl is.0 (let_by capacity _ _ is.1) tt
-taken_brought capacity setup past (command.Pay addr id count) none =
-    let at_it = hopper_lets (device_at setup.devices addr) _ none in
+    (suits_acceptor at_it.0.body (command.Stop at_it.0.addr) at_it.2 refl) refl is.0 is.1 tt
+taken_brought capacity setup past (command.Pay addr id count) none lets =
+    let at_it = hopper_lets (device_at setup.devices addr) _ lets in
     let is = free_by (job (lines_of at_it.0 past)) _ at_it.3 in
     taken_there capacity setup past (λ a. command.Pay a id count) addr at_it.0 at_it.1 none
     (suits_hopper at_it.0.body (command.Pay at_it.0.addr id count) at_it.2 refl) refl is.0 tt
-    (unowed id (last_id setup past) (order (lines_of at_it.0 past)) (let_by capacity _ _ is.1))
-taken_brought capacity setup past (command.Settle addr) none =
-    let at_it = hopper_lets (device_at setup.devices addr) _ none in
+    (unowed id (last_id setup past) (order (lines_of at_it.0 past)) is.1)
+taken_brought capacity setup past (command.Settle addr) none lets =
+    let at_it = hopper_lets (device_at setup.devices addr) _ lets in
     let is = free_by (job (lines_of at_it.0 past)) _ at_it.3 in
     taken_there capacity setup past command.Settle addr at_it.0 at_it.1 none
-    (suits_hopper at_it.0.body (command.Settle at_it.0.addr) at_it.2 refl) refl is.0 tt (let_by capacity _ _ is.1)
-taken_brought capacity setup past (command.Halt addr) none =
-    let at_it = hopper_lets (device_at setup.devices addr) _ none in
+    (suits_hopper at_it.0.body (command.Settle at_it.0.addr) at_it.2 refl) refl is.0 tt is.1
+taken_brought capacity setup past (command.Halt addr) none lets =
+    let at_it = hopper_lets (device_at setup.devices addr) _ lets in
     there capacity setup past (λ a. step.Command (command.Halt a)) (λ a. entry.Taken (command.Halt a) ∷ []) addr at_it.0 at_it.1
     (halted (paying_by at_it.0.body at_it.2) (halting (job (lines_of at_it.0 past)) at_it.3))
-taken_brought capacity setup past (command.Path addr place path) none =
-    let at_it = acceptor_lets (device_at setup.devices addr) _ none in
+taken_brought capacity setup past (command.Path addr place path) none lets =
+    let at_it = acceptor_lets (device_at setup.devices addr) _ lets in
     taken_there capacity setup past (λ a. command.Path a place path) addr at_it.0 at_it.1 none
     (suits_acceptor at_it.0.body (command.Path at_it.0.addr place path) at_it.2 refl) refl (free_if _ at_it.3) tt tt
-taken_brought capacity setup past (command.Ident addr) none =
-    let at_it = device_lets (device_at setup.devices addr) _ none in
+taken_brought capacity setup past (command.Ident addr) none lets =
+    let at_it = device_lets (device_at setup.devices addr) _ lets in
     taken_there capacity setup past command.Ident addr at_it.0 at_it.1 none
     (suits_ident at_it.0.body at_it.0.addr) refl (free_if _ at_it.3) tt tt
-taken_brought capacity setup past command.Scan none = began_scan (free_if (job (scan_lines past)) none)
-taken_brought capacity setup past (command.Vend id price) none =
-    began_sale id price (free_by (job (sale_lines past)) _ none).0 none
+taken_brought capacity setup past command.Scan none lets = began_scan (free_if (job (scan_lines past)) lets)
+taken_brought capacity setup past (command.Vend id price) none lets =
+    began_sale id price (free_by (job (sale_lines past)) _ lets).0 none
 
-command_brought : (capacity : Option ℕ) (setup : Setup) (past : List Entry) (c : Command) (why : Option CommandNo) →
+command_brought : (capacity : ℕ) (setup : Setup) (past : List Entry) (c : Command) (why : Option CommandNo) →
     refusal capacity setup past c ≡ why → Brought capacity setup past (step.Command c) (command_entry c why ∷ [])
-command_brought capacity setup past c None was = taken_brought capacity setup past c was
+command_brought capacity setup past c None was =
+    taken_brought capacity setup past c was (tests_pass capacity setup past c was).state
 command_brought capacity setup past c (Some why) was = refused c why was
 
 -- a next
-row_brought : (capacity : Option ℕ) (setup : Setup) (d : DeviceSetup) (past news : List Entry) (c : Command)
+row_brought : (capacity : ℕ) (setup : Setup) (d : DeviceSetup) (past news : List Entry) (c : Command)
     (since : List Line) (r : Row) → AtWork d past c since → row_after d past c since ≡ r →
     RowEntries (heard_after setup past) d past c since r news → AtDevice capacity setup d past (step.Next d.addr) news
 row_brought capacity setup d past news c since (sends q) at_work is told =
@@ -473,7 +473,7 @@ pub works_there : (d : DeviceSetup) (past : List Entry) (c : Command) (since : L
     job (lines_of d past) ≡ works c since → AtWork d past c since
 works_there d past c since is = record { job_is = is; is_here = subst (IsAt d.addr) is (job_at d past) }
 
-next_there : (capacity : Option ℕ) (setup : Setup) (d : DeviceSetup) (past news : List Entry) (at_work : Job) →
+next_there : (capacity : ℕ) (setup : Setup) (d : DeviceSetup) (past news : List Entry) (at_work : Job) →
     job (lines_of d past) ≡ at_work → NextEntries (heard_after setup past) d past at_work news →
     AtDevice capacity setup d past (step.Next d.addr) news
 next_there capacity setup d past news free is told =
@@ -481,7 +481,7 @@ next_there capacity setup d past news free is told =
 next_there capacity setup d past news (works c since) is told =
     row_brought capacity setup d past news c since _ (works_there d past c since is) refl told
 
-poll_brought : (capacity : Option ℕ) (setup : Setup) (past news : List Entry) (c : Command) (since : List Line)
+poll_brought : (capacity : ℕ) (setup : Setup) (past news : List Entry) (c : Command) (since : List Line)
     (due : Option (CheckKind × ℕ)) →
     device_at setup.devices BROADCAST ≡ None → job (scan_lines past) ≡ works c since → scan_row since ≡ due →
     PollEntries (heard_after setup past) since due news → Brought capacity setup past (step.Next BROADCAST) news
@@ -489,7 +489,7 @@ poll_brought capacity setup past news c since None none is due told = absurd tol
 poll_brought capacity setup past news c since (Some (check, addr)) none is due told =
     subst (Brought capacity setup past (step.Next BROADCAST)) (sym told) (polled c since check addr none is due)
 
-scan_brought : (capacity : Option ℕ) (setup : Setup) (past news : List Entry) (at_work : Job) →
+scan_brought : (capacity : ℕ) (setup : Setup) (past news : List Entry) (at_work : Job) →
     device_at setup.devices BROADCAST ≡ None →
     job (scan_lines past) ≡ at_work → ScanEntries (heard_after setup past) at_work news →
     Brought capacity setup past (step.Next BROADCAST) news
@@ -509,7 +509,7 @@ sale_puts (command.Vend id price) since r is = by_rows (done since) is
     by_rows (suc rows) is = absurd cc
 sale_puts c since r is = absurd cc
 
-sale_row_brought : (capacity : Option ℕ) (setup : Setup) (past news : List Entry) (c : Command) (since : List Line) (r : Row) →
+sale_row_brought : (capacity : ℕ) (setup : Setup) (past news : List Entry) (c : Command) (since : List Line) (r : Row) →
     device_at setup.devices HOST ≡ None → job (sale_lines past) ≡ works c since → row_of_sale c since ≡ r →
     SaleRowEntries c r news → Brought capacity setup past (step.Next HOST) news
 sale_row_brought capacity setup past news c since (puts r) none is row_is told =
@@ -523,7 +523,7 @@ sale_row_brought capacity setup past news c since (puts r) none is row_is told =
 sale_row_brought capacity setup past news c since (sends q) none is row_is told = absurd told
 sale_row_brought capacity setup past news c since no_row none is row_is told = absurd told
 
-sale_brought : (capacity : Option ℕ) (setup : Setup) (past news : List Entry) (at_work : Job) →
+sale_brought : (capacity : ℕ) (setup : Setup) (past news : List Entry) (at_work : Job) →
     device_at setup.devices HOST ≡ None → job (sale_lines past) ≡ at_work → SaleEntries at_work news →
     Brought capacity setup past (step.Next HOST) news
 sale_brought capacity setup past news free none is told =
@@ -531,7 +531,7 @@ sale_brought capacity setup past news free none is told =
 sale_brought capacity setup past news (works c since) none is told =
     sale_row_brought capacity setup past news c since (row_of_sale c since) none is refl told
 
-bare_brought : (capacity : Option ℕ) (setup : Setup) (past news : List Entry) (addr : ℕ) (scans sells : Bool) →
+bare_brought : (capacity : ℕ) (setup : Setup) (past news : List Entry) (addr : ℕ) (scans sells : Bool) →
     (addr == BROADCAST) ≡ scans → (addr == HOST) ≡ sells →
     device_at setup.devices addr ≡ None →
     MatchBool scans (ScanEntries (heard_after setup past) (job (scan_lines past)) news)
@@ -548,7 +548,7 @@ bare_brought capacity setup past news addr false true test other none told =
 bare_brought capacity setup past news addr false false test other none told =
     subst (Brought capacity setup past (step.Next addr)) (sym told) (nobody addr none)
 
-next_brought : (capacity : Option ℕ) (setup : Setup) (past news : List Entry) (addr : ℕ) (found : Option DeviceSetup) →
+next_brought : (capacity : ℕ) (setup : Setup) (past news : List Entry) (addr : ℕ) (found : Option DeviceSetup) →
     device_at setup.devices addr ≡ found →
     OfNext found (λ d. NextEntries (heard_after setup past) d past (job (lines_of d past)) news)
     (BareNext (heard_after setup past) past addr news) →
@@ -559,50 +559,55 @@ next_brought capacity setup past news addr (Some d) was told =
     there capacity setup past step.Next (λ a. news) addr d was
     (next_there capacity setup d past news (job (lines_of d past)) refl told)
 
--- a loss of power
+-- what is due at an address
 due_row : (r : Record) (what : Row) → record_due what ≡ Some r → what ≡ puts r
 due_row r (puts s) is = cc
 due_row r (sends q) is = absurd cc
 due_row r no_row is = absurd cc
 
-due_job : (capacity : Option ℕ) (setup : Setup) (past : List Entry) (at : CrashAt) (choice : ℕ) (d : DeviceSetup)
-    (r : Record) (at_work : Job) → IsOf setup d → job (lines_of d past) ≡ at_work →
-    due_of d (lines_of d past) at_work ≡ Some r →
-    Brought capacity setup past (step.Crash (Some at) choice) (keeping_crash past r)
-due_job capacity setup past at choice d r free own is due = absurd cc
-due_job capacity setup past at choice d r (works c since) own is due =
-    lost_in_put at choice d c since r own (works_there d past c since is) (due_row r _ due)
+job_due : (setup : Setup) (past : List Entry) (d : DeviceSetup) (r : Record) (at_work : Job) → IsOf setup d →
+    job (lines_of d past) ≡ at_work → due_of d (lines_of d past) at_work ≡ Some r → Due setup past r
+job_due setup past d r free own is due = absurd cc
+job_due setup past d r (works c since) own is due =
+    from_job d c since r own (works_there d past c since is) (due_row r _ due)
 
-due_sale : (capacity : Option ℕ) (setup : Setup) (past : List Entry) (at : CrashAt) (choice : ℕ) (r : Record)
-    (at_work : Job) → device_at setup.devices HOST ≡ None → job (sale_lines past) ≡ at_work →
-    due_of_sale at_work ≡ Some r → Brought capacity setup past (step.Crash (Some at) choice) (keeping_crash past r)
-due_sale capacity setup past at choice r free none is due = absurd cc
-due_sale capacity setup past at choice r (works c since) none is due =
+sale_due : (setup : Setup) (past : List Entry) (r : Record) (at_work : Job) → device_at setup.devices HOST ≡ None →
+    job (sale_lines past) ≡ at_work → due_of_sale at_work ≡ Some r → Due setup past r
+sale_due setup past r free none is due = absurd cc
+sale_due setup past r (works c since) none is due =
     let made = sale_puts c since r (due_row r _ due) in
     let selling : Selling past made.0 made.1 since =
     record { job_is = is ∙ ap (λ x. works x since) made.2; first = made.3 } in
-    subst (λ x. Brought capacity setup past (step.Crash (Some at) choice) (keeping_crash past x)) (sym made.4)
-    (lost_in_sale at choice made.0 made.1 since none selling)
+    subst (Due setup past) (sym made.4) (from_sale made.0 made.1 since none selling)
 
-due_bare : (capacity : Option ℕ) (setup : Setup) (past : List Entry) (at : CrashAt) (choice : ℕ) (r : Record)
-    (sells : Bool) → (at.addr == HOST) ≡ sells → device_at setup.devices at.addr ≡ None →
-    cond sells (due_of_sale (job (sale_lines past))) None ≡ Some r →
-    Brought capacity setup past (step.Crash (Some at) choice) (keeping_crash past r)
-due_bare capacity setup past at choice r true test none due =
-    due_sale capacity setup past at choice r (job (sale_lines past))
-    (ap (device_at setup.devices) (sym (eqb-true at.addr HOST test)) ∙ none) refl due
-due_bare capacity setup past at choice r false test none due = absurd cc
+bare_due : (setup : Setup) (past : List Entry) (addr : ℕ) (r : Record) (sells : Bool) → (addr == HOST) ≡ sells →
+    device_at setup.devices addr ≡ None → cond sells (due_of_sale (job (sale_lines past))) None ≡ Some r →
+    Due setup past r
+bare_due setup past addr r true test none due =
+    sale_due setup past r (job (sale_lines past)) (ap (device_at setup.devices) (sym (eqb-true addr HOST test)) ∙ none)
+    refl due
+bare_due setup past addr r false test none due = absurd cc
 
-due_found : (capacity : Option ℕ) (setup : Setup) (past : List Entry) (at : CrashAt) (choice : ℕ) (r : Record)
-    (found : Option DeviceSetup) → device_at setup.devices at.addr ≡ found → due_there past at.addr found ≡ Some r →
-    Brought capacity setup past (step.Crash (Some at) choice) (keeping_crash past r)
-due_found capacity setup past at choice r None was due =
-    due_bare capacity setup past at choice r (at.addr == HOST) refl was due
-due_found capacity setup past at choice r (Some d) was due =
-    due_job capacity setup past at choice d r (job (lines_of d past)) (of_found setup at.addr d was) refl due
+there_due : (setup : Setup) (past : List Entry) (addr : ℕ) (r : Record) (found : Option DeviceSetup) →
+    device_at setup.devices addr ≡ found → due_there past addr found ≡ Some r → Due setup past r
+there_due setup past addr r None was due = bare_due setup past addr r (addr == HOST) refl was due
+there_due setup past addr r (Some d) was due =
+    job_due setup past d r (job (lines_of d past)) (of_found setup addr d was) refl due
 
-put_lost : (capacity : Option ℕ) (setup : Setup) (past news : List Entry) (at : CrashAt) (choice : ℕ)
-    (due : Option Record) → due_there past at.addr (device_at setup.devices at.addr) ≡ due → CrashEntries past at.calls due news →
+pub is_due : (setup : Setup) (past : List Entry) (addr : ℕ) (r : Record) → due_at setup past addr ≡ Some r →
+    Due setup past r
+is_due setup past addr r due = there_due setup past addr r (device_at setup.devices addr) refl due
+
+-- a loss of power
+kept_brought : (capacity : ℕ) (setup : Setup) (past : List Entry) (at : CrashAt) (choice : ℕ) (r : Record) →
+    Due setup past r → Brought capacity setup past (step.Crash (Some at) choice) (keeping_crash past r)
+kept_brought capacity setup past at choice _ (from_job d c since r own at_work is_row) =
+    lost_in_put at choice d c since r own at_work is_row
+kept_brought capacity setup past at choice _ (from_sale id price since none selling) =
+    lost_in_sale at choice id price since none selling
+
+put_lost : (capacity : ℕ) (setup : Setup) (past news : List Entry) (at : CrashAt) (choice : ℕ) (due : Option Record) →
+    due_at setup past at.addr ≡ due → CrashEntries past at.calls due news →
     Brought capacity setup past (step.Crash (Some at) choice) news
 put_lost capacity setup past news at choice None is told =
     subst (Brought capacity setup past (step.Crash (Some at) choice)) (sym told) (lost_power (Some at) choice)
@@ -610,17 +615,17 @@ put_lost capacity setup past news at choice (Some r) is told =
     elim told [
       | inl bare ↦ subst (Brought capacity setup past (step.Crash (Some at) choice)) (sym bare.1) (lost_power (Some at) choice)
       | inr kept ↦ subst (Brought capacity setup past (step.Crash (Some at) choice)) (sym kept.1)
-          (due_found capacity setup past at choice r (device_at setup.devices at.addr) refl is)
+          (kept_brought capacity setup past at choice r (is_due setup past at.addr r is))
     ]
 
-crash_brought : (capacity : Option ℕ) (setup : Setup) (past news : List Entry) (at : Option CrashAt) (choice : ℕ) →
+crash_brought : (capacity : ℕ) (setup : Setup) (past news : List Entry) (at : Option CrashAt) (choice : ℕ) →
     EntriesOfCrash setup past at news → Brought capacity setup past (step.Crash at choice) news
 crash_brought capacity setup past news None choice told =
     subst (Brought capacity setup past (step.Crash None choice)) (sym told) (lost_power None choice)
 crash_brought capacity setup past news (Some at) choice told = put_lost capacity setup past news at choice _ refl told
 
 -- each legal step brought one of these
-pub brought : (capacity : Option ℕ) (setup : Setup) (past news : List Entry) (s : Step) → Entries capacity setup past s news →
+pub brought : (capacity : ℕ) (setup : Setup) (past news : List Entry) (s : Step) → Entries capacity setup past s news →
     Brought capacity setup past s news
 brought capacity setup past news (step.Coin addr place) told = coin_brought capacity setup past news addr place _ refl told
 brought capacity setup past news (step.Alien addr) told = alien_brought capacity setup past news addr _ refl told

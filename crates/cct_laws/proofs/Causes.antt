@@ -1,5 +1,5 @@
 -- Each break of an acceptor that is put had a cause.
-use Rattle.std.proofs.Common.{◌≡◌, ℕ, suc, List, ◌∷◌, ◌++◌, length, subst, Option}
+use Rattle.std.proofs.Common.{◌≡◌, ℕ, suc, List, ◌∷◌, ◌++◌, length, subst}
 use Rattle.cct_model.specs.terms.device.DeviceSetup.{DeviceSetup}
 use Rattle.cct_model.specs.terms.device.Setup.{Setup}
 use Rattle.cct_model.specs.lines.record.Record.{Record}
@@ -33,7 +33,7 @@ put_caused d past c since (record_of.Broken addr seen counter posted) accepting 
     masks
 put_caused d past c since r accepting ranged at_work is_row masks = tt
 
-causes_there : (capacity : Option ℕ) (setup : Setup) (d : DeviceSetup) (past news : List Entry) (s : Step) →
+causes_there : (capacity : ℕ) (setup : Setup) (d : DeviceSetup) (past news : List Entry) (s : Step) →
     IsAcceptor d.body → IsRanged d (job (lines_of d past)) → AtDevice capacity setup d past s news → HoldsAt d Masks past →
     HaveCauses d past → HaveCauses d (news ++ past)
 causes_there capacity setup d past _ _ accepting ranged (came s e m ls comes) masks before =
@@ -64,7 +64,7 @@ causes_lost d past _ accepting ranged (kept_here c since r at_work is_row owned)
 causes_lost d past _ accepting ranged (kept_elsewhere r away caused) masks before =
     (cause_behind d past (suc (length (records past))) r caused, (tt, before))
 
-pub causes_go_on : (capacity : Option ℕ) (setup : Setup) (d : DeviceSetup) (past news : List Entry) (s : Step) →
+pub causes_go_on : (capacity : ℕ) (setup : Setup) (d : DeviceSetup) (past news : List Entry) (s : Step) →
     IsSoundSetup setup → IsOf setup d → IsAcceptor d.body → IsRanged d (job (lines_of d past)) → Ids setup past →
     Brought capacity setup past s news → HoldsAt d Masks past → HaveCauses d past → HaveCauses d (news ++ past)
 causes_go_on capacity setup d past news s sound own accepting ranged ids told masks before =

@@ -161,7 +161,7 @@ coinless_kept d paying = record {
       (puts_of_order d c work (epoch lines) (order lines) r (for_hopper d.body c paying at.suited) row_is) less);
 }
 
-legal_coinless : (capacity : Option ℕ) (setup : Setup) (steps : List Step) (transcript : List Entry) (d : DeviceSetup) →
+legal_coinless : (capacity : ℕ) (setup : Setup) (steps : List Step) (transcript : List Entry) (d : DeviceSetup) →
     IsSoundSetup setup → IsOf setup d → IsHopper d.body → All IsInRange steps → Legal capacity setup steps transcript →
     Honest transcript → InOrder (lines_in d transcript) × Covers (lines_in d transcript)
 legal_coinless capacity setup steps transcript d sound own paying in_range legal honest =
@@ -170,7 +170,7 @@ legal_coinless capacity setup steps transcript d sound own paying in_range legal
     (less.in_order, less.covers)
 
 -- posts are accepted coins in their order, none twice, at a device of either kind
-pub each_in_order : (capacity : Option ℕ) (setup : Setup) (steps : List Step) (transcript : List Entry)
+pub each_in_order : (capacity : ℕ) (setup : Setup) (steps : List Step) (transcript : List Entry)
     (d : DeviceSetup) → IsSoundSetup setup → IsOf setup d → All IsInRange steps →
     Legal capacity setup steps transcript → Honest transcript → InOrder (lines_in d transcript)
 each_in_order capacity setup steps transcript d sound own in_range legal honest =
@@ -180,7 +180,7 @@ each_in_order capacity setup steps transcript d sound own in_range legal honest 
     ]
 
 -- under the pace no coin is lost in silence
-pub each_covers : (capacity : Option ℕ) (setup : Setup) (steps : List Step) (transcript : List Entry)
+pub each_covers : (capacity : ℕ) (setup : Setup) (steps : List Step) (transcript : List Entry)
     (d : DeviceSetup) → IsSoundSetup setup → IsOf setup d → All IsInRange steps →
     Legal capacity setup steps transcript → Honest transcript → Pace (lines_in d transcript) →
     Covers (lines_in d transcript)

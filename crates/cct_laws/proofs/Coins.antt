@@ -1,24 +1,13 @@
 -- Where each order is closed with exactly the coins that fell, all coins that fell are those of closed orders and those
 -- of the open one.
-use Rattle.std.proofs.Common.{◌≡◌, ℕ, suc, ◌+◌, ◌≤◌, List, [], ◌∷◌, refl, Option, Some, None, All, arith}
-use Rattle.cct_model.specs.terms.device.DeviceSetup.{DeviceSetup}
-use Rattle.cct_model.specs.terms.device.Setup.{Setup}
-use Rattle.cct_model.specs.lines.command.Step.{Step}
-use Rattle.cct_model.specs.lines.entry.Entry.{Entry}
+use Rattle.std.proofs.Common.{◌≡◌, ℕ, suc, ◌+◌, ◌≤◌, List, [], ◌∷◌, refl, Option, Some, None, arith}
 use Rattle.cct_model.specs.lines.record.Record.{Record}
 use Rattle.cct_model.specs.lines.record.Record.TheVariants as record_of
 use Rattle.cct_model.specs.declared.judging.OpenOrder.{OpenOrder}
 use Rattle.cct_model.specs.Line.{Line, fell, put}
 use Rattle.cct_model.specs.Order.{order_by, order}
 use Rattle.cct_model.specs.Paid.{fallen, OfOrder, PaidBy, Paid, anew_by}
-use Rattle.cct_model.specs.Device.{IsHopper}
-use Rattle.cct_model.specs.Setup.{IsSoundSetup}
-use Rattle.cct_model.specs.Legal.{Legal}
-use Rattle.cct_model.specs.Script.{IsInRange}
-use Rattle.cct_model.specs.Honest.{Honest}
-use Rattle.cct_laws.specs.Law.{IsOf, lines_in}
 use Rattle.cct_laws.specs.Coins.{all_fallen, coins_paid, all_paid}
-use Rattle.cct_laws.proofs.Payments.{legal_paid}
 
 -- a fact of an order that isn't there
 of_none : (owed : Option OpenOrder) (P : OpenOrder → Type 0) → owed ≡ None → OfOrder owed P → ⊥
@@ -73,12 +62,3 @@ fallen_closed lines paid none =
     let all = fallen_all lines paid in
     let since = unfallen lines paid none in
     omega (arith, all, since)
-
--- so it is of each hopper in every legal transcript over an honest wire
-pub legal_fallen : (capacity : Option ℕ) (setup : Setup) (steps : List Step) (transcript : List Entry)
-    (d : DeviceSetup) → IsSoundSetup setup → IsOf setup d → IsHopper d.body → All IsInRange steps →
-    Legal capacity setup steps transcript → Honest transcript →
-    all_fallen (lines_in d transcript) ≡ all_paid (lines_in d transcript) + fallen (lines_in d transcript)
-legal_fallen capacity setup steps transcript d sound own paying in_range legal honest =
-    fallen_all (lines_in d transcript)
-    (legal_paid capacity setup steps transcript d sound own paying in_range legal honest)

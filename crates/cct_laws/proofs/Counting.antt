@@ -1,5 +1,5 @@
--- The books over a journal with a capacity: each record follows those before it, what is posted covers what is spoken
--- for, and there is room for all records that are held. And how these sums change where one job changes.
+-- The sums of the books: each record follows those before it, what is posted covers what is spoken for, and there is
+-- room for all records that are held. And how these change where one job changes.
 use Rattle.std.proofs.Common.{◌≡◌, ◌≢◌, ℕ, ◌+◌, ◌≤◌, true, List, [], length, refl, ap, sym, ◌∙◌, arith, le_of_eq}
 use Rattle.cct_model.specs.terms.device.DeviceSetup.{DeviceSetup}
 use Rattle.cct_model.specs.terms.device.Setup.{Setup}

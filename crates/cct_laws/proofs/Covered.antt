@@ -20,11 +20,6 @@ spoken_in setup before = reserved_in setup before + paid_in setup before + sold_
 abbrev pub IsCovered : Setup → List Record → Type 0
 IsCovered setup before = spoken_in setup before ≤ posted_in setup before
 
--- what the posted coins cover is available beside it
-pub covered_parts : (setup : Setup) (before : List Record) → IsCovered setup before →
-    available_in setup before + spoken_in setup before ≡ posted_in setup before
-covered_parts setup before covered = omega arith
-
 -- the order that a record closes, at its hopper
 pub record Closes (setup : Setup) (before : List Record) (id : ℕ) : Type 0 where
   pub order_is : OpenOrder

@@ -642,7 +642,7 @@ put_there setup d c at_work nexts past since others r played ids same is_work fe
     (puts_there setup d c nexts past since r played.own ids is_work few enough same_row)
 
 -- and what it makes of the job
-job_there : (capacity : Option ℕ) (setup : Setup) (d : DeviceSetup) (c : Command) (nexts : ℕ) (past news : List Entry)
+job_there : (capacity : ℕ) (setup : Setup) (d : DeviceSetup) (c : Command) (nexts : ℕ) (past news : List Entry)
     (s : Step) → IsPlayed setup d c → Ids setup past → JobAt d c (suc nexts) past →
     EachAtWork (LeavesAlone d.addr) d.addr past news →
     (is_payment c ≡ true → EachAtWork (FindsNoneLeft d) d.addr past news) → AtDevice capacity setup d past s news →
@@ -688,7 +688,7 @@ none_lost d past _ bare alone = alone.0 tt
 none_lost d past _ (kept_here c since r at_work is_row owned) alone = alone.1.0 tt
 none_lost d past _ (kept_elsewhere r away caused) alone = alone.1.0 tt
 
-job_step : (capacity : Option ℕ) (setup : Setup) (d : DeviceSetup) (c : Command) (nexts : ℕ) (past news : List Entry)
+job_step : (capacity : ℕ) (setup : Setup) (d : DeviceSetup) (c : Command) (nexts : ℕ) (past news : List Entry)
     (s : Step) → IsPlayed setup d c → Ids setup past → JobAt d c (suc nexts) past →
     EachAtWork (LeavesAlone d.addr) d.addr past news →
     (is_payment c ≡ true → EachAtWork (FindsNoneLeft d) d.addr past news) → Brought capacity setup past s news →
@@ -723,7 +723,7 @@ work_later P addr past news (e ∷ later) none each = (
 )
 
 -- a past that goes on
-grown : (capacity : Option ℕ) (setup : Setup) (past : List Entry) (steps : List Step) (end : List Entry) →
+grown : (capacity : ℕ) (setup : Setup) (past : List Entry) (steps : List Step) (end : List Entry) →
     LegalFrom capacity setup past steps end → (more : List Entry) × (end ≡ more ++ past)
 grown capacity setup past [] end legal = ([], legal)
 grown capacity setup past (s ∷ steps) end legal =
@@ -763,7 +763,7 @@ step_needs pays addr (step.Command (command.Halt other)) n halts come enough =
 step_needs pays addr s n halts come enough = enough
 
 -- one step after the other
-ends_along : (capacity : Option ℕ) (setup : Setup) (d : DeviceSetup) (c : Command) (nexts : ℕ) (past : List Entry)
+ends_along : (capacity : ℕ) (setup : Setup) (d : DeviceSetup) (c : Command) (nexts : ℕ) (past : List Entry)
     (steps : List Step) (end : List Entry) → IsPlayed setup d c →
     nexts + cond (is_payment c) (halts_at d.addr steps) 0 ≤ nexts_at d.addr steps → Ids setup past →
     JobAt d c nexts past → LegalFrom capacity setup past steps end → IsUndisturbed d.addr past end →
@@ -814,7 +814,7 @@ needs_by true rows halts come enough = enough
 needs_by false rows halts come enough = omega (arith, enough)
 
 -- a job that was just taken ends, where no fault is set for its exchanges, and the host keeps its power
-pub job_ends : (capacity : Option ℕ) (setup : Setup) (before : List Step) (past : List Entry) (d : DeviceSetup)
+pub job_ends : (capacity : ℕ) (setup : Setup) (before : List Step) (past : List Entry) (d : DeviceSetup)
     (c : Command) (steps : List Step) (end : List Entry) → IsSoundSetup setup → IsOf setup d → IsCommand c →
     suits d.body c ≡ true → LegalFrom capacity setup [] before past → job (lines_of d past) ≡ works c [] →
     nexts_needed d c steps ≤ nexts_at d.addr steps → LegalFrom capacity setup past steps end →
@@ -838,7 +838,7 @@ round_suits : (body : DeviceBody) (addr : ℕ) → IsAcceptor body → suits bod
 round_suits (Acceptor accepts values ids) addr accepting = refl
 round_suits (Hopper life value) addr accepting = absurd accepting
 
-pub round_ends : (capacity : Option ℕ) (setup : Setup) (before : List Step) (past : List Entry) (d : DeviceSetup)
+pub round_ends : (capacity : ℕ) (setup : Setup) (before : List Step) (past : List Entry) (d : DeviceSetup)
     (steps : List Step) (end : List Entry) → IsSoundSetup setup → IsOf setup d → IsAcceptor d.body →
     LegalFrom capacity setup [] before past → job (lines_of d past) ≡ works (command.Round d.addr) [] →
     3 ≤ nexts_at d.addr steps → LegalFrom capacity setup past steps end → IsUndisturbed d.addr past end →

@@ -43,7 +43,7 @@ clear_echo setup past sent none = λ clear.
     clear)
     ∙ echo_off sent (answers setup past sent))
 
-echo_there : (capacity : Option ℕ) (setup : Setup) (d : DeviceSetup) (past news : List Entry) (s : Step) →
+echo_there : (capacity : ℕ) (setup : Setup) (d : DeviceSetup) (past news : List Entry) (s : Step) →
     AtDevice capacity setup d past s news → EachEntry EchoFailsByFault past → EachEntry EchoFailsByFault (news ++ past)
 echo_there capacity setup d past _ _ (came s e m ls comes) before =
     (((loose d (met d past) s e m ls comes).no_exchange d past).1, before)
@@ -56,7 +56,7 @@ echo_there capacity setup d past _ _ (made_exchange c since q at_work is_row) be
 echo_there capacity setup d past _ _ (made_put c since r at_work is_row) before =
     each_with_end EchoFailsByFault past d.addr (entry.Put r) (record_end d past c since r) tt (λ older end. tt) before
 
-echo_step : (capacity : Option ℕ) (setup : Setup) (past news : List Entry) (s : Step) →
+echo_step : (capacity : ℕ) (setup : Setup) (past news : List Entry) (s : Step) →
     Brought capacity setup past s news → EachEntry EchoFailsByFault past → EachEntry EchoFailsByFault (news ++ past)
 echo_step capacity setup past _ _ (of_device d s news own told) before =
     echo_there capacity setup d past news s told before
@@ -74,7 +74,7 @@ echo_step capacity setup past _ _ (lost_power at choice) before = (tt, before)
 echo_step capacity setup past _ _ (lost_in_put at choice d c since r own at_work is_row) before = (tt, (tt, before))
 echo_step capacity setup past _ _ (lost_in_sale at choice id price since none selling) before = (tt, (tt, before))
 
-echoes_along : (capacity : Option ℕ) (setup : Setup) (past : List Entry) (steps : List Step) (end : List Entry) →
+echoes_along : (capacity : ℕ) (setup : Setup) (past : List Entry) (steps : List Step) (end : List Entry) →
     LegalFrom capacity setup past steps end → EachEntry EchoFailsByFault past → EachEntry EchoFailsByFault end
 echoes_along capacity setup past [] end legal before = subst (EachEntry EchoFailsByFault) (sym legal) before
 echoes_along capacity setup past (s ∷ steps) end legal before =
@@ -82,7 +82,7 @@ echoes_along capacity setup past (s ∷ steps) end legal before =
     (echo_step capacity setup past legal.0 s (brought capacity setup past legal.0 s legal.1) before)
 
 -- an exchange in which the host didn't hear its own echo had a fault
-pub legal_echoes : (capacity : Option ℕ) (setup : Setup) (steps : List Step) (transcript : List Entry) →
+pub legal_echoes : (capacity : ℕ) (setup : Setup) (steps : List Step) (transcript : List Entry) →
     Legal capacity setup steps transcript → EachEntry EchoFailsByFault (onto [] transcript)
 legal_echoes capacity setup steps transcript legal =
     echoes_along capacity setup [] steps (onto [] transcript) legal tt
@@ -107,7 +107,7 @@ IsHeardBut excused setup d =
     (past : List Entry) (c : Command) (since : List Line) (q : Request) → WorksAt d (lines_of d past) c since →
     row_after d past c since ≡ sends q → pending past ≡ Clear → excused (Some q) ≡ false → IsAnswered setup d past q
 
-fails_there : (excused : Option Request → Bool) (capacity : Option ℕ) (setup : Setup) (d : DeviceSetup)
+fails_there : (excused : Option Request → Bool) (capacity : ℕ) (setup : Setup) (d : DeviceSetup)
     (past news : List Entry) (s : Step) → IsSoundSetup setup → IsOf setup d → IsHeardBut excused setup d →
     IsRanged d (job (lines_of d past)) → AtDevice capacity setup d past s news →
     EachEntry (FailsByFaultBut excused d) past → EachEntry (FailsByFaultBut excused d) (news ++ past)
@@ -138,7 +138,7 @@ record Fails (excused : Option Request → Bool) (d : DeviceSetup) (past : List 
   ranged : IsRanged d (job (lines_of d past))
   each : EachEntry (FailsByFaultBut excused d) past
 
-fails_step : (excused : Option Request → Bool) (capacity : Option ℕ) (setup : Setup) (d : DeviceSetup) →
+fails_step : (excused : Option Request → Bool) (capacity : ℕ) (setup : Setup) (d : DeviceSetup) →
     IsSoundSetup setup → IsOf setup d → IsHeardBut excused setup d → (past news : List Entry) (s : Step) → IsInRange s →
     Ids setup past → Brought capacity setup past s news → Fails excused d past → Fails excused d (news ++ past)
 fails_step excused capacity setup d sound own heard past news s range ids told before = record {
@@ -152,7 +152,7 @@ fails_step excused capacity setup d sound own heard past news s range ids told b
       ];
 }
 
-fails_but : (excused : Option Request → Bool) (capacity : Option ℕ) (setup : Setup) (steps : List Step)
+fails_but : (excused : Option Request → Bool) (capacity : ℕ) (setup : Setup) (steps : List Step)
     (transcript : List Entry) (d : DeviceSetup) → IsSoundSetup setup → IsOf setup d → IsHeardBut excused setup d →
     All IsInRange steps → Legal capacity setup steps transcript →
     EachEntry (FailsByFaultBut excused d) (onto [] transcript)
@@ -171,7 +171,7 @@ each_unexcused : (d : DeviceSetup) (past : List Entry) → EachEntry (FailsByFau
 each_unexcused d [] fails = tt
 each_unexcused d (e ∷ past) fails = (nothing_excused d past e fails.0, each_unexcused d past fails.1)
 
-pub legal_fails : (capacity : Option ℕ) (setup : Setup) (steps : List Step) (transcript : List Entry)
+pub legal_fails : (capacity : ℕ) (setup : Setup) (steps : List Step) (transcript : List Entry)
     (d : DeviceSetup) → IsSoundSetup setup → IsOf setup d → IsAcceptor d.body → All IsInRange steps →
     Legal capacity setup steps transcript → EachEntry (FailsByFault d) (onto [] transcript)
 legal_fails capacity setup steps transcript d sound own accepting in_range legal =
@@ -186,7 +186,7 @@ legal_fails capacity setup steps transcript d sound own accepting in_range legal
 is_other : (q : Request) → is_dispense (Some q) ≡ false → (serial count : ℕ) → q ≢ Dispense serial count
 is_other q other serial count is = true≢false (sym (ap (λ x. is_dispense (Some x)) is) ∙ other)
 
-pub legal_fails_but : (capacity : Option ℕ) (setup : Setup) (steps : List Step) (transcript : List Entry)
+pub legal_fails_but : (capacity : ℕ) (setup : Setup) (steps : List Step) (transcript : List Entry)
     (d : DeviceSetup) → IsSoundSetup setup → IsOf setup d → All IsInRange steps →
     Legal capacity setup steps transcript → EachEntry (FailsByFaultBut is_dispense d) (onto [] transcript)
 legal_fails_but capacity setup steps transcript d sound own in_range legal =

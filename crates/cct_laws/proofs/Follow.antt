@@ -1,6 +1,6 @@
 -- What a row of a job at a device puts fits the records before it, where the job has what it needs, and follows them
 -- where its money is available.
-use Rattle.std.proofs.Common.{◌≡◌, ℕ, zero, suc, ◌+◌, ◌-◌, ◌≤◌, ◌==◌, not, nat_le, Bool, true, false, cond, List, [], ◌∷◌, refl, ap, sym, ◌∙◌, subst, Option, Some, None, is_none, arith, le-leb, eq-eqb, leb-true}
+use Rattle.std.proofs.Common.{◌≡◌, ℕ, zero, suc, ◌+◌, ◌-◌, ◌≤◌, ◌==◌, ◌&&◌, not, nat_le, Bool, true, false, cond, List, [], ◌∷◌, refl, ap, sym, ◌∙◌, subst, Option, Some, None, is_none, arith, le-leb, eq-eqb, leb-true}
 use Rattle.std.specs.Prelude.{⊤}
 use Rattle.std.specs.List.{list_any}
 use Rattle.std.specs.Option.{option_map}
@@ -28,11 +28,19 @@ use Rattle.cct_model.specs.Refusal.{valueless, start_refusal, running_refusal}
 use Rattle.cct_model.specs.Following.{is_running, has_values, count_of, follows}
 use Rattle.cct_model.specs.Paid.{uses}
 use Rattle.cct_model.specs.Script.{IsCommand}
-use Rattle.cct_laws.specs.Fitting.{fits}
 use Rattle.cct_laws.specs.Kept.{suits}
 use Rattle.cct_laws.proofs.Held.{same_record, send_puts_none}
 use Rattle.cct_laws.proofs.Orders.{Belongs}
 use Rattle.cct_laws.proofs.Rows.{RowHolds, JudgedHolds, judged_holds, SettleHolds, each_row}
+
+-- a record fits those before it: it follows them, but for the money that the coins of an order and the price of a sale
+-- take
+abbrev fits : Setup → List Record → Record → Bool
+fits setup before (record_of.Opened id addr count life) =
+    hopper_there (device_at setup.devices addr) && is_none (order_in addr before) && not (id == 0)
+    && not (is_open id before) && not (count == 0)
+fits setup before (record_of.Sold id price) = not (id == 0) && not (price == 0)
+fits setup before r = follows setup before r
 
 -- a record fits those before it, and follows them
 abbrev pub Fits : Setup → List Record → Record → Type 0

@@ -264,7 +264,7 @@ all_ends d (e ∷ past) fails given =
     }
 
 -- a job that ends for want of an answer had a fault at each of its last three exchanges
-pub legal_ends : (capacity : Option ℕ) (setup : Setup) (steps : List Step) (transcript : List Entry)
+pub legal_ends : (capacity : ℕ) (setup : Setup) (steps : List Step) (transcript : List Entry)
     (d : DeviceSetup) → IsSoundSetup setup → IsOf setup d → All IsInRange steps →
     Legal capacity setup steps transcript → EachEntry (EndsByFaults d.addr) (onto [] transcript)
 legal_ends capacity setup steps transcript d sound own in_range legal =
@@ -361,7 +361,7 @@ all_scan_ends (e ∷ past) fails tries =
     }
 
 -- a scan that ends for want of an answer had a fault at each of its last three polls
-pub legal_scan_ends : (capacity : Option ℕ) (setup : Setup) (steps : List Step) (transcript : List Entry) →
+pub legal_scan_ends : (capacity : ℕ) (setup : Setup) (steps : List Step) (transcript : List Entry) →
     IsSoundSetup setup → Legal capacity setup steps transcript → EachEntry (EndsByFaults 0) (onto [] transcript)
 legal_scan_ends capacity setup steps transcript sound legal =
     (all_scan_ends (onto [] transcript) (legal_echoes capacity setup steps transcript legal)

@@ -12,7 +12,6 @@ use Rattle.cct_model.specs.lines.record.Record.TheVariants as record_of
 use Rattle.cct_model.specs.lines.command.Command.{Command}
 use Rattle.cct_model.specs.lines.command.Command.TheVariants as command
 use Rattle.cct_model.specs.lines.entry.End.{End}
-use Rattle.cct_model.specs.lines.entry.End.TheVariants.{Sold}
 use Rattle.cct_model.specs.lines.entry.Entry.{Entry}
 use Rattle.cct_model.specs.lines.entry.Entry.TheVariants as entry
 use Rattle.cct_model.specs.declared.judging.Judged.{Judged}
@@ -25,7 +24,7 @@ use Rattle.cct_model.specs.Setup.{AreDistinct}
 use Rattle.cct_model.specs.Line.{Line, exchange, put, taken, ended, crashed}
 use Rattle.cct_model.specs.Order.{order_by, order, life_between, close}
 use Rattle.cct_model.specs.Reading.{judge, shows_break, distance, posted_of}
-use Rattle.cct_model.specs.Job.{Job, free, works, with_line, job, done, ends_row, Row, sends, puts, no_row, put_or, send_row, start_row, round_row, stop_row, open_row, close_row, settle_row, pay_row, path_row, Payment, row_at, row, row_of_sale, vend_row, puts_at, can_halt, end_of_put, end_of_close, judged_by, judged_in, payment_in, credits_read, mask_read, address_of, epoch_by, epoch}
+use Rattle.cct_model.specs.Job.{Job, free, works, with_line, job, done, ends_row, Row, sends, puts, no_row, put_or, send_row, start_row, round_row, stop_row, open_row, close_row, settle_row, pay_row, path_row, Payment, row_at, row, puts_at, can_halt, end_of_put, end_of_close, judged_by, judged_in, payment_in, credits_read, mask_read, address_of, epoch_by, epoch}
 use Rattle.cct_model.specs.Refusal.{job_holds, order_holds, holds_at, sale_holds, held}
 use Rattle.cct_model.specs.Transcript.{owner, lines_of, sale_lines}
 use Rattle.cct_laws.specs.Kept.{with_ended}
@@ -97,15 +96,6 @@ pay_holds_none : (addr id count : ℕ) (since : List Line) (owed : Option OpenOr
     order_holds (works (command.Pay addr id count) since) owed ≡ 0
 pay_holds_none addr id count since None = refl
 pay_holds_none addr id count since (Some o) = refl
-
-settle_holds_none : (addr : ℕ) (since : List Line) (owed : Option OpenOrder) →
-    order_holds (works (command.Settle addr) since) owed ≡ 0
-settle_holds_none addr since None = refl
-settle_holds_none addr since (Some o) = refl
-
-free_holds_few : (owed : Option OpenOrder) → order_holds free owed ≤ 1
-free_holds_few None = omega arith
-free_holds_few (Some o) = omega arith
 
 -- a payment may always put the record that closes its order
 pay_puts : (addr id count rows : ℕ) (next : Row) → 1 ≤ puts_at (command.Pay addr id count) rows next
@@ -540,11 +530,6 @@ holds_same d one other jobs epochs orders =
     ∙ ap₂ (λ e o. holds_with d (job other) e o) epochs orders
     ∙ sym (holds_as d other (job other) refl)
 
--- a line that is none of these
-pub holds_quiet : (d : DeviceSetup) (l : Line) (lines : List Line) → job (l ∷ lines) ≡ job lines →
-    epoch (l ∷ lines) ≡ epoch lines → order (l ∷ lines) ≡ order lines → holds_of d (l ∷ lines) ≡ holds_of d lines
-holds_quiet d l lines jobs epochs orders = holds_same d (l ∷ lines) lines jobs epochs orders
-
 -- a device without a job holds no more than with one
 holds_least : (d : DeviceSetup) (lines : List Line) → order_holds free (order lines) ≤ holds_of d lines
 holds_least d lines = by_job (job lines) refl
@@ -561,12 +546,6 @@ holds_least d lines = by_job (job lines) refl
 -- a loss of power
 pub holds_crashed : (d : DeviceSetup) (lines : List Line) → holds_of d (crashed ∷ lines) ≤ holds_of d lines
 holds_crashed d lines =
-    let least = holds_least d lines in
-    omega arith
-
--- an end
-pub holds_ended : (d : DeviceSetup) (end : End) (lines : List Line) → holds_of d (ended end ∷ lines) ≤ holds_of d lines
-holds_ended d end lines =
     let least = holds_least d lines in
     omega arith
 
@@ -642,18 +621,6 @@ holds_kept d c since r lines is puts_it =
     let fewer = put_least d c since (epoch lines) (order lines) r puts_it in
     omega arith
 
--- a sale
-
-pub sale_put : (c : Command) (since : List Line) (r : Record) → row_of_sale c since ≡ puts r →
-    (sale_holds (works c since) ≡ 1) × (end_of_put c r ≡ Some Sold)
-sale_put (command.Vend id price) since r is = (refl, by_rows (done since) is)
-  where
-    by_rows : (rows : ℕ) → vend_row id price rows ≡ puts r → end_of_put (command.Vend id price) r ≡ Some Sold
-    by_rows zero at =
-        subst (λ x. end_of_put (command.Vend id price) x ≡ Some Sold) (same_record (record_of.Sold id price) r at) refl
-    by_rows (suc rows) at = absurd cc
-sale_put c since r is = absurd cc
-
 -- all devices and the sale
 
 -- what is held of one device changes, and no more of the others
@@ -664,14 +631,6 @@ pub held_moved : (setup : Setup) (d : DeviceSetup) (past after : List Entry) →
     held setup after + holds_of d (lines_of d past) ≤ held setup past + holds_of d (lines_of d after)
 held_moved setup d past after distinct is_of others sale =
     let moved = sum_moved (holds_at after) (holds_at past) setup.devices d distinct is_of others in
-    omega arith
-
--- what is held of the sale changes, and no more of the devices
-pub held_sold : (setup : Setup) (past after : List Entry) →
-    ((e : DeviceSetup) → holds_of e (lines_of e after) ≤ holds_of e (lines_of e past)) →
-    held setup after + sale_holds (job (sale_lines past)) ≤ held setup past + sale_holds (job (sale_lines after))
-held_sold setup past after devices =
-    let grows = sum_grows (holds_at after) (holds_at past) setup.devices devices in
     omega arith
 
 -- a loss of power leaves no more held

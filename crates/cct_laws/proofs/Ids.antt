@@ -175,12 +175,6 @@ put_owned setup past d c since r own ids work is =
     opened : (o : OpenOrder) → order (lines_of d past) ≡ Some o → opened_at o.id past ≡ address_of c
     opened o owed = let at = ids.owned d o own owed in ap hopper_of at.0 ∙ at.1 ∙ sym work.is_here
 
--- the host's loss of power changes no owner
-pub kept_owned : (setup : Setup) (past : List Entry) (d : DeviceSetup) (c : Command) (since : List Line) (r : Record)
-    (n : ℕ) → IsOf setup d → Ids setup past → AtWork d past c since → row_after d past c since ≡ puts r →
-    owner (entry.Crash n ∷ past) r ≡ d.addr
-kept_owned setup past d c since r n own ids work is = put_owned setup past d c since r own ids work is
-
 -- a record that is put uses a new id, with which no job then waits
 record IsPutNew (setup : Setup) (past : List Entry) (r : Record) : Type 0 where
   is_new : IsFresh (records past) r
@@ -294,7 +288,7 @@ unsuited : (body : DeviceBody) (id price : ℕ) → suits body (command.Vend id 
 unsuited (Acceptor accepts values ids) id price suited = cc
 unsuited (Hopper life value) id price suited = cc
 
-took_ids : (capacity : Option ℕ) (setup : Setup) (past : List Entry) (d : DeviceSetup) (c : Command) →
+took_ids : (capacity : ℕ) (setup : Setup) (past : List Entry) (d : DeviceSetup) (c : Command) →
     IsSoundSetup setup → IsOf setup d → suits d.body c ≡ true → address_of c ≡ d.addr →
     IsOwed c (order (lines_of d past)) → refusal capacity setup past c ≡ None → Ids setup past →
     Ids setup (entry.Taken c ∷ past)
@@ -308,7 +302,7 @@ took_ids capacity setup past d (command.Vend id price) sound own suited here owe
 took_ids capacity setup past d c sound own suited here owed passes ids =
     ids_quiet setup past (entry.Taken c) refl refl ids
 
-device_ids : (capacity : Option ℕ) (setup : Setup) (past : List Entry) (d : DeviceSetup) (s : Step)
+device_ids : (capacity : ℕ) (setup : Setup) (past : List Entry) (d : DeviceSetup) (s : Step)
     (news : List Entry) → IsSoundSetup setup → IsOf setup d → AtDevice capacity setup d past s news → Ids setup past →
     Ids setup (news ++ past)
 device_ids capacity setup past d _ _ sound own (came s e m ls comes) ids = came_ids setup past d s e m ls comes ids
@@ -335,7 +329,7 @@ ids_start setup = record {
   fresh = tt;
 }
 
-pub ids_step : (capacity : Option ℕ) (setup : Setup) (past news : List Entry) (s : Step) → IsSoundSetup setup →
+pub ids_step : (capacity : ℕ) (setup : Setup) (past news : List Entry) (s : Step) → IsSoundSetup setup →
     Brought capacity setup past s news → Ids setup past → Ids setup (news ++ past)
 ids_step capacity setup past _ _ sound (of_device d s news own at) ids =
     device_ids capacity setup past d s news sound own at ids

@@ -45,7 +45,7 @@ ranged_end : (d : DeviceSetup) (past : List Entry) (e : Entry) (end : Option End
 ranged_end d past e None ranged = ranged
 ranged_end d past e (Some end) ranged = subst (λ ls. IsRanged d (job ls)) (sym (lines_ended d (e ∷ past) end)) tt
 
-ranged_there : (capacity : Option ℕ) (setup : Setup) (d : DeviceSetup) (past news : List Entry) (s : Step) →
+ranged_there : (capacity : ℕ) (setup : Setup) (d : DeviceSetup) (past news : List Entry) (s : Step) →
     Ids setup past → IsOf setup d → IsInRange s →
     AtDevice capacity setup d past s news → IsRanged d (job (lines_of d past)) → IsRanged d (job (lines_of d (news ++ past)))
 ranged_there capacity setup d past _ _ ids own range (came s e m ls comes) ranged =
@@ -77,7 +77,7 @@ ranged_lost d past _ (kept_here c since r at_work is_row owned) =
 ranged_lost d past _ (kept_elsewhere r away caused) =
     subst (λ ls. IsRanged d (job ls)) (sym (lines_kept_elsewhere d past r away)) tt
 
-pub ranged_step : (capacity : Option ℕ) (setup : Setup) (d : DeviceSetup) (past news : List Entry) (s : Step) →
+pub ranged_step : (capacity : ℕ) (setup : Setup) (d : DeviceSetup) (past news : List Entry) (s : Step) →
     IsSoundSetup setup → IsOf setup d → IsInRange s → Ids setup past → Brought capacity setup past s news →
     IsRanged d (job (lines_of d past)) → IsRanged d (job (lines_of d (news ++ past)))
 ranged_step capacity setup d past news s sound own range ids told ranged =
@@ -162,7 +162,7 @@ after_here d P past e None holds = holds
 after_here d P past e (Some end) holds =
     subst (P (since_epoch d (e ∷ past)) (met d (e ∷ past))) (sym (lines_ended d (e ∷ past) end)) holds
 
-kept_there : (capacity : Option ℕ) (setup : Setup) (d : DeviceSetup) (P : Fact) (past news : List Entry) (s : Step) →
+kept_there : (capacity : ℕ) (setup : Setup) (d : DeviceSetup) (P : Fact) (past news : List Entry) (s : Step) →
     IsSoundSetup setup → IsOf setup d → Ids setup past → IsKeptBoth d P → IsInRange s → IsRanged d (job (lines_of d past)) →
     AtDevice capacity setup d past s news → HonestPast (news ++ past) → HoldsAt d P past → HoldsAt d P (news ++ past)
 kept_there capacity setup d P past _ _ sound own ids kept range ranged (came s e m ls comes) honest holds =
@@ -221,7 +221,7 @@ kept_lost d P past _ kept ranged (kept_elsewhere r away caused) holds =
     (sym (lines_kept_elsewhere d past r away))
     (kept.crashes (since_epoch d past) (met d past) (lines_of d past) holds)
 
-pub kept_step : (capacity : Option ℕ) (setup : Setup) (d : DeviceSetup) (P : Fact) (past news : List Entry) (s : Step) →
+pub kept_step : (capacity : ℕ) (setup : Setup) (d : DeviceSetup) (P : Fact) (past news : List Entry) (s : Step) →
     IsSoundSetup setup → IsOf setup d → IsKeptBoth d P → IsInRange s → IsRanged d (job (lines_of d past)) →
     Ids setup past → Brought capacity setup past s news → HonestPast (news ++ past) → HoldsAt d P past →
     HoldsAt d P (news ++ past)

@@ -20,6 +20,7 @@ pub mod Faults
 pub mod Fits
 pub mod Fitted
 pub mod Follow
+pub mod Freed
 pub mod GivenUp
 pub mod Held
 pub mod HopperReplies
@@ -59,6 +60,7 @@ pub mod Spending
 pub mod Starts
 pub mod Stops
 pub mod Sums
+pub mod Tests
 pub mod Texts
 pub mod Told
 pub mod Tries

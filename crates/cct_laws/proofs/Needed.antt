@@ -173,7 +173,7 @@ needs_record d c since r lines is row_is needs = by_end (end_of_put c r) refl
     by_end (Some end) some = tt
 
 -- what a step brought at the device
-needs_there : (capacity : Option ℕ) (setup : Setup) (d : DeviceSetup) (past news : List Entry) (s : Step) →
+needs_there : (capacity : ℕ) (setup : Setup) (d : DeviceSetup) (past news : List Entry) (s : Step) →
     Ids setup past → IsOf setup d → AtDevice capacity setup d past s news → NeedsIn d (lines_of d past) →
     NeedsIn d (lines_of d (news ++ past))
 needs_there capacity setup d past _ _ ids own (came s x m ls comes) needs =
@@ -209,7 +209,7 @@ needs_lost d past _ (kept_here c since r at_work is_row owned) =
 needs_lost d past _ (kept_elsewhere r away caused) = subst (NeedsIn d) (sym (lines_kept_elsewhere d past r away)) tt
 
 -- every step keeps it
-pub needs_step : (capacity : Option ℕ) (setup : Setup) (d : DeviceSetup) (past news : List Entry) (s : Step) →
+pub needs_step : (capacity : ℕ) (setup : Setup) (d : DeviceSetup) (past news : List Entry) (s : Step) →
     IsSoundSetup setup → IsOf setup d → Ids setup past → Brought capacity setup past s news →
     NeedsIn d (lines_of d past) → NeedsIn d (lines_of d (news ++ past))
 needs_step capacity setup d past news s sound own ids told needs =

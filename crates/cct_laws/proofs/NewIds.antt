@@ -11,16 +11,16 @@ use Rattle.cct_model.specs.lines.entry.Entry.{Entry}
 use Rattle.cct_model.specs.declared.judging.OpenOrder.{OpenOrder}
 use Rattle.cct_model.specs.Device.{is_acceptor}
 use Rattle.cct_model.specs.Exchange.{device_at}
-use Rattle.cct_model.specs.Money.{coins_of}
 use Rattle.cct_model.specs.Order.{order}
 use Rattle.cct_model.specs.Job.{Job, free, works, job, done}
 use Rattle.cct_model.specs.Records.{records}
-use Rattle.cct_model.specs.Refusal.{busy, over_journal, id_refusal, pay_refusal, at_hopper, spending, running_id, last_id, refusal}
+use Rattle.cct_model.specs.Refusal.{busy, id_refusal, pay_refusal, at_hopper, running_id, last_id, refusal}
 use Rattle.cct_model.specs.Transcript.{lines_of, sale_lines}
 use Rattle.cct_laws.specs.Ids.{waiting}
 use Rattle.cct_laws.specs.Law.{IsOf}
 use Rattle.cct_laws.proofs.Setups.{same_some}
 use Rattle.cct_laws.proofs.Sums.{greatest_holds}
+use Rattle.cct_laws.proofs.Tests.{both_pass, tests_pass}
 use Rattle.cct_laws.proofs.Orders.{unused_above}
 use Rattle.cct_laws.proofs.Used.{Unused}
 
@@ -60,21 +60,10 @@ new_by setup past id none = record {
     above = above_by (last_id setup past) (nat_le id (last_id setup past)) refl none
 
 -- the test of the id passes where a payment or a sale is not refused
-id_passes : (capacity : Option ℕ) (further : ℕ → Option CommandNo) (id last : ℕ) (j : Job) →
-    option_or (busy j) (over_journal capacity further (id_refusal id last)) ≡ None → id_refusal id last ≡ None
-id_passes None further id last free passes = passes
-id_passes (Some capacity) further id last free passes = by_first (id_refusal id last) passes
-  where
-    by_first : (first : Option CommandNo) → option_or first (further capacity) ≡ None → first ≡ None
-    by_first None same = refl
-    by_first (Some why) same = absurd cc
-id_passes capacity further id last (works c since) passes = absurd cc
-
-payment_passes : (capacity : Option ℕ) (further : ℕ → Option CommandNo) (id last : ℕ) (j : Job)
-    (owed : Option OpenOrder) → owed ≡ None →
-    option_or (busy j) (over_journal capacity further (pay_refusal id last owed)) ≡ None → id_refusal id last ≡ None
-payment_passes capacity further id last j None none passes = id_passes capacity further id last j passes
-payment_passes capacity further id last j (Some o) none passes = absurd cc
+payment_passes : (id last : ℕ) (j : Job) (owed : Option OpenOrder) → owed ≡ None →
+    option_or (busy j) (pay_refusal id last owed) ≡ None → id_refusal id last ≡ None
+payment_passes id last j None none passes = (both_pass (busy j) (id_refusal id last) passes).1
+payment_passes id last j (Some o) none passes = absurd cc
 
 hopper_passes : (found : Option DeviceSetup) (further : DeviceSetup → Option CommandNo) (d : DeviceSetup) →
     found ≡ Some d → at_hopper found further ≡ None → further d ≡ None
@@ -86,17 +75,18 @@ hopper_passes (Some e) further d is passes =
     by_kind true same = absurd cc
     by_kind false same = same
 
-pub payment_new : (capacity : Option ℕ) (setup : Setup) (past : List Entry) (d : DeviceSetup) (id count : ℕ) →
+pub payment_new : (capacity : ℕ) (setup : Setup) (past : List Entry) (d : DeviceSetup) (id count : ℕ) →
     IsOf setup d → order (lines_of d past) ≡ None → refusal capacity setup past (command.Pay d.addr id count) ≡ None →
     IsNew setup past id
-payment_new capacity setup past d id count own none passes =
+payment_new capacity setup past d id count own none lets =
     new_by setup past id
-    (payment_passes capacity (spending setup past (coins_of setup d.addr count) 2) id (last_id setup past)
-    (job (lines_of d past)) (order (lines_of d past)) none
-    (hopper_passes (device_at setup.devices d.addr) _ d own passes))
+    (payment_passes id (last_id setup past) (job (lines_of d past)) (order (lines_of d past)) none
+    (hopper_passes (device_at setup.devices d.addr) _ d own
+    (tests_pass capacity setup past (command.Pay d.addr id count) lets).state))
 
-pub sale_new : (capacity : Option ℕ) (setup : Setup) (past : List Entry) (id price : ℕ) →
+pub sale_new : (capacity : ℕ) (setup : Setup) (past : List Entry) (id price : ℕ) →
     refusal capacity setup past (command.Vend id price) ≡ None → IsNew setup past id
-sale_new capacity setup past id price passes =
+sale_new capacity setup past id price lets =
     new_by setup past id
-    (id_passes capacity (spending setup past price 1) id (last_id setup past) (job (sale_lines past)) passes)
+    (both_pass (busy (job (sale_lines past))) (id_refusal id (last_id setup past))
+    (tests_pass capacity setup past (command.Vend id price) lets).state).1

@@ -1,5 +1,5 @@
 -- The orders that records tell: an order that is open by its id is the open one of its hopper, and no other is.
-use Rattle.std.proofs.Common.{◌≡◌, ◌≢◌, ℕ, ◌≤◌, ◌<◌, max, ◌==◌, Bool, true, false, cond, List, [], ◌∷◌, refl, ap, sym, ◌∙◌, subst, Option, Some, None, is_none, not, leb-true, ◌⊎◌, inl, inr, arith, true≢false, eq-eqb, eqb-true}
+use Rattle.std.proofs.Common.{◌≡◌, ◌≢◌, ℕ, ◌≤◌, ◌<◌, ◌==◌, Bool, true, false, cond, List, [], ◌∷◌, refl, ap, sym, ◌∙◌, subst, Option, Some, None, is_none, not, leb-true, ◌⊎◌, inl, inr, arith, true≢false, eq-eqb, eqb-true}
 use Rattle.std.specs.List.{list_any}
 use Rattle.std.proofs.lemmas.Bool.{and_parts, cases_eq, ne_eqb}
 use Rattle.cct_model.specs.terms.device.Setup.{Setup}
@@ -8,40 +8,20 @@ use Rattle.cct_model.specs.lines.record.Record.TheVariants as record_of
 use Rattle.cct_model.specs.declared.judging.OpenOrder.{OpenOrder}
 use Rattle.cct_model.specs.Exchange.{device_at, hopper_there}
 use Rattle.cct_model.specs.Order.{order_by}
-use Rattle.cct_model.specs.Records.{named_by, order_named, hopper_of, opened_in, owner_in, records_at, order_of, order_in, is_open_by, is_open, greatest_id}
+use Rattle.cct_model.specs.Records.{named_by, order_named, hopper_of, opened_in, owner_in, order_in, is_open_by, is_open, greatest_id}
 use Rattle.cct_model.specs.Money.{coins_of, available_in}
 use Rattle.cct_model.specs.Paid.{uses}
 use Rattle.cct_model.specs.Following.{follows, all_follow}
-use Rattle.cct_laws.specs.Fitting.{fits, all_fit}
+use Rattle.cct_model.proofs.OpenOrders.{order_next, order_own, order_else}
 use Rattle.cct_laws.proofs.Setups.{same_some}
 
 -- the open order at an address after one record more
-
-order_by_owner : (here : Bool) (r : Record) (rs : List Record) →
-    order_of (cond here (r ∷ rs) rs) ≡ cond here (order_by r (order_of rs)) (order_of rs)
-order_by_owner true r rs = refl
-order_by_owner false r rs = refl
-
--- at the address of the record
-pub order_own : (addr : ℕ) (r : Record) (before : List Record) → owner_in before r ≡ addr →
-    order_in addr (r ∷ before) ≡ order_by r (order_in addr before)
-order_own addr r before own =
-    order_by_owner (owner_in before r == addr) r (records_at addr before)
-    ∙ ap (λ b. cond b (order_by r (order_in addr before)) (order_in addr before)) (eq-eqb (owner_in before r) addr own)
-
--- at another address
-pub order_else : (addr : ℕ) (r : Record) (before : List Record) → owner_in before r ≢ addr →
-    order_in addr (r ∷ before) ≡ order_in addr before
-order_else addr r before other =
-    order_by_owner (owner_in before r == addr) r (records_at addr before)
-    ∙ ap (λ b. cond b (order_by r (order_in addr before)) (order_in addr before))
-    (ne_eqb (owner_in before r) addr other)
 
 -- a record that opens and closes nothing
 pub order_kept : (addr : ℕ) (r : Record) (before : List Record) → ((o : Option OpenOrder) → order_by r o ≡ o) →
     order_in addr (r ∷ before) ≡ order_in addr before
 order_kept addr r before keeps =
-    order_by_owner (owner_in before r == addr) r (records_at addr before)
+    order_next addr r before
     ∙ same (owner_in before r == addr)
   where
     same : (here : Bool) → cond here (order_by r (order_in addr before)) (order_in addr before) ≡ order_in addr before
@@ -68,26 +48,6 @@ named_id id (record_of.Opened opened addr count life ∷ before) o is =
     by_here false test found later = later found
 named_id id (r ∷ before) o is = named_id id before o is
 
-pub named_below : (id : ℕ) (before : List Record) (o : OpenOrder) → order_named id before ≡ Some o →
-    id ≤ greatest_id before
-named_below id [] o is = absurd cc
-named_below id (record_of.Opened opened addr count life ∷ before) o is =
-    by_here (opened == id) refl is (λ later. named_below id before o later)
-  where
-    by_here : (here : Bool) → (opened == id) ≡ here →
-        cond here (Some (order_as opened addr count life)) (order_named id before) ≡ Some o →
-        (order_named id before ≡ Some o → id ≤ greatest_id before) →
-        id ≤ max opened (greatest_id before)
-    by_here true test found later =
-        let own = eqb-true opened id test in
-        omega arith
-    by_here false test found later =
-        let rest : id ≤ greatest_id before = later found in
-        omega arith
-named_below id (r ∷ before) o is =
-    let rest = named_below id before o is in
-    omega arith
-
 -- an id above all that were used is used by no record
 pub unused_above : (id : ℕ) (before : List Record) → greatest_id before < id → list_any (uses id) before ≡ false
 unused_above id [] above = refl
@@ -100,27 +60,6 @@ unused_above id (record_of.Sold used price ∷ before) above =
     let rest : list_any (uses id) before ≡ false = unused_above id before (omega arith) in
     rw (ne_eqb used id other) rest
 unused_above id (r ∷ before) above = unused_above id before (omega arith)
-
--- nor is an order with it open
-pub unopened_above : (id : ℕ) (before : List Record) → greatest_id before < id → is_open id before ≡ false
-unopened_above id [] above = refl
-unopened_above id (record_of.Opened opened addr count life ∷ before) above =
-    let other : opened ≢ id = λ same. omega arith in
-    let rest : is_open id before ≡ false = unopened_above id before (omega arith) in
-    rw (ne_eqb opened id other) rest
-unopened_above id (record_of.Closed closed paid unpaid ∷ before) above =
-    by_here (closed == id) (unopened_above id before (omega arith))
-  where
-    by_here : (here : Bool) → is_open id before ≡ false → cond here false (is_open id before) ≡ false
-    by_here true rest = refl
-    by_here false rest = rest
-unopened_above id (record_of.Odd closed life_before life_after ∷ before) above =
-    by_here (closed == id) (unopened_above id before (omega arith))
-  where
-    by_here : (here : Bool) → is_open id before ≡ false → cond here false (is_open id before) ≡ false
-    by_here true rest = refl
-    by_here false rest = rest
-unopened_above id (r ∷ before) above = unopened_above id before (omega arith)
 
 -- an order that is open by its id is the open one of its hopper
 pub record IsNamed (before : List Record) (id : ℕ) : Type 0 where
@@ -319,23 +258,12 @@ opens_at setup before id addr count life ok =
       affords = leb-true _ _ sixth.1;
     }
 
--- a record that follows fits, whatever money is available
-pub fits_by : (setup : Setup) (before : List Record) (r : Record) → follows setup before r ≡ true →
-    fits setup before r ≡ true
-fits_by setup before (record_of.Opened id addr count life) ok = (and_parts _ _ ok).0
-fits_by setup before (record_of.Sold id price) ok = (and_parts _ _ ok).0
-fits_by setup before r ok = ok
-
--- orders belong along records that fit one another
-belongs_next : (setup : Setup) (before : List Record) (r : Record) → fits setup before r ≡ true →
+-- so orders belong along records that follow one another
+belongs_next : (setup : Setup) (before : List Record) (r : Record) → follows setup before r ≡ true →
     Belongs setup before → Belongs setup (r ∷ before)
 belongs_next setup before (record_of.Opened id addr count life) ok belongs =
-    let fourth = and_parts _ _ ok in
-    let third = and_parts _ _ fourth.0 in
-    let second = and_parts _ _ third.0 in
-    let first = and_parts _ _ second.0 in
-    belongs_opened setup before id addr count life first.0 (none_there (order_in addr before) first.1)
-    (not_true (is_open id before) third.1) belongs
+    let at = opens_at setup before id addr count life ok in
+    belongs_opened setup before id addr count life at.hopper at.none at.unopened belongs
 belongs_next setup before (record_of.Closed id paid unpaid) ok belongs =
     belongs_closed setup before (record_of.Closed id paid unpaid) id (λ o. refl) (λ other b. refl) (λ other o. refl)
     refl
@@ -347,15 +275,8 @@ belongs_next setup before (record_of.Odd id life_before life_after) ok belongs =
 belongs_next setup before r ok belongs =
     belongs_kept setup before r (λ o. refl) (λ id b. refl) (λ id o. refl) belongs
 
-pub belongs_fit : (setup : Setup) (before : List Record) → all_fit setup before ≡ true → Belongs setup before
-belongs_fit setup [] ok = belongs_first setup
-belongs_fit setup (r ∷ before) ok =
-    let parts = and_parts _ _ ok in
-    belongs_next setup before r parts.0 (belongs_fit setup before parts.1)
-
--- so they do along records that follow one another
 pub belongs_all : (setup : Setup) (before : List Record) → all_follow setup before ≡ true → Belongs setup before
 belongs_all setup [] ok = belongs_first setup
 belongs_all setup (r ∷ before) ok =
     let parts = and_parts _ _ ok in
-    belongs_next setup before r (fits_by setup before r parts.0) (belongs_all setup before parts.1)
+    belongs_next setup before r parts.0 (belongs_all setup before parts.1)

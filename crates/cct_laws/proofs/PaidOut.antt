@@ -285,7 +285,7 @@ rests_kept d paying = record {
 }
 
 -- a hopper that has shown that nothing is left to pay has nothing left to fall until the next order is opened
-pub legal_paid_out : (capacity : Option ℕ) (setup : Setup) (steps : List Step) (transcript : List Entry)
+pub legal_paid_out : (capacity : ℕ) (setup : Setup) (steps : List Step) (transcript : List Entry)
     (d : DeviceSetup) → IsSoundSetup setup → IsOf setup d → IsHopper d.body → All IsInRange steps →
     Legal capacity setup steps transcript → Honest transcript → is_paid_out (lines_in d transcript) ≡ true →
     remaining d.serial (met d (onto [] transcript)) ≡ 0

@@ -1,6 +1,6 @@
 -- What a hopper owes is kept by all that can come over an honest wire; and what follows: each order is paid at most
 -- once, without one nothing is left to fall, and no order is closed whose life counts don't fit it.
-use Rattle.std.proofs.Common.{◌≡◌, ℕ, zero, suc, ◌≤◌, ◌==◌, true, false, List, [], ◌∷◌, refl, subst, Option, Some, None, arith}
+use Rattle.std.proofs.Common.{◌≡◌, ℕ, ◌≤◌, ◌==◌, true, false, List, [], ◌∷◌, refl, subst, Option, Some, None, arith}
 use Rattle.std.proofs.lemmas.Bool.Decides.{nat_tests}
 use Rattle.cct_model.specs.terms.device.DeviceSetup.{DeviceSetup}
 use Rattle.cct_model.specs.terms.request.Request.{Request}
@@ -15,8 +15,8 @@ use Rattle.cct_model.specs.Hopper.{remaining}
 use Rattle.cct_model.specs.Device.{IsHopper}
 use Rattle.cct_model.specs.Line.{Line, fell, exchange, put, taken, crashed}
 use Rattle.cct_model.specs.Line as line
-use Rattle.cct_model.specs.Order.{order, life_read}
-use Rattle.cct_model.specs.Job.{Job, free, works, job, begun, with_line, done, epoch, row, sends, puts}
+use Rattle.cct_model.specs.Order.{order}
+use Rattle.cct_model.specs.Job.{Job, free, works, job, begun, with_line, epoch, row, sends, puts}
 use Rattle.cct_model.specs.Paid.{dispenses, OfOrder, PaidBy, Paid}
 use Rattle.cct_model.specs.Refusal.{settle_refusal}
 use Rattle.cct_model.specs.Script.{IsCommand}
@@ -24,8 +24,8 @@ use Rattle.cct_model.proofs.Hoppers.{remaining_fall, remaining_jam}
 use Rattle.cct_laws.specs.Kept.{IsForOthers, is_for_hopper}
 use Rattle.cct_laws.specs.Odd.{IsNotOdd}
 use Rattle.cct_laws.specs.KeptHopper.{IsOwed, IsKeptHopper}
-use Rattle.cct_laws.proofs.Owing.{View, StateOf, Falls, state_falls, falls_of_order, IsOpen, FitsSettle, FitsPay, FitsJob, fits_falls}
-use Rattle.cct_laws.proofs.Payouts.{life_of, view, Pays, pays_less, less_rest, IsMany, less_heard, fits_at, sent_fits, put_fits, pays_asks, pays_ended, pays_puts}
+use Rattle.cct_laws.proofs.Owing.{View, StateOf, Falls, state_falls, falls_of_order, IsOpen, FitsJob, fits_falls}
+use Rattle.cct_laws.proofs.Payouts.{life_of, view, Pays, pays_less, less_rest, IsMany, less_heard, sent_fits, put_fits, pays_asks, pays_ended, pays_puts}
 
 -- before anything came
 pays_start : (d : DeviceSetup) → Pays d [] []
@@ -164,35 +164,6 @@ pays_paid d past lines pays = pays.paid
 pub rests_unowed : (d : DeviceSetup) (past : List Met) (lines : List Line) → Pays d past lines → order lines ≡ None →
     remaining d.serial past ≡ 0
 rests_unowed d past lines pays none = subst (StateOf (life_of d.body) (view d past lines)) none pays.state
-
--- once an answered status showed that nothing is left to fall, nothing is until the order is closed
-settle_rests : (start : ℕ) (v : View) (owed : Option OpenOrder) (life : Option ℕ) (rows : ℕ) → 1 ≤ rows →
-    FitsSettle start v owed life rows → v.rest ≡ 0
-settle_rests start v owed life zero some fits = absurd (omega (arith, some))
-settle_rests start v owed life (suc zero) some fits = fits.1
-settle_rests start v owed life (suc (suc zero)) some fits = fits.1
-settle_rests start v owed life (suc (suc (suc rows))) some fits = fits
-
-pay_rests : (start : ℕ) (v : View) (owed : Option OpenOrder) (life : Option ℕ) (count rows : ℕ) → 5 ≤ rows →
-    FitsPay start v owed life count rows → v.rest ≡ 0
-pay_rests start v owed life count zero some fits = absurd (omega (arith, some))
-pay_rests start v owed life count (suc zero) some fits = absurd (omega (arith, some))
-pay_rests start v owed life count (suc (suc zero)) some fits = absurd (omega (arith, some))
-pay_rests start v owed life count (suc (suc (suc zero))) some fits = absurd (omega (arith, some))
-pay_rests start v owed life count (suc (suc (suc (suc rows)))) some fits =
-    settle_rests start v owed life rows (omega (arith, some)) fits
-
-pub rests_in_settlement : (d : DeviceSetup) (past : List Met) (lines : List Line) (addr : ℕ) (work : List Line) →
-    Pays d past lines → job lines ≡ works (command.Settle addr) work → 1 ≤ done work → remaining d.serial past ≡ 0
-rests_in_settlement d past lines addr work pays is_job some =
-    settle_rests (life_of d.body) (view d past lines) (order lines) (life_read work) (done work) some
-    (fits_at d past lines (command.Settle addr) work is_job pays)
-
-pub rests_in_payment : (d : DeviceSetup) (past : List Met) (lines : List Line) (addr id count : ℕ) (work : List Line) →
-    Pays d past lines → job lines ≡ works (command.Pay addr id count) work → 5 ≤ done work → remaining d.serial past ≡ 0
-rests_in_payment d past lines addr id count work pays is_job some =
-    pay_rests (life_of d.body) (view d past lines) (order lines) (life_read work) count (done work) some
-    (fits_at d past lines (command.Pay addr id count) work is_job pays)
 
 -- a dispense is sent only where an order of just its coins is open that none was taken for, and to the hopper itself
 pub dispense_fresh : (d : DeviceSetup) (past : List Met) (lines : List Line) (c : Command) (work : List Line)

@@ -1,5 +1,5 @@
 -- What holds of each hopper in every legal transcript over an honest wire, and of ids whatever the wire does.
-use Rattle.std.proofs.Common.{◌≡◌, ℕ, List, [], Option, None, All}
+use Rattle.std.proofs.Common.{◌≡◌, ℕ, List, [], None, All}
 use Rattle.std.specs.Prelude.{⊤}
 use Rattle.cct_model.specs.terms.device.DeviceSetup.{DeviceSetup}
 use Rattle.cct_model.specs.terms.device.Setup.{Setup}
@@ -28,39 +28,39 @@ use Rattle.cct_laws.proofs.Seen.{along_from, any_steps}
 use Rattle.cct_laws.proofs.Whole.{kept_hopper_legal}
 
 -- ids, whatever the wire does
-pub legal_ids : (capacity : Option ℕ) (setup : Setup) (steps : List Step) (transcript : List Entry) →
+pub legal_ids : (capacity : ℕ) (setup : Setup) (steps : List Step) (transcript : List Entry) →
     IsSoundSetup setup → Legal capacity setup steps transcript → Ids setup (onto [] transcript)
 legal_ids capacity setup steps transcript sound legal =
     (along_from capacity setup (λ s. ⊤) (λ past. ⊤) sound (λ past news s any ids told before. tt) [] steps
     (onto [] transcript) (any_steps steps) (ids_start setup) legal tt).0
 
-pub legal_fresh : (capacity : Option ℕ) (setup : Setup) (steps : List Step) (transcript : List Entry) →
+pub legal_fresh : (capacity : ℕ) (setup : Setup) (steps : List Step) (transcript : List Entry) →
     IsSoundSetup setup → Legal capacity setup steps transcript → AreFresh (records (onto [] transcript))
 legal_fresh capacity setup steps transcript sound legal = (legal_ids capacity setup steps transcript sound legal).fresh
 
 -- a hopper, over an honest wire
-legal_pays : (capacity : Option ℕ) (setup : Setup) (steps : List Step) (transcript : List Entry) (d : DeviceSetup) →
+legal_pays : (capacity : ℕ) (setup : Setup) (steps : List Step) (transcript : List Entry) (d : DeviceSetup) →
     IsSoundSetup setup → IsOf setup d → IsHopper d.body → All IsInRange steps → Legal capacity setup steps transcript →
     Honest transcript → Pays d (met d (onto [] transcript)) (lines_in d transcript)
 legal_pays capacity setup steps transcript d sound own paying in_range legal honest =
     kept_hopper_legal capacity setup steps transcript d (Pays d) sound own paying in_range legal honest
     (pays_kept d paying)
 
-pub legal_paid : (capacity : Option ℕ) (setup : Setup) (steps : List Step) (transcript : List Entry) (d : DeviceSetup) →
+pub legal_paid : (capacity : ℕ) (setup : Setup) (steps : List Step) (transcript : List Entry) (d : DeviceSetup) →
     IsSoundSetup setup → IsOf setup d → IsHopper d.body → All IsInRange steps → Legal capacity setup steps transcript →
     Honest transcript → Paid (lines_in d transcript)
 legal_paid capacity setup steps transcript d sound own paying in_range legal honest =
     pays_paid d (met d (onto [] transcript)) (lines_in d transcript)
     (legal_pays capacity setup steps transcript d sound own paying in_range legal honest)
 
-pub legal_rests : (capacity : Option ℕ) (setup : Setup) (steps : List Step) (transcript : List Entry) (d : DeviceSetup) →
+pub legal_rests : (capacity : ℕ) (setup : Setup) (steps : List Step) (transcript : List Entry) (d : DeviceSetup) →
     IsSoundSetup setup → IsOf setup d → IsHopper d.body → All IsInRange steps → Legal capacity setup steps transcript →
     Honest transcript → order (lines_in d transcript) ≡ None → remaining d.serial (met d (onto [] transcript)) ≡ 0
 legal_rests capacity setup steps transcript d sound own paying in_range legal honest none =
     rests_unowed d (met d (onto [] transcript)) (lines_in d transcript)
     (legal_pays capacity setup steps transcript d sound own paying in_range legal honest) none
 
-pub legal_dispense : (capacity : Option ℕ) (setup : Setup) (steps : List Step) (transcript : List Entry) (d : DeviceSetup)
+pub legal_dispense : (capacity : ℕ) (setup : Setup) (steps : List Step) (transcript : List Entry) (d : DeviceSetup)
     (c : Command) (since : List Line) (serial count : ℕ) →
     IsSoundSetup setup → IsOf setup d → IsHopper d.body → All IsInRange steps → Legal capacity setup steps transcript →
     Honest transcript → job (lines_in d transcript) ≡ works c since →

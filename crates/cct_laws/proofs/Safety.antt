@@ -1,6 +1,6 @@
 -- Where an acceptor is safe in every legal transcript over an honest wire: which mask it has, what its events then tell, and
 -- why its epoch breaks.
-use Rattle.std.proofs.Common.{◌≡◌, ℕ, false, List, [], ◌∷◌, ◌++◌, take, drop, take-append-drop, refl, ap, sym, ◌∙◌, subst, Option, None, replicate, All}
+use Rattle.std.proofs.Common.{◌≡◌, ℕ, false, List, [], ◌∷◌, ◌++◌, take, drop, take-append-drop, refl, ap, sym, ◌∙◌, subst, None, replicate, All}
 use Rattle.cct_model.specs.terms.coin.Coin.{Coin}
 use Rattle.cct_model.specs.terms.coin.Pair.{Pair}
 use Rattle.cct_model.specs.terms.device.DeviceSetup.{DeviceSetup}
@@ -47,13 +47,13 @@ buffer_none newest none =
     front_nil (coins_among (take 5 all)) (coins_among (drop 5 all))
     (sym (coins_among-append (take 5 all) (drop 5 all)) ∙ ap coins_among (take-append-drop 5 all) ∙ nothing)
 
-legal_masks : (capacity : Option ℕ) (setup : Setup) (steps : List Step) (transcript : List Entry) (d : DeviceSetup) → IsSoundSetup setup → IsOf setup d → IsAcceptor d.body → All IsInRange steps →
+legal_masks : (capacity : ℕ) (setup : Setup) (steps : List Step) (transcript : List Entry) (d : DeviceSetup) → IsSoundSetup setup → IsOf setup d → IsAcceptor d.body → All IsInRange steps →
     Legal capacity setup steps transcript → Honest transcript → Masks (since_epoch_in d transcript) (met d (onto [] transcript)) (lines_in d transcript)
 legal_masks capacity setup steps transcript d sound own accepting in_range legal honest =
     kept_since_legal capacity setup steps transcript d Masks sound own accepting in_range legal honest (masks_kept d accepting)
 
 -- without an epoch no coin is accepted
-pub legal_shut : (capacity : Option ℕ) (setup : Setup) (steps : List Step) (transcript : List Entry) (d : DeviceSetup) → IsSoundSetup setup → IsOf setup d → IsAcceptor d.body → All IsInRange steps →
+pub legal_shut : (capacity : ℕ) (setup : Setup) (steps : List Step) (transcript : List Entry) (d : DeviceSetup) → IsSoundSetup setup → IsOf setup d → IsAcceptor d.body → All IsInRange steps →
     Legal capacity setup steps transcript → Honest transcript → epoch (lines_in d transcript) ≡ Idle → (place : ℕ) → accepts (met d (onto [] transcript)) place ≡ false
 legal_shut capacity setup steps transcript d sound own accepting in_range legal honest idle place =
     let lines = lines_in d transcript in
@@ -61,26 +61,26 @@ legal_shut capacity setup steps transcript d sound own accepting in_range legal 
     (subst (StateOf (world (met d (onto [] transcript)) lines) (mark lines) (base lines)) idle masks.keeps.sound.state).shut place
 
 -- while an epoch runs, its mask is set or none is
-pub legal_masked : (capacity : Option ℕ) (setup : Setup) (steps : List Step) (transcript : List Entry) (d : DeviceSetup) (mask counter : ℕ) → IsSoundSetup setup → IsOf setup d → IsAcceptor d.body → All IsInRange steps →
+pub legal_masked : (capacity : ℕ) (setup : Setup) (steps : List Step) (transcript : List Entry) (d : DeviceSetup) (mask counter : ℕ) → IsSoundSetup setup → IsOf setup d → IsAcceptor d.body → All IsInRange steps →
     Legal capacity setup steps transcript → Honest transcript → epoch (lines_in d transcript) ≡ Running mask counter → IsMaskedBy mask (since_epoch_in d transcript) (met d (onto [] transcript))
 legal_masked capacity setup steps transcript d mask counter sound own accepting in_range legal honest running =
     subst (λ s. MaskedIn s (since_epoch_in d transcript) (met d (onto [] transcript))) running (legal_masks capacity setup steps transcript d sound own accepting in_range legal honest).masked
 
 -- and where none is, no event is a coin
-pub legal_silent : (capacity : Option ℕ) (setup : Setup) (steps : List Step) (transcript : List Entry) (d : DeviceSetup) (mask counter : ℕ) → IsSoundSetup setup → IsOf setup d → IsAcceptor d.body → All IsInRange steps →
+pub legal_silent : (capacity : ℕ) (setup : Setup) (steps : List Step) (transcript : List Entry) (d : DeviceSetup) (mask counter : ℕ) → IsSoundSetup setup → IsOf setup d → IsAcceptor d.body → All IsInRange steps →
     Legal capacity setup steps transcript → Honest transcript → epoch (lines_in d transcript) ≡ Running mask counter → mask_set_in (since_epoch_in d transcript) ≡ None →
     coins_among (events (met d (onto [] transcript))) ≡ []
 legal_silent capacity setup steps transcript d mask counter sound own accepting in_range legal honest running none =
     masks_silent (since_epoch_in d transcript) (met d (onto [] transcript)) (lines_in d transcript) mask counter running none (legal_masks capacity setup steps transcript d sound own accepting in_range legal honest)
 
-pub legal_unread : (capacity : Option ℕ) (setup : Setup) (steps : List Step) (transcript : List Entry) (d : DeviceSetup) (mask counter : ℕ) → IsSoundSetup setup → IsOf setup d → IsAcceptor d.body → All IsInRange steps →
+pub legal_unread : (capacity : ℕ) (setup : Setup) (steps : List Step) (transcript : List Entry) (d : DeviceSetup) (mask counter : ℕ) → IsSoundSetup setup → IsOf setup d → IsAcceptor d.body → All IsInRange steps →
     Legal capacity setup steps transcript → Honest transcript → epoch (lines_in d transcript) ≡ Running mask counter → mask_set_in (since_epoch_in d transcript) ≡ None →
     coins_among (credits_of (met d (onto [] transcript))).pairs ≡ []
 legal_unread capacity setup steps transcript d mask counter sound own accepting in_range legal honest running none =
     buffer_none (events (met d (onto [] transcript))) (legal_silent capacity setup steps transcript d mask counter sound own accepting in_range legal honest running none)
 
 -- a break has its cause
-pub legal_caused : (capacity : Option ℕ) (setup : Setup) (steps : List Step) (transcript : List Entry) (d : DeviceSetup) (c : Command) (since : List Line) (addr seen counter : ℕ) (posted : List Coin) → IsSoundSetup setup → IsOf setup d → IsAcceptor d.body → All IsInRange steps →
+pub legal_caused : (capacity : ℕ) (setup : Setup) (steps : List Step) (transcript : List Entry) (d : DeviceSetup) (c : Command) (since : List Line) (addr seen counter : ℕ) (posted : List Coin) → IsSoundSetup setup → IsOf setup d → IsAcceptor d.body → All IsInRange steps →
     Legal capacity setup steps transcript → Honest transcript → job (lines_in d transcript) ≡ works c since →
     row d c since (epoch (lines_in d transcript)) (order (lines_in d transcript)) ≡ puts (record_of.Broken addr seen counter posted) → MayBreak (since_epoch_in d transcript)
 legal_caused capacity setup steps transcript d c since addr seen counter posted sound own accepting in_range legal honest is_job is_row =
@@ -90,7 +90,7 @@ legal_caused capacity setup steps transcript d c since addr seen counter posted 
     is_job here is_row
     (legal_masks capacity setup steps transcript d sound own accepting in_range legal honest)
 
-pub legal_causes : (capacity : Option ℕ) (setup : Setup) (steps : List Step) (transcript : List Entry) (d : DeviceSetup) → IsSoundSetup setup → IsOf setup d → IsAcceptor d.body → All IsInRange steps →
+pub legal_causes : (capacity : ℕ) (setup : Setup) (steps : List Step) (transcript : List Entry) (d : DeviceSetup) → IsSoundSetup setup → IsOf setup d → IsAcceptor d.body → All IsInRange steps →
     Legal capacity setup steps transcript → Honest transcript → HaveCauses d (onto [] transcript)
 legal_causes capacity setup steps transcript d sound own accepting in_range legal honest =
     goes_on_legal capacity setup steps transcript d Masks (HaveCauses d) sound own accepting in_range legal honest (masks_kept d accepting)

@@ -1,20 +1,14 @@
 -- What a line says: a setup line, which keeps each device sound, or a step in range.
-use Rattle.std.proofs.Common.{◌≡◌, ℕ, ◌+◌, ◌-◌, ◌*◌, ◌%◌, ◌^◌, ◌<◌, ◌≤◌, ◌≢◌, ◌==◌, ◌&&◌, nat_le, Bool, true, false, cond, List, [], ◌∷◌, length, get_or, bytes_eq, codes, refl, ap, sym, ◌∙◌, subst, Option, Some, None, option_map, ok_or, Result, Ok, Err, All, lit≤, arith}
+use Rattle.std.proofs.Common.{◌≡◌, ℕ, ◌+◌, ◌*◌, ◌%◌, ◌^◌, ◌<◌, ◌≤◌, ◌≢◌, ◌==◌, ◌&&◌, nat_le, Bool, true, false, cond, List, [], ◌∷◌, length, bytes_eq, codes, refl, ap, sym, subst, Option, Some, None, option_map, ok_or, Result, Ok, Err, arith}
 use Rattle.std.specs.Prelude.{⊤}
-use Rattle.std.specs.List.{list_all, slice_set}
+use Rattle.std.specs.List.{list_all}
 use Rattle.std.specs.Result.{result_ok}
-use Rattle.std.proofs.Math.ListN.{length-set}
 use Rattle.std.proofs.lemmas.Bool.Decides.{nat_tests}
-use Rattle.std.proofs.lemmas.List.Elements.{All-replicate, All-set}
-use Rattle.std.proofs.lemmas.List.Sums.{AllPass-from_list_all}
 use Rattle.hex.specs.Hex.{IsBytes, decode_of, decode_pairs}
 use Rattle.hex.specs.declared.error.FromHexError.{FromHexError}
 use Rattle.hex.proofs.HexLemmas.{decode_pairs-ok}
-use Rattle.cct_model.specs.terms.wire.CheckKind.{CheckKind}
-use Rattle.cct_model.specs.terms.device.DeviceBody.{DeviceBody}
-use Rattle.cct_model.specs.terms.device.DeviceBody.TheVariants.{Acceptor, Hopper}
-use Rattle.cct_model.specs.terms.device.Texts.{Texts}
-use Rattle.cct_model.specs.terms.device.DeviceSetup.{DeviceSetup}
+use Rattle.cct_model.proofs.Sound.{printing_all, plain_acceptor_sound, plain_device_sound, valued_sound, named_sound}
+use Rattle.cct_model.specs.terms.device.DeviceBody.TheVariants.{Hopper}
 use Rattle.cct_model.specs.lines.setup.SetupLine.{SetupLine}
 use Rattle.cct_model.specs.lines.setup.SetupLine.TheVariants as says
 use Rattle.cct_model.specs.lines.command.Command.TheVariants as command
@@ -22,8 +16,8 @@ use Rattle.cct_model.specs.lines.command.Step.{Step}
 use Rattle.cct_model.specs.lines.command.Step.TheVariants as step
 use Rattle.cct_model.specs.lines.entry.LineKind.{LineKind}
 use Rattle.cct_model.specs.lines.entry.LineKind.TheVariants as kind
-use Rattle.cct_model.specs.Device.{IsPrinting, IsWord, IsId, IsSound, IsSoundBody}
-use Rattle.cct_model.specs.Grammar.{◌>>=◌, is_space, number_in, within, ranged, three_byte_in, check_in, is_printing, word_in, id_in, bytes_in, piece_in, plain_acceptor, plain_device, acceptor_line, hopper_line, value_line, texts_line, alone, setup_fields, setup_line, mask_of_bytes, mask_in, address_in, step_at, coin_step, fault_step, start_step, pay_step, path_step, step_fields, step_line, valued}
+use Rattle.cct_model.specs.Device.{IsWord, IsId, IsSound}
+use Rattle.cct_model.specs.Grammar.{◌>>=◌, is_space, number_in, within, ranged, three_byte_in, check_in, is_printing, word_in, id_in, bytes_in, piece_in, plain_acceptor, acceptor_line, hopper_line, value_line, texts_line, alone, setup_fields, setup_line, mask_of_bytes, mask_in, address_in, step_at, coin_step, fault_step, start_step, pay_step, path_step, step_fields, step_line}
 use Rattle.cct_model.specs.Legal.{is_played_command}
 use Rattle.cct_model.specs.Script.{word_of, is_later_word, IsCommand, IsFault}
 use Rattle.cct_model.proofs.Added.{KeepsEach}
@@ -64,13 +58,6 @@ number_within least most (Some m) n found = within_by (nat_le least m && nat_le 
 ranged_in : (least most : ℕ) (field : List ℕ) (n : ℕ) → ranged least most field ≡ Some n → (least ≤ n) × (n ≤ most)
 unfolding ranged
 ranged_in least most field n found = number_within least most (number_in field) n found
-
--- printing characters
-printing_one : (byte : ℕ) → is_printing byte ≡ true → IsPrinting byte
-printing_one byte test = grind (arith, nat_tests)
-
-printing_all : (bytes : List ℕ) → list_all is_printing bytes ≡ true → All IsPrinting bytes
-printing_all bytes test = λ k d inside. printing_one (get_or bytes k d) (AllPass-from_list_all is_printing bytes test k d inside)
 
 three_hold : (a b c : Bool) → (a && b && c) ≡ true → (a ≡ true) × (b ≡ true) × (c ≡ true)
 three_hold true true true all = (refl, refl, refl)
@@ -166,26 +153,6 @@ piece_bytes most (byte ∷ bytes) piece found = decoded_by (bytes_eq (byte ∷ b
 abbrev pub KeepsSound : SetupLine → Type 0
 KeepsSound line = KeepsEach IsSound line
 
-acceptor_sound : (accepts : ℕ) → accepts < 2 ^ 24 → IsSoundBody (plain_acceptor accepts)
-acceptor_sound accepts few =
-    (few, All-replicate (λ value. value ≤ 1000000) 16 0 (lit≤ tt), All-replicate IsId 16 (codes "......") (refl, printing_all (codes "......") refl), refl, refl)
-
-plain_word : (text : List ℕ) → 1 ≤ length text → length text ≤ 24 → list_all is_printing text ≡ true → IsWord text
-plain_word text some few printing = (some, few, printing_all text printing)
-
-device_sound : (addr : ℕ) (check : CheckKind) (serial : ℕ) (body : DeviceBody) → 2 ≤ addr → addr ≤ 255 →
-    serial < 2 ^ 24 → IsSoundBody body → IsSound (plain_device addr check serial body)
-device_sound addr check serial body low high few sound = record {
-  low = low;
-  high = high;
-  serial = few;
-  maker = plain_word (codes "BENCH") (lit≤ tt) (lit≤ tt) refl;
-  product = plain_word (codes "CCT") (lit≤ tt) (lit≤ tt) refl;
-  software = plain_word (codes "1") (lit≤ tt) (lit≤ tt) refl;
-  build = plain_word (codes "1") (lit≤ tt) (lit≤ tt) refl;
-  body = sound;
-}
-
 three_bytes : (field : List ℕ) (n : ℕ) → three_byte_in field ≡ Some n → n < 2 ^ 24
 three_bytes field n found = omega (arith, (ranged_in 0 16777215 field n found).1)
 
@@ -195,8 +162,8 @@ acceptor_said (a ∷ c ∷ s ∷ n ∷ []) =
     bind KeepsSound (check_in c) _ (λ check under.
     bind KeepsSound (three_byte_in s) _ (λ serial numbered.
     bind KeepsSound (three_byte_in n) _ (λ accepts counted.
-    device_sound addr check serial (plain_acceptor accepts) (ranged_in 2 255 a addr at).0 (ranged_in 2 255 a addr at).1
-    (three_bytes s serial numbered) (acceptor_sound accepts (three_bytes n accepts counted))))))
+    plain_device_sound addr check serial (plain_acceptor accepts) (ranged_in 2 255 a addr at).0 (ranged_in 2 255 a addr at).1
+    (three_bytes s serial numbered) (plain_acceptor_sound accepts (three_bytes n accepts counted))))))
 acceptor_said fields = tt
 
 hopper_said : (fields : List (List ℕ)) → IfThere KeepsSound (hopper_line fields)
@@ -206,40 +173,10 @@ hopper_said (a ∷ c ∷ s ∷ n ∷ v ∷ []) =
     bind KeepsSound (three_byte_in s) _ (λ serial numbered.
     bind KeepsSound (three_byte_in n) _ (λ life counted.
     bind KeepsSound (ranged 1 1000000 v) _ (λ value worth.
-    device_sound addr check serial (Hopper life value) (ranged_in 2 255 a addr at).0 (ranged_in 2 255 a addr at).1
+    plain_device_sound addr check serial (Hopper life value) (ranged_in 2 255 a addr at).0 (ranged_in 2 255 a addr at).1
     (three_bytes s serial numbered)
     (three_bytes n life counted, (ranged_in 1 1000000 v value worth).0, (ranged_in 1 1000000 v value worth).1))))))
 hopper_said fields = tt
-
--- a value keeps an acceptor sound
-valued_by : (b : Bool) (d e : DeviceSetup) (body : DeviceBody) → IsSound d → IsSoundBody body →
-    cond b (Ok (record d { body = body })) (Err kind.Again) ≡ Ok e → IsSound e
-valued_by true d e body sound fits was =
-    let is : record d { body = body } ≡ e = cc in
-    let made : IsSound (record d { body = body }) = record {
-      low = sound.low;
-      high = sound.high;
-      serial = sound.serial;
-      maker = sound.maker;
-      product = sound.product;
-      software = sound.software;
-      build = sound.build;
-      body = fits;
-    } in
-    subst IsSound is made
-valued_by false d e body sound fits was = absurd cc
-
-valued_sound : (d e : DeviceSetup) (place value : ℕ) (id : List ℕ) (body : DeviceBody) → value ≤ 1000000 → IsId id →
-    IsSound d → IsSoundBody body → valued d place value id body ≡ Ok e → IsSound e
-valued_sound d e place value id (Acceptor accepts values ids) few is_id sound body was =
-    valued_by _ d e (Acceptor accepts (slice_set values (place - 1) value) (slice_set ids (place - 1) id)) sound (
-      body.0,
-      All-set (λ worth. worth ≤ 1000000) values (place - 1) value few body.1,
-      All-set IsId ids (place - 1) id is_id body.2,
-      length-set values (place - 1) value ∙ body.3,
-      length-set ids (place - 1) id ∙ body.4,
-    ) was
-valued_sound d e place value id (Hopper life worth) few is_id sound body was = absurd cc
 
 value_said : (fields : List (List ℕ)) → IfThere KeepsSound (value_line fields)
 value_said (a ∷ p ∷ v ∷ i ∷ []) =
@@ -250,24 +187,6 @@ value_said (a ∷ p ∷ v ∷ i ∷ []) =
     λ d e sound was. valued_sound d e place value id d.body (ranged_in 1 1000000 v value worth).1 (id_found i id named) sound sound.body was))))
 value_said fields = tt
 
-named_sound : (b : Bool) (d e : DeviceSetup) (texts : Texts) → IsWord texts.maker → IsWord texts.product →
-    IsWord texts.software → IsWord texts.build → IsSound d →
-    cond b (Err kind.Again) (Ok (record d { texts = texts; named = true })) ≡ Ok e → IsSound e
-named_sound true d e texts maker product software build sound was = absurd cc
-named_sound false d e texts maker product software build sound was =
-    let is : record d { texts = texts; named = true } ≡ e = cc in
-    let made : IsSound (record d { texts = texts; named = true }) = record {
-      low = sound.low;
-      high = sound.high;
-      serial = sound.serial;
-      maker = maker;
-      product = product;
-      software = software;
-      build = build;
-      body = sound.body;
-    } in
-    subst IsSound is made
-
 texts_said : (fields : List (List ℕ)) → IfThere KeepsSound (texts_line fields)
 texts_said (a ∷ m ∷ p ∷ s ∷ b ∷ []) =
     bind KeepsSound (ranged 2 255 a) _ (λ addr at.
@@ -275,7 +194,7 @@ texts_said (a ∷ m ∷ p ∷ s ∷ b ∷ []) =
     bind KeepsSound (word_in p) _ (λ product of.
     bind KeepsSound (word_in s) _ (λ software with.
     bind KeepsSound (word_in b) _ (λ build from.
-    λ d e sound was. named_sound d.named d e _ (word_found m maker by) (word_found p product of) (word_found s software with) (word_found b build from) sound was)))))
+    λ d e sound was. named_sound d e _ (word_found m maker by) (word_found p product of) (word_found s software with) (word_found b build from) sound was)))))
 texts_said fields = tt
 
 alone_said : {A : Type 0} (P : A → Type 0) (x : A) (fields : List (List ℕ)) → P x → IfThere P (alone x fields)
@@ -307,6 +226,7 @@ IsToday (step.Reset addr) = ⊤
 IsToday (step.Fault f) = IsFault f × HasBytes (step.Fault f)
 IsToday (step.Next addr) = addr < 256
 IsToday (step.Command c) = (is_played_command c ≡ true) × IsCommand c × IsCommandOfBytes c
+IsToday step.Balance = ⊤
 IsToday step.End = ⊤
 IsToday s = ⊥
 
@@ -414,7 +334,7 @@ step_fields_said word fields played =
     (word_by IsToday (bytes_eq word (codes "path")) _ _ (λ _. said_or IsToday (path_step fields) kind.Form (path_said fields))
     (word_by IsToday (bytes_eq word (codes "vend")) _ _ (not_today word (codes "vend") _ refl played)
     (word_by IsToday (bytes_eq word (codes "crash")) _ _ (not_today word (codes "crash") _ refl played)
-    (word_by IsToday (bytes_eq word (codes "balance")) _ _ (not_today word (codes "balance") _ refl played)
+    (word_by IsToday (bytes_eq word (codes "balance")) _ _ (λ _. said_or IsToday (alone step.Balance fields) kind.Form (alone_said IsToday step.Balance fields tt))
     (word_by IsToday (bytes_eq word (codes "end")) _ _ (λ _. said_or IsToday (alone step.End fields) kind.Form (alone_said IsToday step.End fields tt)) tt)))))))))))))))))))
 
 -- a step line whose word is played

@@ -119,7 +119,7 @@ crash_kept : (past : List Entry) → PollsAt past → Polls (crashed ∷ scan_li
 crash_kept past polls = record { each = (polls.few, polls.each); few = tt }
 
 -- what each step brings at address 0
-polls_step : (capacity : Option ℕ) (setup : Setup) → IsSoundSetup setup → (past news : List Entry) (s : Step) → ⊤ →
+polls_step : (capacity : ℕ) (setup : Setup) → IsSoundSetup setup → (past news : List Entry) (s : Step) → ⊤ →
     Ids setup past → Brought capacity setup past s news → PollsAt past → PollsAt (news ++ past)
 polls_step capacity setup sound past _ _ any ids (of_device d s news own told) polls =
     subst Polls (sym (unscanned capacity setup d past news s sound own told)) polls
@@ -139,19 +139,19 @@ polls_step capacity setup sound past _ _ any ids (lost_in_put at choice d c sinc
 polls_step capacity setup sound past _ _ any ids (lost_in_sale at choice id price since none selling) polls =
     crash_kept past polls
 
-legal_polls : (capacity : Option ℕ) (setup : Setup) (steps : List Step) (transcript : List Entry) →
+legal_polls : (capacity : ℕ) (setup : Setup) (steps : List Step) (transcript : List Entry) →
     IsSoundSetup setup → Legal capacity setup steps transcript → PollsAt (onto [] transcript)
 legal_polls capacity setup steps transcript sound legal =
     along capacity setup (λ s. ⊤) PollsAt sound (polls_step capacity setup sound) steps (onto [] transcript)
     (any_steps steps) legal (record { each = tt; few = tt })
 
 -- a scan ends for want of an answer exactly after its third failed try
-pub legal_scans : (capacity : Option ℕ) (setup : Setup) (steps : List Step) (transcript : List Entry) →
+pub legal_scans : (capacity : ℕ) (setup : Setup) (steps : List Step) (transcript : List Entry) →
     IsSoundSetup setup → Legal capacity setup steps transcript → AllPast ScanTriesAt (scan_lines (onto [] transcript))
 legal_scans capacity setup steps transcript sound legal = (legal_polls capacity setup steps transcript sound legal).each
 
 -- and no scan goes on that has three
-pub legal_few_polls : (capacity : Option ℕ) (setup : Setup) (steps : List Step) (transcript : List Entry) →
+pub legal_few_polls : (capacity : ℕ) (setup : Setup) (steps : List Step) (transcript : List Entry) →
     IsSoundSetup setup → Legal capacity setup steps transcript → HasFewTries (job (scan_lines (onto [] transcript)))
 legal_few_polls capacity setup steps transcript sound legal =
     (legal_polls capacity setup steps transcript sound legal).few

@@ -1,5 +1,5 @@
 -- What every script says is in range: its setup and its steps.
-use Rattle.std.proofs.Common.{◌≡◌, ℕ, ◌+◌, nat_lt, Bool, true, false, cond, List, [], ◌∷◌, ◌++◌, length, refl, sym, subst, Result, Ok, Err, Option, All, append-nil}
+use Rattle.std.proofs.Common.{◌≡◌, ℕ, ◌+◌, nat_lt, Bool, true, false, cond, List, [], ◌∷◌, ◌++◌, length, refl, sym, subst, Result, Ok, Err, All, append-nil}
 use Rattle.std.specs.Prelude.{⊤}
 use Rattle.std.specs.List.{AllByRecursion, slice_split}
 use Rattle.std.proofs.lemmas.List.Elements.{All-from_recursion, All-weaker, All-nil}
@@ -73,6 +73,7 @@ step_read setup (Ok (step.Reset addr)) today all = known_read _ setup (step.Rese
 step_read setup (Ok (step.Next addr)) today all = known_read true setup (step.Next addr) all (tt, refl, today)
 step_read setup (Ok (step.Fault f)) today all = known_read true setup (step.Fault f) all (today.0, refl, today.1)
 step_read setup (Ok (step.Command c)) today all = known_read true setup (step.Command c) all (today.1, today.0, today.2)
+step_read setup (Ok step.Balance) today all = known_read true setup step.Balance all (tt, refl, tt)
 step_read setup (Ok s) today all = absurd today
 
 -- a line
@@ -145,7 +146,7 @@ pub steps_of_today : (bytes : List ℕ) → AreOfToday (script bytes).steps
 steps_of_today bytes = front_of_today bytes (script bytes).steps [] (sym (append-nil (script bytes).steps))
 
 -- a script that was played up to a step posts in order at each device
-pub played_in_order : (capacity : Option ℕ) (bytes : List ℕ) (played rest : List Step) (transcript : List Entry)
+pub played_in_order : (capacity : ℕ) (bytes : List ℕ) (played rest : List Step) (transcript : List Entry)
     (d : DeviceSetup) → (script bytes).steps ≡ played ++ rest →
     Legal capacity (script bytes).setup played transcript → Honest transcript → IsOf (script bytes).setup d →
     InOrder (lines_in d transcript)
@@ -154,7 +155,7 @@ played_in_order capacity bytes played rest transcript d fronts legal honest own 
     (front_of_today bytes played rest fronts).in_range legal honest
 
 -- under the pace loses none in silence
-pub played_covers : (capacity : Option ℕ) (bytes : List ℕ) (played rest : List Step) (transcript : List Entry)
+pub played_covers : (capacity : ℕ) (bytes : List ℕ) (played rest : List Step) (transcript : List Entry)
     (d : DeviceSetup) → (script bytes).steps ≡ played ++ rest →
     Legal capacity (script bytes).setup played transcript → Honest transcript → IsOf (script bytes).setup d →
     Pace (lines_in d transcript) → Covers (lines_in d transcript)
@@ -163,7 +164,7 @@ played_covers capacity bytes played rest transcript d fronts legal honest own =
     (front_of_today bytes played rest fronts).in_range legal honest
 
 -- and pays each order of a hopper at most once
-pub played_paid : (capacity : Option ℕ) (bytes : List ℕ) (played rest : List Step) (transcript : List Entry)
+pub played_paid : (capacity : ℕ) (bytes : List ℕ) (played rest : List Step) (transcript : List Entry)
     (d : DeviceSetup) → (script bytes).steps ≡ played ++ rest →
     Legal capacity (script bytes).setup played transcript → Honest transcript → IsOf (script bytes).setup d →
     IsHopper d.body → Paid (lines_in d transcript)
@@ -172,7 +173,7 @@ played_paid capacity bytes played rest transcript d fronts legal honest own payi
     (front_of_today bytes played rest fronts).in_range legal honest
 
 -- the texts of two scripts that were played up to a step tell their transcripts, whatever the journals take
-pub played_texts : (capacity room : Option ℕ) (bytes other : List ℕ) (played rest others more : List Step)
+pub played_texts : (capacity room : ℕ) (bytes other : List ℕ) (played rest others more : List Step)
     (first second : List Entry) → (script bytes).steps ≡ played ++ rest → (script other).steps ≡ others ++ more →
     Legal capacity (script bytes).setup played first → Legal room (script other).setup others second →
     text first ≡ text second → first ≡ second

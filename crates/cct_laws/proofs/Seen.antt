@@ -39,7 +39,7 @@ use Rattle.cct_laws.specs.Since.{since_record, since_epoch, HasCause, HasCauseAt
 use Rattle.cct_laws.specs.Tries.{failed_in, TriesAt}
 use Rattle.cct_laws.specs.Ids.{Ids}
 use Rattle.cct_laws.proofs.Brought.{Comes, takes_coin, leaves_coin, leaves_alien, drops_coin, drops_none, jams, jams_none, is_reset, AtWork, AtDevice, came, took, halted, idled, made_exchange, made_put, row_after, wire_of, wire_end, record_end, poll_wire, poll_end, Brought, of_device, faulted, refused, began_scan, began_sale, nobody, polled, sold, balanced, lost_power, lost_in_put, lost_in_sale, brought}
-use Rattle.cct_model.proofs.Doses.{AreDoses, doses_are, same_over, kept_over}
+use Rattle.cct_model.proofs.Doses.{AreDoses, doses_are, same_over}
 use Rattle.cct_laws.proofs.Ids.{ids_start, ids_step, put_owned}
 use Rattle.cct_laws.proofs.Pieces.{ask_to, asked_elsewhere, poll_others}
 use Rattle.cct_laws.proofs.Setups.{found_in, same_or_other}
@@ -81,15 +81,6 @@ passed_same f same d past (e ∷ news) passes =
 pub passed_job : (d : DeviceSetup) (past news : List Entry) → ArePassed d past news →
     job (lines_of d (news ++ past)) ≡ job (lines_of d past)
 passed_job d past news passes = passed_same job (λ count lines. refl) d past news passes
-
--- what holds of each line and all before it goes on over them
-pub passed_each : (P : List Line → Line → Type 0) → ((count : ℕ) (lines : List Line) → AllPast P lines → P lines (dispensed count)) →
-    (d : DeviceSetup) (past news : List Entry) → ArePassed d past news → AllPast P (lines_of d past) →
-    AllPast P (lines_of d (news ++ past))
-passed_each P holds d past [] passes before = before
-passed_each P holds d past (e ∷ news) passes before =
-    kept_over P holds (own d (news ++ past) e) (lines_of d (news ++ past)) passes.0.dosed
-    (passed_each P holds d past news passes.1 before)
 
 -- a fact of each entry over entries that are none of a device, and over an entry and the end behind it
 pub each_aside : (P : List Entry → Entry → Type 0) (d : DeviceSetup) (past news : List Entry) →
@@ -289,7 +280,7 @@ away_next : (d : DeviceSetup) (addr : ℕ) → addr ≢ d.addr → (nexts : ℕ)
 away_next d addr other nexts = rw (ne_eqb addr d.addr other) refl
 
 -- what a step brought at another device
-elsewhere : (capacity : Option ℕ) (setup : Setup) (d e : DeviceSetup) (past news : List Entry) (s : Step) → Ids setup past →
+elsewhere : (capacity : ℕ) (setup : Setup) (d e : DeviceSetup) (past news : List Entry) (s : Step) → Ids setup past →
     IsOf setup e → e.addr ≢ d.addr → e.addr ≢ 0 → AtDevice capacity setup e past s news → Aside d past s news
 elsewhere capacity setup d e past _ _ ids own other some (came s n m ls comes) =
     loose_passes d past e.addr s n m ls other (loose e (met e past) s n m ls comes)
@@ -338,7 +329,7 @@ pub data Lost (d : DeviceSetup) (past : List Entry) : List Entry → Type 0 wher
   kept_elsewhere : (r : Record) → owner past r ≢ d.addr → HasCause d past r → Lost d past (keeping_crash past r)
 
 -- each step brought something at a device, or entries that are none of it, or the host lost its power
-pub data Seen (capacity : Option ℕ) (setup : Setup) (d : DeviceSetup) (past : List Entry) (s : Step) (news : List Entry) : Type 0 where
+pub data Seen (capacity : ℕ) (setup : Setup) (d : DeviceSetup) (past : List Entry) (s : Step) (news : List Entry) : Type 0 where
   seen_here : AtDevice capacity setup d past s news → Seen capacity setup d past s news
   seen_aside : Aside d past s news → Seen capacity setup d past s news
   seen_lost : Lost d past news → ((nexts : ℕ) → nexts_after d.addr s nexts ≡ nexts) → Seen capacity setup d past s news
@@ -360,7 +351,7 @@ kept_seen setup d e past c since r ids own at_work is_row same =
           kept_elsewhere r away (put_elsewhere d past r away)
     ]
 
-pub seen_from : (capacity : Option ℕ) (setup : Setup) (d : DeviceSetup) (past news : List Entry) (s : Step) →
+pub seen_from : (capacity : ℕ) (setup : Setup) (d : DeviceSetup) (past news : List Entry) (s : Step) →
     IsSoundSetup setup → IsOf setup d → Ids setup past → Brought capacity setup past s news →
     Seen capacity setup d past s news
 seen_from capacity setup d past _ _ sound is_of ids (of_device e s news own told) =
@@ -452,7 +443,7 @@ unscanned_end past addr e None other none = ap (λ ls. ls ++ scan_lines past) no
 unscanned_end past addr e (Some end) other none =
     ap (λ ls. ls ++ scan_lines (e ∷ past)) (none_there addr (ended end) other) ∙ ap (λ ls. ls ++ scan_lines past) none
 
-pub unscanned : (capacity : Option ℕ) (setup : Setup) (d : DeviceSetup) (past news : List Entry) (s : Step) →
+pub unscanned : (capacity : ℕ) (setup : Setup) (d : DeviceSetup) (past news : List Entry) (s : Step) →
     IsSoundSetup setup →
     IsOf setup d → AtDevice capacity setup d past s news → scan_lines (news ++ past) ≡ scan_lines past
 unscanned capacity setup d past _ _ sound is_of (came s e m ls comes) =
@@ -471,7 +462,7 @@ unscanned capacity setup d past _ _ sound is_of (made_put c since r at_work is_r
     unscanned_end past d.addr (entry.Put r) (record_end d past c since r) (not_zero setup d sound is_of) refl
 
 -- a fact that each step keeps, each of which has a fact of its own, from a past whose ids are in order
-pub along_from : (capacity : Option ℕ) (setup : Setup) (S : Step → Type 0) (Q : List Entry → Type 0) → IsSoundSetup setup →
+pub along_from : (capacity : ℕ) (setup : Setup) (S : Step → Type 0) (Q : List Entry → Type 0) → IsSoundSetup setup →
     ((past news : List Entry) (s : Step) → S s → Ids setup past → Brought capacity setup past s news → Q past →
     Q (news ++ past)) →
     (past : List Entry) (steps : List Step) (end : List Entry) → All S steps → Ids setup past →
@@ -485,7 +476,7 @@ along_from capacity setup S Q sound keeps past (s ∷ steps) end each ids legal 
     (keeps past legal.0 s (All-head S s steps each) ids told holds)
 
 -- and from the beginning
-pub along : (capacity : Option ℕ) (setup : Setup) (S : Step → Type 0) (Q : List Entry → Type 0) → IsSoundSetup setup →
+pub along : (capacity : ℕ) (setup : Setup) (S : Step → Type 0) (Q : List Entry → Type 0) → IsSoundSetup setup →
     ((past news : List Entry) (s : Step) → S s → Ids setup past → Brought capacity setup past s news → Q past →
     Q (news ++ past)) →
     (steps : List Step) (end : List Entry) → All S steps → LegalFrom capacity setup [] steps end → Q [] → Q end

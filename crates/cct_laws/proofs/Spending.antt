@@ -104,7 +104,7 @@ put_spends setup before d c since state owed r after distinct belongs ok is uses
     omega (arith, kept, fewer, less)
 
 -- what changes at a device by what a step brought there
-moves_by : (capacity : Option ℕ) (setup : Setup) (d : DeviceSetup) (past news : List Entry) (s : Step)
+moves_by : (capacity : ℕ) (setup : Setup) (d : DeviceSetup) (past news : List Entry) (s : Step)
     (spent need : ℕ) → IsSoundSetup setup → Ids setup past → IsOf setup d → AtDevice capacity setup d past s news →
     all_follow setup (records (news ++ past)) ≡ true →
     spoken_in setup (records (news ++ past)) + reserved_by setup (job (lines_of d (news ++ past)))
@@ -136,7 +136,7 @@ one_less : (many later now : ℕ) → suc later ≤ now → suc many + later ≤
 one_less many later now le = omega (arith, le)
 
 -- a command is taken
-pub moves_taken : (capacity : Option ℕ) (setup : Setup) (d : DeviceSetup) (past : List Entry) (c : Command) →
+pub moves_taken : (capacity : ℕ) (setup : Setup) (d : DeviceSetup) (past : List Entry) (c : Command) →
     IsSoundSetup setup → Ids setup past → IsOf setup d → all_follow setup (records past) ≡ true →
     suits d.body c ≡ true → address_of c ≡ d.addr → job (lines_of d past) ≡ free → IsOwed c (order (lines_of d past)) →
     AtDevice capacity setup d past (step.Command c) (entry.Taken c ∷ []) →
@@ -158,7 +158,7 @@ moves_taken capacity setup d past c sound ids own follow suited here is_free is_
     (holds_taken d c (lines_of d past) is_free begun is_owed)))
 
 -- a payment is halted
-pub moves_halted : (capacity : Option ℕ) (setup : Setup) (d : DeviceSetup) (past : List Entry) →
+pub moves_halted : (capacity : ℕ) (setup : Setup) (d : DeviceSetup) (past : List Entry) →
     IsSoundSetup setup → Ids setup past → IsOf setup d → all_follow setup (records past) ≡ true →
     can_halt (job (lines_of d past)) ≡ true →
     AtDevice capacity setup d past (step.Command (command.Halt d.addr)) (entry.Taken (command.Halt d.addr) ∷ []) →
@@ -179,7 +179,7 @@ moves_halted capacity setup d past sound ids own follow can at =
     (le_of_eq (holds_halted d d.addr (lines_of d past) can)))))
 
 -- an exchange of its job
-pub moves_asked : (capacity : Option ℕ) (setup : Setup) (d : DeviceSetup) (past : List Entry) (c : Command)
+pub moves_asked : (capacity : ℕ) (setup : Setup) (d : DeviceSetup) (past : List Entry) (c : Command)
     (since : List Line) (q : Request) → IsSoundSetup setup → Ids setup past → IsOf setup d →
     all_follow setup (records past) ≡ true →
     (at_work : AtWork d past c since) → row_after d past c since ≡ sends q → WorksAt d (lines_of d past) c since →
@@ -223,7 +223,7 @@ moves_asked capacity setup d past c since q sound ids own follow at_work is_row 
     no_more_through last third second first one two three = omega (arith, one, two, three)
 
 -- a put of its job
-pub moves_put : (capacity : Option ℕ) (setup : Setup) (d : DeviceSetup) (past : List Entry) (c : Command)
+pub moves_put : (capacity : ℕ) (setup : Setup) (d : DeviceSetup) (past : List Entry) (c : Command)
     (since : List Line) (r : Record) → IsSoundSetup setup → Ids setup past → IsOf setup d →
     all_follow setup (records past) ≡ true →
     (at_work : AtWork d past c since) → row_after d past c since ≡ puts r → Follows setup (records past) r →

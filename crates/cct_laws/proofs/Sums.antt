@@ -1,5 +1,5 @@
 -- Sums and greatest values over the devices of a setup.
-use Rattle.std.proofs.Common.{◌≡◌, ◌≢◌, ℕ, ◌+◌, ◌≤◌, max, ◌==◌, Bool, true, false, cond, List, [], ◌∷◌, refl, ap, ap₂, sym, ◌∙◌, Some, None, All, arith, eqb-true, true≢false, eq-eqb, le_of_eq}
+use Rattle.std.proofs.Common.{◌≡◌, ◌≢◌, ℕ, ◌+◌, ◌≤◌, ◌==◌, Bool, true, false, cond, List, [], ◌∷◌, refl, ap, ap₂, sym, ◌∙◌, Some, None, All, arith, eqb-true, true≢false, eq-eqb, le_of_eq}
 use Rattle.std.proofs.lemmas.List.Elements.{All-head, All-tail, All-nil, All-cons}
 use Rattle.cct_model.specs.terms.device.DeviceSetup.{DeviceSetup}
 use Rattle.cct_model.specs.lines.entry.Entry.{Entry}
@@ -47,14 +47,6 @@ sum_grows_each f g [] grows = omega arith
 sum_grows_each f g (d ∷ ds) grows =
     let here = All-head (λ d. f d ≤ g d) d ds grows in
     let rest = sum_grows_each f g ds (All-tail (λ d. f d ≤ g d) d ds grows) in
-    omega arith
-
--- the sum of two functions at each device
-pub sum_both : (f g : DeviceSetup → ℕ) (ds : List DeviceSetup) →
-    sum_over (λ d. f d + g d) ds ≡ sum_over f ds + sum_over g ds
-sum_both f g [] = refl
-sum_both f g (d ∷ ds) =
-    let rest = sum_both f g ds in
     omega arith
 
 -- a function that is no more than another at all addresses but one has no more as its sum where no device is at that
@@ -157,20 +149,3 @@ greatest_holds past (e ∷ ds) d addr found = by_here (e.addr == addr) found (λ
     by_here false at later =
         let rest : running_id (job (lines_of d past)) ≤ greatest_running past ds = later at in
         omega arith
-
-pub greatest_bounded : (past : List Entry) (ds : List DeviceSetup) (bound : ℕ) →
-    All (λ d. running_id (job (lines_of d past)) ≤ bound) ds → greatest_running past ds ≤ bound
-greatest_bounded past [] bound each = omega arith
-greatest_bounded past (d ∷ ds) bound each =
-    let P : DeviceSetup → Type 0 = λ e. running_id (job (lines_of e past)) ≤ bound in
-    let here = All-head P d ds each in
-    let rest = greatest_bounded past ds bound (All-tail P d ds each) in
-    omega arith
-
--- the greatest is that of another past where each device's is
-pub greatest_same : (past other : List Entry) (ds : List DeviceSetup) →
-    ((d : DeviceSetup) → running_id (job (lines_of d past)) ≡ running_id (job (lines_of d other))) →
-    greatest_running past ds ≡ greatest_running other ds
-greatest_same past other [] same = refl
-greatest_same past other (d ∷ ds) same =
-    ap₂ (λ a b. max a b) (same d) (greatest_same past other ds same)

@@ -86,7 +86,7 @@ due_fits d past c since r at_work is_row told =
     subst FitsRow is_row
     (row_fits d c since (epoch (lines_of d past)) (order (lines_of d past)) (work_fits d past c since at_work told))
 
-told_there : (capacity : Option ℕ) (setup : Setup) (d : DeviceSetup) (past news : List Entry) (s : Step) →
+told_there : (capacity : ℕ) (setup : Setup) (d : DeviceSetup) (past news : List Entry) (s : Step) →
     IsSoundSetup setup → IsOf setup d → IsInRange s → HasBytes s → AtDevice capacity setup d past s news →
     AllTold past →
     AllTold (news ++ past)
@@ -156,7 +156,7 @@ all_say (s ∷ steps) range bytes =
     (all_say steps (All-tail IsInRange s steps range) (All-tail HasBytes s steps bytes))
 
 -- every step
-good_step : (capacity : Option ℕ) (setup : Setup) → IsSoundSetup setup → (past news : List Entry) (s : Step) → Says s →
+good_step : (capacity : ℕ) (setup : Setup) → IsSoundSetup setup → (past news : List Entry) (s : Step) → Says s →
     Ids setup past → Brought capacity setup past s news → Good past → Good (news ++ past)
 good_step capacity setup sound past _ _ says ids (of_device d s news own at_it) good = record {
   told = told_there capacity setup d past news s sound own says.0 says.1 at_it good.told;
@@ -192,7 +192,7 @@ told_off past (e ∷ entries) h =
     (parts.0.1, (parts.0.0, parts.1))
 
 -- every entry of a legal transcript is written
-pub legal_written : (capacity : Option ℕ) (setup : Setup) (steps : List Step) (transcript : List Entry) →
+pub legal_written : (capacity : ℕ) (setup : Setup) (steps : List Step) (transcript : List Entry) →
     IsSoundSetup setup → All IsInRange steps → All HasBytes steps → Legal capacity setup steps transcript →
     All IsWritten transcript
 legal_written capacity setup steps transcript sound range bytes legal =
@@ -201,7 +201,7 @@ legal_written capacity setup steps transcript sound range bytes legal =
     (all_say steps range bytes) legal (record { told = tt; scan = tt })).told).1
 
 -- so a text tells its legal transcript, whatever the journals take
-pub legal_text : (capacity room : Option ℕ) (setup : Setup) (steps others : List Step) (first second : List Entry) →
+pub legal_text : (capacity room : ℕ) (setup : Setup) (steps others : List Step) (first second : List Entry) →
     IsSoundSetup setup → All IsInRange steps → All HasBytes steps → All IsInRange others → All HasBytes others →
     Legal capacity setup steps first → Legal room setup others second → text first ≡ text second → first ≡ second
 legal_text capacity room setup steps others first second sound range bytes others_range others_bytes legal other same =

@@ -407,7 +407,7 @@ came_steady d past _ _ _ _ lines (jams_none paying test) few before = before
 came_steady d past _ _ _ _ lines is_reset few before = (few, before)
 
 -- what each step brings at the device
-steady_there : (capacity : Option ℕ) (setup : Setup) (d : DeviceSetup) (past news : List Entry) (s : Step) →
+steady_there : (capacity : ℕ) (setup : Setup) (d : DeviceSetup) (past news : List Entry) (s : Step) →
     IsSoundSetup setup → IsOf setup d → Ids setup past → AtDevice capacity setup d past s news →
     Steady (lines_of d past) → Steady (lines_of d (news ++ past))
 steady_there capacity setup d past _ _ sound own ids (came s e m ls comes) steady =
@@ -464,7 +464,7 @@ steady_lost d past _ (kept_here c since r at_work is_row owned) steady =
 steady_lost d past _ (kept_elsewhere r away caused) steady =
     subst Steady (sym (lines_kept_elsewhere d past r away)) (steady_crash (lines_of d past) steady)
 
-steady_step : (capacity : Option ℕ) (setup : Setup) (d : DeviceSetup) → IsSoundSetup setup → IsOf setup d →
+steady_step : (capacity : ℕ) (setup : Setup) (d : DeviceSetup) → IsSoundSetup setup → IsOf setup d →
     (past news : List Entry) (s : Step) → ⊤ → Ids setup past → Brought capacity setup past s news →
     Steady (lines_of d past) → Steady (lines_of d (news ++ past))
 steady_step capacity setup d sound own past news s any ids told steady =
@@ -474,27 +474,27 @@ steady_step capacity setup d sound own past news s any ids told steady =
       | seen_lost lost no_next ↦ steady_lost d past news lost steady
     ]
 
-legal_steady : (capacity : Option ℕ) (setup : Setup) (steps : List Step) (transcript : List Entry) (d : DeviceSetup) →
+legal_steady : (capacity : ℕ) (setup : Setup) (steps : List Step) (transcript : List Entry) (d : DeviceSetup) →
     IsSoundSetup setup → IsOf setup d → Legal capacity setup steps transcript → Steady (lines_in d transcript)
 legal_steady capacity setup steps transcript d sound own legal =
     along capacity setup (λ s. ⊤) (λ past. Steady (lines_of d past)) sound (steady_step capacity setup d sound own)
     steps (onto [] transcript) (any_steps steps) legal (record { each = tt; goes_on = free_on })
 
 -- a job ends for want of an answer exactly after its third failed try of what it asks again
-pub legal_given_up : (capacity : Option ℕ) (setup : Setup) (steps : List Step) (transcript : List Entry)
+pub legal_given_up : (capacity : ℕ) (setup : Setup) (steps : List Step) (transcript : List Entry)
     (d : DeviceSetup) → IsSoundSetup setup → IsOf setup d → Legal capacity setup steps transcript →
     AllPast GivenUpAt (lines_in d transcript)
 legal_given_up capacity setup steps transcript d sound own legal =
     (legal_steady capacity setup steps transcript d sound own legal).each
 
-pub legal_tries : (capacity : Option ℕ) (setup : Setup) (steps : List Step) (transcript : List Entry)
+pub legal_tries : (capacity : ℕ) (setup : Setup) (steps : List Step) (transcript : List Entry)
     (d : DeviceSetup) → IsSoundSetup setup → IsOf setup d → Legal capacity setup steps transcript →
     AllPast TriesAt (lines_in d transcript)
 legal_tries capacity setup steps transcript d sound own legal =
     all_tries (lines_in d transcript) (legal_given_up capacity setup steps transcript d sound own legal)
 
 -- and no job goes on that has three
-pub legal_few_tries : (capacity : Option ℕ) (setup : Setup) (steps : List Step) (transcript : List Entry)
+pub legal_few_tries : (capacity : ℕ) (setup : Setup) (steps : List Step) (transcript : List Entry)
     (d : DeviceSetup) → IsSoundSetup setup → IsOf setup d → Legal capacity setup steps transcript →
     failed_in (job (lines_in d transcript)) < 3
 legal_few_tries capacity setup steps transcript d sound own legal =

@@ -139,7 +139,7 @@ same_wire e past addr sent piece other =
     (same_dosed e past sent)
 
 -- what a step brought at a device leaves every other as it was
-pub same_elsewhere : (capacity : Option ℕ) (setup : Setup) (d e : DeviceSetup) (past news : List Entry) (s : Step) →
+pub same_elsewhere : (capacity : ℕ) (setup : Setup) (d e : DeviceSetup) (past news : List Entry) (s : Step) →
     Ids setup past → IsOf setup d → d.addr ≢ e.addr → AtDevice capacity setup d past s news →
     AreSame (lines_of e (news ++ past)) (lines_of e past)
 same_elsewhere capacity setup d e past _ _ ids own other (came s x m ls comes) =
@@ -177,7 +177,7 @@ unsold_end past addr x None other none = ap (λ ls. ls ++ sale_lines past) none
 unsold_end past addr x (Some end) other none =
     line_away addr HOST (ended end) (sale_lines (x ∷ past)) other ∙ ap (λ ls. ls ++ sale_lines past) none
 
-pub unsold : (capacity : Option ℕ) (setup : Setup) (d : DeviceSetup) (past news : List Entry) (s : Step) →
+pub unsold : (capacity : ℕ) (setup : Setup) (d : DeviceSetup) (past news : List Entry) (s : Step) →
     d.addr ≢ HOST → AtDevice capacity setup d past s news → sale_lines (news ++ past) ≡ sale_lines past
 unsold capacity setup d past _ _ other (came s x m ls comes) =
     ap (λ front. front ++ sale_lines past) (came_quiet d (met d past) s x m ls comes).no_sale

@@ -205,7 +205,7 @@ came_fit past _ _ d before _ _ (jams paying test) = tt
 came_fit past _ _ d before _ _ (jams_none paying test) = tt
 came_fit past _ _ d before _ _ is_reset = tt
 
-there_fit : (capacity : Option ℕ) (setup : Setup) (d : DeviceSetup) (past news : List Entry) (s : Step) → IsOf setup d →
+there_fit : (capacity : ℕ) (setup : Setup) (d : DeviceSetup) (past news : List Entry) (s : Step) → IsOf setup d →
     AllFit setup past → HonestPast past → AtDevice capacity setup d past s news → EachEntry FitsLife past →
     EachEntry FitsLife (news ++ past)
 there_fit capacity setup d past _ _ own all honest (came s e m ls comes) before =
@@ -220,7 +220,7 @@ there_fit capacity setup d past _ _ own all honest (made_put c since r at_work i
     let fine = device_fit setup past d c since r own all honest at_work is_row in
     entries_fit past d.addr (entry.Put r) (record_end d past c since r) fine (put_fit c r fine) before
 
-life_fit : (capacity : Option ℕ) (setup : Setup) (past news : List Entry) (s : Step) → AllFit setup past → HonestPast past →
+life_fit : (capacity : ℕ) (setup : Setup) (past news : List Entry) (s : Step) → AllFit setup past → HonestPast past →
     Brought capacity setup past s news → EachEntry FitsLife past → EachEntry FitsLife (news ++ past)
 life_fit capacity setup past _ _ all honest (of_device d s news own told) before =
     there_fit capacity setup d past news s own all honest told before
@@ -239,7 +239,7 @@ life_fit capacity setup past _ _ all honest (lost_in_put at choice d c since r o
 life_fit capacity setup past _ _ all honest (lost_in_sale at choice id price since none selling) before =
     (tt, (tt, before))
 
-fit_step : (capacity : Option ℕ) (setup : Setup) → IsSoundSetup setup → (past news : List Entry) (s : Step) →
+fit_step : (capacity : ℕ) (setup : Setup) → IsSoundSetup setup → (past news : List Entry) (s : Step) →
     IsInRange s → Ids setup past → Brought capacity setup past s news → AllFit setup past → AllFit setup (news ++ past)
 fit_step capacity setup sound past news s range ids told all = record {
   ranged = λ d own. ranged_step capacity setup d past news s sound own range ids told (all.ranged d own);
@@ -251,7 +251,7 @@ fit_step capacity setup sound past news s range ids told all = record {
   );
 }
 
-pub legal_life : (capacity : Option ℕ) (setup : Setup) (steps : List Step) (transcript : List Entry) →
+pub legal_life : (capacity : ℕ) (setup : Setup) (steps : List Step) (transcript : List Entry) →
     IsSoundSetup setup → All IsInRange steps → Legal capacity setup steps transcript → Honest transcript →
     EachEntry FitsLife (onto [] transcript)
 legal_life capacity setup steps transcript sound in_range legal honest =

@@ -10,7 +10,8 @@ use Rattle.cct_model.specs.declared.judging.OpenOrder.{OpenOrder}
 use Rattle.cct_model.specs.Records.{order_named, order_in, owner_in}
 use Rattle.cct_model.specs.Paid.{uses, IsFresh, AreFresh}
 use Rattle.cct_laws.proofs.Setups.{same_some}
-use Rattle.cct_laws.proofs.Orders.{order_own, order_else, order_kept, order_as}
+use Rattle.cct_model.proofs.OpenOrders.{order_own, order_else}
+use Rattle.cct_laws.proofs.Orders.{order_kept, order_as}
 
 -- no record uses an id
 abbrev pub Unused : ℕ → List Record → Type 0

@@ -1,5 +1,5 @@
 -- What each thing that can come keeps holds after every legal and honest transcript.
-use Rattle.std.proofs.Common.{ℕ, List, [], ◌∷◌, ◌++◌, All, Option}
+use Rattle.std.proofs.Common.{ℕ, List, [], ◌∷◌, ◌++◌, All}
 use Rattle.std.specs.Prelude.{⊤}
 use Rattle.cct_model.specs.terms.device.DeviceSetup.{DeviceSetup}
 use Rattle.cct_model.specs.terms.device.Setup.{Setup}
@@ -30,7 +30,7 @@ honest_before [] past honest = honest
 honest_before (e ∷ news) past honest = honest_before news past honest.1
 
 -- a fact of all entries goes on over each step, where another fact is kept
-abbrev pub GoesAlong : Option ℕ → Setup → DeviceSetup → Fact → (List Entry → Type 0) → Type 0
+abbrev pub GoesAlong : ℕ → Setup → DeviceSetup → Fact → (List Entry → Type 0) → Type 0
 GoesAlong capacity setup d P Q =
     (past news : List Entry) (s : Step) → IsRanged d (job (lines_of d past)) → Ids setup past →
     Brought capacity setup past s news → HoldsAt d P past → Q past → Q (news ++ past)
@@ -40,7 +40,7 @@ record Along (d : DeviceSetup) (P : Fact) (Q : List Entry → Type 0) (past : Li
   ranged : IsRanged d (job (lines_of d past))
   holds : HonestPast past → HoldsAt d P past × Q past
 
-along_step : (capacity : Option ℕ) (setup : Setup) (d : DeviceSetup) (P : Fact) (Q : List Entry → Type 0) →
+along_step : (capacity : ℕ) (setup : Setup) (d : DeviceSetup) (P : Fact) (Q : List Entry → Type 0) →
     IsSoundSetup setup → IsOf setup d → IsKeptBoth d P → GoesAlong capacity setup d P Q →
     (past news : List Entry) (s : Step) → IsInRange s → Ids setup past → Brought capacity setup past s news →
     Along d P Q past → Along d P Q (news ++ past)
@@ -55,7 +55,7 @@ along_step capacity setup d P Q sound own kept goes_on past news s range ids tol
 
 -- a fact that is kept, of what was met since the epoch began too, and what goes on beside it hold in every legal
 -- transcript over an honest wire
-pub both_legal : (capacity : Option ℕ) (setup : Setup) (steps : List Step) (transcript : List Entry) (d : DeviceSetup)
+pub both_legal : (capacity : ℕ) (setup : Setup) (steps : List Step) (transcript : List Entry) (d : DeviceSetup)
     (P : List Met → List Met → List Line → Type 0) (Q : List Entry → Type 0) → IsSoundSetup setup → IsOf setup d →
     All IsInRange steps → Legal capacity setup steps transcript → Honest transcript → IsKeptBoth d P →
     GoesAlong capacity setup d P Q → Q [] → HoldsAt d P (onto [] transcript) × Q (onto [] transcript)
@@ -64,7 +64,7 @@ both_legal capacity setup steps transcript d P Q sound own in_range legal honest
     (onto [] transcript) in_range legal (record { ranged = tt; holds = λ none. (kept.starts, start) })).holds honest
 
 -- a job at a device is one for its kind, in its range, whatever the wire does
-pub ranged_legal : (capacity : Option ℕ) (setup : Setup) (steps : List Step) (transcript : List Entry) (d : DeviceSetup) →
+pub ranged_legal : (capacity : ℕ) (setup : Setup) (steps : List Step) (transcript : List Entry) (d : DeviceSetup) →
     IsSoundSetup setup → IsOf setup d → All IsInRange steps → Legal capacity setup steps transcript →
     IsRanged d (job (lines_in d transcript))
 ranged_legal capacity setup steps transcript d sound own in_range legal =
@@ -72,7 +72,7 @@ ranged_legal capacity setup steps transcript d sound own in_range legal =
     (λ past news s range ids told before. ranged_step capacity setup d past news s sound own range ids told before) steps
     (onto [] transcript) in_range legal tt
 
-pub kept_since_legal : (capacity : Option ℕ) (setup : Setup) (steps : List Step) (transcript : List Entry)
+pub kept_since_legal : (capacity : ℕ) (setup : Setup) (steps : List Step) (transcript : List Entry)
     (d : DeviceSetup) (P : List Met → List Met → List Line → Type 0) → IsSoundSetup setup → IsOf setup d →
     IsAcceptor d.body → All IsInRange steps → Legal capacity setup steps transcript → Honest transcript →
     IsKeptSince d P → P (since_epoch_in d transcript) (met d (onto [] transcript)) (lines_in d transcript)
@@ -80,7 +80,7 @@ kept_since_legal capacity setup steps transcript d P sound own accepting in_rang
     (both_legal capacity setup steps transcript d P (λ past. ⊤) sound own in_range legal honest
     (both_acceptor d P accepting kept) (λ past news s ranged ids told holds before. tt) tt).0
 
-pub goes_on_legal : (capacity : Option ℕ) (setup : Setup) (steps : List Step) (transcript : List Entry) (d : DeviceSetup)
+pub goes_on_legal : (capacity : ℕ) (setup : Setup) (steps : List Step) (transcript : List Entry) (d : DeviceSetup)
     (P : List Met → List Met → List Line → Type 0) (Q : List Entry → Type 0) → IsSoundSetup setup → IsOf setup d →
     IsAcceptor d.body → All IsInRange steps → Legal capacity setup steps transcript → Honest transcript →
     IsKeptSince d P → GoesAlong capacity setup d P Q → Q [] → Q (onto [] transcript)
@@ -89,7 +89,7 @@ goes_on_legal capacity setup steps transcript d P Q sound own accepting in_range
     goes_on start).1
 
 -- and so does what is kept without regard to the epoch, of an acceptor and of a hopper
-pub kept_legal : (capacity : Option ℕ) (setup : Setup) (steps : List Step) (transcript : List Entry) (d : DeviceSetup)
+pub kept_legal : (capacity : ℕ) (setup : Setup) (steps : List Step) (transcript : List Entry) (d : DeviceSetup)
     (P : List Met → List Line → Type 0) → IsSoundSetup setup → IsOf setup d → IsAcceptor d.body →
     All IsInRange steps → Legal capacity setup steps transcript → Honest transcript → IsKept d P →
     P (met d (onto [] transcript)) (lines_in d transcript)
@@ -97,7 +97,7 @@ kept_legal capacity setup steps transcript d P sound own accepting in_range lega
     kept_since_legal capacity setup steps transcript d (λ since past lines. P past lines) sound own accepting in_range
     legal honest kept
 
-pub kept_hopper_legal : (capacity : Option ℕ) (setup : Setup) (steps : List Step) (transcript : List Entry)
+pub kept_hopper_legal : (capacity : ℕ) (setup : Setup) (steps : List Step) (transcript : List Entry)
     (d : DeviceSetup) (P : List Met → List Line → Type 0) → IsSoundSetup setup → IsOf setup d → IsHopper d.body →
     All IsInRange steps → Legal capacity setup steps transcript → Honest transcript → IsKeptHopper d P →
     P (met d (onto [] transcript)) (lines_in d transcript)

@@ -1,5 +1,5 @@
 -- How the sums over all records change by one record more.
-use Rattle.std.proofs.Common.{◌≡◌, ℕ, ◌+◌, ◌≤◌, Bool, true, false, not, List, ◌∷◌, refl, ap, sym, ◌∙◌, Option, Some, None, arith, add-mul, mul-le-mul_right}
+use Rattle.std.proofs.Common.{◌≡◌, ℕ, ◌+◌, ◌≤◌, Bool, true, false, not, List, ◌∷◌, refl, ap, sym, ◌∙◌, Option, Some, None, arith, mul-le-mul_right}
 use Rattle.cct_model.specs.terms.device.DeviceSetup.{DeviceSetup}
 use Rattle.cct_model.specs.terms.device.Setup.{Setup}
 use Rattle.cct_model.specs.lines.record.Record.{Record}
@@ -14,12 +14,8 @@ use Rattle.cct_model.specs.Money.{hopper_value, coins_of, amount, paid_by, owed_
 use Rattle.cct_laws.specs.Law.{IsOf}
 use Rattle.cct_laws.proofs.Setups.{address_found}
 use Rattle.cct_laws.proofs.Sums.{sum_same, sum_changed}
-use Rattle.cct_laws.proofs.Orders.{order_own, order_else, order_kept}
-
--- coins of one hopper together, and more of them
-pub coins_both : (setup : Setup) (addr paid unpaid : ℕ) →
-    coins_of setup addr paid + coins_of setup addr unpaid ≡ coins_of setup addr (paid + unpaid)
-coins_both setup addr paid unpaid = sym (add-mul paid unpaid (hopper_value (device_at setup.devices addr)))
+use Rattle.cct_model.proofs.OpenOrders.{order_own, order_else, coins_both}
+use Rattle.cct_laws.proofs.Orders.{order_kept}
 
 pub coins_more : (setup : Setup) (addr few many : ℕ) → few ≤ many → coins_of setup addr few ≤ coins_of setup addr many
 coins_more setup addr few many le = mul-le-mul_right (hopper_value (device_at setup.devices addr)) le

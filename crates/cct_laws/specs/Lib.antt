@@ -2,7 +2,6 @@ pub mod Balanced
 pub mod Coins
 pub mod Ending
 pub mod Faults
-pub mod Fitting
 pub mod Ids
 pub mod Kept
 pub mod KeptBoth

@@ -10,10 +10,12 @@
 //! `kept_legal`, `kept_since_legal` and `kept_hopper_legal` of `proofs/Whole.antt`, by which any fact of a device holds
 //! that each thing that can come keeps; `along` of `proofs/Seen.antt`, by which one of all entries does; `setup_sound`,
 //! `steps_of_today` and `front_of_today` of `proofs/Scripts.antt`, and there `played_in_order`, `played_covers` and
-//! `played_paid`, which say three laws of the front of a script; and `legal_written` of `proofs/Texts.antt`.
+//! `played_paid`, which say three laws of the front of a script; `legal_written` of `proofs/Texts.antt`; and
+//! `legal_due_follows` and `legal_due_allowed` of `proofs/Journal.antt`, which say of every legal past that what a job
+//! is about to put follows its records, and that a ledger takes it.
 #![tactic(auto)]
 
-ghost use Rattle.std.specs.Prelude.{ℕ, ◌≡◌, ◌<◌, ◌≤◌, ◌⊎◌, false, List, [], ◌++◌, None, true, Option, Some, ◌≢◌, ◌+◌, length};
+ghost use Rattle.std.specs.Prelude.{ℕ, ◌≡◌, ◌<◌, ◌≤◌, ◌⊎◌, false, List, [], ◌++◌, None, true, Option, Some, ◌≢◌, ◌+◌, ◌-◌, length};
 ghost use Rattle.std.specs.List.{All};
 ghost use Rattle.cct_model.specs.terms.coin.Coin.{Coin};
 ghost use Rattle.cct_model.specs.terms.device.DeviceSetup.{DeviceSetup};
@@ -46,14 +48,13 @@ ghost use Rattle.cct_model.specs.lines.command.CommandNo.TheVariants.{JournalFul
 ghost use Rattle.cct_model.specs.Hopper.{remaining};
 ghost use Rattle.cct_model.specs.Order.{order};
 ghost use Rattle.cct_model.specs.Records.{records, epoch_in, order_in, greatest_id};
-ghost use Rattle.cct_model.specs.Money.{posted_in, spoken_for, totals};
+ghost use Rattle.cct_model.specs.Money.{posted_in, reserved_at_work, freed_by, spoken_for, totals};
 ghost use Rattle.cct_model.specs.Refusal.{held, last_id, refusal};
-ghost use Rattle.cct_model.specs.Following.{all_follow};
+ghost use Rattle.cct_model.specs.Following.{all_follow, follows, is_allowed};
 ghost use Rattle.cct_model.specs.Paid.{Paid, OfOrder, AreFresh, dispenses, fallen};
 ghost use Rattle.cct_laws.specs.Kept.{IsRefused, suits};
 ghost use Rattle.cct_laws.specs.Balanced.{IsBalanced, IsConserved};
 ghost use Rattle.cct_laws.specs.Coins.{all_fallen, all_paid};
-ghost use Rattle.cct_laws.specs.Fitting.{all_fit};
 ghost use Rattle.cct_laws.specs.Odd.{FitsLife};
 ghost use Rattle.cct_laws.specs.PaidOut.{is_paid_out};
 ghost use Rattle.cct_laws.specs.Recorded.{HasNoJob, IsRestart, open_orders, totals_in};
@@ -93,7 +94,7 @@ pub fn an_honest_exchange_gets_the_reply_or_nothing()
 /// is legal. Whatever else comes between them doesn't hinder it: coins, resets, commands, the jobs of other devices,
 /// and faults set for the exchanges of those, or of later jobs. It doesn't say what the round posts.
 pub fn a_round_without_a_fault_ends()
-    ensures { (capacity : Option ℕ) (setup : Setup) (before : List Step) (past : List Entry) (d : DeviceSetup)
+    ensures { (capacity : ℕ) (setup : Setup) (before : List Step) (past : List Entry) (d : DeviceSetup)
         (steps : List Step) (end : List Entry)
         → IsSoundSetup setup → IsOf setup d → IsAcceptor d.body → LegalFrom capacity setup [] before past
         → job (lines_of d past) ≡ works (Round d.addr) []
@@ -108,7 +109,7 @@ pub fn a_round_without_a_fault_ends()
 /// job that got its answers, never one for want of an answer. It doesn't say which coins were paid, nor that coins
 /// fall.
 pub fn a_job_without_a_fault_ends()
-    ensures { (capacity : Option ℕ) (setup : Setup) (before : List Step) (past : List Entry) (d : DeviceSetup)
+    ensures { (capacity : ℕ) (setup : Setup) (before : List Step) (past : List Entry) (d : DeviceSetup)
         (command : Command) (steps : List Step) (end : List Entry)
         → IsSoundSetup setup → IsOf setup d → IsCommand command → suits d.body command ≡ true
         → LegalFrom capacity setup [] before past → job (lines_of d past) ≡ works command []
@@ -122,7 +123,7 @@ pub fn a_job_without_a_fault_ends()
 /// record or the clean end before it ended. It holds whatever is asked besides, however exchanges fail, and whenever a
 /// device is reset. It doesn't say that a coin is ever posted: that takes a round that ends.
 pub fn posts_in_order()
-    ensures { (capacity : Option ℕ) (setup : Setup) (steps : List Step) (transcript : List Entry) (d : DeviceSetup)
+    ensures { (capacity : ℕ) (setup : Setup) (steps : List Step) (transcript : List Entry) (d : DeviceSetup)
         → IsSoundSetup setup → IsOf setup d → IsAcceptor d.body → All IsInRange steps
         → Legal capacity setup steps transcript → Honest transcript
         → InOrder (lines_in d transcript) }
@@ -135,7 +136,7 @@ pub fn posts_in_order()
 /// many coins were lost as are reported; and behind a break it says nothing of the coins of the part that it doesn't
 /// post.
 pub fn none_lost_in_silence()
-    ensures { (capacity : Option ℕ) (setup : Setup) (steps : List Step) (transcript : List Entry) (d : DeviceSetup)
+    ensures { (capacity : ℕ) (setup : Setup) (steps : List Step) (transcript : List Entry) (d : DeviceSetup)
         → IsSoundSetup setup → IsOf setup d → IsAcceptor d.body → All IsInRange steps
         → Legal capacity setup steps transcript → Honest transcript
         → Pace (lines_in d transcript) → Covers (lines_in d transcript) }
@@ -146,11 +147,11 @@ pub fn none_lost_in_silence()
 /// job that goes on has fewer than three. The row that stops a payout behind a halt counts its own tries. It holds
 /// whatever the wire does, at devices of either kind, and over losses of power, which free every job.
 pub fn third_failed_try_ends_a_job()
-    ensures exact { (capacity : Option ℕ) (setup : Setup) (steps : List Step) (transcript : List Entry)
+    ensures exact { (capacity : ℕ) (setup : Setup) (steps : List Step) (transcript : List Entry)
         (d : DeviceSetup)
         → IsSoundSetup setup → IsOf setup d → Legal capacity setup steps transcript
         → AllPast TriesAt (lines_in d transcript) }
-    ensures goes_on { (capacity : Option ℕ) (setup : Setup) (steps : List Step) (transcript : List Entry)
+    ensures goes_on { (capacity : ℕ) (setup : Setup) (steps : List Step) (transcript : List Entry)
         (d : DeviceSetup)
         → IsSoundSetup setup → IsOf setup d → Legal capacity setup steps transcript
         → failed_in (job (lines_in d transcript)) < 3 }
@@ -160,10 +161,10 @@ pub fn third_failed_try_ends_a_job()
 /// an address poll under one of the checks; a try of it fails where the host's own echo is damaged. Any other line of
 /// address 0, a loss of power too, stands behind fewer.
 pub fn third_failed_try_ends_a_scan()
-    ensures exact { (capacity : Option ℕ) (setup : Setup) (steps : List Step) (transcript : List Entry)
+    ensures exact { (capacity : ℕ) (setup : Setup) (steps : List Step) (transcript : List Entry)
         → IsSoundSetup setup → Legal capacity setup steps transcript
         → AllPast ScanTriesAt (scan_lines (onto [] transcript)) }
-    ensures goes_on { (capacity : Option ℕ) (setup : Setup) (steps : List Step) (transcript : List Entry)
+    ensures goes_on { (capacity : ℕ) (setup : Setup) (steps : List Step) (transcript : List Entry)
         → IsSoundSetup setup → Legal capacity setup steps transcript
         → HasFewTries (job (scan_lines (onto [] transcript))) }
 {}
@@ -172,15 +173,15 @@ pub fn third_failed_try_ends_a_scan()
 /// either kind didn't get it to anything but a dispense, which a hopper may refuse, and where the host didn't hear its
 /// own echo, a fault was set for that exchange. Nothing is asked of the wire, nor of the damage that the fault does.
 pub fn a_failed_exchange_had_a_fault()
-    ensures replies { (capacity : Option ℕ) (setup : Setup) (steps : List Step) (transcript : List Entry)
+    ensures replies { (capacity : ℕ) (setup : Setup) (steps : List Step) (transcript : List Entry)
         (d : DeviceSetup)
         → IsSoundSetup setup → IsOf setup d → IsAcceptor d.body → All IsInRange steps
         → Legal capacity setup steps transcript → EachEntry (FailsByFault d) (onto [] transcript) }
-    ensures either_kind { (capacity : Option ℕ) (setup : Setup) (steps : List Step) (transcript : List Entry)
+    ensures either_kind { (capacity : ℕ) (setup : Setup) (steps : List Step) (transcript : List Entry)
         (d : DeviceSetup)
         → IsSoundSetup setup → IsOf setup d → All IsInRange steps → Legal capacity setup steps transcript
         → EachEntry (FailsByFaultBut is_dispense d) (onto [] transcript) }
-    ensures echoes { (capacity : Option ℕ) (setup : Setup) (steps : List Step) (transcript : List Entry)
+    ensures echoes { (capacity : ℕ) (setup : Setup) (steps : List Step) (transcript : List Entry)
         → Legal capacity setup steps transcript → EachEntry EchoFailsByFault (onto [] transcript) }
 {}
 
@@ -188,10 +189,10 @@ pub fn a_failed_exchange_had_a_fault()
 /// was set for each of the last three exchanges that it made. So no job ends so whose exchanges have no fault. It
 /// doesn't say that three faults end a job.
 pub fn a_job_given_up_had_three_faults()
-    ensures jobs { (capacity : Option ℕ) (setup : Setup) (steps : List Step) (transcript : List Entry) (d : DeviceSetup)
+    ensures jobs { (capacity : ℕ) (setup : Setup) (steps : List Step) (transcript : List Entry) (d : DeviceSetup)
         → IsSoundSetup setup → IsOf setup d → All IsInRange steps → Legal capacity setup steps transcript
         → EachEntry (EndsByFaults d.addr) (onto [] transcript) }
-    ensures scans { (capacity : Option ℕ) (setup : Setup) (steps : List Step) (transcript : List Entry)
+    ensures scans { (capacity : ℕ) (setup : Setup) (steps : List Step) (transcript : List Entry)
         → IsSoundSetup setup → Legal capacity setup steps transcript
         → EachEntry (EndsByFaults BROADCAST) (onto [] transcript) }
 {}
@@ -210,16 +211,16 @@ pub fn scripts_are_in_range()
 /// where a hopper posts nothing; at each device that keeps the pace it loses no coin in silence; and at each hopper it
 /// pays each order at most once, and closes it with exactly the coins that fell.
 pub fn played_scripts_keep_the_laws()
-    ensures in_order { (capacity : Option ℕ) (bytes : List ℕ) (played rest : List Step) (transcript : List Entry)
+    ensures in_order { (capacity : ℕ) (bytes : List ℕ) (played rest : List Step) (transcript : List Entry)
         (d : DeviceSetup)
         → (script bytes).steps ≡ played ++ rest → Legal capacity (script bytes).setup played transcript
         → Honest transcript → IsOf (script bytes).setup d → InOrder (lines_in d transcript) }
-    ensures covers { (capacity : Option ℕ) (bytes : List ℕ) (played rest : List Step) (transcript : List Entry)
+    ensures covers { (capacity : ℕ) (bytes : List ℕ) (played rest : List Step) (transcript : List Entry)
         (d : DeviceSetup)
         → (script bytes).steps ≡ played ++ rest → Legal capacity (script bytes).setup played transcript
         → Honest transcript → IsOf (script bytes).setup d
         → Pace (lines_in d transcript) → Covers (lines_in d transcript) }
-    ensures paid { (capacity : Option ℕ) (bytes : List ℕ) (played rest : List Step) (transcript : List Entry)
+    ensures paid { (capacity : ℕ) (bytes : List ℕ) (played rest : List Step) (transcript : List Entry)
         (d : DeviceSetup)
         → (script bytes).steps ≡ played ++ rest → Legal capacity (script bytes).setup played transcript
         → Honest transcript → IsOf (script bytes).setup d → IsHopper d.body → Paid (lines_in d transcript) }
@@ -231,11 +232,11 @@ pub fn played_scripts_keep_the_laws()
 /// a premise, whatever bytes they have, played up to any of their steps, and their setups may differ. It doesn't say
 /// that a text tells its steps: other steps may have the same entries.
 pub fn a_text_tells_its_transcript()
-    ensures steps { (capacity room : Option ℕ) (setup : Setup) (steps others : List Step) (first second : List Entry)
+    ensures steps { (capacity room : ℕ) (setup : Setup) (steps others : List Step) (first second : List Entry)
         → IsSoundSetup setup → All IsInRange steps → All HasBytes steps → All IsInRange others → All HasBytes others
         → Legal capacity setup steps first → Legal room setup others second → text first ≡ text second
         → first ≡ second }
-    ensures scripts { (capacity room : Option ℕ) (bytes other : List ℕ) (played rest others more : List Step)
+    ensures scripts { (capacity room : ℕ) (bytes other : List ℕ) (played rest others more : List Step)
         (first second : List Entry)
         → (script bytes).steps ≡ played ++ rest → (script other).steps ≡ others ++ more
         → Legal capacity (script bytes).setup played first → Legal room (script other).setup others second
@@ -246,7 +247,7 @@ pub fn a_text_tells_its_transcript()
 /// holds in every legal transcript over an honest wire, whenever the acceptor is reset, and wherever a start, a round
 /// or a stop ended for want of an answer.
 pub fn no_coin_is_accepted_without_an_epoch()
-    ensures { (capacity : Option ℕ) (setup : Setup) (steps : List Step) (transcript : List Entry) (d : DeviceSetup)
+    ensures { (capacity : ℕ) (setup : Setup) (steps : List Step) (transcript : List Entry) (d : DeviceSetup)
         → IsSoundSetup setup → IsOf setup d → IsAcceptor d.body → All IsInRange steps
         → Legal capacity setup steps transcript → Honest transcript → epoch (lines_in d transcript) ≡ Idle
         → (place : ℕ) → accepts (met d (onto [] transcript)) place ≡ false }
@@ -256,7 +257,7 @@ pub fn no_coin_is_accepted_without_an_epoch()
 /// the acceptor heard the epoch's own header 231 since the Epoch record, and was not reset after that. It doesn't say
 /// that a start whose 231 was sent is answered.
 pub fn a_running_epoch_sets_its_mask_or_none()
-    ensures { (capacity : Option ℕ) (setup : Setup) (steps : List Step) (transcript : List Entry)
+    ensures { (capacity : ℕ) (setup : Setup) (steps : List Step) (transcript : List Entry)
         (d : DeviceSetup) (mask counter : ℕ)
         → IsSoundSetup setup → IsOf setup d → IsAcceptor d.body → All IsInRange steps
         → Legal capacity setup steps transcript → Honest transcript
@@ -267,14 +268,14 @@ pub fn a_running_epoch_sets_its_mask_or_none()
 /// While an epoch runs at an acceptor that didn't hear the epoch's header 231 since the Epoch record, or was reset
 /// after that, none of its events since its last reset is a credit, and so no pair of its credit buffer is one.
 pub fn after_a_reset_no_event_is_a_credit()
-    ensures events { (capacity : Option ℕ) (setup : Setup) (steps : List Step) (transcript : List Entry)
+    ensures events { (capacity : ℕ) (setup : Setup) (steps : List Step) (transcript : List Entry)
         (d : DeviceSetup) (mask counter : ℕ)
         → IsSoundSetup setup → IsOf setup d → IsAcceptor d.body → All IsInRange steps
         → Legal capacity setup steps transcript → Honest transcript
         → epoch (lines_in d transcript) ≡ Running mask counter
         → mask_set_in (since_epoch_in d transcript) ≡ None
         → coins_among (events (met d (onto [] transcript))) ≡ [] }
-    ensures pairs { (capacity : Option ℕ) (setup : Setup) (steps : List Step) (transcript : List Entry)
+    ensures pairs { (capacity : ℕ) (setup : Setup) (steps : List Step) (transcript : List Entry)
         (d : DeviceSetup) (mask counter : ℕ)
         → IsSoundSetup setup → IsOf setup d → IsAcceptor d.body → All IsInRange steps
         → Legal capacity setup steps transcript → Honest transcript
@@ -288,7 +289,7 @@ pub fn after_a_reset_no_event_is_a_credit()
 /// at the moment when it was put. It doesn't say that such an epoch breaks: that takes a round or a stop that reads the
 /// mask.
 pub fn a_break_has_its_cause()
-    ensures waiting { (capacity : Option ℕ) (setup : Setup) (steps : List Step) (transcript : List Entry)
+    ensures waiting { (capacity : ℕ) (setup : Setup) (steps : List Step) (transcript : List Entry)
         (d : DeviceSetup)
         (command : Command) (since : List Line) (addr seen counter : ℕ) (posted : List Coin)
         → IsSoundSetup setup → IsOf setup d → IsAcceptor d.body → All IsInRange steps
@@ -296,7 +297,7 @@ pub fn a_break_has_its_cause()
         → row d command since (epoch (lines_in d transcript)) (order (lines_in d transcript))
         ≡ puts (Broken addr seen counter posted)
         → MayBreak (since_epoch_in d transcript) }
-    ensures put { (capacity : Option ℕ) (setup : Setup) (steps : List Step) (transcript : List Entry) (d : DeviceSetup)
+    ensures put { (capacity : ℕ) (setup : Setup) (steps : List Step) (transcript : List Entry) (d : DeviceSetup)
         → IsSoundSetup setup → IsOf setup d → IsAcceptor d.body → All IsInRange steps
         → Legal capacity setup steps transcript → Honest transcript → HaveCauses d (onto [] transcript) }
 {}
@@ -307,7 +308,7 @@ pub fn a_break_has_its_cause()
 /// says how many fell and how many of its count did not. Whatever replies are lost, and whenever the hopper jams, is
 /// halted or is reset, or the host loses its power. It doesn't say that an order is ever completed, or closed.
 pub fn each_order_is_paid_once()
-    ensures { (capacity : Option ℕ) (setup : Setup) (steps : List Step) (transcript : List Entry) (d : DeviceSetup)
+    ensures { (capacity : ℕ) (setup : Setup) (steps : List Step) (transcript : List Entry) (d : DeviceSetup)
         → IsSoundSetup setup → IsOf setup d → IsHopper d.body → All IsInRange steps
         → Legal capacity setup steps transcript → Honest transcript → Paid (lines_in d transcript) }
 {}
@@ -323,13 +324,13 @@ pub fn coins_that_fell_are_those_paid()
 /// No id is used twice: in every legal transcript, whatever the wire does and whenever the host loses its power, no two
 /// records that open an order or sell have the same id. An id that was never recorded may be used again.
 pub fn no_id_is_used_twice()
-    ensures { (capacity : Option ℕ) (setup : Setup) (steps : List Step) (transcript : List Entry)
+    ensures { (capacity : ℕ) (setup : Setup) (steps : List Step) (transcript : List Entry)
         → IsSoundSetup setup → Legal capacity setup steps transcript → AreFresh (records (onto [] transcript)) }
 {}
 
 /// A hopper without an open order has nothing left to pay: no coin falls out of it. It holds over an honest wire.
 pub fn an_unowed_hopper_has_nothing_to_pay()
-    ensures { (capacity : Option ℕ) (setup : Setup) (steps : List Step) (transcript : List Entry) (d : DeviceSetup)
+    ensures { (capacity : ℕ) (setup : Setup) (steps : List Step) (transcript : List Entry) (d : DeviceSetup)
         → IsSoundSetup setup → IsOf setup d → IsHopper d.body → All IsInRange steps
         → Legal capacity setup steps transcript → Honest transcript
         → order (lines_in d transcript) ≡ None → remaining d.serial (met d (onto [] transcript)) ≡ 0 }
@@ -341,7 +342,7 @@ pub fn an_unowed_hopper_has_nothing_to_pay()
 /// want of an answer, behind one that closed its order, and over losses of power. It doesn't say that a hopper ever
 /// shows it.
 pub fn a_hopper_shown_paid_out_stays_so()
-    ensures { (capacity : Option ℕ) (setup : Setup) (steps : List Step) (transcript : List Entry) (d : DeviceSetup)
+    ensures { (capacity : ℕ) (setup : Setup) (steps : List Step) (transcript : List Entry) (d : DeviceSetup)
         → IsSoundSetup setup → IsOf setup d → IsHopper d.body → All IsInRange steps
         → Legal capacity setup steps transcript → Honest transcript
         → is_paid_out (lines_in d transcript) ≡ true → remaining d.serial (met d (onto [] transcript)) ≡ 0 }
@@ -350,7 +351,7 @@ pub fn a_hopper_shown_paid_out_stays_so()
 /// A job sends a dispense only to its own hopper, and only where an order of just its coins is open that no dispense
 /// was taken for. It holds over an honest wire. It doesn't say that the hopper takes it.
 pub fn a_dispense_is_for_a_fresh_order()
-    ensures { (capacity : Option ℕ) (setup : Setup) (steps : List Step) (transcript : List Entry) (d : DeviceSetup)
+    ensures { (capacity : ℕ) (setup : Setup) (steps : List Step) (transcript : List Entry) (d : DeviceSetup)
         (command : Command) (since : List Line) (serial count : ℕ)
         → IsSoundSetup setup → IsOf setup d → IsHopper d.body → All IsInRange steps
         → Legal capacity setup steps transcript → Honest transcript → job (lines_in d transcript) ≡ works command since
@@ -363,7 +364,7 @@ pub fn a_dispense_is_for_a_fresh_order()
 /// The life counts of a hopper always fit its order: over an honest wire no record says that they don't, and no job
 /// ends so, in every legal transcript.
 pub fn life_counts_fit_each_order()
-    ensures { (capacity : Option ℕ) (setup : Setup) (steps : List Step) (transcript : List Entry)
+    ensures { (capacity : ℕ) (setup : Setup) (steps : List Step) (transcript : List Entry)
         → IsSoundSetup setup → All IsInRange steps → Legal capacity setup steps transcript → Honest transcript
         → EachEntry FitsLife (onto [] transcript) }
 {}
@@ -386,47 +387,57 @@ pub fn records_tell_what_a_host_needs()
         → held setup past ≡ open_orders setup (records past) }
 {}
 
-/// Each record follows those before it, in every legal transcript, whatever the wire does and whenever the host loses
-/// its power: over a journal with a capacity in all, so that a host that is built from them, and its ledger, refuses
-/// none; over none but for the money of orders and sales, which a host without a journal doesn't test. It doesn't say
-/// that a hopper paid what a record says.
+/// Each record follows those before it, and so does one that a running job is about to put, in every legal transcript,
+/// whatever the wire does and whenever the host loses its power: so a host that is built from them, and its ledger,
+/// refuses none. It doesn't say that a hopper paid what a record says.
 pub fn each_record_follows()
-    ensures over_a_journal { (capacity : ℕ) (setup : Setup) (steps : List Step) (transcript : List Entry)
-        → IsSoundSetup setup → All IsInRange steps → Legal (Some capacity) setup steps transcript
-        → all_follow setup (records (onto [] transcript)) ≡ true }
-    ensures over_none { (capacity : Option ℕ) (setup : Setup) (steps : List Step) (transcript : List Entry)
+    ensures all { (capacity : ℕ) (setup : Setup) (steps : List Step) (transcript : List Entry)
         → IsSoundSetup setup → All IsInRange steps → Legal capacity setup steps transcript
-        → all_fit setup (records (onto [] transcript)) ≡ true }
+        → all_follow setup (records (onto [] transcript)) ≡ true }
+    ensures due { (capacity : ℕ) (setup : Setup) (steps : List Step) (transcript : List Entry) (addr : ℕ) (r : Record)
+        → IsSoundSetup setup → All IsInRange steps → Legal capacity setup steps transcript
+        → due_at setup (onto [] transcript) addr ≡ Some r → follows setup (records (onto [] transcript)) r ≡ true }
 {}
 
-/// Over a journal with a capacity money is conserved, in every legal transcript, whatever the wire does: what is
-/// available, reserved, paid and sold is together the value of all coins posted, at every moment and in each balance
-/// that is told; and what is reserved, paid and sold is never more than that. Without a capacity no command is refused
-/// for money, and it doesn't hold.
+/// What a running job is about to put, the ledger takes beside what the other jobs reserve, in every legal transcript,
+/// whatever the wire does: a payment reserves the coins of the order that it opens until it puts that, and a sale its
+/// price, so neither is refused for want of money. It doesn't say that a job ever comes to its put.
+pub fn a_ledger_takes_each_put()
+    ensures { (capacity : ℕ) (setup : Setup) (steps : List Step) (transcript : List Entry) (addr : ℕ) (r : Record)
+        → IsSoundSetup setup → All IsInRange steps → Legal capacity setup steps transcript
+        → due_at setup (onto [] transcript) addr ≡ Some r
+        → (freed_by setup r ≤ reserved_at_work setup (onto [] transcript))
+        × (is_allowed setup (records (onto [] transcript))
+        (reserved_at_work setup (onto [] transcript) - freed_by setup r) r ≡ true) }
+{}
+
+/// Money is conserved, in every legal transcript, whatever the wire does: what is available, reserved, paid and sold is
+/// together the value of all coins posted, at every moment and in each balance that is told; and what is reserved, paid
+/// and sold is never more than that.
 pub fn money_is_conserved()
     ensures moments { (capacity : ℕ) (setup : Setup) (steps : List Step) (transcript : List Entry)
-        → IsSoundSetup setup → All IsInRange steps → Legal (Some capacity) setup steps transcript
+        → IsSoundSetup setup → All IsInRange steps → Legal capacity setup steps transcript
         → IsConserved setup (onto [] transcript) (totals setup (onto [] transcript)) }
     ensures balances { (capacity : ℕ) (setup : Setup) (steps : List Step) (transcript : List Entry)
-        → IsSoundSetup setup → All IsInRange steps → Legal (Some capacity) setup steps transcript
+        → IsSoundSetup setup → All IsInRange steps → Legal capacity setup steps transcript
         → EachEntry (IsBalanced setup) (onto [] transcript) }
     ensures covered { (capacity : ℕ) (setup : Setup) (steps : List Step) (transcript : List Entry)
-        → IsSoundSetup setup → All IsInRange steps → Legal (Some capacity) setup steps transcript
+        → IsSoundSetup setup → All IsInRange steps → Legal capacity setup steps transcript
         → spoken_for setup (onto [] transcript) ≤ posted_in setup (records (onto [] transcript)) }
 {}
 
-/// A put never meets a full journal, in every legal transcript over a journal with a capacity, whatever the wire does:
-/// its records and those that are held for running jobs and open orders find room, so one that a job is about to put
-/// does, and no settlement is refused for want of it.
+/// A put never meets a full journal, in every legal transcript, whatever the wire does: its records and those that are
+/// held for running jobs and open orders find room, so one that a job is about to put does, and no settlement is
+/// refused for want of it.
 pub fn a_put_finds_room()
     ensures held { (capacity : ℕ) (setup : Setup) (steps : List Step) (transcript : List Entry)
-        → IsSoundSetup setup → All IsInRange steps → Legal (Some capacity) setup steps transcript
+        → IsSoundSetup setup → All IsInRange steps → Legal capacity setup steps transcript
         → length (records (onto [] transcript)) + held setup (onto [] transcript) ≤ capacity }
     ensures puts { (capacity : ℕ) (setup : Setup) (steps : List Step) (transcript : List Entry) (addr : ℕ) (r : Record)
-        → IsSoundSetup setup → All IsInRange steps → Legal (Some capacity) setup steps transcript
+        → IsSoundSetup setup → All IsInRange steps → Legal capacity setup steps transcript
         → due_at setup (onto [] transcript) addr ≡ Some r → length (records (onto [] transcript)) < capacity }
     ensures settlements { (capacity : ℕ) (setup : Setup) (steps : List Step) (transcript : List Entry)
         (addr used held need : ℕ)
-        → IsSoundSetup setup → All IsInRange steps → Legal (Some capacity) setup steps transcript
-        → refusal (Some capacity) setup (onto [] transcript) (Settle addr) ≢ Some (JournalFull used held need) }
+        → IsSoundSetup setup → All IsInRange steps → Legal capacity setup steps transcript
+        → refusal capacity setup (onto [] transcript) (Settle addr) ≢ Some (JournalFull used held need) }
 {}

@@ -1,5 +1,5 @@
 -- What the record that closes an order changes.
-use Rattle.std.proofs.Common.{◌≡◌, ℕ, ◌+◌, ◌≤◌, List, ◌∷◌, set, length, sum_by, refl, ap, sym, ◌∙◌, subst, Option, Some, None, arith, add-mul}
+use Rattle.std.proofs.Common.{◌≡◌, ℕ, ◌+◌, ◌≤◌, List, ◌∷◌, set, length, sum_by, refl, ap, sym, ◌∙◌, subst, Option, Some, None, arith}
 use Rattle.std.specs.Prelude.{slice_get}
 use Rattle.std.proofs.Math.ListN.{length-set}
 use Rattle.std.proofs.lemmas.List.Sums.{get_or-le-sum_by}
@@ -8,18 +8,12 @@ use Rattle.cct_model.specs.terms.device.Setup.{Setup}
 use Rattle.cct_model.specs.lines.record.Record.{Record}
 use Rattle.cct_model.specs.lines.record.Record.TheVariants.{Closed, Odd}
 use Rattle.cct_model.specs.declared.judging.OpenOrder.{OpenOrder}
-use Rattle.cct_model.specs.Exchange.{device_at}
 use Rattle.cct_model.specs.Setup.{AreDistinct}
 use Rattle.cct_model.specs.Records.{order_named, hopper_of, opened_in}
-use Rattle.cct_model.specs.Money.{hopper_value, coins_of, amount, reserved_in, paid_in}
+use Rattle.cct_model.specs.Money.{coins_of, amount, reserved_in, paid_in}
+use Rattle.cct_model.proofs.OpenOrders.{coins_both}
 use Rattle.cct_ledger.specs.Orders.{KeepsOrders}
 use Rattle.cct_ledger.proofs.Orders.{Closes, keeps_closed, owed_next, owed_set}
-
--- coins of one hopper together
-coins_both : (setup : Setup) (addr paid unpaid count : ℕ) → paid + unpaid ≡ count →
-    coins_of setup addr paid + coins_of setup addr unpaid ≡ coins_of setup addr count
-coins_both setup addr paid unpaid count all =
-    sym (add-mul paid unpaid (hopper_value (device_at setup.devices addr))) ∙ ap (coins_of setup addr) all
 
 -- an open order among others: its worth is a part of theirs, and is that of its coins that were paid and of those that
 -- were not
@@ -34,7 +28,7 @@ is_part setup orders place o is = record {
   within = subst (λ (x : Option OpenOrder). amount setup x ≤ sum_by (amount setup) orders)
       (get_or_from_slice_get orders place (Some o) None is)
       (get_or-le-sum_by (amount setup) orders place None (slice_get_within orders place (Some o) is));
-  both = λ paid unpaid all. coins_both setup o.addr paid unpaid o.count all;
+  both = λ paid unpaid all. coins_both setup o.addr paid unpaid ∙ ap (coins_of setup o.addr) all;
 }
 
 -- without it the others are left

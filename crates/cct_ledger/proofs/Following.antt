@@ -4,9 +4,9 @@ use Rattle.std.proofs.lemmas.Bool.{and_parts}
 use Rattle.cct_model.specs.terms.device.Setup.{Setup}
 use Rattle.cct_model.specs.lines.record.Record.{Record}
 use Rattle.cct_model.specs.lines.record.Record.TheVariants.{Opened, Closed, Odd, Sold}
-use Rattle.cct_model.specs.Money.{coins_of, available_in}
-use Rattle.cct_model.specs.Following.{follows}
-use Rattle.cct_ledger.specs.Allowed.{available_beside, is_allowed, is_of_money}
+use Rattle.cct_model.specs.Money.{coins_of, available_in, available_beside}
+use Rattle.cct_model.specs.Following.{follows, is_allowed}
+use Rattle.cct_ledger.specs.Told.{is_of_money}
 
 -- nothing is reserved
 nothing_beside : (setup : Setup) (before : List Record) → available_beside setup before 0 ≡ available_in setup before

@@ -12,8 +12,8 @@ use Rattle.cct_model.specs.lines.record.Record.TheVariants.{Opened}
 use Rattle.cct_model.specs.declared.judging.OpenOrder.{OpenOrder}
 use Rattle.cct_model.specs.Setup.{AreDistinct}
 use Rattle.cct_model.specs.Records.{order_in, is_open}
-use Rattle.cct_model.specs.Money.{coins_of, available_in, reserved_in}
-use Rattle.cct_ledger.specs.Allowed.{available_beside, is_allowed}
+use Rattle.cct_model.specs.Money.{coins_of, available_in, available_beside, reserved_in}
+use Rattle.cct_model.specs.Following.{is_allowed}
 use Rattle.cct_ledger.specs.Orders.{has_id, KeepsOrders}
 use Rattle.cct_ledger.proofs.Orders.{keeps_opened, order_as, owed_next}
 use Rattle.cct_ledger.proofs.Places.{is_hopper, hopper_at, hopper_there_at, hopper_nowhere}

@@ -13,38 +13,13 @@ use Rattle.cct_model.specs.lines.record.Record.TheVariants as record_of
 use Rattle.cct_model.specs.declared.judging.OpenOrder.{OpenOrder}
 use Rattle.cct_model.specs.Setup.{AreDistinct}
 use Rattle.cct_model.specs.Order.{order_by}
-use Rattle.cct_model.specs.Records.{named_by, order_named, hopper_of, opened_in, owner_in, records_at, order_of, order_in, is_open_by, is_open}
+use Rattle.cct_model.specs.Records.{named_by, order_named, hopper_of, opened_in, owner_in, order_in, is_open_by, is_open}
 use Rattle.cct_model.specs.Money.{amount, owed_in}
+use Rattle.cct_model.proofs.OpenOrders.{order_next, order_own, order_else}
 use Rattle.cct_ledger.specs.Orders.{has_id, KeepsOrders}
 use Rattle.cct_ledger.proofs.Lists.{any_set, set_cases, none_get}
 use Rattle.cct_ledger.proofs.Positions.{any_at}
 use Rattle.cct_ledger.proofs.Places.{same_place, map_same, map_set, sum_over-map, IsHopperAt}
-
--- the open order at an address after one record more
-
-by_owner : (here : Bool) (r : Record) (rs : List Record) →
-    order_of (cond here (r ∷ rs) rs) ≡ cond here (order_by r (order_of rs)) (order_of rs)
-by_owner true r rs = refl
-by_owner false r rs = refl
-
-order_next : (addr : ℕ) (r : Record) (before : List Record) →
-    order_in addr (r ∷ before) ≡ cond (owner_in before r == addr) (order_by r (order_in addr before))
-    (order_in addr before)
-order_next addr r before = by_owner (owner_in before r == addr) r (records_at addr before)
-
--- at the address of the record, and at another
-order_own : (addr : ℕ) (r : Record) (before : List Record) → owner_in before r ≡ addr →
-    order_in addr (r ∷ before) ≡ order_by r (order_in addr before)
-order_own addr r before own =
-    order_next addr r before
-    ∙ ap (λ b. cond b (order_by r (order_in addr before)) (order_in addr before)) (eq-eqb (owner_in before r) addr own)
-
-order_else : (addr : ℕ) (r : Record) (before : List Record) → owner_in before r ≢ addr →
-    order_in addr (r ∷ before) ≡ order_in addr before
-order_else addr r before other =
-    order_next addr r before
-    ∙ ap (λ b. cond b (order_by r (order_in addr before)) (order_in addr before))
-    (ne_eqb (owner_in before r) addr other)
 
 -- the open order at an address is one of that address
 

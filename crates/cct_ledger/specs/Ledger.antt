@@ -4,7 +4,7 @@ use Rattle.cct_model.specs.terms.device.Setup.{Setup}
 use Rattle.cct_model.specs.lines.record.Record.{Record}
 use Rattle.cct_model.specs.Setup.{IsSoundSetup}
 use Rattle.cct_model.specs.Money.{posted_in, reserved_in, paid_in, sold_in}
-use Rattle.cct_ledger.specs.Allowed.{is_allowed}
+use Rattle.cct_model.specs.Following.{is_allowed}
 use Rattle.cct_ledger.specs.Orders.{KeepsOrders}
 use Rattle.cct_ledger.specs.declared.ledger.Ledger.{Ledger}
 

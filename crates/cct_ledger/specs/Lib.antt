@@ -1,3 +1,3 @@
-pub mod Allowed
+pub mod Told
 pub mod Ledger
 pub mod Orders

@@ -3,10 +3,10 @@ ghost use Rattle.std.specs.Prelude.{◌≡◌, ℕ, true, List};
 ghost use Rattle.cct_model.specs.terms.device.Setup.{Setup};
 ghost use Rattle.cct_model.specs.lines.record.Record.{Record};
 ghost use Rattle.cct_model.specs.lines.entry.Entry.{Entry};
-ghost use Rattle.cct_model.specs.Following.{follows};
-ghost use Rattle.cct_model.specs.Money.{available, reserved_at_work, totals};
+ghost use Rattle.cct_model.specs.Following.{follows, is_allowed};
+ghost use Rattle.cct_model.specs.Money.{available, available_beside, reserved_at_work, totals};
 ghost use Rattle.cct_model.specs.Records.{records};
-ghost use Rattle.cct_ledger.specs.Allowed.{available_beside, totals_beside, is_allowed, is_of_money};
+ghost use Rattle.cct_ledger.specs.Told.{totals_beside, is_of_money};
 
 /// Where nothing is reserved beside the records, a ledger takes a record of an order or of a sale exactly where it
 /// follows those before it; and whatever is reserved, only where it does.

@@ -7,8 +7,8 @@ ghost use Rattle.cct_model.specs.lines.record.Record.{Record};
 ghost use Rattle.cct_model.specs.lines.record.Record.TheVariants as record_of;
 ghost use Rattle.cct_model.specs.Exchange.{device_at};
 ghost use Rattle.cct_model.specs.Setup.{IsSoundSetup};
-ghost use Rattle.cct_model.specs.Money.{place_value, amount, posted_in};
-ghost use Rattle.cct_ledger.specs.Allowed.{available_beside, totals_beside, is_of_money};
+ghost use Rattle.cct_model.specs.Money.{available_beside, place_value, amount, posted_in};
+ghost use Rattle.cct_ledger.specs.Told.{totals_beside, is_of_money};
 ghost use Rattle.cct_ledger.specs.Orders.{has_id};
 
 use crate::lookup::{hopper_place, none_open, opened, put_order};

@@ -42,7 +42,7 @@ fn place_value(device: &DeviceSetup, place: u8) -> u32
 }
 
 /// The value of so many coins of the hopper at an address, 0 where none is there.
-pub(crate) fn coins_of(setup: &Setup, addr: u8, count: u8) -> u64
+pub fn coins_of(setup: &Setup, addr: u8, count: u8) -> u64
     ensures { result ≡ coins_of setup.now addr count }
 {
     let value = match setup.device_at(addr) {

@@ -7,4 +7,5 @@ mod Sets
 mod Ordered
 mod Words
 pub mod Added
+pub mod Sound
 mod Vectors

@@ -29,7 +29,7 @@ word_of line = before_first is_space line
 
 -- The step words that no program plays yet: for now they are no words.
 abbrev pub is_later_word : List ℕ → Bool
-is_later_word word = bytes_eq word (codes "vend") || bytes_eq word (codes "crash") || bytes_eq word (codes "balance")
+is_later_word word = bytes_eq word (codes "vend") || bytes_eq word (codes "crash")
 
 -- Which line a script wants next: one of its setup, a step, or none.
 pub data Stage : Type 0 where

@@ -3,18 +3,24 @@
 #![tactic(auto)]
 
 use cct_bench::{Status, bench};
+use cct_disk::FileDisk;
 use cct_edge::{StdSink, StdSource};
 use std::io::ErrorKind;
 use std::process::ExitCode;
 use std::rt::Env;
 use std::{env, io};
 
+/// The file of the journal, in the current folder.
+const JOURNAL: &str = "cctalk.jnl";
+
 fn main(rt: HostRuntime) -> ExitCode {
     let status = match words(&rt) {
         Ok(words) => {
             let mut script = StdSource::new(rt.reader());
             let mut out = StdSink::new(io::writer(&rt));
-            bench(rt.alloc(), words.as_slice(), &mut script, &mut out)
+            let disk = FileDisk::open_file(&rt, JOURNAL);
+            let (status, _) = bench(rt.alloc(), words.as_slice(), &mut script, &mut out, disk);
+            status
         }
         Err(_) => Status::OutOfMemory,
     };

@@ -35,7 +35,7 @@ other_hopper = record { addr = 5; kind = Simple; serial = 5; texts = texts; name
 abbrev wide : Setup
 wide = record { devices = acceptor ∷ hopper ∷ other_hopper ∷ [] }
 
-funding_wide : Plays (Some 65535) wide [] funding
+funding_wide : Plays 65535 wide [] funding
 unfolding message spelling data_of request_of requests_with form_of reply_data reply_in has_place acceptor_reply
     hopper_reply common_reply reply_of ask asked asks_of asker after_echo got heard_after got_by distance judge
     life_between close
@@ -55,7 +55,7 @@ two_calls =
     ∷ both (step.Next 2) (entry.Put (record_of.Reading 2 1 0 (coin 5 1 ∷ []))) (entry.Ended 2 end_of.Posted)
     ∷ []
 
-two_calls_plays : Plays (Some 65535) setup started two_calls
+two_calls_plays : Plays 65535 setup started two_calls
 unfolding message spelling data_of request_of requests_with form_of reply_data reply_in has_place acceptor_reply
     hopper_reply common_reply reply_of ask asked asks_of asker after_echo got heard_after got_by distance judge
     life_between close
@@ -75,7 +75,7 @@ three_calls_lost =
     ∷ both (step.Next 2) (entry.Put (record_of.Reading 2 1 0 (coin 5 1 ∷ []))) (entry.Ended 2 end_of.Posted)
     ∷ []
 
-three_calls_lost_plays : Plays (Some 65535) setup started three_calls_lost
+three_calls_lost_plays : Plays 65535 setup started three_calls_lost
 unfolding message spelling data_of request_of requests_with form_of reply_data reply_in has_place acceptor_reply
     hopper_reply common_reply reply_of ask asked asks_of asker after_echo got heard_after got_by distance judge
     life_between close
@@ -94,7 +94,7 @@ three_calls_lost_too =
     ∷ both (step.Next 2) (entry.Put (record_of.Reading 2 1 0 (coin 5 1 ∷ []))) (entry.Ended 2 end_of.Posted)
     ∷ []
 
-three_calls_lost_too_plays : Plays (Some 65535) setup started three_calls_lost_too
+three_calls_lost_too_plays : Plays 65535 setup started three_calls_lost_too
 unfolding message spelling data_of request_of requests_with form_of reply_data reply_in has_place acceptor_reply
     hopper_reply common_reply reply_of ask asked asks_of asker after_echo got heard_after got_by distance judge
     life_between close
@@ -114,7 +114,7 @@ three_calls_kept =
     ∷ one (step.Next 2) (entry.Idle 2)
     ∷ []
 
-three_calls_kept_plays : Plays (Some 65535) setup started three_calls_kept
+three_calls_kept_plays : Plays 65535 setup started three_calls_kept
 unfolding message spelling data_of request_of requests_with form_of reply_data reply_in has_place acceptor_reply
     hopper_reply common_reply reply_of ask asked asks_of asker after_echo got heard_after got_by distance judge
     life_between close
@@ -134,7 +134,7 @@ four_calls =
     ∷ one (step.Next 2) (entry.Idle 2)
     ∷ []
 
-four_calls_plays : Plays (Some 65535) setup started four_calls
+four_calls_plays : Plays 65535 setup started four_calls
 unfolding message spelling data_of request_of requests_with form_of reply_data reply_in has_place acceptor_reply
     hopper_reply common_reply reply_of ask asked asks_of asker after_echo got heard_after got_by distance judge
     life_between close
@@ -154,7 +154,7 @@ settled_after =
     ∷ both (step.Next 3) (entry.Put (record_of.Closed 41 0 4)) (entry.Ended 3 end_of.Closed)
     ∷ []
 
-settled_after_plays : Plays (Some 65535) setup funded settled_after
+settled_after_plays : Plays 65535 setup funded settled_after
 unfolding message spelling data_of request_of requests_with form_of reply_data reply_in has_place acceptor_reply
     hopper_reply common_reply reply_of ask asked asks_of asker after_echo got heard_after got_by distance judge
     life_between close
@@ -170,7 +170,7 @@ still_open =
     ∷ one (step.Command (command.Pay 3 43 1)) (entry.No (command.Pay 3 43 1) (command_no.OrderOpen 41))
     ∷ []
 
-still_open_plays : Plays (Some 65535) setup funded still_open
+still_open_plays : Plays 65535 setup funded still_open
 unfolding message spelling data_of request_of requests_with form_of reply_data reply_in has_place acceptor_reply
     hopper_reply common_reply reply_of ask asked asks_of asker after_echo got heard_after got_by distance judge
     life_between close
@@ -189,7 +189,7 @@ order_not_kept =
     ∷ one (step.Command (command.Pay 3 41 4)) (entry.Taken (command.Pay 3 41 4))
     ∷ []
 
-order_not_kept_plays : Plays (Some 65535) setup funded order_not_kept
+order_not_kept_plays : Plays 65535 setup funded order_not_kept
 unfolding message spelling data_of request_of requests_with form_of reply_data reply_in has_place acceptor_reply
     hopper_reply common_reply reply_of ask asked asks_of asker after_echo got heard_after got_by distance judge
     life_between close
@@ -212,7 +212,7 @@ order_kept =
     ∷ both (step.Next 3) (entry.Put (record_of.Closed 41 0 4)) (entry.Ended 3 end_of.Closed)
     ∷ []
 
-order_kept_plays : Plays (Some 65535) setup funded order_kept
+order_kept_plays : Plays 65535 setup funded order_kept
 unfolding message spelling data_of request_of requests_with form_of reply_data reply_in has_place acceptor_reply
     hopper_reply common_reply reply_of ask asked asks_of asker after_echo got heard_after got_by distance judge
     life_between close
@@ -239,7 +239,7 @@ goes_on_falling =
     ∷ one step.Balance (entry.Balance (record { available = 60; reserved = 0; paid = 40; sold = 0 }))
     ∷ []
 
-goes_on_falling_plays : Plays (Some 65535) setup funded goes_on_falling
+goes_on_falling_plays : Plays 65535 setup funded goes_on_falling
 unfolding message spelling data_of request_of requests_with form_of reply_data reply_in has_place acceptor_reply
     hopper_reply common_reply reply_of ask asked asks_of asker after_echo got heard_after got_by distance judge
     life_between close
@@ -266,7 +266,7 @@ close_not_kept =
     ∷ both (step.Next 3) (entry.Put (record_of.Closed 41 4 0)) (entry.Ended 3 end_of.Closed)
     ∷ []
 
-close_not_kept_plays : Plays (Some 65535) setup funded close_not_kept
+close_not_kept_plays : Plays 65535 setup funded close_not_kept
 unfolding message spelling data_of request_of requests_with form_of reply_data reply_in has_place acceptor_reply
     hopper_reply common_reply reply_of ask asked asks_of asker after_echo got heard_after got_by distance judge
     life_between close
@@ -291,7 +291,7 @@ close_kept =
     ∷ one step.Balance (entry.Balance (record { available = 60; reserved = 0; paid = 40; sold = 0 }))
     ∷ []
 
-close_kept_plays : Plays (Some 65535) setup funded close_kept
+close_kept_plays : Plays 65535 setup funded close_kept
 unfolding message spelling data_of request_of requests_with form_of reply_data reply_in has_place acceptor_reply
     hopper_reply common_reply reply_of ask asked asks_of asker after_echo got heard_after got_by distance judge
     life_between close
@@ -314,7 +314,7 @@ calls_of_nothing =
     ∷ one (step.Crash (Some (record { addr = 1; calls = 4 })) 0) (entry.Crash 3)
     ∷ []
 
-calls_of_nothing_plays : Plays (Some 65535) setup funded calls_of_nothing
+calls_of_nothing_plays : Plays 65535 setup funded calls_of_nothing
 unfolding message spelling data_of request_of requests_with form_of reply_data reply_in has_place acceptor_reply
     hopper_reply common_reply reply_of ask asked asks_of asker after_echo got heard_after got_by distance judge
     life_between close
@@ -331,7 +331,7 @@ sale_kept =
     ∷ one (step.Command (command.Vend 5 30)) (entry.No (command.Vend 5 30) (command_no.OldId 5))
     ∷ []
 
-sale_kept_plays : Plays (Some 65535) setup funded sale_kept
+sale_kept_plays : Plays 65535 setup funded sale_kept
 unfolding message spelling data_of request_of requests_with form_of reply_data reply_in has_place acceptor_reply
     hopper_reply common_reply reply_of ask asked asks_of asker after_echo got heard_after got_by distance judge
     life_between close
@@ -351,7 +351,7 @@ sale_not_kept =
     ∷ one step.Balance (entry.Balance (record { available = 70; reserved = 0; paid = 0; sold = 30 }))
     ∷ []
 
-sale_not_kept_plays : Plays (Some 65535) setup funded sale_not_kept
+sale_not_kept_plays : Plays 65535 setup funded sale_not_kept
 unfolding message spelling data_of request_of requests_with form_of reply_data reply_in has_place acceptor_reply
     hopper_reply common_reply reply_of ask asked asks_of asker after_echo got heard_after got_by distance judge
     life_between close
@@ -372,7 +372,7 @@ epoch_kept =
     ∷ both (step.Next 2) (entry.Put (record_of.Broken 2 0 1 [])) (entry.Ended 2 end_of.Broke)
     ∷ []
 
-epoch_kept_plays : Plays (Some 65535) setup [] epoch_kept
+epoch_kept_plays : Plays 65535 setup [] epoch_kept
 unfolding message spelling data_of request_of requests_with form_of reply_data reply_in has_place acceptor_reply
     hopper_reply common_reply reply_of ask asked asks_of asker after_echo got heard_after got_by distance judge
     life_between close
@@ -389,7 +389,7 @@ epoch_not_kept =
     ∷ one (step.Command (command.Start 2 65535)) (entry.Taken (command.Start 2 65535))
     ∷ []
 
-epoch_not_kept_plays : Plays (Some 65535) setup [] epoch_not_kept
+epoch_not_kept_plays : Plays 65535 setup [] epoch_not_kept
 unfolding message spelling data_of request_of requests_with form_of reply_data reply_in has_place acceptor_reply
     hopper_reply common_reply reply_of ask asked asks_of asker after_echo got heard_after got_by distance judge
     life_between close
@@ -405,7 +405,7 @@ fault_stays =
     ∷ one (step.Next 2) (wire 2 "020001e518" "020001e518010b02000105010000000000000000eb")
     ∷ []
 
-fault_stays_plays : Plays (Some 65535) setup funded fault_stays
+fault_stays_plays : Plays 65535 setup funded fault_stays
 unfolding message spelling data_of request_of requests_with form_of reply_data reply_in has_place acceptor_reply
     hopper_reply common_reply reply_of ask asked asks_of asker after_echo got heard_after got_by distance judge
     life_between close
@@ -426,7 +426,7 @@ two_hoppers =
     ∷ one (step.Command (command.Pay 3 43 1)) (entry.No (command.Pay 3 43 1) (command_no.OrderOpen 41))
     ∷ []
 
-two_hoppers_plays : Plays (Some 65535) wide funded two_hoppers
+two_hoppers_plays : Plays 65535 wide funded two_hoppers
 unfolding message spelling data_of request_of requests_with form_of reply_data reply_in has_place acceptor_reply
     hopper_reply common_reply reply_of ask asked asks_of asker after_echo got heard_after got_by distance judge
     life_between close

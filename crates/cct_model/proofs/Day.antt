@@ -1,5 +1,5 @@
 -- A day of two acceptors and three hoppers: both checks, a jam and a loss of power, up to the balance in the evening.
-use Rattle.std.proofs.Common.{◌≡◌, List, [], ◌∷◌, Some, None, refl}
+use Rattle.std.proofs.Common.{◌≡◌, List, [], ◌∷◌, None, refl}
 use Rattle.cct_model.specs.Message.{message, spelling, crc}
 use Rattle.cct_model.specs.Request.{data_of, request_of, requests_with, form_of}
 use Rattle.cct_model.specs.Reply.{reply_data, reply_in}
@@ -36,7 +36,7 @@ opening =
     ∷ both (step.Next 4) (wire 4 "0402c0e7ffff5c" "0402c0e7ffff5c0100300037") (entry.Ended 4 end_of.Started)
     ∷ []
 
-opening_plays : Plays (Some 65535) house [] opening
+opening_plays : Plays 65535 house [] opening
 unfolding message spelling data_of request_of requests_with form_of reply_data reply_in has_place acceptor_reply
     hopper_reply common_reply reply_of ask asked asks_of asker after_echo got heard_after got_by distance judge
     life_between close crc
@@ -86,7 +86,7 @@ morning =
     ∷ both (step.Next 4) (entry.Put (record_of.Reading 4 10 0 five)) (entry.Ended 4 end_of.Posted)
     ∷ []
 
-morning_plays : Plays (Some 65535) house after_opening morning
+morning_plays : Plays 65535 house after_opening morning
 unfolding message spelling data_of request_of requests_with form_of reply_data reply_in has_place acceptor_reply
     hopper_reply common_reply reply_of ask asked asks_of asker after_echo got heard_after got_by distance judge
     life_between close crc
@@ -136,7 +136,7 @@ noon =
     ∷ both (step.Next 4) (entry.Put (record_of.Reading 4 20 0 five)) (entry.Ended 4 end_of.Posted)
     ∷ []
 
-noon_plays : Plays (Some 65535) house after_morning noon
+noon_plays : Plays 65535 house after_morning noon
 unfolding message spelling data_of request_of requests_with form_of reply_data reply_in has_place acceptor_reply
     hopper_reply common_reply reply_of ask asked asks_of asker after_echo got heard_after got_by distance judge
     life_between close crc
@@ -180,7 +180,7 @@ payouts =
     ∷ both (step.Next 5) (entry.Put (record_of.Closed 2 4 0)) (entry.Ended 5 end_of.Closed)
     ∷ []
 
-payouts_plays : Plays (Some 65535) house after_noon payouts
+payouts_plays : Plays 65535 house after_noon payouts
 unfolding message spelling data_of request_of requests_with form_of reply_data reply_in has_place acceptor_reply
     hopper_reply common_reply reply_of ask asked asks_of asker after_echo got heard_after got_by distance judge
     life_between close crc
@@ -216,7 +216,7 @@ jam =
     ∷ both (step.Next 3) (entry.Put (record_of.Closed 4 2 3)) (entry.Ended 3 end_of.Closed)
     ∷ []
 
-jam_plays : Plays (Some 65535) house after_payouts jam
+jam_plays : Plays 65535 house after_payouts jam
 unfolding message spelling data_of request_of requests_with form_of reply_data reply_in has_place acceptor_reply
     hopper_reply common_reply reply_of ask asked asks_of asker after_echo got heard_after got_by distance judge
     life_between close crc
@@ -251,7 +251,7 @@ power_cut =
     ∷ both (step.Next 6) (entry.Put (record_of.Closed 6 1 0)) (entry.Ended 6 end_of.Closed)
     ∷ []
 
-power_cut_plays : Plays (Some 65535) house after_jam power_cut
+power_cut_plays : Plays 65535 house after_jam power_cut
 unfolding message spelling data_of request_of requests_with form_of reply_data reply_in has_place acceptor_reply
     hopper_reply common_reply reply_of ask asked asks_of asker after_echo got heard_after got_by distance judge
     life_between close crc
@@ -278,7 +278,7 @@ closing =
     ∷ one step.Balance (entry.Balance (record { available = 2030; reserved = 0; paid = 820; sold = 150 }))
     ∷ []
 
-closing_plays : Plays (Some 65535) house after_power_cut closing
+closing_plays : Plays 65535 house after_power_cut closing
 unfolding message spelling data_of request_of requests_with form_of reply_data reply_in has_place acceptor_reply
     hopper_reply common_reply reply_of ask asked asks_of asker after_echo got heard_after got_by distance judge
     life_between close crc

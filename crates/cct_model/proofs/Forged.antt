@@ -152,13 +152,13 @@ abbrev unheard : List Entry
 unheard = after funded (take 6 lost_ack)
 
 -- a look at the payout comes next, and never the dispense again
-no_second_dispense : Entries (Some 65535) setup unheard (step.Next 3) (wire 3 "030401a70102030447" "030401a7010203044701000305f7" ∷ []) → ⊥
+no_second_dispense : Entries 65535 setup unheard (step.Next 3) (wire 3 "030401a70102030447" "030401a7010203044701000305f7" ∷ []) → ⊥
 unfolding message spelling data_of request_of requests_with form_of reply_data reply_in has_place acceptor_reply
     hopper_reply common_reply reply_of ask asked asks_of asker after_echo got heard_after got_by distance judge
     life_between close
 no_second_dispense e = differ (sends 167) _ _ refl refl e
 
-no_second_dispense_heard : Entries (Some 65535) setup unheard (step.Next 3) (wire 3 "030401a70102030447" "030401a7010203044701000300fc" ∷ []) → ⊥
+no_second_dispense_heard : Entries 65535 setup unheard (step.Next 3) (wire 3 "030401a70102030447" "030401a7010203044701000300fc" ∷ []) → ⊥
 unfolding message spelling data_of request_of requests_with form_of reply_data reply_in has_place acceptor_reply
     hopper_reply common_reply reply_of ask asked asks_of asker after_echo got heard_after got_by distance judge
     life_between close
@@ -182,7 +182,7 @@ abbrev was_reset : List Entry
 was_reset = after funded (take 11 lost_ack)
 
 -- closing by the status, which the reset cleared
-not_by_status : Entries (Some 65535) setup was_reset (step.Next 3) (entry.Ended 3 end_of.Closed ∷ entry.Put (record_of.Closed 41 0 4) ∷ []) → ⊥
+not_by_status : Entries 65535 setup was_reset (step.Next 3) (entry.Ended 3 end_of.Closed ∷ entry.Put (record_of.Closed 41 0 4) ∷ []) → ⊥
 unfolding message spelling data_of request_of requests_with form_of reply_data reply_in has_place acceptor_reply
     hopper_reply common_reply reply_of ask asked asks_of asker after_echo got heard_after got_by distance judge
     life_between close
@@ -245,27 +245,27 @@ unfolding message spelling data_of request_of requests_with form_of reply_data r
     life_between close
 outside_an_order e = e.1.0
 
-opened_before : Entries (Some 65535) setup (after funded (take 3 sent_first)) (step.Next 3) (wire 3 "030401a70102030447" "030401a7010203044701000300fc" ∷ []) → ⊥
+opened_before : Entries 65535 setup (after funded (take 3 sent_first)) (step.Next 3) (wire 3 "030401a70102030447" "030401a7010203044701000300fc" ∷ []) → ⊥
 unfolding message spelling data_of request_of requests_with form_of reply_data reply_in has_place acceptor_reply
     hopper_reply common_reply reply_of ask asked asks_of asker after_echo got heard_after got_by distance judge
     life_between close
 opened_before e = differ (sends 167) _ _ refl refl e
 
 -- a settlement that sends the dispense
-settlement_dispenses : Entries (Some 65535) setup (after funded (take 6 settled_after)) (step.Next 3) (wire 3 "030401a70102030447" "030401a7010203044701000305f7" ∷ []) → ⊥
+settlement_dispenses : Entries 65535 setup (after funded (take 6 settled_after)) (step.Next 3) (wire 3 "030401a70102030447" "030401a7010203044701000305f7" ∷ []) → ⊥
 unfolding message spelling data_of request_of requests_with form_of reply_data reply_in has_place acceptor_reply
     hopper_reply common_reply reply_of ask asked asks_of asker after_echo got heard_after got_by distance judge
     life_between close
 settlement_dispenses e = differ (sends 167) _ _ refl refl e
 
 -- a coin that falls out of a hopper that doesn't pay, and one that doesn't fall where it pays
-falls_from_nothing : Entries (Some 65535) setup funded (step.Fall 3) (entry.Fell 3 ∷ []) → ⊥
+falls_from_nothing : Entries 65535 setup funded (step.Fall 3) (entry.Fell 3 ∷ []) → ⊥
 unfolding message spelling data_of request_of requests_with form_of reply_data reply_in has_place acceptor_reply
     hopper_reply common_reply reply_of ask asked asks_of asker after_echo got heard_after got_by distance judge
     life_between close
 falls_from_nothing e = differ is_fell _ _ refl refl e
 
-does_not_fall : Entries (Some 65535) setup unheard (step.Fall 3) (entry.NoFall 3 ∷ []) → ⊥
+does_not_fall : Entries 65535 setup unheard (step.Fall 3) (entry.NoFall 3 ∷ []) → ⊥
 unfolding message spelling data_of request_of requests_with form_of reply_data reply_in has_place acceptor_reply
     hopper_reply common_reply reply_of ask asked asks_of asker after_echo got heard_after got_by distance judge
     life_between close
@@ -276,7 +276,7 @@ abbrev kept_and_read : List Entry
 kept_and_read = after (after [] starting) (take 8 four_calls)
 
 -- the coin is posted again behind a crash that kept it
-posted_again : Entries (Some 65535) setup kept_and_read (step.Next 2) (entry.Put (record_of.Reading 2 1 0 (coin 5 1 ∷ [])) ∷ []) → ⊥
+posted_again : Entries 65535 setup kept_and_read (step.Next 2) (entry.Put (record_of.Reading 2 1 0 (coin 5 1 ∷ [])) ∷ []) → ⊥
 unfolding message spelling data_of request_of requests_with form_of reply_data reply_in has_place acceptor_reply
     hopper_reply common_reply reply_of ask asked asks_of asker after_echo got heard_after got_by distance judge
     life_between close
@@ -301,46 +301,46 @@ abbrev crash_at : ℕ → ℕ → Step
 crash_at addr calls = step.Crash (Some (record { addr = addr; calls = calls })) 0
 
 -- a record is not kept after two disk calls, nor lost after four
-kept_too_early : Entries (Some 65535) setup posting (crash_at 2 2) (entry.Kept its_reading ∷ entry.Crash 2 ∷ []) → ⊥
+kept_too_early : Entries 65535 setup posting (crash_at 2 2) (entry.Kept its_reading ∷ entry.Crash 2 ∷ []) → ⊥
 unfolding message spelling data_of request_of requests_with form_of reply_data reply_in has_place acceptor_reply
     hopper_reply common_reply reply_of ask asked asks_of asker after_echo got heard_after got_by distance judge
     life_between close
 kept_too_early e = elim e [ inl w ↦ differ is_kept _ _ refl refl w.1 | inr w ↦ absurd (omega (w.0, arith)) ]
 
-lost_too_late : Entries (Some 65535) setup posting (crash_at 2 4) (entry.Crash 1 ∷ []) → ⊥
+lost_too_late : Entries 65535 setup posting (crash_at 2 4) (entry.Crash 1 ∷ []) → ⊥
 unfolding message spelling data_of request_of requests_with form_of reply_data reply_in has_place acceptor_reply
     hopper_reply common_reply reply_of ask asked asks_of asker after_echo got heard_after got_by distance judge
     life_between close
 lost_too_late e = elim e [ inl w ↦ absurd (omega (w.0, arith)) | inr w ↦ differ is_kept _ _ refl refl (sym w.1) ]
 
 -- a record is kept that no job at the address was putting, or in no put
-kept_at_other : Entries (Some 65535) setup posting (crash_at 3 4) (entry.Kept its_reading ∷ entry.Crash 2 ∷ []) → ⊥
+kept_at_other : Entries 65535 setup posting (crash_at 3 4) (entry.Kept its_reading ∷ entry.Crash 2 ∷ []) → ⊥
 unfolding message spelling data_of request_of requests_with form_of reply_data reply_in has_place acceptor_reply
     hopper_reply common_reply reply_of ask asked asks_of asker after_echo got heard_after got_by distance judge
     life_between close
 kept_at_other e = differ is_kept _ _ refl refl e
 
-kept_at_none : Entries (Some 65535) setup posting (step.Crash None 0) (entry.Kept its_reading ∷ entry.Crash 2 ∷ []) → ⊥
+kept_at_none : Entries 65535 setup posting (step.Crash None 0) (entry.Kept its_reading ∷ entry.Crash 2 ∷ []) → ⊥
 unfolding message spelling data_of request_of requests_with form_of reply_data reply_in has_place acceptor_reply
     hopper_reply common_reply reply_of ask asked asks_of asker after_echo got heard_after got_by distance judge
     life_between close
 kept_at_none e = differ is_kept _ _ refl refl e
 
-kept_of_nothing : Entries (Some 65535) setup funded (crash_at 2 4) (entry.Kept its_reading ∷ entry.Crash 3 ∷ []) → ⊥
+kept_of_nothing : Entries 65535 setup funded (crash_at 2 4) (entry.Kept its_reading ∷ entry.Crash 3 ∷ []) → ⊥
 unfolding message spelling data_of request_of requests_with form_of reply_data reply_in has_place acceptor_reply
     hopper_reply common_reply reply_of ask asked asks_of asker after_echo got heard_after got_by distance judge
     life_between close
 kept_of_nothing e = differ is_kept _ _ refl refl e
 
 -- another record is kept than the one of the put
-kept_another : Entries (Some 65535) setup posting (crash_at 2 4) (entry.Kept (record_of.Reading 2 2 0 (coin 5 1 ∷ [])) ∷ entry.Crash 2 ∷ []) → ⊥
+kept_another : Entries 65535 setup posting (crash_at 2 4) (entry.Kept (record_of.Reading 2 2 0 (coin 5 1 ∷ [])) ∷ entry.Crash 2 ∷ []) → ⊥
 unfolding message spelling data_of request_of requests_with form_of reply_data reply_in has_place acceptor_reply
     hopper_reply common_reply reply_of ask asked asks_of asker after_echo got heard_after got_by distance judge
     life_between close
 kept_another e = elim e [ inl w ↦ absurd (omega (w.0, arith)) | inr w ↦ differ (keeps_counter 2) _ _ refl refl w.1 ]
 
 -- the host starts over another number of records
-counted_wrong : Entries (Some 65535) setup posting (crash_at 2 4) (entry.Kept its_reading ∷ entry.Crash 1 ∷ []) → ⊥
+counted_wrong : Entries 65535 setup posting (crash_at 2 4) (entry.Kept its_reading ∷ entry.Crash 1 ∷ []) → ⊥
 unfolding message spelling data_of request_of requests_with form_of reply_data reply_in has_place acceptor_reply
     hopper_reply common_reply reply_of ask asked asks_of asker after_echo got heard_after got_by distance judge
     life_between close
@@ -355,25 +355,25 @@ abbrev epoch_lost : List Entry
 epoch_lost = after [] (take 4 epoch_not_kept)
 
 -- orders, epochs and jobs that are kept in memory over a crash
-order_in_memory : Entries (Some 65535) setup order_lost (step.Command (command.Pay 3 42 1)) (entry.No (command.Pay 3 42 1) (command_no.OrderOpen 41) ∷ []) → ⊥
+order_in_memory : Entries 65535 setup order_lost (step.Command (command.Pay 3 42 1)) (entry.No (command.Pay 3 42 1) (command_no.OrderOpen 41) ∷ []) → ⊥
 unfolding message spelling data_of request_of requests_with form_of reply_data reply_in has_place acceptor_reply
     hopper_reply common_reply reply_of ask asked asks_of asker after_echo got heard_after got_by distance judge
     life_between close
 order_in_memory e = differ is_refused _ _ refl refl e
 
-settles_from_memory : Entries (Some 65535) setup order_lost (step.Command (command.Settle 3)) (entry.Taken (command.Settle 3) ∷ []) → ⊥
+settles_from_memory : Entries 65535 setup order_lost (step.Command (command.Settle 3)) (entry.Taken (command.Settle 3) ∷ []) → ⊥
 unfolding message spelling data_of request_of requests_with form_of reply_data reply_in has_place acceptor_reply
     hopper_reply common_reply reply_of ask asked asks_of asker after_echo got heard_after got_by distance judge
     life_between close
 settles_from_memory e = differ is_refused _ _ refl refl (sym e)
 
-epoch_in_memory : Entries (Some 65535) setup epoch_lost (step.Command (command.Round 2)) (entry.Taken (command.Round 2) ∷ []) → ⊥
+epoch_in_memory : Entries 65535 setup epoch_lost (step.Command (command.Round 2)) (entry.Taken (command.Round 2) ∷ []) → ⊥
 unfolding message spelling data_of request_of requests_with form_of reply_data reply_in has_place acceptor_reply
     hopper_reply common_reply reply_of ask asked asks_of asker after_echo got heard_after got_by distance judge
     life_between close
 epoch_in_memory e = differ is_refused _ _ refl refl (sym e)
 
-job_in_memory : Entries (Some 65535) setup order_lost (step.Next 3) (wire 3 "030401a70102030447" "030401a7010203044701000300fc" ∷ []) → ⊥
+job_in_memory : Entries 65535 setup order_lost (step.Next 3) (wire 3 "030401a70102030447" "030401a7010203044701000300fc" ∷ []) → ⊥
 unfolding message spelling data_of request_of requests_with form_of reply_data reply_in has_place acceptor_reply
     hopper_reply common_reply reply_of ask asked asks_of asker after_echo got heard_after got_by distance judge
     life_between close
@@ -383,14 +383,14 @@ job_in_memory e = differ (sends 167) _ _ refl refl e
 abbrev epoch_there : List Entry
 epoch_there = entry.Crash 1 ∷ after [] starting
 
-epoch_forgotten : Entries (Some 65535) setup epoch_there (step.Command (command.Round 2)) (entry.No (command.Round 2) command_no.NoEpoch ∷ []) → ⊥
+epoch_forgotten : Entries 65535 setup epoch_there (step.Command (command.Round 2)) (entry.No (command.Round 2) command_no.NoEpoch ∷ []) → ⊥
 unfolding message spelling data_of request_of requests_with form_of reply_data reply_in has_place acceptor_reply
     hopper_reply common_reply reply_of ask asked asks_of asker after_echo got heard_after got_by distance judge
     life_between close
 epoch_forgotten e = differ is_refused _ _ refl refl e
 
 -- the event counter in a record of its own, before the coins: a coin would be lost in silence
-counter_alone : Entries (Some 65535) setup posting (step.Next 2) (entry.Ended 2 end_of.Posted ∷ entry.Put (record_of.Reading 2 1 0 []) ∷ []) → ⊥
+counter_alone : Entries 65535 setup posting (step.Next 2) (entry.Ended 2 end_of.Posted ∷ entry.Put (record_of.Reading 2 1 0 []) ∷ []) → ⊥
 unfolding message spelling data_of request_of requests_with form_of reply_data reply_in has_place acceptor_reply
     hopper_reply common_reply reply_of ask asked asks_of asker after_echo got heard_after got_by distance judge
     life_between close

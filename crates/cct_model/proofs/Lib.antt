@@ -3,8 +3,10 @@ pub use Rattle.cct_lines.proofs.Requests
 pub use Rattle.cct_lines.proofs.Hoppers
 pub use Rattle.cct_lines.proofs.Replaced
 pub use Rattle.cct_lines.proofs.Added
+pub use Rattle.cct_lines.proofs.Sound
 pub mod Polls
 pub mod Doses
+pub mod OpenOrders
 mod Vectors
 mod Machine
 mod Payments

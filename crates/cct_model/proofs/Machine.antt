@@ -1,6 +1,6 @@
 -- A small machine, and what its host and its devices do on it: an acceptor at address 2 with coins of value 100, and a
 -- hopper at address 3 with coins of value 10.
-use Rattle.std.proofs.Common.{ℕ, ◌+◌, ◌-◌, ◌*◌, nat_lt, List, [], ◌∷◌, ◌++◌, map, replicate, false, cond, Option, refl}
+use Rattle.std.proofs.Common.{ℕ, ◌+◌, ◌-◌, ◌*◌, nat_lt, List, [], ◌∷◌, ◌++◌, map, replicate, false, cond, refl}
 use Prim.Native.String.{String}
 use Rattle.std.specs.Prelude.{codes, ⊤}
 use Rattle.cct_model.specs.terms.coin.Coin.{Coin}
@@ -71,7 +71,7 @@ pub record Row : Type 0 where
   pub news : List Entry
 
 -- each of these rows has the entries of its step, after the rows before it
-abbrev pub Plays : Option ℕ → Setup → List Entry → List Row → Type 0
+abbrev pub Plays : ℕ → Setup → List Entry → List Row → Type 0
 Plays capacity the past [] = ⊤
 Plays capacity the past (row ∷ rows) = Entries capacity the past row.play row.news × Plays capacity the (row.news ++ past) rows
 
@@ -80,7 +80,7 @@ abbrev pub after : List Entry → List Row → List Entry
 after past [] = past
 after past (row ∷ rows) = after (row.news ++ past) rows
 
-pub plays_legal : (capacity : Option ℕ) (the : Setup) (past : List Entry) (rows : List Row) → Plays capacity the past rows
+pub plays_legal : (capacity : ℕ) (the : Setup) (past : List Entry) (rows : List Row) → Plays capacity the past rows
     → LegalFrom capacity the past (map (λ row. row.play) rows) (after past rows)
 plays_legal capacity the past [] plays = refl
 plays_legal capacity the past (row ∷ rows) plays = (row.news, plays.0, plays_legal capacity the (row.news ++ past) rows plays.1)

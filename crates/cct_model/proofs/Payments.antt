@@ -1,5 +1,5 @@
 -- Payments and a sale, row by row: the bytes that are sent and heard, the records put, and how each job ends.
-use Rattle.std.proofs.Common.{[], ◌∷◌, List, Some}
+use Rattle.std.proofs.Common.{[], ◌∷◌, List}
 use Rattle.cct_model.specs.Message.{message, spelling}
 use Rattle.cct_model.specs.Request.{data_of, request_of, requests_with, form_of}
 use Rattle.cct_model.specs.Reply.{reply_data, reply_in}
@@ -20,7 +20,7 @@ use Rattle.cct_model.specs.lines.entry.Entry.TheVariants as entry
 use Rattle.cct_model.specs.lines.entry.End.TheVariants as end_of
 use Rattle.cct_model.proofs.Machine.{Row, Plays, setup, funding, funded, one, both, wire}
 
-funding_plays : Plays (Some 65535) setup [] funding
+funding_plays : Plays 65535 setup [] funding
 unfolding message spelling data_of request_of requests_with form_of reply_data reply_in has_place acceptor_reply
     hopper_reply common_reply reply_of ask asked asks_of asker after_echo got heard_after got_by distance judge
     life_between close
@@ -43,7 +43,7 @@ paid =
     ∷ both (step.Next 3) (entry.Put (record_of.Closed 41 4 0)) (entry.Ended 3 end_of.Closed)
     ∷ []
 
-paid_plays : Plays (Some 65535) setup funded paid
+paid_plays : Plays 65535 setup funded paid
 unfolding message spelling data_of request_of requests_with form_of reply_data reply_in has_place acceptor_reply
     hopper_reply common_reply reply_of ask asked asks_of asker after_echo got heard_after got_by distance judge
     life_between close
@@ -66,7 +66,7 @@ lost_ack =
     ∷ both (step.Next 3) (entry.Put (record_of.Closed 41 2 2)) (entry.Ended 3 end_of.Closed)
     ∷ []
 
-lost_ack_plays : Plays (Some 65535) setup funded lost_ack
+lost_ack_plays : Plays 65535 setup funded lost_ack
 unfolding message spelling data_of request_of requests_with form_of reply_data reply_in has_place acceptor_reply
     hopper_reply common_reply reply_of ask asked asks_of asker after_echo got heard_after got_by distance judge
     life_between close
@@ -88,7 +88,7 @@ lost_dispense =
     ∷ both (step.Next 3) (entry.Put (record_of.Closed 41 0 4)) (entry.Ended 3 end_of.Closed)
     ∷ []
 
-lost_dispense_plays : Plays (Some 65535) setup funded lost_dispense
+lost_dispense_plays : Plays 65535 setup funded lost_dispense
 unfolding message spelling data_of request_of requests_with form_of reply_data reply_in has_place acceptor_reply
     hopper_reply common_reply reply_of ask asked asks_of asker after_echo got heard_after got_by distance judge
     life_between close
@@ -118,7 +118,7 @@ given_up =
     ∷ one (step.Command (command.Settle 3)) (entry.No (command.Settle 3) command_no.NoOrder)
     ∷ []
 
-given_up_plays : Plays (Some 65535) setup funded given_up
+given_up_plays : Plays 65535 setup funded given_up
 unfolding message spelling data_of request_of requests_with form_of reply_data reply_in has_place acceptor_reply
     hopper_reply common_reply reply_of ask asked asks_of asker after_echo got heard_after got_by distance judge
     life_between close
@@ -144,7 +144,7 @@ halted =
     ∷ one (step.Command (command.Halt 3)) (entry.No (command.Halt 3) command_no.NoPayout)
     ∷ []
 
-halted_plays : Plays (Some 65535) setup funded halted
+halted_plays : Plays 65535 setup funded halted
 unfolding message spelling data_of request_of requests_with form_of reply_data reply_in has_place acceptor_reply
     hopper_reply common_reply reply_of ask asked asks_of asker after_echo got heard_after got_by distance judge
     life_between close
@@ -168,7 +168,7 @@ halted_twice =
     ∷ both (step.Next 3) (entry.Put (record_of.Closed 41 1 3)) (entry.Ended 3 end_of.Closed)
     ∷ []
 
-halted_twice_plays : Plays (Some 65535) setup funded halted_twice
+halted_twice_plays : Plays 65535 setup funded halted_twice
 unfolding message spelling data_of request_of requests_with form_of reply_data reply_in has_place acceptor_reply
     hopper_reply common_reply reply_of ask asked asks_of asker after_echo got heard_after got_by distance judge
     life_between close
@@ -190,7 +190,7 @@ halted_at_once =
     ∷ both (step.Next 3) (entry.Put (record_of.Closed 41 0 4)) (entry.Ended 3 end_of.Closed)
     ∷ []
 
-halted_at_once_plays : Plays (Some 65535) setup funded halted_at_once
+halted_at_once_plays : Plays 65535 setup funded halted_at_once
 unfolding message spelling data_of request_of requests_with form_of reply_data reply_in has_place acceptor_reply
     hopper_reply common_reply reply_of ask asked asks_of asker after_echo got heard_after got_by distance judge
     life_between close
@@ -211,7 +211,7 @@ halted_early =
     ∷ both (step.Next 3) (entry.Put (record_of.Closed 41 0 4)) (entry.Ended 3 end_of.Closed)
     ∷ []
 
-halted_early_plays : Plays (Some 65535) setup funded halted_early
+halted_early_plays : Plays 65535 setup funded halted_early
 unfolding message spelling data_of request_of requests_with form_of reply_data reply_in has_place acceptor_reply
     hopper_reply common_reply reply_of ask asked asks_of asker after_echo got heard_after got_by distance judge
     life_between close
@@ -244,7 +244,7 @@ tries_anew =
     ∷ both (step.Next 3) (entry.Put (record_of.Closed 41 0 2)) (entry.Ended 3 end_of.Closed)
     ∷ []
 
-tries_anew_plays : Plays (Some 65535) setup funded tries_anew
+tries_anew_plays : Plays 65535 setup funded tries_anew
 unfolding message spelling data_of request_of requests_with form_of reply_data reply_in has_place acceptor_reply
     hopper_reply common_reply reply_of ask asked asks_of asker after_echo got heard_after got_by distance judge
     life_between close
@@ -279,7 +279,7 @@ stop_given_up =
     ∷ both (step.Next 3) (entry.Put (record_of.Closed 41 0 2)) (entry.Ended 3 end_of.Closed)
     ∷ []
 
-stop_given_up_plays : Plays (Some 65535) setup funded stop_given_up
+stop_given_up_plays : Plays 65535 setup funded stop_given_up
 unfolding message spelling data_of request_of requests_with form_of reply_data reply_in has_place acceptor_reply
     hopper_reply common_reply reply_of ask asked asks_of asker after_echo got heard_after got_by distance judge
     life_between close
@@ -310,7 +310,7 @@ tries_go_on =
     ∷ both (step.Next 3) (entry.Put (record_of.Closed 41 2 0)) (entry.Ended 3 end_of.Closed)
     ∷ []
 
-tries_go_on_plays : Plays (Some 65535) setup funded tries_go_on
+tries_go_on_plays : Plays 65535 setup funded tries_go_on
 unfolding message spelling data_of request_of requests_with form_of reply_data reply_in has_place acceptor_reply
     hopper_reply common_reply reply_of ask asked asks_of asker after_echo got heard_after got_by distance judge
     life_between close
@@ -333,7 +333,7 @@ jammed =
     ∷ both (step.Next 3) (entry.Put (record_of.Closed 41 1 3)) (entry.Ended 3 end_of.Closed)
     ∷ []
 
-jammed_plays : Plays (Some 65535) setup funded jammed
+jammed_plays : Plays 65535 setup funded jammed
 unfolding message spelling data_of request_of requests_with form_of reply_data reply_in has_place acceptor_reply
     hopper_reply common_reply reply_of ask asked asks_of asker after_echo got heard_after got_by distance judge
     life_between close
@@ -354,7 +354,7 @@ refused_dispense =
     ∷ both (step.Next 3) (entry.Put (record_of.Closed 41 0 4)) (entry.Ended 3 end_of.Closed)
     ∷ []
 
-refused_dispense_plays : Plays (Some 65535) setup funded refused_dispense
+refused_dispense_plays : Plays 65535 setup funded refused_dispense
 unfolding message spelling data_of request_of requests_with form_of reply_data reply_in has_place acceptor_reply
     hopper_reply common_reply reply_of ask asked asks_of asker after_echo got heard_after got_by distance judge
     life_between close
@@ -384,7 +384,7 @@ one_after_another =
     ∷ both (step.Next 3) (entry.Put (record_of.Closed 42 2 0)) (entry.Ended 3 end_of.Closed)
     ∷ []
 
-one_after_another_plays : Plays (Some 65535) setup funded one_after_another
+one_after_another_plays : Plays 65535 setup funded one_after_another
 unfolding message spelling data_of request_of requests_with form_of reply_data reply_in has_place acceptor_reply
     hopper_reply common_reply reply_of ask asked asks_of asker after_echo got heard_after got_by distance judge
     life_between close
@@ -400,7 +400,7 @@ sold =
     ∷ one step.Balance (entry.Balance (record { available = 70; reserved = 0; paid = 0; sold = 30 }))
     ∷ []
 
-sold_plays : Plays (Some 65535) setup funded sold
+sold_plays : Plays 65535 setup funded sold
 unfolding message spelling data_of request_of requests_with form_of reply_data reply_in has_place acceptor_reply
     hopper_reply common_reply reply_of ask asked asks_of asker after_echo got heard_after got_by distance judge
     life_between close

@@ -224,5 +224,5 @@ idle =
     ∷ one (step.Reset 3) (entry.Reset 3)
     ∷ []
 
-idle_plays : Plays (Some 65535) setup [] idle
+idle_plays : Plays 65535 setup [] idle
 idle_plays = search

@@ -71,246 +71,233 @@ sparse = record {
 }
 
 -- a start
-start_nowhere : refusal (Some 0) setup crowded (Start 9 65535) ≡ Some NoDevice
+start_nowhere : refusal 0 setup crowded (Start 9 65535) ≡ Some NoDevice
 start_nowhere = refl
 
-start_at_hopper : refusal (Some 0) setup crowded (Start 3 65535) ≡ Some WrongKind
+start_at_hopper : refusal 0 setup crowded (Start 3 65535) ≡ Some WrongKind
 start_at_hopper = refl
 
-start_busy : refusal (Some 0) setup crowded (Start 2 65535) ≡ Some Busy
+start_busy : refusal 0 setup crowded (Start 2 65535) ≡ Some Busy
 start_busy = refl
 
-start_twice : refusal (Some 0) sparse posted (Start 2 65535) ≡ Some EpochRuns
+start_twice : refusal 0 sparse posted (Start 2 65535) ≡ Some EpochRuns
 start_twice = refl
 
-start_without_value : refusal (Some 0) sparse [] (Start 2 65535) ≡ Some (NoValue 3)
+start_without_value : refusal 0 sparse [] (Start 2 65535) ≡ Some (NoValue 3)
 unfolding has_place
 start_without_value = refl
 
-start_without_later_value : refusal (Some 0) sparse [] (Start 2 16) ≡ Some (NoValue 5)
+start_without_later_value : refusal 0 sparse [] (Start 2 16) ≡ Some (NoValue 5)
 unfolding has_place
 start_without_later_value = refl
 
-start_full : refusal (Some 0) sparse [] (Start 2 3) ≡ Some (JournalFull 0 0 1)
+start_full : refusal 0 sparse [] (Start 2 3) ≡ Some (JournalFull 0 0 1)
 unfolding has_place
 start_full = refl
 
-start_last : refusal (Some 1) sparse [] (Start 2 3) ≡ None
+start_last : refusal 1 sparse [] (Start 2 3) ≡ None
 unfolding has_place
 start_last = refl
 
-start_again : refusal (Some 4) sparse (Put (EpochEnd 2) ∷ posted) (Start 2 3) ≡ None
+start_again : refusal 4 sparse (Put (EpochEnd 2) ∷ posted) (Start 2 3) ≡ None
 unfolding has_place
 start_again = refl
 
 -- a round
-round_nowhere : refusal (Some 0) setup crowded (Round 9) ≡ Some NoDevice
+round_nowhere : refusal 0 setup crowded (Round 9) ≡ Some NoDevice
 round_nowhere = refl
 
-round_at_hopper : refusal (Some 0) setup crowded (Round 3) ≡ Some WrongKind
+round_at_hopper : refusal 0 setup crowded (Round 3) ≡ Some WrongKind
 round_at_hopper = refl
 
-round_busy : refusal (Some 0) setup (Taken (Round 2) ∷ []) (Round 2) ≡ Some Busy
+round_busy : refusal 0 setup (Taken (Round 2) ∷ []) (Round 2) ≡ Some Busy
 round_busy = refl
 
-round_idle : refusal (Some 0) setup [] (Round 2) ≡ Some NoEpoch
+round_idle : refusal 0 setup [] (Round 2) ≡ Some NoEpoch
 round_idle = refl
 
-round_ended : refusal (Some 0) setup (Put (EpochEnd 2) ∷ posted) (Round 2) ≡ Some NoEpoch
+round_ended : refusal 0 setup (Put (EpochEnd 2) ∷ posted) (Round 2) ≡ Some NoEpoch
 round_ended = refl
 
-round_full : refusal (Some 2) setup posted (Round 2) ≡ Some (JournalFull 2 0 1)
+round_full : refusal 2 setup posted (Round 2) ≡ Some (JournalFull 2 0 1)
 round_full = refl
 
-round_last : refusal (Some 3) setup posted (Round 2) ≡ None
+round_last : refusal 3 setup posted (Round 2) ≡ None
 round_last = refl
 
 -- a stop
-stop_nowhere : refusal (Some 0) setup crowded (Stop 9) ≡ Some NoDevice
+stop_nowhere : refusal 0 setup crowded (Stop 9) ≡ Some NoDevice
 stop_nowhere = refl
 
-stop_at_hopper : refusal (Some 0) setup crowded (Stop 3) ≡ Some WrongKind
+stop_at_hopper : refusal 0 setup crowded (Stop 3) ≡ Some WrongKind
 stop_at_hopper = refl
 
-stop_busy : refusal (Some 0) setup (Taken (Round 2) ∷ []) (Stop 2) ≡ Some Busy
+stop_busy : refusal 0 setup (Taken (Round 2) ∷ []) (Stop 2) ≡ Some Busy
 stop_busy = refl
 
-stop_idle : refusal (Some 0) setup [] (Stop 2) ≡ Some NoEpoch
+stop_idle : refusal 0 setup [] (Stop 2) ≡ Some NoEpoch
 stop_idle = refl
 
-stop_ended : refusal (Some 0) setup (Put (EpochEnd 2) ∷ posted) (Stop 2) ≡ Some NoEpoch
+stop_ended : refusal 0 setup (Put (EpochEnd 2) ∷ posted) (Stop 2) ≡ Some NoEpoch
 stop_ended = refl
 
-stop_full : refusal (Some 3) setup posted (Stop 2) ≡ Some (JournalFull 2 0 2)
+stop_full : refusal 3 setup posted (Stop 2) ≡ Some (JournalFull 2 0 2)
 stop_full = refl
 
-stop_last : refusal (Some 4) setup posted (Stop 2) ≡ None
+stop_last : refusal 4 setup posted (Stop 2) ≡ None
 stop_last = refl
 
 -- a payment
-pay_nowhere : refusal (Some 0) setup crowded (Pay 9 41 255) ≡ Some NoDevice
+pay_nowhere : refusal 0 setup crowded (Pay 9 41 255) ≡ Some NoDevice
 pay_nowhere = refl
 
-pay_at_acceptor : refusal (Some 0) setup crowded (Pay 2 41 255) ≡ Some WrongKind
+pay_at_acceptor : refusal 0 setup crowded (Pay 2 41 255) ≡ Some WrongKind
 pay_at_acceptor = refl
 
-pay_busy : refusal (Some 0) setup crowded (Pay 3 41 255) ≡ Some Busy
+pay_busy : refusal 0 setup crowded (Pay 3 41 255) ≡ Some Busy
 pay_busy = refl
 
-pay_open : refusal (Some 0) setup owing (Pay 3 41 255) ≡ Some (OrderOpen 41)
+pay_open : refusal 0 setup owing (Pay 3 41 255) ≡ Some (OrderOpen 41)
 pay_open = refl
 
-pay_old : refusal (Some 0) setup settled (Pay 3 41 255) ≡ Some (OldId 41)
+pay_old : refusal 0 setup settled (Pay 3 41 255) ≡ Some (OldId 41)
 pay_old = refl
 
-pay_old_of_sale : refusal (Some 0) setup (Taken (Vend 50 1) ∷ settled) (Pay 3 50 255) ≡ Some (OldId 50)
+pay_old_of_sale : refusal 0 setup (Taken (Vend 50 1) ∷ settled) (Pay 3 50 255) ≡ Some (OldId 50)
 pay_old_of_sale = refl
 
-pay_short : refusal (Some 0) setup settled (Pay 3 42 255) ≡ Some (Short 60)
+pay_short : refusal 0 setup settled (Pay 3 42 255) ≡ Some (Short 60)
 pay_short = refl
 
-pay_just_short : refusal (Some 0) setup settled (Pay 3 42 7) ≡ Some (Short 60)
+pay_just_short : refusal 0 setup settled (Pay 3 42 7) ≡ Some (Short 60)
 pay_just_short = refl
 
 -- the journal of three records that has two finds no room for the two of a payment
-pay_full : refusal (Some 3) setup posted (Pay 3 41 4) ≡ Some (JournalFull 2 0 2)
+pay_full : refusal 3 setup posted (Pay 3 41 4) ≡ Some (JournalFull 2 0 2)
 pay_full = refl
 
-pay_last : refusal (Some 4) setup posted (Pay 3 41 10) ≡ None
+pay_last : refusal 4 setup posted (Pay 3 41 10) ≡ None
 pay_last = refl
 
-pay_full_beside_a_round : refusal (Some 4) setup (Taken (Round 2) ∷ posted) (Pay 3 41 10) ≡ Some (JournalFull 2 1 2)
+pay_full_beside_a_round : refusal 4 setup (Taken (Round 2) ∷ posted) (Pay 3 41 10) ≡ Some (JournalFull 2 1 2)
 pay_full_beside_a_round = refl
 
--- without a capacity there is no test of what is available, nor of the journal
-pay_unlimited : refusal None setup posted (Pay 3 41 255) ≡ None
-pay_unlimited = refl
-
-pay_old_unlimited : refusal None setup settled (Pay 3 41 255) ≡ Some (OldId 41)
-pay_old_unlimited = refl
-
 -- a payment that has put nothing reserves its coins, and so does an open order
-pay_reserved : refusal (Some 65535) setup (Taken (Vend 50 70) ∷ posted) (Pay 3 51 4) ≡ Some (Short 30)
+pay_reserved : refusal 65535 setup (Taken (Vend 50 70) ∷ posted) (Pay 3 51 4) ≡ Some (Short 30)
 pay_reserved = refl
 
-vend_beside_payment : refusal (Some 65535) setup paying (Vend 43 61) ≡ Some (Short 60)
+vend_beside_payment : refusal 65535 setup paying (Vend 43 61) ≡ Some (Short 60)
 vend_beside_payment = refl
 
-vend_beside_order : refusal (Some 65535) setup owing (Vend 43 61) ≡ Some (Short 60)
+vend_beside_order : refusal 65535 setup owing (Vend 43 61) ≡ Some (Short 60)
 vend_beside_order = refl
 
-vend_behind_opened : refusal (Some 65535) setup opened (Vend 43 61) ≡ Some (Short 60)
+vend_behind_opened : refusal 65535 setup opened (Vend 43 61) ≡ Some (Short 60)
 unfolding message spelling request_of requests_with form_of reply_in asked asks_of after_echo got got_by
 vend_behind_opened = refl
 
 -- a settlement
-settle_nowhere : refusal (Some 0) setup crowded (Settle 9) ≡ Some NoDevice
+settle_nowhere : refusal 0 setup crowded (Settle 9) ≡ Some NoDevice
 settle_nowhere = refl
 
-settle_at_acceptor : refusal (Some 0) setup crowded (Settle 2) ≡ Some WrongKind
+settle_at_acceptor : refusal 0 setup crowded (Settle 2) ≡ Some WrongKind
 settle_at_acceptor = refl
 
-settle_busy : refusal (Some 0) setup crowded (Settle 3) ≡ Some Busy
+settle_busy : refusal 0 setup crowded (Settle 3) ≡ Some Busy
 settle_busy = refl
 
-settle_nothing : refusal (Some 0) setup settled (Settle 3) ≡ Some NoOrder
+settle_nothing : refusal 0 setup settled (Settle 3) ≡ Some NoOrder
 settle_nothing = refl
 
-settle_full : refusal (Some 3) setup owing (Settle 3) ≡ Some (JournalFull 3 1 0)
+settle_full : refusal 3 setup owing (Settle 3) ≡ Some (JournalFull 3 1 0)
 settle_full = refl
 
-settle_last : refusal (Some 4) setup owing (Settle 3) ≡ None
+settle_last : refusal 4 setup owing (Settle 3) ≡ None
 settle_last = refl
 
-settle_unlimited : refusal None setup owing (Settle 3) ≡ None
-settle_unlimited = refl
-
 -- a halt, which is taken up to the look that shows nothing left to pay
-halt_nowhere : refusal (Some 0) setup sent (Halt 9) ≡ Some NoDevice
+halt_nowhere : refusal 0 setup sent (Halt 9) ≡ Some NoDevice
 halt_nowhere = refl
 
-halt_at_acceptor : refusal (Some 0) setup sent (Halt 2) ≡ Some WrongKind
+halt_at_acceptor : refusal 0 setup sent (Halt 2) ≡ Some WrongKind
 halt_at_acceptor = refl
 
-halt_idle : refusal (Some 0) setup owing (Halt 3) ≡ Some NoPayout
+halt_idle : refusal 0 setup owing (Halt 3) ≡ Some NoPayout
 halt_idle = refl
 
-halt_other : refusal (Some 0) setup (Taken (Ident 3) ∷ owing) (Halt 3) ≡ Some NoPayout
+halt_other : refusal 0 setup (Taken (Ident 3) ∷ owing) (Halt 3) ≡ Some NoPayout
 halt_other = refl
 
-halt_first : refusal (Some 0) setup paying (Halt 3) ≡ None
+halt_first : refusal 0 setup paying (Halt 3) ≡ None
 halt_first = refl
 
-halt_sent : refusal (Some 0) setup sent (Halt 3) ≡ None
+halt_sent : refusal 0 setup sent (Halt 3) ≡ None
 unfolding message spelling request_of requests_with form_of reply_in asked asks_of after_echo got got_by
 halt_sent = refl
 
-halt_empty : refusal (Some 0) setup empty (Halt 3) ≡ Some NoPayout
+halt_empty : refusal 0 setup empty (Halt 3) ≡ Some NoPayout
 unfolding message spelling request_of requests_with form_of reply_in asked asks_of after_echo got got_by
 halt_empty = refl
 
-halt_settling : refusal (Some 0) setup (Taken (Settle 3) ∷ owing) (Halt 3) ≡ None
+halt_settling : refusal 0 setup (Taken (Settle 3) ∷ owing) (Halt 3) ≡ None
 halt_settling = refl
 
-halt_settled : refusal (Some 0) setup (wire 3 "030001a656" "030001a6560104030001000400f3" ∷ Taken (Settle 3) ∷ owing) (Halt 3) ≡ Some NoPayout
+halt_settled : refusal 0 setup (wire 3 "030001a656" "030001a6560104030001000400f3" ∷ Taken (Settle 3) ∷ owing) (Halt 3) ≡ Some NoPayout
 unfolding message spelling request_of requests_with form_of reply_in asked asks_of after_echo got got_by
 halt_settled = refl
 
 -- a scan, an identification and the setting of a path
-scan_busy : refusal (Some 0) setup crowded (Scan) ≡ Some Busy
+scan_busy : refusal 0 setup crowded (Scan) ≡ Some Busy
 scan_busy = refl
 
-scan_free : refusal (Some 0) setup posted (Scan) ≡ None
+scan_free : refusal 0 setup posted (Scan) ≡ None
 scan_free = refl
 
-ident_nowhere : refusal (Some 0) setup crowded (Ident 9) ≡ Some NoDevice
+ident_nowhere : refusal 0 setup crowded (Ident 9) ≡ Some NoDevice
 ident_nowhere = refl
 
-ident_busy : refusal (Some 0) setup crowded (Ident 3) ≡ Some Busy
+ident_busy : refusal 0 setup crowded (Ident 3) ≡ Some Busy
 ident_busy = refl
 
-ident_free : refusal (Some 0) setup posted (Ident 3) ≡ None
+ident_free : refusal 0 setup posted (Ident 3) ≡ None
 ident_free = refl
 
-path_nowhere : refusal (Some 0) setup crowded (Path 9 1 1) ≡ Some NoDevice
+path_nowhere : refusal 0 setup crowded (Path 9 1 1) ≡ Some NoDevice
 path_nowhere = refl
 
-path_at_hopper : refusal (Some 0) setup crowded (Path 3 1 1) ≡ Some WrongKind
+path_at_hopper : refusal 0 setup crowded (Path 3 1 1) ≡ Some WrongKind
 path_at_hopper = refl
 
-path_busy : refusal (Some 0) setup crowded (Path 2 1 1) ≡ Some Busy
+path_busy : refusal 0 setup crowded (Path 2 1 1) ≡ Some Busy
 path_busy = refl
 
-path_free : refusal (Some 0) setup posted (Path 2 1 1) ≡ None
+path_free : refusal 0 setup posted (Path 2 1 1) ≡ None
 path_free = refl
 
 -- a sale
-vend_busy : refusal (Some 0) setup crowded (Vend 7 255) ≡ Some Busy
+vend_busy : refusal 0 setup crowded (Vend 7 255) ≡ Some Busy
 vend_busy = refl
 
-vend_old : refusal (Some 0) setup settled (Vend 41 255) ≡ Some (OldId 41)
+vend_old : refusal 0 setup settled (Vend 41 255) ≡ Some (OldId 41)
 vend_old = refl
 
-vend_old_of_payment : refusal (Some 0) setup paying (Vend 42 255) ≡ Some (OldId 42)
+vend_old_of_payment : refusal 0 setup paying (Vend 42 255) ≡ Some (OldId 42)
 vend_old_of_payment = refl
 
-vend_old_of_sale : refusal (Some 0) setup (Put (Sold 9 10) ∷ posted) (Vend 8 255) ≡ Some (OldId 9)
+vend_old_of_sale : refusal 0 setup (Put (Sold 9 10) ∷ posted) (Vend 8 255) ≡ Some (OldId 9)
 vend_old_of_sale = refl
 
-vend_short : refusal (Some 0) setup posted (Vend 5 101) ≡ Some (Short 100)
+vend_short : refusal 0 setup posted (Vend 5 101) ≡ Some (Short 100)
 vend_short = refl
 
-vend_full : refusal (Some 2) setup posted (Vend 5 100) ≡ Some (JournalFull 2 0 1)
+vend_full : refusal 2 setup posted (Vend 5 100) ≡ Some (JournalFull 2 0 1)
 vend_full = refl
 
-vend_last : refusal (Some 3) setup posted (Vend 5 100) ≡ None
+vend_last : refusal 3 setup posted (Vend 5 100) ≡ None
 vend_last = refl
 
-vend_unlimited : refusal None setup posted (Vend 5 101) ≡ None
-vend_unlimited = refl
-
 -- an id of a job that put nothing is free again behind its end
-id_given_up : refusal None setup (Ended 3 end_of.NoAnswer ∷ paying) (Pay 3 42 4) ≡ None
+id_given_up : refusal 65535 setup (Ended 3 end_of.NoAnswer ∷ paying) (Pay 3 42 4) ≡ None
 id_given_up = refl
 
 -- how many records are held: by an order without a job, by a payment up to its opened order and behind it

@@ -10,7 +10,7 @@ use Rattle.cct_model.specs.declared.judging.OpenOrder.{OpenOrder}
 use Rattle.cct_model.specs.Exchange.{device_at, acceptor_there, hopper_there}
 use Rattle.cct_model.specs.Records.{order_named, is_open, epoch_in, order_in}
 use Rattle.cct_model.specs.Refusal.{valueless}
-use Rattle.cct_model.specs.Money.{coins_of, available_in}
+use Rattle.cct_model.specs.Money.{coins_of, available_in, available_beside}
 
 -- An epoch runs.
 abbrev pub is_running : EpochState → Bool
@@ -50,3 +50,17 @@ follows setup before (record_of.Sold id price) = not (id == 0) && not (price == 
 abbrev pub all_follow : Setup → List Record → Bool
 all_follow setup [] = true
 all_follow setup (r ∷ before) = follows setup before r && all_follow setup before
+
+-- A ledger takes a record: one of an order or of a sale where it follows those before it, and the coins of the order or
+-- the price of the sale are available beside all that is reserved; and any other.
+abbrev pub is_allowed : Setup → List Record → ℕ → Record → Bool
+is_allowed setup before beside (record_of.Opened id addr count life) =
+    follows setup before (record_of.Opened id addr count life)
+    && nat_le (coins_of setup addr count) (available_beside setup before beside)
+is_allowed setup before beside (record_of.Closed id paid unpaid) =
+    follows setup before (record_of.Closed id paid unpaid)
+is_allowed setup before beside (record_of.Odd id life_before life_after) =
+    follows setup before (record_of.Odd id life_before life_after)
+is_allowed setup before beside (record_of.Sold id price) =
+    follows setup before (record_of.Sold id price) && nat_le price (available_beside setup before beside)
+is_allowed setup before beside r = true

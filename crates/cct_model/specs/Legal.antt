@@ -165,10 +165,10 @@ abbrev pub EntriesOfCrash : Setup → List Entry → Option CrashAt → List Ent
 EntriesOfCrash setup past None news = news ≡ bare_crash past
 EntriesOfCrash setup past (Some at) news = CrashEntries past at.calls (due_at setup past at.addr) news
 
--- The entries of a step after all that came before, newest first, over a journal with a capacity or none. The choice of a
+-- The entries of a step after all that came before, newest first, over a journal that takes so many records. The choice of a
 -- loss of power is a disk's: here either outcome is one that it may have, where the gate was written and not yet synced.
 -- The end of a script is no step of a run.
-abbrev pub Entries : Option ℕ → Setup → List Entry → Step → List Entry → Type 0
+abbrev pub Entries : ℕ → Setup → List Entry → Step → List Entry → Type 0
 Entries capacity setup past (step.Coin addr place) news =
     OfAcceptor (device_at setup.devices addr) (λ d. news ≡ coin_entry d past place ∷ [])
 Entries capacity setup past (step.Alien addr) news = OfAcceptor (device_at setup.devices addr) (λ d. news ≡ entry.Alien addr ∷ [])
@@ -187,21 +187,19 @@ abbrev pub is_played_command : Command → Bool
 is_played_command (command.Vend id price) = false
 is_played_command c = true
 
--- A step that the program plays: all but a sale, a loss of power and a balance.
+-- A step that the program plays: all but a sale and a loss of power.
 abbrev pub is_played : Step → Bool
 is_played (step.Command c) = is_played_command c
 is_played (step.Crash at choice) = false
-is_played step.Balance = false
 is_played step.End = false
 is_played s = true
 
 -- A past goes on by the entries of these steps, and ends as this one.
-abbrev pub LegalFrom : Option ℕ → Setup → List Entry → List Step → List Entry → Type 0
+abbrev pub LegalFrom : ℕ → Setup → List Entry → List Step → List Entry → Type 0
 LegalFrom capacity setup past [] end = end ≡ past
 LegalFrom capacity setup past (s ∷ steps) end =
     (news : List Entry) × Entries capacity setup past s news × LegalFrom capacity setup (news ++ past) steps end
 
--- A transcript, oldest entry first, is the entries of these steps, over a journal that takes so many records, or over
--- none.
-abbrev pub Legal : Option ℕ → Setup → List Step → List Entry → Type 0
+-- A transcript, oldest entry first, is the entries of these steps, over a journal that takes so many records.
+abbrev pub Legal : ℕ → Setup → List Step → List Entry → Type 0
 Legal capacity setup steps transcript = LegalFrom capacity setup [] steps (onto [] transcript)

@@ -104,6 +104,12 @@ reserved_in setup before = owed_in setup before + odd_in setup before
 abbrev pub available_in : Setup → List Record → ℕ
 available_in setup before = posted_in setup before - (reserved_in setup before + paid_in setup before + sold_in before)
 
+-- What is available: the value of all coins posted, less what the records and others beside them reserve, and what was
+-- paid and sold.
+abbrev pub available_beside : Setup → List Record → ℕ → ℕ
+available_beside setup before beside =
+    posted_in setup before - (reserved_in setup before + beside + paid_in setup before + sold_in before)
+
 -- What a running job reserves until it puts its record: a payment the amount of its order, and a sale its price.
 abbrev pub reserved_by : Setup → Job → ℕ
 reserved_by setup (works (command.Pay addr id count) since) = if nat_le (done since) 2 then coins_of setup addr count else 0
@@ -114,6 +120,12 @@ reserved_by setup j = 0
 abbrev pub reserved_at_work : Setup → List Entry → ℕ
 reserved_at_work setup past =
     sum_over (λ d. reserved_by setup (job (lines_of d past))) setup.devices + reserved_by setup (job (sale_lines past))
+
+-- What running jobs reserve no more once a record is put: the amount of an order that it opens, and the price of a sale.
+abbrev pub freed_by : Setup → Record → ℕ
+freed_by setup (record_of.Opened id addr count life) = coins_of setup addr count
+freed_by setup (record_of.Sold id price) = price
+freed_by setup r = 0
 
 -- All that is reserved.
 abbrev pub reserved : Setup → List Entry → ℕ

@@ -99,12 +99,6 @@ abbrev pub short_refusal : Setup → List Entry → ℕ → Option CommandNo
 short_refusal setup past wanted =
     if nat_le wanted (available setup past) then None else Some (Short (available setup past))
 
--- The tests of a command over a journal: those that any host makes, and then those that need a journal's capacity. A host
--- without a journal makes no such test.
-abbrev pub over_journal : Option ℕ → (ℕ → Option CommandNo) → Option CommandNo → Option CommandNo
-over_journal None further first = first
-over_journal (Some capacity) further first = option_or first (further capacity)
-
 -- The id of the order or the sale that a job is at work to record or has recorded, 0 of another job.
 abbrev pub running_id : Job → ℕ
 running_id (works (command.Pay addr id count) since) = id
@@ -143,30 +137,40 @@ halt_refusal j = if can_halt j then None else Some NoPayout
 abbrev pub spending : Setup → List Entry → ℕ → ℕ → ℕ → Option CommandNo
 spending setup past wanted need capacity = option_or (short_refusal setup past wanted) (full_refusal setup past need capacity)
 
--- The first reason that holds for which a command is refused, or none, over a journal with this capacity, or none.
-abbrev pub refusal : Option ℕ → Setup → List Entry → Command → Option CommandNo
-refusal capacity setup past (command.Start addr mask) =
-    at_acceptor (device_at setup.devices addr)
-    (when_free past (λ d state. over_journal capacity (full_refusal setup past 1) (start_refusal mask d state)))
-refusal capacity setup past (command.Round addr) =
-    at_acceptor (device_at setup.devices addr)
-    (when_free past (λ d state. over_journal capacity (full_refusal setup past 1) (running_refusal d state)))
-refusal capacity setup past (command.Stop addr) =
-    at_acceptor (device_at setup.devices addr)
-    (when_free past (λ d state. over_journal capacity (full_refusal setup past 2) (running_refusal d state)))
-refusal capacity setup past (command.Pay addr id count) =
-    at_hopper (device_at setup.devices addr)
-    (when_unpaid past (λ owed. over_journal capacity (spending setup past (coins_of setup addr count) 2)
-    (pay_refusal id (last_id setup past) owed)))
-refusal capacity setup past (command.Settle addr) =
-    at_hopper (device_at setup.devices addr)
-    (when_unpaid past (λ owed. over_journal capacity (full_refusal setup past 0) (settle_refusal owed)))
-refusal capacity setup past (command.Halt addr) =
+-- The tests of a command but for those of the money and of the room: its device, the jobs, the epoch and the orders.
+abbrev pub state_refusal : Setup → List Entry → Command → Option CommandNo
+state_refusal setup past (command.Start addr mask) =
+    at_acceptor (device_at setup.devices addr) (when_free past (start_refusal mask))
+state_refusal setup past (command.Round addr) =
+    at_acceptor (device_at setup.devices addr) (when_free past running_refusal)
+state_refusal setup past (command.Stop addr) =
+    at_acceptor (device_at setup.devices addr) (when_free past running_refusal)
+state_refusal setup past (command.Pay addr id count) =
+    at_hopper (device_at setup.devices addr) (when_unpaid past (pay_refusal id (last_id setup past)))
+state_refusal setup past (command.Settle addr) =
+    at_hopper (device_at setup.devices addr) (when_unpaid past settle_refusal)
+state_refusal setup past (command.Halt addr) =
     at_hopper (device_at setup.devices addr) (λ d. halt_refusal (job (lines_of d past)))
-refusal capacity setup past command.Scan = busy (job (scan_lines past))
-refusal capacity setup past (command.Ident addr) = at_device (device_at setup.devices addr) (λ d. busy (job (lines_of d past)))
-refusal capacity setup past (command.Path addr place path) =
+state_refusal setup past command.Scan = busy (job (scan_lines past))
+state_refusal setup past (command.Ident addr) =
+    at_device (device_at setup.devices addr) (λ d. busy (job (lines_of d past)))
+state_refusal setup past (command.Path addr place path) =
     at_acceptor (device_at setup.devices addr) (λ d. busy (job (lines_of d past)))
-refusal capacity setup past (command.Vend id price) =
-    option_or (busy (job (sale_lines past)))
-    (over_journal capacity (spending setup past price 1) (id_refusal id (last_id setup past)))
+state_refusal setup past (command.Vend id price) =
+    option_or (busy (job (sale_lines past))) (id_refusal id (last_id setup past))
+
+-- The tests of a command behind those: what it spends is available, and a journal that takes so many records has room for
+-- what it may put.
+abbrev pub room_refusal : ℕ → Setup → List Entry → Command → Option CommandNo
+room_refusal capacity setup past (command.Start addr mask) = full_refusal setup past 1 capacity
+room_refusal capacity setup past (command.Round addr) = full_refusal setup past 1 capacity
+room_refusal capacity setup past (command.Stop addr) = full_refusal setup past 2 capacity
+room_refusal capacity setup past (command.Pay addr id count) =
+    spending setup past (coins_of setup addr count) 2 capacity
+room_refusal capacity setup past (command.Settle addr) = full_refusal setup past 0 capacity
+room_refusal capacity setup past (command.Vend id price) = spending setup past price 1 capacity
+room_refusal capacity setup past c = None
+
+-- The first reason that holds for which a command is refused, or none, over a journal that takes so many records.
+abbrev pub refusal : ℕ → Setup → List Entry → Command → Option CommandNo
+refusal capacity setup past c = option_or (state_refusal setup past c) (room_refusal capacity setup past c)

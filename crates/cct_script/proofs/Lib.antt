@@ -1,9 +1,7 @@
 pub mod Splits
 pub mod Decimals
-pub mod Printing
 pub mod Masks
 pub mod Forms
-pub mod Plain
 pub mod Steps
 pub mod Sound
 pub mod Window

@@ -58,7 +58,7 @@ fn plain_texts() -> Texts
 }
 
 /// A coin acceptor of which a script says no more: its places have no values.
-#[tactic(auto, using(crate::proofs::Plain::plain_acceptor_sound))]
+#[tactic(auto, using(cct_lines::proofs::Sound::plain_acceptor_sound))]
 fn plain_acceptor(accepts: u32) -> DeviceBody
     ensures says { result ≡ plain_acceptor accepts }
     ensures sound { accepts < 2 ^ 24 → IsSoundBody result }
@@ -71,7 +71,7 @@ fn plain_acceptor(accepts: u32) -> DeviceBody
 }
 
 /// A device of which a script says no more.
-#[tactic(auto, using(crate::proofs::Plain::plain_device_sound))]
+#[tactic(auto, using(cct_lines::proofs::Sound::plain_device_sound))]
 fn plain_device(addr: u8, kind: CheckKind, serial: u32, body: DeviceBody) -> DeviceSetup
     ensures says { result ≡ plain_device addr kind serial body }
     ensures sound { 2 ≤ addr → serial < 2 ^ 24 → IsSoundBody body → IsSound result }

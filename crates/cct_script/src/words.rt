@@ -26,7 +26,7 @@ pub(crate) fn check_in(field: &[u8]) -> Option<CheckKind>
 }
 
 /// Whether each byte is a printing character, 21 to 7e in hexadecimal.
-#[tactic(auto, using(crate::proofs::Printing::printing_all))]
+#[tactic(auto, using(cct_lines::proofs::Sound::printing_all))]
 fn are_printing(bytes: &[u8]) -> bool
     ensures tells { result ≡ list_all is_printing bytes.now }
     ensures printing { IsTrue result → All IsPrinting bytes.now }

@@ -1,2 +1,3 @@
-pub mod Owned
 pub mod Steps
+pub mod Suited
+pub mod Wires

@@ -1,3 +1,3 @@
-pub mod Coin
+pub mod Step
 pub mod Machine
 pub mod World

@@ -1,19 +1,34 @@
 -- A whole machine that stands for all that happened on it.
-use Rattle.std.specs.Prelude.{List}
+use Rattle.std.specs.Prelude.{ℕ, List}
 use Rattle.cct_model.specs.terms.device.Setup.{Setup}
 use Rattle.cct_model.specs.lines.command.Step.{Step}
 use Rattle.cct_model.specs.lines.entry.Entry.{Entry}
+use Rattle.cct_disk.specs.declared.disk.Disk.{Ghosts}
 use Rattle.cct_world.specs.declared.world.World.{World}
 use Rattle.cct_world.specs.Machine as machines
 
--- The setup of a world.
-abbrev pub setup_of : World → Setup
-setup_of world = machines.setup_of world.machine.value
+module _ {D : Type 0} {g : Ghosts D} where
+  -- The setup of a world.
+  abbrev pub setup_of : World D g → Setup
+  setup_of world = machines.setup_of world.machine.value
 
--- A world stands for a transcript, newest entry first: the machine in its box does.
-abbrev pub StandsFor : World → List Entry → Type 0
-StandsFor world past = machines.StandsFor world.machine.value past
+  -- Its disk.
+  abbrev pub disk_of : World D g → D
+  disk_of world = machines.disk_of world.machine.value
 
--- A step gives these entries, oldest first, whatever is behind it, where an order that it closes is its own address's.
-abbrev pub Plays : World → World → Step → List Entry → Type 0
-Plays old new s report = machines.Plays old.machine.value new.machine.value s report
+  -- How many records its journal takes.
+  abbrev pub capacity_in : World D g → ℕ
+  capacity_in world = machines.capacity_in world.machine.value
+
+  -- A world stands for a transcript, newest entry first: the machine in its box does.
+  abbrev pub StandsFor : World D g → List Entry → Type 0
+  StandsFor world past = machines.StandsFor world.machine.value past
+
+  -- A step gives these entries, oldest first, whatever is behind it, where a record that it puts suits those before it;
+  -- and the world goes on by them.
+  abbrev pub Plays : World D g → World D g → Step → List Entry → Type 0
+  Plays old new s report = machines.Plays old.machine.value new.machine.value s report
+
+  -- A step wasn't played, since its put failed; this disk is left.
+  abbrev pub Breaks : World D g → D → Step → Type 0
+  Breaks old left s = machines.Breaks old.machine.value left s

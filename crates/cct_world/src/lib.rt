@@ -1,6 +1,7 @@
 //! One step of the whole machine: the bus of devices, and the host.
 #![tactic(auto)]
 
+mod machine;
 mod world;
 
-pub use world::World;
+pub use world::{World, WorldNo};

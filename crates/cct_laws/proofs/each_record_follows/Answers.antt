@@ -1,6 +1,10 @@
-use Rattle.cct_laws.proofs.Fitted.{legal_fit}
-use Rattle.cct_laws.proofs.Journal.{legal_follow}
+use Rattle.std.specs.Prelude.{[]}
+use Rattle.cct_model.specs.Transcript.{onto}
+use Rattle.cct_laws.proofs.Journal.{legal_follow, legal_due_follows}
 use Rattle.cct_laws.proofs.each_record_follows.Goals as goal
 
 pub returns : goal.returns
-returns c = record { over_a_journal = legal_follow; over_none = legal_fit }
+returns c = record {
+  all = legal_follow;
+  due = λ capacity setup steps transcript. legal_due_follows capacity setup steps (onto [] transcript);
+}

@@ -1,5 +1,4 @@
 use Rattle.std.proofs.Common.{[], refl, sym, ◌∙◌, subst, arith, lit≤}
-use Rattle.std.specs.Prelude.{IfSome}
 use Rattle.cct_model.specs.Script.{at_setup, at_steps, opens}
 use Rattle.cct_script.specs.Giving.{standing_of}
 use Rattle.cct_bench.specs.Setup.{stage_of}
@@ -7,7 +6,7 @@ use Rattle.cct_bench.specs.Lines.{IsNext, ScriptGoesOn, Came}
 use Rattle.cct_bench.specs.SetupLines.{OpensLine, TookOpening}
 use Rattle.cct_bench.specs.Writing.{IsNothing, NeverBroke}
 use Rattle.cct_bench.specs.Going.{Going}
-use Rattle.cct_bench.specs.Run.{Played}
+use Rattle.cct_bench.specs.Run.{BeforeSteps}
 use Rattle.cct_bench.proofs.SetupLines.{opening_begin, opening_more}
 use Rattle.cct_bench.proofs.Going.{going_begin, going_opens, played_stopped}
 use Rattle.cct_bench.proofs.play.read_setup.Goals as goal
@@ -69,12 +68,10 @@ returns-in-Err-clause-ended g c =
     let left0 = g.S.Source.left c.args.script.now in
     let left1 = g.S.Source.left c.read_opening.new.script in
     let stage = at_setup c.loop-number.setup in
-    subst (λ how. IfSome left0 (λ bytes. Played bytes how left1 IsNothing NeverBroke)) (sym c.ending_at.ensures)
-    (
     played_stopped left0 (g.S.Source.left c.loop-number.script) left1 (standing_of c.loop-number.lines).held
-    c.loop-number.number stage c.in-Err.why IsNothing IsNothing NeverBroke
+    c.loop-number.number stage c.in-Err.why c.ending_at.result IsNothing IsNothing NeverBroke BeforeSteps
+    c.ending_at.ensures (λ how setup taken played unplayed past is nothing. (is, nothing))
     c.loop-number.invariant.going c.in-Err.ensures.stops
-    )
 
 pub loop-number-preserved : goal.loop-number-preserved
 loop-number-preserved g c =

@@ -1,6 +1,7 @@
 use Rattle.std.proofs.Common.{◌-◌}
 use Rattle.cct_model.specs.Script.{at_steps}
-use Rattle.cct_world.specs.World.{StandsFor, setup_of}
+use Rattle.cct_journal.specs.Stands.{GoesOn}
+use Rattle.cct_world.specs.World.{StandsFor, disk_of, setup_of}
 use Rattle.cct_script.specs.Giving.{standing_of}
 use Rattle.cct_bench.specs.Writing.{Wrote}
 use Rattle.cct_bench.specs.Going.{Going}
@@ -11,13 +12,15 @@ abbrev pub invariant-loop-why : goal.invariant-loop-why
 invariant-loop-why g l =
     let source = g.S.Source in
     let sink = g.K.Sink in
+    let disk = g.D.Disk in
     Runs (λ left0. Going left0 (source.left l.fn.script) (standing_of l.fn.self.lines).held l.fn.first
     (at_steps (setup_of l.fn.world)) (StandsFor l.fn.world) (Wrote sink.written sink.puts l.fn.out l.fn.out))
     (λ left0. Going left0 (source.left l.script) (standing_of l.self.lines).held l.number (at_steps (setup_of l.world))
     (StandsFor l.world) (Wrote sink.written sink.puts l.fn.out l.out))
     (source.left l.fn.script) (source.left l.script) (source.faults l.fn.script) (source.faults l.script)
-    (sink.written l.fn.out) (sink.written l.out) (sink.faults l.fn.out) (sink.faults l.out) (standing_of l.self.lines)
-    l.number
+    (sink.written l.fn.out) (sink.written l.out) (sink.faults l.fn.out) (sink.faults l.out)
+    (GoesOn disk.size disk.honest disk.seen disk.cuts (disk_of l.fn.world) (disk_of l.world))
+    (disk.faults (disk_of l.fn.world)) (disk.faults (disk_of l.world)) (standing_of l.self.lines) l.number
 
 abbrev pub decreases-loop-why : goal.decreases-loop-why
 decreases-loop-why g l = 1048578 - l.number

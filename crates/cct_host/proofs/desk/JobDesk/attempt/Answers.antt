@@ -1,7 +1,7 @@
 use Rattle.std.proofs.Common.{ap, arith, refl, sym, ◌∙◌}
 use Rattle.cct_jobs.specs.Jobs.{need_of, order_of}
 use Rattle.cct_host.proofs.Attempts.{ask_attempts, asks_next, no_scan, put_attempts, puts_next}
-use Rattle.cct_host.proofs.Holding.{ask_holds, ask_reserves, is_put_by, put_holds, put_reserves, some_put}
+use Rattle.cct_host.proofs.Holding.{ask_holds, ask_reserves, is_put_by, put_clears, put_holds, some_put}
 use Rattle.cct_host.proofs.desk.JobDesk.attempt.Goals as goal
 
 pub returns-in-Exchange-clause-attempts : goal.returns-in-Exchange-clause-attempts
@@ -53,6 +53,14 @@ returns-in-Put-clause-puts g c =
 
 pub returns-in-Put-clause-reserves : goal.returns-in-Put-clause-reserves
 returns-in-Put-clause-reserves g c =
-    put_reserves c.args.job c.was_put.result _ c.args.addr _ _
+    let none = put_clears c.args.job c.was_put.result _ c.args.addr _ _
     (is_put_by _ c.in-Put.entry (sym c.needs.ensures.value ∙ c.in-Put.is)) c.was_put.ensures.value
-    c.settled-self-in-Put.ensures.settled
+    c.settled-self-in-Put.ensures.settled in
+    omega (arith, none)
+
+pub returns-in-Put-clause-clears : goal.returns-in-Put-clause-clears
+returns-in-Put-clause-clears g c =
+    some_put (need_of c.args.job) _
+    (put_clears c.args.job c.was_put.result _ c.args.addr _ _
+    (is_put_by _ c.in-Put.entry (sym c.needs.ensures.value ∙ c.in-Put.is)) c.was_put.ensures.value
+    c.settled-self-in-Put.ensures.settled)

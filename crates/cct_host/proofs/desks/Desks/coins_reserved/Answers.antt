@@ -1,11 +1,15 @@
-use Rattle.std.proofs.Common.{◌∙◌, ◌<◌, ap, length, subst, sym}
+use Rattle.std.proofs.Common.{◌≡◌, ◌∙◌, ◌<◌, ap, get_or, length, subst, sym}
 use Rattle.std.specs.List.{position}
+use Rattle.std.specs.Prelude.{option_and_then}
+use Rattle.cct_host.specs.declared.desk.JobDesk.{JobDesk}
 use Rattle.cct_host.specs.Desks.{coins_there}
-use Rattle.cct_host.proofs.Places.{desk_absent, desk_found, found_in, is_at}
+use Rattle.cct_host.specs.Held.{due_by}
+use Rattle.cct_host.proofs.Held.{frees_is, none_frees}
+use Rattle.cct_host.proofs.Places.{at_this, desk_absent, desk_found, desk_sits, device_found, found_in, is_at}
 use Rattle.cct_host.proofs.desks.Desks.coins_reserved.Goals as goal
 
-pub returns-in-Some : goal.returns-in-Some
-returns-in-Some c =
+pub returns-in-Some-clause-value : goal.returns-in-Some-clause-value
+returns-in-Some-clause-value c =
     let setup = c.args.self.now.setup.now in
     let ks = c.args.self.now.devices.items in
     let i = c.in-Some.index in
@@ -16,9 +20,34 @@ returns-in-Some c =
     ∙ sym (ap coins_there (desk_found setup.devices ks _ c.args.addr i c.index-deref-index.result c.deref.ensures.0
     c.index-deref-index.is c.args.self.now.many within found))
 
-pub returns-in-None : goal.returns-in-None
-returns-in-None c =
+pub returns-in-None-clause-value : goal.returns-in-None-clause-value
+returns-in-None-clause-value c =
     let setup = c.args.self.now.setup.now in
     let first = c.index_of.ensures.first ∙ ap (position (is_at c.args.addr)) c.as_slice.ensures.value in
     sym (ap coins_there (desk_absent setup.devices c.args.self.now.devices.items c.args.addr
     (sym first ∙ c.in-None.is)))
+
+pub returns-in-Some-clause-frees : goal.returns-in-Some-clause-frees
+returns-in-Some-clause-frees c past stands =
+    let setup = c.args.self.now.setup.now in
+    let ks = c.args.self.now.devices.items in
+    let i = c.in-Some.index in
+    let lent = c.as_slice.ensures.value in
+    let found = found_in setup.devices _ c.args.addr _ i lent c.index_of.ensures.first c.in-Some.is in
+    let within : i < length setup.devices = subst (λ ds. i < length ds) lent c.in-Some.ensures.within in
+    let this = at_this setup.devices i within in
+    let place = device_found setup.devices i this.0 c.args.addr found this.1 in
+    let k = c.index-deref-index.result in
+    let y : k ≡ get_or ks i k = c.index-deref-index.is ∙ ap (λ ls. get_or ls i k) c.deref.ensures.0 in
+    frees_is setup this.0 k past c.args.addr c.coins_reserved.result _
+    (ap (option_and_then (λ (k : JobDesk). due_by k.job))
+    (desk_found setup.devices ks _ c.args.addr i k c.deref.ensures.0 c.index-deref-index.is c.args.self.now.many within
+    found))
+    place.2 c.coins_reserved.ensures (desk_sits setup.devices ks i this.0 k past within this.1 y stands.devices)
+
+pub returns-in-None-clause-frees : goal.returns-in-None-clause-frees
+returns-in-None-clause-frees c past stands =
+    let setup = c.args.self.now.setup.now in
+    let first = c.index_of.ensures.first ∙ ap (position (is_at c.args.addr)) c.as_slice.ensures.value in
+    none_frees _ _ (ap (option_and_then (λ (k : JobDesk). due_by k.job))
+    (desk_absent setup.devices c.args.self.now.devices.items c.args.addr (sym first ∙ c.in-None.is)))

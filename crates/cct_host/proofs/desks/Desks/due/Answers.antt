@@ -1,11 +1,14 @@
-use Rattle.std.proofs.Common.{◌≡◌, ◌∙◌, ◌<◌, Option, Some, None, ap, get_or, length, subst, sym}
+use Rattle.std.proofs.Common.{◌≡◌, ◌∙◌, ◌<◌, arith, ap, get_or, length, subst, sym}
 use Rattle.std.specs.List.{position}
 use Rattle.std.specs.Prelude.{option_and_then}
 use Rattle.cct_model.specs.Exchange.{device_at}
+use Rattle.cct_jobs.specs.Jobs.{order_of}
 use Rattle.cct_host.specs.declared.desk.JobDesk.{JobDesk}
 use Rattle.cct_host.specs.Held.{due_by}
-use Rattle.cct_host.proofs.Held.{due_is, none_due}
+use Rattle.cct_host.proofs.Held.{due_is, held_there, none_due}
+use Rattle.cct_host.proofs.Holding.{due_held}
 use Rattle.cct_host.proofs.Places.{absent, at_this, desk_absent, desk_found, desk_sits, device_found, found_in, is_at}
+use Rattle.cct_host.proofs.Turning.{some_by}
 use Rattle.cct_host.proofs.desks.Desks.due.Goals as goal
 
 pub returns-in-Some-clause-value : goal.returns-in-Some-clause-value
@@ -20,6 +23,18 @@ returns-in-Some-clause-value c =
     ∙ sym (ap (option_and_then (λ (k : JobDesk). due_by k.job))
     (desk_found setup.devices ks _ c.args.addr i c.index-deref-index.result c.deref.ensures.0 c.index-deref-index.is
     c.args.self.now.many within found))
+
+pub returns-in-Some-clause-holds : goal.returns-in-Some-clause-holds
+returns-in-Some-clause-holds c =
+    let ks = c.args.self.now.devices.items in
+    let i = c.in-Some.index in
+    let within : i < length c.args.self.now.setup.now.devices =
+    subst (λ ds. i < length ds) c.as_slice.ensures.value c.in-Some.ensures.within in
+    let there : i < length ks = subst (λ n. i < n) (sym c.args.self.now.many) within in
+    let k = c.index-deref-index.result in
+    let y : k ≡ get_or ks i k = c.index-deref-index.is ∙ ap (λ ls. get_or ls i k) c.deref.ensures.0 in
+    let part = held_there ks i k there y in
+    some_by c.due.result _ _ _ c.due.ensures.value (due_held k.job (order_of k.dues.order)) (λ one. omega (arith, one, part))
 
 pub returns-in-Some-clause-stands : goal.returns-in-Some-clause-stands
 returns-in-Some-clause-stands c past stands =

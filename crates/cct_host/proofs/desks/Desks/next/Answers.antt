@@ -130,3 +130,21 @@ returns-in-Some-clause-frees g c =
     (desk_lent ks _ i y kept c.index-deref_mut-index.is) c.args.self.now.many within found))
     (ap coins_there (desk_turned setup.devices ks _ c.args.addr i x kept there found))
     c.next-used.ensures.reserves
+
+pub returns-in-Some-clause-clears : goal.returns-in-Some-clause-clears
+returns-in-Some-clause-clears g c =
+    let setup = c.args.self.now.setup.now in
+    let ks = c.args.self.now.devices.items in
+    let i = c.in-Some.index in
+    let y = c.index-deref_mut-index.result in
+    let lent = c.as_slice.ensures.value in
+    let kept = c.deref_mut.ensures.value in
+    let found = found_in setup.devices _ c.args.addr _ i lent c.index_of.ensures.first c.in-Some.is in
+    let within : i < length setup.devices = subst (λ ds. i < length ds) lent c.in-Some.ensures.within in
+    let there : i < length ks = subst (λ n. i < n) (sym c.args.self.now.many) within in
+    some_by _ _ _ _
+    (ap (option_and_then (λ (k : JobDesk). due_by k.job))
+    (desk_found setup.devices ks ks c.args.addr i (get_or _ i y) refl (desk_lent ks _ i y kept c.index-deref_mut-index.is)
+    c.args.self.now.many within found))
+    c.next-used.ensures.clears
+    (λ none. ap coins_there (desk_turned setup.devices ks _ c.args.addr i c.next-used.new.self kept there found) ∙ none)

@@ -1,0 +1,66 @@
+-- The disk that a run is given, and what it leaves on it.
+use Rattle.std.specs.Prelude.{◌≡◌, ℕ, suc, Bool, Option, Some, List, [], ◌∷◌, reverse}
+use Rattle.cct_model.specs.terms.device.Setup.{Setup}
+use Rattle.cct_model.specs.lines.command.Step.{Step}
+use Rattle.cct_model.specs.lines.record.Record.{Record}
+use Rattle.cct_model.specs.lines.entry.Entry.{Entry}
+use Rattle.cct_model.specs.lines.entry.Entry.TheVariants as entry
+use Rattle.cct_model.specs.Records.{records}
+use Rattle.cct_disk.specs.Disk.{IsTrusted}
+use Rattle.cct_journal.specs.Image.{IsBlank}
+use Rattle.cct_journal.specs.Stands.{Leaves, LeavesOneOf}
+use Rattle.cct_world.specs.Machine.{Puts}
+use Rattle.cct_bench.specs.declared.play.TheConstants.{JOURNAL_BYTES}
+
+-- How many records a journal on a disk of that size takes.
+abbrev pub most_records : ℕ
+most_records = 65535
+
+-- A disk of this size, whose reads give these bytes, is one that a journal is created on.
+pub record IsReady (size : ℕ) (seen : Option (List ℕ)) : Type 0 where
+  pub sized : size ≡ JOURNAL_BYTES
+  pub blank : (image : List ℕ) → seen ≡ Some image → IsBlank image
+
+-- What a run is told of its disk. As it was handed in: how many bytes it has, which bytes a read gives, where that is
+-- told, whether it is honest and tells them, and how often its power was cut. As it comes back: that each image that a
+-- loss of power may leave on it stands for records, or for these or for these and one more, the oldest first; and how
+-- often its power was cut by then.
+pub record Disks : Type 1 where
+  pub size : ℕ
+  pub seen : Option (List ℕ)
+  pub trusted : Type 0
+  pub cuts : ℕ
+  pub leaves : List Record → Type 0
+  pub leaves_one_of : List Record → Record → Type 0
+  pub cuts_after : ℕ
+
+-- of a kind of disk of which is known what each tells
+module _ {D : Type 0} (size : D → ℕ) (honest : D → Bool) (seen : D → Option (List ℕ))
+    (may_leave : D → List ℕ → Type 0) (cuts : D → ℕ) where
+  -- A run was given one disk, and gave back another.
+  abbrev pub disks : D → D → Disks
+  disks given back = record {
+    size = size given;
+    seen = seen given;
+    trusted = IsTrusted honest seen given;
+    cuts = cuts given;
+    leaves = Leaves honest seen may_leave back;
+    leaves_one_of = LeavesOneOf honest seen may_leave back;
+    cuts_after = cuts back;
+  }
+
+-- Where a disk is trusted, each image that a loss of power may leave on it stands for the records of the past.
+abbrev pub Books : {D : Type 0} → (D → Bool) → (D → Option (List ℕ)) → (D → List ℕ → Type 0) → D → List Entry → Type 0
+Books honest seen may_leave disk past =
+    IsTrusted honest seen disk → Leaves honest seen may_leave disk (reverse (records past))
+
+-- How often a past tells that the host lost its power.
+abbrev pub crashes : List Entry → ℕ
+crashes [] = 0
+crashes (entry.Crash used ∷ past) = suc (crashes past)
+crashes (e ∷ past) = crashes past
+
+-- The first of these steps is a `next` whose job is about to put this record.
+abbrev pub NextPuts : Setup → List Entry → Record → List Step → Type 0
+NextPuts setup past r [] = ⊥
+NextPuts setup past r (s ∷ steps) = Puts setup past r s

@@ -1,0 +1,126 @@
+-- What a host stands for after it went on.
+use Rattle.std.proofs.Common.{◌≡◌, ℕ, ◌+◌, Bool, List, ◌∷◌, ◌++◌, length, reverse, refl, sym, ap, subst, ◌∙◌, Option, Some, None, arith}
+use Rattle.std.specs.Prelude.{Err, Ok, OnOk, Result}
+use Rattle.std.specs.Option.{option_or}
+use Rattle.cct_edge.specs.declared.fault.Failed.{Failed}
+use Rattle.cct_model.specs.lines.command.Command.{Command}
+use Rattle.cct_model.specs.lines.command.CommandNo.{CommandNo}
+use Rattle.cct_model.specs.lines.record.Record.{Record}
+use Rattle.cct_model.specs.lines.entry.Entry.{Entry}
+use Rattle.cct_model.specs.Legal.{EntriesOfNext, command_entry, due_at}
+use Rattle.cct_model.specs.Records.{records}
+use Rattle.cct_model.specs.Refusal.{room_refusal, state_refusal}
+use Rattle.cct_disk.specs.declared.disk.Disk.{Ghosts}
+use Rattle.cct_disk.specs.Disk.{IsTrusted}
+use Rattle.cct_journal.specs.Journal as journals
+use Rattle.cct_journal.specs.Stands.{GoesOn, Stands}
+use Rattle.cct_ledger.specs.Ledger as ledgers
+use Rattle.cct_host.specs.declared.host.Host.{Host}
+use Rattle.cct_host.specs.Attempt.{news_of}
+use Rattle.cct_host.specs.Desk.{no_of}
+use Rattle.cct_host.specs.Desks as all_desks
+use Rattle.cct_host.specs.Host.{Answers, Keeps, Nexts, PutSuits, PutsDue, StandsFor, capacity_in, disk_of, put_by, setup_of}
+use Rattle.cct_host.proofs.Putting.{next_records, put_last}
+
+-- an answer passes on with two facts
+pub both_ok : (result : Result Unit Failed) (P Q R : Type 0) → OnOk result P → OnOk result Q → (P → Q → R)
+    → OnOk result R
+both_ok (Ok done) P Q R p q goes = goes p q
+both_ok (Err why) P Q R p q goes = tt
+
+-- a disk that goes on is trusted as before
+pub trusted_before : {D : Type 0} (size : D → ℕ) (honest : D → Bool) (seen : D → Option (List ℕ)) (cuts : D → ℕ)
+    (old new : D) → GoesOn size honest seen cuts old new → IsTrusted honest seen new → IsTrusted honest seen old
+trusted_before size honest seen cuts old new goes trusted =
+    (sym goes.same_honest ∙ trusted.0, sym goes.same_telling ∙ trusted.1)
+
+counted_so : (used before : ℕ) (due : Option Record) (rs : List Record) → used ≡ before + length (put_by due)
+    → before ≡ length rs → used ≡ length (put_by due ++ rs)
+counted_so used before None rs is was = omega (arith, is, was)
+counted_so used before (Some r) rs is was = omega (arith, is, was)
+
+nothing_behind : (why : Option CommandNo) → why ≡ option_or why None
+nothing_behind None = refl
+nothing_behind (Some why) = refl
+
+command_records : (c : Command) (why : Option CommandNo) (past : List Entry)
+    → records (command_entry c why ∷ past) ≡ records past
+command_records c None past = refl
+command_records c (Some why) past = refl
+
+module _ {D : Type 0} {g : Ghosts D} where
+  next_keeps : (old new : Host D g) (addr : ℕ) (past news : List Entry) (rs : List Record)
+      → records (news ++ past) ≡ rs → rs ≡ put_by (due_at (setup_of old) past addr) ++ records past
+      → PutsDue past addr old.desks new.desks old.ledger new.ledger old.journal new.journal
+      → Keeps old past → PutSuits (setup_of old) past addr → all_desks.StandsFor new.desks (news ++ past)
+      → Keeps new (news ++ past)
+  next_keeps old new addr past news rs named is puts keeps suits desks = record {
+    desks = desks;
+    ledger = subst (λ ls. ledgers.StandsFor new.ledger ls (all_desks.reserved_of new.desks)) (sym (named ∙ is))
+        (puts.posts suits.taken keeps.ledger);
+    used = counted_so _ _ (due_at (setup_of old) past addr) (records past) puts.used keeps.used
+        ∙ sym (ap length (named ∙ is));
+  }
+
+  pub next_stands : (hears : List ℕ → List ℕ) (old new : Host D g) (addr : ℕ) (past news : List Entry)
+      → GoesOn g.size g.honest g.seen g.cuts (disk_of old) (disk_of new)
+      → PutsDue past addr old.desks new.desks old.ledger new.ledger old.journal new.journal
+      → StandsFor old past → PutSuits (setup_of old) past addr
+      → EntriesOfNext hears (setup_of old) past addr news → all_desks.StandsFor new.desks (news ++ past)
+      → StandsFor new (news ++ past)
+  next_stands hears old new addr past news goes puts stands suits entries desks =
+      let due = due_at (setup_of old) past addr in
+      let is = next_records hears (setup_of old) past addr news entries in
+      record {
+        keeps = next_keeps old new addr past news _ refl is puts stands.keeps suits desks;
+        book = λ trusted. subst
+            (Stands g.honest g.seen g.may_leave (disk_of new) (journals.place_of new.journal))
+            (sym (put_last due (records past) (records (news ++ past)) is))
+            (puts.book (stands.book (trusted_before g.size g.honest g.seen g.cuts (disk_of old) (disk_of new) goes
+            trusted)));
+      }
+
+  pub next_goes : {L : Type 0} (gives : L → List ℕ → List ℕ → L → Type 0) (link left : L) (addr : ℕ)
+      (old new : Host D g) (report reported : List Entry)
+      → GoesOn g.size g.honest g.seen g.cuts (disk_of old) (disk_of new)
+      → all_desks.Nexts gives link left addr old.desks new.desks report reported
+      → ((past : List Entry) → all_desks.StandsFor old.desks past
+      → PutsDue past addr old.desks new.desks old.ledger new.ledger old.journal new.journal)
+      → Nexts gives link left addr old new report reported
+  next_goes gives link left addr old new report reported goes nexts puts = record {
+    what = nexts.what;
+    reported_is = nexts.reported_is;
+    link = nexts.link;
+    goes = λ hears past heard stands suits.
+        let turned = nexts.goes hears past heard stands.keeps.desks suits.owned in (
+          turned.0,
+          next_stands hears old new addr past (news_of addr nexts.what) goes (puts past stands.keeps.desks) stands suits
+              turned.0 turned.1,
+        );
+  }
+
+  -- a command that is tried with room for it is taken or refused as it has to be
+  pub tried_answers : (old new : Host D g) (c : Command) (result : Result Unit CommandNo)
+      → ((past : List Entry) → Keeps old past → None ≡ room_refusal (capacity_in old) (setup_of old) past c)
+      → all_desks.Answers old.desks new.desks c result
+      → ((before : List Record) → ledgers.StandsFor old.ledger before (all_desks.reserved_of old.desks)
+      → ledgers.StandsFor new.ledger before (all_desks.reserved_of new.desks))
+      → new.journal ≡ old.journal → Answers old new c result
+  tried_answers old new c result room desks ledger same past stands =
+      let told = desks past stands.keeps.desks in
+      let quiet = command_records c (no_of result) past in (
+        told.0 ∙ nothing_behind _ ∙ ap (option_or (state_refusal (setup_of old) past c)) (room past stands.keeps),
+        record {
+          keeps = record {
+            desks = told.1;
+            ledger = subst (λ rs. ledgers.StandsFor new.ledger rs (all_desks.reserved_of new.desks)) (sym quiet)
+                (ledger (records past) stands.keeps.ledger);
+            used = ap journals.used_of same ∙ stands.keeps.used ∙ sym (ap length quiet);
+          };
+          book = subst (λ journal. IsTrusted g.honest g.seen (journals.disk_of journal)
+              → Stands g.honest g.seen g.may_leave (journals.disk_of journal) (journals.place_of journal)
+              (reverse (records (command_entry c (no_of result) ∷ past)))) (sym same)
+              (λ trusted. subst (λ rs. Stands g.honest g.seen g.may_leave (disk_of old)
+              (journals.place_of old.journal) (reverse rs)) (sym quiet) (stands.book trusted));
+        },
+      )

@@ -1,0 +1,47 @@
+-- What a host is after an entry that changes no job, no epoch, no open order and no record.
+use Rattle.std.proofs.Common.{◌≡◌, ◌∙◌, ◌∷◌, List, ap, length, refl, reverse, subst, sym}
+use Rattle.cct_model.specs.lines.entry.Entry.{Entry}
+use Rattle.cct_model.specs.lines.entry.Entry.TheVariants as entry
+use Rattle.cct_model.specs.lines.entry.Totals.{Totals}
+use Rattle.cct_model.specs.Job.{epoch, job}
+use Rattle.cct_model.specs.Order.{order}
+use Rattle.cct_disk.specs.declared.disk.Disk.{Ghosts}
+use Rattle.cct_journal.specs.Journal as journals
+use Rattle.cct_journal.specs.Stands.{Stands}
+use Rattle.cct_ledger.specs.Ledger as ledgers
+use Rattle.cct_host.specs.declared.host.Host.{Host}
+use Rattle.cct_host.specs.Desks as all_desks
+use Rattle.cct_host.specs.Host as hosts
+use Rattle.cct_host.specs.Place.{Place, device, lines_at, scans}
+use Rattle.cct_host.proofs.Lines.{IsQuiet}
+use Rattle.cct_host.proofs.Standing.{desks_stand}
+
+pub host_quiet : {D : Type 0} {g : Ghosts D} (host : Host D g) (past : List Entry) (e : Entry) → IsQuiet past e
+    → hosts.StandsFor host past → hosts.StandsFor host (e ∷ past)
+host_quiet {D} {g} host past e quiet stands =
+    let same = sym quiet.records_are in record {
+      keeps = record {
+        desks = desks_stand host.desks past e quiet stands.keeps.desks;
+        ledger =
+            subst (λ rs. ledgers.StandsFor host.ledger rs (all_desks.reserved_of host.desks)) same stands.keeps.ledger;
+        used = stands.keeps.used ∙ ap length same;
+      };
+      book = λ trusted.
+          subst (λ rs. Stands g.honest g.seen g.may_leave (hosts.disk_of host) (journals.place_of host.journal)
+          (reverse rs)) same (stands.book trusted);
+    }
+
+-- a balance that is told is no line
+balance_line : (t : Totals) (place : Place) (past : List Entry)
+    → lines_at place (entry.Balance t ∷ past) ≡ lines_at place past
+balance_line t (device d) past = refl
+balance_line t scans past = refl
+
+pub balance_quiet : (past : List Entry) (t : Totals) → IsQuiet past (entry.Balance t)
+balance_quiet past t = record {
+  sales = tt;
+  jobs = λ place. ap job (balance_line t place past);
+  epochs = λ place. ap epoch (balance_line t place past);
+  orders = λ place. ap order (balance_line t place past);
+  records_are = refl;
+}

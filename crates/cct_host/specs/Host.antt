@@ -1,0 +1,124 @@
+-- A host over its journal, that stands for all that happened.
+use Rattle.std.specs.Prelude.{◌≡◌, ◌≤◌, ℕ, Bool, ◌+◌, ◌-◌, List, [], ◌∷◌, ◌++◌, Option, Some, None, Result, true, length, reverse}
+use Rattle.std.specs.Option.{IfSome}
+use Rattle.cct_model.specs.terms.device.Setup.{Setup}
+use Rattle.cct_model.specs.lines.command.Command.{Command}
+use Rattle.cct_model.specs.lines.command.CommandNo.{CommandNo}
+use Rattle.cct_model.specs.lines.record.Record.{Record}
+use Rattle.cct_model.specs.lines.entry.Entry.{Entry}
+use Rattle.cct_model.specs.Following.{is_allowed}
+use Rattle.cct_model.specs.Legal.{EntriesOfNext, command_entry, due_at}
+use Rattle.cct_model.specs.Money.{freed_by, reserved_at_work}
+use Rattle.cct_model.specs.Records.{records}
+use Rattle.cct_model.specs.Refusal.{refusal}
+use Rattle.cct_disk.specs.declared.disk.Disk.{Ghosts}
+use Rattle.cct_disk.specs.Disk.{IsTrusted}
+use Rattle.cct_journal.specs.declared.journal.Journal.{Journal}
+use Rattle.cct_journal.specs.Image.{capacity_of}
+use Rattle.cct_journal.specs.Journal as journals
+use Rattle.cct_journal.specs.Stands.{LeavesOneOf, Stands}
+use Rattle.cct_ledger.specs.declared.ledger.Ledger.{Ledger}
+use Rattle.cct_ledger.specs.Ledger as ledgers
+use Rattle.cct_host.specs.declared.desks.Desks.{Desks}
+use Rattle.cct_host.specs.declared.host.Host.{Host}
+use Rattle.cct_host.specs.Attempt.{Attempt, HeardBy, Links, news_of}
+use Rattle.cct_host.specs.Desk.{no_of}
+use Rattle.cct_host.specs.Desks as all_desks
+use Rattle.cct_host.specs.Place.{OwnsItsPut}
+
+-- The ledger takes the record that the job at an address is about to put, if it is about to put one, beside what the
+-- other jobs reserve.
+abbrev pub TakesItsPut : Setup → List Entry → ℕ → Type 0
+TakesItsPut setup past addr =
+    IfSome (due_at setup past addr)
+    (λ r. (freed_by setup r ≤ reserved_at_work setup past)
+    × (is_allowed setup (records past) (reserved_at_work setup past - freed_by setup r) r ≡ true))
+
+-- The records that are put where this one is due, or none.
+abbrev pub put_by : Option Record → List Record
+put_by None = []
+put_by (Some r) = r ∷ []
+
+-- What a `next` at an address takes for granted of the past: the record that it puts, if it puts one, closes no order of
+-- another address, and the ledger takes it. Every past that is legal is so.
+pub record PutSuits (setup : Setup) (past : List Entry) (addr : ℕ) : Type 0 where
+  pub owned : OwnsItsPut setup past addr
+  pub taken : TakesItsPut setup past addr
+
+module _ {D : Type 0} {g : Ghosts D} where
+  -- The setup of a host.
+  abbrev pub setup_of : Host D g → Setup
+  setup_of host = all_desks.setup_of host.desks
+
+  -- Its disk.
+  abbrev pub disk_of : Host D g → D
+  disk_of host = journals.disk_of host.journal
+
+  -- A put of its journal failed.
+  abbrev pub has_failed : Host D g → Bool
+  has_failed host = journals.has_failed host.journal
+
+  -- How many records its journal takes.
+  abbrev pub capacity_in : Host D g → ℕ
+  capacity_in host = capacity_of (g.size (disk_of host))
+
+  -- A host has all of a transcript, newest entry first, whatever its disk keeps: its desks stand for it, its ledger for the
+  -- records and what the running jobs reserve beside them, and its journal counts so many records.
+  pub record Keeps (host : Host D g) (past : List Entry) : Type 0 where
+    pub desks : all_desks.StandsFor host.desks past
+    pub ledger : ledgers.StandsFor host.ledger (records past) (all_desks.reserved_of host.desks)
+    pub used : journals.used_of host.journal ≡ length (records past)
+
+  -- A host stands for a transcript, newest entry first: it has all of it, and if its disk is trusted, that keeps just the
+  -- records.
+  pub record StandsFor (host : Host D g) (past : List Entry) : Type 0 where
+    pub keeps : Keeps host past
+    pub book : IsTrusted g.honest g.seen (disk_of host)
+        → Stands g.honest g.seen g.may_leave (disk_of host) (journals.place_of host.journal) (reverse (records past))
+
+  -- Nothing changed.
+  abbrev pub Stays : Host D g → Host D g → Type 0
+  Stays old new =
+      all_desks.Stays old.desks new.desks × (new.ledger ≡ old.ledger) × (new.journal ≡ old.journal)
+
+  -- A command is taken or refused as it has to be after whatever happened, and the host goes on by its entry.
+  abbrev pub Answers : Host D g → Host D g → Command → Result Unit CommandNo → Type 0
+  Answers old new c result =
+      (past : List Entry) → StandsFor old past
+      → (no_of result ≡ refusal (capacity_in old) (setup_of old) past c)
+      × StandsFor new (command_entry c (no_of result) ∷ past)
+
+  -- A `next` at an address makes one attempt over a link. What it adds to the report are the entries of a `next` after
+  -- whatever happened, where what it heard is what follows the piece that it sent, and the host goes on by them.
+  pub record Nexts {L : Type 0} (gives : L → List ℕ → List ℕ → L → Type 0) (old new : L) (addr : ℕ) (before after : Host D g)
+      (report reported : List Entry) : Type 0 where
+    pub what : Attempt
+    pub reported_is : reported ≡ report ++ reverse (news_of addr what)
+    pub link : Links gives old new what
+    pub goes : (hears : List ℕ → List ℕ) (past : List Entry) → HeardBy hears what → StandsFor before past
+        → PutSuits (setup_of before) past addr
+        → EntriesOfNext hears (setup_of before) past addr (news_of addr what) × StandsFor after (news_of addr what ++ past)
+
+  -- A put failed: the job at the address was about to put a record, the host has all of the past as before, and whatever a
+  -- loss of power leaves on its trusted disk stands for the records of the past, or for these and that record.
+  abbrev pub Fails : Host D g → Host D g → ℕ → Type 0
+  Fails old new addr =
+      (past : List Entry) → StandsFor old past
+      → Keeps new past × ((r : Record) × (due_at (setup_of old) past addr ≡ Some r)
+      × (IsTrusted g.honest g.seen (disk_of old)
+      → LeavesOneOf g.honest g.seen g.may_leave (disk_of new) (reverse (records past)) r))
+
+  -- After all that happened the record that was due at an address, if one was due, was put: the journal has it, and the
+  -- ledger, beside what is reserved after it.
+  pub record PutsDue (past : List Entry) (addr : ℕ) (desks turned : Desks) (ledger posted : Ledger)
+      (journal written : Journal D g) : Type 0 where
+    pub used : journals.used_of written
+        ≡ journals.used_of journal + length (put_by (due_at (all_desks.setup_of desks) past addr))
+    pub book : Stands g.honest g.seen g.may_leave (journals.disk_of journal) (journals.place_of journal)
+        (reverse (records past))
+        → Stands g.honest g.seen g.may_leave (journals.disk_of written) (journals.place_of written)
+        (reverse (records past) ++ put_by (due_at (all_desks.setup_of desks) past addr))
+    pub posts : TakesItsPut (all_desks.setup_of desks) past addr
+        → ledgers.StandsFor ledger (records past) (all_desks.reserved_of desks)
+        → ledgers.StandsFor posted (put_by (due_at (all_desks.setup_of desks) past addr) ++ records past)
+        (all_desks.reserved_of turned)

@@ -1,0 +1,149 @@
+//! A host over a journal for three records, whose link says what is told to it.
+ghost use Rattle.std.specs.Prelude.{◌≡◌, ◌≤◌, false, IfOk, OnOk};
+ghost use Rattle.cct_model.specs.Device.{IsSound, IsSoundBody, IsWord};
+ghost use Rattle.cct_model.specs.Setup.{IsSoundSetup};
+ghost use Rattle.cct_journal.specs.Journal as journals;
+ghost use Rattle.cct_host.specs.Host.{has_failed};
+
+use crate::Host;
+use arrayvec::ArrayVec;
+use cct_disk::MemDisk;
+use cct_journal::Journal;
+use cct_model::{
+    COIN_PLACES, CheckKind, Command, CommandNo, DeviceBody, DeviceSetup, Devices, MOST_HEARD, Name,
+    Setup, Texts,
+};
+use cct_wire::Link;
+use std::alloc::Global;
+use std::test::Fail;
+
+/// The replies of an acceptor that is started, takes a coin of place 5, and is read: an acknowledgement, no credits, an
+/// acknowledgement, one credit, and the mask.
+const REPLIES: [&[u8]; 5] = [
+    b"\x01\0\x02\0\xfd",
+    b"\x01\x0b\x02\0\0\0\0\0\0\0\0\0\0\0\0\xf2",
+    b"\x01\0\x02\0\xfd",
+    b"\x01\x0b\x02\0\x01\x05\x01\0\0\0\0\0\0\0\0\xeb",
+    b"\x01\x02\x02\0\xff\xff\xfd",
+];
+
+/// A link that gives the echo and the next of these replies.
+#[derive(Drop)]
+struct Told {
+    exchanges: usize,
+}
+
+impl Link for Told {
+    ghost gives = { λ _ _ _ _. Unit {0} };
+
+    fn exchange(&mut self, sent: &[u8], heard: &mut ArrayVec<u8, MOST_HEARD>) {
+        heard.clear();
+        let _ = heard.try_extend_from_slice(sent);
+        let _ = heard.try_extend_from_slice(REPLIES.get(self.exchanges).copied().unwrap_or(b""));
+        self.exchanges = self.exchanges.saturating_add(1);
+    }
+}
+
+/// A text of one character.
+fn name() -> Name
+    ensures { IsWord result }
+{
+    let mut name = Name::new();
+    name.push(b'1');
+    name
+}
+
+/// A device at an address.
+fn device(addr: u8, body: DeviceBody) -> DeviceSetup
+    requires low { 2 ≤ addr }
+    requires body { IsSoundBody body }
+    ensures sound { IsSound result }
+    ensures addr { result.addr ≡ addr }
+{
+    DeviceSetup {
+        addr,
+        kind: CheckKind::Simple,
+        serial: 1,
+        texts: Texts {
+            maker: name(),
+            product: name(),
+            software: name(),
+            build: name(),
+        },
+        named: true,
+        body,
+    }
+}
+
+/// An acceptor at 2, whose coins have a value of 100, and a hopper at 3, whose coins have a value of 10.
+fn setup() -> Setup
+    ensures { IsSoundSetup result }
+{
+    let acceptor = device(
+        2,
+        DeviceBody::Acceptor {
+            accepts: 0,
+            values: [100; COIN_PLACES],
+            ids: [[b'5'; 6]; COIN_PLACES],
+        },
+    );
+    let hopper = device(3, DeviceBody::Hopper { life: 0, value: 10 });
+    let mut devices = Devices::new();
+    devices.push(acceptor);
+    devices.push(hopper);
+    Setup { devices }
+}
+
+/// A new journal that takes three records.
+fn journal(alloc: Global) -> Result<Journal<MemDisk>, Fail>
+    ensures { IfOk result (λ journal. (journals.used_of journal ≡ 0) × (journals.has_failed journal ≡ false)) }
+{
+    match Journal::create(MemDisk::new(alloc, 128, Vec::new(alloc))?) {
+        Ok(journal) => Ok(journal),
+        Err((_, why)) => Err(Fail::from(why)),
+    }
+}
+
+/// One attempt of the job at the acceptor.
+fn next(host: &mut Host<'_, MemDisk>, link: &mut Told) -> Result<(), Fail>
+    requires { has_failed host.old ≡ false }
+    ensures { OnOk result (has_failed host.new ≡ false) }
+{
+    let mut report = ArrayVec::new();
+    host.next(2, link, &mut report)?;
+    Ok(())
+}
+
+#[test]
+fn a_payment_wants_room_for_two_records(rt: HostRuntime) -> Result<(), Fail> {
+    let setup = setup();
+    let mut host = match Host::start(&setup, journal(rt.alloc())?) {
+        Ok(host) => host,
+        Err((_, why)) => return Err(Fail::from(why)),
+    };
+    let mut link = Told { exchanges: 0 };
+    host.command(&Command::Start {
+        addr: 2,
+        mask: 0xffff,
+    })?;
+    next(&mut host, &mut link)?;
+    next(&mut host, &mut link)?;
+    next(&mut host, &mut link)?;
+    next(&mut host, &mut link)?;
+    host.command(&Command::Round { addr: 2 })?;
+    next(&mut host, &mut link)?;
+    next(&mut host, &mut link)?;
+    next(&mut host, &mut link)?;
+    assert_eq!(rt; host.totals().available, 100);
+    match host.command(&Command::Pay {
+        addr: 3,
+        id: 41,
+        count: 4,
+    }) {
+        Err(CommandNo::JournalFull { used, held, need }) => {
+            assert_eq!(rt; (used, held, need), (2, 0, 2));
+        }
+        _ => panic!(rt; "a payment finds room"),
+    }
+    Ok(())
+}

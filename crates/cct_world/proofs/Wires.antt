@@ -1,0 +1,63 @@
+-- What one step leaves of the bus.
+use Rattle.std.proofs.Common.{◌≡◌, ◌∷◌, ◌++◌, ℕ, List, Option, Some, None, ap, subst, sym}
+use Rattle.cct_model.specs.lines.record.Record.{Record}
+use Rattle.cct_model.specs.lines.command.Command.{Command}
+use Rattle.cct_model.specs.lines.command.CommandNo.{CommandNo}
+use Rattle.cct_model.specs.lines.entry.End.{End}
+use Rattle.cct_model.specs.lines.entry.Entry.{Entry}
+use Rattle.cct_model.specs.lines.entry.Entry.TheVariants as entry
+use Rattle.cct_model.specs.lines.entry.Totals.{Totals}
+use Rattle.cct_model.specs.Legal.{command_entry, with_end}
+use Rattle.cct_model.specs.Transcript.{heard_after}
+use Rattle.cct_bus.specs.declared.bus.Bus.{Bus}
+use Rattle.cct_bus.specs.Bus as wires
+use Rattle.cct_host.specs.Attempt.{Attempt, HeardBy, Links, asked, idle, news_of, put}
+
+-- an end, an idle address, a record, a command and a balance change nothing on the wire
+ended_wire : (bus : Bus) (past : List Entry) (addr : ℕ) (end : End) → wires.StandsFor bus past
+    → wires.StandsFor bus (entry.Ended addr end ∷ past)
+ended_wire bus past addr end s = record { sound = s.sound; order = s.order; devices = s.devices; fault = s.fault }
+
+idle_wire : (bus : Bus) (past : List Entry) (addr : ℕ) → wires.StandsFor bus past
+    → wires.StandsFor bus (entry.Idle addr ∷ past)
+idle_wire bus past addr s = record { sound = s.sound; order = s.order; devices = s.devices; fault = s.fault }
+
+put_wire : (bus : Bus) (past : List Entry) (r : Record) → wires.StandsFor bus past
+    → wires.StandsFor bus (entry.Put r ∷ past)
+put_wire bus past r s = record { sound = s.sound; order = s.order; devices = s.devices; fault = s.fault }
+
+pub command_wire : (bus : Bus) (past : List Entry) (c : Command) (refused : Option CommandNo) → wires.StandsFor bus past
+    → wires.StandsFor bus (command_entry c refused ∷ past)
+command_wire bus past c None s = record { sound = s.sound; order = s.order; devices = s.devices; fault = s.fault }
+command_wire bus past c (Some why) s = record { sound = s.sound; order = s.order; devices = s.devices; fault = s.fault }
+
+pub balance_wire : (bus : Bus) (past : List Entry) (t : Totals) → wires.StandsFor bus past
+    → wires.StandsFor bus (entry.Balance t ∷ past)
+balance_wire bus past t s = record { sound = s.sound; order = s.order; devices = s.devices; fault = s.fault }
+
+with_end_wire : (bus : Bus) (past : List Entry) (addr : ℕ) (e : Entry) (end : Option End)
+    → wires.StandsFor bus (e ∷ past) → wires.StandsFor bus (with_end addr e end ++ past)
+with_end_wire bus past addr e None s = s
+with_end_wire bus past addr e (Some end) s = ended_wire bus (e ∷ past) addr end s
+
+-- an attempt on the bus
+pub link_setup : (bus after : Bus) (what : Attempt) → Links wires.Exchanges bus after what
+    → wires.setup_of after ≡ wires.setup_of bus
+link_setup bus after idle link = ap wires.setup_of link
+link_setup bus after (asked sent heard end) link = link.0
+link_setup bus after (put r end) link = ap wires.setup_of link
+
+-- what an attempt leaves on the bus, and that it heard what the bus gave
+pub linked : (bus after : Bus) (addr : ℕ) (past : List Entry) (what : Attempt) → Links wires.Exchanges bus after what
+    → wires.StandsFor bus past
+    → HeardBy (heard_after (wires.setup_of bus) past) what × wires.StandsFor after (news_of addr what ++ past)
+linked bus after addr past idle link stands =
+    (tt, subst (λ b. wires.StandsFor b (entry.Idle addr ∷ past)) (sym link) (idle_wire bus past addr stands))
+linked bus after addr past (asked sent heard end) link stands =
+    let wire = link.1 past addr stands in
+    (wire.0, with_end_wire after past addr (entry.Wire addr sent heard) end wire.1)
+linked bus after addr past (put r end) link stands = (
+  tt,
+  subst (λ b. wires.StandsFor b (with_end addr (entry.Put r) end ++ past)) (sym link)
+      (with_end_wire bus past addr (entry.Put r) end (put_wire bus past r stands)),
+)

@@ -1,0 +1,262 @@
+//! The machine of a world: the host, and the bus with its devices.
+ghost use Rattle.std.specs.Prelude.{◌≡◌, ◌≤◌, [], IsTrue, OnErr, OnOk, false, is_some};
+ghost use Rattle.cct_model.specs.lines.command.Step.TheVariants as step;
+ghost use Rattle.cct_model.specs.Exchange.{acceptor_there, device_at, hopper_there};
+ghost use Rattle.cct_model.specs.Legal.{is_played, is_played_command};
+ghost use Rattle.cct_model.specs.Script.{IsFault, IsInRange, is_known};
+ghost use Rattle.cct_bus.specs.Bus as wires;
+ghost use Rattle.cct_edge.specs.Faults.{Rose};
+ghost use Rattle.cct_journal.specs.Stands.{GoesOn};
+ghost use Rattle.cct_host.specs.Host as hosts;
+ghost use Rattle.cct_world.specs.Step.{entry_of, fall_told, is_next, jam_told};
+
+use arrayvec::ArrayVec;
+use cct_acceptor::Inserted;
+use cct_bus::Bus;
+use cct_disk::Disk;
+use cct_edge::Failed;
+use cct_host::Host;
+use cct_model::{COIN_PLACES, Command, Entry, Step, WireFault};
+
+/// The host and the bus of a world. They stand in a box, so that a world that is moved costs a pointer.
+#[derive(Drop)]
+pub(crate) struct Machine<'s, D: Disk> {
+    pub host: Host<'s, D>,
+    pub bus: Bus<'s>,
+    ghost same: { wires.setup_of bus ≡ hosts.setup_of host },
+}
+
+impl<D: Disk> Machine<'_, D> {
+    ghost use Rattle.cct_world.specs.Machine.{Breaks, Plays, StandsFor, disk_of, has_failed, setup_of};
+
+    pub fn knows(&self, step: &Step) -> bool
+        ensures { result ≡ is_known (setup_of self.now) step.now }
+    {
+        match step {
+            Step::Coin { addr, .. } => self.bus.is_acceptor(*addr),
+            Step::Alien { addr } => self.bus.is_acceptor(*addr),
+            Step::Fall { addr } => self.bus.is_hopper(*addr),
+            Step::Jam { addr } => self.bus.is_hopper(*addr),
+            Step::Reset { addr } => self.bus.has_device(*addr),
+            Step::Fault(_) => true,
+            Step::Next { .. } => true,
+            Step::Command(_) => true,
+            Step::Crash { .. } => true,
+            Step::Balance => true,
+            Step::End => true,
+        }
+    }
+
+    pub fn step(&mut self, step: &Step, report: &mut ArrayVec<Entry, 8>) -> Result<(), Failed>
+        requires known { IsTrue (is_known (setup_of self.old) step.now) }
+        requires in_range { IsInRange step.now }
+        requires played { IsTrue (is_played step.now) }
+        requires whole { has_failed self.old ≡ false }
+        ensures setup { setup_of self.new ≡ setup_of self.old }
+        ensures whole { OnOk result (has_failed self.new ≡ false) }
+        ensures plays { OnOk result (Plays self.old self.new step.now report.new.items) }
+        ensures empty { OnErr result (report.new.items ≡ []) }
+        ensures breaks { OnErr result (Breaks self.old (disk_of self.new) step.now) }
+        ensures cause { OnErr result (Rose (D.faults (disk_of self.old)) (D.faults (disk_of self.new))) }
+        ensures goes_on { GoesOn D.size D.honest D.seen D.cuts (disk_of self.old) (disk_of self.new) }
+        ensures later { D.faults (disk_of self.old) ≤ D.faults (disk_of self.new) }
+    {
+        report.clear();
+        match step {
+            Step::Next { addr } => self.next(*addr, report),
+            _ => {
+                self.undisturbed_step(step, report);
+                Ok(())
+            }
+        }
+    }
+
+    /// Plays a step that makes no call of the disk: any but a `next`.
+    fn undisturbed_step(&mut self, step: &Step, report: &mut ArrayVec<Entry, 8>)
+        requires known { IsTrue (is_known (setup_of self.old) step.now) }
+        requires in_range { IsInRange step.now }
+        requires played { IsTrue (is_played step.now) }
+        requires no_next { is_next step.now ≡ false }
+        requires report { report.old.items ≡ [] }
+        ensures setup { setup_of self.new ≡ setup_of self.old }
+        ensures whole { has_failed self.new ≡ has_failed self.old }
+        ensures disk { disk_of self.new ≡ disk_of self.old }
+        ensures plays { Plays self.old self.new step.now report.new.items }
+    {
+        match step {
+            Step::Coin { addr, place } => self.coin(*addr, *place, report),
+            Step::Alien { addr } => self.alien(*addr, report),
+            Step::Fall { addr } => self.fall(*addr, report),
+            Step::Jam { addr } => self.jam(*addr, report),
+            Step::Reset { addr } => self.reset(*addr, report),
+            Step::Fault(fault) => self.fault(fault, report),
+            Step::Command(command) => self.command(command, report),
+            Step::Balance => self.balance(report),
+            Step::Next { .. } => unreachable!(),
+            Step::Crash { .. } => unreachable!(),
+            Step::End => unreachable!(),
+        }
+    }
+
+    /// A coin falls into an acceptor.
+    fn coin(&mut self, addr: u8, place: u8, report: &mut ArrayVec<Entry, 8>)
+        requires there { IsTrue (acceptor_there (device_at (setup_of self.old).devices addr)) }
+        requires low { 1 ≤ place }
+        requires high { place ≤ COIN_PLACES }
+        requires report { report.old.items ≡ [] }
+        ensures setup { setup_of self.new ≡ setup_of self.old }
+        ensures whole { has_failed self.new ≡ has_failed self.old }
+        ensures disk { disk_of self.new ≡ disk_of self.old }
+        ensures plays { Plays self.old self.new (step.Coin addr place) report.new.items }
+    {
+        let inserted = self.bus.coin(addr, place);
+        report.push(coin_entry(inserted, addr, place));
+    }
+
+    /// A piece that is no coin falls into an acceptor.
+    fn alien(&mut self, addr: u8, report: &mut ArrayVec<Entry, 8>)
+        requires there { IsTrue (acceptor_there (device_at (setup_of self.old).devices addr)) }
+        requires report { report.old.items ≡ [] }
+        ensures setup { setup_of self.new ≡ setup_of self.old }
+        ensures whole { has_failed self.new ≡ has_failed self.old }
+        ensures disk { disk_of self.new ≡ disk_of self.old }
+        ensures plays { Plays self.old self.new (step.Alien addr) report.new.items }
+    {
+        self.bus.alien(addr);
+        report.push(Entry::Alien { addr });
+    }
+
+    /// A coin may fall out of a hopper: it does where the hopper has some left to pay.
+    fn fall(&mut self, addr: u8, report: &mut ArrayVec<Entry, 8>)
+        requires there { IsTrue (hopper_there (device_at (setup_of self.old).devices addr)) }
+        requires report { report.old.items ≡ [] }
+        ensures setup { setup_of self.new ≡ setup_of self.old }
+        ensures whole { has_failed self.new ≡ has_failed self.old }
+        ensures disk { disk_of self.new ≡ disk_of self.old }
+        ensures plays { Plays self.old self.new (step.Fall addr) report.new.items }
+    {
+        let does = self.bus.fall(addr);
+        report.push(fall_told(does, addr));
+    }
+
+    /// A coin may stick in a hopper: it does where the hopper has some left to pay.
+    fn jam(&mut self, addr: u8, report: &mut ArrayVec<Entry, 8>)
+        requires there { IsTrue (hopper_there (device_at (setup_of self.old).devices addr)) }
+        requires report { report.old.items ≡ [] }
+        ensures setup { setup_of self.new ≡ setup_of self.old }
+        ensures whole { has_failed self.new ≡ has_failed self.old }
+        ensures disk { disk_of self.new ≡ disk_of self.old }
+        ensures plays { Plays self.old self.new (step.Jam addr) report.new.items }
+    {
+        let does = self.bus.jam(addr);
+        report.push(jam_told(does, addr));
+    }
+
+    /// A device starts again as after power-up.
+    fn reset(&mut self, addr: u8, report: &mut ArrayVec<Entry, 8>)
+        requires there { IsTrue (is_some (device_at (setup_of self.old).devices addr)) }
+        requires report { report.old.items ≡ [] }
+        ensures setup { setup_of self.new ≡ setup_of self.old }
+        ensures whole { has_failed self.new ≡ has_failed self.old }
+        ensures disk { disk_of self.new ≡ disk_of self.old }
+        ensures plays { Plays self.old self.new (step.Reset addr) report.new.items }
+    {
+        self.bus.reset(addr);
+        report.push(Entry::Reset { addr });
+    }
+
+    /// The wire has a fault in the next exchange.
+    fn fault(&mut self, fault: &WireFault, report: &mut ArrayVec<Entry, 8>)
+        requires in_range { IsFault fault.now }
+        requires report { report.old.items ≡ [] }
+        ensures setup { setup_of self.new ≡ setup_of self.old }
+        ensures whole { has_failed self.new ≡ has_failed self.old }
+        ensures disk { disk_of self.new ≡ disk_of self.old }
+        ensures plays { Plays self.old self.new (step.Fault fault.now) report.new.items }
+    {
+        self.bus.set_fault(fault.copied());
+        report.push(Entry::Fault(fault.copied()));
+    }
+
+    /// The operator gives the host a command. A refused one changes nothing.
+    fn command(&mut self, command: &Command, report: &mut ArrayVec<Entry, 8>)
+        requires played { IsTrue (is_played_command command.now) }
+        requires report { report.old.items ≡ [] }
+        ensures setup { setup_of self.new ≡ setup_of self.old }
+        ensures whole { has_failed self.new ≡ has_failed self.old }
+        ensures disk { disk_of self.new ≡ disk_of self.old }
+        ensures plays { Plays self.old self.new (step.Command command.now) report.new.items }
+    {
+        match self.host.command(command) {
+            Ok(()) => report.push(Entry::Taken(*command)),
+            Err(why) => report.push(Entry::No {
+                command: *command,
+                why,
+            }),
+        }
+    }
+
+    /// The operator is told what is available, reserved, paid and sold.
+    fn balance(&self, report: &mut ArrayVec<Entry, 8>)
+        requires report { report.old.items ≡ [] }
+        ensures { Plays self.now self.now step.Balance report.new.items }
+    {
+        report.push(Entry::Balance(self.host.totals()));
+    }
+
+    /// The host's job at an address makes one attempt of one row on the bus.
+    fn next(&mut self, addr: u8, report: &mut ArrayVec<Entry, 8>) -> Result<(), Failed>
+        requires whole { has_failed self.old ≡ false }
+        requires report { report.old.items ≡ [] }
+        ensures setup { setup_of self.new ≡ setup_of self.old }
+        ensures whole { OnOk result (has_failed self.new ≡ false) }
+        ensures plays { OnOk result (Plays self.old self.new (step.Next addr) report.new.items) }
+        ensures empty { OnErr result (report.new.items ≡ []) }
+        ensures breaks { OnErr result (Breaks self.old (disk_of self.new) (step.Next addr)) }
+        ensures cause { OnErr result (Rose (D.faults (disk_of self.old)) (D.faults (disk_of self.new))) }
+        ensures goes_on { GoesOn D.size D.honest D.seen D.cuts (disk_of self.old) (disk_of self.new) }
+        ensures later { D.faults (disk_of self.old) ≤ D.faults (disk_of self.new) }
+    {
+        self.host.next(addr, &mut self.bus, report)
+    }
+
+    /// The disk.
+    pub fn into_disk(self) -> D
+        ensures { result ≡ disk_of self.entry }
+    {
+        let Machine { host, bus: _ } = self;
+        host.into_disk()
+    }
+}
+
+/// The entry of what becomes of a coin.
+fn coin_entry(inserted: Inserted, addr: u8, place: u8) -> Entry
+    ensures { result ≡ entry_of inserted addr place }
+{
+    match inserted {
+        Inserted::Accepted(coin) => Entry::Accepted { addr, coin },
+        Inserted::Inhibited => Entry::Inhibited { addr, place },
+    }
+}
+
+/// The entry of a coin that may fall out of a hopper, by whether it does.
+fn fall_told(fell: bool, addr: u8) -> Entry
+    ensures { result ≡ fall_told fell addr }
+{
+    if fell {
+        Entry::Fell { addr }
+    } else {
+        Entry::NoFall { addr }
+    }
+}
+
+/// The entry of a coin that may stick in a hopper, by whether it does.
+fn jam_told(stuck: bool, addr: u8) -> Entry
+    ensures { result ≡ jam_told stuck addr }
+{
+    if stuck {
+        Entry::Jammed { addr }
+    } else {
+        Entry::NoJam { addr }
+    }
+}
