@@ -1,29 +1,32 @@
 -- The last line of a run, and what its status says.
 use Rattle.std.proofs.Common.{◌≡◌, ◌≢◌, ℕ, List, [], ◌∷◌, ◌++◌, Option, None, Some, Result, Ok, Err, refl}
-use Rattle.std.proofs.Common.{sym, ap, subst, inl, inr, arith}
-use Rattle.std.specs.Prelude.{IfSome}
+use Rattle.std.proofs.Common.{sym, ap, subst, inl, inr, arith, ◌∙◌, ◌⊎◌}
+use Rattle.std.specs.Prelude.{IfSome, is_some, true}
 use Rattle.std.proofs.lemmas.List.{append-nil}
 use Rattle.cct_edge.specs.declared.fault.Failed.{Failed}
 use Rattle.cct_model.specs.terms.device.Setup.{Setup}
 use Rattle.cct_model.specs.lines.command.Step.{Step}
+use Rattle.cct_model.specs.lines.command.Step.TheVariants as step
 use Rattle.cct_model.specs.lines.entry.Entry.{Entry}
 use Rattle.cct_model.specs.Legal.{Legal}
 use Rattle.cct_model.specs.lines.entry.Entry.TheVariants as entry
 use Rattle.cct_model.specs.Script.{script, Refusal}
 use Rattle.cct_model.specs.Transcript.{onto}
-use Rattle.cct_laws.proofs.Scripts.{played_in_order, played_covers, played_paid, front_of_today}
+use Rattle.cct_laws.proofs.Scripts.{played_in_order, played_covers, played_paid}
 use Rattle.cct_journal.specs.Image.{IsBlank, IsFirstByteFrom}
 use Rattle.cct_bench.specs.declared.outcome.Status.{Status}
 use Rattle.cct_bench.specs.declared.outcome.Status.TheVariants as status
 use Rattle.cct_bench.specs.declared.play.Ending.{Ending}
 use Rattle.cct_bench.specs.declared.play.Ending.TheVariants as ending
 use Rattle.cct_bench.specs.declared.play.TheConstants.{JOURNAL_BYTES}
-use Rattle.cct_bench.specs.Disks.{Disks, crashes, most_records}
-use Rattle.cct_bench.specs.Writing.{Writes, Wrote, Broke}
-use Rattle.cct_bench.specs.Run.{Book, Closes, Ends, BreaksOff, Over, Ran, Played, last_entry, listed, status_by}
-use Rattle.cct_bench.specs.Run.{status_of, Completes}
-use Rattle.cct_bench.proofs.Powered.{legal_quiet}
-use Rattle.cct_bench.proofs.Writing.{writes_then}
+use Rattle.cct_world.specs.Step.{RoseBy}
+use Rattle.cct_world.specs.Sure.{First, IsCrash, Sure, losses_in}
+use Rattle.cct_bench.specs.Disks.{Disks, IsReady, most_records}
+use Rattle.cct_text.specs.Writing.{Writes, Wrote, Broke}
+use Rattle.cct_bench.specs.Run.{Book, BreaksOff, Closes, Completes, Ends, IsOfScript, Over, OverCut, Played, Ran}
+use Rattle.cct_bench.specs.Run.{TellsLoss, last_entry, listed, status_by, status_of}
+use Rattle.cct_world.proofs.Told.{rose_none}
+use Rattle.cct_text.proofs.Writing.{writes_then}
 
 -- what holds where an object tells, also holds by a weaker fact
 pub some_weaker : (P Q : List ℕ → Type 0) (known : Option (List ℕ)) → ((bytes : List ℕ) → P bytes → Q bytes)
@@ -34,35 +37,35 @@ some_weaker P Q (Some bytes) f h = f bytes h
 -- a run by its status, from what was played
 ran_by : (bytes : List ℕ) (how : Ending) (s : Status) (tail : List Entry) (left : Option (List ℕ)) (disks : Disks)
     (Before Written : List Entry → Type 0) (Broken Breaks : List Entry → List Entry → Type 0)
-    → disks.cuts_after ≡ disks.cuts → (p : Played bytes how left Before Broken (Over disks))
+    → (disks.trusted → TellsLoss tail → ⊥)
+    → (p : Played (Sure disks.trusted) bytes how left Before Broken (OverCut disks))
     → Ends disks bytes p.taken p.played p.unplayed p.transcript s tail Written Breaks
-    → (disks.trusted → p.taken ≢ [] → Book disks bytes p.taken p.played p.unplayed p.transcript tail)
+    → (disks.trusted → p.taken ≢ [] → Book disks (script bytes).setup p.unplayed (onto [] p.transcript) tail)
     → Ran bytes s left Written Breaks disks
-ran_by bytes how s tail left disks Before Written Broken Breaks uncut p ends book =
-    let quiet : crashes (onto [] p.transcript) ≡ 0 =
-    legal_quiet most_records (script bytes).setup p.played p.transcript
-    (front_of_today bytes p.played p.unplayed p.steps_are).played p.legal in
-    record {
-      taken = p.taken;
-      rest = p.rest;
-      played = p.played;
-      unplayed = p.unplayed;
-      transcript = p.transcript;
-      tail = tail;
-      took = p.took;
-      left_is = p.left_is;
-      steps_are = p.steps_are;
-      legal = p.legal;
-      in_order = λ d own honest.
-          played_in_order most_records bytes p.played p.unplayed p.transcript d p.steps_are p.legal honest own;
-      covers = λ d own honest.
-          played_covers most_records bytes p.played p.unplayed p.transcript d p.steps_are p.legal honest own;
-      paid = λ d own paying honest.
-          played_paid most_records bytes p.played p.unplayed p.transcript d p.steps_are p.legal honest own paying;
-      ends = ends;
-      book = book;
-      cuts = omega (arith, quiet, uncut);
-    }
+ran_by bytes how s tail left disks Before Written Broken Breaks keeps p ends book = record {
+  taken = p.taken;
+  rest = p.rest;
+  played = p.played;
+  unplayed = p.unplayed;
+  transcript = p.transcript;
+  tail = tail;
+  took = p.took;
+  left_is = p.left_is;
+  steps_are = p.steps_are;
+  losses = p.losses;
+  legal = p.legal;
+  in_order = λ sure d own honest.
+      played_in_order most_records bytes p.played p.unplayed p.transcript d p.steps_are (p.legal sure) honest own;
+  covers = λ sure d own honest.
+      played_covers most_records bytes p.played p.unplayed p.transcript d p.steps_are (p.legal sure) honest own;
+  paid = λ sure d own paying honest.
+      played_paid most_records bytes p.played p.unplayed p.transcript d p.steps_are (p.legal sure) honest own paying;
+  ends = ends;
+  book = book;
+  keeps = keeps;
+  cut = p.beside.cut;
+  uncut = p.beside.uncut;
+}
 
 -- a last line was written whole, or broke off
 abbrev pub LastLine : (List Entry → Type 0) → (List Entry → Type 0) → (List Entry → List Entry → Type 0) → List Entry
@@ -71,10 +74,11 @@ LastLine Before Written Breaks tail (Ok done) = (xs : List Entry) → Before xs 
 LastLine Before Written Breaks tail (Err failed) = (xs : List Entry) → Before xs → Breaks xs tail
 
 -- the sink failed within the last line
-breaks_last : (setup : Setup) (played : List Step) (transcript tail : List Entry)
-    (Breaks : List Entry → List Entry → Type 0) → Legal most_records setup played transcript → Breaks transcript tail
-    → BreaksOff setup played transcript tail Breaks
-breaks_last setup played transcript tail Breaks legal breaks = record {
+breaks_last : (Relies : List Entry → Type 0) (setup : Setup) (played : List Step) (transcript tail : List Entry)
+    (Breaks : List Entry → List Entry → Type 0)
+    → (Relies (onto [] transcript) → Legal most_records setup played transcript) → Breaks transcript tail
+    → BreaksOff Relies setup played transcript tail Breaks
+breaks_last Relies setup played transcript tail Breaks legal breaks = record {
   before = played;
   last = [];
   whole = transcript;
@@ -83,7 +87,7 @@ breaks_last setup played transcript tail Breaks legal breaks = record {
   one_step = omega arith;
   transcript_is = sym (append-nil transcript);
   legal = legal;
-  goes_on = refl;
+  goes_on = λ relies. refl;
   in_one = inl refl;
   breaks = breaks;
 }
@@ -105,41 +109,40 @@ module _ (disks : Disks) (bytes taken : List ℕ) (played unplayed : List Step) 
 -- a run whose last line was put
 ran_last : (bytes : List ℕ) (how : Ending) (s : Status) (tail : List Entry) (answer : Result (Unit {0}) Failed)
     (left : Option (List ℕ)) (disks : Disks) (Before Written : List Entry → Type 0)
-    (Broken Breaks : List Entry → List Entry → Type 0) → HasLine s → disks.cuts_after ≡ disks.cuts
+    (Broken Breaks : List Entry → List Entry → Type 0) → HasLine s → (disks.trusted → TellsLoss tail → ⊥)
     → LastLine Before Written Breaks tail answer
-    → (p : Played bytes how left Before Broken (Over disks)) → Before p.transcript
+    → (p : Played (Sure disks.trusted) bytes how left Before Broken (OverCut disks)) → Before p.transcript
     → Closes disks bytes p.taken p.played p.unplayed p.transcript s tail
-    → (disks.trusted → p.taken ≢ [] → Book disks bytes p.taken p.played p.unplayed p.transcript tail)
+    → (disks.trusted → p.taken ≢ [] → Book disks (script bytes).setup p.unplayed (onto [] p.transcript) tail)
     → Ran bytes (status_by answer s) left Written Breaks disks
-ran_last bytes how s tail (Ok done) left disks Before Written Broken Breaks has uncut line p wrote closes book =
-    ran_by bytes how s tail left disks Before Written Broken Breaks uncut p
+ran_last bytes how s tail (Ok done) left disks Before Written Broken Breaks has keeps line p wrote closes book =
+    ran_by bytes how s tail left disks Before Written Broken Breaks keeps p
     (ends_whole disks bytes p.taken p.played p.unplayed p.transcript Written Breaks s tail has closes
     (line p.transcript wrote)) book
-ran_last bytes how s tail (Err failed) left disks Before Written Broken Breaks has uncut line p wrote closes book =
-    ran_by bytes how status.WriteFault tail left disks Before Written Broken Breaks uncut p (
+ran_last bytes how s tail (Err failed) left disks Before Written Broken Breaks has keeps line p wrote closes book =
+    ran_by bytes how status.WriteFault tail left disks Before Written Broken Breaks keeps p (
       inr (s, closes),
-      breaks_last (script bytes).setup p.played p.transcript tail Breaks p.legal (line p.transcript wrote),
+      breaks_last (Sure disks.trusted) (script bytes).setup p.played p.transcript tail Breaks p.legal
+          (line p.transcript wrote),
     ) book
 
--- the record that was being put, where the disk failed
+-- what was due in the step in which the disk failed
 torn_book : (disks : Disks) (bytes taken : List ℕ) (played unplayed : List Step) (transcript : List Entry)
     → Over disks ending.DiskFailed (script bytes).setup taken played unplayed (onto [] transcript) → disks.trusted
-    → taken ≢ [] → Book disks bytes taken played unplayed transcript (entry.DiskFault ∷ [])
+    → taken ≢ [] → Book disks (script bytes).setup unplayed (onto [] transcript) (entry.DiskFault ∷ [])
 torn_book disks bytes taken played unplayed transcript (sized, inl none) trusted some = absurd (some none.0)
-torn_book disks bytes taken played unplayed transcript (sized, inr torn) trusted some =
-    (torn.0, torn.1, torn.3 trusted)
+torn_book disks bytes taken played unplayed transcript (sized, inr torn) trusted some = torn.2 trusted
 
 torn_closes : (disks : Disks) (bytes taken : List ℕ) (played unplayed : List Step) (transcript : List Entry)
     → Over disks ending.DiskFailed (script bytes).setup taken played unplayed (onto [] transcript)
     → Closes disks bytes taken played unplayed transcript status.DiskFault (entry.DiskFault ∷ [])
 torn_closes disks bytes taken played unplayed transcript (sized, inl none) = (sized, refl, inl none)
-torn_closes disks bytes taken played unplayed transcript (sized, inr torn) =
-    (sized, refl, inr (torn.0, torn.1, torn.2))
+torn_closes disks bytes taken played unplayed transcript (sized, inr torn) = (sized, refl, inr (torn.0, torn.1))
 
-breaks_by : (setup : Setup) (played : List Step) (transcript tail : List Entry)
+breaks_by : (Relies : List Entry → Type 0) (setup : Setup) (played : List Step) (transcript tail : List Entry)
     (Broken Breaks : List Entry → List Entry → Type 0) → ((xs ys : List Entry) → Broken xs ys → Breaks xs ys)
-    → BreaksOff setup played transcript tail Broken → BreaksOff setup played transcript tail Breaks
-breaks_by setup played transcript tail Broken Breaks b h = record {
+    → BreaksOff Relies setup played transcript tail Broken → BreaksOff Relies setup played transcript tail Breaks
+breaks_by Relies setup played transcript tail Broken Breaks b h = record {
   before = h.before;
   last = h.last;
   whole = h.whole;
@@ -153,71 +156,98 @@ breaks_by setup played transcript tail Broken Breaks b h = record {
   breaks = b h.whole (h.cut ++ tail) h.breaks;
 }
 
+module _ (bytes : List ℕ) (answer : Result (Unit {0}) Failed) (left : Option (List ℕ)) (disks : Disks)
+    (Before Written : List Entry → Type 0) (Broken Breaks : List Entry → List Entry → Type 0) where
+  -- what a loss of power left is told
+  ran_lost : (how : Ending) (tail : List Entry) → TellsLoss tail → LastLine Before Written Breaks tail answer
+      → (p : Played (Sure disks.trusted) bytes how left Before Broken (OverCut disks)) → Before p.transcript
+      → IsReady disks.size disks.seen × First IsCrash p.unplayed × (disks.trusted → ⊥)
+      → Ran bytes (status_by answer status.JournalLost) left Written Breaks disks
+  ran_lost how tail tells line p wrote over =
+      ran_last bytes how status.JournalLost tail answer left disks Before Written Broken Breaks tt
+      (λ trusted tells. over.2 trusted) line p wrote (tells, over.1, over.0) (λ trusted some. absurd (over.2 trusted))
+
 -- a run by how its steps came to their end, where its last line is put in this way
 ran_ends : (bytes : List ℕ) (how : Ending) (answer : Result (Unit {0}) Failed) (left : Option (List ℕ)) (disks : Disks)
     (Before Written : List Entry → Type 0) (Broken Breaks : List Entry → List Entry → Type 0)
-    → disks.cuts_after ≡ disks.cuts → LastLine Before Written Breaks (listed (last_entry how)) answer
+    → LastLine Before Written Breaks (listed (last_entry how)) answer
     → ((xs ys : List Entry) → last_entry how ≡ None → Broken xs ys → Breaks xs ys)
     → ((failed : Failed) → answer ≡ Err failed → last_entry how ≡ None → ⊥)
-    → Played bytes how left Before Broken (Over disks)
+    → Played (Sure disks.trusted) bytes how left Before Broken (OverCut disks)
     → Ran bytes (status_by answer (status_of how)) left Written Breaks disks
-ran_ends bytes ending.Done answer left disks Before Written Broken Breaks uncut line broke fails p =
-    ran_last bytes ending.Done status.Done [] answer left disks Before Written Broken Breaks tt uncut line p p.stops.2
-    (p.stops.0, p.stops.1, refl, p.beside.0) (λ trusted some. p.beside.1 trusted)
-ran_ends bytes (ending.Refused number why) answer left disks Before Written Broken Breaks uncut line broke fails p =
+ran_ends bytes ending.Done answer left disks Before Written Broken Breaks line broke fails p =
+    ran_last bytes ending.Done status.Done [] answer left disks Before Written Broken Breaks tt (λ trusted tells. tells)
+    line p p.stops.2 (p.stops.0, p.stops.1, refl, p.beside.over.0) (λ trusted some. p.beside.over.1 trusted)
+ran_ends bytes (ending.Refused number why) answer left disks Before Written Broken Breaks line broke fails p =
     ran_last bytes (ending.Refused number why) status.ScriptRefused (entry.Line number why ∷ []) answer left disks
-    Before Written Broken Breaks tt uncut line p p.stops.2
-    (record { number = number; why = why }, p.stops.0, p.stops.1, refl, p.beside.0) (λ trusted some. p.beside.1 trusted)
-ran_ends bytes ending.Unread answer left disks Before Written Broken Breaks uncut line broke fails p =
+    Before Written Broken Breaks tt (λ trusted tells. tells) line p p.stops.2
+    (record { number = number; why = why }, p.stops.0, p.stops.1, refl, p.beside.over.0)
+    (λ trusted some. p.beside.over.1 trusted)
+ran_ends bytes ending.Unread answer left disks Before Written Broken Breaks line broke fails p =
     ran_last bytes ending.Unread status.ReadFault (entry.ReadFault ∷ []) answer left disks Before Written Broken Breaks
-    tt uncut line p p.stops.1 (p.stops.0, refl, p.beside.0) (λ trusted some. p.beside.1 trusted)
-ran_ends bytes ending.Unwritten (Ok done) left disks Before Written Broken Breaks uncut line broke fails p =
-    ran_by bytes ending.Unwritten status.WriteFault [] left disks Before Written Broken Breaks uncut p (
-      inl (refl, p.beside.0),
-      breaks_by (script bytes).setup p.played p.transcript [] Broken Breaks (λ xs ys b. broke xs ys refl b) p.stops,
-    ) (λ trusted some. p.beside.1 trusted)
-ran_ends bytes ending.Unwritten (Err failed) left disks Before Written Broken Breaks uncut line broke fails p =
+    tt (λ trusted tells. tells) line p p.stops.1 (p.stops.0, refl, p.beside.over.0)
+    (λ trusted some. p.beside.over.1 trusted)
+ran_ends bytes ending.Unwritten (Ok done) left disks Before Written Broken Breaks line broke fails p =
+    ran_by bytes ending.Unwritten status.WriteFault [] left disks Before Written Broken Breaks (λ trusted tells. tells)
+    p (
+      inl (refl, p.beside.over.0),
+      breaks_by (Sure disks.trusted) (script bytes).setup p.played p.transcript [] Broken Breaks
+          (λ xs ys b. broke xs ys refl b) p.stops,
+    ) (λ trusted some. p.beside.over.1 trusted)
+ran_ends bytes ending.Unwritten (Err failed) left disks Before Written Broken Breaks line broke fails p =
     absurd (fails failed refl refl)
-ran_ends bytes ending.NoMemory (Ok done) left disks Before Written Broken Breaks uncut line broke fails p =
-    ran_by bytes ending.NoMemory status.OutOfMemory [] left disks Before Written Broken Breaks uncut p
-    (p.stops.0, refl, line [] p.stops.1) (λ trusted some. p.beside trusted)
-ran_ends bytes ending.NoMemory (Err failed) left disks Before Written Broken Breaks uncut line broke fails p =
+ran_ends bytes ending.NoMemory (Ok done) left disks Before Written Broken Breaks line broke fails p =
+    ran_by bytes ending.NoMemory status.OutOfMemory [] left disks Before Written Broken Breaks (λ trusted tells. tells)
+    p (p.stops.0, refl, line [] p.stops.1) (λ trusted some. p.beside.over trusted)
+ran_ends bytes ending.NoMemory (Err failed) left disks Before Written Broken Breaks line broke fails p =
     absurd (fails failed refl refl)
-ran_ends bytes ending.DiskFailed answer left disks Before Written Broken Breaks uncut line broke fails p =
+ran_ends bytes ending.DiskFailed answer left disks Before Written Broken Breaks line broke fails p =
     ran_last bytes ending.DiskFailed status.DiskFault (entry.DiskFault ∷ []) answer left disks Before Written Broken
-    Breaks tt uncut line p p.stops (torn_closes disks bytes p.taken p.played p.unplayed p.transcript p.beside)
-    (torn_book disks bytes p.taken p.played p.unplayed p.transcript p.beside)
-ran_ends bytes (ending.NotBlank at) answer left disks Before Written Broken Breaks uncut line broke fails p =
+    Breaks tt (λ trusted tells. tells) line p p.stops
+    (torn_closes disks bytes p.taken p.played p.unplayed p.transcript p.beside.over)
+    (torn_book disks bytes p.taken p.played p.unplayed p.transcript p.beside.over)
+ran_ends bytes (ending.NotBlank at) answer left disks Before Written Broken Breaks line broke fails p =
     ran_last bytes (ending.NotBlank at) status.NotBlank (entry.NotBlank at ∷ []) answer left disks Before Written Broken
-    Breaks tt uncut line p p.stops (at, p.beside.0, refl, p.beside.1, p.beside.2)
-    (λ trusted some. absurd (some p.beside.1.0))
-ran_ends bytes (ending.OtherSize len) answer left disks Before Written Broken Breaks uncut line broke fails p =
+    Breaks tt (λ trusted tells. tells) line p p.stops
+    (at, p.beside.over.0, refl, p.beside.over.1, p.beside.over.2) (λ trusted some. absurd (some p.beside.over.1.0))
+ran_ends bytes (ending.OtherSize len) answer left disks Before Written Broken Breaks line broke fails p =
     ran_last bytes (ending.OtherSize len) status.DiskSize (entry.DiskSize len ∷ []) answer left disks Before Written
-    Broken Breaks tt uncut line p p.stops (p.beside.0, ap (λ n. entry.DiskSize n ∷ []) p.beside.2, p.beside.1)
-    (λ trusted some. absurd (some p.beside.1.0))
+    Broken Breaks tt (λ trusted tells. tells) line p p.stops
+    (p.beside.over.0, ap (λ n. entry.DiskSize n ∷ []) p.beside.over.2, p.beside.over.1)
+    (λ trusted some. absurd (some p.beside.over.1.0))
+ran_ends bytes ending.JournalAlien answer left disks Before Written Broken Breaks line broke fails p =
+    ran_lost bytes answer left disks Before Written Broken Breaks ending.JournalAlien (entry.JournalAlien ∷ []) tt line
+    p p.stops p.beside.over
+ran_ends bytes (ending.JournalBad index) answer left disks Before Written Broken Breaks line broke fails p =
+    ran_lost bytes answer left disks Before Written Broken Breaks (ending.JournalBad index)
+    (entry.JournalBad index ∷ []) tt line p p.stops p.beside.over
+ran_ends bytes (ending.RecordsLost found put) answer left disks Before Written Broken Breaks line broke fails p =
+    ran_lost bytes answer left disks Before Written Broken Breaks (ending.RecordsLost found put)
+    (entry.JournalLost found put ∷ []) tt line p p.stops p.beside.over
 
 -- what was written before, and then the last line
 module _ {K : Type 0} (written : K → Option (List ℕ)) (puts : K → List ℕ → Result (Unit {0}) Failed → K → Type 0) where
-  last_line : (a b c : K) (tail : List Entry) (answer : Result (Unit {0}) Failed) → Writes written puts b tail answer c
+  pub last_line : (a b c : K) (tail : List Entry) (answer : Result (Unit {0}) Failed)
+      → Writes written puts b tail answer c
       → LastLine (Wrote written puts a b) (Wrote written puts a c) (Broke written puts a c) tail answer
   last_line a b c tail (Ok done) h = λ xs before. writes_then written puts a b c xs tail (Ok done) before h
   last_line a b c tail (Err failed) h = λ xs before. (b, failed, before, h)
 
   -- with no last line nothing more was put
-  no_line : (b c : K) (last : Option Entry) (answer : Result (Unit {0}) Failed) → last ≡ None
+  pub no_line : (b c : K) (last : Option Entry) (answer : Result (Unit {0}) Failed) → last ≡ None
       → Writes written puts b (listed last) answer c → (answer ≡ Ok tt) × (c ≡ b)
   no_line b c None answer is h = h.put
   no_line b c (Some e) answer is h = cc is
 
   pub ran_written : (a b c : K) (bytes : List ℕ) (how : Ending) (s : Status) (answer : Result (Unit {0}) Failed)
-      (left : Option (List ℕ)) (disks : Disks) → disks.cuts_after ≡ disks.cuts
+      (left : Option (List ℕ)) (disks : Disks)
       → Writes written puts b (listed (last_entry how)) answer c → s ≡ status_by answer (status_of how)
-      → Played bytes how left (Wrote written puts a b) (Broke written puts a b) (Over disks)
+      → Played (Sure disks.trusted) bytes how left (Wrote written puts a b) (Broke written puts a b) (OverCut disks)
       → Ran bytes s left (Wrote written puts a c) (Broke written puts a c) disks
-  ran_written a b c bytes how s answer left disks uncut h is p =
+  ran_written a b c bytes how s answer left disks h is p =
       subst (λ s. Ran bytes s left (Wrote written puts a c) (Broke written puts a c) disks) (sym is)
       (ran_ends bytes how answer left disks (Wrote written puts a b) (Wrote written puts a c) (Broke written puts a b)
-      (Broke written puts a c) uncut (last_line a b c (listed (last_entry how)) answer h)
+      (Broke written puts a c) (last_line a b c (listed (last_entry how)) answer h)
       (λ xs ys none broke. subst (λ k. Broke written puts a k xs ys)
       (sym (no_line b c (last_entry how) answer none h).1) broke)
       (λ failed err none. cc (err, (no_line b c (last_entry how) answer none h).0)) p)
@@ -237,14 +267,18 @@ at_once bytes Written Breaks disks uncut wrote =
       took = refl;
       left_is = refl;
       steps_are = refl;
-      legal = legal;
-      in_order = λ d own honest. played_in_order most_records bytes [] (script bytes).steps [] d refl legal honest own;
-      covers = λ d own honest. played_covers most_records bytes [] (script bytes).steps [] d refl legal honest own;
-      paid = λ d own paying honest.
+      losses = refl;
+      legal = λ sure. legal;
+      in_order = λ sure d own honest.
+          played_in_order most_records bytes [] (script bytes).steps [] d refl legal honest own;
+      covers = λ sure d own honest. played_covers most_records bytes [] (script bytes).steps [] d refl legal honest own;
+      paid = λ sure d own paying honest.
           played_paid most_records bytes [] (script bytes).steps [] d refl legal honest own paying;
       ends = (refl, refl, wrote);
       book = λ trusted some. absurd (some refl);
-      cuts = omega (arith, uncut);
+      keeps = λ trusted tells. tells;
+      cut = subst (RoseBy 0 disks.cuts) (sym uncut) (rose_none 0 disks.cuts refl);
+      uncut = λ none next. uncut;
     }
 
 pub no_memory : (left : Option (List ℕ)) (Written : List Entry → Type 0) (Breaks : List Entry → List Entry → Type 0)
@@ -267,37 +301,66 @@ completes_memory None = inr refl
 completes_memory (Some line) = inr refl
 
 -- a blank disk has no byte that isn't 0
-blank_first : (image : List ℕ) (at : ℕ) → IsBlank image → IsFirstByteFrom 0 image at → ⊥
+pub blank_first : (image : List ℕ) (at : ℕ) → IsBlank image → IsFirstByteFrom 0 image at → ⊥
 blank_first image at blank first = first.not_zero (blank at first.behind first.is_there)
 
--- with no fault on a blank disk a run's status is as the script says
+-- where no step is a loss of power, none is the next
+pub none_next : (played unplayed : List Step) → losses_in (played ++ unplayed) ≡ 0 → First IsCrash unplayed → ⊥
+none_next [] [] none next = next
+none_next [] (step.Crash at choice ∷ steps) none next = omega (arith, none)
+none_next [] (s ∷ steps) none next = next
+none_next (s ∷ played) unplayed none next = none_next played unplayed (omega (arith, none)) next
+
+-- with no fault on a blank disk a run's status is as the script says, where the disk is trusted or no step is a loss of
+-- power
 pub ran_completes : (bytes : List ℕ) (s : Status) (left : Option (List ℕ)) (Written : List Entry → Type 0)
     (Breaks : List Entry → List Entry → Type 0) (disks : Disks) (image : List ℕ) → disks.seen ≡ Some image
-    → disks.size ≡ JOURNAL_BYTES → IsBlank image → (s ≡ status.ReadFault → ⊥) → (s ≡ status.WriteFault → ⊥)
-    → (s ≡ status.DiskFault → ⊥) → Ran bytes s left Written Breaks disks → Completes (script bytes).refused s
-ran_completes bytes status.Done left Written Breaks disks image told sized blank r w d h =
+    → disks.size ≡ JOURNAL_BYTES → IsBlank image → disks.trusted ⊎ (losses_in (script bytes).steps ≡ 0)
+    → (s ≡ status.ReadFault → ⊥) → (s ≡ status.WriteFault → ⊥) → (s ≡ status.DiskFault → ⊥)
+    → Ran bytes s left Written Breaks disks → Completes (script bytes).refused s
+ran_completes bytes status.Done left Written Breaks disks image told sized blank kept r w d h =
     completes_none (script bytes).refused h.ends.0.1
-ran_completes bytes status.ScriptRefused left Written Breaks disks image told sized blank r w d h =
+ran_completes bytes status.ScriptRefused left Written Breaks disks image told sized blank kept r w d h =
     completes_some (script bytes).refused h.ends.0.0 h.ends.0.2
-ran_completes bytes status.WordsRefused left Written Breaks disks image told sized blank r w d h = absurd h.ends.0
-ran_completes bytes status.ReadFault left Written Breaks disks image told sized blank r w d h = absurd (r refl)
-ran_completes bytes status.WriteFault left Written Breaks disks image told sized blank r w d h = absurd (w refl)
-ran_completes bytes status.DiskFault left Written Breaks disks image told sized blank r w d h = absurd (d refl)
-ran_completes bytes status.NotBlank left Written Breaks disks image told sized blank r w d h =
+ran_completes bytes status.WordsRefused left Written Breaks disks image told sized blank kept r w d h =
+    absurd h.ends.0
+ran_completes bytes status.ReadFault left Written Breaks disks image told sized blank kept r w d h = absurd (r refl)
+ran_completes bytes status.WriteFault left Written Breaks disks image told sized blank kept r w d h = absurd (w refl)
+ran_completes bytes status.DiskFault left Written Breaks disks image told sized blank kept r w d h = absurd (d refl)
+ran_completes bytes status.NotBlank left Written Breaks disks image told sized blank kept r w d h =
     absurd (blank_first image h.ends.0.0 blank (h.ends.0.4 image told))
-ran_completes bytes status.DiskSize left Written Breaks disks image told sized blank r w d h =
+ran_completes bytes status.DiskSize left Written Breaks disks image told sized blank kept r w d h =
     absurd (h.ends.0.0 sized)
-ran_completes bytes status.OutOfMemory left Written Breaks disks image told sized blank r w d h =
+ran_completes bytes status.OutOfMemory left Written Breaks disks image told sized blank kept r w d h =
     completes_memory (script bytes).refused
+ran_completes bytes status.JournalLost left Written Breaks disks image told sized blank (inl trusted) r w d h =
+    absurd (h.keeps trusted h.ends.0.0)
+ran_completes bytes status.JournalLost left Written Breaks disks image told sized blank (inr none) r w d h =
+    absurd (none_next h.played h.unplayed (ap losses_in (sym h.steps_are) ∙ none) h.ends.0.1)
+
+-- an honest disk that tells is trusted
+pub kept_by : (honest trusted none : Type 0) → (honest → trusted) → honest ⊎ none → trusted ⊎ none
+kept_by honest trusted none by (inl is) = inl (by is)
+kept_by honest trusted none by (inr is) = inr is
 
 -- with a told disk, and a cause for each fault
 pub told_completes : (bytes : List ℕ) (s : Status) (left : Option (List ℕ)) (Written : List Entry → Type 0)
-    (Breaks : List Entry → List Entry → Type 0) (disks : Disks) (Read Write Disk : Type 0) (seen : Option (List ℕ))
-    → disks.seen ≡ seen → (s ≡ status.ReadFault → Read) → (s ≡ status.WriteFault → Write)
-    → (s ≡ status.DiskFault → Disk) → Ran bytes s left Written Breaks disks
-    → IfSome seen (λ image. disks.size ≡ JOURNAL_BYTES → IsBlank image → (Read → ⊥) → (Write → ⊥) → (Disk → ⊥)
+    (Breaks : List Entry → List Entry → Type 0) (disks : Disks) (Read Write Disk Honest : Type 0)
+    (seen : Option (List ℕ)) → disks.seen ≡ seen → (Honest → is_some seen ≡ true → disks.trusted)
+    → (s ≡ status.ReadFault → Read) → (s ≡ status.WriteFault → Write) → (s ≡ status.DiskFault → Disk)
+    → Ran bytes s left Written Breaks disks
+    → IfSome seen (λ image. disks.size ≡ JOURNAL_BYTES → IsBlank image
+    → Honest ⊎ (losses_in (script bytes).steps ≡ 0) → (Read → ⊥) → (Write → ⊥) → (Disk → ⊥)
     → Completes (script bytes).refused s)
-told_completes bytes s left Written Breaks disks Read Write Disk None told read write disk ran = tt
-told_completes bytes s left Written Breaks disks Read Write Disk (Some image) told read write disk ran =
-    λ sized blank r w d. ran_completes bytes s left Written Breaks disks image told sized blank (λ is. r (read is))
-    (λ is. w (write is)) (λ is. d (disk is)) ran
+told_completes bytes s left Written Breaks disks Read Write Disk Honest None told trusts read write disk ran = tt
+told_completes bytes s left Written Breaks disks Read Write Disk Honest (Some image) told trusts read write disk ran =
+    λ sized blank kept r w d. ran_completes bytes s left Written Breaks disks image told sized blank
+    (kept_by Honest disks.trusted (losses_in (script bytes).steps ≡ 0) (λ honest. trusts honest refl) kept)
+    (λ is. r (read is)) (λ is. w (write is)) (λ is. d (disk is)) ran
+
+-- what the script or its source brings to its end leaves the journal that was there
+pub script_keeps : (how : Ending) → IsOfScript how → status_of how ≡ status.JournalLost → ⊥
+script_keeps ending.Done is lost = cc lost
+script_keeps (ending.Refused number why) is lost = cc lost
+script_keeps ending.Unread is lost = cc lost
+script_keeps how is lost = absurd is

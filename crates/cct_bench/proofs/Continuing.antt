@@ -2,7 +2,7 @@
 use Rattle.std.proofs.Common.{◌≡◌, ℕ, ◌+◌, ◌<◌, ◌≤◌, Bool, true, false, ltb, List, [], ◌∷◌, ◌++◌, length, take, drop}
 use Rattle.std.proofs.Common.{Option, None, Some, Result, Ok, Err, refl, ap, sym, ◌∙◌, subst, append_assoc, arith, lit<}
 use Rattle.std.specs.Prelude.{IfSome, IfErr, IsErr, IsErrAnd, if◌then◌else◌, ◌&&◌}
-use Rattle.cct_bench.proofs.Reading.{passes_up}
+use Rattle.cct_text.proofs.Writing.{passes_up}
 use Rattle.std.specs.List.{slice_split, position}
 use Rattle.std.specs.Io.KnownBytes.{IsAtEnd}
 use Rattle.std.proofs.lemmas.Bool.Decides.{nat_tests}

@@ -12,30 +12,37 @@ use Rattle.cct_model.specs.terms.device.Setup.{Setup}
 use Rattle.cct_model.specs.lines.command.Step.{Step}
 use Rattle.cct_model.specs.lines.entry.Entry.{Entry}
 use Rattle.cct_model.specs.lines.entry.LineKind.{LineKind}
-use Rattle.cct_model.specs.Legal.{Entries, Legal, LegalFrom}
+use Rattle.cct_model.specs.Legal.{Entries, Legal}
 use Rattle.cct_model.specs.Script.{is_line_feed, Stage, at_setup, at_steps, at_end, no_devices, setup_at, opens, plays}
 use Rattle.cct_model.specs.Script.{Script, script, closed_script, unfinished}
 use Rattle.cct_model.specs.Setup.{IsSoundSetup}
 use Rattle.cct_model.specs.Transcript.{onto}
+use Rattle.cct_laws.proofs.Onto.{legal_more, transcript_on}
 use Rattle.cct_laws.proofs.Scripts.{setup_sound, front_of_today}
 use Rattle.cct_script.specs.Giving.{Standing}
-use Rattle.cct_world.specs.Machine.{StepSuits}
+use Rattle.cct_world.specs.Machine.{StepSuits, Survives}
+use Rattle.cct_world.specs.declared.refusal.WorldNo.{WorldNo}
+use Rattle.cct_world.specs.declared.refusal.WorldNo.TheVariants as world_no
+use Rattle.cct_world.specs.Step.{RoseBy, crashes, crashes_of}
+use Rattle.cct_world.specs.Sure.{losses_in}
+use Rattle.cct_world.proofs.Suiting.{legal_suits}
+use Rattle.cct_world.proofs.Sure.{cut_on, losses_more, uncut_on}
+use Rattle.cct_world.proofs.Told.{rose_none}
 use Rattle.cct_bench.specs.declared.lines.ScriptStop.{ScriptStop}
 use Rattle.cct_bench.specs.declared.lines.ScriptStop.TheVariants as stop
 use Rattle.cct_bench.specs.declared.play.Ending.TheVariants as ending
 use Rattle.cct_bench.specs.Lines.{said_from, IsNext, ScriptGoesOn, IsClosed, StopsAt, EndsAt, Came}
-use Rattle.cct_bench.specs.Disks.{most_records}
+use Rattle.cct_bench.specs.Disks.{Always, Holds, most_records}
 use Rattle.cct_bench.specs.Going.{AlsoSays, Going}
 use Rattle.cct_bench.specs.SetupLines.{TookOpening}
-use Rattle.cct_bench.specs.Writing.{IsNothing}
+use Rattle.cct_text.specs.Writing.{IsNothing}
 use Rattle.cct_bench.specs.Playing.{PlaysOn}
 use Rattle.cct_bench.specs.declared.play.Ending.{Ending}
-use Rattle.cct_bench.specs.Run.{Played, Stops, BeforeSteps, IsOfScript, ending_at}
+use Rattle.cct_bench.specs.Run.{BeforeSteps, IsOfScript, IsUnopened, Played, Stops, ending_at, unplayed_by}
 use Rattle.cct_bench.proofs.Continuing.{ended}
 use Rattle.cct_bench.proofs.Staying.{IsDone, setup_stays}
-use Rattle.cct_bench.proofs.Suiting.{legal_suits}
 
-pub going_begin : (left : Option (List ℕ)) → Going left left [] 1 (at_setup no_devices) IsNothing IsNothing
+pub going_begin : (left : Option (List ℕ)) → Going Always left left [] 1 (at_setup no_devices) IsNothing IsNothing
 unfolding script
 going_begin left = record {
   taken = [];
@@ -43,40 +50,43 @@ going_begin left = record {
   transcript = [];
   consumed = Consumes-nil left;
   says = λ more. record { setup = refl; steps = refl; refused = refl };
-  legal = λ more. refl;
-  stands = refl;
+  legal = λ relies more. refl;
+  losses = refl;
+  holds = refl;
   wrote = refl;
 }
 
--- a machine that stands for the past takes the place of another
-pub going_stands : (left0 left : Option (List ℕ)) (held : List ℕ) (number : ℕ) (stage : Stage)
-    (Before After Written : List Entry → Type 0) →
-    ((past : List Entry) → Before past → After past) → Going left0 left held number stage Before Written
-    → Going left0 left held number stage After Written
-going_stands left0 left held number stage Before After Written goes g = record {
+-- what holds of the past takes the place of something else that does, and it is relied on no more than before
+pub going_holds : (Relies Relies1 : List Entry → Type 0) (left0 left : Option (List ℕ)) (held : List ℕ) (number : ℕ)
+    (stage : Stage) (Before After Written : List Entry → Type 0) → ((past : List Entry) → Relies1 past → Relies past)
+    → ((past : List Entry) → Before past → After past) → Going Relies left0 left held number stage Before Written
+    → Going Relies1 left0 left held number stage After Written
+going_holds Relies Relies1 left0 left held number stage Before After Written less goes g = record {
   taken = g.taken;
   played = g.played;
   transcript = g.transcript;
   consumed = g.consumed;
   says = g.says;
-  legal = g.legal;
-  stands = goes (onto [] g.transcript) g.stands;
+  legal = λ relies. g.legal (less (onto [] g.transcript) relies);
+  losses = g.losses;
+  holds = goes (onto [] g.transcript) g.holds;
   wrote = g.wrote;
 }
 
 -- so does another way to tell what was written
-pub going_by : (left0 left : Option (List ℕ)) (held : List ℕ) (number : ℕ) (stage : Stage)
-    (Stands Written Written1 : List Entry → Type 0) →
-    ((xs : List Entry) → Written xs → Written1 xs) → Going left0 left held number stage Stands Written
-    → Going left0 left held number stage Stands Written1
-going_by left0 left held number stage Stands Written Written1 goes g = record {
+pub going_by : (Relies : List Entry → Type 0) (left0 left : Option (List ℕ)) (held : List ℕ) (number : ℕ)
+    (stage : Stage) (Stands Written Written1 : List Entry → Type 0) →
+    ((xs : List Entry) → Written xs → Written1 xs) → Going Relies left0 left held number stage Stands Written
+    → Going Relies left0 left held number stage Stands Written1
+going_by Relies left0 left held number stage Stands Written Written1 goes g = record {
   taken = g.taken;
   played = g.played;
   transcript = g.transcript;
   consumed = g.consumed;
   says = g.says;
   legal = g.legal;
-  stands = g.stands;
+  losses = g.losses;
+  holds = g.holds;
   wrote = goes g.transcript g.wrote;
 }
 
@@ -98,50 +108,22 @@ legal_came : (taken came more : List ℕ) (played : List Step) (transcript : Lis
 legal_came taken came more played transcript h =
     subst (λ bytes. Legal most_records (script bytes).setup played transcript) (sym (append_assoc taken came more)) h
 
-pub going_opens : (left0 left left1 : Option (List ℕ)) (held rest : List ℕ) (number : ℕ) (stage next : Stage)
-    (Stands Written : List Entry → Type 0) →
-    Going left0 left held number stage Stands Written
+pub going_opens : (Relies : List Entry → Type 0) (left0 left left1 : Option (List ℕ)) (held rest : List ℕ)
+    (number : ℕ) (stage next : Stage) (Stands Written : List Entry → Type 0) →
+    Going Relies left0 left held number stage Stands Written
     → Came held left left1 (λ bytes. ScriptGoesOn number stage bytes (opens next) rest) →
-    Going left0 left1 rest (number + 1) next Stands Written
-going_opens left0 left left1 held rest number stage next Stands Written g r = record {
+    Going Relies left0 left1 rest (number + 1) next Stands Written
+going_opens Relies left0 left left1 held rest number stage next Stands Written g r = record {
   taken = g.taken ++ r.0;
   played = g.played;
   transcript = g.transcript;
   consumed = Consumes-trans left0 left left1 g.taken r.0 g.consumed r.1;
   says = λ more. also_goes g.taken r.0 held more number stage g.played _ (g.says (r.0 ++ more)) (r.2 more);
-  legal = λ more. legal_came g.taken r.0 more g.played g.transcript (g.legal (r.0 ++ more));
-  stands = g.stands;
+  legal = λ relies more. legal_came g.taken r.0 more g.played g.transcript (g.legal relies (r.0 ++ more));
+  losses = g.losses;
+  holds = g.holds;
   wrote = g.wrote;
 }
-
--- entries that are written in order, told newest first
-onto-append : (past xs ys : List Entry) → onto past (xs ++ ys) ≡ onto (onto past xs) ys
-onto-append past [] ys = refl
-onto-append past (x ∷ xs) ys = onto-append (x ∷ past) xs ys
-
-onto_is : (past xs : List Entry) → onto past xs ≡ reverse xs ++ past
-onto_is past [] = refl
-onto_is past (x ∷ xs) =
-    onto_is (x ∷ past) xs ∙ (sym (append_assoc (reverse xs) (x ∷ []) past)
-    ∙ ap (λ ys. ys ++ past) (sym (onto_is (x ∷ []) xs)))
-
--- one step more
-legal_from : (setup : Setup) (past : List Entry) (steps : List Step) (end : List Entry) (s : Step) (news : List Entry) →
-    LegalFrom most_records setup past steps end → Entries most_records setup end s news
-    → LegalFrom most_records setup past (steps ++ s ∷ []) (news ++ end)
-legal_from setup past [] end s news h e =
-    (news, subst (λ before. Entries most_records setup before s news) h e, ap (λ before. news ++ before) h)
-legal_from setup past (x ∷ steps) end s news h e = (h.0, h.1, legal_from setup (h.0 ++ past) steps end s news h.2 e)
-
-transcript_on : (transcript report : List Entry) → onto [] (transcript ++ report) ≡ reverse report ++ onto [] transcript
-transcript_on transcript report = onto-append [] transcript report ∙ onto_is (onto [] transcript) report
-
-legal_more : (setup : Setup) (played : List Step) (transcript report : List Entry) (s : Step) →
-    Legal most_records setup played transcript → Entries most_records setup (onto [] transcript) s (reverse report)
-    → Legal most_records setup (played ++ s ∷ []) (transcript ++ report)
-legal_more setup played transcript report s h e =
-    subst (LegalFrom most_records setup [] (played ++ s ∷ [])) (sym (transcript_on transcript report))
-    (legal_from setup [] played (onto [] transcript) s (reverse report) h e)
 
 also_plays : (whole rest : Script) (played : List Step) (s : Step)
     → AlsoSays whole played (record { setup = rest.setup; steps = s ∷ rest.steps; refused = rest.refused })
@@ -170,17 +152,69 @@ step_legal taken came held more rest number stage next setup played transcript r
     let says = step_says taken came held more rest number stage next played s h r in
     let same : setup ≡ (script ((taken ++ came) ++ more)).setup =
     sym (says.setup ∙ setup_stays (number + 1) setup next (slice_split is_line_feed (rest ++ more)) done) in
-    legal_more (script ((taken ++ came) ++ more)).setup played transcript report s
+    legal_more most_records (script ((taken ++ came) ++ more)).setup played transcript report s
     (legal_came taken came more played transcript legal)
     (subst (λ by. Entries most_records by (onto [] transcript) s (reverse report)) same entries)
 
--- what a step puts suits what was played before it
-pub going_suits : (left0 left left1 : Option (List ℕ)) (held rest : List ℕ) (number : ℕ) (stage next : Stage)
-    (setup : Setup) (Before Written : List Entry → Type 0) (s : Step) → IsDone setup next
-    → (g : Going left0 left held number stage Before Written)
+-- what may be relied on behind some entries may be before them
+abbrev pub GoesBack : (List Entry → Type 0) → Type 0
+GoesBack Relies = (news past : List Entry) → Relies (news ++ past) → Relies past
+
+-- A step goes on from what holds of any past to what holds behind its entries, oldest first: they are those of the step
+-- where the past with them may be relied on, and what the step takes for granted is so where it could be before.
+pub record Carries (Relies Before After : List Entry → Type 0) (setup : Setup) (s : Step)
+    (WritesThem : List Entry → Type 0) : Type 0 where
+  pub report : List Entry
+  pub goes : (past : List Entry) → Before past → (Relies past → StepSuits setup past s)
+      → (Relies (reverse report ++ past) → Entries most_records setup past s (reverse report))
+      × After (reverse report ++ past)
+  pub told : crashes (reverse report) ≡ crashes_of s
+  pub wrote : WritesThem report
+
+-- what stands for an empty past
+pub holds_first : (Relies Stands : List Entry → Type 0) (first now : ℕ) → now ≡ first → Stands [] → (past : List Entry)
+    → past ≡ [] → Holds Relies Stands first now past
+holds_first Relies Stands first now same stands past none = record {
+  stands = λ relies. subst Stands (sym none) stands;
+  cut = subst (RoseBy (crashes past) first) (sym same) (rose_none (crashes past) first (ap crashes none));
+  uncut = λ quiet. same;
+}
+
+-- what a step takes for granted of the disk is so where the past with entries may be relied on that tell what it is
+abbrev pub LetsSurvive : Type 0 → (List Entry → Type 0) → Type 0
+LetsSurvive trusted Relies =
+    (news past : List Entry) (s : Step) → crashes news ≡ crashes_of s → Relies (news ++ past) → Survives trusted s
+
+-- what holds of a past is carried over a step that was played
+pub carried : (Relies : List Entry → Type 0) (trusted : Type 0) (Before After : List Entry → Type 0) (setup : Setup)
+    (s : Step) (first old new : ℕ) (WritesThem : List Entry → Type 0) → GoesBack Relies → LetsSurvive trusted Relies
+    → PlaysOn trusted Before After setup s old new WritesThem
+    → Carries Relies (Holds Relies Before first old) (Holds Relies After first new) setup s WritesThem
+carried Relies trusted Before After setup s first old new WritesThem back survive p = record {
+  report = p.report;
+  goes = λ past before suits.
+      let news = reverse p.report in
+      let goes : Relies (news ++ past) → Entries most_records setup past s news × After (news ++ past) =
+      λ relies. let here = back news past relies in
+      p.plays past (before.stands here) (suits here) (survive news past s p.told relies) in (
+        λ relies. (goes relies).0,
+        record {
+          stands = λ relies. (goes relies).1;
+          cut = cut_on news past first old new (crashes_of s) before.cut p.told p.cut;
+          uncut = uncut_on news past first old new (crashes_of s) before.uncut p.told p.uncut;
+        },
+      );
+  told = p.told;
+  wrote = p.wrote;
+}
+
+-- what a step takes for granted of the past is so after what was played before it
+pub going_suits : (Relies : List Entry → Type 0) (left0 left left1 : Option (List ℕ)) (held rest : List ℕ)
+    (number : ℕ) (stage next : Stage) (setup : Setup) (Before Written : List Entry → Type 0) (s : Step)
+    → IsDone setup next → (g : Going Relies left0 left held number stage Before Written)
     → Came held left left1 (λ bytes. ScriptGoesOn number stage bytes (plays s next) rest)
-    → StepSuits setup (onto [] g.transcript) s
-going_suits left0 left left1 held rest number stage next setup Before Written s done g r =
+    → Relies (onto [] g.transcript) → StepSuits setup (onto [] g.transcript) s
+going_suits Relies left0 left left1 held rest number stage next setup Before Written s done g r relies =
     let bytes = (g.taken ++ r.0) ++ [] in
     let says = step_says g.taken r.0 held [] rest number stage next g.played s (g.says (r.0 ++ [])) r.2 in
     let same : (script bytes).setup ≡ setup =
@@ -191,30 +225,34 @@ going_suits left0 left left1 held rest number stage next setup Before Written s 
     subst (λ by. StepSuits by (onto [] g.transcript) s) same
     (legal_suits most_records (script bytes).setup g.played g.transcript s (setup_sound bytes)
     (front_of_today bytes g.played (s ∷ steps) fronts).in_range
-    (legal_came g.taken r.0 [] g.played g.transcript (g.legal (r.0 ++ []))))
+    (legal_came g.taken r.0 [] g.played g.transcript (g.legal relies (r.0 ++ []))))
 
-pub going_plays : (left0 left left1 : Option (List ℕ)) (held rest : List ℕ) (number : ℕ) (stage next : Stage)
-    (setup : Setup) (Before After : List Entry → Type 0) (s : Step) (Written WritesThem Written1 : List Entry → Type 0)
-    →
-    IsDone setup next → ((xs ys : List Entry) → Written xs → WritesThem ys → Written1 (xs ++ ys))
-    → Going left0 left held number stage Before Written →
-    Came held left left1 (λ bytes. ScriptGoesOn number stage bytes (plays s next) rest)
-    → PlaysOn Before After setup s WritesThem →
-    Going left0 left1 rest (number + 1) next After Written1
-going_plays left0 left left1 held rest number stage next setup Before After s Written WritesThem Written1 done more g r
-    p =
-    let goes = p.1 (onto [] g.transcript) g.stands
-    (going_suits left0 left left1 held rest number stage next setup Before Written s done g r) in
+pub going_plays : (Relies : List Entry → Type 0) (left0 left left1 : Option (List ℕ)) (held rest : List ℕ)
+    (number : ℕ) (stage next : Stage) (setup : Setup) (Before After : List Entry → Type 0) (s : Step)
+    (Written WritesThem Written1 : List Entry → Type 0) → GoesBack Relies → IsDone setup next
+    → ((xs ys : List Entry) → Written xs → WritesThem ys → Written1 (xs ++ ys))
+    → Going Relies left0 left held number stage Before Written
+    → Came held left left1 (λ bytes. ScriptGoesOn number stage bytes (plays s next) rest)
+    → Carries Relies Before After setup s WritesThem
+    → Going Relies left0 left1 rest (number + 1) next After Written1
+going_plays Relies left0 left left1 held rest number stage next setup Before After s Written WritesThem Written1 back
+    done more g r p =
+    let past = onto [] g.transcript in
+    let on = transcript_on g.transcript p.report in
+    let goes = p.goes past g.holds
+    (going_suits Relies left0 left left1 held rest number stage next setup Before Written s done g r) in
     record {
       taken = g.taken ++ r.0;
       played = g.played ++ s ∷ [];
-      transcript = g.transcript ++ p.0;
+      transcript = g.transcript ++ p.report;
       consumed = Consumes-trans left0 left left1 g.taken r.0 g.consumed r.1;
       says = λ more. step_says g.taken r.0 held more rest number stage next g.played s (g.says (r.0 ++ more)) r.2;
-      legal = λ more. step_legal g.taken r.0 held more rest number stage next setup g.played g.transcript p.0 s
-          (g.says (r.0 ++ more)) r.2 done (g.legal (r.0 ++ more)) goes.0;
-      stands = subst After (sym (transcript_on g.transcript p.0)) goes.1;
-      wrote = more g.transcript p.0 g.wrote p.2;
+      legal = λ relies more. let here = subst Relies on relies in
+          step_legal g.taken r.0 held more rest number stage next setup g.played g.transcript p.report s
+          (g.says (r.0 ++ more)) r.2 done (g.legal (back (reverse p.report) past here) (r.0 ++ more)) (goes.0 here);
+      losses = ap crashes on ∙ losses_more g.played (reverse p.report) past s g.losses p.told;
+      holds = subst After (sym on) goes.1;
+      wrote = more g.transcript p.report g.wrote p.wrote;
     }
 
 -- what was told of the bytes of a script
@@ -255,14 +293,14 @@ EndsBeside Stands Beside =
     (how : Ending) (setup : Setup) (taken : List ℕ) (played unplayed : List Step) (past : List Entry) → IsOfScript how
     → Stands past → Beside how setup taken played unplayed past
 
-played_done : (left0 left left1 : Option (List ℕ)) (held : List ℕ) (number : ℕ) (setup : Setup)
-    (Stands Written : List Entry → Type 0) (Breaks : List Entry → List Entry → Type 0)
+played_done : (Relies : List Entry → Type 0) (left0 left left1 : Option (List ℕ)) (held : List ℕ) (number : ℕ)
+    (setup : Setup) (Stands Written : List Entry → Type 0) (Breaks : List Entry → List Entry → Type 0)
     (Beside : Ending → Setup → List ℕ → List Step → List Step → List Entry → Type 0) → EndsBeside Stands Beside
-    → Going left0 left held number (at_end setup) Stands Written
+    → Going Relies left0 left held number (at_end setup) Stands Written
     → Came held left left1 (IsClosed number (at_end setup) None left1)
-    → IfSome left0 (λ bytes. Played bytes ending.Done left1 Written Breaks Beside)
-played_done None left left1 held number setup Stands Written Breaks Beside beside g r = tt
-played_done (Some bytes) left left1 held number setup Stands Written Breaks Beside beside g r =
+    → IfSome left0 (λ bytes. Played Relies bytes ending.Done left1 Written Breaks Beside)
+played_done Relies None left left1 held number setup Stands Written Breaks Beside beside g r = tt
+played_done Relies (Some bytes) left left1 held number setup Stands Written Breaks Beside beside g r =
     let t = told_by bytes left1 (g.taken ++ r.0) (Consumes-trans (Some bytes) left left1 g.taken r.0 g.consumed r.1) in
     let says =
     closed_says bytes g.taken r.0 held t.0 number (at_end setup) None left1 g.played t.1 t.2 (g.says (r.0 ++ t.0))
@@ -276,19 +314,20 @@ played_done (Some bytes) left left1 held number setup Stands Written Breaks Besi
       took = t.2;
       left_is = t.1;
       steps_are = says.steps;
-      legal = legal_of bytes g.taken r.0 t.0 g.played g.transcript t.2 (g.legal (r.0 ++ t.0));
+      losses = g.losses;
+      legal = λ relies. legal_of bytes g.taken r.0 t.0 g.played g.transcript t.2 (g.legal relies (r.0 ++ t.0));
       stops = (refl, says.refused, g.wrote);
-      beside = beside ending.Done (script bytes).setup (g.taken ++ r.0) g.played [] (onto [] g.transcript) tt g.stands;
+      beside = beside ending.Done (script bytes).setup (g.taken ++ r.0) g.played [] (onto [] g.transcript) tt g.holds;
     }
 
-played_refused : (left0 left left1 : Option (List ℕ)) (held : List ℕ) (number : ℕ) (why : LineKind) (stage : Stage)
-    (Stands Written : List Entry → Type 0) (Breaks : List Entry → List Entry → Type 0)
+played_refused : (Relies : List Entry → Type 0) (left0 left left1 : Option (List ℕ)) (held : List ℕ) (number : ℕ)
+    (why : LineKind) (stage : Stage) (Stands Written : List Entry → Type 0) (Breaks : List Entry → List Entry → Type 0)
     (Beside : Ending → Setup → List ℕ → List Step → List Step → List Entry → Type 0) → EndsBeside Stands Beside
-    → Going left0 left held number stage Stands Written
+    → Going Relies left0 left held number stage Stands Written
     → Came held left left1 (IsClosed number stage (Some why) left1)
-    → IfSome left0 (λ bytes. Played bytes (ending.Refused number why) left1 Written Breaks Beside)
-played_refused None left left1 held number why stage Stands Written Breaks Beside beside g r = tt
-played_refused (Some bytes) left left1 held number why stage Stands Written Breaks Beside beside g r =
+    → IfSome left0 (λ bytes. Played Relies bytes (ending.Refused number why) left1 Written Breaks Beside)
+played_refused Relies None left left1 held number why stage Stands Written Breaks Beside beside g r = tt
+played_refused Relies (Some bytes) left left1 held number why stage Stands Written Breaks Beside beside g r =
     let t = told_by bytes left1 (g.taken ++ r.0) (Consumes-trans (Some bytes) left left1 g.taken r.0 g.consumed r.1) in
     let says =
     closed_says bytes g.taken r.0 held t.0 number stage (Some why) left1 g.played t.1 t.2 (g.says (r.0 ++ t.0)) r.2
@@ -302,10 +341,11 @@ played_refused (Some bytes) left left1 held number why stage Stands Written Brea
       took = t.2;
       left_is = t.1;
       steps_are = says.steps;
-      legal = legal_of bytes g.taken r.0 t.0 g.played g.transcript t.2 (g.legal (r.0 ++ t.0));
+      losses = g.losses;
+      legal = λ relies. legal_of bytes g.taken r.0 t.0 g.played g.transcript t.2 (g.legal relies (r.0 ++ t.0));
       stops = (refl, says.refused, g.wrote);
       beside = beside (ending.Refused number why) (script bytes).setup (g.taken ++ r.0) g.played []
-          (onto [] g.transcript) tt g.stands;
+          (onto [] g.transcript) tt g.holds;
     }
 
 -- a line without its end plays no step
@@ -319,14 +359,14 @@ unread_steps taken came held number stage played h none =
     let says = also_goes taken came held [] number stage played next h e in
     ap (λ bytes. (script bytes).steps) (sym (append-nil (taken ++ came))) ∙ (says.steps ∙ append-nil played)
 
-played_unread : (left0 left left1 : Option (List ℕ)) (held : List ℕ) (number : ℕ) (stage : Stage)
-    (Stands Written : List Entry → Type 0) (Breaks : List Entry → List Entry → Type 0)
+played_unread : (Relies : List Entry → Type 0) (left0 left left1 : Option (List ℕ)) (held : List ℕ) (number : ℕ)
+    (stage : Stage) (Stands Written : List Entry → Type 0) (Breaks : List Entry → List Entry → Type 0)
     (Beside : Ending → Setup → List ℕ → List Step → List Step → List Entry → Type 0) → EndsBeside Stands Beside
-    → Going left0 left held number stage Stands Written
+    → Going Relies left0 left held number stage Stands Written
     → Came held left left1 (λ bytes. position is_line_feed bytes ≡ None)
-    → IfSome left0 (λ bytes. Played bytes ending.Unread left1 Written Breaks Beside)
-played_unread None left left1 held number stage Stands Written Breaks Beside beside g r = tt
-played_unread (Some bytes) left left1 held number stage Stands Written Breaks Beside beside g r =
+    → IfSome left0 (λ bytes. Played Relies bytes ending.Unread left1 Written Breaks Beside)
+played_unread Relies None left left1 held number stage Stands Written Breaks Beside beside g r = tt
+played_unread Relies (Some bytes) left left1 held number stage Stands Written Breaks Beside beside g r =
     let t = told_by bytes left1 (g.taken ++ r.0) (Consumes-trans (Some bytes) left left1 g.taken r.0 g.consumed r.1) in
     let after = said_from number stage ((held ++ r.0) ++ t.0) in
     let says : AlsoSays (script bytes) g.played after =
@@ -341,120 +381,142 @@ played_unread (Some bytes) left left1 held number stage Stands Written Breaks Be
       took = t.2;
       left_is = t.1;
       steps_are = says.steps;
-      legal = legal_of bytes g.taken r.0 t.0 g.played g.transcript t.2 (g.legal (r.0 ++ t.0));
+      losses = g.losses;
+      legal = λ relies. legal_of bytes g.taken r.0 t.0 g.played g.transcript t.2 (g.legal relies (r.0 ++ t.0));
       stops = (unread_steps g.taken r.0 held number stage g.played (g.says (r.0 ++ [])) r.2, g.wrote);
       beside = beside ending.Unread (script bytes).setup (g.taken ++ r.0) g.played after.steps (onto [] g.transcript)
-          tt g.stands;
+          tt g.holds;
     }
 
 -- a script that is read no further
-stopped : (left0 left left1 : Option (List ℕ)) (held : List ℕ) (number : ℕ) (stage : Stage)
-    (why : ScriptStop) (Stands Written : List Entry → Type 0) (Breaks : List Entry → List Entry → Type 0)
+stopped : (Relies : List Entry → Type 0) (left0 left left1 : Option (List ℕ)) (held : List ℕ) (number : ℕ)
+    (stage : Stage) (why : ScriptStop) (Stands Written : List Entry → Type 0)
+    (Breaks : List Entry → List Entry → Type 0)
     (Beside : Ending → Setup → List ℕ → List Step → List Step → List Entry → Type 0) → EndsBeside Stands Beside
-    → Going left0 left held number stage Stands Written → Came held left left1 (StopsAt number stage why left1)
-    → IfSome left0 (λ bytes. Played bytes (ending_at number why) left1 Written Breaks Beside)
-stopped left0 left left1 held number stage stop.Unread Stands Written Breaks Beside beside g r =
-    played_unread left0 left left1 held number stage Stands Written Breaks Beside beside g r
-stopped left0 left left1 held number stage (stop.Refused why) Stands Written Breaks Beside beside g r =
-    played_refused left0 left left1 held number why stage Stands Written Breaks Beside beside g r
-
-pub played_stopped : (left0 left left1 : Option (List ℕ)) (held : List ℕ) (number : ℕ) (stage : Stage)
-    (why : ScriptStop) (how : Ending) (Stands Written : List Entry → Type 0) (Breaks : List Entry → List Entry → Type 0)
-    (Beside : Ending → Setup → List ℕ → List Step → List Step → List Entry → Type 0) → how ≡ ending_at number why
-    → EndsBeside Stands Beside → Going left0 left held number stage Stands Written
+    → Going Relies left0 left held number stage Stands Written
     → Came held left left1 (StopsAt number stage why left1)
-    → IfSome left0 (λ bytes. Played bytes how left1 Written Breaks Beside)
-played_stopped left0 left left1 held number stage why how Stands Written Breaks Beside is beside g r =
-    subst (λ how. IfSome left0 (λ bytes. Played bytes how left1 Written Breaks Beside)) (sym is)
-    (stopped left0 left left1 held number stage why Stands Written Breaks Beside beside g r)
+    → IfSome left0 (λ bytes. Played Relies bytes (ending_at number why) left1 Written Breaks Beside)
+stopped Relies left0 left left1 held number stage stop.Unread Stands Written Breaks Beside beside g r =
+    played_unread Relies left0 left left1 held number stage Stands Written Breaks Beside beside g r
+stopped Relies left0 left left1 held number stage (stop.Refused why) Stands Written Breaks Beside beside g r =
+    played_refused Relies left0 left left1 held number why stage Stands Written Breaks Beside beside g r
+
+pub played_stopped : (Relies : List Entry → Type 0) (left0 left left1 : Option (List ℕ)) (held : List ℕ) (number : ℕ)
+    (stage : Stage) (why : ScriptStop) (how : Ending) (Stands Written : List Entry → Type 0)
+    (Breaks : List Entry → List Entry → Type 0)
+    (Beside : Ending → Setup → List ℕ → List Step → List Step → List Entry → Type 0) → how ≡ ending_at number why
+    → EndsBeside Stands Beside → Going Relies left0 left held number stage Stands Written
+    → Came held left left1 (StopsAt number stage why left1)
+    → IfSome left0 (λ bytes. Played Relies bytes how left1 Written Breaks Beside)
+played_stopped Relies left0 left left1 held number stage why how Stands Written Breaks Beside is beside g r =
+    subst (λ how. IfSome left0 (λ bytes. Played Relies bytes how left1 Written Breaks Beside)) (sym is)
+    (stopped Relies left0 left left1 held number stage why Stands Written Breaks Beside beside g r)
 
 -- a script that ended
-pub played_ended : (left0 left left1 : Option (List ℕ)) (held : List ℕ) (number : ℕ) (setup : Setup) (how : Ending)
-    (Stands Written : List Entry → Type 0) (Breaks : List Entry → List Entry → Type 0)
+pub played_ended : (Relies : List Entry → Type 0) (left0 left left1 : Option (List ℕ)) (held : List ℕ) (number : ℕ)
+    (setup : Setup) (how : Ending) (Stands Written : List Entry → Type 0) (Breaks : List Entry → List Entry → Type 0)
     (Beside : Ending → Setup → List ℕ → List Step → List Step → List Entry → Type 0) → EndsBeside Stands Beside
-    → Going left0 left held number (at_end setup) Stands Written
+    → Going Relies left0 left held number (at_end setup) Stands Written
     → Came held left left1 (EndsAt number setup how left1)
-    → IfSome left0 (λ bytes. Played bytes how left1 Written Breaks Beside)
-played_ended left0 left left1 held number setup ending.Done Stands Written Breaks Beside beside g r =
-    played_done left0 left left1 held number setup Stands Written Breaks Beside beside g r
-played_ended left0 left left1 held number setup (ending.Refused line why) Stands Written Breaks Beside beside g r =
-    subst (λ n. IfSome left0 (λ bytes. Played bytes (ending.Refused n why) left1 Written Breaks Beside)) (sym r.2.0)
-    (played_refused left0 left left1 held number why (at_end setup) Stands Written Breaks Beside beside g
+    → IfSome left0 (λ bytes. Played Relies bytes how left1 Written Breaks Beside)
+played_ended Relies left0 left left1 held number setup ending.Done Stands Written Breaks Beside beside g r =
+    played_done Relies left0 left left1 held number setup Stands Written Breaks Beside beside g r
+played_ended Relies left0 left left1 held number setup (ending.Refused line why) Stands Written Breaks Beside beside g
+    r =
+    subst (λ n. IfSome left0 (λ bytes. Played Relies bytes (ending.Refused n why) left1 Written Breaks Beside))
+    (sym r.2.0)
+    (played_refused Relies left0 left left1 held number why (at_end setup) Stands Written Breaks Beside beside g
     (r.0, r.1, r.2.1))
-played_ended left0 left left1 held number setup ending.Unread Stands Written Breaks Beside beside g r =
-    played_unread left0 left left1 held number (at_end setup) Stands Written Breaks Beside beside g r
-played_ended left0 left left1 held number setup how Stands Written Breaks Beside beside g r = absurd r.2
+played_ended Relies left0 left left1 held number setup ending.Unread Stands Written Breaks Beside beside g r =
+    played_unread Relies left0 left left1 held number (at_end setup) Stands Written Breaks Beside beside g r
+played_ended Relies left0 left left1 held number setup how Stands Written Breaks Beside beside g r = absurd r.2
 
 -- the sink failed within the entries of a step
-pub played_broke : (left0 left left1 : Option (List ℕ)) (held rest : List ℕ) (number : ℕ) (stage next : Stage)
-    (setup : Setup) (Before After : List Entry → Type 0) (s : Step) (Written WritesThem Written1 : List Entry → Type 0)
-    (Breaks : List Entry → List Entry → Type 0)
-    (Beside : Ending → Setup → List ℕ → List Step → List Step → List Entry → Type 0) →
+pub played_broke : (Relies : List Entry → Type 0) (left0 left left1 : Option (List ℕ)) (held rest : List ℕ)
+    (number : ℕ) (stage next : Stage) (setup : Setup) (Before After : List Entry → Type 0) (s : Step)
+    (Written WritesThem Written1 : List Entry → Type 0) (Breaks : List Entry → List Entry → Type 0)
+    (Beside : Ending → Setup → List ℕ → List Step → List Step → List Entry → Type 0) → GoesBack Relies →
     ((by : Setup) (taken : List ℕ) (played unplayed : List Step) (past : List Entry) → After past
     → Beside ending.Unwritten by taken played unplayed past) →
     IsDone setup next → ((xs ys : List Entry) → Written xs → WritesThem ys → Breaks xs ys)
-    → Going left0 left held number stage Before Written →
+    → Going Relies left0 left held number stage Before Written →
     Came held left left1 (λ bytes. ScriptGoesOn number stage bytes (plays s next) rest)
-    → PlaysOn Before After setup s WritesThem →
-    IfSome left0 (λ bytes. Played bytes ending.Unwritten left1 Written1 Breaks Beside)
-played_broke None left left1 held rest number stage next setup Before After s Written WritesThem Written1 Breaks Beside
-    beside done broke g r p = tt
-played_broke (Some bytes) left left1 held rest number stage next setup Before After s Written WritesThem Written1 Breaks
-    Beside beside done broke g r p =
+    → Carries Relies Before After setup s WritesThem →
+    IfSome left0 (λ bytes. Played Relies bytes ending.Unwritten left1 Written1 Breaks Beside)
+played_broke Relies None left left1 held rest number stage next setup Before After s Written WritesThem Written1 Breaks
+    Beside back beside done broke g r p = tt
+played_broke Relies (Some bytes) left left1 held rest number stage next setup Before After s Written WritesThem Written1
+    Breaks Beside back beside done broke g r p =
     let t = told_by bytes left1 (g.taken ++ r.0) (Consumes-trans (Some bytes) left left1 g.taken r.0 g.consumed r.1) in
     let on = said_from (number + 1) next (rest ++ t.0) in
     let says : AlsoSays (script bytes) (g.played ++ s ∷ []) on =
     subst (λ b. AlsoSays (script b) (g.played ++ s ∷ []) on) (sym t.2)
     (step_says g.taken r.0 held t.0 rest number stage next g.played s (g.says (r.0 ++ t.0)) r.2) in
-    let goes = p.1 (onto [] g.transcript) g.stands
-    (going_suits (Some bytes) left left1 held rest number stage next setup Before Written s done g r) in
+    let past = onto [] g.transcript in
+    let news = reverse p.report in
+    let told = transcript_on g.transcript p.report in
+    let goes = p.goes past g.holds
+    (going_suits Relies (Some bytes) left left1 held rest number stage next setup Before Written s done g r) in
     let same : setup ≡ (script bytes).setup =
     sym (says.setup ∙ setup_stays (number + 1) setup next (slice_split is_line_feed (rest ++ t.0)) done) in
-    let entries : Entries most_records (script bytes).setup (onto [] g.transcript) s (reverse p.0) =
-    subst (λ by. Entries most_records by (onto [] g.transcript) s (reverse p.0)) same goes.0 in
-    let legal = legal_of bytes g.taken r.0 t.0 g.played g.transcript t.2 (g.legal (r.0 ++ t.0)) in
+    let entries : Relies (news ++ past) → Entries most_records (script bytes).setup past s news =
+    λ relies. subst (λ by. Entries most_records by past s news) same (goes.0 relies) in
+    let legal : Relies past → Legal most_records (script bytes).setup g.played g.transcript =
+    λ relies. legal_of bytes g.taken r.0 t.0 g.played g.transcript t.2 (g.legal relies (r.0 ++ t.0)) in
     record {
       taken = g.taken ++ r.0;
       rest = t.0;
       played = g.played ++ s ∷ [];
       unplayed = on.steps;
-      transcript = g.transcript ++ p.0;
+      transcript = g.transcript ++ p.report;
       took = t.2;
       left_is = t.1;
       steps_are = says.steps;
-      legal = legal_more (script bytes).setup g.played g.transcript p.0 s legal entries;
+      losses = ap crashes told ∙ losses_more g.played news past s g.losses p.told;
+      legal = λ relies. let here = subst Relies told relies in
+          legal_more most_records (script bytes).setup g.played g.transcript p.report s (legal (back news past here))
+          (entries here);
       stops = record {
         before = g.played;
         last = s ∷ [];
         whole = g.transcript;
-        cut = p.0;
+        cut = p.report;
         steps_are = refl;
         one_step = omega arith;
         transcript_is = refl;
         legal = legal;
-        goes_on = (reverse p.0, entries, transcript_on g.transcript p.0);
+        goes_on = λ relies. (news, entries (subst Relies told relies), told);
         in_one = inr refl;
-        breaks = subst (Breaks g.transcript) (sym (append-nil p.0)) (broke g.transcript p.0 g.wrote p.2);
+        breaks = subst (Breaks g.transcript) (sym (append-nil p.report)) (broke g.transcript p.report g.wrote p.wrote);
       };
       beside = beside (script bytes).setup (g.taken ++ r.0) (g.played ++ s ∷ []) on.steps
-          (onto [] (g.transcript ++ p.0)) (subst After (sym (transcript_on g.transcript p.0)) goes.1);
+          (onto [] (g.transcript ++ p.report)) (subst After (sym told) goes.1);
     }
 
--- the disk failed in a step that was about to put a record
-pub played_torn : (left0 left left1 : Option (List ℕ)) (held rest : List ℕ) (number : ℕ) (stage next : Stage)
-    (setup : Setup) (Before : List Entry → Type 0) (s : Step) (Written Written1 : List Entry → Type 0)
-    (Breaks : List Entry → List Entry → Type 0)
+-- a step that isn't played leaves the transcript whole
+unplayed_stops : (Relies : List Entry → Type 0) (why : WorldNo) (bytes taken : List ℕ) (played unplayed : List Step)
+    (transcript : List Entry) (Written : List Entry → Type 0) (Breaks : List Entry → List Entry → Type 0)
+    → Written transcript → Stops Relies (unplayed_by why) bytes taken played unplayed transcript Written Breaks
+unplayed_stops Relies world_no.Disk bytes taken played unplayed transcript Written Breaks wrote = wrote
+unplayed_stops Relies world_no.Alien bytes taken played unplayed transcript Written Breaks wrote = wrote
+unplayed_stops Relies (world_no.BadRecord index) bytes taken played unplayed transcript Written Breaks wrote = wrote
+unplayed_stops Relies (world_no.Lost found put) bytes taken played unplayed transcript Written Breaks wrote = wrote
+
+-- a step wasn't played
+pub played_torn : (Relies : List Entry → Type 0) (left0 left left1 : Option (List ℕ)) (held rest : List ℕ) (number : ℕ)
+    (stage next : Stage) (setup : Setup) (Before : List Entry → Type 0) (s : Step) (why : WorldNo)
+    (Written Written1 : List Entry → Type 0) (Breaks : List Entry → List Entry → Type 0)
     (Beside : Ending → Setup → List ℕ → List Step → List Step → List Entry → Type 0) →
     ((taken : List ℕ) (played unplayed : List Step) (past : List Entry) → Before past
-    → Beside ending.DiskFailed setup taken played (s ∷ unplayed) past) →
+    → (Relies past → StepSuits setup past s) → Beside (unplayed_by why) setup taken played (s ∷ unplayed) past) →
     IsDone setup next → ((xs : List Entry) → Written xs → Written1 xs)
-    → Going left0 left held number stage Before Written →
+    → Going Relies left0 left held number stage Before Written →
     Came held left left1 (λ bytes. ScriptGoesOn number stage bytes (plays s next) rest) →
-    IfSome left0 (λ bytes. Played bytes ending.DiskFailed left1 Written1 Breaks Beside)
-played_torn None left left1 held rest number stage next setup Before s Written Written1 Breaks Beside beside done wrote
-    g r = tt
-played_torn (Some bytes) left left1 held rest number stage next setup Before s Written Written1 Breaks Beside beside
-    done wrote g r =
+    IfSome left0 (λ bytes. Played Relies bytes (unplayed_by why) left1 Written1 Breaks Beside)
+played_torn Relies None left left1 held rest number stage next setup Before s why Written Written1 Breaks Beside beside
+    done wrote g r = tt
+played_torn Relies (Some bytes) left left1 held rest number stage next setup Before s why Written Written1 Breaks Beside
+    beside done wrote g r =
     let t = told_by bytes left1 (g.taken ++ r.0) (Consumes-trans (Some bytes) left left1 g.taken r.0 g.consumed r.1) in
     let on = said_from (number + 1) next (rest ++ t.0) in
     let says : AlsoSays (script bytes) (g.played ++ s ∷ []) on =
@@ -471,30 +533,34 @@ played_torn (Some bytes) left left1 held rest number stage next setup Before s W
       took = t.2;
       left_is = t.1;
       steps_are = says.steps ∙ append_assoc g.played (s ∷ []) on.steps;
-      legal = legal_of bytes g.taken r.0 t.0 g.played g.transcript t.2 (g.legal (r.0 ++ t.0));
-      stops = wrote g.transcript g.wrote;
-      beside = subst (λ by. Beside ending.DiskFailed by (g.taken ++ r.0) g.played (s ∷ on.steps) (onto [] g.transcript))
-          same (beside (g.taken ++ r.0) g.played on.steps (onto [] g.transcript) g.stands);
+      losses = g.losses;
+      legal = λ relies. legal_of bytes g.taken r.0 t.0 g.played g.transcript t.2 (g.legal relies (r.0 ++ t.0));
+      stops = unplayed_stops Relies why bytes (g.taken ++ r.0) g.played (s ∷ on.steps) g.transcript Written1 Breaks
+          (wrote g.transcript g.wrote);
+      beside = subst
+          (λ by. Beside (unplayed_by why) by (g.taken ++ r.0) g.played (s ∷ on.steps) (onto [] g.transcript)) same
+          (beside (g.taken ++ r.0) g.played on.steps (onto [] g.transcript) g.holds
+          (going_suits Relies (Some bytes) left left1 held rest number stage next setup Before Written s done g r));
     }
 
 -- the setup that was read is sound
-pub going_setup : (left0 left : Option (List ℕ)) (held : List ℕ) (number : ℕ) (setup : Setup)
-    (Stands Written : List Entry → Type 0) →
-    Going left0 left held number (at_steps setup) Stands Written → IsSoundSetup setup
-going_setup left0 left held number setup Stands Written g =
+pub going_setup : (Relies : List Entry → Type 0) (left0 left : Option (List ℕ)) (held : List ℕ) (number : ℕ)
+    (setup : Setup) (Stands Written : List Entry → Type 0) →
+    Going Relies left0 left held number (at_steps setup) Stands Written → IsSoundSetup setup
+going_setup Relies left0 left held number setup Stands Written g =
     subst IsSoundSetup ((g.says []).setup
     ∙ setup_stays number setup (at_steps setup) (slice_split is_line_feed (held ++ [])) refl)
     (setup_sound (g.taken ++ []))
 
 -- there was no memory before the first step
-pub played_none : (left0 left : Option (List ℕ)) (held : List ℕ) (number : ℕ) (stage : Stage)
-    (Stands Written : List Entry → Type 0) (Breaks : List Entry → List Entry → Type 0)
+pub played_none : (Relies Relies1 : List Entry → Type 0) (left0 left : Option (List ℕ)) (held : List ℕ) (number : ℕ)
+    (stage : Stage) (Stands Written : List Entry → Type 0) (Breaks : List Entry → List Entry → Type 0)
     (Beside : Ending → Setup → List ℕ → List Step → List Step → List Entry → Type 0) →
     ((setup : Setup) (taken : List ℕ) (unplayed : List Step) → Beside ending.NoMemory setup taken [] unplayed []) →
-    Written [] → Going left0 left held number stage Stands IsNothing
-    → IfSome left0 (λ bytes. Played bytes ending.NoMemory left Written Breaks Beside)
-played_none None left held number stage Stands Written Breaks Beside beside wrote g = tt
-played_none (Some bytes) left held number stage Stands Written Breaks Beside beside wrote g =
+    Written [] → Going Relies left0 left held number stage Stands IsNothing
+    → IfSome left0 (λ bytes. Played Relies1 bytes ending.NoMemory left Written Breaks Beside)
+played_none Relies Relies1 None left held number stage Stands Written Breaks Beside beside wrote g = tt
+played_none Relies Relies1 (Some bytes) left held number stage Stands Written Breaks Beside beside wrote g =
     let t = told_by bytes left g.taken g.consumed in
     record {
       taken = g.taken;
@@ -505,33 +571,28 @@ played_none (Some bytes) left held number stage Stands Written Breaks Beside bes
       took = t.2;
       left_is = t.1;
       steps_are = refl;
-      legal = refl;
+      losses = refl;
+      legal = λ relies. refl;
       stops = (refl, wrote);
       beside = beside (script bytes).setup g.taken (script bytes).steps;
     }
 
--- nothing was taken of the script, and this was so before
-abbrev pub IsBefore : Ending → Type 0
-IsBefore ending.DiskFailed = Unit
-IsBefore (ending.NotBlank at) = Unit
-IsBefore (ending.OtherSize len) = Unit
-IsBefore how = ⊥
+-- no journal was created, and nothing was taken of the script
+before_stops : (Relies : List Entry → Type 0) (bytes : List ℕ) (size : ℕ) (seen : Option (List ℕ)) (how : Ending)
+    (unplayed : List Step) (Written : List Entry → Type 0) (Breaks : List Entry → List Entry → Type 0)
+    → IsUnopened size seen how → Written [] → Stops Relies how bytes [] [] unplayed [] Written Breaks
+before_stops Relies bytes size seen ending.DiskFailed unplayed Written Breaks is wrote = wrote
+before_stops Relies bytes size seen (ending.NotBlank at) unplayed Written Breaks is wrote = wrote
+before_stops Relies bytes size seen (ending.OtherSize len) unplayed Written Breaks is wrote = wrote
+before_stops Relies bytes size seen how unplayed Written Breaks is wrote = absurd is
 
-before_stops : (bytes : List ℕ) (how : Ending) (unplayed : List Step) (Written : List Entry → Type 0)
-    (Breaks : List Entry → List Entry → Type 0) → IsBefore how → Written []
-    → Stops how bytes [] [] unplayed [] Written Breaks
-before_stops bytes ending.DiskFailed unplayed Written Breaks is wrote = wrote
-before_stops bytes (ending.NotBlank at) unplayed Written Breaks is wrote = wrote
-before_stops bytes (ending.OtherSize len) unplayed Written Breaks is wrote = wrote
-before_stops bytes how unplayed Written Breaks is wrote = absurd is
-
-pub played_before : (left : Option (List ℕ)) (how : Ending) (Written : List Entry → Type 0)
-    (Breaks : List Entry → List Entry → Type 0)
-    (Beside : Ending → Setup → List ℕ → List Step → List Step → List Entry → Type 0) → IsBefore how →
+pub played_before : (Relies : List Entry → Type 0) (left : Option (List ℕ)) (size : ℕ) (seen : Option (List ℕ))
+    (how : Ending) (Written : List Entry → Type 0) (Breaks : List Entry → List Entry → Type 0)
+    (Beside : Ending → Setup → List ℕ → List Step → List Step → List Entry → Type 0) → IsUnopened size seen how →
     ((setup : Setup) (unplayed : List Step) → Beside how setup [] [] unplayed []) → Written []
-    → IfSome left (λ bytes. Played bytes how left Written Breaks Beside)
-played_before None how Written Breaks Beside is beside wrote = tt
-played_before (Some bytes) how Written Breaks Beside is beside wrote = record {
+    → IfSome left (λ bytes. Played Relies bytes how left Written Breaks Beside)
+played_before Relies None size seen how Written Breaks Beside is beside wrote = tt
+played_before Relies (Some bytes) size seen how Written Breaks Beside is beside wrote = record {
   taken = [];
   rest = bytes;
   played = [];
@@ -540,33 +601,37 @@ played_before (Some bytes) how Written Breaks Beside is beside wrote = record {
   took = refl;
   left_is = refl;
   steps_are = refl;
-  legal = refl;
-  stops = before_stops bytes how (script bytes).steps Written Breaks is wrote;
+  losses = refl;
+  legal = λ relies. refl;
+  stops = before_stops Relies bytes size seen how (script bytes).steps Written Breaks is wrote;
   beside = beside (script bytes).setup (script bytes).steps;
 }
 
 -- what is told of the writing in another way, where the script or its source brought the end
-stops_by : (bytes taken : List ℕ) (played unplayed : List Step) (transcript : List Entry) (how : Ending)
-    (Written Written1 : List Entry → Type 0) (Breaks Breaks1 : List Entry → List Entry → Type 0) → IsOfScript how →
-    ((xs : List Entry) → Written xs → Written1 xs) → Stops how bytes taken played unplayed transcript Written Breaks
-    → Stops how bytes taken played unplayed transcript Written1 Breaks1
-stops_by bytes taken played unplayed transcript ending.Done Written Written1 Breaks Breaks1 is w h =
+stops_by : (Relies Relies1 : List Entry → Type 0) (bytes taken : List ℕ) (played unplayed : List Step)
+    (transcript : List Entry) (how : Ending) (Written Written1 : List Entry → Type 0)
+    (Breaks Breaks1 : List Entry → List Entry → Type 0) → IsOfScript how →
+    ((xs : List Entry) → Written xs → Written1 xs)
+    → Stops Relies how bytes taken played unplayed transcript Written Breaks
+    → Stops Relies1 how bytes taken played unplayed transcript Written1 Breaks1
+stops_by Relies Relies1 bytes taken played unplayed transcript ending.Done Written Written1 Breaks Breaks1 is w h =
     (h.0, h.1, w transcript h.2)
-stops_by bytes taken played unplayed transcript (ending.Refused number kind) Written Written1 Breaks Breaks1 is w h =
+stops_by Relies Relies1 bytes taken played unplayed transcript (ending.Refused number kind) Written Written1 Breaks
+    Breaks1 is w h =
     (h.0, h.1, w transcript h.2)
-stops_by bytes taken played unplayed transcript ending.Unread Written Written1 Breaks Breaks1 is w h =
+stops_by Relies Relies1 bytes taken played unplayed transcript ending.Unread Written Written1 Breaks Breaks1 is w h =
     (h.0, w transcript h.1)
-stops_by bytes taken played unplayed transcript how Written Written1 Breaks Breaks1 is w h = absurd is
+stops_by Relies Relies1 bytes taken played unplayed transcript how Written Written1 Breaks Breaks1 is w h = absurd is
 
 -- an end before the first step, as one of a run over a disk
-pub played_by : (left0 left : Option (List ℕ)) (how : Ending) (Written Written1 : List Entry → Type 0)
-    (Breaks Breaks1 : List Entry → List Entry → Type 0)
+pub played_by : (Relies Relies1 : List Entry → Type 0) (left0 left : Option (List ℕ)) (how : Ending)
+    (Written Written1 : List Entry → Type 0) (Breaks Breaks1 : List Entry → List Entry → Type 0)
     (Beside : Ending → Setup → List ℕ → List Step → List Step → List Entry → Type 0) →
-    ((xs : List Entry) → Written xs → Written1 xs) → EndsBeside IsNothing Beside →
-    IfSome left0 (λ bytes. Played bytes how left Written Breaks BeforeSteps)
-    → IfSome left0 (λ bytes. Played bytes how left Written1 Breaks1 Beside)
-played_by None left how Written Written1 Breaks Breaks1 Beside w beside p = tt
-played_by (Some bytes) left how Written Written1 Breaks Breaks1 Beside w beside p = record {
+    ((past : List Entry) → Relies1 past → Relies past) → ((xs : List Entry) → Written xs → Written1 xs)
+    → EndsBeside IsNothing Beside → IfSome left0 (λ bytes. Played Relies bytes how left Written Breaks BeforeSteps)
+    → IfSome left0 (λ bytes. Played Relies1 bytes how left Written1 Breaks1 Beside)
+played_by Relies Relies1 None left how Written Written1 Breaks Breaks1 Beside less w beside p = tt
+played_by Relies Relies1 (Some bytes) left how Written Written1 Breaks Breaks1 Beside less w beside p = record {
   taken = p.taken;
   rest = p.rest;
   played = p.played;
@@ -575,26 +640,27 @@ played_by (Some bytes) left how Written Written1 Breaks Breaks1 Beside w beside 
   took = p.took;
   left_is = p.left_is;
   steps_are = p.steps_are;
-  legal = p.legal;
-  stops = stops_by bytes p.taken p.played p.unplayed p.transcript how Written Written1 Breaks Breaks1 p.beside.0 w
-      p.stops;
+  losses = p.losses;
+  legal = λ relies. p.legal (less (onto [] p.transcript) relies);
+  stops = stops_by Relies Relies1 bytes p.taken p.played p.unplayed p.transcript how Written Written1 Breaks Breaks1
+      p.beside.0 w p.stops;
   beside = beside how (script bytes).setup p.taken p.played p.unplayed (onto [] p.transcript) p.beside.0 p.beside.1;
 }
 
 -- what the loop over the setup lines keeps
 module _ {S : Type 0} (takes : S → ℕ → Result ℕ Failed → S → Type 0) (left : S → Option (List ℕ)) (faults : S → ℕ) where
   pub record Opens (source0 source : S) (standing : Standing) (number : ℕ) (setup : Setup) : Type 0 where
-    pub going : Going (left source0) (left source) standing.held number (at_setup setup) IsNothing IsNothing
+    pub going : Going Always (left source0) (left source) standing.held number (at_setup setup) IsNothing IsNothing
     pub opening : TookOpening takes left source0 source standing.held number (at_setup setup)
     pub tells : TellsAsBefore (left source0) (left source)
     pub later : faults source0 ≤ faults source
     pub next : IsNext number standing
 
--- what the loop over the steps keeps: from what was so at its start comes what is so now
-pub record Runs (Start Now : Option (List ℕ) → Type 0) (left0 left : Option (List ℕ)) (faults0 faults : ℕ)
-    (old now : Option (List ℕ)) (failed0 failed : ℕ) (Disk : Type 0) (broken0 broken : ℕ) (standing : Standing)
-    (number : ℕ) : Type 0 where
-  pub going : (first : Option (List ℕ)) → Start first → Now first
+-- what the loop over the steps keeps: from what was so at its start comes what is so now, by any disk that was given
+pub record Runs {D : Type 0} (On : D → Type 0) (Start Now : Option (List ℕ) → D → Type 0)
+    (left0 left : Option (List ℕ)) (faults0 faults : ℕ) (old now : Option (List ℕ)) (failed0 failed : ℕ)
+    (Disk : Type 0) (broken0 broken : ℕ) (standing : Standing) (number : ℕ) : Type 0 where
+  pub going : (first : Option (List ℕ)) (given : D) → On given → Start first given → Now first given
   pub source : TellsAsBefore left0 left
   pub sink : TellsAsBefore old now
   pub disk : Disk

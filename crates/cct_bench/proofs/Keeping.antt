@@ -1,46 +1,49 @@
 -- What a disk keeps over a run, and what is left on it where the steps come to their end.
-use Rattle.std.proofs.Common.{◌≡◌, ◌⊎◌, ℕ, Bool, List, [], ◌∷◌, reverse, Option, refl, sym, ap, ◌∙◌, subst, inl, inr}
-use Rattle.std.proofs.Common.{arith}
-use Rattle.std.specs.Prelude.{is_some}
+use Rattle.std.proofs.Common.{◌≡◌, ◌⊎◌, ◌++◌, ◌≤◌, ℕ, Bool, List, [], ◌∷◌, reverse, Option, refl, sym, ap, ◌∙◌}
+use Rattle.std.proofs.Common.{arith, inl, inr, subst, Result, Err}
+use Rattle.std.specs.Prelude.{IfSome, is_some}
+use Rattle.std.proofs.Math.Nat.{le_refl, le_trans}
 use Rattle.cct_model.specs.terms.device.Setup.{Setup}
 use Rattle.cct_model.specs.lines.command.Step.{Step}
+use Rattle.cct_model.specs.lines.command.Step.TheVariants as step
 use Rattle.cct_model.specs.lines.record.Record.{Record}
 use Rattle.cct_model.specs.lines.entry.Entry.{Entry}
+use Rattle.cct_model.specs.Legal.{Entries}
 use Rattle.cct_model.specs.Records.{records}
+use Rattle.cct_model.specs.Script.{Stage, plays}
 use Rattle.cct_disk.specs.declared.disk.Disk.{Ghosts}
 use Rattle.cct_disk.specs.Disk.{IsTrusted}
+use Rattle.cct_edge.specs.declared.fault.Failed.{Failed}
 use Rattle.cct_journal.specs.Creating.{RefusesCreate}
 use Rattle.cct_journal.specs.Image as images
+use Rattle.cct_journal.specs.Image.{capacity_of}
 use Rattle.cct_journal.specs.declared.refusal.CreateNo.{CreateNo}
 use Rattle.cct_journal.specs.declared.refusal.CreateNo.TheVariants as create_no
-use Rattle.cct_journal.specs.Stands.{GoesOn, Leaves, Stands}
+use Rattle.cct_journal.specs.Losing.{LeavesWith}
+use Rattle.cct_journal.specs.Stands.{GoesOn, Leaves, Outlasts, Stands}
 use Rattle.cct_journal.specs.declared.place.Place.{Place}
+use Rattle.cct_world.specs.declared.refusal.WorldNo.{WorldNo}
+use Rattle.cct_world.specs.declared.refusal.WorldNo.TheVariants as world_no
 use Rattle.cct_world.specs.declared.world.World.{World}
+use Rattle.cct_world.specs.Machine.{LosesIn, StepSuits}
+use Rattle.cct_world.specs.Step.{LastsIn, RoseBy, crashes, crashes_of}
+use Rattle.cct_world.specs.World as worlds
 use Rattle.cct_world.specs.World.{Breaks, StandsFor, disk_of, setup_of}
+use Rattle.cct_world.specs.Sure.{First, IsCrash, Sure}
+use Rattle.cct_world.proofs.Lasting.{lasts_in, lasts_on, lasts_then, trusted_on, uncut_in}
+use Rattle.cct_world.proofs.Sure.{crashes_none, sure_back, sure_survives}
+use Rattle.cct_world.proofs.Told.{rose_none}
 use Rattle.cct_bench.specs.declared.play.Ending.{Ending}
 use Rattle.cct_bench.specs.declared.play.Ending.TheVariants as ending
-use Rattle.cct_bench.specs.Disks.{Books, IsReady, disks}
+use Rattle.cct_bench.specs.Disks.{Books, Holds, IsReady, disks}
 use Rattle.cct_bench.specs.declared.play.TheConstants.{JOURNAL_BYTES}
-use Rattle.cct_bench.specs.Run.{Over, uncreated}
-use Rattle.cct_bench.specs.Writing.{IsNothing}
-use Rattle.cct_bench.proofs.Going.{EndsBeside, IsBefore}
-
--- of a kind of disk of which is known what each tells
-module _ {D : Type 0} (size : D → ℕ) (honest : D → Bool) (seen : D → Option (List ℕ)) (cuts : D → ℕ) where
-  pub goes_on_here : (disk : D) → GoesOn size honest seen cuts disk disk
-  goes_on_here disk = record { same_size = refl; same_honest = refl; same_telling = refl; same_cuts = refl }
-
-  pub goes_on_then : (a b c : D) → GoesOn size honest seen cuts a b → GoesOn size honest seen cuts b c
-      → GoesOn size honest seen cuts a c
-  goes_on_then a b c first second = record {
-    same_size = second.same_size ∙ first.same_size;
-    same_honest = second.same_honest ∙ first.same_honest;
-    same_telling = second.same_telling ∙ first.same_telling;
-    same_cuts = second.same_cuts ∙ first.same_cuts;
-  }
-
-  pub trusted_on : (a b : D) → GoesOn size honest seen cuts a b → IsTrusted honest seen a → IsTrusted honest seen b
-  trusted_on a b on trusted = (on.same_honest ∙ trusted.0, on.same_telling ∙ trusted.1)
+use Rattle.cct_bench.specs.Going.{Going, WorldHolds}
+use Rattle.cct_bench.specs.Lines.{Came, ScriptGoesOn}
+use Rattle.cct_bench.specs.Playing.{Plays, PlaysOn}
+use Rattle.cct_bench.specs.Run.{IsUnopened, Over, OverCut, Played, uncreated, unplayed_by}
+use Rattle.cct_text.specs.Writing.{Broke, IsNothing, Writes, Wrote}
+use Rattle.cct_bench.proofs.Going.{Carries, EndsBeside, carried, played_broke, played_torn}
+use Rattle.cct_bench.proofs.Staying.{IsDone}
 
 -- each image of a disk that keeps just one stands for what that one does
 pub stands_leaves : {D : Type 0} (honest : D → Bool) (seen : D → Option (List ℕ)) (may_leave : D → List ℕ → Type 0)
@@ -55,19 +58,29 @@ stands_leaves honest seen may_leave disk place rs stands = record {
 -- the script or its source brought the end, and the disk has the records of the past
 module _ {D : Type 0} (size : D → ℕ) (honest : D → Bool) (seen : D → Option (List ℕ))
     (may_leave : D → List ℕ → Type 0) (cuts : D → ℕ) where
-  pub ends_over : (given now last : D) (Before : List Entry → Type 0) → IsReady (size given) (seen given)
-      → GoesOn size honest seen cuts given now
-      → ((past : List Entry) → Before past → IsTrusted honest seen now
+  pub ends_over : (given last : D) (Before : List Entry → Type 0) → IsReady (size given) (seen given)
+      → ((past : List Entry) → Before past → IsTrusted honest seen given
       → Leaves honest seen may_leave last (reverse (records past)))
-      → EndsBeside Before (Over (disks size honest seen may_leave cuts given last))
-  ends_over given now last Before ready on books ending.Done setup taken played unplayed past is before =
-      (ready, λ trusted. books past before (trusted_on size honest seen cuts given now on trusted))
-  ends_over given now last Before ready on books (ending.Refused number why) setup taken played unplayed past is
-      before =
-      (ready, λ trusted. books past before (trusted_on size honest seen cuts given now on trusted))
-  ends_over given now last Before ready on books ending.Unread setup taken played unplayed past is before =
-      (ready, λ trusted. books past before (trusted_on size honest seen cuts given now on trusted))
-  ends_over given now last Before ready on books how setup taken played unplayed past is before = absurd is
+      → ((past : List Entry) → Before past → RoseBy (crashes past) (cuts given) (cuts last))
+      → ((past : List Entry) → Before past → crashes past ≡ 0 → cuts last ≡ cuts given)
+      → EndsBeside Before (OverCut (disks size honest seen may_leave cuts given last))
+  ends_over given last Before ready books cut uncut ending.Done setup taken played unplayed past is before = record {
+    over = (ready, books past before);
+    cut = cut past before;
+    uncut = λ none next. uncut past before none;
+  }
+  ends_over given last Before ready books cut uncut (ending.Refused number why) setup taken played unplayed past is
+      before = record {
+        over = (ready, books past before);
+        cut = cut past before;
+        uncut = λ none next. uncut past before none;
+      }
+  ends_over given last Before ready books cut uncut ending.Unread setup taken played unplayed past is before = record {
+    over = (ready, books past before);
+    cut = cut past before;
+    uncut = λ none next. uncut past before none;
+  }
+  ends_over given last Before ready books cut uncut how setup taken played unplayed past is before = absurd is
 
 module _ {D : Type 0} {g : Ghosts D} where
   -- the disk of a machine that stands for a past has its records
@@ -78,29 +91,113 @@ module _ {D : Type 0} {g : Ghosts D} where
 
   -- so what is left where a run over such a machine ends
   pub world_ends : (given last : D) (world : World D g) → IsReady (g.size given) (g.seen given)
-      → GoesOn g.size g.honest g.seen g.cuts given (disk_of world) → last ≡ disk_of world
-      → EndsBeside (StandsFor world) (Over (disks g.size g.honest g.seen g.may_leave g.cuts given last))
+      → Outlasts g.size g.honest g.seen g.cuts given (disk_of world) → last ≡ disk_of world
+      → EndsBeside (WorldHolds given world) (OverCut (disks g.size g.honest g.seen g.may_leave g.cuts given last))
   world_ends given last world ready on is =
-      ends_over g.size g.honest g.seen g.may_leave g.cuts given (disk_of world) last (StandsFor world) ready on
-      (λ past stands trusted. subst (λ disk. Leaves g.honest g.seen g.may_leave disk (reverse (records past))) (sym is)
-      (world_books world past stands trusted))
+      ends_over g.size g.honest g.seen g.may_leave g.cuts given last (WorldHolds given world) ready
+      (λ past holds trusted. subst (λ disk. Leaves g.honest g.seen g.may_leave disk (reverse (records past))) (sym is)
+      (world_books world past (holds.stands (inl trusted))
+      (trusted_on g.size g.honest g.seen g.cuts given (disk_of world) on trusted)))
+      (λ past holds. subst (λ disk. RoseBy (crashes past) (g.cuts given) (g.cuts disk)) (sym is) holds.cut)
+      (λ past holds none. ap g.cuts is ∙ holds.uncut none)
 
-  -- a put failed in a step
-  pub torn_over : (given left : D) (world : World D g) (s : Step) → IsReady (g.size given) (g.seen given)
-      → GoesOn g.size g.honest g.seen g.cuts given (disk_of world) → Breaks world left s
-      → (taken : List ℕ) (played unplayed : List Step) (past : List Entry) → StandsFor world past
+  -- what holds of a machine does so behind a step that was played
+  pub world_carried : (given : D) (world : World D g) (After : List Entry → Type 0) (new : ℕ) (s : Step)
+      (WritesThem : List Entry → Type 0) → Outlasts g.size g.honest g.seen g.cuts given (disk_of world)
+      → PlaysOn (IsTrusted g.honest g.seen (disk_of world)) (StandsFor world) After (setup_of world) s
+      (g.cuts (disk_of world)) new WritesThem
+      → Carries (Sure (IsTrusted g.honest g.seen given)) (WorldHolds given world)
+      (Holds (Sure (IsTrusted g.honest g.seen given)) After (g.cuts given) new) (setup_of world) s WritesThem
+  world_carried given world After new s WritesThem on played =
+      let trusted = IsTrusted g.honest g.seen given in
+      let now = IsTrusted g.honest g.seen (disk_of world) in
+      carried (Sure trusted) now (StandsFor world) After (setup_of world) s (g.cuts given) (g.cuts (disk_of world)) new
+      WritesThem (sure_back trusted)
+      (sure_survives trusted now (trusted_on g.size g.honest g.seen g.cuts given (disk_of world) on)) played
+
+  -- a step that was played leaves the records of the past on the disk
+  pub books_play : (world next : World D g) (last : D) (s : Step) (report : List Entry)
+      → g.size (disk_of world) ≡ JOURNAL_BYTES → worlds.Plays world next s report → last ≡ disk_of next
+      → Plays (IsTrusted g.honest g.seen (disk_of world)) (StandsFor world) (Books g.honest g.seen g.may_leave last)
+      (setup_of world) s report
+  books_play world next last s report sized played is past stands suits survives =
+      let goes = played past stands suits survives in
+      let news = reverse report in (
+        subst (λ size. Entries (capacity_of size) (setup_of world) past s news) sized goes.0,
+        subst (λ disk. Books g.honest g.seen g.may_leave disk (news ++ past)) (sym is)
+            (world_books next (news ++ past) goes.1),
+      )
+
+  -- the disk failed in a step
+  torn_over : (given left : D) (world : World D g) (s : Step) → IsReady (g.size given) (g.seen given)
+      → (IsTrusted g.honest g.seen given → IsTrusted g.honest g.seen (disk_of world))
+      → Breaks world left world_no.Disk s
+      → (taken : List ℕ) (played unplayed : List Step) (past : List Entry) → WorldHolds given world past
       → Over (disks g.size g.honest g.seen g.may_leave g.cuts given left) ending.DiskFailed (setup_of world) taken
       played (s ∷ unplayed) past
-  torn_over given left world s ready on breaks taken played unplayed past stands =
-      let torn = breaks past stands in (
-        ready.sized,
-        inr (
-          torn.0,
-          torn.1.0,
-          ready,
-          λ trusted. torn.1.1 (trusted_on g.size g.honest g.seen g.cuts given (disk_of world) on trusted),
-        ),
-      )
+  torn_over given left world (step.Next addr) ready on breaks taken played unplayed past holds = (
+    ready.sized,
+    inr (
+      ready,
+      λ sure. let due = breaks past (holds.stands sure) in (due.0, due.1.0),
+      λ trusted. let due = breaks past (holds.stands (inl trusted)) in
+          subst (λ r. LeavesWith g.honest g.seen g.may_leave left r (reverse (records past))) (sym due.1.0)
+          (due.1.1 (on trusted)),
+    ),
+  )
+  torn_over given left world (step.Crash at choice) ready on breaks taken played unplayed past holds = (
+    ready.sized,
+    inr (
+      ready,
+      tt,
+      λ trusted. breaks past (holds.stands (inl trusted)) (on trusted),
+    ),
+  )
+  torn_over given left world s ready on breaks taken played unplayed past holds = absurd breaks
+
+  -- a loss of power left something else than what stood on the disk
+  lost_over : (given : D) (world : World D g) (s : Step) → IsReady (g.size given) (g.seen given)
+      → (IsTrusted g.honest g.seen given → IsTrusted g.honest g.seen (disk_of world))
+      → LosesIn world.machine.value s → (unplayed : List Step) (past : List Entry) → WorldHolds given world past
+      → (Sure (IsTrusted g.honest g.seen given) past → StepSuits (setup_of world) past s)
+      → IsReady (g.size given) (g.seen given) × First IsCrash (s ∷ unplayed)
+      × (IsTrusted g.honest g.seen given → ⊥)
+  lost_over given world (step.Crash at choice) ready on loses unplayed past holds suits =
+      (ready, tt, λ trusted. loses past (holds.stands (inl trusted)) (suits (inl trusted)) (on trusted))
+  lost_over given world s ready on loses unplayed past holds suits = absurd loses
+
+  unplayed_over : (given left : D) (world : World D g) (why : WorldNo) (s : Step)
+      → IsReady (g.size given) (g.seen given)
+      → (IsTrusted g.honest g.seen given → IsTrusted g.honest g.seen (disk_of world)) → Breaks world left why s
+      → (taken : List ℕ) (played unplayed : List Step) (past : List Entry) → WorldHolds given world past
+      → (Sure (IsTrusted g.honest g.seen given) past → StepSuits (setup_of world) past s)
+      → Over (disks g.size g.honest g.seen g.may_leave g.cuts given left) (unplayed_by why) (setup_of world) taken
+      played (s ∷ unplayed) past
+  unplayed_over given left world world_no.Disk s ready on breaks taken played unplayed past holds suits =
+      torn_over given left world s ready on breaks taken played unplayed past holds
+  unplayed_over given left world world_no.Alien s ready on breaks taken played unplayed past holds suits =
+      lost_over given world s ready on breaks unplayed past holds suits
+  unplayed_over given left world (world_no.BadRecord index) s ready on breaks taken played unplayed past holds suits =
+      lost_over given world s ready on breaks unplayed past holds suits
+  unplayed_over given left world (world_no.Lost found put) s ready on breaks taken played unplayed past holds suits =
+      lost_over given world s ready on breaks unplayed past holds suits
+
+  -- a step that wasn't played
+  pub unplayed_cut : (given left : D) (world : World D g) (why : WorldNo) (s : Step)
+      → IsReady (g.size given) (g.seen given) → Outlasts g.size g.honest g.seen g.cuts given (disk_of world)
+      → LastsIn s g.size g.honest g.seen g.cuts (disk_of world) left → Breaks world left why s
+      → (taken : List ℕ) (played unplayed : List Step) (past : List Entry) → WorldHolds given world past
+      → (Sure (IsTrusted g.honest g.seen given) past → StepSuits (setup_of world) past s)
+      → OverCut (disks g.size g.honest g.seen g.may_leave g.cuts given left) (unplayed_by why) (setup_of world) taken
+      played (s ∷ unplayed) past
+  unplayed_cut given left world why s ready on lasts breaks taken played unplayed past holds suits = record {
+    over = unplayed_over given left world why s ready
+        (trusted_on g.size g.honest g.seen g.cuts given (disk_of world) on) breaks taken played unplayed past holds
+        suits;
+    cut = le_trans holds.cut (lasts_in g.size g.honest g.seen g.cuts s (disk_of world) left lasts).later_cuts;
+    uncut = λ none next. uncut_in g.size g.honest g.seen g.cuts s (disk_of world) left lasts (crashes_none s next)
+        ∙ holds.uncut none;
+  }
 
 -- a journal without records was created
 module _ {D : Type 0} (size : D → ℕ) (honest : D → Bool) (seen : D → Option (List ℕ))
@@ -117,45 +214,117 @@ module _ {D : Type 0} (size : D → ℕ) (honest : D → Bool) (seen : D → Opt
   pub fresh_ends : (given last disk : D) (place : Place) → IsReady (size given) (seen given)
       → GoesOn size honest seen cuts given disk → last ≡ disk
       → (IsTrusted honest seen disk → Stands honest seen may_leave disk place [])
-      → EndsBeside IsNothing (Over (disks size honest seen may_leave cuts given last))
+      → EndsBeside IsNothing (OverCut (disks size honest seen may_leave cuts given last))
   fresh_ends given last disk place ready on is stands =
-      ends_over size honest seen may_leave cuts given disk last IsNothing ready on
-      (λ past none trusted. fresh_leaves last disk place past is none (stands trusted))
+      let same : cuts last ≡ cuts given = ap cuts is ∙ on.same_cuts in
+      ends_over size honest seen may_leave cuts given last IsNothing ready
+      (λ past none trusted. fresh_leaves last disk place past is none
+      (stands (trusted_on size honest seen cuts given disk (lasts_on size honest seen cuts given disk on) trusted)))
+      (λ past none. subst (RoseBy (crashes past) (cuts given)) (sym same)
+      (rose_none (crashes past) (cuts given) (ap crashes none)))
+      (λ past none quiet. same)
+
+  -- a run that ended before its first step
+  uncut_over : (given last : D) (how : Ending) (setup : Setup) (taken : List ℕ) (unplayed : List Step)
+      → cuts last ≡ cuts given → Over (disks size honest seen may_leave cuts given last) how setup taken [] unplayed []
+      → OverCut (disks size honest seen may_leave cuts given last) how setup taken [] unplayed []
+  uncut_over given last how setup taken unplayed same over = record {
+    over = over;
+    cut = subst (RoseBy 0 (cuts given)) (sym same) (rose_none 0 (cuts given) refl);
+    uncut = λ none next. same;
+  }
 
   -- and where there was no memory
   pub fresh_none : (given last disk : D) (place : Place) → GoesOn size honest seen cuts given disk → last ≡ disk
       → (IsTrusted honest seen disk → Stands honest seen may_leave disk place [])
       → (setup : Setup) (taken : List ℕ) (unplayed : List Step)
-      → Over (disks size honest seen may_leave cuts given last) ending.NoMemory setup taken [] unplayed []
-  fresh_none given last disk place on is stands setup taken unplayed trusted =
-      fresh_leaves last disk place [] is refl (stands (trusted_on size honest seen cuts given disk on trusted))
+      → OverCut (disks size honest seen may_leave cuts given last) ending.NoMemory setup taken [] unplayed []
+  fresh_none given last disk place on is stands setup taken unplayed =
+      uncut_over given last ending.NoMemory setup taken unplayed (ap cuts is ∙ on.same_cuts)
+      (λ trusted. fresh_leaves last disk place [] is refl
+      (stands (trusted_on size honest seen cuts given disk (lasts_on size honest seen cuts given disk on) trusted)))
 
   -- no journal was created
-  pub uncreated_over : (given last : D) (why : CreateNo) → size given ≡ JOURNAL_BYTES
-      → RefusesCreate (size given) (seen given) why → (setup : Setup) (unplayed : List Step)
-      → Over (disks size honest seen may_leave cuts given last) (uncreated why) setup [] [] unplayed []
-  uncreated_over given last (create_no.Small len) sized refused setup unplayed =
-      absurd (omega (arith, sized, refused.1))
-  uncreated_over given last create_no.Disk sized refused setup unplayed = (sized, inl (refl, refl))
-  uncreated_over given last (create_no.NotBlank at) sized refused setup unplayed = (sized, (refl, refl), refused.1)
+  unopened_is : (given last : D) (how : Ending) → IsUnopened (size given) (seen given) how → (setup : Setup)
+      (unplayed : List Step) → Over (disks size honest seen may_leave cuts given last) how setup [] [] unplayed []
+  unopened_is given last ending.DiskFailed sized setup unplayed = (sized, inl (refl, refl))
+  unopened_is given last (ending.NotBlank at) h setup unplayed = (h.0, (refl, refl), h.1)
+  unopened_is given last (ending.OtherSize len) h setup unplayed = (h.0, (refl, refl), h.1)
+  unopened_is given last how h setup unplayed = absurd h
 
-pub uncreated_before : (why : CreateNo) → IsBefore (uncreated why)
-uncreated_before (create_no.Small len) = tt
-uncreated_before create_no.Disk = tt
-uncreated_before (create_no.NotBlank at) = tt
+  pub unopened_over : (given last : D) (how : Ending) → GoesOn size honest seen cuts given last
+      → IsUnopened (size given) (seen given) how → (setup : Setup) (unplayed : List Step)
+      → OverCut (disks size honest seen may_leave cuts given last) how setup [] [] unplayed []
+  unopened_over given last how on h setup unplayed =
+      uncut_over given last how setup [] unplayed on.same_cuts (unopened_is given last how h setup unplayed)
+
+-- how a run ends where no journal is created on a disk of the size of one
+pub uncreated_is : (size : ℕ) (seen : Option (List ℕ)) (why : CreateNo) → size ≡ JOURNAL_BYTES
+    → RefusesCreate size seen why → IsUnopened size seen (uncreated why)
+uncreated_is size seen (create_no.Small len) sized refused = absurd (omega (arith, sized, refused.1))
+uncreated_is size seen create_no.Disk sized refused = sized
+uncreated_is size seen (create_no.NotBlank at) sized refused = (sized, refused.1)
 
 -- a put to the sink failed, and the disk has the records of the past
 module _ {D : Type 0} (size : D → ℕ) (honest : D → Bool) (seen : D → Option (List ℕ))
     (may_leave : D → List ℕ → Type 0) (cuts : D → ℕ) where
-  pub broke_over : (given last : D) → IsReady (size given) (seen given) → GoesOn size honest seen cuts given last
+  pub broke_over : (given last : D) → IsReady (size given) (seen given) → Outlasts size honest seen cuts given last
       → (setup : Setup) (taken : List ℕ) (played unplayed : List Step) (past : List Entry)
-      → Books honest seen may_leave last past
-      → Over (disks size honest seen may_leave cuts given last) ending.Unwritten setup taken played unplayed past
-  broke_over given last ready on setup taken played unplayed past books =
-      (ready, λ trusted. books (trusted_on size honest seen cuts given last on trusted))
+      → Holds (Sure (IsTrusted honest seen given)) (Books honest seen may_leave last) (cuts given) (cuts last) past
+      → OverCut (disks size honest seen may_leave cuts given last) ending.Unwritten setup taken played unplayed past
+  broke_over given last ready on setup taken played unplayed past holds = record {
+    over = (ready, λ trusted. holds.stands (inl trusted) (trusted_on size honest seen cuts given last on trusted));
+    cut = holds.cut;
+    uncut = λ none next. holds.uncut none;
+  }
 
--- a step ended a run in one of two ways
-pub either_ending : (P : Ending → Type 0) (how : Ending) → (how ≡ ending.Unwritten) ⊎ (how ≡ ending.DiskFailed)
-    → (how ≡ ending.Unwritten → P ending.Unwritten) → (how ≡ ending.DiskFailed → P ending.DiskFailed) → P how
-either_ending P how (inl is) first second = subst P (sym is) (first is)
-either_ending P how (inr is) first second = subst P (sym is) (second is)
+-- a step ended the run: the sink failed within its entries, or it wasn't played
+module _ {K D : Type 0} {g : Ghosts D} (written : K → Option (List ℕ))
+    (puts : K → List ℕ → Result (Unit {0}) Failed → K → Type 0) where
+  abbrev pub StepEnds : K → K → World D g → Step → Ending → D → Type 0
+  StepEnds out out1 world s how last =
+      ((how ≡ ending.Unwritten) × (failed : Failed)
+      × PlaysOn (IsTrusted g.honest g.seen (disk_of world)) (StandsFor world)
+      (Books g.honest g.seen g.may_leave last) (setup_of world) s (g.cuts (disk_of world)) (g.cuts last)
+      (λ report. Writes written puts out report (Err failed) out1))
+      ⊎ ((why : WorldNo) × (how ≡ unplayed_by why) × Breaks world last why s × (out1 ≡ out))
+
+  pub step_ends : (out out1 out2 : K) (left0 left left1 : Option (List ℕ)) (held rest : List ℕ) (number : ℕ)
+      (stage : Stage) (how : Ending) (s : Step) (given last : D) (world : World D g)
+      → IsReady (g.size given) (g.seen given) → Outlasts g.size g.honest g.seen g.cuts given (disk_of world)
+      → LastsIn s g.size g.honest g.seen g.cuts (disk_of world) last → IsDone (setup_of world) stage
+      → Going (Sure (IsTrusted g.honest g.seen given)) left0 left held number stage (WorldHolds given world)
+      (Wrote written puts out out1)
+      → Came held left left1 (λ bytes. ScriptGoesOn number stage bytes (plays s stage) rest)
+      → StepEnds out1 out2 world s how last
+      → IfSome left0 (λ bytes. Played (Sure (IsTrusted g.honest g.seen given)) bytes how left1
+      (Wrote written puts out out2) (Broke written puts out out2)
+      (OverCut (disks g.size g.honest g.seen g.may_leave g.cuts given last)))
+  step_ends out out1 out2 left0 left left1 held rest number stage how s given last world ready on lasts done going reads
+      (inl (is, failed, played)) =
+      let trusted = IsTrusted g.honest g.seen given in
+      let B = Broke written puts out out2 in
+      let O = OverCut (disks g.size g.honest g.seen g.may_leave g.cuts given last) in
+      let WritesThem : List Entry → Type 0 = λ report. Writes written puts out1 report (Err failed) out2 in
+      let books = Books g.honest g.seen g.may_leave last in
+      subst (λ how. IfSome left0 (λ bytes. Played (Sure trusted) bytes how left1 (Wrote written puts out out2) B O))
+      (sym is)
+      (played_broke (Sure trusted) left0 left left1 held rest number stage stage (setup_of world)
+      (WorldHolds given world) (Holds (Sure trusted) books (g.cuts given) (g.cuts last)) s (Wrote written puts out out1)
+      WritesThem (Wrote written puts out out2) B O (sure_back trusted)
+      (broke_over g.size g.honest g.seen g.may_leave g.cuts given last ready
+      (lasts_then g.size g.honest g.seen g.cuts given (disk_of world) last on
+      (lasts_in g.size g.honest g.seen g.cuts s (disk_of world) last lasts))) done
+      (λ xs ys whole broken. (out1, failed, whole, broken)) going reads
+      (world_carried given world books (g.cuts last) s WritesThem on played))
+  step_ends out out1 out2 left0 left left1 held rest number stage how s given last world ready on lasts done going reads
+      (inr (why, is, breaks, same)) =
+      let trusted = IsTrusted g.honest g.seen given in
+      let B = Broke written puts out out2 in
+      let O = OverCut (disks g.size g.honest g.seen g.may_leave g.cuts given last) in
+      subst (λ how. IfSome left0 (λ bytes. Played (Sure trusted) bytes how left1 (Wrote written puts out out2) B O))
+      (sym is)
+      (played_torn (Sure trusted) left0 left left1 held rest number stage stage (setup_of world)
+      (WorldHolds given world) s why (Wrote written puts out out1) (Wrote written puts out out2) B O
+      (unplayed_cut given last world why s ready on lasts breaks) done
+      (λ xs wrote. subst (λ k. Wrote written puts out k xs) (sym same) wrote) going reads)

@@ -1,12 +1,10 @@
 pub mod Continuing
-pub mod Fields
 pub mod Reading
 pub mod Staying
 pub mod SetupLines
-pub mod Writing
-pub mod Suiting
-pub mod Powered
 pub mod Keeping
 pub mod Going
 pub mod Closing
+pub mod LoadEnds
 pub mod Words
+pub mod ReportEnds

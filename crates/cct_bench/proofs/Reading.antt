@@ -8,7 +8,7 @@ use Rattle.cct_model.specs.lines.command.Step.{Step}
 use Rattle.cct_model.specs.lines.entry.LineKind.{LineKind}
 use Rattle.cct_model.specs.lines.entry.LineKind.TheVariants as kind
 use Rattle.cct_model.specs.Grammar.{setup_line, step_line, added}
-use Rattle.cct_model.specs.Script.{word_of, is_later_word, is_known, at_setup, at_steps, Read, opens}
+use Rattle.cct_model.specs.Script.{is_known, at_setup, at_steps, Read, opens}
 use Rattle.cct_model.specs.Script.{plays, refuses, opened, read_known, read_setup_line, read_step_line, read_form}
 use Rattle.cct_model.specs.Script.{IsInRange}
 use Rattle.cct_model.specs.Legal.{is_played}
@@ -17,6 +17,7 @@ use Rattle.cct_bench.specs.declared.opening.Opened.{Opened}
 use Rattle.cct_bench.specs.Setup.{stage_of, opened_by}
 use Rattle.cct_bench.specs.Playing.{is_end, read_as, CanPlay}
 use Rattle.cct_laws.proofs.Said.{IfSaid, IsToday, step_said}
+use Rattle.cct_text.proofs.Writing.{passes_up}
 
 -- a setup line is what it says
 setup_form : (setup : Setup) (line : List ℕ) → read_form (at_setup setup) line ≡ read_setup_line setup (setup_line line)
@@ -57,11 +58,6 @@ pub setup_adds_not : (setup : Setup) (line : List ℕ) (said : SetupLine) (why :
 setup_adds_not setup line said why e not_added =
     setup_form setup line ∙ (ap (read_setup_line setup) e ∙ added_refuses setup said why not_added)
 
--- an error that is passed up is the one that came
-pub passes_up : {T E : Type 0} (r : Result T E) (why : E) → IsErr r × IsErrAnd r (λ e. e ≡ why) → r ≡ Err why
-passes_up (Ok x) why h = absurd h.1
-passes_up (Err e) why h = ap Err h.1
-
 -- a setup line that is refused for what is passed up
 pub setup_passes : (setup new : Setup) (line : List ℕ) (r : Result Opened LineKind) (why : LineKind) → IsErr r
     × IsErrAnd r (λ e. e ≡ why) →
@@ -73,18 +69,11 @@ setup_passes setup new line r why h refused =
     (λ e. read_form (at_setup setup) line ≡ refuses e))
     (sym (passes_up r why h)) refused
 
--- a step word that isn't played
-pub later_step_word : (setup : Setup) (line : List ℕ) → is_later_word (word_of line) ≡ true
-    → read_form (at_steps setup) line ≡ refuses kind.Word
+-- a step line is what it says
+pub step_form : (setup : Setup) (line : List ℕ) (read : Read) → read_step_line setup (step_line line) ≡ read
+    → read_form (at_steps setup) line ≡ read
 unfolding read_form
-later_step_word setup line later = rw later refl
-
--- any other step line is what it says
-pub step_form : (setup : Setup) (line : List ℕ) (read : Read) → is_later_word (word_of line) ≡ false
-    → read_step_line setup (step_line line) ≡ read →
-    read_form (at_steps setup) line ≡ read
-unfolding read_form
-step_form setup line read played e = rw played e
+step_form setup line read e = e
 
 -- a step whose device is there is played
 known_plays : (setup : Setup) (s : Step) → is_known setup s ≡ true → read_known setup s ≡ plays s (at_steps setup)
@@ -103,18 +92,16 @@ unknown_reads : (setup : Setup) (s : Step) → is_known setup s ≡ false
 unknown_reads setup step.End unknown = cc unknown
 unknown_reads setup s unknown = known_refuses setup s unknown
 
-pub step_unknown : (setup : Setup) (line : List ℕ) (s : Step) → is_later_word (word_of line) ≡ false
-    → step_line line ≡ Ok s → is_known setup s ≡ false →
-    read_form (at_steps setup) line ≡ refuses kind.Device
-step_unknown setup line s played says unknown =
-    step_form setup line (refuses kind.Device) played (ap (read_step_line setup) says ∙ unknown_reads setup s unknown)
+pub step_unknown : (setup : Setup) (line : List ℕ) (s : Step) → step_line line ≡ Ok s → is_known setup s ≡ false
+    → read_form (at_steps setup) line ≡ refuses kind.Device
+step_unknown setup line s says unknown =
+    step_form setup line (refuses kind.Device) (ap (read_step_line setup) says ∙ unknown_reads setup s unknown)
 
 -- what a step line says
-pub step_reads : (setup : Setup) (line : List ℕ) (s : Step) → is_later_word (word_of line) ≡ false
-    → step_line line ≡ Ok s → is_known setup s ≡ true →
-    read_form (at_steps setup) line ≡ read_as setup s
-step_reads setup line s played says known =
-    step_form setup line (read_as setup s) played (ap (read_step_line setup) says ∙ known_reads setup s known)
+pub step_reads : (setup : Setup) (line : List ℕ) (s : Step) → step_line line ≡ Ok s → is_known setup s ≡ true
+    → read_form (at_steps setup) line ≡ read_as setup s
+step_reads setup line s says known =
+    step_form setup line (read_as setup s) (ap (read_step_line setup) says ∙ known_reads setup s known)
 
 -- a step that is played and is no end
 of_today : (s : Step) → is_end s ≡ false → IsToday s → IsInRange s × IsTrue (is_played s)
@@ -125,13 +112,13 @@ of_today (step.Jam addr) e today = (tt, refl)
 of_today (step.Reset addr) e today = (tt, refl)
 of_today (step.Fault f) e today = (today.0, refl)
 of_today (step.Next addr) e today = (tt, refl)
-of_today (step.Command c) e today = (today.1, today.0)
+of_today (step.Command c) e today = (today.0, refl)
 of_today step.Balance e today = (tt, refl)
+of_today (step.Crash at choice) e today = (today, refl)
 of_today step.End e today = cc e
-of_today s e today = absurd today
 
-pub step_can : (setup : Setup) (line : List ℕ) (s : Step) → is_later_word (word_of line) ≡ false
-    → step_line line ≡ Ok s → is_known setup s ≡ true → is_end s ≡ false → CanPlay setup s
-step_can setup line s played says known going =
-    let plays = of_today s going (subst (IfSaid IsToday) says (step_said line played)) in
+pub step_can : (setup : Setup) (line : List ℕ) (s : Step) → step_line line ≡ Ok s → is_known setup s ≡ true
+    → is_end s ≡ false → CanPlay setup s
+step_can setup line s says known going =
+    let plays = of_today s going (subst (IfSaid IsToday) says (step_said line)) in
     record { in_range = plays.0; known = known; played = plays.1 }

@@ -8,7 +8,7 @@ use Rattle.cct_model.specs.lines.entry.LineKind.{LineKind}
 use Rattle.cct_model.specs.lines.entry.LineKind.TheVariants as kind
 use Rattle.cct_model.specs.Grammar.{step_line}
 use Rattle.cct_model.specs.Script.{Stage, at_setup, at_steps, at_end, setup_at, Read, opens, plays, refuses, read_line}
-use Rattle.cct_model.specs.Script.{read_form, read_step_line, read_known, is_known, is_over, is_later_word, word_of}
+use Rattle.cct_model.specs.Script.{read_form, read_step_line, read_known, is_known, is_over}
 use Rattle.cct_model.specs.Script.{most_lines, most_bytes, stage_after, goes_on, Script, script_from}
 
 -- the setup is done, and it is this one
@@ -40,7 +40,7 @@ form_done : (setup : Setup) (stage : Stage) (line : List ℕ) → IsDone setup s
 unfolding read_form
 form_done setup (at_setup before) line done = absurd done
 form_done setup (at_steps before) line done =
-    either (GoesDone setup) (is_later_word (word_of line)) _ _ tt (step_done setup before (step_line line) done)
+    step_done setup before (step_line line) done
 form_done setup (at_end before) line done = tt
 
 line_done : (number : ℕ) (setup : Setup) (stage : Stage) (line : List ℕ) → IsDone setup stage

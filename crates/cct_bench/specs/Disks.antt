@@ -1,15 +1,13 @@
 -- The disk that a run is given, and what it leaves on it.
-use Rattle.std.specs.Prelude.{◌≡◌, ℕ, suc, Bool, Option, Some, List, [], ◌∷◌, reverse}
-use Rattle.cct_model.specs.terms.device.Setup.{Setup}
-use Rattle.cct_model.specs.lines.command.Step.{Step}
+use Rattle.std.specs.Prelude.{◌≡◌, ℕ, Bool, Option, Some, List, reverse, ⊤}
 use Rattle.cct_model.specs.lines.record.Record.{Record}
 use Rattle.cct_model.specs.lines.entry.Entry.{Entry}
-use Rattle.cct_model.specs.lines.entry.Entry.TheVariants as entry
 use Rattle.cct_model.specs.Records.{records}
 use Rattle.cct_disk.specs.Disk.{IsTrusted}
 use Rattle.cct_journal.specs.Image.{IsBlank}
-use Rattle.cct_journal.specs.Stands.{Leaves, LeavesOneOf}
-use Rattle.cct_world.specs.Machine.{Puts}
+use Rattle.cct_journal.specs.Losing.{LeavesWith}
+use Rattle.cct_journal.specs.Stands.{Leaves}
+use Rattle.cct_world.specs.Step.{RoseBy, crashes}
 use Rattle.cct_bench.specs.declared.play.TheConstants.{JOURNAL_BYTES}
 
 -- How many records a journal on a disk of that size takes.
@@ -23,15 +21,14 @@ pub record IsReady (size : ℕ) (seen : Option (List ℕ)) : Type 0 where
 
 -- What a run is told of its disk. As it was handed in: how many bytes it has, which bytes a read gives, where that is
 -- told, whether it is honest and tells them, and how often its power was cut. As it comes back: that each image that a
--- loss of power may leave on it stands for records, or for these or for these and one more, the oldest first; and how
--- often its power was cut by then.
+-- loss of power may leave on it stands for records, the oldest first, or, where one is being put, for these or for
+-- these and that one; and how often its power was cut by then.
 pub record Disks : Type 1 where
   pub size : ℕ
   pub seen : Option (List ℕ)
   pub trusted : Type 0
   pub cuts : ℕ
-  pub leaves : List Record → Type 0
-  pub leaves_one_of : List Record → Record → Type 0
+  pub leaves : Option Record → List Record → Type 0
   pub cuts_after : ℕ
 
 -- of a kind of disk of which is known what each tells
@@ -44,8 +41,7 @@ module _ {D : Type 0} (size : D → ℕ) (honest : D → Bool) (seen : D → Opt
     seen = seen given;
     trusted = IsTrusted honest seen given;
     cuts = cuts given;
-    leaves = Leaves honest seen may_leave back;
-    leaves_one_of = LeavesOneOf honest seen may_leave back;
+    leaves = LeavesWith honest seen may_leave back;
     cuts_after = cuts back;
   }
 
@@ -54,13 +50,13 @@ abbrev pub Books : {D : Type 0} → (D → Bool) → (D → Option (List ℕ)) �
 Books honest seen may_leave disk past =
     IsTrusted honest seen disk → Leaves honest seen may_leave disk (reverse (records past))
 
--- How often a past tells that the host lost its power.
-abbrev pub crashes : List Entry → ℕ
-crashes [] = 0
-crashes (entry.Crash used ∷ past) = suc (crashes past)
-crashes (e ∷ past) = crashes past
+-- Any past may be relied on, as where no disk is used yet.
+abbrev pub Always : List Entry → Type 0
+Always past = ⊤
 
--- The first of these steps is a `next` whose job is about to put this record.
-abbrev pub NextPuts : Setup → List Entry → Record → List Step → Type 0
-NextPuts setup past r [] = ⊥
-NextPuts setup past r (s ∷ steps) = Puts setup past r s
+-- What is so after a past: what stands for it does so where it may be relied on, and the power of the disk was cut as
+-- often as the past tells, and never where that tells no loss of power.
+pub record Holds (Relies Stands : List Entry → Type 0) (first now : ℕ) (past : List Entry) : Type 0 where
+  pub stands : Relies past → Stands past
+  pub cut : RoseBy (crashes past) first now
+  pub uncut : crashes past ≡ 0 → now ≡ first

@@ -6,7 +6,13 @@ use Rattle.cct_model.specs.lines.entry.Entry.{Entry}
 use Rattle.cct_model.specs.Legal.{Legal}
 use Rattle.cct_model.specs.Script.{Stage, Script, script}
 use Rattle.cct_model.specs.Transcript.{onto}
-use Rattle.cct_bench.specs.Disks.{most_records}
+use Rattle.cct_disk.specs.declared.disk.Disk.{Ghosts}
+use Rattle.cct_disk.specs.Disk.{IsTrusted}
+use Rattle.cct_world.specs.declared.world.World.{World}
+use Rattle.cct_world.specs.Step.{crashes}
+use Rattle.cct_world.specs.World.{StandsFor, disk_of}
+use Rattle.cct_bench.specs.Disks.{Holds, most_records}
+use Rattle.cct_world.specs.Sure.{Sure, losses_in}
 use Rattle.cct_bench.specs.Lines.{said_from}
 
 -- A script says these steps, and then what the rest says.
@@ -16,14 +22,24 @@ pub record AlsoSays (whole : Script) (played : List Step) (rest : Script) : Type
   pub refused : whole.refused ≡ rest.refused
 
 -- What was taken and played so far: whatever follows, the script says these steps and what the lines from here on say,
--- and the entries are those of these steps; the machine stands for them, and they were written.
-pub record Going (left0 left : Option (List ℕ)) (held : List ℕ) (number : ℕ) (stage : Stage)
-    (Stands Written : List Entry → Type 0) : Type 0 where
+-- and the entries are those of these steps, where their past may be relied on; they tell as many losses of power as the
+-- steps are; this holds of the past, and they were written.
+pub record Going (Relies : List Entry → Type 0) (left0 left : Option (List ℕ)) (held : List ℕ) (number : ℕ)
+    (stage : Stage) (Stands Written : List Entry → Type 0) : Type 0 where
   pub taken : List ℕ
   pub played : List Step
   pub transcript : List Entry
   pub consumed : Consumes left0 left taken
   pub says : (more : List ℕ) → AlsoSays (script (taken ++ more)) played (said_from number stage (held ++ more))
-  pub legal : (more : List ℕ) → Legal most_records (script (taken ++ more)).setup played transcript
-  pub stands : Stands (onto [] transcript)
+  pub legal : Relies (onto [] transcript) → (more : List ℕ)
+      → Legal most_records (script (taken ++ more)).setup played transcript
+  pub losses : crashes (onto [] transcript) ≡ losses_in played
+  pub holds : Stands (onto [] transcript)
   pub wrote : Written transcript
+
+module _ {D : Type 0} {g : Ghosts D} where
+  -- What is so of a machine after a past, where the run was given this disk: it stands for the past, where that may be
+  -- relied on, and the power of its disk was cut as often as the past tells.
+  abbrev pub WorldHolds : D → World D g → List Entry → Type 0
+  WorldHolds given world =
+      Holds (Sure (IsTrusted g.honest g.seen given)) (StandsFor world) (g.cuts given) (g.cuts (disk_of world))

@@ -2,8 +2,10 @@ pub mod Status
 pub mod Lines
 pub mod Setup
 pub mod SetupLines
-pub mod Writing
 pub mod Disks
 pub mod Going
 pub mod Playing
 pub mod Run
+pub mod Load
+pub mod Words
+pub mod Report

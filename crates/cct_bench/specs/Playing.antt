@@ -1,12 +1,13 @@
 -- The steps of a script that are played.
-use Rattle.std.specs.Prelude.{List, ◌++◌, reverse, Bool, true, false, if◌then◌else◌, IsTrue}
+use Rattle.std.specs.Prelude.{◌≡◌, ℕ, List, ◌++◌, reverse, Bool, true, false, if◌then◌else◌, IsTrue}
 use Rattle.cct_model.specs.lines.command.Step.{Step}
 use Rattle.cct_model.specs.lines.command.Step.TheVariants as step
 use Rattle.cct_model.specs.terms.device.Setup.{Setup}
 use Rattle.cct_model.specs.lines.entry.Entry.{Entry}
 use Rattle.cct_model.specs.Legal.{Entries, is_played}
 use Rattle.cct_model.specs.Script.{Read, at_steps, at_end, opens, plays, is_known, IsInRange}
-use Rattle.cct_world.specs.Machine.{StepSuits}
+use Rattle.cct_world.specs.Machine.{StepSuits, Survives}
+use Rattle.cct_world.specs.Step.{RoseBy, crashes, crashes_of}
 use Rattle.cct_bench.specs.Disks.{most_records}
 
 -- The step is `end`.
@@ -25,13 +26,21 @@ pub record CanPlay (setup : Setup) (s : Step) : Type 0 where
   pub known : IsTrue (is_known setup s)
   pub played : IsTrue (is_played s)
 
--- A step gives these entries, oldest first, whatever is behind it, where a record that it puts suits those before it:
--- one past stands for what was before, and the past with them for what is after.
-abbrev pub Plays : (List Entry → Type 0) → (List Entry → Type 0) → Setup → Step → List Entry → Type 0
-Plays Before After setup s report =
-    (past : List Entry) → Before past → StepSuits setup past s
+-- A step gives these entries, oldest first, whatever is behind it, where a record that it puts suits those before it,
+-- and the disk is trusted if it is a loss of power: one past stands for what was before, and the past with them for
+-- what is after.
+abbrev pub Plays : Type 0 → (List Entry → Type 0) → (List Entry → Type 0) → Setup → Step → List Entry → Type 0
+Plays trusted Before After setup s report =
+    (past : List Entry) → Before past → StepSuits setup past s → Survives trusted s
     → Entries most_records setup past s (reverse report) × After (reverse report ++ past)
 
--- A step was played, and its entries were written so, which holds by the answer.
-abbrev pub PlaysOn : (List Entry → Type 0) → (List Entry → Type 0) → Setup → Step → (List Entry → Type 0) → Type 0
-PlaysOn Before After setup s WritesThem = (report : List Entry) × Plays Before After setup s report × WritesThem report
+-- A step was played, with the power of the disk cut so often before it and so often after it: just a loss of power
+-- tells one, and cuts it. Its entries were written so, which holds by the answer.
+pub record PlaysOn (trusted : Type 0) (Before After : List Entry → Type 0) (setup : Setup) (s : Step) (old new : ℕ)
+    (WritesThem : List Entry → Type 0) : Type 0 where
+  pub report : List Entry
+  pub plays : Plays trusted Before After setup s report
+  pub told : crashes (reverse report) ≡ crashes_of s
+  pub cut : RoseBy (crashes_of s) old new
+  pub uncut : crashes_of s ≡ 0 → new ≡ old
+  pub wrote : WritesThem report

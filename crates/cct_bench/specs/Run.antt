@@ -1,13 +1,11 @@
 -- What a run of the bench leaves: what it took, played and wrote, and what is on its disk, by its status.
-use Rattle.std.specs.Prelude.{◌≡◌, ◌≢◌, ℕ, ◌+◌, ◌≤◌, ◌⊎◌, List, [], ◌∷◌, ◌++◌, length, map, Option, Some, None, Result}
+use Rattle.std.specs.Prelude.{◌≡◌, ◌≢◌, ℕ, ◌≤◌, ◌⊎◌, List, [], ◌∷◌, ◌++◌, length, Option, Some, None, Result}
 use Rattle.std.specs.Prelude.{Ok, Err}
-use Rattle.std.specs.Prelude.{codes, String, string_bytes, reverse}
+use Rattle.std.specs.Prelude.{reverse, ⊤}
 use Rattle.std.specs.Io.KnownBytes.{Appends}
 use Rattle.cct_model.specs.lines.command.Step.{Step}
-use Rattle.std.specs.declared.alloc.Global.{Global}
 use Rattle.cct_model.specs.terms.device.Setup.{Setup}
 use Rattle.cct_model.specs.terms.device.DeviceSetup.{DeviceSetup}
-use Rattle.cct_model.specs.lines.record.Record.{Record}
 use Rattle.cct_model.specs.lines.entry.Entry.{Entry}
 use Rattle.cct_model.specs.Claims.{InOrder, Covers, Pace}
 use Rattle.cct_model.specs.Device.{IsHopper}
@@ -31,15 +29,15 @@ use Rattle.cct_bench.specs.declared.lines.ScriptStop.TheVariants as stop
 use Rattle.cct_bench.specs.declared.play.Ending.{Ending}
 use Rattle.cct_bench.specs.declared.play.Ending.TheVariants as ending
 use Rattle.cct_bench.specs.declared.play.TheConstants.{JOURNAL_BYTES}
-use Rattle.cct_bench.specs.Disks.{Disks, IsReady, NextPuts, crashes, most_records}
-
--- The words are the one command that there is: `run`.
-abbrev pub IsRun : List (String Global) → Type 0
-IsRun words = map string_bytes words ≡ codes "run" ∷ []
+use Rattle.cct_world.specs.Step.{RoseBy, crashes}
+use Rattle.cct_world.specs.Sure.{First, IsCrash, MayFail, Sure, due_to, losses_in}
+use Rattle.cct_world.specs.declared.refusal.WorldNo.{WorldNo}
+use Rattle.cct_world.specs.declared.refusal.WorldNo.TheVariants as world_no
+use Rattle.cct_bench.specs.Disks.{Disks, IsReady, most_records}
 
 -- Writing broke off in the lines of the last step played or in the last line, and all lines before were written whole:
--- they are a front of the transcript, and the entries of the other steps.
-pub record BreaksOff (setup : Setup) (played : List Step) (transcript tail : List Entry)
+-- they are a front of the transcript, and the entries of the other steps, where their past may be relied on.
+pub record BreaksOff (Relies : List Entry → Type 0) (setup : Setup) (played : List Step) (transcript tail : List Entry)
     (Breaks : List Entry → List Entry → Type 0) : Type 0 where
   pub before : List Step
   pub last : List Step
@@ -48,8 +46,9 @@ pub record BreaksOff (setup : Setup) (played : List Step) (transcript tail : Lis
   pub steps_are : played ≡ before ++ last
   pub one_step : length last ≤ 1
   pub transcript_is : transcript ≡ whole ++ cut
-  pub legal : Legal most_records setup before whole
-  pub goes_on : LegalFrom most_records setup (onto [] whole) last (onto [] transcript)
+  pub legal : Relies (onto [] whole) → Legal most_records setup before whole
+  pub goes_on : Relies (onto [] transcript)
+      → LegalFrom most_records setup (onto [] whole) last (onto [] transcript)
   pub in_one : (last ≡ []) ⊎ (tail ≡ [])
   pub breaks : Breaks whole (cut ++ tail)
 
@@ -57,13 +56,30 @@ pub record BreaksOff (setup : Setup) (played : List Step) (transcript tail : Lis
 abbrev pub IsUntouched : List ℕ → List Step → Type 0
 IsUntouched taken played = (taken ≡ []) × (played ≡ [])
 
+-- A last line tells that a loss of power left another journal than was there: none, one with a record that can't be
+-- read or doesn't follow, or other records than those that were put.
+abbrev pub TellsLoss : List Entry → Type 0
+TellsLoss (entry.JournalAlien ∷ []) = ⊤
+TellsLoss (entry.JournalBad index ∷ []) = ⊤
+TellsLoss (entry.JournalLost found put ∷ []) = ⊤
+TellsLoss tail = ⊥
+
+-- What a loss of power may leave on the disk behind a past, by the last line, where these steps weren't played: each
+-- image stands for the records of the past; or, where the disk failed in a step with a record that was due, for these
+-- or for these and that record.
+abbrev pub Book : Disks → Setup → List Step → List Entry → List Entry → Type 0
+Book disks setup unplayed past (entry.DiskFault ∷ tail) =
+    First (λ s. disks.leaves (due_to setup past s) (reverse (records past))) unplayed
+Book disks setup unplayed past tail = disks.leaves None (reverse (records past))
+
 -- of a run over a disk, with a script of these bytes: what it took of them, the steps that it played and those that it
 -- didn't, and the transcript of those played
 module _ (disks : Disks) (bytes taken : List ℕ) (played unplayed : List Step) (transcript : List Entry) where
   -- The last line of a run, and what had been played then: none at the script's end, that of its first refused line, or
   -- that of a fault in reading, where every step was played whose line stands whole in the bytes taken. A fault of the
-  -- disk comes before the first byte of the script, or in a step that was about to put a record; a disk that isn't
-  -- blank is told by its first byte that isn't 0, and one of another size by that, before the first byte of the script.
+  -- disk comes before the first byte of the script, in a `next` that was about to put a record, or in a loss of power;
+  -- a disk that isn't blank is told by its first byte that isn't 0, and one of another size by that, before the first
+  -- byte of the script. Another journal than was there comes in a loss of power alone.
   abbrev pub Closes : Status → List Entry → Type 0
   Closes status.Done tail =
       (unplayed ≡ []) × ((script bytes).refused ≡ None) × (tail ≡ []) × IsReady disks.size disks.seen
@@ -75,13 +91,14 @@ module _ (disks : Disks) (bytes taken : List ℕ) (played unplayed : List Step) 
   Closes status.DiskFault tail =
       (disks.size ≡ JOURNAL_BYTES) × (tail ≡ entry.DiskFault ∷ [])
       × (IsUntouched taken played
-      ⊎ ((r : Record) × NextPuts (script bytes).setup (onto [] transcript) r unplayed
-      × IsReady disks.size disks.seen))
+      ⊎ (IsReady disks.size disks.seen
+      × First (MayFail (Sure disks.trusted (onto [] transcript)) (script bytes).setup (onto [] transcript)) unplayed))
   Closes status.NotBlank tail =
       (at : ℕ) × (disks.size ≡ JOURNAL_BYTES) × (tail ≡ entry.NotBlank at ∷ []) × IsUntouched taken played
       × ((image : List ℕ) → disks.seen ≡ Some image → IsFirstByteFrom 0 image at)
   Closes status.DiskSize tail =
       (disks.size ≢ JOURNAL_BYTES) × (tail ≡ entry.DiskSize disks.size ∷ []) × IsUntouched taken played
+  Closes status.JournalLost tail = TellsLoss tail × First IsCrash unplayed × IsReady disks.size disks.seen
   Closes s tail = ⊥
 
   -- What is written, by the status: the lines of the transcript and the last line, or some of them where the sink
@@ -89,23 +106,18 @@ module _ (disks : Disks) (bytes taken : List ℕ) (played unplayed : List Step) 
   abbrev pub Ends : Status → List Entry → (List Entry → Type 0) → (List Entry → List Entry → Type 0) → Type 0
   Ends status.WriteFault tail Written Breaks =
       (((tail ≡ []) × IsReady disks.size disks.seen) ⊎ ((s : Status) × Closes s tail))
-      × BreaksOff (script bytes).setup played transcript tail Breaks
+      × BreaksOff (Sure disks.trusted) (script bytes).setup played transcript tail Breaks
   Ends status.OutOfMemory tail Written Breaks = (played ≡ []) × (tail ≡ []) × Written []
   Ends s tail Written Breaks = Closes s tail × Written (transcript ++ tail)
 
-  -- What a loss of power may leave on the disk, by the last line: each image stands for the records of the transcript;
-  -- or, where a step was about to put a record and the disk failed, for these or for these and that record.
-  abbrev pub Book : List Entry → Type 0
-  Book (entry.DiskFault ∷ tail) =
-      (r : Record) × NextPuts (script bytes).setup (onto [] transcript) r unplayed
-      × disks.leaves_one_of (reverse (records (onto [] transcript))) r
-  Book tail = disks.leaves (reverse (records (onto [] transcript)))
-
 -- A run over a script of these bytes: what it took of them, the steps that it played, and their transcript; its last
 -- line; what it wrote, where `Written` holds of entries that were written whole, and `Breaks` where a put failed in the
--- second list; and what it left on its disk, once a byte of the script was taken. Where the wire was honest, the posts
--- of each device are its accepted coins in order, none twice; at each device that kept the pace, none is lost in
--- silence; and at each hopper, each order is paid at most once, and closed with exactly the coins that fell.
+-- second list; and what it left on its disk, once a byte of the script was taken. The transcript tells as many losses
+-- of power as the steps are, and at least so often the power of the disk was cut; and never where no step is one.
+-- Where the disk was trusted, or no loss of power is told, the entries are those of the steps; and where the wire was
+-- honest besides, the posts of each device are its accepted coins in order, none twice; at each device that kept the
+-- pace, none is lost in silence; and at each hopper, each order is paid at most once, and closed with exactly the
+-- coins that fell. On a trusted disk no loss of power leaves another journal than was there.
 pub record Ran (bytes : List ℕ) (s : Status) (left : Option (List ℕ)) (Written : List Entry → Type 0)
     (Breaks : List Entry → List Entry → Type 0) (disks : Disks) : Type 0 where
   pub taken : List ℕ
@@ -117,15 +129,19 @@ pub record Ran (bytes : List ℕ) (s : Status) (left : Option (List ℕ)) (Writt
   pub took : bytes ≡ taken ++ rest
   pub left_is : left ≡ Some rest
   pub steps_are : (script bytes).steps ≡ played ++ unplayed
-  pub legal : Legal most_records (script bytes).setup played transcript
-  pub in_order : (d : DeviceSetup) → IsOf (script bytes).setup d → Honest transcript → InOrder (lines_in d transcript)
-  pub covers : (d : DeviceSetup) → IsOf (script bytes).setup d → Honest transcript → Pace (lines_in d transcript)
-      → Covers (lines_in d transcript)
-  pub paid : (d : DeviceSetup) → IsOf (script bytes).setup d → IsHopper d.body → Honest transcript
-      → Paid (lines_in d transcript)
+  pub losses : crashes (onto [] transcript) ≡ losses_in played
+  pub legal : Sure disks.trusted (onto [] transcript) → Legal most_records (script bytes).setup played transcript
+  pub in_order : Sure disks.trusted (onto [] transcript) → (d : DeviceSetup) → IsOf (script bytes).setup d
+      → Honest transcript → InOrder (lines_in d transcript)
+  pub covers : Sure disks.trusted (onto [] transcript) → (d : DeviceSetup) → IsOf (script bytes).setup d
+      → Honest transcript → Pace (lines_in d transcript) → Covers (lines_in d transcript)
+  pub paid : Sure disks.trusted (onto [] transcript) → (d : DeviceSetup) → IsOf (script bytes).setup d
+      → IsHopper d.body → Honest transcript → Paid (lines_in d transcript)
   pub ends : Ends disks bytes taken played unplayed transcript s tail Written Breaks
-  pub book : disks.trusted → taken ≢ [] → Book disks bytes taken played unplayed transcript tail
-  pub cuts : disks.cuts + crashes (onto [] transcript) ≤ disks.cuts_after
+  pub book : disks.trusted → taken ≢ [] → Book disks (script bytes).setup unplayed (onto [] transcript) tail
+  pub keeps : disks.trusted → TellsLoss tail → ⊥
+  pub cut : RoseBy (crashes (onto [] transcript)) disks.cuts disks.cuts_after
+  pub uncut : crashes (onto [] transcript) ≡ 0 → (First IsCrash unplayed → ⊥) → disks.cuts_after ≡ disks.cuts
 
 -- How a run ends where a script is read no further.
 abbrev pub ending_at : ℕ → ScriptStop → Ending
@@ -138,6 +154,22 @@ uncreated (create_no.Small len) = ending.OtherSize len
 uncreated create_no.Disk = ending.DiskFailed
 uncreated (create_no.NotBlank at) = ending.NotBlank at
 
+-- How a run ends where no journal is created on a disk of this size, whose reads give these bytes: the disk failed; it
+-- isn't blank, which is told by its first byte that isn't 0; or it has another size, which is told.
+abbrev pub IsUnopened : ℕ → Option (List ℕ) → Ending → Type 0
+IsUnopened size seen ending.DiskFailed = size ≡ JOURNAL_BYTES
+IsUnopened size seen (ending.NotBlank at) =
+    (size ≡ JOURNAL_BYTES) × ((image : List ℕ) → seen ≡ Some image → IsFirstByteFrom 0 image at)
+IsUnopened size seen (ending.OtherSize len) = (size ≢ JOURNAL_BYTES) × (len ≡ size)
+IsUnopened size seen how = ⊥
+
+-- How a run ends where a step isn't played.
+abbrev pub unplayed_by : WorldNo → Ending
+unplayed_by world_no.Disk = ending.DiskFailed
+unplayed_by world_no.Alien = ending.JournalAlien
+unplayed_by (world_no.BadRecord index) = ending.JournalBad index
+unplayed_by (world_no.Lost found put) = ending.RecordsLost found put
+
 -- The script or its source brought the end.
 abbrev pub IsOfScript : Ending → Type 0
 IsOfScript ending.Done = Unit
@@ -146,42 +178,58 @@ IsOfScript ending.Unread = Unit
 IsOfScript how = ⊥
 
 -- The transcript is whole, or it breaks off where the sink failed, by how the steps came to their end.
-abbrev pub Stops : Ending → List ℕ → List ℕ → List Step → List Step → List Entry → (List Entry → Type 0)
-    → (List Entry → List Entry → Type 0) → Type 0
-Stops ending.Done bytes taken played unplayed transcript Written Breaks =
+abbrev pub Stops : (List Entry → Type 0) → Ending → List ℕ → List ℕ → List Step → List Step → List Entry
+    → (List Entry → Type 0) → (List Entry → List Entry → Type 0) → Type 0
+Stops Relies ending.Done bytes taken played unplayed transcript Written Breaks =
     (unplayed ≡ []) × ((script bytes).refused ≡ None) × Written transcript
-Stops (ending.Refused number why) bytes taken played unplayed transcript Written Breaks =
+Stops Relies (ending.Refused number why) bytes taken played unplayed transcript Written Breaks =
     (unplayed ≡ []) × ((script bytes).refused ≡ Some (record { number = number; why = why })) × Written transcript
-Stops ending.Unread bytes taken played unplayed transcript Written Breaks =
+Stops Relies ending.Unread bytes taken played unplayed transcript Written Breaks =
     ((script taken).steps ≡ played) × Written transcript
-Stops ending.Unwritten bytes taken played unplayed transcript Written Breaks =
-    BreaksOff (script bytes).setup played transcript [] Breaks
-Stops ending.NoMemory bytes taken played unplayed transcript Written Breaks = (played ≡ []) × Written []
-Stops how bytes taken played unplayed transcript Written Breaks = Written transcript
+Stops Relies ending.Unwritten bytes taken played unplayed transcript Written Breaks =
+    BreaksOff Relies (script bytes).setup played transcript [] Breaks
+Stops Relies ending.NoMemory bytes taken played unplayed transcript Written Breaks = (played ≡ []) × Written []
+Stops Relies how bytes taken played unplayed transcript Written Breaks = Written transcript
 
 -- What is said of a disk by how the steps came to their end: whether it was ready, and what it keeps of the past.
 abbrev pub Over : Disks → Ending → Setup → List ℕ → List Step → List Step → List Entry → Type 0
-Over disks ending.NoMemory setup taken played unplayed past = disks.trusted → disks.leaves (reverse (records past))
+Over disks ending.NoMemory setup taken played unplayed past =
+    disks.trusted → disks.leaves None (reverse (records past))
 Over disks ending.DiskFailed setup taken played unplayed past =
     (disks.size ≡ JOURNAL_BYTES)
     × (IsUntouched taken played
-    ⊎ ((r : Record) × NextPuts setup past r unplayed × IsReady disks.size disks.seen
-    × (disks.trusted → disks.leaves_one_of (reverse (records past)) r)))
+    ⊎ (IsReady disks.size disks.seen × First (MayFail (Sure disks.trusted past) setup past) unplayed
+    × (disks.trusted → First (λ s. disks.leaves (due_to setup past s) (reverse (records past))) unplayed)))
 Over disks (ending.NotBlank at) setup taken played unplayed past =
     (disks.size ≡ JOURNAL_BYTES) × IsUntouched taken played
     × ((image : List ℕ) → disks.seen ≡ Some image → IsFirstByteFrom 0 image at)
 Over disks (ending.OtherSize len) setup taken played unplayed past =
     (disks.size ≢ JOURNAL_BYTES) × IsUntouched taken played × (len ≡ disks.size)
+Over disks ending.JournalAlien setup taken played unplayed past =
+    IsReady disks.size disks.seen × First IsCrash unplayed × (disks.trusted → ⊥)
+Over disks (ending.JournalBad index) setup taken played unplayed past =
+    IsReady disks.size disks.seen × First IsCrash unplayed × (disks.trusted → ⊥)
+Over disks (ending.RecordsLost found put) setup taken played unplayed past =
+    IsReady disks.size disks.seen × First IsCrash unplayed × (disks.trusted → ⊥)
 Over disks how setup taken played unplayed past =
-    IsReady disks.size disks.seen × (disks.trusted → disks.leaves (reverse (records past)))
+    IsReady disks.size disks.seen × (disks.trusted → disks.leaves None (reverse (records past)))
+
+-- Beside that, the power of the disk was cut at least as often as the past tells; and never where that tells no loss of
+-- power, and none is the step that comes next.
+pub record OverCut (disks : Disks) (how : Ending) (setup : Setup) (taken : List ℕ) (played unplayed : List Step)
+    (past : List Entry) : Type 0 where
+  pub over : Over disks how setup taken played unplayed past
+  pub cut : RoseBy (crashes past) disks.cuts disks.cuts_after
+  pub uncut : crashes past ≡ 0 → (First IsCrash unplayed → ⊥) → disks.cuts_after ≡ disks.cuts
 
 -- The script or its source brought the end before a step was played.
 abbrev pub BeforeSteps : Ending → Setup → List ℕ → List Step → List Step → List Entry → Type 0
 BeforeSteps how setup taken played unplayed past = IsOfScript how × (past ≡ [])
 
--- The steps of a script of these bytes were played up to this end. `Beside` is what else is said of that.
-pub record Played (bytes : List ℕ) (how : Ending) (left : Option (List ℕ)) (Written : List Entry → Type 0)
-    (Breaks : List Entry → List Entry → Type 0)
+-- The steps of a script of these bytes were played up to this end. `Beside` is what else is said of that, and `Relies`
+-- tells where the past may be relied on.
+pub record Played (Relies : List Entry → Type 0) (bytes : List ℕ) (how : Ending) (left : Option (List ℕ))
+    (Written : List Entry → Type 0) (Breaks : List Entry → List Entry → Type 0)
     (Beside : Ending → Setup → List ℕ → List Step → List Step → List Entry → Type 0) : Type 0 where
   pub taken : List ℕ
   pub rest : List ℕ
@@ -191,8 +239,9 @@ pub record Played (bytes : List ℕ) (how : Ending) (left : Option (List ℕ)) (
   pub took : bytes ≡ taken ++ rest
   pub left_is : left ≡ Some rest
   pub steps_are : (script bytes).steps ≡ played ++ unplayed
-  pub legal : Legal most_records (script bytes).setup played transcript
-  pub stops : Stops how bytes taken played unplayed transcript Written Breaks
+  pub losses : crashes (onto [] transcript) ≡ losses_in played
+  pub legal : Relies (onto [] transcript) → Legal most_records (script bytes).setup played transcript
+  pub stops : Stops Relies how bytes taken played unplayed transcript Written Breaks
   pub beside : Beside how (script bytes).setup taken played unplayed (onto [] transcript)
 
 -- A last line was written, and the run ends with its status; or, where the sink failed, a front of the line.
@@ -215,6 +264,9 @@ status_of ending.NoMemory = status.OutOfMemory
 status_of ending.DiskFailed = status.DiskFault
 status_of (ending.NotBlank at) = status.NotBlank
 status_of (ending.OtherSize len) = status.DiskSize
+status_of ending.JournalAlien = status.JournalLost
+status_of (ending.JournalBad index) = status.JournalLost
+status_of (ending.RecordsLost found put) = status.JournalLost
 
 -- Its last line, if it has one.
 abbrev pub last_entry : Ending → Option Entry
@@ -223,6 +275,9 @@ last_entry ending.Unread = Some entry.ReadFault
 last_entry ending.DiskFailed = Some entry.DiskFault
 last_entry (ending.NotBlank at) = Some (entry.NotBlank at)
 last_entry (ending.OtherSize len) = Some (entry.DiskSize len)
+last_entry ending.JournalAlien = Some entry.JournalAlien
+last_entry (ending.JournalBad index) = Some (entry.JournalBad index)
+last_entry (ending.RecordsLost found put) = Some (entry.JournalLost found put)
 last_entry how = None
 
 -- One entry, or none.

@@ -2,7 +2,8 @@
 use Rattle.std.specs.Prelude.{ℕ}
 use Rattle.cct_bench.specs.declared.outcome.Status.{Status}
 use Rattle.cct_bench.specs.declared.outcome.Status.TheVariants.{Done, ScriptRefused, WordsRefused, ReadFault}
-use Rattle.cct_bench.specs.declared.outcome.Status.TheVariants.{WriteFault, DiskFault, NotBlank, DiskSize, OutOfMemory}
+use Rattle.cct_bench.specs.declared.outcome.Status.TheVariants.{WriteFault, DiskFault, NotBlank, DiskSize}
+use Rattle.cct_bench.specs.declared.outcome.Status.TheVariants.{OutOfMemory, JournalLost}
 
 -- The exit status of the program, by how it ended.
 abbrev pub code_of : Status → ℕ
@@ -15,3 +16,4 @@ code_of DiskFault = 5
 code_of NotBlank = 6
 code_of DiskSize = 7
 code_of OutOfMemory = 8
+code_of JournalLost = 9

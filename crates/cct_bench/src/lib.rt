@@ -1,42 +1,57 @@
-//! The bench: plays a script over the machine, and writes the transcript.
+//! The bench: plays a script over the machine and writes the transcript, lists a journal, or plays a load and writes
+//! its sums.
 #![tactic(auto)]
 
-ghost use Rattle.std.specs.Prelude.{◌≡◌, ◌≤◌, ◌⊎◌, ◌↔◌, [], ◌∷◌, IsTrue, IfSome, Result};
+ghost use Rattle.std.specs.Prelude.{◌≡◌, ◌≢◌, ◌≤◌, ◌⊎◌, [], ◌∷◌, IfSome, List, Result, Some, true, ℕ};
 ghost use Rattle.cct_edge.specs.Bytes.{TellsAsBefore};
 ghost use Rattle.cct_edge.specs.declared.fault.Failed.{Failed};
 ghost use Rattle.cct_edge.specs.Faults.{Rose};
-ghost use Rattle.cct_model.specs.lines.entry.Entry.TheVariants.{Words};
+ghost use Rattle.cct_model.specs.lines.record.Record.{Record};
 ghost use Rattle.cct_model.specs.Script.{script as script_in};
-ghost use Rattle.cct_model.specs.Text.{line_of};
-ghost use Rattle.cct_journal.specs.Image.{IsBlank};
-ghost use Rattle.cct_journal.specs.Stands.{GoesOn};
+ghost use Rattle.cct_disk.specs.Disk.{OnlyReads};
+ghost use Rattle.cct_journal.specs.Image.{IsBlank, StandsFor};
+ghost use Rattle.cct_journal.specs.Stands.{Outlasts};
 ghost use Rattle.cct_bench.specs.declared.play.TheConstants.{JOURNAL_BYTES};
 ghost use Rattle.cct_bench.specs.Disks.{disks};
+ghost use Rattle.cct_world.specs.Sure.{losses_in};
 ghost use Rattle.cct_bench.specs.SetupLines.{TookSetup};
-ghost use Rattle.cct_bench.specs.Writing.{Wrote, Broke};
-ghost use Rattle.cct_bench.specs.Run.{IsRun, Ran, ClosedBy, status_by, Completes};
+ghost use Rattle.cct_text.specs.Writing.{Broke, Writes, Wrote};
+ghost use Rattle.cct_gen.specs.Load.{load_steps};
+ghost use Rattle.cct_bench.specs.Load.{Loaded};
+ghost use Rattle.cct_bench.specs.Report.{IsDecided, IsOrMemory, Reported, image_known, records_known, size_known};
+ghost use Rattle.cct_bench.specs.Run.{Ran, status_by, Completes};
+ghost use Rattle.cct_bench.specs.Words.{AreRefused, said_in};
 
 use cct_disk::Disk;
 use cct_edge::{Sink, Source};
+use cct_load::Load;
 use cct_model::Entry;
 use cct_text::TextLine;
+use cct_words::{Words, WordsNo, read_words};
+use loading::run_load;
 use play::{Bench, close};
+use reporting::report;
 use std::alloc::Global;
 
 mod lines;
+mod loading;
 mod opening;
 mod outcome;
 mod play;
+mod reporting;
 mod steps;
 
 pub use outcome::Status;
 
 /// Runs the program: by the words of the command line, without its name, plays a script and writes the transcript
-/// (`docs/SCRIPT.md`, `docs/TRANSCRIPT.md`). The words are `run`; any other list is refused.
+/// (`docs/SCRIPT.md`, `docs/TRANSCRIPT.md`), lists the records of the journal and their sums, or plays a load and
+/// writes the sums over its transcript. The words are `run`, `report`, or `load` with a seed and a number of rounds, 1
+/// to 10,000; any other list is refused.
 ///
 /// The script is taken from its source a line at a time, and each step's entries are written before the next line is
 /// read. All buffers are of fixed size, and are taken at once before the first byte of the script; the machine is built
-/// behind the line `begin`, before anything is written.
+/// behind the line `begin`, before anything is written. A report only reads the disk. A load builds its machine before
+/// anything is written, and writes no entry of a step. Both take nothing of the script.
 pub fn bench<S: Source, K: Sink, D: Disk>(
     alloc: Global,
     words: &[String],
@@ -45,26 +60,52 @@ pub fn bench<S: Source, K: Sink, D: Disk>(
     disk: D,
 ) -> (Status, D)
     // With the word `run`: what was taken, played and written; that over an honest wire the posts of each device are in
-    // order and cover its coins, and each order of a hopper is paid at most once; and what is left on the disk.
-    ensures ran { IsRun words.now → IfSome (S.left script.old) (λ bytes. Ran bytes result.0 (S.left script.new)
+    // order and cover its coins, and each order of a hopper is paid at most once, where the disk was trusted or no
+    // loss of power is told; and what is left on the disk.
+    ensures ran { said_in words.now ≡ Some Words.Run → IfSome (S.left script.old) (λ bytes.
+        Ran bytes result.0 (S.left script.new)
         (Wrote K.written K.puts out.old out.new) (Broke K.written K.puts out.old out.new)
         (disks D.size D.honest D.seen D.may_leave D.cuts disk result.1)) }
 
-    // Other words are refused, no byte of the script is taken, and no call of the disk is made.
-    ensures words { (IsRun words.now → ⊥) →
-        ClosedBy result.0 Status.WordsRefused (line_of Words) (K.written out.old) (K.written out.new)
-        × (script.new ≡ script.old) }
-    ensures words_disk { (IsRun words.now → ⊥) → result.1 ≡ disk }
+    // With the word `report`: what was written, by the image of the disk where that is told, by any records that this
+    // stands for, and of any disk; that the disk was only read, and no byte of the script was taken.
+    ensures reported { said_in words.now ≡ Some Words.Report → (image : List ℕ) → D.seen disk ≡ Some image
+        → Reported (image_known (D.size disk) image) result.0
+        (λ lines answer. Writes K.written K.puts out.old lines answer out.new) }
+    ensures report_every { said_in words.now ≡ Some Words.Report → (image : List ℕ) (records : List Record)
+        → D.seen disk ≡ Some image → StandsFor image records
+        → Reported (records_known (D.size disk) records) result.0
+        (λ lines answer. Writes K.written K.puts out.old lines answer out.new) }
+    ensures report_lines { said_in words.now ≡ Some Words.Report → Reported (size_known (D.size disk)) result.0
+        (λ lines answer. Writes K.written K.puts out.old lines answer out.new) }
+    ensures report_disk { said_in words.now ≡ Some Words.Report →
+        OnlyReads D.size D.honest D.seen D.may_leave D.moment D.left_since D.cuts disk result.1 }
+    ensures report_script { said_in words.now ≡ Some Words.Report → script.new ≡ script.old }
 
-    // They are told by one put.
-    ensures words_put { (IsRun words.now → ⊥) → (answer : Result (Unit {0}) Failed)
-        × K.puts out.old (line_of Words) answer out.new × (result.0 ≡ status_by answer Status.WordsRefused) }
+    // With the word `load`: what was played and written, the laws as with `run`, and what is left on the disk; and no
+    // byte of the script was taken.
+    ensures loaded { (seed rounds : ℕ) → said_in words.now ≡ Some (Words.Load seed rounds)
+        → Loaded seed rounds result.0 (Wrote K.written K.puts out.old out.new) (Broke K.written K.puts out.old out.new)
+        (disks D.size D.honest D.seen D.may_leave D.cuts disk result.1) }
+    ensures load_script { (seed rounds : ℕ) → said_in words.now ≡ Some (Words.Load seed rounds)
+        → script.new ≡ script.old }
+
+    // Other words are refused by one put of a line, unless there is no memory to read them; no byte of the script is
+    // taken, and no call of the disk is made.
+    ensures words { AreRefused (said_in words.now) →
+        ((answer : Result (Unit {0}) Failed) × Writes K.written K.puts out.old (Entry.Words ∷ []) answer out.new
+        × (result.0 ≡ status_by answer Status.WordsRefused))
+        ⊎ ((result.0 ≡ Status.OutOfMemory) × (out.new ≡ out.old)) }
+    ensures words_script { AreRefused (said_in words.now) → script.new ≡ script.old }
+    ensures words_disk { AreRefused (said_in words.now) → result.1 ≡ disk }
 
     // Each status has its cause.
     ensures read_cause { result.0 ≡ Status.ReadFault → Rose (S.faults script.old) (S.faults script.new) }
     ensures write_cause { result.0 ≡ Status.WriteFault → Rose (K.faults out.old) (K.faults out.new) }
     ensures disk_cause { result.0 ≡ Status.DiskFault → Rose (D.faults disk) (D.faults result.1) }
-    ensures words_cause { result.0 ≡ Status.WordsRefused → IsRun words.now → ⊥ }
+    ensures lost_cause { said_in words.now ≢ Some Words.Report → result.0 ≡ Status.JournalLost
+        → Rose (D.cuts disk) (D.cuts result.1) }
+    ensures words_cause { result.0 ≡ Status.WordsRefused → AreRefused (said_in words.now) }
     ensures memory_cause { result.0 ≡ Status.OutOfMemory → out.new ≡ out.old }
 
     // Memory is wanted only before the first byte of the script is taken, or once its line `begin` is held whole: from
@@ -72,42 +113,72 @@ pub fn bench<S: Source, K: Sink, D: Disk>(
     ensures memory_place { result.0 ≡ Status.OutOfMemory →
         (script.new ≡ script.old) ⊎ TookSetup S.takes S.left script.old script.new }
 
-    // Source, sink and disk go on telling, no count of faults falls, and no power is cut.
+    // Source, sink and disk go on telling, and no count falls.
     ensures source_tells { TellsAsBefore (S.left script.old) (S.left script.new) }
     ensures sink_tells { TellsAsBefore (K.written out.old) (K.written out.new) }
-    ensures disk_goes_on { GoesOn D.size D.honest D.seen D.cuts disk result.1 }
+    ensures disk_goes_on { Outlasts D.size D.honest D.seen D.cuts disk result.1 }
     ensures source_later { S.faults script.old ≤ S.faults script.new }
     ensures sink_later { K.faults out.old ≤ K.faults out.new }
     ensures disk_later { D.faults disk ≤ D.faults result.1 }
 
-    // On a blank disk, and with no fault, the script alone decides, but for want of memory.
-    ensures complete { IsRun words.now → IfSome (S.left script.old) (λ bytes.
+    // On a blank disk, which is honest or where no step is a loss of power, and with no fault, the script alone
+    // decides, but for want of memory.
+    ensures complete { said_in words.now ≡ Some Words.Run → IfSome (S.left script.old) (λ bytes.
         IfSome (D.seen disk) (λ image. D.size disk ≡ JOURNAL_BYTES → IsBlank image
+        → (D.honest disk ≡ true) ⊎ (losses_in (script_in bytes).steps ≡ 0)
         → (Rose (S.faults script.old) (S.faults script.new) → ⊥) → (Rose (K.faults out.old) (K.faults out.new) → ⊥)
         → (Rose (D.faults disk) (D.faults result.1) → ⊥) → Completes (script_in bytes).refused result.0)) }
+
+    // A report with no fault is decided by the size and the image of the disk, but for want of memory.
+    ensures report_complete { said_in words.now ≡ Some Words.Report → (image : List ℕ) → D.seen disk ≡ Some image
+        → (Rose (K.faults out.old) (K.faults out.new) → ⊥) → (Rose (D.faults disk) (D.faults result.1) → ⊥)
+        → IsDecided (D.size disk) image result.0 }
+
+    // On a blank disk, which is honest or where no step is a loss of power, and with no fault, a load is done, but for
+    // want of memory.
+    ensures load_complete { (seed rounds : ℕ) → said_in words.now ≡ Some (Words.Load seed rounds)
+        → IfSome (D.seen disk) (λ image. D.size disk ≡ JOURNAL_BYTES → IsBlank image
+        → (D.honest disk ≡ true) ⊎ (losses_in (load_steps seed rounds) ≡ 0)
+        → (Rose (K.faults out.old) (K.faults out.new) → ⊥) → (Rose (D.faults disk) (D.faults result.1) → ⊥)
+        → IsOrMemory Status.Done result.0) }
 {
-    if !is_run(words) {
-        let mut line = TextLine::new();
-        return (
-            close(out, &mut line, &Entry::Words, Status::WordsRefused),
-            disk,
-        );
-    }
-    match Box::new(alloc, Bench::new()) {
-        Ok(mut bench) => bench.run(alloc, script, out, disk),
-        Err(_) => (Status::OutOfMemory, disk),
+    match read_words(alloc, words) {
+        Ok(Words::Run) => match Box::new(alloc, Bench::new()) {
+            Ok(mut bench) => bench.run(alloc, script, out, disk),
+            Err(_) => (Status::OutOfMemory, disk),
+        },
+        Ok(Words::Report) => report(out, &mut TextLine::new(), disk),
+        Ok(Words::Load { seed, rounds }) => run_load(alloc, Load { seed, rounds }, out, disk),
+        Err(WordsNo::Refused) => (refuse_words(out), disk),
+        Err(WordsNo::Memory) => (Status::OutOfMemory, disk),
     }
 }
 
-/// Whether the words are the one command that there is.
-fn is_run(words: &[String]) -> bool
-    ensures { IsTrue result ↔ IsRun words.now }
+/// Tells that the words are refused.
+fn refuse_words<K: Sink>(out: &mut K) -> Status
+    ensures told { (answer : Result (Unit {0}) Failed)
+        × Writes K.written K.puts out.old (Entry.Words ∷ []) answer out.new
+        × (result ≡ status_by answer Status.WordsRefused) }
+    ensures cause { (result ≡ Status.WordsRefused) ⊎ ((result ≡ Status.WriteFault)
+        × Rose (K.faults out.old) (K.faults out.new)) }
+    ensures tells { TellsAsBefore (K.written out.old) (K.written out.new) }
+    ensures later { K.faults out.old ≤ K.faults out.new }
 {
-    match words {
-        [word] => word.as_str() == "run",
-        _ => false,
-    }
+    close(
+        out,
+        &mut TextLine::new(),
+        &Entry::Words,
+        Status::WordsRefused,
+    )
 }
 
+#[cfg(test)]
+mod command_tests;
+#[cfg(test)]
+mod crash_tests;
+#[cfg(test)]
+mod day_tests;
+#[cfg(test)]
+mod load_tests;
 #[cfg(test)]
 mod tests;

@@ -1,7 +1,5 @@
 //! What the answers of the reader of lines are to a script: its next line, its end, or why it is read no further.
-ghost use Rattle.std.specs.Prelude.{◌≡◌, position};
-ghost use Rattle.cct_model.specs.Script.{word_of};
-ghost use Rattle.cct_model.specs.Grammar.{is_space};
+ghost use Rattle.std.specs.Prelude.{◌≡◌};
 ghost use Rattle.cct_script.specs.Giving.{line_given};
 ghost use Rattle.cct_bench.specs.Lines.{before_end, behind_end, read_of};
 
@@ -39,23 +37,5 @@ pub fn behind_end(answer: Result<Line<'_>, LinesNo>) -> Result<(), ScriptStop>
         Ok(Line::End) => Ok(()),
         Err(LinesNo::Read) => Err(ScriptStop::Unread),
         _ => Err(ScriptStop::Refused(LineKind::Trailing)),
-    }
-}
-
-/// Where a line's first space stands.
-fn space_in(line: &[u8]) -> Option<usize>
-    ensures { result ≡ position is_space line.now }
-{
-    line.iter().position(|byte| *byte == b' ')
-}
-
-/// The first field of a line.
-#[tactic(auto, using(crate::proofs::Fields::word_before, crate::proofs::Fields::word_alone))]
-pub fn word_of(line: &[u8]) -> &[u8]
-    ensures { result.now ≡ word_of line.now }
-{
-    match space_in(line) {
-        Some(at) => &line[..at],
-        None => line,
     }
 }

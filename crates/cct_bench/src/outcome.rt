@@ -15,7 +15,8 @@ pub enum Status {
     ReadFault,
     /// 4: writing the transcript failed. What was written is a front of it.
     WriteFault,
-    /// 5: a call of the disk failed: `diskfault`. Whether the record that was being put stands on the disk is open.
+    /// 5: a call of the disk failed, in a put or in a loss of power: `diskfault`. Whether the record that was being put
+    /// stands on the disk is open.
     DiskFault,
     /// 6: a byte of the disk isn't 0, which is told by the first such place: `notblank PLACE`.
     NotBlank,
@@ -23,6 +24,10 @@ pub enum Status {
     DiskSize,
     /// 8: there was no memory for the run. Nothing was written.
     OutOfMemory,
+    /// 9: behind a loss of power the disk isn't the one that it was: it has no journal (`journal alien`), one with a
+    /// record that can't be read or doesn't follow those before it (`journal bad INDEX`), or other records than those
+    /// that were put (`journal lost FOUND PUT`).
+    JournalLost,
 }
 
 impl Status {
@@ -40,6 +45,7 @@ impl Status {
             Status::NotBlank => 6,
             Status::DiskSize => 7,
             Status::OutOfMemory => 8,
+            Status::JournalLost => 9,
         }
     }
 }

@@ -1,7 +1,7 @@
 //! A run: the script is read a line at a time, and each step is played and its entries are written before the next line
 //! is read.
 ghost use Rattle.std.specs.Prelude.{◌≡◌, ◌≢◌, false, ◌⊎◌, ℕ, ◌+◌, ◌≤◌, List, ◌∷◌, [], Option, Result, Ok, Err};
-ghost use Rattle.std.specs.Prelude.{IfSome, IfOk, IfErr, MatchResult};
+ghost use Rattle.std.specs.Prelude.{IfSome, IfOk, IfErr, MatchResult, OnOk};
 ghost use Rattle.cct_edge.specs.Bytes.{TellsAsBefore};
 ghost use Rattle.cct_edge.specs.declared.fault.Failed.{Failed};
 ghost use Rattle.cct_edge.specs.Faults.{HasCause, Rose};
@@ -12,17 +12,19 @@ ghost use Rattle.cct_model.specs.Text.{line_of};
 ghost use Rattle.cct_script.specs.Giving.{none_given, standing_of};
 ghost use Rattle.cct_disk.specs.Disk.{IsTrusted};
 ghost use Rattle.cct_journal.specs.Journal as journals;
-ghost use Rattle.cct_journal.specs.Stands.{GoesOn, Stands};
+ghost use Rattle.cct_journal.specs.Stands.{GoesOn, Outlasts, Stands};
+ghost use Rattle.cct_world.specs.declared.refusal.WorldNo.{WorldNo};
+ghost use Rattle.cct_world.specs.Step.{LastsIn};
 ghost use Rattle.cct_world.specs.World.{Breaks, StandsFor, disk_of, setup_of};
 ghost use Rattle.cct_bench.specs.Lines.{Came, EndsAt, IsNext};
-ghost use Rattle.cct_bench.specs.Disks.{Books, IsReady, disks};
-ghost use Rattle.cct_bench.specs.Going.{Going};
+ghost use Rattle.cct_bench.specs.Disks.{Always, Books, IsReady, disks};
+ghost use Rattle.cct_world.specs.Sure.{Sure};
+ghost use Rattle.cct_bench.specs.Going.{Going, WorldHolds};
 ghost use Rattle.cct_bench.specs.SetupLines.{TookOpening, TookSetup};
-ghost use Rattle.cct_bench.specs.Writing.{Writes, Wrote, Broke, IsNothing, NeverBroke};
+ghost use Rattle.cct_text.specs.Writing.{Writes, Wrote, Broke, IsNothing, NeverBroke};
 ghost use Rattle.cct_bench.specs.Playing.{CanPlay, PlaysOn};
-ghost use Rattle.cct_bench.specs.Run.{BeforeSteps, ClosedBy, IsOfScript, Over, Played, Ran, ending_at, last_entry};
-ghost use Rattle.cct_bench.specs.Run.{listed};
-ghost use Rattle.cct_bench.specs.Run.{status_by, status_of, uncreated};
+ghost use Rattle.cct_bench.specs.Run.{BeforeSteps, ClosedBy, IsOfScript, IsUnopened, OverCut, Played, Ran, ending_at};
+ghost use Rattle.cct_bench.specs.Run.{last_entry, listed, status_by, status_of, uncreated, unplayed_by};
 
 use crate::lines::{ScriptStop, behind_end};
 use crate::opening::{Opened, read_opening};
@@ -34,12 +36,12 @@ use cct_edge::{Failed, Sink, Source};
 use cct_journal::{CreateNo, Journal};
 use cct_model::{Devices, Entry, LineKind, Setup, Step};
 use cct_script::Lines;
-use cct_text::{TextLine, write_entry};
+use cct_text::{TextLine, write_entries, write_entry};
 use cct_world::{World, WorldNo};
 use std::alloc::Global;
 
 /// How many bytes the disk of a journal has.
-const JOURNAL_BYTES: u64 = 2_097_152;
+pub const JOURNAL_BYTES: u64 = 2_097_152;
 
 /// How the steps of a script came to their end.
 #[derive(Clone, Copy, Debug, PartialEq, Eq)]
@@ -54,12 +56,18 @@ pub enum Ending {
     Unwritten,
     /// There was no memory for the machine.
     NoMemory,
-    /// The disk failed, before the first byte of the script or in a put.
+    /// The disk failed, before the first byte of the script, in a put, or in a loss of power.
     DiskFailed,
     /// The disk isn't blank: this is its first byte that isn't 0.
     NotBlank { at: u64 },
     /// The disk has another length than a journal wants.
     OtherSize { len: u64 },
+    /// The disk that a loss of power left has no journal.
+    JournalAlien,
+    /// The record of this index on it can't be read, or doesn't follow those before it.
+    JournalBad { index: u32 },
+    /// It has so many records, where so many were put.
+    RecordsLost { found: u32, put: u32 },
 }
 
 /// How a run ends where its script is read no further at a line of this number.
@@ -83,16 +91,42 @@ fn uncreated(why: CreateNo) -> Ending
     }
 }
 
-/// Writes the lines of a report, in the order of its entries.
-fn write_report<K: Sink>(out: &mut K, line: &mut TextLine, report: &[Entry]) -> Result<(), Failed>
-    ensures writes { Writes K.written K.puts out.old report.now result out.new }
-    ensures tells { TellsAsBefore (K.written out.old) (K.written out.new) }
-    ensures cause { HasCause (K.faults out.old) (K.faults out.new) result }
+/// A new journal on a blank disk that has the length of one; or tells how the run ends, and gives the disk back.
+pub fn opened<D: Disk>(disk: D) -> Result<Journal<D>, (Ending, D)>
+    ensures ready { OnOk result (IsReady (D.size disk) (D.seen disk)) }
+    ensures none { IfOk result (λ journal. journals.used_of journal ≡ 0) }
+    ensures whole { IfOk result (λ journal. journals.has_failed journal ≡ false) }
+    ensures size { IfOk result (λ journal. D.size (journals.disk_of journal) ≡ JOURNAL_BYTES) }
+    ensures stands { IfOk result (λ journal. IsTrusted D.honest D.seen (journals.disk_of journal)
+        → Stands D.honest D.seen D.may_leave (journals.disk_of journal) (journals.place_of journal) []) }
+    ensures refused { IfErr result (λ e. IsUnopened (D.size disk) (D.seen disk) e.0) }
+    ensures cause { IfErr result (λ e. e.0 ≡ Ending.DiskFailed → Rose (D.faults disk) (D.faults e.1)) }
+    ensures goes_on { MatchResult result
+        (λ journal. GoesOn D.size D.honest D.seen D.cuts disk (journals.disk_of journal))
+        (λ e. GoesOn D.size D.honest D.seen D.cuts disk e.1) }
+    ensures later { MatchResult result (λ journal. D.faults disk ≤ D.faults (journals.disk_of journal))
+        (λ e. D.faults disk ≤ D.faults e.1) }
 {
-    for entry in report {
-        write_entry(out, line, entry)?;
+    let len = disk.len();
+    if len != JOURNAL_BYTES {
+        return Err((Ending::OtherSize { len }, disk));
     }
-    Ok(())
+    match Journal::create(disk) {
+        Ok(journal) => Ok(journal),
+        Err((disk, why)) => Err((uncreated(why), disk)),
+    }
+}
+
+/// How a run ends where a step isn't played.
+pub fn unplayed_by(why: WorldNo) -> Ending
+    ensures { result ≡ unplayed_by why }
+{
+    match why {
+        WorldNo::Disk => Ending::DiskFailed,
+        WorldNo::Alien => Ending::JournalAlien,
+        WorldNo::BadRecord { index } => Ending::JournalBad { index },
+        WorldNo::Lost { found, put } => Ending::RecordsLost { found, put },
+    }
 }
 
 /// Reads the setup of a script, and gives the number of the line behind it; or tells how the run ends.
@@ -104,13 +138,14 @@ fn read_setup<S: Source>(
     requires lines { standing_of lines.old ≡ none_given }
     requires setup { setup.old ≡ no_devices }
     ensures opened { IfOk result (λ number.
-        Going (S.left script.old) (S.left script.new) (standing_of lines.new).held number (at_steps setup.new)
+        Going Always (S.left script.old) (S.left script.new) (standing_of lines.new).held number (at_steps setup.new)
         IsNothing IsNothing) }
     ensures took { IfOk result (λ number.
         TookOpening S.takes S.left script.old script.new (standing_of lines.new).held number (at_steps setup.new)) }
     ensures next { IfOk result (λ number. IsNext number (standing_of lines.new)) }
     ensures ended { IfErr result (λ how.
-        IfSome (S.left script.old) (λ bytes. Played bytes how (S.left script.new) IsNothing NeverBroke BeforeSteps)) }
+        IfSome (S.left script.old) (λ bytes.
+        Played Always bytes how (S.left script.new) IsNothing NeverBroke BeforeSteps)) }
     ensures unread { result ≡ Err Ending.Unread → Rose (S.faults script.old) (S.faults script.new) }
     ensures of_script { IfErr result IsOfScript }
     ensures tells { TellsAsBefore (S.left script.old) (S.left script.new) }
@@ -144,36 +179,40 @@ impl Page {
     ) -> Result<World<'s, D>, (Ending, D)>
         requires can { CanPlay (setup_of world) step.now }
         requires size { D.size (disk_of world) ≡ JOURNAL_BYTES }
-        ensures plays { IfOk result (λ next. PlaysOn (StandsFor world.entry) (StandsFor next) (setup_of world.entry)
-            step.now (λ report. Writes K.written K.puts out.old report (Ok tt) out.new)) }
+        ensures plays { IfOk result (λ next. PlaysOn (IsTrusted D.honest D.seen (disk_of world.entry))
+            (StandsFor world.entry) (StandsFor next) (setup_of world.entry) step.now (D.cuts (disk_of world.entry))
+            (D.cuts (disk_of next)) (λ report. Writes K.written K.puts out.old report (Ok tt) out.new)) }
         ensures setup { IfOk result (λ next. setup_of next ≡ setup_of world.entry) }
 
         // how the run ends
-        ensures unwritten { IfErr result (λ e. e.0 ≡ Ending.Unwritten → (failed : Failed)
-            × PlaysOn (StandsFor world.entry) (Books D.honest D.seen D.may_leave e.1) (setup_of world.entry) step.now
-            (λ report. Writes K.written K.puts out.old report (Err failed) out.new)) }
-        ensures breaks { IfErr result (λ e. e.0 ≡ Ending.DiskFailed → Breaks world.entry e.1 step.now
-            × (out.new ≡ out.old)) }
-        ensures other { IfErr result (λ e. (e.0 ≡ Ending.Unwritten) ⊎ (e.0 ≡ Ending.DiskFailed)) }
+        ensures ended { IfErr result (λ e. ((e.0 ≡ Ending.Unwritten) × (failed : Failed)
+            × PlaysOn (IsTrusted D.honest D.seen (disk_of world.entry)) (StandsFor world.entry)
+            (Books D.honest D.seen D.may_leave e.1) (setup_of world.entry) step.now (D.cuts (disk_of world.entry))
+            (D.cuts e.1) (λ report. Writes K.written K.puts out.old report (Err failed) out.new))
+            ⊎ ((why : WorldNo) × (e.0 ≡ unplayed_by why) × Breaks world.entry e.1 why step.now × (out.new ≡ out.old))) }
+        ensures memory { IfErr result (λ e. e.0 ≢ Ending.NoMemory) }
+        ensures unread { IfErr result (λ e. e.0 ≢ Ending.Unread) }
         ensures write_cause { IfErr result (λ e. e.0 ≡ Ending.Unwritten → Rose (K.faults out.old) (K.faults out.new)) }
         ensures disk_cause { IfErr result (λ e. e.0 ≡ Ending.DiskFailed
             → Rose (D.faults (disk_of world.entry)) (D.faults e.1)) }
+        ensures lost_cause { IfErr result (λ e. status_of e.0 ≡ Status.JournalLost
+            → Rose (D.cuts (disk_of world.entry)) (D.cuts e.1)) }
 
         // the sink and the disk
         ensures tells { TellsAsBefore (K.written out.old) (K.written out.new) }
         ensures later { K.faults out.old ≤ K.faults out.new }
-        ensures goes_on { MatchResult result
-            (λ next. GoesOn D.size D.honest D.seen D.cuts (disk_of world.entry) (disk_of next))
-            (λ e. GoesOn D.size D.honest D.seen D.cuts (disk_of world.entry) e.1) }
+        ensures lasts { MatchResult result
+            (λ next. LastsIn step.now D.size D.honest D.seen D.cuts (disk_of world.entry) (disk_of next))
+            (λ e. LastsIn step.now D.size D.honest D.seen D.cuts (disk_of world.entry) e.1) }
         ensures disk_later { MatchResult result
             (λ next. D.faults (disk_of world.entry) ≤ D.faults (disk_of next))
             (λ e. D.faults (disk_of world.entry) ≤ D.faults e.1) }
     {
         let world = match world.step(step, &mut self.report) {
             Ok(world) => world,
-            Err((disk, WorldNo::Disk)) => return Err((Ending::DiskFailed, disk)),
+            Err((disk, why)) => return Err((unplayed_by(why), disk)),
         };
-        match write_report(out, &mut self.line, self.report.as_slice()) {
+        match write_entries(out, &mut self.line, self.report.as_slice()) {
             Ok(()) => Ok(world),
             Err(Failed) => Err((Ending::Unwritten, world.into_disk())),
         }
@@ -201,19 +240,22 @@ impl ScriptDesk {
         requires next { IsNext first (standing_of self.old.lines) }
         requires size { D.size (disk_of world) ≡ JOURNAL_BYTES }
         ensures played { (left0 : Option (List ℕ)) (given : D) → IsReady (D.size given) (D.seen given)
-            → GoesOn D.size D.honest D.seen D.cuts given (disk_of world.entry)
-            → Going left0 (S.left script.old) (standing_of self.old.lines).held first (at_steps (setup_of world.entry))
-            (StandsFor world.entry) (Wrote K.written K.puts out.old out.old)
-            → IfSome left0 (λ bytes. Played bytes result.0 (S.left script.new)
+            → Outlasts D.size D.honest D.seen D.cuts given (disk_of world.entry)
+            → Going (Sure (IsTrusted D.honest D.seen given)) left0 (S.left script.old)
+            (standing_of self.old.lines).held first (at_steps (setup_of world.entry)) (WorldHolds given world.entry)
+            (Wrote K.written K.puts out.old out.old)
+            → IfSome left0 (λ bytes. Played (Sure (IsTrusted D.honest D.seen given)) bytes result.0 (S.left script.new)
             (Wrote K.written K.puts out.old out.new) (Broke K.written K.puts out.old out.new)
-            (Over (disks D.size D.honest D.seen D.may_leave D.cuts given result.1))) }
+            (OverCut (disks D.size D.honest D.seen D.may_leave D.cuts given result.1))) }
         ensures unread { result.0 ≡ Ending.Unread → Rose (S.faults script.old) (S.faults script.new) }
         ensures unwritten { result.0 ≡ Ending.Unwritten → Rose (K.faults out.old) (K.faults out.new) }
         ensures disk { result.0 ≡ Ending.DiskFailed → Rose (D.faults (disk_of world.entry)) (D.faults result.1) }
+        ensures lost { status_of result.0 ≡ Status.JournalLost
+            → Rose (D.cuts (disk_of world.entry)) (D.cuts result.1) }
         ensures memory { result.0 ≢ Ending.NoMemory }
         ensures source { TellsAsBefore (S.left script.old) (S.left script.new) }
         ensures sink { TellsAsBefore (K.written out.old) (K.written out.new) }
-        ensures goes_on { GoesOn D.size D.honest D.seen D.cuts (disk_of world.entry) result.1 }
+        ensures lasts { Outlasts D.size D.honest D.seen D.cuts (disk_of world.entry) result.1 }
         ensures source_later { S.faults script.old ≤ S.faults script.new }
         ensures sink_later { K.faults out.old ≤ K.faults out.new }
         ensures disk_later { D.faults (disk_of world.entry) ≤ D.faults result.1 }
@@ -297,17 +339,19 @@ impl Bench {
             → GoesOn D.size D.honest D.seen D.cuts given (journals.disk_of journal)
             → (IsTrusted D.honest D.seen (journals.disk_of journal)
             → Stands D.honest D.seen D.may_leave (journals.disk_of journal) (journals.place_of journal) [])
-            → IfSome (S.left script.old) (λ bytes. Played bytes result.0 (S.left script.new)
-            (Wrote K.written K.puts out.old out.new) (Broke K.written K.puts out.old out.new)
-            (Over (disks D.size D.honest D.seen D.may_leave D.cuts given result.1))) }
+            → IfSome (S.left script.old) (λ bytes. Played (Sure (IsTrusted D.honest D.seen given)) bytes result.0
+            (S.left script.new) (Wrote K.written K.puts out.old out.new) (Broke K.written K.puts out.old out.new)
+            (OverCut (disks D.size D.honest D.seen D.may_leave D.cuts given result.1))) }
         ensures unread { result.0 ≡ Ending.Unread → Rose (S.faults script.old) (S.faults script.new) }
         ensures unwritten { result.0 ≡ Ending.Unwritten → Rose (K.faults out.old) (K.faults out.new) }
         ensures disk { result.0 ≡ Ending.DiskFailed → Rose (D.faults (journals.disk_of journal)) (D.faults result.1) }
+        ensures lost { status_of result.0 ≡ Status.JournalLost
+            → Rose (D.cuts (journals.disk_of journal)) (D.cuts result.1) }
         ensures memory { result.0 ≡ Ending.NoMemory →
             (out.new ≡ out.old) × TookSetup S.takes S.left script.old script.new }
         ensures source { TellsAsBefore (S.left script.old) (S.left script.new) }
         ensures sink { TellsAsBefore (K.written out.old) (K.written out.new) }
-        ensures goes_on { GoesOn D.size D.honest D.seen D.cuts (journals.disk_of journal) result.1 }
+        ensures lasts { Outlasts D.size D.honest D.seen D.cuts (journals.disk_of journal) result.1 }
         ensures source_later { S.faults script.old ≤ S.faults script.new }
         ensures sink_later { K.faults out.old ≤ K.faults out.new }
         ensures disk_later { D.faults (journals.disk_of journal) ≤ D.faults result.1 }
@@ -332,28 +376,26 @@ impl Bench {
     ) -> (Ending, D)
         requires lines { standing_of self.old.desk.lines ≡ none_given }
         requires setup { self.old.setup ≡ no_devices }
-        ensures played { IfSome (S.left script.old) (λ bytes. Played bytes result.0 (S.left script.new)
-            (Wrote K.written K.puts out.old out.new) (Broke K.written K.puts out.old out.new)
-            (Over (disks D.size D.honest D.seen D.may_leave D.cuts disk result.1))) }
+        ensures played { IfSome (S.left script.old) (λ bytes. Played (Sure (IsTrusted D.honest D.seen disk)) bytes
+            result.0 (S.left script.new) (Wrote K.written K.puts out.old out.new)
+            (Broke K.written K.puts out.old out.new)
+            (OverCut (disks D.size D.honest D.seen D.may_leave D.cuts disk result.1))) }
         ensures unread { result.0 ≡ Ending.Unread → Rose (S.faults script.old) (S.faults script.new) }
         ensures unwritten { result.0 ≡ Ending.Unwritten → Rose (K.faults out.old) (K.faults out.new) }
         ensures disk { result.0 ≡ Ending.DiskFailed → Rose (D.faults disk) (D.faults result.1) }
+        ensures lost { status_of result.0 ≡ Status.JournalLost → Rose (D.cuts disk) (D.cuts result.1) }
         ensures memory { result.0 ≡ Ending.NoMemory →
             (out.new ≡ out.old) × TookSetup S.takes S.left script.old script.new }
         ensures source { TellsAsBefore (S.left script.old) (S.left script.new) }
         ensures sink { TellsAsBefore (K.written out.old) (K.written out.new) }
-        ensures goes_on { GoesOn D.size D.honest D.seen D.cuts disk result.1 }
+        ensures lasts { Outlasts D.size D.honest D.seen D.cuts disk result.1 }
         ensures source_later { S.faults script.old ≤ S.faults script.new }
         ensures sink_later { K.faults out.old ≤ K.faults out.new }
         ensures disk_later { D.faults disk ≤ D.faults result.1 }
     {
-        let len = disk.len();
-        if len != JOURNAL_BYTES {
-            return (Ending::OtherSize { len }, disk);
-        }
-        match Journal::create(disk) {
+        match opened(disk) {
             Ok(journal) => self.play_script(alloc, script, out, journal),
-            Err((disk, why)) => (uncreated(why), disk),
+            Err(ended) => ended,
         }
     }
 
@@ -373,11 +415,12 @@ impl Bench {
         ensures read_cause { result.0 ≡ Status.ReadFault → Rose (S.faults script.old) (S.faults script.new) }
         ensures write_cause { result.0 ≡ Status.WriteFault → Rose (K.faults out.old) (K.faults out.new) }
         ensures disk_cause { result.0 ≡ Status.DiskFault → Rose (D.faults disk) (D.faults result.1) }
+        ensures lost_cause { result.0 ≡ Status.JournalLost → Rose (D.cuts disk) (D.cuts result.1) }
         ensures memory { result.0 ≡ Status.OutOfMemory →
             (out.new ≡ out.old) × TookSetup S.takes S.left script.old script.new }
         ensures source { TellsAsBefore (S.left script.old) (S.left script.new) }
         ensures sink { TellsAsBefore (K.written out.old) (K.written out.new) }
-        ensures goes_on { GoesOn D.size D.honest D.seen D.cuts disk result.1 }
+        ensures lasts { Outlasts D.size D.honest D.seen D.cuts disk result.1 }
         ensures source_later { S.faults script.old ≤ S.faults script.new }
         ensures sink_later { K.faults out.old ≤ K.faults out.new }
         ensures disk_later { D.faults disk ≤ D.faults result.1 }
@@ -401,6 +444,9 @@ fn last_entry(how: Ending) -> Option<Entry>
         Ending::DiskFailed => Some(Entry::DiskFault),
         Ending::NotBlank { at } => Some(Entry::NotBlank { at }),
         Ending::OtherSize { len } => Some(Entry::DiskSize { len }),
+        Ending::JournalAlien => Some(Entry::JournalAlien),
+        Ending::JournalBad { index } => Some(Entry::JournalBad { index }),
+        Ending::RecordsLost { found, put } => Some(Entry::JournalLost { found, put }),
     }
 }
 
@@ -417,11 +463,14 @@ fn status_of(how: Ending) -> Status
         Ending::DiskFailed => Status::DiskFault,
         Ending::NotBlank { .. } => Status::NotBlank,
         Ending::OtherSize { .. } => Status::DiskSize,
+        Ending::JournalAlien => Status::JournalLost,
+        Ending::JournalBad { .. } => Status::JournalLost,
+        Ending::RecordsLost { .. } => Status::JournalLost,
     }
 }
 
 /// Ends a run that came to this end: its last line is written where it has one.
-fn finish_run<K: Sink>(how: Ending, out: &mut K, line: &mut TextLine) -> Status
+pub fn finish_run<K: Sink>(how: Ending, out: &mut K, line: &mut TextLine) -> Status
     ensures writes { (answer : Result (Unit {0}) Failed)
         × Writes K.written K.puts out.old (listed (last_entry how)) answer out.new
         × (result ≡ status_by answer (status_of how)) }

@@ -3,25 +3,18 @@ ghost use Rattle.std.specs.Prelude.{◌≡◌, ◌≤◌, ◌+◌, false, Err, O
 ghost use Rattle.std.specs.Result.{IfErr};
 ghost use Rattle.cct_edge.specs.Bytes.{TellsAsBefore};
 ghost use Rattle.cct_edge.specs.Faults.{Rose};
-ghost use Rattle.cct_model.specs.Script.{at_steps, refuses, is_later_word, read_form};
+ghost use Rattle.cct_model.specs.Script.{at_steps, refuses, read_form};
 ghost use Rattle.cct_script.specs.Giving.{standing_of};
 ghost use Rattle.cct_world.specs.World.{setup_of};
 ghost use Rattle.cct_bench.specs.Lines.{IsNext, ScriptGoesOn, StopsAt, Came};
 ghost use Rattle.cct_bench.specs.Playing.{is_end, read_as, CanPlay};
 
-use crate::lines::{ScriptStop, before_end, word_of};
+use crate::lines::{ScriptStop, before_end};
 use cct_disk::Disk;
 use cct_edge::Source;
 use cct_model::{LineKind, Step};
 use cct_script::{Lines, read_step_line};
 use cct_world::World;
-
-/// Whether a word is one of the step words that aren't played yet.
-fn is_later_word(word: &[u8]) -> bool
-    ensures { result ≡ is_later_word word.now }
-{
-    word == b"vend".as_slice() || word == b"crash".as_slice()
-}
 
 /// Whether a step is `end`.
 pub fn is_end(step: &Step) -> bool
@@ -41,9 +34,6 @@ fn take_step_line<D: Disk>(
         (λ why. read_form (at_steps (setup_of world.now)) line.now ≡ refuses why) }
     ensures can { OnOk result (is_end step.new ≡ false → CanPlay (setup_of world.now) step.new) }
 {
-    if is_later_word(word_of(line)) {
-        return Err(LineKind::Word);
-    }
     match read_step_line(line) {
         Ok(said) => *step = said,
         Err(why) => return Err(why),

@@ -33,7 +33,7 @@ const LINES: [usize; 34] = [
 ];
 
 /// A coin is posted, and a second round finds nothing to post.
-const POSTED: &[u8] =
+pub(crate) const POSTED: &[u8] =
     b"acceptor 2 simple 1 0\nvalue 2 1 100 XX100A\nvalue 2 2 100 XX100A\nvalue 2 3 100 XX100A\n\
       value 2 4 100 XX100A\nvalue 2 5 100 XX100A\nvalue 2 6 100 XX100A\nvalue 2 7 100 XX100A\n\
       value 2 8 100 XX100A\nvalue 2 9 100 XX100A\nvalue 2 10 100 XX100A\nvalue 2 11 100 XX100A\n\
@@ -41,7 +41,7 @@ const POSTED: &[u8] =
       value 2 16 100 XX100A\nbegin\nstart 2 ffff\nnext 2\nnext 2\nnext 2\nnext 2\ncoin 2 5\n\
       round 2\nnext 2\nnext 2\nnext 2\nround 2\nnext 2\nnext 2\nend\n";
 
-const POSTED_TEXT: &[u8] = b"ok start 2 ffff\nwire 2 02000101fc 02000101fc01000200fd\n\
+pub(crate) const POSTED_TEXT: &[u8] = b"ok start 2 ffff\nwire 2 02000101fc 02000101fc01000200fd\n\
       wire 2 020001e518 020001e518010b02000000000000000000000000f2\nput epoch 2 ffff\n\
       wire 2 020201e7ffff16 020201e7ffff1601000200fd\nstarted 2\naccepted 2 5 1\nok round 2\n\
       wire 2 020001e518 020001e518010b02000105010000000000000000eb\nwire 2 020001e617 020001e61701020200fffffd\n\
@@ -59,11 +59,11 @@ fn first_puts(count: usize) -> &'static [u8] {
 }
 
 /// How many bytes a disk has that a journal is created on.
-const DISK: u64 = 2_097_152;
+pub(crate) const DISK: u64 = 2_097_152;
 
 /// Plays a script by one word or two over a disk, from a source that gives at most so many bytes a take, with the takes
 /// and puts of these numbers failing. A transcript has room where it is no longer than eight times its script.
-fn play(
+pub(crate) fn play(
     alloc: Global,
     words: &[&str],
     script: Vec<u8>,
@@ -84,7 +84,7 @@ fn play(
 }
 
 /// A blank disk of so many bytes whose calls with these numbers fail.
-fn disk(alloc: Global, len: u64, fails: &[u64]) -> Result<MemDisk, Fail> {
+pub(crate) fn disk(alloc: Global, len: u64, fails: &[u64]) -> Result<MemDisk, Fail> {
     Ok(MemDisk::new(alloc, len, fails.to_vec(alloc)?)?)
 }
 
@@ -109,7 +109,12 @@ fn play_words(
 }
 
 /// The first so many lines of a text, and behind them a last one.
-fn lines_and(alloc: Global, text: &[u8], count: usize, last: &[u8]) -> Result<Vec<u8>, Fail> {
+pub(crate) fn lines_and(
+    alloc: Global,
+    text: &[u8],
+    count: usize,
+    last: &[u8],
+) -> Result<Vec<u8>, Fail> {
     let mut front = Vec::new(alloc);
     let mut ended = 0;
     for byte in text {
@@ -249,7 +254,10 @@ fn one_fault_ends_a_run(rt: HostRuntime) -> Result<(), Fail> {
 
 /// How many calls of the disk the run of a posted coin makes: 512 reads of a blank disk, four for the header, and four
 /// for each of two puts.
-const CALLS: u64 = 524;
+pub(crate) const CALLS: u64 = 524;
+
+/// How many of them come before the first byte of the script.
+pub(crate) const CALLS_BLANK: u64 = 516;
 
 /// How many lines of the transcript of a posted coin come before this call of the disk, and how many of these are puts;
 /// before call 0, which there is none, come all.
@@ -263,7 +271,7 @@ fn lines_before(call: u64) -> (usize, usize) {
 }
 
 /// Plays the script of a posted coin over a disk whose call with this number fails, or none where it is 0.
-fn play_posted(alloc: Global, call: u64) -> Result<(Status, Vec<u8>, MemDisk), Fail> {
+pub(crate) fn play_posted(alloc: Global, call: u64) -> Result<(Status, Vec<u8>, MemDisk), Fail> {
     let blank = disk(alloc, DISK, &[call])?;
     play(
         alloc,
@@ -293,7 +301,11 @@ fn stops_at_each_fault_of_the_disk(rt: HostRuntime) -> Result<(), Fail> {
 }
 
 /// The records that a loss of power leaves of a journal, each as the line of its put, or none where it leaves no header.
-fn left_by_a_cut(alloc: Global, disk: MemDisk, choice: u64) -> Result<Option<Vec<u8>>, Fail> {
+pub(crate) fn left_by_a_cut(
+    alloc: Global,
+    disk: MemDisk,
+    choice: u64,
+) -> Result<Option<Vec<u8>>, Fail> {
     let mut disk = disk;
     disk.power_cut(choice)?;
     let (mut journal, used) = match Journal::reopen(disk) {

@@ -102,6 +102,7 @@ pub trait Disk {
         ensures honest { honest self.new ≡ honest self.old }
         ensures cut { OnOk result (Rose (cuts self.old) (cuts self.new)) }
         ensures not_cut { OnErr result (cuts self.new ≡ cuts self.old) }
+        ensures cuts { cuts self.old ≤ cuts self.new }
         ensures time { Elapses (moment self.old) (moment self.new) (left_since self.old) (left_since self.new)
             (may_leave self.new) }
         ensures cause { HasCause (faults self.old) (faults self.new) result };

@@ -1,5 +1,5 @@
 // A disk over a file, which tells nothing of its bytes.
-ghost use Rattle.std.specs.Prelude.{◌≡◌, ◌↔◌, false, true, None, IsTrue, IsOk, IsErr, OnOk, OnErr, length};
+ghost use Rattle.std.specs.Prelude.{◌≡◌, ◌≤◌, ◌↔◌, false, true, None, IsTrue, IsOk, IsErr, OnOk, OnErr, length};
 ghost use Rattle.cct_edge.specs.Faults.{HasCause, next_count};
 ghost use Rattle.cct_disk.specs.File.{CountsFaults, is_open, file_len, file_faults, file_cuts};
 ghost use Rattle.cct_disk.specs.Laws.{untold_fits};
@@ -173,6 +173,7 @@ impl<R: Files> Disk for FileDisk<R> {
         ensures size { file_len self.new ≡ file_len self.old }
         ensures cut { OnOk result (file_cuts self.new ≡ next_count (file_cuts self.old)) }
         ensures not_cut { OnErr result (file_cuts self.new ≡ file_cuts self.old) }
+        ensures cuts { file_cuts self.old ≤ file_cuts self.new }
         ensures cause { HasCause (file_faults self.old) (file_faults self.new) result }
         ensures counted { CountsFaults (file_faults self.old) (file_faults self.new) result }
         ensures opened { IsOk result ↔ (is_open self.old ≡ true) }

@@ -191,6 +191,7 @@ impl Disk for MemDisk {
         ensures kept { OnOk result (Only self.new.content.bytes (may_leave self.new.content)) }
         ensures images { IsWithin (may_leave self.old.content) (may_leave self.new.content) }
         ensures time { ElapsesTo self.old.content self.new.content }
+        ensures cuts { self.old.cuts ≤ self.new.cuts }
         ensures cause { HasCause self.old.faults self.new.faults result }
 
         // which calls fail, and what either answer leaves

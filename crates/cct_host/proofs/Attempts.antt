@@ -1,10 +1,13 @@
 -- One attempt of a job at a place, and what it leaves.
-use Rattle.std.proofs.Common.{◌≡◌, ℕ, List, [], ◌∷◌, ◌++◌, append_assoc, reverse, refl, sym, ap, subst, ◌∙◌, Option, Some, None}
+use Rattle.std.proofs.Common.{◌≡◌, ℕ, zero, suc, List, [], ◌∷◌, ◌++◌, append_assoc, reverse, refl, sym, ap, subst, ◌∙◌, Option, Some, None}
 use Rattle.std.specs.Option.{IfSome}
+use Rattle.cct_model.specs.terms.wire.TheConstants.{HOST}
 use Rattle.cct_model.specs.terms.device.DeviceSetup.{DeviceSetup}
 use Rattle.cct_model.specs.terms.request.Request.{Request}
 use Rattle.cct_model.specs.lines.record.Record.{Record}
+use Rattle.cct_model.specs.lines.record.Record.TheVariants as record_of
 use Rattle.cct_model.specs.lines.command.Command.{Command}
+use Rattle.cct_model.specs.lines.command.Command.TheVariants as command
 use Rattle.cct_model.specs.lines.entry.End.{End}
 use Rattle.cct_model.specs.lines.entry.Entry.{Entry}
 use Rattle.cct_model.specs.lines.entry.Entry.TheVariants as entry
@@ -14,47 +17,50 @@ use Rattle.cct_model.specs.Exchange.{ask}
 use Rattle.cct_model.specs.Line.{Line}
 use Rattle.cct_model.specs.Line as line
 use Rattle.cct_model.specs.Job as model
+use Rattle.cct_model.specs.Job.{done, row_of_sale, vend_row}
 use Rattle.cct_model.specs.Order.{order, order_by}
-use Rattle.cct_model.specs.Legal.{PollEntries, RowEntries, due_of, record_due, with_end}
+use Rattle.cct_model.specs.Legal.{PollEntries, RowEntries, SaleRowEntries, due_of, record_due, with_end}
 use Rattle.cct_model.specs.Records.{id_of}
 use Rattle.cct_model.specs.Scan.{end_of_scan}
-use Rattle.cct_model.specs.Transcript.{lines_of, owner, scan_line}
+use Rattle.cct_model.specs.Transcript.{lines_of, owner, sale_lines, scan_line, sold_line}
 use Rattle.cct_jobs.specs.declared.job.Job.{Job}
 use Rattle.cct_jobs.specs.declared.job.Need.{Need}
 use Rattle.cct_jobs.specs.declared.job.Need.TheVariants as need
 use Rattle.cct_jobs.specs.declared.owed.Owed.{Owed}
 use Rattle.cct_host.specs.declared.dues.Dues.{Dues}
 use Rattle.cct_jobs.specs.Jobs.{ClosesItsOwn, Needs, PutsNext, Stands, line_heard, order_of}
+use Rattle.cct_jobs.specs.Sales.{NeedsSale, StandsSale}
 use Rattle.cct_jobs.specs.Scans.{NeedsScan, StandsScan}
 use Rattle.cct_host.specs.declared.desk.JobDesk.{JobDesk}
 use Rattle.cct_host.specs.Attempt as attempt
 use Rattle.cct_host.specs.Desk.{Attempts, Goes, Keeps, Knows, Works}
 use Rattle.cct_host.specs.Exchange.{Converses, Ends, Talks}
-use Rattle.cct_host.specs.Place.{Asks, AsksNext, NextAt, OwnsAt, Place, StandsAt, addr_of, device, end_at, line_at, lines_at, scans}
+use Rattle.cct_host.specs.Place.{Asks, AsksNext, NextAt, OwnsAt, Place, StandsAt, addr_of, device, end_at, line_at, lines_at, sales, scans}
 use Rattle.cct_host.specs.Running.{Settles, dues_left}
-use Rattle.cct_host.proofs.Keeps.{asked_keeps, knows_same, left_keeps, put_keeps}
-use Rattle.cct_host.proofs.Lines.{dosed_at, end_at_too, epoch_dosed, idle_at, idle_line, job_dosed, order_dosed, own_wire, put_at, wire_at}
+use Rattle.cct_host.proofs.Keeps.{asked_keeps, knows_same, left_keeps, put_keeps, sold_keeps}
+use Rattle.cct_host.proofs.Lines.{HasExchanges, dosed_at, end_at_too, epoch_dosed, idle_at, idle_line, job_dosed, order_dosed, own_wire, put_at, wire_at}
 
--- wherever a job is, its row sends something next; at a device it puts this record next, and goes on by it; and it is
--- no scan
+-- wherever a job is, its row sends something next
 abbrev AsksOn : Job → Type 0
 AsksOn job = (place : Place) (c : Command) (since : List Line) (n : EpochState) (owed : Option OpenOrder)
     → StandsAt place job c since n owed → AsksNext place c since n owed
 
-abbrev PutsOn : Job → Record → Type 0
-PutsOn job r = (d : DeviceSetup) (c : Command) (since : List Line) (n : EpochState) (owed : Option OpenOrder)
-    → Stands d job c since n owed → PutsNext r d c since n owed
+-- a job at a device puts this record next, goes on by it, and its put moves the open order
+pub record PutsOn (old new : Job) (r : Record) (before after : Option Owed) : Type 0 where
+  pub needs : (d : DeviceSetup) (c : Command) (since : List Line) (n : EpochState) (owed : Option OpenOrder)
+      → Stands d old c since n owed → PutsNext r d c since n owed
+  pub goes : (d : DeviceSetup) (c : Command) (since : List Line) (n later : EpochState) (owed : Option OpenOrder)
+      → Stands d old c since n owed → Stands d new c (line.put r ∷ since) later (order_by r owed)
+  pub owes : (d : DeviceSetup) (c : Command) (since : List Line) (n : EpochState)
+      → Stands d old c since n (order_of before) → order_of after ≡ order_by r (order_of before)
 
-abbrev GoesByPut : Job → Record → Job → Type 0
-GoesByPut old r new = (d : DeviceSetup) (c : Command) (since : List Line) (n after : EpochState)
-    (owed : Option OpenOrder) → Stands d old c since n owed
-    → Stands d new c (line.put r ∷ since) after (order_by r owed)
+-- a sale does so too, and owes nothing by it
+pub record SellsOn (old new : Job) (r : Record) (before after : Option Owed) : Type 0 where
+  pub needs : (c : Command) (since : List Line) → StandsSale old c since → row_of_sale c since ≡ model.puts r
+  pub goes : (c : Command) (since : List Line) → StandsSale old c since → StandsSale new c (line.put r ∷ since)
+  pub owes : (c : Command) (since : List Line) → StandsSale old c since → after ≡ before
 
--- its put moves the open order
-abbrev OwesByPut : Job → Record → Option Owed → Option Owed → Type 0
-OwesByPut job r before after = (d : DeviceSetup) (c : Command) (since : List Line) (n : EpochState)
-    → Stands d job c since n (order_of before) → order_of after ≡ order_by r (order_of before)
-
+-- it is no scan
 abbrev IsNoScan : Job → Type 0
 IsNoScan job = (since : List Line) → StandsScan job since → ⊥
 
@@ -65,6 +71,28 @@ NeedsAt job n = (d : DeviceSetup) (c : Command) (since : List Line) (state : Epo
 
 abbrev NeedsScanning : Job → Need → Type 0
 NeedsScanning job n = (since : List Line) → StandsScan job since → NeedsScan n since
+
+abbrev NeedsSelling : Job → Need → Type 0
+NeedsSelling job n = (c : Command) (since : List Line) → StandsSale job c since → NeedsSale n c since
+
+-- who asks makes exchanges
+has_exchanges : (place : Place) (c : Command) (since : List Line) (n : EpochState) (owed : Option OpenOrder)
+    → AsksNext place c since n owed → HasExchanges place
+has_exchanges (device d) c since n owed asks = tt
+has_exchanges scans c since n owed asks = tt
+has_exchanges sales c since n owed asks = absurd asks
+
+-- what a sale puts is one
+vend_sold : (id price rows : ℕ) (r : Record) → vend_row id price rows ≡ model.puts r → record_of.Sold id price ≡ r
+vend_sold id price zero r is = cc
+vend_sold id price (suc rows) r is = absurd cc
+
+row_sold : (c : Command) (since : List Line) (r : Record) (past : List Entry) → row_of_sale c since ≡ model.puts r
+    → (owner past r ≡ HOST) × (sold_line r ≡ line.put r ∷ [])
+row_sold (command.Vend id price) since r past is =
+    subst (λ x. (owner past x ≡ HOST) × (sold_line x ≡ line.put x ∷ [])) (vend_sold id price (done since) r is)
+    (refl, refl)
+row_sold c since r past is = absurd cc
 
 -- what a report tells after an entry, and the end that it brought
 reported_with : (report told reported : List Entry) (addr : ℕ) (e : Entry) (end : Option End) (new : Job)
@@ -80,6 +108,7 @@ idle_by : (hears : List ℕ → List ℕ) (place : Place) (past : List Entry) (s
     (j : model.Job) → Works place None j state owed → NextAt hears place past j (entry.Idle (addr_of place) ∷ [])
 idle_by hears (device d) past state owed model.free works = refl
 idle_by hears scans past state owed model.free works = refl
+idle_by hears sales past state owed model.free works = refl
 idle_by hears place past state owed (model.works c since) works = absurd works
 
 idle_goes : (hears : List ℕ → List ℕ) (place : Place) (past : List Entry) (state : EpochState) (owed : Dues)
@@ -137,6 +166,7 @@ asked_entries hears scans past c since sent heard end asks heard_is end_is =
     (end_of_scan (scan_line s (hears s) ∷ since))) asks.2
     (ap (with_end a (entry.Wire a sent heard)) end_is
     ∙ ap (λ p. with_end a (entry.Wire a sent p) (end_of_scan (scan_line sent p ∷ since))) heard_is))
+asked_entries hears sales past c since sent heard end asks heard_is end_is = absurd asks
 
 -- a job that stands beside the epoch and the open order of a place stands beside those of its lines over a dose
 stands_dosed : (place : Place) (past : List Entry) (sent : List ℕ) (job : Job) (c : Command) (since : List Line)
@@ -165,14 +195,16 @@ asked_by hears place past old new state owed sent heard end kept told reported (
     let n = model.epoch (lines_at place past) in
     let o = order (lines_at place past) in
     let e = entry.Wire (addr_of place) sent heard in
-    let after = talks place c since n o works (needs place c since n o works) in
+    let asks = needs place c since n o works in
+    let after = talks place c since n o works asks in
     record {
       entries = subst (λ k. NextAt hears place past k (with_end (addr_of place) e end)) (sym was)
           (asked_entries hears place past c since sent heard end after.0 heard_is
           (ends place c (line_at place sent heard) since n o after.1));
       at = end_at_too (addr_of place) past e end (wire_at (addr_of place) past sent heard);
       keeps = left_keeps place kept new state owed past e end told reported settled
-          (subst (Keeps place (Some new) state owed) (sym (own_wire place sent heard past))
+          (subst (Keeps place (Some new) state owed)
+          (sym (own_wire place sent heard past (has_exchanges place c since n o asks)))
           (asked_keeps place c since state owed sent heard new (dosed_at place past sent ++ lines_at place past)
           (stands_dosed place past sent new c (line_at place sent heard ∷ since) after.1)
           (job_dosed place past sent ∙ was)
@@ -216,46 +248,61 @@ put_by : (hears : List ℕ → List ℕ) (place : Place) (past : List Entry) (ol
     (told reported : List Entry) (j : model.Job) → model.job (lines_at place past) ≡ j
     → Works place (Some old) j (model.epoch (lines_at place past)) (order (lines_at place past))
     → Knows place state owed (lines_at place past) → OwnsAt place past → last ≡ model.epoch_by r state
-    → PutsOn old r → IsNoScan old → GoesByPut old r new → OwesByPut old r owed.order left.order → left.id ≡ owed.id
-    → Ends new end
+    → PutsOn old new r owed.order left.order → IsNoScan old → SellsOn old new r owed.order left.order
+    → left.id ≡ owed.id → Ends new end
     → Settles end new (addr_of place) kept told reported
     → Goes hears place past (with_end (addr_of place) (entry.Put r) end) kept last (dues_left kept left)
 put_by hears place past old new r state last owed left end kept told reported model.free was works knows owns moved
-    needs no_scan goes owes same ends settled = absurd works
+    puts_on no_scan sells same ends settled = absurd works
 put_by hears scans past old new r state last owed left end kept told reported (model.works c since) was works knows
-    owns moved needs no_scan goes owes same ends settled = absurd (no_scan since works)
+    owns moved puts_on no_scan sells same ends settled = absurd (no_scan since works)
+put_by hears sales past old new r state last owed left end kept told reported (model.works c since) was works knows
+    owns moved puts_on no_scan sells same ends settled =
+    let row = sells.needs c since works in
+    let sold = row_sold c since r past row in
+    let after = sells.goes c since works in
+    record {
+      entries = subst (λ k. NextAt hears sales past k (with_end HOST (entry.Put r) end)) (sym was)
+          (subst (λ x. SaleRowEntries c x (with_end HOST (entry.Put r) end)) (sym row)
+          (ap (with_end HOST (entry.Put r)) (ends sales c (line.put r) since (model.epoch (sale_lines past))
+          (order (sale_lines past)) after)));
+      at = end_at_too HOST past (entry.Put r) end (put_at HOST past r sold.0);
+      keeps = left_keeps sales kept new last left past (entry.Put r) end told reported settled
+          (sold_keeps c since r past last left new sold.1 after was (sells.owes c since works ∙ knows.0)
+          (same ∙ knows.1));
+    }
 put_by hears (device d) past old new r state last owed left end kept told reported (model.works c since) was works knows
-    owns moved needs no_scan goes owes same ends settled =
+    owns moved puts_on no_scan sells same ends settled =
     let n = model.epoch (lines_of d past) in
     let o = order (lines_of d past) in
-    let puts = needs d c since n o works in
+    let puts = puts_on.needs d c since n o works in
     let own : owner past r ≡ d.addr =
     puts.owned past (due_owns past d.addr r _ (ap (due_of d (lines_of d past)) was ∙ ap record_due puts.row_is) owns) in
     let end_is : end ≡ model.end_of d c (line.put r) since n =
-    ends (device d) c (line.put r) since n (order_by r o) (goes d c since n n o works) in
+    ends (device d) c (line.put r) since n (order_by r o) (puts_on.goes d c since n n o works) in
     record {
       entries = subst (λ k. NextAt hears (device d) past k (with_end d.addr (entry.Put r) end)) (sym was)
           (subst (λ x. RowEntries hears d past c since x (with_end d.addr (entry.Put r) end)) (sym puts.row_is)
           (ap (with_end d.addr (entry.Put r)) end_is));
       at = end_at_too d.addr past (entry.Put r) end (put_at d.addr past r own);
       keeps = left_keeps (device d) kept new last left past (entry.Put r) end told reported settled
-          (put_keeps d c since r past last left new own (λ after. goes d c since n after o works) was
+          (put_keeps d c since r past last left new own (λ after. puts_on.goes d c since n after o works) was
           (moved ∙ ap (model.epoch_by r) knows.0)
-          (owes d c since n (subst (Stands d old c since n) (sym knows.1) works) ∙ ap (order_by r) knows.1) (same
-          ∙ knows.2));
+          (puts_on.owes d c since n (subst (Stands d old c since n) (sym knows.1) works) ∙ ap (order_by r) knows.1)
+          (same ∙ knows.2));
     }
 
 -- a job puts its record
 pub put_attempts : {L : Type 0} (gives : L → List ℕ → List ℕ → L → Type 0) (link : L) (addr : ℕ) (old new : Job)
     (r : Record) (state : EpochState) (owed moves : Dues) (desk : JobDesk) (used : ℕ) (end : Option End)
     (report told reported : List Entry)
-    → PutsOn old r → IsNoScan old → GoesByPut old r new → OwesByPut old r owed.order moves.order → moves.id ≡ owed.id
-    → Ends new end
+    → PutsOn old new r owed.order moves.order → IsNoScan old → SellsOn old new r owed.order moves.order
+    → moves.id ≡ owed.id → Ends new end
     → told ≡ report ++ entry.Put r ∷ [] → Settles end new addr desk.job told reported
     → desk.epoch ≡ model.epoch_by r state → desk.dues ≡ dues_left desk.job moves → used ≡ id_of r
     → Attempts gives link link addr (Some old) state owed desk used report reported
-put_attempts gives link addr old new r state owed moves desk used end report told reported needs no_scan after owes
-    same ends told_is settled moved left used_is = record {
+put_attempts gives link addr old new r state owed moves desk used end report told reported puts_on no_scan sells same
+    ends told_is settled moved left used_is = record {
       what = attempt.put r end;
       reported_is = reported_with report told reported addr (entry.Put r) end new desk.job told_is settled;
       link = refl;
@@ -265,19 +312,43 @@ put_attempts gives link addr old new r state owed moves desk used end report tol
           (subst (λ a. Settles end new a desk.job told reported
           → Goes hears place past (with_end a (entry.Put r) end) desk.job desk.epoch (dues_left desk.job moves)) at
           (λ s. put_by hears place past old new r state desk.epoch owed moves end desk.job told reported
-          (model.job (lines_at place past)) refl keeps.works keeps.knows owns moved needs no_scan after owes same
+          (model.job (lines_at place past)) refl keeps.works keeps.knows owns moved puts_on no_scan sells same
           ends s) settled);
     }
 
 -- what a job needs, wherever it is
-pub asks_next : (n : Need) (job : Job) → n ≡ need.Exchange → NeedsAt job n → NeedsScanning job n → AsksOn job
-asks_next n job is row scan (device d) c since state owed stands =
+pub asks_next : (n : Need) (job : Job) → n ≡ need.Exchange → NeedsAt job n → NeedsScanning job n → NeedsSelling job n
+    → AsksOn job
+asks_next n job is row scan sale (device d) c since state owed stands =
     subst (λ k. Needs k d c since state owed) is (row d c since state owed stands)
-asks_next n job is row scan scans c since state owed stands = subst (λ k. NeedsScan k since) is (scan since stands)
+asks_next n job is row scan sale scans c since state owed stands =
+    subst (λ k. NeedsScan k since) is (scan since stands)
+asks_next n job is row scan sale sales c since state owed stands =
+    subst (λ k. NeedsSale k c since) is (sale c since stands)
 
-pub puts_next : (n : Need) (job : Job) (r : Record) → n ≡ need.Put r → NeedsAt job n → PutsOn job r
-puts_next n job r is row d c since state owed stands =
-    subst (λ k. Needs k d c since state owed) is (row d c since state owed stands)
+pub puts_next : (n : Need) (old new : Job) (r : Record) (before after : Option Owed) → n ≡ need.Put r → NeedsAt old n
+    → ((d : DeviceSetup) (c : Command) (since : List Line) (state later : EpochState) (owed : Option OpenOrder)
+    → Stands d old c since state owed → Stands d new c (line.put r ∷ since) later (order_by r owed))
+    → ((d : DeviceSetup) (c : Command) (since : List Line) (state : EpochState)
+    → Stands d old c since state (order_of before) → order_of after ≡ order_by r (order_of before))
+    → PutsOn old new r before after
+puts_next n old new r before after is row goes owes = record {
+  needs = λ d c since state owed stands.
+      subst (λ k. Needs k d c since state owed) is (row d c since state owed stands);
+  goes = goes;
+  owes = owes;
+}
+
+pub sells_next : (n : Need) (old new : Job) (r : Record) (before after : Option Owed) → n ≡ need.Put r
+    → NeedsSelling old n
+    → ((c : Command) (since : List Line) → StandsSale old c since → StandsSale new c (line.put r ∷ since))
+    → ((c : Command) (since : List Line) → StandsSale old c since → after ≡ before)
+    → SellsOn old new r before after
+sells_next n old new r before after is sale goes owes = record {
+  needs = λ c since stands. subst (λ k. NeedsSale k c since) is (sale c since stands);
+  goes = goes;
+  owes = owes;
+}
 
 pub no_scan : (n : Need) (job : Job) (r : Record) → n ≡ need.Put r → NeedsScanning job n → IsNoScan job
 no_scan n job r is scan since stands = subst (λ k. NeedsScan k since) is (scan since stands)

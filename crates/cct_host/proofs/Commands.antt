@@ -1,5 +1,5 @@
 -- Why a command is refused, and what becomes of one that is taken.
-use Rattle.std.proofs.Common.{◌≡◌, ◌≢◌, ℕ, ◌==◌, Bool, true, false, cond, List, [], ◌∷◌, refl, sym, ap, subst, ◌∙◌, Option, Some, None}
+use Rattle.std.proofs.Common.{◌≡◌, ℕ, ◌==◌, Bool, true, false, cond, List, [], ◌∷◌, refl, sym, ap, subst, ◌∙◌, Option, Some, None}
 use Rattle.std.specs.Prelude.{Err, IsTrue, Ok, OnErr, Result, is_some, not}
 use Rattle.std.specs.Option.{option_or}
 use Rattle.std.proofs.lemmas.Bool.{eqb-true}
@@ -18,18 +18,18 @@ use Rattle.cct_model.specs.declared.judging.OpenOrder.{OpenOrder}
 use Rattle.cct_model.specs.Device.{is_acceptor}
 use Rattle.cct_model.specs.Exchange.{acceptor_there, device_at, hopper_there}
 use Rattle.cct_model.specs.Job as model
-use Rattle.cct_model.specs.Legal.{is_played_command}
 use Rattle.cct_model.specs.Job.{address_of}
 use Rattle.cct_model.specs.Order.{order}
-use Rattle.cct_model.specs.Refusal.{at_acceptor, at_device, at_hopper, busy, halt_refusal, last_id, pay_refusal, state_refusal, running_id, running_refusal, settle_refusal, start_refusal, when_free, when_unpaid}
-use Rattle.cct_model.specs.Transcript.{lines_of, scan_lines}
+use Rattle.cct_model.specs.Refusal.{at_acceptor, at_device, at_hopper, busy, halt_refusal, id_refusal, last_id, pay_refusal, state_refusal, running_id, running_refusal, settle_refusal, start_refusal, when_free, when_unpaid}
+use Rattle.cct_model.specs.Transcript.{lines_of, sale_lines, scan_lines}
 use Rattle.cct_jobs.specs.declared.job.Job.{Job}
 use Rattle.cct_host.specs.declared.dues.Dues.{Dues}
-use Rattle.cct_jobs.specs.Jobs.{IsRunning, MayBegin, Stands, end_of_job, halts, order_of}
+use Rattle.cct_jobs.specs.Jobs.{IsRunning, MayBegin, Stands, end_of_job, halts, is_of_device, order_of}
+use Rattle.cct_jobs.specs.Sales.{StandsSale}
 use Rattle.cct_jobs.specs.Scans.{StandsScan}
 use Rattle.cct_host.specs.Desk.{Keeps, Works}
-use Rattle.cct_host.specs.Place.{Place, device, scans}
-use Rattle.cct_host.specs.Running.{acceptor_refusal, busy_by, halting_refusal, halts_in, hopper_refusal, is_halt, is_running, refusal_beside}
+use Rattle.cct_host.specs.Place.{Place, device, sales, scans}
+use Rattle.cct_host.specs.Running.{acceptor_refusal, busy_by, halting_refusal, halts_in, hopper_refusal, is_halt, is_running, refusal_beside, sale_refusal}
 use Rattle.cct_jobs.proofs.Halts.{halts_known}
 use Rattle.cct_jobs.proofs.Needs.{end_known}
 use Rattle.cct_host.proofs.Keeps.{GoesByHalt, halt_keeps, keeps_quiet, taken_keeps}
@@ -105,30 +105,29 @@ halting_is setup d job state owed past c runs halt there keeps = absurd cc
 
 -- the tests of a command that begins a job at a device
 pub refusal_is : (setup : Setup) (d : DeviceSetup) (job : Option Job) (state : EpochState) (owed : Dues) (last : ℕ)
-    (past : List Entry) (c : Command) → last ≡ last_id setup past → c ≢ command.Scan → is_halt c ≡ false
-    → IsTrue (is_played_command c) → device_at setup.devices (address_of c) ≡ Some d
+    (past : List Entry) (c : Command) → last ≡ last_id setup past → is_of_device c ≡ true → is_halt c ≡ false
+    → device_at setup.devices (address_of c) ≡ Some d
     → Keeps (device d) job state owed (lines_of d past) → refusal_beside d job state owed last c ≡ state_refusal setup
     past c
-refusal_is setup d job state owed last past (command.Start addr mask) is_last no_scan no_halt hosted there keeps =
+refusal_is setup d job state owed last past (command.Start addr mask) is_last of_device no_halt there keeps =
     free_refusal _ d job state owed past (start_refusal mask) there keeps
-refusal_is setup d job state owed last past (command.Round addr) is_last no_scan no_halt hosted there keeps =
+refusal_is setup d job state owed last past (command.Round addr) is_last of_device no_halt there keeps =
     free_refusal _ d job state owed past running_refusal there keeps
-refusal_is setup d job state owed last past (command.Stop addr) is_last no_scan no_halt hosted there keeps =
+refusal_is setup d job state owed last past (command.Stop addr) is_last of_device no_halt there keeps =
     free_refusal _ d job state owed past running_refusal there keeps
-refusal_is setup d job state owed last past (command.Path addr place path) is_last no_scan no_halt hosted there keeps =
+refusal_is setup d job state owed last past (command.Path addr place path) is_last of_device no_halt there keeps =
     plain_refusal _ d job state owed past there keeps
-refusal_is setup d job state owed last past (command.Ident addr) is_last no_scan no_halt hosted there keeps =
+refusal_is setup d job state owed last past (command.Ident addr) is_last of_device no_halt there keeps =
     busy_is (device d) job _ _ _ keeps.works ∙ sym (ap (λ f. at_device f (λ e. busy (model.job (lines_of e past))))
     there)
-refusal_is setup d job state owed last past (command.Pay addr id count) is_last no_scan no_halt hosted there keeps =
+refusal_is setup d job state owed last past (command.Pay addr id count) is_last of_device no_halt there keeps =
     ap (λ l. hopper_refusal d job (pay_refusal id l (order_of owed.order))) is_last
     ∙ unpaid_refusal _ d job state owed past (pay_refusal id (last_id setup past)) there keeps
-refusal_is setup d job state owed last past (command.Settle addr) is_last no_scan no_halt hosted there keeps =
+refusal_is setup d job state owed last past (command.Settle addr) is_last of_device no_halt there keeps =
     unpaid_refusal _ d job state owed past settle_refusal there keeps
-refusal_is setup d job state owed last past (command.Halt addr) is_last no_scan no_halt hosted there keeps = absurd cc
-refusal_is setup d job state owed last past command.Scan is_last no_scan no_halt hosted there keeps = absurd (no_scan
-    refl)
-refusal_is setup d job state owed last past c is_last no_scan no_halt hosted there keeps = absurd cc
+refusal_is setup d job state owed last past (command.Halt addr) is_last of_device no_halt there keeps = absurd cc
+refusal_is setup d job state owed last past command.Scan is_last of_device no_halt there keeps = absurd cc
+refusal_is setup d job state owed last past c is_last of_device no_halt there keeps = absurd cc
 
 -- what isn't refused may begin
 free_by : (kind : Bool) (job further : Option CommandNo) → cond kind (option_or job further) (Some WrongKind) ≡ None
@@ -160,34 +159,34 @@ runs_where_free d Idle free = absurd cc
 runs_where_free d (Running mask counter) free = tt
 
 pub may_begin : (devices : List DeviceSetup) (d : DeviceSetup) (job : Option Job) (state : EpochState)
-    (owed : Dues) (last : ℕ) (c : Command) → IsTrue (is_played_command c) → is_halt c ≡ false → c ≢ command.Scan
+    (owed : Dues) (last : ℕ) (c : Command) → is_halt c ≡ false → is_of_device c ≡ true
     → device_at devices (address_of c) ≡ Some d → refusal_beside d job state owed last c ≡ None
     → MayBegin c devices state (order_of owed.order)
-may_begin devices d job state owed last (command.Start addr mask) hosted no_halt no_scan there free =
+may_begin devices d job state owed last (command.Start addr mask) no_halt of_device there free =
     acceptor_is_there _ d there (free_by _ (busy_by job) (start_refusal mask d state) free).0
-may_begin devices d job state owed last (command.Round addr) hosted no_halt no_scan there free =
+may_begin devices d job state owed last (command.Round addr) no_halt of_device there free =
     let parts = free_by _ (busy_by job) (running_refusal d state) free in
     (acceptor_is_there _ d there parts.0, runs_where_free d state parts.1)
-may_begin devices d job state owed last (command.Stop addr) hosted no_halt no_scan there free =
+may_begin devices d job state owed last (command.Stop addr) no_halt of_device there free =
     let parts = free_by _ (busy_by job) (running_refusal d state) free in
     (acceptor_is_there _ d there parts.0, runs_where_free d state parts.1)
-may_begin devices d job state owed last (command.Path addr place path) hosted no_halt no_scan there free =
+may_begin devices d job state owed last (command.Path addr place path) no_halt of_device there free =
     acceptor_is_there _ d there (free_by _ (busy_by job) None free).0
-may_begin devices d job state owed last (command.Ident addr) hosted no_halt no_scan there free =
+may_begin devices d job state owed last (command.Ident addr) no_halt of_device there free =
     subst (λ f. IsTrue (is_some f)) (sym there) refl
-may_begin devices d job state owed last (command.Pay addr id count) hosted no_halt no_scan there free =
+may_begin devices d job state owed last (command.Pay addr id count) no_halt of_device there free =
     hopper_is_there _ d there (unpaid_by _ (busy_by job) (pay_refusal id last (order_of owed.order)) free).0
-may_begin devices d job state owed last (command.Settle addr) hosted no_halt no_scan there free =
+may_begin devices d job state owed last (command.Settle addr) no_halt of_device there free =
     let parts = unpaid_by _ (busy_by job) (settle_refusal (order_of owed.order)) free in
     (hopper_is_there _ d there parts.0, owed_where_free (order_of owed.order) parts.1)
-may_begin devices d job state owed last (command.Halt addr) hosted no_halt no_scan there free = absurd cc
-may_begin devices d job state owed last command.Scan hosted no_halt no_scan there free = absurd (no_scan refl)
-may_begin devices d job state owed last c hosted no_halt no_scan there free = absurd cc
+may_begin devices d job state owed last (command.Halt addr) no_halt of_device there free = absurd cc
+may_begin devices d job state owed last c no_halt of_device there free = absurd cc
 
 -- a command that begins a job begins its own
 begins_own : (c : Command) (devices : List DeviceSetup) (state : EpochState) (owed : Option OpenOrder)
     (before : model.Job) → MayBegin c devices state owed → model.begun c before ≡ model.works c []
 begins_own command.Scan devices state owed before may = refl
+begins_own (command.Vend id price) devices state owed before may = refl
 begins_own (command.Ident addr) devices state owed before may = refl
 begins_own (command.Round addr) devices state owed before may = refl
 begins_own (command.Path addr place path) devices state owed before may = refl
@@ -213,16 +212,15 @@ address_there (e ∷ es) addr d is = there_by (e.addr == addr) e d (device_at es
 -- a command at a device
 pub command_taken : (setup : Setup) (d : DeviceSetup) (c : Command) (before : Option Job) (job : Job)
     (state : EpochState) (owed after : Dues) (last : ℕ) (past : List Entry) → last ≡ last_id setup past
-    → c ≢ command.Scan → is_halt c ≡ false → IsTrue (is_played_command c) → after.order ≡ owed.order
+    → is_of_device c ≡ true → is_halt c ≡ false → after.order ≡ owed.order
     → after.id ≡ running_id (model.works c [])
     → device_at setup.devices (address_of c) ≡ Some d → refusal_beside d before state owed last c ≡ None
     → MayBegin c setup.devices state (order_of owed.order) → Stands d job c [] state (order_of owed.order)
     → Keeps (device d) before state owed (lines_of d past)
     → (None ≡ state_refusal setup past c) × Keeps (device d) (Some job) state after (lines_of d (entry.Taken c ∷ past))
-command_taken setup d c before job state owed after last past is_last no_scan no_halt hosted ordered named there free
-    may
+command_taken setup d c before job state owed after last past is_last of_device no_halt ordered named there free may
     stands keeps = (
-      sym free ∙ refusal_is setup d before state owed last past c is_last no_scan no_halt hosted there keeps,
+      sym free ∙ refusal_is setup d before state owed last past c is_last of_device no_halt there keeps,
       taken_keeps (device d) c job state after past (sym (address_there setup.devices (address_of c) d there))
           (begins_own c setup.devices state (order_of owed.order) _ may)
           (subst (λ n. Stands d job c [] n (order (lines_of d past))) keeps.knows.0
@@ -234,13 +232,13 @@ command_taken setup d c before job state owed after last past is_last no_scan no
     )
 
 pub command_refused : (setup : Setup) (d : DeviceSetup) (c : Command) (job : Option Job) (state : EpochState)
-    (owed : Dues) (last : ℕ) (past : List Entry) (why : CommandNo) → last ≡ last_id setup past → c ≢ command.Scan
-    → is_halt c ≡ false → IsTrue (is_played_command c)
+    (owed : Dues) (last : ℕ) (past : List Entry) (why : CommandNo) → last ≡ last_id setup past
+    → is_of_device c ≡ true → is_halt c ≡ false
     → device_at setup.devices (address_of c) ≡ Some d → refusal_beside d job state owed last c ≡ Some why
     → Keeps (device d) job state owed (lines_of d past)
     → (Some why ≡ state_refusal setup past c) × Keeps (device d) job state owed (lines_of d (entry.No c why ∷ past))
-command_refused setup d c job state owed last past why is_last no_scan no_halt hosted there is keeps = (
-  sym is ∙ refusal_is setup d job state owed last past c is_last no_scan no_halt hosted there keeps,
+command_refused setup d c job state owed last past why is_last of_device no_halt there is keeps = (
+  sym is ∙ refusal_is setup d job state owed last past c is_last of_device no_halt there keeps,
   keeps_quiet (device d) job state owed past
       (entry.No c why) (refused_quiet past c why) keeps,
 )
@@ -296,31 +294,59 @@ scan_refused setup c job state owed past why is refused keeps = (
       (refused_quiet past c why) keeps,
 )
 
+-- a sale
+pub sale_refusal_is : (setup : Setup) (id price : ℕ) (job : Option Job) (state : EpochState) (owed : Dues) (last : ℕ)
+    (past : List Entry) → last ≡ last_id setup past → Keeps sales job state owed (sale_lines past)
+    → sale_refusal job id last ≡ state_refusal setup past (command.Vend id price)
+sale_refusal_is setup id price job state owed last past is_last keeps =
+    ap (λ b. option_or b (id_refusal id last)) (busy_is sales job _ _ _ keeps.works)
+    ∙ ap (λ l. option_or (busy (model.job (sale_lines past))) (id_refusal id l)) is_last
+
+pub sale_taken : (setup : Setup) (id price : ℕ) (before : Option Job) (job : Job) (state : EpochState)
+    (owed after : Dues) (last : ℕ) (past : List Entry) → last ≡ last_id setup past → after.order ≡ owed.order
+    → after.id ≡ id → sale_refusal before id last ≡ None → StandsSale job (command.Vend id price) []
+    → Keeps sales before state owed (sale_lines past)
+    → (None ≡ state_refusal setup past (command.Vend id price))
+    × Keeps sales (Some job) state after (sale_lines (entry.Taken (command.Vend id price) ∷ past))
+sale_taken setup id price before job state owed after last past is_last ordered named free stands keeps = (
+  sym free ∙ sale_refusal_is setup id price before state owed last past is_last keeps,
+  taken_keeps sales (command.Vend id price) job state after past refl refl stands (ordered ∙ keeps.knows.0, named),
+)
+
+pub sale_refused : (setup : Setup) (id price : ℕ) (job : Option Job) (state : EpochState) (owed : Dues) (last : ℕ)
+    (past : List Entry) (why : CommandNo) → last ≡ last_id setup past → sale_refusal job id last ≡ Some why
+    → Keeps sales job state owed (sale_lines past)
+    → (Some why ≡ state_refusal setup past (command.Vend id price))
+    × Keeps sales job state owed (sale_lines (entry.No (command.Vend id price) why ∷ past))
+sale_refused setup id price job state owed last past why is_last is keeps = (
+  sym is ∙ sale_refusal_is setup id price job state owed last past is_last keeps,
+  keeps_quiet sales job state owed past (entry.No (command.Vend id price) why) (refused_quiet past _ why) keeps,
+)
+
 -- no device
-pub absent_refused : (setup : Setup) (past : List Entry) (c : Command) → IsTrue (is_played_command c) → c ≢ command.Scan
+pub absent_refused : (setup : Setup) (past : List Entry) (c : Command) → is_of_device c ≡ true
     → device_at setup.devices (address_of c) ≡ None → Some NoDevice ≡ state_refusal setup past c
-absent_refused setup past (command.Start addr mask) hosted no_scan none =
+absent_refused setup past (command.Start addr mask) of_device none =
     sym (ap (λ f. at_acceptor f (when_free past (start_refusal mask))) none)
-absent_refused setup past (command.Round addr) hosted no_scan none =
+absent_refused setup past (command.Round addr) of_device none =
     sym (ap (λ f. at_acceptor f (when_free past running_refusal)) none)
-absent_refused setup past (command.Stop addr) hosted no_scan none =
+absent_refused setup past (command.Stop addr) of_device none =
     sym (ap (λ f. at_acceptor f (when_free past running_refusal)) none)
-absent_refused setup past (command.Path addr place path) hosted no_scan none =
+absent_refused setup past (command.Path addr place path) of_device none =
     sym (ap (λ f. at_acceptor f (λ d. busy (model.job (lines_of d past)))) none)
-absent_refused setup past (command.Pay addr id count) hosted no_scan none =
+absent_refused setup past (command.Pay addr id count) of_device none =
     sym (ap (λ f. at_hopper f (when_unpaid past (pay_refusal id (last_id setup past)))) none)
-absent_refused setup past (command.Settle addr) hosted no_scan none =
+absent_refused setup past (command.Settle addr) of_device none =
     sym (ap (λ f. at_hopper f (when_unpaid past settle_refusal)) none)
-absent_refused setup past (command.Halt addr) hosted no_scan none =
+absent_refused setup past (command.Halt addr) of_device none =
     sym (ap (λ f. at_hopper f (λ d. halt_refusal (model.job (lines_of d past)))) none)
-absent_refused setup past (command.Ident addr) hosted no_scan none =
+absent_refused setup past (command.Ident addr) of_device none =
     sym (ap (λ f. at_device f (λ d. busy (model.job (lines_of d past)))) none)
-absent_refused setup past command.Scan hosted no_scan none = absurd (no_scan refl)
-absent_refused setup past c hosted no_scan none = absurd cc
+absent_refused setup past c of_device none = absurd cc
 
 -- what a refused command leaves, part by part
-pub stays_by : {A B C D : Type 0} (r : Result Unit CommandNo) (P : Type 0) (a : A) (b old_b : B) (c old_c : C) (e : D)
-    → OnErr r P → (P → b ≡ old_b) → (P → c ≡ old_c)
-    → OnErr r ((a ≡ a) × (b ≡ old_b) × (c ≡ old_c) × (e ≡ e))
-stays_by (Ok taken) P a b old_b c old_c e same b_is c_is = same
-stays_by (Err why) P a b old_b c old_c e same b_is c_is = (refl, b_is same, c_is same, refl)
+pub stays_by : {A B C D E : Type 0} (r : Result Unit CommandNo) (P : Type 0) (a : A) (b old_b : B) (c old_c : C)
+    (d old_d : D) (e : E) → OnErr r P → (P → b ≡ old_b) → (P → c ≡ old_c) → (P → d ≡ old_d)
+    → OnErr r ((a ≡ a) × (b ≡ old_b) × (c ≡ old_c) × (d ≡ old_d) × (e ≡ e))
+stays_by (Ok taken) P a b old_b c old_c d old_d e same b_is c_is d_is = same
+stays_by (Err why) P a b old_b c old_c d old_d e same b_is c_is d_is = (refl, b_is same, c_is same, d_is same, refl)

@@ -1,5 +1,5 @@
 -- How many records are held, what is about to be put, and what jobs reserve, by the lines of the places.
-use Rattle.std.proofs.Common.{◌≡◌, ℕ, zero, suc, ◌+◌, ◌*◌, ◌≤◌, ◌<◌, ◌==◌, Bool, true, false, cond, List, [], ◌∷◌, length, get_or, refl, sym, ap, ap₂, subst, ◌∙◌, Option, Some, None, arith}
+use Rattle.std.proofs.Common.{◌≡◌, ℕ, ◌+◌, ◌*◌, ◌≤◌, ◌==◌, Bool, true, false, cond, List, [], ◌∷◌, refl, sym, ap, ap₂, subst, ◌∙◌, Option, Some, None, arith}
 use Rattle.std.specs.Prelude.{is_some, not}
 use Rattle.std.specs.Option.{IfSome}
 use Rattle.cct_model.specs.terms.wire.TheConstants.{HOST}
@@ -9,12 +9,11 @@ use Rattle.cct_model.specs.lines.command.Command.{Command}
 use Rattle.cct_model.specs.lines.command.Command.TheVariants as command
 use Rattle.cct_model.specs.lines.entry.End.{End}
 use Rattle.cct_model.specs.lines.entry.Entry.{Entry}
-use Rattle.cct_model.specs.lines.record.Record.{Record}
 use Rattle.cct_model.specs.declared.judging.EpochState.{EpochState}
 use Rattle.cct_model.specs.declared.judging.OpenOrder.{OpenOrder}
 use Rattle.cct_model.specs.Exchange.{device_at}
 use Rattle.cct_model.specs.Job as model
-use Rattle.cct_model.specs.Job.{done, row}
+use Rattle.cct_model.specs.Job.{done, row, row_of_sale}
 use Rattle.cct_model.specs.Legal.{due_of, due_of_sale, due_there, record_due}
 use Rattle.cct_model.specs.Line.{Line}
 use Rattle.cct_model.specs.Money.{coins_of, freed_by, hopper_value, reserved_at_work, reserved_by, sum_over}
@@ -25,17 +24,22 @@ use Rattle.cct_jobs.specs.declared.job.Job.{Job}
 use Rattle.cct_jobs.specs.declared.job.Job.TheVariants.{Asks}
 use Rattle.cct_jobs.specs.declared.job.Need.{Need}
 use Rattle.cct_jobs.specs.declared.job.Need.TheVariants as need
+use Rattle.cct_jobs.specs.declared.owed.Owed.{Owed}
 use Rattle.cct_jobs.specs.declared.payout.Payout.TheVariants.{Enables, Counts}
 use Rattle.cct_jobs.specs.declared.stage.Stage.{Stage}
 use Rattle.cct_jobs.specs.declared.stage.Stage.TheVariants.{Reads, Looks, Pays}
 use Rattle.cct_jobs.specs.declared.stage.Visit.TheVariants.{Round, Stop}
-use Rattle.cct_jobs.specs.Jobs.{Needs, Stands, closes_order, coins_reserved, end_of_job, is_closing, may_put_of, need_of, newest_end, stage_puts}
+use Rattle.cct_jobs.specs.Jobs.{Needs, Stands, closes_order, coins_reserved, end_of_job, is_closing, may_put_of, need_of, newest_end, order_of, price_reserved, stage_puts}
+use Rattle.cct_jobs.specs.Sales.{NeedsSale, StandsSale, end_of_sale}
 use Rattle.cct_jobs.proofs.Needs.{end_known, may_put_known, need_known}
 use Rattle.cct_jobs.proofs.Reserves.{closes_known, frees_by, reserves_known}
+use Rattle.cct_jobs.proofs.Sales.{price_freed, sale_end_known, sale_may_put, sale_need_known, sale_price}
 use Rattle.cct_host.specs.declared.desk.JobDesk.{JobDesk}
+use Rattle.cct_host.specs.declared.desks.Desks.{Desks}
 use Rattle.cct_host.specs.Desk.{AllSit, Sits, Works, held_at, held_in, reserved_over}
-use Rattle.cct_host.specs.Held.{coins_by, due_by, held_by, order_left, put_in}
-use Rattle.cct_host.specs.Place.{HasNoSale, device}
+use Rattle.cct_host.specs.Desks.{StandsFor, amount_at_desk, due_at_desk, held_of, reserved_of, setup_of}
+use Rattle.cct_host.specs.Held.{coins_by, due_by, held_by, order_left, price_by, put_in}
+use Rattle.cct_host.specs.Place.{device, sales}
 use Rattle.cct_host.specs.Running.{is_running}
 
 -- a job puts two records at the most
@@ -68,6 +72,9 @@ on_of : (d : DeviceSetup) (job : Job) (c : Command) (since : List Line) (state :
 on_of d job c since state owed runs at =
     let is : end_of_job job ≡ newest_end d c since state = end_known d job c since state owed _ refl at in
     sym is ∙ none_by (end_of_job job) runs
+
+plus_none : (n : ℕ) → n + 0 ≡ n
+plus_none n = omega arith
 
 -- what it holds
 
@@ -106,12 +113,30 @@ held_over (d ∷ ds) [] past all = absurd all
 held_over (d ∷ ds) (k ∷ ks) past all =
     ap₂ (λ m n. m + n) (held_desk d k past all.0) (held_over ds ks past all.1)
 
-pub held_is : (setup : Setup) (ks : List JobDesk) (past : List Entry) → AllSit past setup.devices ks → HasNoSale past
-    → held_in ks ≡ held setup past
-held_is setup ks past all none =
-    let sum = held_over setup.devices ks past all in
-    let sale : sale_holds (model.job (sale_lines past)) ≡ 0 = ap sale_holds none in
-    omega arith
+sale_on : (job : Job) (c : Command) (since : List Line) → is_running (Some job) ≡ true → StandsSale job c since
+    → end_of_sale c since ≡ None
+sale_on job c since runs at =
+    let is : end_of_job job ≡ end_of_sale c since = sale_end_known job c since _ refl at in
+    sym is ∙ none_by (end_of_job job) runs
+
+sale_held_works : (job : Option Job) (j : model.Job) (owed : Option Owed) (state : EpochState)
+    (left : Option OpenOrder) → is_running job ≡ true → Works sales job j state left → owed ≡ None
+    → held_by job (order_of owed) ≡ sale_holds j
+sale_held_works None model.free owed state left runs works none = ap (λ o. held_by None (order_of o)) none
+sale_held_works (Some job) (model.works c since) owed state left runs works none =
+    ap (λ o. held_by (Some job) (order_of o)) none ∙ plus_none (may_put_of job)
+    ∙ sale_may_put job c since _ refl works (sale_on job c since runs works)
+sale_held_works None (model.works c since) owed state left runs works none = absurd works
+sale_held_works (Some job) model.free owed state left runs works none = absurd works
+
+sale_held : (k : JobDesk) (past : List Entry) → Sits past sales k
+    → held_at k ≡ sale_holds (model.job (sale_lines past))
+sale_held k past sits = sale_held_works k.job _ k.dues.order _ _ k.runs sits.works sits.knows.0
+
+pub held_is : (desks : Desks) (past : List Entry) → StandsFor desks past → held_of desks ≡ held (setup_of desks) past
+held_is desks past stands =
+    ap₂ (λ m n. m + n) (held_over (setup_of desks).devices desks.devices.items past stands.devices)
+    (sale_held desks.sale past stands.sale)
 
 -- what it is about to put
 
@@ -136,24 +161,29 @@ pub due_is : (setup : Setup) (d : DeviceSetup) (k : JobDesk) (past : List Entry)
 due_is setup d k past addr found is sits =
     due_works d (lines_of d past) k.job _ k.runs sits.works ∙ sym (ap (due_there past addr) is)
 
-bare_due : (host : Bool) (j : model.Job) → j ≡ model.free → None ≡ cond host (due_of_sale j) None
-bare_due true j none = sym (ap due_of_sale none)
-bare_due false j none = refl
+sale_due_needed : (n : Need) (c : Command) (since : List Line) → NeedsSale n c since → end_of_sale c since ≡ None
+    → put_in n ≡ record_due (row_of_sale c since)
+sale_due_needed need.Exchange c since needs on = absurd needs
+sale_due_needed (need.Put entry) c since needs on = sym (ap record_due needs)
+sale_due_needed (need.Done end) c since needs on = absurd cc
 
-pub none_due : (past : List Entry) (addr : ℕ) (found : Option DeviceSetup) → found ≡ None → HasNoSale past
-    → None ≡ due_there past addr found
-none_due past addr found is none =
-    bare_due (addr == HOST) (model.job (sale_lines past)) none ∙ sym (ap (due_there past addr) is)
+sale_due_works : (job : Option Job) (j : model.Job) (state : EpochState) (owed : Option OpenOrder)
+    → is_running job ≡ true → Works sales job j state owed → due_by job ≡ due_of_sale j
+sale_due_works None model.free state owed runs works = refl
+sale_due_works (Some job) (model.works c since) state owed runs works =
+    sale_due_needed (need_of job) c since (sale_need_known job c since _ refl works)
+    (sale_on job c since runs works)
+sale_due_works None (model.works c since) state owed runs works = absurd works
+sale_due_works (Some job) model.free state owed runs works = absurd works
 
--- a list of desks holds what each of them holds
-pub held_there : (ks : List JobDesk) (i : ℕ) (k : JobDesk) → i < length ks → k ≡ get_or ks i k → held_at k ≤ held_in ks
-held_there [] i k within is = absurd (omega arith)
-held_there (m ∷ ms) zero k within is =
-    let same : held_at k ≡ held_at m = ap held_at is in
-    omega arith
-held_there (m ∷ ms) (suc i) k within is =
-    let rest = held_there ms i k (omega arith) is in
-    omega arith
+bare_due : (host : Bool) (k : JobDesk) (past : List Entry) → Sits past sales k
+    → cond host (due_by k.job) None ≡ cond host (due_of_sale (model.job (sale_lines past))) None
+bare_due true k past sits = sale_due_works k.job _ _ _ k.runs sits.works
+bare_due false k past sits = refl
+
+pub bare_due_is : (k : JobDesk) (past : List Entry) (addr : ℕ) (found : Option DeviceSetup) → found ≡ None
+    → Sits past sales k → due_at_desk k addr None ≡ due_there past addr found
+bare_due_is k past addr found is sits = bare_due (addr == HOST) k past sits ∙ sym (ap (due_there past addr) is)
 
 -- what it reserves
 
@@ -177,12 +207,20 @@ reserved_each setup (d ∷ ds) (k ∷ ks) past all =
     ap₂ (λ m n. m + n) (reserved_works setup d (lines_of d past) k.job _ k.runs all.0.works)
     (reserved_each setup ds ks past all.1)
 
-pub reserved_is : (setup : Setup) (ks : List JobDesk) (past : List Entry) → AllSit past setup.devices ks
-    → HasNoSale past → reserved_over setup setup.devices ks ≡ reserved_at_work setup past
-reserved_is setup ks past all none =
-    let sum = reserved_each setup setup.devices ks past all in
-    let sale : reserved_by setup (model.job (sale_lines past)) ≡ 0 = ap (reserved_by setup) none in
-    omega arith
+price_works : (setup : Setup) (job : Option Job) (j : model.Job) (state : EpochState) (owed : Option OpenOrder)
+    → is_running job ≡ true → Works sales job j state owed → price_by job ≡ reserved_by setup j
+price_works setup None model.free state owed runs works = refl
+price_works setup (Some job) (model.works c since) state owed runs works =
+    sale_price setup job c since _ refl works (sale_on job c since runs works)
+price_works setup None (model.works c since) state owed runs works = absurd works
+price_works setup (Some job) model.free state owed runs works = absurd works
+
+pub reserved_is : (desks : Desks) (past : List Entry) → StandsFor desks past
+    → reserved_of desks ≡ reserved_at_work (setup_of desks) past
+reserved_is desks past stands =
+    ap₂ (λ m n. m + n)
+    (reserved_each (setup_of desks) (setup_of desks).devices desks.devices.items past stands.devices)
+    (price_works (setup_of desks) desks.sale.job _ _ _ desks.sale.runs stands.sale.works)
 
 -- the record that is due frees just that
 
@@ -201,15 +239,37 @@ frees_works setup d (Some job) (model.works c since) state owed works =
     frees_need (need_of job) setup d job c since state owed refl works
 frees_works setup d (Some job) model.free state owed works = absurd works
 
-pub frees_is : (setup : Setup) (d : DeviceSetup) (k : JobDesk) (past : List Entry) (addr n : ℕ) (due : Option Record)
-    → due ≡ due_by k.job → d.addr ≡ addr → n ≡ coins_by k.job → Sits past (device d) k
-    → IfSome due (λ r. coins_of setup addr n ≡ freed_by setup r)
-frees_is setup d k past addr n due is here coins sits =
-    subst (λ x. IfSome x (λ r. coins_of setup addr n ≡ freed_by setup r)) (sym is)
-    (subst (λ a. IfSome (due_by k.job) (λ r. coins_of setup a n ≡ freed_by setup r)) here
-    (subst (λ m. IfSome (due_by k.job) (λ r. coins_of setup d.addr m ≡ freed_by setup r)) (sym coins)
+pub frees_is : (setup : Setup) (d : DeviceSetup) (k sale : JobDesk) (past : List Entry) (addr amount : ℕ)
+    (found : Option JobDesk) → found ≡ Some k → d.addr ≡ addr → amount ≡ coins_of setup addr (coins_by k.job)
+    → Sits past (device d) k → IfSome (due_at_desk sale addr found) (λ r. amount ≡ freed_by setup r)
+frees_is setup d k sale past addr amount found is here amount_is sits =
+    subst (λ x. IfSome (due_at_desk sale addr x) (λ r. amount ≡ freed_by setup r)) (sym is)
+    (subst (λ n. IfSome (due_by k.job) (λ r. n ≡ freed_by setup r)) (sym amount_is)
+    (subst (λ a. IfSome (due_by k.job) (λ r. coins_of setup a (coins_by k.job) ≡ freed_by setup r)) here
     (frees_works setup d k.job _ _ _ sits.works)))
 
-pub none_frees : (due : Option Record) (P : Record → Type 0) → due ≡ None → IfSome due P
-none_frees None P is = tt
-none_frees (Some r) P is = absurd cc
+sale_frees_need : (n : Need) (setup : Setup) (job : Job) (c : Command) (since : List Line) → need_of job ≡ n
+    → StandsSale job c since → IfSome (put_in n) (λ r. price_reserved job ≡ freed_by setup r)
+sale_frees_need need.Exchange setup job c since is at = tt
+sale_frees_need (need.Put r) setup job c since is at = price_freed setup job c since r is at
+sale_frees_need (need.Done end) setup job c since is at = tt
+
+sale_frees_works : (setup : Setup) (job : Option Job) (j : model.Job) (state : EpochState) (owed : Option OpenOrder)
+    → Works sales job j state owed → IfSome (due_by job) (λ r. price_by job ≡ freed_by setup r)
+sale_frees_works setup None j state owed works = tt
+sale_frees_works setup (Some job) (model.works c since) state owed works =
+    sale_frees_need (need_of job) setup job c since refl works
+sale_frees_works setup (Some job) model.free state owed works = absurd works
+
+bare_frees : (host : Bool) (setup : Setup) (k : JobDesk) (past : List Entry) → Sits past sales k
+    → IfSome (cond host (due_by k.job) None) (λ r. cond host (price_by k.job) 0 ≡ freed_by setup r)
+bare_frees true setup k past sits = sale_frees_works setup k.job _ _ _ sits.works
+bare_frees false setup k past sits = tt
+
+pub bare_frees_is : (setup : Setup) (sale : JobDesk) (past : List Entry) (addr amount : ℕ) (found : Option JobDesk)
+    → found ≡ None → amount ≡ amount_at_desk setup sale addr None → Sits past sales sale
+    → IfSome (due_at_desk sale addr found) (λ r. amount ≡ freed_by setup r)
+bare_frees_is setup sale past addr amount found is amount_is sits =
+    subst (λ x. IfSome (due_at_desk sale addr x) (λ r. amount ≡ freed_by setup r)) (sym is)
+    (subst (λ n. IfSome (due_at_desk sale addr None) (λ r. n ≡ freed_by setup r)) (sym amount_is)
+    (bare_frees (addr == HOST) setup sale past sits))

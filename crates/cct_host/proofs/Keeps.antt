@@ -16,12 +16,13 @@ use Rattle.cct_model.specs.Legal.{with_end}
 use Rattle.cct_model.specs.Job.{address_of}
 use Rattle.cct_model.specs.Order.{order, order_by}
 use Rattle.cct_model.specs.Refusal.{running_id}
-use Rattle.cct_model.specs.Transcript.{lines_of, owner}
+use Rattle.cct_model.specs.Transcript.{lines_of, owner, sale_lines, sold_line}
 use Rattle.cct_jobs.specs.declared.job.Job.{Job}
 use Rattle.cct_host.specs.declared.dues.Dues.{Dues}
 use Rattle.cct_jobs.specs.Jobs.{Stands, order_of}
+use Rattle.cct_jobs.specs.Sales.{StandsSale}
 use Rattle.cct_host.specs.Desk.{Keeps, Knows, Works}
-use Rattle.cct_host.specs.Place.{IsAsBefore, Place, StandsAt, addr_of, device, line_at, lines_at, scans}
+use Rattle.cct_host.specs.Place.{IsAsBefore, Place, StandsAt, addr_of, device, line_at, lines_at, sales, scans}
 use Rattle.cct_host.specs.Running.{Settles, dues_left, is_halt}
 use Rattle.cct_host.proofs.Lines.{IsQuiet, job_asked, own_ended, own_put, own_taken}
 
@@ -39,17 +40,20 @@ pub knows_same : (place : Place) (state : EpochState) (owed : Dues) (old new : L
 knows_same (device d) state owed old new jobs same ordered knows =
     (knows.0 ∙ sym same, knows.1 ∙ sym ordered, knows.2 ∙ sym (ap running_id jobs))
 knows_same scans state owed old new jobs same ordered knows = tt
+knows_same sales state owed old new jobs same ordered knows = (knows.0, knows.1 ∙ sym (ap running_id jobs))
 
 -- what is known where a job goes on, and where it ended
 knows_kept : (place : Place) (state : EpochState) (owed : Dues) (job : Job) (lines : List Line)
     → Knows place state owed lines → Knows place state (dues_left (Some job) owed) lines
 knows_kept (device d) state owed job lines knows = (knows.0, knows.1, knows.2)
 knows_kept scans state owed job lines knows = tt
+knows_kept sales state owed job lines knows = (knows.0, knows.1)
 
 knows_ended : (place : Place) (state : EpochState) (owed : Dues) (end : End) (lines : List Line)
     → Knows place state owed lines → Knows place state (dues_left None owed) (line.ended end ∷ lines)
 knows_ended (device d) state owed end lines knows = (knows.0, knows.1, refl)
 knows_ended scans state owed end lines knows = tt
+knows_ended sales state owed end lines knows = (knows.0, refl)
 
 -- a job that stands beside an epoch and an open order stands beside the same
 pub works_same : (place : Place) (job : Option Job) (old new : model.Job) (state after : EpochState)
@@ -92,6 +96,11 @@ asked_keeps scans c since state owed sent heard new lines stands was knows = rec
       (sym (job_asked scans sent heard lines ∙ ap (model.with_line (line_at scans sent heard)) was)) stands;
   knows = tt;
 }
+asked_keeps sales c since state owed sent heard new lines stands was knows = record {
+  works = subst (λ j. Works sales (Some new) (model.with_line (line_at sales sent heard) j)
+      (model.epoch lines) (order lines)) (sym was) stands;
+  knows = (knows.0, knows.1 ∙ sym (running_line (line_at sales sent heard) (model.job lines)));
+}
 
 -- after a put, which moved the epoch and the open order
 pub put_keeps : (d : DeviceSetup) (c : Command) (since : List Line) (r : Record) (past : List Entry)
@@ -107,6 +116,19 @@ put_keeps d c since r past state owed new own stands was moved ordered same =
           (model.epoch_by r (model.epoch (lines_of d past))) (order_by r (order (lines_of d past)))) (sym was)
           (stands _);
       knows = (moved, ordered, same ∙ sym (running_line (line.put r) (model.job (lines_of d past))));
+    })
+
+-- after the put of a sale
+pub sold_keeps : (c : Command) (since : List Line) (r : Record) (past : List Entry) (state : EpochState) (owed : Dues)
+    (new : Job) → sold_line r ≡ line.put r ∷ [] → StandsSale new c (line.put r ∷ since)
+    → model.job (sale_lines past) ≡ model.works c since → owed.order ≡ None
+    → owed.id ≡ running_id (model.job (sale_lines past))
+    → Keeps sales (Some new) state owed (sale_lines (entry.Put r ∷ past))
+sold_keeps c since r past state owed new sold stands was none same =
+    subst (Keeps sales (Some new) state owed) (sym (ap (λ ls. ls ++ sale_lines past) sold)) (record {
+      works = subst (λ j. Works sales (Some new) (model.with_line (line.put r) j)
+          (model.epoch (line.put r ∷ sale_lines past)) (order (line.put r ∷ sale_lines past))) (sym was) stands;
+      knows = (none, same ∙ sym (running_line (line.put r) (model.job (sale_lines past))));
     })
 
 -- after a command that was taken

@@ -6,11 +6,15 @@ pub mod Holding
 pub mod Hosts
 pub mod Keeps
 pub mod Lines
+pub mod Losses
 pub mod Money
 pub mod Owned
 pub mod Places
 pub mod Putting
 pub mod Quiet
+pub mod Recalling
+pub mod Records
 pub mod Standing
+pub mod Starting
 pub mod Talks
 pub mod Turning

@@ -27,7 +27,7 @@ use Rattle.cct_model.specs.Exchange.{asks_of}
 use Rattle.cct_model.proofs.Doses.{epoch_undosed, job_undosed, order_undosed}
 use Rattle.cct_host.specs.Attempt.{Attempt, news_of, used_by}
 use Rattle.cct_host.specs.Attempt as attempt
-use Rattle.cct_host.specs.Place.{AreAt, HasNoSale, IsAsBefore, Place, addr_of, device, line_at, lines_at, scans}
+use Rattle.cct_host.specs.Place.{AreAt, IsAsBefore, Place, addr_of, device, line_at, lines_at, sales, scans}
 
 -- what stands at an address, where that is a place's
 abbrev pub only : ℕ → Place → Line → List Line
@@ -49,6 +49,7 @@ here addr place x lines is = ap (λ b. cond b (x ∷ []) [] ++ lines) (eq-eqb ad
 abbrev pub dosed_at : Place → List Entry → List ℕ → List Line
 dosed_at (device d) past sent = doses_of d past sent
 dosed_at scans past sent = []
+dosed_at sales past sent = []
 
 -- it changes no job, no epoch and no open order
 pub job_dosed : (place : Place) (past : List Entry) (sent : List ℕ)
@@ -56,42 +57,54 @@ pub job_dosed : (place : Place) (past : List Entry) (sent : List ℕ)
 job_dosed (device d) past sent =
     job_undosed d.body d.serial (met d past) (asks_of d (heard_by_devices (pending past) sent)) (lines_of d past)
 job_dosed scans past sent = refl
+job_dosed sales past sent = refl
 
 pub epoch_dosed : (place : Place) (past : List Entry) (sent : List ℕ)
     → model.epoch (dosed_at place past sent ++ lines_at place past) ≡ model.epoch (lines_at place past)
 epoch_dosed (device d) past sent =
     epoch_undosed d.body d.serial (met d past) (asks_of d (heard_by_devices (pending past) sent)) (lines_of d past)
 epoch_dosed scans past sent = refl
+epoch_dosed sales past sent = refl
 
 pub order_dosed : (place : Place) (past : List Entry) (sent : List ℕ)
     → order (dosed_at place past sent ++ lines_at place past) ≡ order (lines_at place past)
 order_dosed (device d) past sent =
     order_undosed d.body d.serial (met d past) (asks_of d (heard_by_devices (pending past) sent)) (lines_of d past)
 order_dosed scans past sent = refl
+order_dosed sales past sent = refl
+
+-- a place whose jobs make exchanges: a sale makes none
+abbrev pub HasExchanges : Place → Type 0
+HasExchanges sales = ⊥
+HasExchanges place = ⊤
 
 -- the lines of an exchange, an end and a command
-wire_line : (place : Place) (addr : ℕ) (sent heard : List ℕ) (past : List Entry) →
+wire_line : (place : Place) (addr : ℕ) (sent heard : List ℕ) (past : List Entry) → HasExchanges place →
     lines_at place (entry.Wire addr sent heard ∷ past) ≡ only addr place (line_at place sent heard)
     ++ (dosed_at place past sent ++ lines_at place past)
-wire_line (device d) addr sent heard past = append_assoc (only addr (device d) (line_at (device d) sent heard)) _ _
-wire_line scans addr sent heard past = refl
+wire_line (device d) addr sent heard past has =
+    append_assoc (only addr (device d) (line_at (device d) sent heard)) _ _
+wire_line scans addr sent heard past has = refl
+wire_line sales addr sent heard past has = absurd has
 
 ended_line : (place : Place) (addr : ℕ) (end : End) (past : List Entry)
     → lines_at place (entry.Ended addr end ∷ past) ≡ only addr place (line.ended end) ++ lines_at place past
 ended_line (device d) addr end past = refl
 ended_line scans addr end past = refl
+ended_line sales addr end past = refl
 
 taken_line : (place : Place) (c : Command) (past : List Entry)
     → lines_at place (entry.Taken c ∷ past) ≡ only (address_of c) place (line.taken c) ++ lines_at place past
 taken_line (device d) c past = refl
 taken_line scans c past = refl
+taken_line sales c past = refl
 
 -- at their own place
-pub own_wire : (place : Place) (sent heard : List ℕ) (past : List Entry)
+pub own_wire : (place : Place) (sent heard : List ℕ) (past : List Entry) → HasExchanges place
     → lines_at place (entry.Wire (addr_of place) sent heard ∷ past) ≡ line_at place sent heard
     ∷ dosed_at place past sent ++ lines_at place past
-own_wire place sent heard past =
-    wire_line place (addr_of place) sent heard past
+own_wire place sent heard past has =
+    wire_line place (addr_of place) sent heard past has
     ∙ here (addr_of place) place _ (dosed_at place past sent ++ lines_at place past) refl
 
 pub own_ended : (place : Place) (end : End) (past : List Entry)
@@ -111,6 +124,7 @@ pub idle_line : (addr : ℕ) (place : Place) (past : List Entry)
     → lines_at place (entry.Idle addr ∷ past) ≡ lines_at place past
 idle_line addr (device d) past = refl
 idle_line addr scans past = refl
+idle_line addr sales past = refl
 
 -- entries that are no line there change nothing there
 same_lines : (place : Place) (past news : List Entry) → lines_at place (news ++ past) ≡ lines_at place past
@@ -121,20 +135,32 @@ same_lines place past news same = (ap model.job same, ap model.epoch same, ap or
 pub idle_at : (addr : ℕ) (past : List Entry) → AreAt addr past (entry.Idle addr ∷ [])
 idle_at addr past place other = same_lines place past (entry.Idle addr ∷ []) (idle_line addr place past)
 
-pub wire_at : (addr : ℕ) (past : List Entry) (sent heard : List ℕ) → AreAt addr past (entry.Wire addr sent heard ∷ [])
-wire_at addr past sent heard place other =
-    let only_dosed = wire_line place addr sent heard past
+wire_apart : (place : Place) (addr : ℕ) (past : List Entry) (sent heard : List ℕ) → HasExchanges place
+    → addr_of place ≢ addr → IsAsBefore place past (entry.Wire addr sent heard ∷ [])
+wire_apart place addr past sent heard has other =
+    let only_dosed = wire_line place addr sent heard past has
     ∙ elsewhere addr place _ (dosed_at place past sent ++ lines_at place past) other in (
       ap model.job only_dosed ∙ job_dosed place past sent,
       ap model.epoch only_dosed ∙ epoch_dosed place past sent,
       ap order only_dosed ∙ order_dosed place past sent,
     )
 
+pub wire_at : (addr : ℕ) (past : List Entry) (sent heard : List ℕ) → AreAt addr past (entry.Wire addr sent heard ∷ [])
+wire_at addr past sent heard (device d) other = wire_apart (device d) addr past sent heard tt other
+wire_at addr past sent heard scans other = wire_apart scans addr past sent heard tt other
+wire_at addr past sent heard sales other = (refl, refl, refl)
+
+sold_elsewhere : (past : List Entry) (r : Record) (addr : ℕ) → owner past r ≡ addr → HOST ≢ addr → sold_line r ≡ []
+sold_elsewhere past (record_of.Sold id price) addr is other = absurd (other is)
+sold_elsewhere past r addr is other = refl
+
 pub put_at : (addr : ℕ) (past : List Entry) (r : Record) → owner past r ≡ addr → AreAt addr past (entry.Put r ∷ [])
 put_at addr past r is (device d) other =
     same_lines (device d) past (entry.Put r ∷ [])
     (elsewhere (owner past r) (device d) (line.put r) (lines_of d past) (λ at. other (at ∙ is)))
 put_at addr past r is scans other = (refl, refl, refl)
+put_at addr past r is sales other =
+    same_lines sales past (entry.Put r ∷ []) (ap (λ ls. ls ++ sale_lines past) (sold_elsewhere past r addr is other))
 
 pub taken_at : (c : Command) (past : List Entry) → AreAt (address_of c) past (entry.Taken c ∷ [])
 taken_at c past place other =
@@ -169,57 +195,10 @@ pub job_asked : (place : Place) (sent heard : List ℕ) (lines : List Line)
     → model.job (line_at place sent heard ∷ lines) ≡ model.with_line (line_at place sent heard) (model.job lines)
 job_asked (device d) sent heard lines = refl
 job_asked scans sent heard lines = job_scanned sent heard lines
-
--- an entry begins no sale
-abbrev pub BeginsNoSale : Entry → Type 0
-BeginsNoSale (entry.Taken c) = address_of c ≢ HOST
-BeginsNoSale e = ⊤
-
-unsold_put : (r : Record) (past : List Entry) → HasNoSale past → model.job (sold_line r ++ sale_lines past) ≡ model.free
-unsold_put (record_of.Sold id price) past none = ap (model.with_line (line.put (record_of.Sold id price))) none
-unsold_put r past none = none
-
-unsold_end : (same : Bool) (end : End) (past : List Entry) → HasNoSale past
-    → model.job (cond same (line.ended end ∷ []) [] ++ sale_lines past) ≡ model.free
-unsold_end true end past none = refl
-unsold_end false end past none = none
-
-unsold_taken : (c : Command) (past : List Entry) → address_of c ≢ HOST → HasNoSale past
-    → HasNoSale (entry.Taken c ∷ past)
-unsold_taken c past other none =
-    ap (λ b. model.job (cond b (line.taken c ∷ []) [] ++ sale_lines past))
-    (other_test (address_of c) HOST (λ same. other (sym same))) ∙ none
-
-pub unsold : (past : List Entry) (e : Entry) → BeginsNoSale e → HasNoSale past → HasNoSale (e ∷ past)
-unsold past (entry.Taken c) other none = unsold_taken c past other none
-unsold past (entry.Put r) other none = unsold_put r past none
-unsold past (entry.Kept r) other none = unsold_put r past none
-unsold past (entry.Ended addr end) other none = unsold_end (addr == HOST) end past none
-unsold past (entry.Crash records) other none = refl
-unsold past e other none = none
-
-unsold_with_end : (past : List Entry) (addr : ℕ) (e : Entry) (end : Option End) → BeginsNoSale e → HasNoSale past
-    → HasNoSale (with_end addr e end ++ past)
-unsold_with_end past addr e None begins none = unsold past e begins none
-unsold_with_end past addr e (Some end) begins none =
-    unsold (e ∷ past) (entry.Ended addr end) tt (unsold past e begins none)
-
--- no attempt begins one, and no command of a device or of a scan
-pub attempt_unsold : (past : List Entry) (addr : ℕ) (what : Attempt) → HasNoSale past
-    → HasNoSale (news_of addr what ++ past)
-attempt_unsold past addr attempt.idle none = none
-attempt_unsold past addr (attempt.asked sent heard end) none =
-    unsold_with_end past addr (entry.Wire addr sent heard) end tt none
-attempt_unsold past addr (attempt.put r end) none = unsold_with_end past addr (entry.Put r) end tt none
-
-pub command_unsold : (past : List Entry) (c : Command) (refused : Option CommandNo) → address_of c ≢ HOST
-    → HasNoSale past → HasNoSale (command_entry c refused ∷ past)
-command_unsold past c None other none = unsold_taken c past other none
-command_unsold past c (Some why) other none = none
+job_asked sales sent heard lines = refl
 
 -- an entry that changes no job, no epoch and no open order, wherever they are
 pub record IsQuiet (past : List Entry) (e : Entry) : Type 0 where
-  pub sales : BeginsNoSale e
   pub jobs : (place : Place) → model.job (lines_at place (e ∷ past)) ≡ model.job (lines_at place past)
   pub epochs : (place : Place) → model.epoch (lines_at place (e ∷ past)) ≡ model.epoch (lines_at place past)
   pub orders : (place : Place) → order (lines_at place (e ∷ past)) ≡ order (lines_at place past)
@@ -246,63 +225,65 @@ order_passes : (same : Bool) (x : Line) (lines : List Line) → Passes x
 order_passes true x lines passes = (passes lines).2
 order_passes false x lines passes = refl
 
--- an entry that is such a line at each device of an address, and none of a scan
+-- an entry that is such a line at each device of an address, and none of a scan or a sale
 abbrev IsOnly : ℕ → Line → List Entry → Entry → Type 0
 IsOnly addr x past e = ((d : DeviceSetup) → lines_of d (e ∷ past) ≡ only addr (device d) x ++ lines_of d past)
-    × (scan_lines (e ∷ past) ≡ scan_lines past) × (records (e ∷ past) ≡ records past)
+    × (scan_lines (e ∷ past) ≡ scan_lines past) × (sale_lines (e ∷ past) ≡ sale_lines past)
+    × (records (e ∷ past) ≡ records past)
 
 job_quiet : (x : Line) (addr : ℕ) (past : List Entry) (e : Entry) → Passes x → IsOnly addr x past e → (place : Place)
     → model.job (lines_at place (e ∷ past)) ≡ model.job (lines_at place past)
 job_quiet x addr past e passes is (device d) =
     ap model.job (is.0 d) ∙ job_passes (addr == d.addr) x (lines_of d past) passes
 job_quiet x addr past e passes is scans = ap model.job is.1
+job_quiet x addr past e passes is sales = ap model.job is.2
 
 epoch_quiet : (x : Line) (addr : ℕ) (past : List Entry) (e : Entry) → Passes x → IsOnly addr x past e
     → (place : Place) → model.epoch (lines_at place (e ∷ past)) ≡ model.epoch (lines_at place past)
 epoch_quiet x addr past e passes is (device d) =
     ap model.epoch (is.0 d) ∙ epoch_passes (addr == d.addr) x (lines_of d past) passes
 epoch_quiet x addr past e passes is scans = ap model.epoch is.1
+epoch_quiet x addr past e passes is sales = ap model.epoch is.2
 
 order_quiet : (x : Line) (addr : ℕ) (past : List Entry) (e : Entry) → Passes x → IsOnly addr x past e
     → (place : Place) → order (lines_at place (e ∷ past)) ≡ order (lines_at place past)
 order_quiet x addr past e passes is (device d) =
     ap order (is.0 d) ∙ order_passes (addr == d.addr) x (lines_of d past) passes
 order_quiet x addr past e passes is scans = ap order is.1
+order_quiet x addr past e passes is sales = ap order is.2
 
-quiet : (x : Line) (addr : ℕ) (past : List Entry) (e : Entry) → BeginsNoSale e → Passes x → IsOnly addr x past e
-    → IsQuiet past e
-quiet x addr past e sales passes is = record {
-  sales = sales;
+quiet : (x : Line) (addr : ℕ) (past : List Entry) (e : Entry) → Passes x → IsOnly addr x past e → IsQuiet past e
+quiet x addr past e passes is = record {
   jobs = job_quiet x addr past e passes is;
   epochs = epoch_quiet x addr past e passes is;
   orders = order_quiet x addr past e passes is;
-  records_are = is.2;
+  records_are = is.3;
 }
 
 pub accepted_quiet : (past : List Entry) (addr : ℕ) (c : Coin) → IsQuiet past (entry.Accepted addr c)
-accepted_quiet past addr c = quiet (line.accepted c) addr past _ tt (λ ls. (refl, refl, refl)) ((λ d. refl), refl, refl)
+accepted_quiet past addr c = quiet (line.accepted c) addr past _ (λ ls. (refl, refl, refl)) ((λ d. refl), refl, refl, refl)
 
 pub inhibited_quiet : (past : List Entry) (addr place : ℕ) → IsQuiet past (entry.Inhibited addr place)
-inhibited_quiet past addr place = quiet (line.inhibited place) addr past _ tt (λ ls. (refl, refl, refl)) (
+inhibited_quiet past addr place = quiet (line.inhibited place) addr past _ (λ ls. (refl, refl, refl)) (
   (λ d. refl),
+  refl,
   refl,
   refl,
 )
 
 pub alien_quiet : (past : List Entry) (addr : ℕ) → IsQuiet past (entry.Alien addr)
-alien_quiet past addr = quiet line.alien addr past _ tt (λ ls. (refl, refl, refl)) ((λ d. refl), refl, refl)
+alien_quiet past addr = quiet line.alien addr past _ (λ ls. (refl, refl, refl)) ((λ d. refl), refl, refl, refl)
 
 pub reset_quiet : (past : List Entry) (addr : ℕ) → IsQuiet past (entry.Reset addr)
-reset_quiet past addr = quiet line.reset addr past _ tt (λ ls. (refl, refl, refl)) ((λ d. refl), refl, refl)
+reset_quiet past addr = quiet line.reset addr past _ (λ ls. (refl, refl, refl)) ((λ d. refl), refl, refl, refl)
 
 pub fell_quiet : (past : List Entry) (addr : ℕ) → IsQuiet past (entry.Fell addr)
-fell_quiet past addr = quiet line.fell addr past _ tt (λ ls. (refl, refl, refl)) ((λ d. refl), refl, refl)
+fell_quiet past addr = quiet line.fell addr past _ (λ ls. (refl, refl, refl)) ((λ d. refl), refl, refl, refl)
 
 -- an entry that is no line
-no_line : (past : List Entry) (e : Entry) → BeginsNoSale e → records (e ∷ past) ≡ records past
+no_line : (past : List Entry) (e : Entry) → records (e ∷ past) ≡ records past
     → ((place : Place) → lines_at place (e ∷ past) ≡ lines_at place past) → IsQuiet past e
-no_line past e sales put same = record {
-  sales = sales;
+no_line past e put same = record {
   jobs = λ place. ap model.job (same place);
   epochs = λ place. ap model.epoch (same place);
   orders = λ place. ap order (same place);
@@ -313,45 +294,50 @@ fault_line : (f : WireFault) (place : Place) (past : List Entry)
     → lines_at place (entry.Fault f ∷ past) ≡ lines_at place past
 fault_line f (device d) past = refl
 fault_line f scans past = refl
+fault_line f sales past = refl
 
 refused_line : (c : Command) (why : CommandNo) (place : Place) (past : List Entry)
     → lines_at place (entry.No c why ∷ past) ≡ lines_at place past
 refused_line c why (device d) past = refl
 refused_line c why scans past = refl
+refused_line c why sales past = refl
 
 pub idle_quiet : (past : List Entry) (addr : ℕ) → IsQuiet past (entry.Idle addr)
-idle_quiet past addr = no_line past _ tt refl (λ place. idle_line addr place past)
+idle_quiet past addr = no_line past _ refl (λ place. idle_line addr place past)
 
 pub fault_quiet : (past : List Entry) (f : WireFault) → IsQuiet past (entry.Fault f)
-fault_quiet past f = no_line past _ tt refl (λ place. fault_line f place past)
+fault_quiet past f = no_line past _ refl (λ place. fault_line f place past)
 
 pub refused_quiet : (past : List Entry) (c : Command) (why : CommandNo) → IsQuiet past (entry.No c why)
-refused_quiet past c why = no_line past _ tt refl (λ place. refused_line c why place past)
+refused_quiet past c why = no_line past _ refl (λ place. refused_line c why place past)
 
 no_fall_line : (addr : ℕ) (place : Place) (past : List Entry)
     → lines_at place (entry.NoFall addr ∷ past) ≡ lines_at place past
 no_fall_line addr (device d) past = refl
 no_fall_line addr scans past = refl
+no_fall_line addr sales past = refl
 
 jammed_line : (addr : ℕ) (place : Place) (past : List Entry)
     → lines_at place (entry.Jammed addr ∷ past) ≡ lines_at place past
 jammed_line addr (device d) past = refl
 jammed_line addr scans past = refl
+jammed_line addr sales past = refl
 
 no_jam_line : (addr : ℕ) (place : Place) (past : List Entry)
     → lines_at place (entry.NoJam addr ∷ past) ≡ lines_at place past
 no_jam_line addr (device d) past = refl
 no_jam_line addr scans past = refl
+no_jam_line addr sales past = refl
 
 pub fall_quiet : (none : Bool) (past : List Entry) (addr : ℕ)
     → IsQuiet past (cond none (entry.NoFall addr) (entry.Fell addr))
-fall_quiet true past addr = no_line past _ tt refl (λ place. no_fall_line addr place past)
+fall_quiet true past addr = no_line past _ refl (λ place. no_fall_line addr place past)
 fall_quiet false past addr = fell_quiet past addr
 
 pub jam_quiet : (none : Bool) (past : List Entry) (addr : ℕ)
     → IsQuiet past (cond none (entry.NoJam addr) (entry.Jammed addr))
-jam_quiet true past addr = no_line past _ tt refl (λ place. no_jam_line addr place past)
-jam_quiet false past addr = no_line past _ tt refl (λ place. jammed_line addr place past)
+jam_quiet true past addr = no_line past _ refl (λ place. no_jam_line addr place past)
+jam_quiet false past addr = no_line past _ refl (λ place. jammed_line addr place past)
 
 -- the answer to a command, at the command's address
 pub command_at : (past : List Entry) (c : Command) (refused : Option CommandNo)

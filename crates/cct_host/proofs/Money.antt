@@ -8,7 +8,7 @@ use Rattle.cct_model.specs.lines.entry.Entry.{Entry}
 use Rattle.cct_model.specs.lines.entry.Totals.{Totals}
 use Rattle.cct_model.specs.lines.record.Record.{Record}
 use Rattle.cct_model.specs.Following.{is_allowed}
-use Rattle.cct_model.specs.Money.{available, available_beside, coins_of, freed_by, reserved_at_work, totals}
+use Rattle.cct_model.specs.Money.{available, available_beside, freed_by, reserved_at_work, totals}
 use Rattle.cct_model.specs.Records.{records}
 use Rattle.cct_model.specs.Refusal as refusals
 use Rattle.cct_ledger.specs.Told.{totals_beside}
@@ -16,26 +16,20 @@ use Rattle.cct_host.specs.declared.desks.Desks.{Desks}
 use Rattle.cct_host.specs.Desks.{StandsFor, reserved_of, setup_of}
 use Rattle.cct_host.proofs.Held.{reserved_is}
 
--- what the desks reserve is what all running jobs reserve
-reserved_known : (desks : Desks) (past : List Entry) → StandsFor desks past
-    → reserved_of desks ≡ reserved_at_work (setup_of desks) past
-reserved_known desks past stands =
-    reserved_is (setup_of desks) desks.devices.items past stands.devices stands.unsold
-
 -- what the operator has
 available_is : (desks : Desks) (posts : Setup) (past : List Entry) (have : ℕ) → posts ≡ setup_of desks
     → StandsFor desks past → have ≡ available_beside posts (records past) (reserved_of desks)
     → have ≡ available (setup_of desks) past
 available_is desks posts past have same stands is =
     is ∙ ap (λ s. available_beside s (records past) (reserved_of desks)) same
-    ∙ ap (available_beside (setup_of desks) (records past)) (reserved_known desks past stands)
+    ∙ ap (available_beside (setup_of desks) (records past)) (reserved_is desks past stands)
 
 pub totals_is : (desks : Desks) (posts : Setup) (past : List Entry) (told : Totals) → posts ≡ setup_of desks
     → StandsFor desks past → told ≡ totals_beside posts (records past) (reserved_of desks)
     → told ≡ totals (setup_of desks) past
 totals_is desks posts past told same stands is =
     is ∙ ap (λ s. totals_beside s (records past) (reserved_of desks)) same
-    ∙ ap (totals_beside (setup_of desks) (records past)) (reserved_known desks past stands)
+    ∙ ap (totals_beside (setup_of desks) (records past)) (reserved_is desks past stands)
 
 -- whether so much is available
 less_no : (a b : ℕ) → b < a → nat_le a b ≡ false
@@ -63,16 +57,14 @@ left_of : (before after freed worked taken : ℕ) → after + freed ≡ before �
     → after ≡ worked - taken
 left_of before after freed worked taken frees was is = omega arith
 
-pub freed_is : (desks : Desks) (past : List Entry) (addr old new after : ℕ) (due : Option Record) → StandsFor desks past
-    → after + coins_of (setup_of desks) addr (old - new) ≡ reserved_of desks → IfSome due (λ r. new ≡ 0)
-    → IfSome due (λ r. coins_of (setup_of desks) addr old ≡ freed_by (setup_of desks) r)
+pub freed_is : (desks : Desks) (past : List Entry) (old new after : ℕ) (due : Option Record) → StandsFor desks past
+    → after + (old - new) ≡ reserved_of desks → IfSome due (λ r. new ≡ 0)
+    → IfSome due (λ r. old ≡ freed_by (setup_of desks) r)
     → IfSome due (λ r. after ≡ reserved_at_work (setup_of desks) past - freed_by (setup_of desks) r)
-freed_is desks past addr old new after None stands frees clears takes = tt
-freed_is desks past addr old new after (Some r) stands frees clears takes =
-    let whole : coins_of (setup_of desks) addr (old - new) ≡ coins_of (setup_of desks) addr old =
-    ap (coins_of (setup_of desks) addr) (omega (arith, clears)) in
-    left_of (reserved_of desks) after (coins_of (setup_of desks) addr (old - new)) _ _ frees
-    (reserved_known desks past stands) (whole ∙ takes)
+freed_is desks past old new after None stands frees clears takes = tt
+freed_is desks past old new after (Some r) stands frees clears takes =
+    left_of (reserved_of desks) after (old - new) _ _ frees (reserved_is desks past stands)
+    (omega (arith, clears, takes))
 
 -- so the ledger takes that record
 allowed_beside : (posts setup : Setup) (before : List Record) (r : Record) (left beside : ℕ) → posts ≡ setup

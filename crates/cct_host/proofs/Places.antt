@@ -14,22 +14,21 @@ use Rattle.cct_model.specs.terms.wire.TheConstants.{BROADCAST, HOST}
 use Rattle.cct_model.specs.terms.device.DeviceSetup.{DeviceSetup}
 use Rattle.cct_model.specs.terms.device.Setup.{Setup}
 use Rattle.cct_model.specs.lines.entry.Entry.{Entry}
-use Rattle.cct_model.specs.declared.judging.EpochState.TheVariants.{Idle}
 use Rattle.cct_model.specs.Device.{IsSound}
 use Rattle.cct_model.specs.Exchange.{device_at}
 use Rattle.cct_model.specs.Job as model
 use Rattle.cct_model.specs.Legal.{due_of, due_there}
 use Rattle.cct_model.specs.Setup.{AreDistinct, IsSoundSetup}
-use Rattle.cct_jobs.specs.Jobs.{ClosesItsOwn, order_of}
+use Rattle.cct_jobs.specs.Jobs.{ClosesItsOwn}
 use Rattle.cct_host.specs.declared.desk.JobDesk.{JobDesk}
-use Rattle.cct_host.specs.declared.dues.Dues.{Dues}
-use Rattle.cct_host.specs.Desk.{AllSit, IsFree, Sits, Works, greatest_paying}
+use Rattle.cct_host.specs.declared.desks.Desks.{Desks}
+use Rattle.cct_host.specs.Desk.{AllSit, Sits, greatest_paying}
+use Rattle.cct_host.specs.Desks.{StandsFor, setup_of, working_id}
 use Rattle.cct_model.specs.Records.{greatest_id, records}
 use Rattle.cct_model.specs.Refusal.{greatest_running, last_id, running_id}
 use Rattle.cct_model.specs.Transcript.{lines_of}
 use Rattle.std.specs.Prelude.{max, option_and_then, slice_get}
-use Rattle.std.proofs.Math.Nat.{max-zero}
-use Rattle.cct_host.specs.Place.{AreAt, HasNoSale, OwnsAt, OwnsItsPut, Place, device, scans}
+use Rattle.cct_host.specs.Place.{AreAt, OwnsAt, OwnsItsPut, device, sales, scans}
 use Rattle.cct_host.proofs.Keeps.{keeps_other, keeps_quiet}
 use Rattle.cct_host.proofs.Lines.{IsQuiet}
 
@@ -37,7 +36,7 @@ use Rattle.cct_host.proofs.Lines.{IsQuiet}
 abbrev pub is_at : ℕ → DeviceSetup → Bool
 is_at addr d = d.addr == addr
 
-none_here : (same : Bool) (d : DeviceSetup) (rest : Option DeviceSetup) → cond same (Some d) rest ≡ None
+pub none_here : (same : Bool) (d : DeviceSetup) (rest : Option DeviceSetup) → cond same (Some d) rest ≡ None
     → (same ≡ false) × (rest ≡ None)
 none_here true d rest e = absurd cc
 none_here false d rest e = (refl, e)
@@ -127,7 +126,7 @@ owns_there setup d addr past there is owns =
     subst (λ a. IfSome (due_of d (lines_of d past) (model.job (lines_of d past))) (ClosesItsOwn past a)) (sym is)
     (subst (λ found. IfSome (due_there past addr found) (ClosesItsOwn past addr)) there owns)
 
-other_of : (a b : ℕ) → (a == b) ≡ false → a ≢ b
+pub other_of : (a b : ℕ) → (a == b) ≡ false → a ≢ b
 other_of a b e = grind (arith, nat_tests)
 
 -- entries of an address without a device
@@ -143,7 +142,7 @@ desks_apart (e ∷ es) (m ∷ ms) addr past news none at all =
           past news parts.1 at all.1,
     )
 
-apart : (es : List DeviceSetup) (i : ℕ) (d : DeviceSetup) (addr : ℕ) → i < length es → device_at es addr ≡ None
+pub apart : (es : List DeviceSetup) (i : ℕ) (d : DeviceSetup) (addr : ℕ) → i < length es → device_at es addr ≡ None
     → (get_or es i d).addr ≢ addr
 apart [] i d addr within none = absurd (omega arith)
 apart (e ∷ es) zero d addr within none = other_of _ _ (none_here (e.addr == addr) e _ none).0
@@ -170,20 +169,18 @@ desks_at (e ∷ es) (m ∷ ms) (suc i) x d addr past news distinct within is her
           distinct.1 (omega arith) is here at sits all.1,
     )
 
-above_zero : (a : ℕ) → 2 ≤ a → (a == BROADCAST) ≡ false
-above_zero a low = grind (arith, nat_tests)
+-- no device is at the address of all devices, nor at the host's
+above : (a addr : ℕ) → 2 ≤ a → addr < 2 → (a == addr) ≡ false
+above a addr low below = grind (arith, nat_tests)
 
-no_device_at_zero : (ds : List DeviceSetup) → All IsSound ds → device_at ds BROADCAST ≡ None
-no_device_at_zero [] sound = refl
-no_device_at_zero (e ∷ es) sound =
-    ap (λ b. cond b (Some e) (device_at es BROADCAST)) (above_zero e.addr (All-head IsSound e es sound).low)
-    ∙ no_device_at_zero es (All-tail IsSound e es sound)
+no_device_below : (ds : List DeviceSetup) (addr : ℕ) → addr < 2 → All IsSound ds → device_at ds addr ≡ None
+no_device_below [] addr below sound = refl
+no_device_below (e ∷ es) addr below sound =
+    ap (λ b. cond b (Some e) (device_at es addr)) (above e.addr addr (All-head IsSound e es sound).low below)
+    ∙ no_device_below es addr below (All-tail IsSound e es sound)
 
-not_zero : (a : ℕ) → 2 ≤ a → BROADCAST ≢ a
-not_zero a low is = omega (arith, low, is)
-
-not_host : (a : ℕ) → 2 ≤ a → a ≢ HOST
-not_host a low is = omega (arith, low, is)
+not_below : (a addr : ℕ) → 2 ≤ a → addr < 2 → addr ≢ a
+not_below a addr low below is = omega (arith, low, below, is)
 
 -- the serial number of a device fits its three bytes
 pub fits_three : (setup : Setup) (i : ℕ) (d : DeviceSetup) → IsSoundSetup setup → i < length setup.devices
@@ -191,16 +188,20 @@ pub fits_three : (setup : Setup) (i : ℕ) (d : DeviceSetup) → IsSoundSetup se
 fits_three setup i d sound within is =
     (subst IsSound (sym is) (All-get_or IsSound setup.devices i d within sound.devices)).serial
 
--- no device is at the host's own address, nor is a scan
-pub device_apart : (setup : Setup) (i : ℕ) (d : DeviceSetup) (addr : ℕ) → IsSoundSetup setup
-    → position (is_at addr) setup.devices ≡ Some i → d ≡ get_or setup.devices i d → addr ≢ HOST
-device_apart setup i d addr sound found is =
+-- a device is apart from the address of all devices, and from the host's
+device_apart : (setup : Setup) (i : ℕ) (d : DeviceSetup) (addr below : ℕ) → IsSoundSetup setup
+    → position (is_at addr) setup.devices ≡ Some i → d ≡ get_or setup.devices i d → below < 2 → below ≢ addr
+device_apart setup i d addr below sound found is less =
     let place = device_found setup.devices i d addr found is in
     let low : 2 ≤ d.addr = (subst IsSound (sym is) (All-get_or IsSound setup.devices i d place.0 sound.devices)).low in
-    subst (λ a. a ≢ HOST) place.2 (not_host d.addr low)
+    subst (λ a. below ≢ a) place.2 (not_below d.addr below low less)
 
-pub scan_apart : BROADCAST ≢ HOST
-scan_apart is = omega (arith, is)
+-- the two are apart from one another
+host_apart : HOST ≢ BROADCAST
+host_apart is = omega (arith, is)
+
+all_apart : BROADCAST ≢ HOST
+all_apart is = omega (arith, is)
 
 -- a list that was lent, where one desk changed
 pub refilled : (ks items : List JobDesk) (i : ℕ) (x : JobDesk) → items ≡ ks
@@ -210,26 +211,40 @@ refilled ks items i x lent =
     take_at (set items i x) (drop (length (set items i x)) ks) (length ks) same ∙ ap (λ ls. set ls i x) lent
 
 -- the desk of a device changes, and all else goes on
-pub device_turn : (setup : Setup) (ks items : List JobDesk) (scan : JobDesk) (i : ℕ) (x : JobDesk) (d : DeviceSetup)
-    (addr : ℕ) (past news : List Entry) → IsSoundSetup setup → items ≡ ks
+pub device_turn : (setup : Setup) (ks items : List JobDesk) (scan sale : JobDesk) (i : ℕ) (x : JobDesk)
+    (d : DeviceSetup) (addr : ℕ) (past news : List Entry) → IsSoundSetup setup → items ≡ ks
     → position (is_at addr) setup.devices ≡ Some i → d ≡ get_or setup.devices i d → AreAt addr past news
-    → Sits (news ++ past) (device d) x → AllSit past setup.devices ks → Sits past scans scan
+    → Sits (news ++ past) (device d) x → AllSit past setup.devices ks → Sits past scans scan → Sits past sales sale
     → AllSit (news ++ past) setup.devices (take (length ks) (set items i x ++ drop (length (set items i x)) ks))
-    × Sits (news ++ past) scans scan
-device_turn setup ks items scan i x d addr past news sound lent found is at sits all scanned =
-    let place = device_found setup.devices i d addr found is in
-    let low : 2 ≤ d.addr = (subst IsSound (sym is) (All-get_or IsSound setup.devices i d place.0 sound.devices)).low in
-    let other : BROADCAST ≢ addr = subst (λ a. BROADCAST ≢ a) place.2 (not_zero d.addr low) in (
+    × Sits (news ++ past) scans scan × Sits (news ++ past) sales sale
+device_turn setup ks items scan sale i x d addr past news sound lent found is at sits all scanned sold =
+    let place = device_found setup.devices i d addr found is in (
       subst (AllSit (news ++ past) setup.devices) (sym (refilled ks items i x lent))
           (desks_at setup.devices ks i x d addr past news sound.distinct place.0 is place.2 at sits all),
-      keeps_other scans scan.job scan.epoch scan.dues past news (at scans other) scanned,
+      keeps_other scans scan.job scan.epoch scan.dues past news
+          (at scans (device_apart setup i d addr BROADCAST sound found is (omega arith))) scanned,
+      keeps_other sales sale.job sale.epoch sale.dues past news
+          (at sales (device_apart setup i d addr HOST sound found is (omega arith))) sold,
     )
 
 -- the desk of scans changes, and all else goes on
-pub scan_turn : (setup : Setup) (ks : List JobDesk) (past news : List Entry) → IsSoundSetup setup
-    → AreAt BROADCAST past news → AllSit past setup.devices ks → AllSit (news ++ past) setup.devices ks
-scan_turn setup ks past news sound at all = desks_apart setup.devices ks BROADCAST past news
-    (no_device_at_zero setup.devices sound.devices) at all
+pub scan_turn : (setup : Setup) (ks : List JobDesk) (sale : JobDesk) (past news : List Entry) → IsSoundSetup setup
+    → AreAt BROADCAST past news → AllSit past setup.devices ks → Sits past sales sale
+    → AllSit (news ++ past) setup.devices ks × Sits (news ++ past) sales sale
+scan_turn setup ks sale past news sound at all sold = (
+  desks_apart setup.devices ks BROADCAST past news
+      (no_device_below setup.devices BROADCAST (omega arith) sound.devices) at all,
+  keeps_other sales sale.job sale.epoch sale.dues past news (at sales host_apart) sold,
+)
+
+-- the desk of sales changes, and all else goes on
+pub sale_turn : (setup : Setup) (ks : List JobDesk) (scan : JobDesk) (past news : List Entry) → IsSoundSetup setup
+    → AreAt HOST past news → AllSit past setup.devices ks → Sits past scans scan
+    → AllSit (news ++ past) setup.devices ks × Sits (news ++ past) scans scan
+sale_turn setup ks scan past news sound at all scanned = (
+  desks_apart setup.devices ks HOST past news (no_device_below setup.devices HOST (omega arith) sound.devices) at all,
+  keeps_other scans scan.job scan.epoch scan.dues past news (at scans all_apart) scanned,
+)
 
 -- an entry that changes no job, no epoch and no open order
 pub desks_quiet : (ds : List DeviceSetup) (ks : List JobDesk) (past : List Entry) (e : Entry) → IsQuiet past e
@@ -240,7 +255,7 @@ desks_quiet (d ∷ ds) [] past e quiet all = absurd all
 desks_quiet (d ∷ ds) (m ∷ ms) past e quiet all =
     (keeps_quiet (device d) m.job m.epoch m.dues past e quiet all.0, desks_quiet ds ms past e quiet all.1)
 
--- the last id: the greatest of the records and of the payments at work
+-- the last id: the greatest of the records, of the payments and of the sale at work
 paying_is : (ds : List DeviceSetup) (ks : List JobDesk) (past : List Entry) → AllSit past ds ks
     → greatest_paying ks ≡ greatest_running past ds
 paying_is [] [] past all = refl
@@ -250,26 +265,11 @@ paying_is (d ∷ ds) (m ∷ ms) past all =
     ap (λ id. max id (greatest_paying ms)) all.0.knows.2
     ∙ ap (max (running_id (model.job (lines_of d past)))) (paying_is ds ms past all.1)
 
-pub last_is : (setup : Setup) (ks : List JobDesk) (past : List Entry) (recorded last : ℕ)
-    → AllSit past setup.devices ks → HasNoSale past → recorded ≡ greatest_id (records past)
-    → last ≡ max recorded (greatest_paying ks) → last ≡ last_id setup past
-last_is setup ks past recorded last all none recorded_is is =
-    let most = greatest_id (records past) in
-    is ∙ ap (λ r. max r (greatest_paying ks)) recorded_is
-    ∙ ap (max most) (paying_is setup.devices ks past all ∙ sym (max-zero (greatest_running past setup.devices))
-    ∙ ap (max (greatest_running past setup.devices)) (sym (ap running_id none)))
-
--- at first
-pub free_keeps : (place : Place) (k : JobDesk) → IsFree k → Sits [] place k
-free_keeps (device d) k free = record {
-  works = subst (λ j. Works (device d) j model.free Idle None) (sym free.0) tt;
-  knows = (free.1, ap (λ (x : Dues). order_of x.order) free.2, ap (λ (x : Dues). x.id) free.2);
-}
-free_keeps scans k free = record { works = subst (λ j. Works scans j model.free Idle None) (sym free.0) tt; knows = tt }
-
-pub desks_free : (ds : List DeviceSetup) (ks : List JobDesk) → length ks ≡ length ds → All IsFree ks → AllSit [] ds ks
-desks_free [] [] many free = tt
-desks_free [] (m ∷ ms) many free = absurd (omega arith)
-desks_free (d ∷ ds) [] many free = absurd (omega arith)
-desks_free (d ∷ ds) (m ∷ ms) many free =
-    (free_keeps (device d) m (All-head IsFree m ms free), desks_free ds ms (omega arith) (All-tail IsFree m ms free))
+pub last_is : (desks : Desks) (past : List Entry) (last : ℕ) → StandsFor desks past
+    → last ≡ max desks.last (working_id desks) → last ≡ last_id (setup_of desks) past
+last_is desks past last stands is =
+    is ∙ ap (λ r. max r (working_id desks)) stands.last
+    ∙ ap (λ id. max (greatest_id (records past)) (max id desks.sale.dues.id))
+    (paying_is (setup_of desks).devices desks.devices.items past stands.devices)
+    ∙ ap (λ id. max (greatest_id (records past)) (max (greatest_running past (setup_of desks).devices) id))
+    stands.sale.knows.1

@@ -105,7 +105,7 @@ pub next_records : (hears : List ℕ → List ℕ) (setup : Setup) (past : List 
 next_records hears setup past addr news is = next_there hears past addr (device_at setup.devices addr) news is
 
 -- so it is the last of them in their order
-one_turned : (due : Option Record) → reverse (put_by due) ≡ put_by due
+pub one_turned : (due : Option Record) → reverse (put_by due) ≡ put_by due
 one_turned None = refl
 one_turned (Some r) = refl
 

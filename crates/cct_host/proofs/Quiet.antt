@@ -12,7 +12,7 @@ use Rattle.cct_ledger.specs.Ledger as ledgers
 use Rattle.cct_host.specs.declared.host.Host.{Host}
 use Rattle.cct_host.specs.Desks as all_desks
 use Rattle.cct_host.specs.Host as hosts
-use Rattle.cct_host.specs.Place.{Place, device, lines_at, scans}
+use Rattle.cct_host.specs.Place.{Place, device, lines_at, sales, scans}
 use Rattle.cct_host.proofs.Lines.{IsQuiet}
 use Rattle.cct_host.proofs.Standing.{desks_stand}
 
@@ -36,10 +36,10 @@ balance_line : (t : Totals) (place : Place) (past : List Entry)
     → lines_at place (entry.Balance t ∷ past) ≡ lines_at place past
 balance_line t (device d) past = refl
 balance_line t scans past = refl
+balance_line t sales past = refl
 
 pub balance_quiet : (past : List Entry) (t : Totals) → IsQuiet past (entry.Balance t)
 balance_quiet past t = record {
-  sales = tt;
   jobs = λ place. ap job (balance_line t place past);
   epochs = λ place. ap epoch (balance_line t place past);
   orders = λ place. ap order (balance_line t place past);

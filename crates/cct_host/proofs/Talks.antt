@@ -17,7 +17,7 @@ use Rattle.cct_jobs.specs.declared.job.Sending.{Sending}
 use Rattle.cct_jobs.specs.Jobs.{Stands, line_heard}
 use Rattle.cct_jobs.specs.Scans.{StandsScan}
 use Rattle.cct_host.specs.Exchange.{Converses, Fills, Talks}
-use Rattle.cct_host.specs.Place.{Place, StandsAt, device, line_at, scans}
+use Rattle.cct_host.specs.Place.{Place, StandsAt, device, line_at, sales, scans}
 
 -- what was spelled
 spelled : (s : Sending) (sent : List ℕ) (kind : CheckKind) (addr : ℕ) (q : Request) → sent ≡ ask s.kind s.to s.request
@@ -67,6 +67,8 @@ talks old same new s sent heard piece rest kept asks polls is_ask piece_is rest_
           (scanned since needs.check needs.addr (subst (λ j. StandsScan j since) (sym kept) stands) needs.row_is
           (piece_is ∙ sent_is)),
     )
+talks old same new s sent heard piece rest kept asks polls is_ask piece_is rest_is hears scanned sales c since
+    state owed stands needs = absurd needs
 
 last_set : (report : List Entry) (e said : Entry) → set (report ++ e ∷ []) (length report) said ≡ report ++ said ∷ []
 last_set [] e said = refl

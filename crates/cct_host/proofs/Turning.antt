@@ -1,24 +1,28 @@
 -- How what all desks hold and reserve changes where one desk does.
-use Rattle.std.proofs.Common.{◌≡◌, ℕ, zero, suc, ◌+◌, ◌-◌, ◌*◌, ◌≤◌, ◌<◌, List, [], ◌∷◌, ◌++◌, length, set, take, drop, get_or, refl, sym, ap, subst, ◌∙◌, Option, Some, None, arith}
-use Rattle.std.specs.List.{All, position}
+use Rattle.std.proofs.Common.{◌≡◌, ℕ, zero, suc, ◌+◌, ◌-◌, ◌*◌, ◌≤◌, ◌<◌, true, List, [], ◌∷◌, ◌++◌, length, set, take, drop, get_or, sym, ap, subst, ◌∙◌, Option, Some, None, arith}
+use Rattle.std.specs.List.{position}
 use Rattle.std.specs.Option.{IfSome}
 use Rattle.std.specs.Prelude.{Err, Ok, OnOk, Result, option_and_then, slice_get}
 use Rattle.std.proofs.Math.ListN.{length-set}
 use Rattle.std.proofs.Math.Nat.{add-mul}
 use Rattle.std.proofs.lemmas.List.{get_or-set_same}
-use Rattle.std.proofs.lemmas.List.Elements.{All-head, All-tail}
 use Rattle.std.proofs.lemmas.Option.{slice_get-get_or}
 use Rattle.cct_model.specs.terms.device.DeviceSetup.{DeviceSetup}
 use Rattle.cct_model.specs.terms.device.Setup.{Setup}
+use Rattle.cct_model.specs.lines.command.Command.{Command}
+use Rattle.cct_model.specs.lines.command.Command.TheVariants as command
 use Rattle.cct_model.specs.lines.command.CommandNo.{CommandNo}
 use Rattle.cct_model.specs.lines.record.Record.{Record}
 use Rattle.cct_model.specs.Exchange.{device_at}
 use Rattle.cct_model.specs.Money.{coins_of, hopper_value}
-use Rattle.cct_jobs.specs.Jobs.{order_of}
+use Rattle.cct_model.specs.Job.{address_of}
+use Rattle.cct_jobs.specs.Jobs.{coins_asked, is_of_device}
 use Rattle.cct_host.specs.declared.desk.JobDesk.{JobDesk}
-use Rattle.cct_host.specs.declared.dues.Dues.{Dues}
-use Rattle.cct_host.specs.Desk.{IsFree, held_at, held_in, reserved_over}
-use Rattle.cct_host.specs.Held.{coins_by, held_by}
+use Rattle.cct_host.specs.declared.desks.Desks.{Desks}
+use Rattle.cct_host.specs.Desk.{held_at, puts_at, reserved_over, sum_in}
+use Rattle.cct_host.specs.Desks.{held_of, puts_of}
+use Rattle.cct_host.specs.Held.{coins_by}
+use Rattle.cct_host.specs.Running.{amount_of}
 use Rattle.cct_host.proofs.Places.{is_at, refilled}
 
 -- an answer passes on
@@ -31,30 +35,57 @@ pub some_by : (found there : Option Record) (P Q : Type 0) → found ≡ there �
 some_by None there P Q is p goes = tt
 some_by (Some r) there P Q is p goes = goes (subst (λ f. IfSome f (λ r. P)) (sym is) p)
 
--- what is held
-held_set : (ks : List JobDesk) (i : ℕ) (y x : JobDesk) → i < length ks
-    → held_in (set ks i x) + held_at (get_or ks i y) ≡ held_in ks + held_at x
-held_set [] i y x within = absurd (omega arith)
-held_set (k ∷ ks) zero y x within = omega arith
-held_set (k ∷ ks) (suc i) y x within = let rest = held_set ks i y x (omega arith) in omega arith
+-- a sum over desks
+sum_set : (f : JobDesk → ℕ) (ks : List JobDesk) (i : ℕ) (y x : JobDesk) → i < length ks
+    → sum_in f (set ks i x) + f (get_or ks i y) ≡ sum_in f ks + f x
+sum_set f [] i y x within = absurd (omega arith)
+sum_set f (k ∷ ks) zero y x within = omega arith
+sum_set f (k ∷ ks) (suc i) y x within = let rest = sum_set f ks i y x (omega arith) in omega arith
 
-pub held_turn : (ks items : List JobDesk) (i : ℕ) (y x : JobDesk) (n : ℕ) → items ≡ ks → i < length ks
-    → held_at x ≤ held_at (get_or items i y) + n
-    → held_in (take (length ks) (set items i x ++ drop (length (set items i x)) ks)) ≤ held_in ks + n
-held_turn ks items i y x n lent within less =
-    let turned = held_set ks i y x within in
-    let here : held_at x ≤ held_at (get_or ks i y) + n =
-    subst (λ ls. held_at x ≤ held_at (get_or ls i y) + n) lent less in
-    subst (λ ls. held_in ls ≤ held_in ks + n) (sym (refilled ks items i x lent)) (omega arith)
+pub sum_turn : (f : JobDesk → ℕ) (ks items : List JobDesk) (i : ℕ) (y x : JobDesk) (m n : ℕ) → items ≡ ks
+    → i < length ks → f x ≤ f (get_or items i y) + n
+    → sum_in f (take (length ks) (set items i x ++ drop (length (set items i x)) ks)) + m ≤ sum_in f ks + m + n
+sum_turn f ks items i y x m n lent within less =
+    let turned = sum_set f ks i y x within in
+    let here : f x ≤ f (get_or ks i y) + n = subst (λ ls. f x ≤ f (get_or ls i y) + n) lent less in
+    subst (λ ls. sum_in f ls + m ≤ sum_in f ks + m + n) (sym (refilled ks items i x lent)) (omega arith)
 
-pub held_falls : (ks items : List JobDesk) (i : ℕ) (y x : JobDesk) → items ≡ ks → i < length ks
-    → held_at x < held_at (get_or items i y)
-    → held_in (take (length ks) (set items i x ++ drop (length (set items i x)) ks)) < held_in ks
-held_falls ks items i y x lent within less =
-    let turned = held_set ks i y x within in
-    let here : held_at x < held_at (get_or ks i y) =
-    subst (λ ls. held_at x < held_at (get_or ls i y)) lent less in
-    subst (λ ls. held_in ls < held_in ks) (sym (refilled ks items i x lent)) (omega arith)
+pub sum_falls : (f : JobDesk → ℕ) (ks items : List JobDesk) (i : ℕ) (y x : JobDesk) (m : ℕ) → items ≡ ks
+    → i < length ks → f x < f (get_or items i y)
+    → sum_in f (take (length ks) (set items i x ++ drop (length (set items i x)) ks)) + m < sum_in f ks + m
+sum_falls f ks items i y x m lent within less =
+    let turned = sum_set f ks i y x within in
+    let here : f x < f (get_or ks i y) = subst (λ ls. f x < f (get_or ls i y)) lent less in
+    subst (λ ls. sum_in f ls + m < sum_in f ks + m) (sym (refilled ks items i x lent)) (omega arith)
+
+pub sum_there : (f : JobDesk → ℕ) (ks : List JobDesk) (i : ℕ) (k : JobDesk) → i < length ks → k ≡ get_or ks i k
+    → f k ≤ sum_in f ks
+sum_there f [] i k within is = absurd (omega arith)
+sum_there f (m ∷ ms) zero k within is = let same : f k ≡ f m = ap f is in omega arith
+sum_there f (m ∷ ms) (suc i) k within is = let rest = sum_there f ms i k (omega arith) is in omega arith
+
+-- what jobs may still put is held
+sum_less : (f g : JobDesk → ℕ) (ks : List JobDesk) → ((k : JobDesk) → f k ≤ g k) → sum_in f ks ≤ sum_in g ks
+sum_less f g [] less = omega arith
+sum_less f g (k ∷ ks) less =
+    let here = less k in
+    let rest = sum_less f g ks less in
+    omega arith
+
+pub puts_held : (desks : Desks) → puts_of desks ≤ held_of desks
+puts_held desks =
+    let less : (k : JobDesk) → puts_at k ≤ held_at k = λ k. omega arith in
+    let devices = sum_less puts_at held_at desks.devices.items less in
+    let sale = less desks.sale in
+    omega arith
+
+-- what a command's job may put has room, where it had to have room for what it is held for
+pub room_kept : (puts used before after held turned need most : ℕ) → used + before ≤ most → after ≤ before + puts
+    → after ≤ turned → turned ≤ held + need → (1 ≤ puts → used + held + need ≤ most) → used + after ≤ most
+room_kept zero used before after held turned need most room less within holds fits = omega arith
+room_kept (suc puts) used before after held turned need most room less within holds fits =
+    let enough : used + held + need ≤ most = fits (omega arith) in
+    omega arith
 
 -- what is reserved
 first_changes : (new old rest : ℕ) → new + rest + old ≡ old + rest + new
@@ -84,8 +115,11 @@ reserved_set setup (e ∷ es) (k ∷ ks) (suc i) d y x many within is =
 more_sum : (after before old new asked : ℕ) → after + old ≡ before + new → new ≡ old + asked → after ≡ before + asked
 more_sum after before old new asked turned is = omega arith
 
-less_sum : (after before old new freed : ℕ) → after + old ≡ before + new → old ≡ freed + new → after + freed ≡ before
-less_sum after before old new freed turned is = omega arith
+beside_price : (after before price freed : ℕ) → after + freed ≡ before → after + price + freed ≡ before + price
+beside_price after before price freed is = omega arith
+
+more_beside : (after before price asked : ℕ) → after ≡ before + asked → after + price ≡ before + price + asked
+more_beside after before price asked is = omega arith
 
 -- a command reserves
 more_coins : (after before value old asked new : ℕ) → after + old * value ≡ before + new * value → new ≡ old + asked
@@ -95,42 +129,65 @@ more_coins after before value old asked new turned is =
     (ap (λ n. n * value) is ∙ add-mul old asked value)
 
 pub reserved_turn : (setup : Setup) (ks items : List JobDesk) (i : ℕ) (d : DeviceSetup) (addr : ℕ) (y x : JobDesk)
-    (asked : ℕ) → items ≡ ks → length ks ≡ length setup.devices → i < length setup.devices
+    (asked price : ℕ) → items ≡ ks → length ks ≡ length setup.devices → i < length setup.devices
     → d ≡ get_or setup.devices i d → d.addr ≡ addr → coins_by x.job ≡ coins_by (get_or items i y).job + asked
-    → reserved_over setup setup.devices (take (length ks) (set items i x ++ drop (length (set items i x)) ks))
-    ≡ reserved_over setup setup.devices ks + coins_of setup addr asked
-reserved_turn setup ks items i d addr y x asked lent many within is here coins =
-    ap (reserved_over setup setup.devices) (refilled ks items i x lent)
-    ∙ subst (λ a. reserved_over setup setup.devices (set ks i x)
-    ≡ reserved_over setup setup.devices ks + coins_of setup a asked) here
+    → reserved_over setup setup.devices (take (length ks) (set items i x ++ drop (length (set items i x)) ks)) + price
+    ≡ reserved_over setup setup.devices ks + price + coins_of setup addr asked
+reserved_turn setup ks items i d addr y x asked price lent many within is here coins =
+    ap (λ ls. reserved_over setup setup.devices ls + price) (refilled ks items i x lent)
+    ∙ subst (λ a. reserved_over setup setup.devices (set ks i x) + price
+    ≡ reserved_over setup setup.devices ks + price + coins_of setup a asked) here
+    (more_beside _ _ price _
     (more_coins _ _ (hopper_value (device_at setup.devices d.addr)) (coins_by (get_or ks i y).job) asked
     (coins_by x.job) (reserved_set setup setup.devices ks i d y x many within is)
-    (subst (λ ls. coins_by x.job ≡ coins_by (get_or ls i y).job + asked) lent coins))
+    (subst (λ ls. coins_by x.job ≡ coins_by (get_or ls i y).job + asked) lent coins)))
+
+pub no_coins : (value : ℕ) → 0 * value ≡ 0
+no_coins value = omega arith
+
+-- what a command at a device reserves
+pub amount_asked : (setup : Setup) (c : Command) (addr : ℕ) → is_of_device c ≡ true → address_of c ≡ addr
+    → coins_of setup addr (coins_asked c) ≡ amount_of setup c
+amount_asked setup (command.Pay at id count) addr of_device here = ap (λ a. coins_of setup a count) (sym here)
+amount_asked setup (command.Vend id price) addr of_device here = absurd cc
+amount_asked setup c addr of_device here = no_coins (hopper_value (device_at setup.devices addr))
 
 -- an attempt frees
-fewer_coins : (after before value old new : ℕ) → after + old * value ≡ before + new * value → new ≤ old
-    → after + (old - new) * value ≡ before
-fewer_coins after before value old new turned less =
+less_value : (old new value : ℕ) → new ≤ old → new * value ≤ old * value
+less_value old new value less =
     let whole : old ≡ old - new + new = omega arith in
-    less_sum after before (old * value) (new * value) ((old - new) * value) turned
-    (ap (λ n. n * value) whole ∙ add-mul (old - new) new value)
+    let both : old * value ≡ (old - new) * value + new * value =
+    ap (λ n. n * value) whole ∙ add-mul (old - new) new value in
+    omega arith
+
+fewer : (after before old new was now : ℕ) → after + old ≡ before + new → new ≤ old → was ≡ old → now ≡ new
+    → after + (was - now) ≡ before
+fewer after before old new was now turned less was_is now_is = omega arith
+
+pub less_coins : (setup : Setup) (addr old new was now : ℕ) → new ≤ old → was ≡ coins_of setup addr old
+    → now ≡ coins_of setup addr new → now ≤ was
+less_coins setup addr old new was now less was_is now_is =
+    let value = less_value old new (hopper_value (device_at setup.devices addr)) less in
+    omega arith
 
 pub reserved_freed : (setup : Setup) (ks items : List JobDesk) (i : ℕ) (d : DeviceSetup) (addr : ℕ) (y x : JobDesk)
-    (old new : ℕ) → items ≡ ks → length ks ≡ length setup.devices → i < length setup.devices
-    → d ≡ get_or setup.devices i d → d.addr ≡ addr → old ≡ coins_by (get_or items i y).job → new ≡ coins_by x.job
-    → coins_by x.job ≤ coins_by (get_or items i y).job
-    → reserved_over setup setup.devices (take (length ks) (set items i x ++ drop (length (set items i x)) ks))
-    + coins_of setup addr (old - new) ≡ reserved_over setup setup.devices ks
-reserved_freed setup ks items i d addr y x old new lent many within is here old_is new_is less =
-    ap (λ ls. reserved_over setup setup.devices ls + coins_of setup addr (old - new)) (refilled ks items i x lent)
-    ∙ subst (λ a. reserved_over setup setup.devices (set ks i x) + coins_of setup a (old - new)
-    ≡ reserved_over setup setup.devices ks) here
-    (ap (λ n. reserved_over setup setup.devices (set ks i x) + coins_of setup d.addr (n - new))
-    (old_is ∙ ap (λ ls. coins_by (get_or ls i y).job) lent)
-    ∙ ap (λ n. reserved_over setup setup.devices (set ks i x) + coins_of setup d.addr (coins_by (get_or ks i y).job - n)) new_is
-    ∙ fewer_coins _ _ (hopper_value (device_at setup.devices d.addr)) (coins_by (get_or ks i y).job) (coins_by x.job)
-    (reserved_set setup setup.devices ks i d y x many within is)
-    (subst (λ ls. coins_by x.job ≤ coins_by (get_or ls i y).job) lent less))
+    (was now price : ℕ) → items ≡ ks → length ks ≡ length setup.devices → i < length setup.devices
+    → d ≡ get_or setup.devices i d → d.addr ≡ addr → was ≡ coins_of setup addr (coins_by (get_or items i y).job)
+    → now ≡ coins_of setup addr (coins_by x.job) → coins_by x.job ≤ coins_by (get_or items i y).job
+    → reserved_over setup setup.devices (take (length ks) (set items i x ++ drop (length (set items i x)) ks)) + price
+    + (was - now) ≡ reserved_over setup setup.devices ks + price
+reserved_freed setup ks items i d addr y x was now price lent many within is here was_is now_is less =
+    let turned = reserved_set setup setup.devices ks i d y x many within is in
+    let first : was ≡ coins_of setup d.addr (coins_by (get_or ks i y).job) =
+    was_is ∙ ap (λ a. coins_of setup a (coins_by (get_or items i y).job)) (sym here)
+    ∙ ap (λ ls. coins_of setup d.addr (coins_by (get_or ls i y).job)) lent in
+    let then_is : now ≡ coins_of setup d.addr (coins_by x.job) =
+    now_is ∙ ap (λ a. coins_of setup a (coins_by x.job)) (sym here) in
+    let fell : coins_of setup d.addr (coins_by x.job) ≤ coins_of setup d.addr (coins_by (get_or ks i y).job) =
+    less_value (coins_by (get_or ks i y).job) (coins_by x.job) (hopper_value (device_at setup.devices d.addr))
+    (subst (λ ls. coins_by x.job ≤ coins_by (get_or ls i y).job) lent less) in
+    ap (λ ls. reserved_over setup setup.devices ls + price + (was - now)) (refilled ks items i x lent)
+    ∙ beside_price _ _ price (was - now) (fewer _ _ _ _ was now turned fell first then_is)
 
 -- the desk at an address after it changed
 pub desk_turned : (ds : List DeviceSetup) (ks items : List JobDesk) (addr i : ℕ) (x : JobDesk) → items ≡ ks
@@ -142,42 +199,3 @@ desk_turned ds ks items addr i x lent within found =
     ∙ ap (λ ls. slice_get ls i) (refilled ks items i x lent)
     ∙ slice_get-get_or (set ks i x) i x (subst (λ n. i < n) (sym (length-set ks i x)) within)
     ∙ ap Some (get_or-set_same ks i x x within)
-
--- nothing changed
-nothing_more : (n value : ℕ) → n + 0 * value ≡ n
-nothing_more n value = omega arith
-
-pub none_freed : (setup : Setup) (addr reserved n : ℕ) → reserved + coins_of setup addr (n - n) ≡ reserved
-none_freed setup addr reserved n =
-    ap (λ m. reserved + coins_of setup addr m) (omega arith)
-    ∙ nothing_more reserved (hopper_value (device_at setup.devices addr))
-
--- at first
-free_at : (k : JobDesk) → IsFree k → held_at k ≡ 0
-free_at k free =
-    ap (λ j. held_by j (order_of k.dues.order)) free.0 ∙ ap (λ (x : Dues). held_by None (order_of x.order)) free.2
-
-no_coins : (value : ℕ) → 0 * value ≡ 0
-no_coins value = omega arith
-
-free_coins : (setup : Setup) (d : DeviceSetup) (k : JobDesk) → IsFree k → coins_of setup d.addr (coins_by k.job) ≡ 0
-free_coins setup d k free =
-    ap (λ j. coins_of setup d.addr (coins_by j)) free.0 ∙ no_coins (hopper_value (device_at setup.devices d.addr))
-
-both_none : (m n : ℕ) → m ≡ 0 → n ≡ 0 → m + n ≡ 0
-both_none m n first second = omega arith
-
-pub free_held : (ks : List JobDesk) → All IsFree ks → held_in ks ≡ 0
-free_held [] free = refl
-free_held (k ∷ ks) free =
-    let rest = free_held ks (All-tail IsFree k ks free) in
-    let here : held_at k ≡ 0 = free_at k (All-head IsFree k ks free) in
-    omega arith
-
-pub free_reserved : (setup : Setup) (ds : List DeviceSetup) (ks : List JobDesk) → All IsFree ks
-    → reserved_over setup ds ks ≡ 0
-free_reserved setup [] ks free = refl
-free_reserved setup (d ∷ ds) [] free = refl
-free_reserved setup (d ∷ ds) (k ∷ ks) free =
-    both_none (coins_of setup d.addr (coins_by k.job)) (reserved_over setup ds ks)
-    (free_coins setup d k (All-head IsFree k ks free)) (free_reserved setup ds ks (All-tail IsFree k ks free))

@@ -19,8 +19,8 @@ use Rattle.cct_host.specs.declared.dues.Dues.{Dues}
 use Rattle.cct_jobs.specs.Jobs.{order_of}
 use Rattle.cct_host.specs.declared.desk.JobDesk.{JobDesk}
 use Rattle.cct_host.specs.Attempt.{Attempt, HeardBy, Links, news_of, used_by}
-use Rattle.cct_host.specs.Held.{coins_by, held_by}
-use Rattle.cct_host.specs.Place.{AreAt, NextAt, OwnsAt, Place, StandsAt, addr_of, device, lines_at, scans}
+use Rattle.cct_host.specs.Held.{coins_by, held_by, puts_left}
+use Rattle.cct_host.specs.Place.{AreAt, NextAt, OwnsAt, Place, StandsAt, addr_of, device, lines_at, sales, scans}
 
 -- What the host has at a place is the job that its lines tell, beside the epoch and the open order.
 abbrev pub Works : Place → Option Job → model.Job → EpochState → Option OpenOrder → Type 0
@@ -29,12 +29,13 @@ Works place (Some job) (model.works c since) state owed = StandsAt place job c s
 Works place None (model.works c since) state owed = ⊥
 Works place (Some job) model.free state owed = ⊥
 
--- What is recorded at a place is the epoch, the open order and the id of the payment that its lines tell; of scans
--- nothing is.
+-- What is recorded at a place is the epoch, the open order and the id of the payment that its lines tell, of sales the
+-- id and no order, and of scans nothing.
 abbrev pub Knows : Place → EpochState → Dues → List Line → Type 0
 Knows (device d) state owed lines =
     (state ≡ model.epoch lines) × (order_of owed.order ≡ order lines) × (owed.id ≡ running_id (model.job lines))
 Knows scans state owed lines = ⊤
+Knows sales state owed lines = (owed.order ≡ None) × (owed.id ≡ running_id (model.job lines))
 
 -- A job, an epoch and an open order are those of a place, by its lines.
 pub record Keeps (place : Place) (job : Option Job) (state : EpochState) (owed : Dues)
@@ -88,10 +89,18 @@ greatest_paying (desk ∷ desks) = max desk.dues.id (greatest_paying desks)
 abbrev pub held_at : JobDesk → ℕ
 held_at desk = held_by desk.job (order_of desk.dues.order)
 
+-- How many records the job at a desk may still put.
+abbrev pub puts_at : JobDesk → ℕ
+puts_at desk = puts_left desk.job
+
+-- A sum over desks.
+abbrev pub sum_in : (JobDesk → ℕ) → List JobDesk → ℕ
+sum_in f [] = 0
+sum_in f (desk ∷ desks) = f desk + sum_in f desks
+
 -- How many records are held for desks.
 abbrev pub held_in : List JobDesk → ℕ
-held_in [] = 0
-held_in (desk ∷ desks) = held_at desk + held_in desks
+held_in desks = sum_in held_at desks
 
 -- What the jobs at the desks of these devices reserve.
 abbrev pub reserved_over : Setup → List DeviceSetup → List JobDesk → ℕ

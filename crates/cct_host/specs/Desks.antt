@@ -1,21 +1,23 @@
 -- Desks that stand for all that happened.
-use Rattle.std.specs.Prelude.{◌≡◌, ◌==◌, ℕ, List, ◌∷◌, ◌++◌, Option, Some, None, Result, option_and_then, reverse, slice_get}
+use Rattle.std.specs.Prelude.{◌≡◌, ◌+◌, ◌==◌, ℕ, List, ◌∷◌, ◌++◌, if◌then◌else◌, Option, Some, None, Result, max, option_and_then, reverse, slice_get}
 use Rattle.std.specs.List.{position}
+use Rattle.cct_model.specs.terms.wire.TheConstants.{HOST}
 use Rattle.cct_model.specs.terms.device.Setup.{Setup}
 use Rattle.cct_model.specs.lines.command.Command.{Command}
 use Rattle.cct_model.specs.lines.command.CommandNo.{CommandNo}
 use Rattle.cct_model.specs.lines.record.Record.{Record}
 use Rattle.cct_model.specs.lines.entry.Entry.{Entry}
 use Rattle.cct_model.specs.Legal.{EntriesOfNext, command_entry}
+use Rattle.cct_model.specs.Money.{coins_of}
 use Rattle.cct_model.specs.Records.{greatest_id, records}
 use Rattle.cct_model.specs.Refusal.{state_refusal}
 use Rattle.cct_model.specs.Setup.{IsSoundSetup}
 use Rattle.cct_host.specs.declared.desk.JobDesk.{JobDesk}
 use Rattle.cct_host.specs.declared.desks.Desks.{Desks}
 use Rattle.cct_host.specs.Attempt.{Attempt, HeardBy, Links, news_of}
-use Rattle.cct_host.specs.Desk.{AllSit, Sits, held_in, no_of, reserved_over}
-use Rattle.cct_host.specs.Held.{coins_by, due_by}
-use Rattle.cct_host.specs.Place.{HasNoSale, OwnsItsPut, scans}
+use Rattle.cct_host.specs.Desk.{AllSit, Sits, greatest_paying, held_at, held_in, no_of, puts_at, reserved_over, sum_in}
+use Rattle.cct_host.specs.Held.{coins_by, due_by, price_by}
+use Rattle.cct_host.specs.Place.{OwnsItsPut, sales, scans}
 
 -- The setup of desks.
 abbrev pub setup_of : Desks → Setup
@@ -23,44 +25,61 @@ setup_of desks = desks.setup.now
 
 -- How many records are held: those that jobs may still put, and one for each open order that no job is at work to close.
 abbrev pub held_of : Desks → ℕ
-held_of desks = held_in desks.devices.items
+held_of desks = held_in desks.devices.items + held_at desks.sale
+
+-- How many records all jobs may still put.
+abbrev pub puts_of : Desks → ℕ
+puts_of desks = sum_in puts_at desks.devices.items + puts_at desks.sale
 
 -- What all jobs reserve.
 abbrev pub reserved_of : Desks → ℕ
-reserved_of desks = reserved_over (setup_of desks) (setup_of desks).devices desks.devices.items
+reserved_of desks =
+    reserved_over (setup_of desks) (setup_of desks).devices desks.devices.items + price_by desks.sale.job
+
+-- The greatest id of the payments and the sale at work.
+abbrev pub working_id : Desks → ℕ
+working_id desks = max (greatest_paying desks.devices.items) desks.sale.dues.id
 
 -- The desk of the device at an address, if there is one.
 abbrev pub desk_there : Desks → ℕ → Option JobDesk
 desk_there desks addr =
     option_and_then (slice_get desks.devices.items) (position (λ d. d.addr == addr) (setup_of desks).devices)
 
+-- The record that the job at an address is about to put, if it is about to put one, where this desk of a device is
+-- there; one without a device that puts something is the sale's.
+abbrev pub due_at_desk : JobDesk → ℕ → Option JobDesk → Option Record
+due_at_desk sale addr (Some desk) = due_by desk.job
+due_at_desk sale addr None = if addr == HOST then due_by sale.job else None
+
 -- The record that the job at an address is about to put, if it is about to put one.
 abbrev pub due_on : Desks → ℕ → Option Record
-due_on desks addr = option_and_then (λ desk. due_by desk.job) (desk_there desks addr)
+due_on desks addr = due_at_desk desks.sale addr (desk_there desks addr)
 
--- How many coins the job at the desk that is there reserves, 0 where there is none.
-abbrev pub coins_there : Option JobDesk → ℕ
-coins_there None = 0
-coins_there (Some desk) = coins_by desk.job
+-- What the job at an address reserves, where this desk of a device is there; one without a device that reserves
+-- something is the sale's.
+abbrev pub amount_at_desk : Setup → JobDesk → ℕ → Option JobDesk → ℕ
+amount_at_desk setup sale addr (Some desk) = coins_of setup addr (coins_by desk.job)
+amount_at_desk setup sale addr None = if addr == HOST then price_by sale.job else 0
 
--- How many coins the job at an address reserves.
-abbrev pub coins_on : Desks → ℕ → ℕ
-coins_on desks addr = coins_there (desk_there desks addr)
+-- What the job at an address reserves.
+abbrev pub amount_on : Desks → ℕ → ℕ
+amount_on desks addr = amount_at_desk (setup_of desks) desks.sale addr (desk_there desks addr)
 
 -- Desks stand for a transcript, newest entry first: their setup is sound, each has the job, the epoch and the open order
--- that the lines of its device tell, the scan is that of the lines of address 0, the greatest id of the records is known,
--- and no sale is under way.
+-- that the lines of its device tell, the scan is that of the lines of address 0, the sale that of the lines of address
+-- 1, and the greatest id of the records is known.
 pub record StandsFor (desks : Desks) (past : List Entry) : Type 0 where
   pub sound : IsSoundSetup (setup_of desks)
   pub devices : AllSit past (setup_of desks).devices desks.devices.items
   pub scan : Sits past scans desks.scan
+  pub sale : Sits past sales desks.sale
   pub last : desks.last ≡ greatest_id (records past)
-  pub unsold : HasNoSale past
 
 -- Nothing changed.
 abbrev pub Stays : Desks → Desks → Type 0
 Stays old new =
-    (new.setup ≡ old.setup) × (new.devices.items ≡ old.devices.items) × (new.scan ≡ old.scan) × (new.last ≡ old.last)
+    (new.setup ≡ old.setup) × (new.devices.items ≡ old.devices.items) × (new.scan ≡ old.scan) × (new.sale ≡ old.sale)
+    × (new.last ≡ old.last)
 
 -- A command is taken or refused as it has to be after whatever happened, and the desks go on by its entry.
 abbrev pub Answers : Desks → Desks → Command → Result Unit CommandNo → Type 0

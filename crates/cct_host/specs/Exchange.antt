@@ -1,5 +1,5 @@
 -- One exchange that a job makes over a link.
-use Rattle.std.specs.Prelude.{◌≡◌, ℕ, ◌≤◌, true, List, [], ◌∷◌, ◌++◌, Option}
+use Rattle.std.specs.Prelude.{◌≡◌, ℕ, ◌≤◌, List, [], ◌∷◌, ◌++◌, Option}
 use Rattle.cct_model.specs.lines.command.Command.{Command}
 use Rattle.cct_model.specs.lines.entry.End.{End}
 use Rattle.cct_model.specs.lines.entry.Entry.{Entry}
@@ -8,7 +8,7 @@ use Rattle.cct_model.specs.declared.judging.EpochState.{EpochState}
 use Rattle.cct_model.specs.declared.judging.OpenOrder.{OpenOrder}
 use Rattle.cct_model.specs.Line.{Line}
 use Rattle.cct_jobs.specs.declared.job.Job.{Job}
-use Rattle.cct_jobs.specs.Jobs.{closes_order, coins_reserved, may_put_of}
+use Rattle.cct_jobs.specs.Jobs.{coins_reserved, may_put_of}
 use Rattle.cct_host.specs.Place.{Asks, AsksNext, Place, StandsAt, end_at, line_at}
 
 -- Wherever a job is, and its row sends something next, it sends that, and goes on by the line of what it heard.
@@ -24,11 +24,9 @@ Ends job end =
     (place : Place) (c : Command) (line : Line) (since : List Line) (state : EpochState) (owed : Option OpenOrder)
     → StandsAt place job c (line ∷ since) state owed → end ≡ end_at place c line since state
 
--- What a job may still put and what it reserves is no more than before, and while it may put anything it is at work to
--- close its order where it was so before.
+-- What a job may still put and what it reserves is no more than before.
 pub record HoldsLess (old new : Job) : Type 0 where
   pub puts : may_put_of new ≤ may_put_of old
-  pub closes : closes_order old ≡ true → 1 ≤ may_put_of new → closes_order new ≡ true
   pub coins : coins_reserved new ≤ coins_reserved old
 
 -- A job made an exchange at an address over a link, and this is its entry.

@@ -1,5 +1,5 @@
 -- What the job at a place is still to do: the records that it may put, what it reserves, and the record that is next.
-use Rattle.std.specs.Prelude.{ℕ, ◌+◌, if◌then◌else◌, Option, Some, None, ⊤}
+use Rattle.std.specs.Prelude.{ℕ, ◌+◌, Bool, true, false, if◌then◌else◌, Option, Some, None, ⊤}
 use Rattle.std.proofs.Props.{props}
 use Rattle.cct_model.specs.lines.record.Record.{Record}
 use Rattle.cct_model.specs.lines.record.Record.TheVariants as record_of
@@ -8,8 +8,8 @@ use Rattle.cct_jobs.specs.declared.job.Need.{Need}
 use Rattle.cct_jobs.specs.declared.job.Need.TheVariants as need
 use Rattle.cct_record.specs.Body.{Encodable}
 use Rattle.cct_jobs.specs.declared.job.Job.{Job}
-use Rattle.cct_jobs.specs.declared.job.Job.TheVariants.{RoundPuts, StopPuts, OrderCloses}
-use Rattle.cct_jobs.specs.Jobs.{PutsFit, closes_order, coins_reserved, may_put_of, need_of}
+use Rattle.cct_jobs.specs.declared.job.Job.TheVariants.{RoundPuts, StopPuts, OrderCloses, SalePuts}
+use Rattle.cct_jobs.specs.Jobs.{PutsFit, closes_order, coins_reserved, may_put_of, need_of, price_reserved}
 
 -- How many records the job at a place may still put.
 abbrev pub puts_left : Option Job → ℕ
@@ -35,6 +35,17 @@ put_in other = None
 abbrev pub due_by : Option Job → Option Record
 due_by None = None
 due_by (Some job) = put_in (need_of job)
+
+-- What the job at a place reserves besides coins.
+abbrev pub price_by : Option Job → ℕ
+price_by None = 0
+price_by (Some job) = price_reserved job
+
+-- The job at a place, if there is one, is a sale that is still to be put.
+abbrev pub sells_only : Option Job → Bool
+sells_only None = true
+sells_only (Some (SalePuts id price)) = true
+sells_only (Some job) = false
 
 -- How many coins the job at a place reserves.
 abbrev pub coins_by : Option Job → ℕ

@@ -50,6 +50,10 @@ module _ {D : Type 0} {g : Ghosts D} where
   abbrev pub setup_of : Host D g → Setup
   setup_of host = all_desks.setup_of host.desks
 
+  -- Its journal.
+  abbrev pub journal_of : Host D g → Journal D g
+  journal_of host = host.journal
+
   -- Its disk.
   abbrev pub disk_of : Host D g → D
   disk_of host = journals.disk_of host.journal

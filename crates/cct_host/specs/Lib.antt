@@ -1,4 +1,5 @@
 pub mod CoinPlaces
+pub mod Sound
 pub mod Place
 pub mod Attempt
 pub mod Exchange
@@ -6,4 +7,7 @@ pub mod Running
 pub mod Held
 pub mod Desk
 pub mod Desks
+pub mod Recalled
 pub mod Host
+pub mod Starting
+pub mod Restarting

@@ -12,12 +12,11 @@ use Rattle.cct_model.specs.lines.entry.Entry.{Entry}
 use Rattle.cct_model.specs.lines.entry.Entry.TheVariants as entry
 use Rattle.cct_model.specs.declared.judging.EpochState.{EpochState}
 use Rattle.cct_model.specs.Device.{is_acceptor}
-use Rattle.cct_model.specs.Job.{address_of}
 use Rattle.cct_model.specs.Money.{coins_of}
-use Rattle.cct_model.specs.Refusal.{pay_refusal, running_refusal, settle_refusal, start_refusal}
+use Rattle.cct_model.specs.Refusal.{id_refusal, pay_refusal, running_refusal, settle_refusal, start_refusal}
 use Rattle.cct_jobs.specs.declared.job.Job.{Job}
 use Rattle.cct_host.specs.declared.dues.Dues.{Dues}
-use Rattle.cct_jobs.specs.Jobs.{coins_asked, end_of_job, halts, order_of}
+use Rattle.cct_jobs.specs.Jobs.{end_of_job, halts, order_of}
 
 -- The job at a place, if there is one, isn't done.
 abbrev pub is_running : Option Job → Bool
@@ -65,6 +64,10 @@ refusal_beside d job state owed last (command.Settle addr) = hopper_refusal d jo
 refusal_beside d job state owed last (command.Ident addr) = busy_by job
 refusal_beside d job state owed last c = None
 
+-- The tests of a sale: one is there, and then its id isn't new.
+abbrev pub sale_refusal : Option Job → ℕ → ℕ → Option CommandNo
+sale_refusal job id last = option_or (busy_by job) (id_refusal id last)
+
 -- How many records a command needs room for beside those that are held. A settlement needs none, since one is held for
 -- its order.
 abbrev pub needed : Command → ℕ
@@ -75,16 +78,18 @@ needed (command.Pay addr id count) = 2
 needed (command.Vend id price) = 1
 needed c = 0
 
--- What a command reserves until its order is opened.
+-- What a command reserves until its order is opened or its sale is put.
 abbrev pub amount_of : Setup → Command → ℕ
-amount_of setup c = coins_of setup (address_of c) (coins_asked c)
+amount_of setup (command.Pay addr id count) = coins_of setup addr count
+amount_of setup (command.Vend id price) = price
+amount_of setup c = 0
 
--- The id of the payment at a place after an attempt: none where its job has ended.
+-- The id of the payment or the sale at a place after an attempt: none where its job has ended.
 abbrev pub id_left : Option Job → ℕ → ℕ
 id_left None id = 0
 id_left (Some job) id = id
 
--- What is recorded of the payments at a place after an attempt.
+-- What is recorded of the payments or the sales at a place after an attempt.
 abbrev pub dues_left : Option Job → Dues → Dues
 dues_left kept owed = record { order = owed.order; id = id_left kept owed.id }
 

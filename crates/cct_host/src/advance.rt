@@ -20,7 +20,7 @@ use arrayvec::ArrayVec;
 use cct_disk::Disk;
 use cct_edge::Failed;
 use cct_journal::{Journal, JournalNo};
-use cct_ledger::{Ledger, NotAllowed, coins_of};
+use cct_ledger::{Ledger, NotAllowed};
 use cct_model::{Entry, Record};
 use cct_wire::Link;
 
@@ -35,7 +35,7 @@ pub(crate) fn advance<D: Disk, L: Link>(
 ) -> Result<(), Failed>
     requires room { array_vec_len report.old ≤ 6 }
     requires whole { journals.has_failed journal.old ≡ false }
-    requires fits { journals.used_of journal.old + all_desks.held_of desks.old
+    requires fits { journals.used_of journal.old + all_desks.puts_of desks.old
         ≤ capacity_of (D.size (journals.disk_of journal.old)) }
     requires reserved { ledgers.reserved_of ledger.old ≡ all_desks.reserved_of desks.old }
     requires counted { ledgers.applied ledger.old ≤ journals.used_of journal.old }
@@ -46,7 +46,7 @@ pub(crate) fn advance<D: Disk, L: Link>(
     ensures same { ledgers.setup_of ledger.new ≡ all_desks.setup_of desks.new }
     ensures reserved { ledgers.reserved_of ledger.new ≡ all_desks.reserved_of desks.new }
     ensures counted { ledgers.applied ledger.new ≤ journals.used_of journal.new }
-    ensures fits { journals.used_of journal.new + all_desks.held_of desks.new
+    ensures fits { journals.used_of journal.new + all_desks.puts_of desks.new
         ≤ capacity_of (D.size (journals.disk_of journal.new)) }
 
     // the attempt
@@ -128,8 +128,8 @@ fn go_on<L: Link>(
     ensures same { ledgers.setup_of ledger.new ≡ ledgers.setup_of ledger.old }
     ensures reserved { ledgers.reserved_of ledger.new ≡ all_desks.reserved_of desks.new }
     ensures counted { ledgers.applied ledger.new ≡ ledgers.applied ledger.old }
-    ensures holds { all_desks.held_of desks.new + length (put_by (all_desks.due_on desks.old addr))
-        ≤ all_desks.held_of desks.old }
+    ensures left { all_desks.puts_of desks.new + length (put_by (all_desks.due_on desks.old addr))
+        ≤ all_desks.puts_of desks.old }
     ensures nexts { all_desks.Nexts L.gives link.old link.new addr desks.old desks.new report.old.items
         report.new.items }
     ensures stands { (before : List Record)
@@ -139,10 +139,9 @@ fn go_on<L: Link>(
         → IfSome (all_desks.due_on desks.old addr) (λ r. all_desks.reserved_of desks.new
         ≡ reserved_at_work (all_desks.setup_of desks.old) past - freed_by (all_desks.setup_of desks.old) r) }
 {
-    let coins = desks.coins_reserved(addr);
+    let reserved = desks.reserved_at(addr);
     desks.next(addr, link, report);
-    let freed = coins - desks.coins_reserved(addr);
-    ledger.release(coins_of(desks.setup(), addr, freed));
+    ledger.release(reserved - desks.reserved_at(addr));
 }
 
 /// The ledger takes the record that was put, if one was. One that doesn't follow those before it would leave the ledger

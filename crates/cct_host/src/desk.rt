@@ -1,26 +1,28 @@
-//! The host's desk for one place: a device, or the address of all devices, where scans are.
-ghost use Rattle.std.specs.Prelude.{◌≡◌, ◌≢◌, ◌<◌, ◌≤◌, ◌^◌, ℕ, List, [], ◌∷◌, ◌++◌, ◌*◌, ◌+◌, length, Option, Some, None, true, false, max, IfSome, IsTrue, OnErr, OnOk};
+//! The host's desk for one place: a device, the address of all devices, where scans are, or that of sales.
+ghost use Rattle.std.specs.Prelude.{◌≡◌, ◌<◌, ◌≤◌, ◌^◌, ℕ, List, [], ◌∷◌, ◌++◌, ◌*◌, ◌+◌, length, Option, Some, None, true, false, max, IfSome, IsTrue, OnErr, OnOk};
 ghost use Rattle.std.specs.Option.{option_map};
 ghost use Rattle.arrayvec.specs.ArrayVec.{array_vec_len};
 ghost use Rattle.cct_model.specs.declared.judging.OpenOrder.{OpenOrder};
 ghost use Rattle.cct_model.specs.lines.entry.Entry.{Entry};
 ghost use Rattle.cct_model.specs.terms.device.Setup.{Setup};
 ghost use Rattle.cct_model.specs.Exchange.{device_at};
+ghost use Rattle.cct_model.specs.Following as following;
 ghost use Rattle.cct_model.specs.Job.{address_of, counted, epoch_by, works};
-ghost use Rattle.cct_model.specs.Legal.{is_played_command};
+ghost use Rattle.cct_model.specs.Order.{order_by};
 ghost use Rattle.cct_model.specs.Records.{id_of};
 ghost use Rattle.cct_model.specs.Refusal.{id_refusal, pay_refusal, running_id, running_refusal, settle_refusal, start_refusal};
 ghost use Rattle.cct_record.specs.Body.{Encodable};
-ghost use Rattle.cct_jobs.specs.Jobs.{MayBegin, coins_asked, order_of};
-ghost use Rattle.cct_host.specs.Held.{FitsIn, FitsIn-prop, coins_by, due_by, held_by, order_left, put_in, puts_left};
+ghost use Rattle.cct_jobs.specs.Jobs.{MayBegin, coins_asked, is_of_device, order_of, records_of};
+ghost use Rattle.cct_ledger.specs.Orders.{has_id};
+ghost use Rattle.cct_host.specs.Held.{FitsIn, FitsIn-prop, coins_by, due_by, order_left, price_by, put_in, puts_left, sells_only};
 ghost use Rattle.cct_host.specs.Place as places;
-ghost use Rattle.cct_host.specs.Running.{acceptor_refusal, busy_by, halting_refusal, halts_in, hopper_refusal, id_left, is_halt, is_running, needed, refusal_beside};
+ghost use Rattle.cct_host.specs.Running.{acceptor_refusal, busy_by, halting_refusal, halts_in, hopper_refusal, id_left, is_halt, is_running, needed, refusal_beside, sale_refusal};
 
 use crate::dues::Dues;
 use crate::exchange::{converse, settled};
 use crate::values::valueless;
 use arrayvec::ArrayVec;
-use cct_jobs::{Job, Need};
+use cct_jobs::{Job, Need, Owed};
 use cct_model::{
     Command, CommandNo, DEVICES, DeviceSetup, Entry, EpochState, OpenOrder, Record, Setup,
 };
@@ -51,7 +53,8 @@ impl Default for JobDesk {
 }
 
 impl JobDesk {
-    ghost use Rattle.cct_host.specs.Desk.{Attempts, Commands, CommandsAbove, Keeps, RefusesAbove, Sits, greatest_paying, held_at, held_in};
+    ghost use Rattle.cct_host.specs.Desk.{Attempts, Commands, CommandsAbove, Keeps, RefusesAbove, Sits, greatest_paying, held_at, held_in, puts_at};
+    ghost use Rattle.cct_host.specs.Recalled.{may_begin};
 
     /// A command to the device of this desk is taken, or refused for the first reason that holds; a refused one changes
     /// nothing.
@@ -63,10 +66,10 @@ impl JobDesk {
         last: u32,
     ) -> Result<(), CommandNo>
         requires there { device_at setup.now.devices (address_of command.now) ≡ Some device.now }
-        requires played { IsTrue (is_played_command command.now) }
-        requires no_scan { command.now ≢ Command.Scan }
+        requires of_device { is_of_device command.now ≡ true }
         ensures stays { OnErr result (self.new ≡ self.old) }
         ensures holds { OnOk result (held_at self.new ≤ held_at self.old + needed command.now) }
+        ensures puts { OnOk result (puts_at self.new ≤ puts_at self.old + records_of command.now) }
         ensures reserves { OnOk result (coins_by self.new.job ≡ coins_by self.old.job + coins_asked command.now) }
         ensures commands { device.now.serial < 2 ^ 24
             → CommandsAbove setup.now last (places.device device.now) self.old self.new command.now result }
@@ -86,8 +89,7 @@ impl JobDesk {
         device: &DeviceSetup,
         last: u32,
     ) -> Option<CommandNo>
-        requires played { IsTrue (is_played_command command.now) }
-        requires no_scan { command.now ≢ Command.Scan }
+        requires of_device { is_of_device command.now ≡ true }
         ensures { (setup : Setup) → device_at setup.devices (address_of command.now) ≡ Some device.now
             → RefusesAbove setup last (places.device device.now) self.now command.now result }
     {
@@ -109,6 +111,7 @@ impl JobDesk {
         requires halt { is_halt command.now ≡ true }
         ensures stays { OnErr result (self.new ≡ self.old) }
         ensures holds { OnOk result (held_at self.new ≤ held_at self.old + needed command.now) }
+        ensures puts { OnOk result (puts_at self.new ≤ puts_at self.old + records_of command.now) }
         ensures reserves { OnOk result (coins_by self.new.job ≡ coins_by self.old.job + coins_asked command.now) }
         ensures commands { Commands setup.now (places.device device.now) self.old self.new command.now result }
     {
@@ -156,11 +159,11 @@ impl JobDesk {
         last: u32,
     ) -> Result<(), CommandNo>
         requires there { device_at setup.now.devices (address_of command.now) ≡ Some device.now }
-        requires played { IsTrue (is_played_command command.now) }
         requires no_halt { is_halt command.now ≡ false }
-        requires no_scan { command.now ≢ Command.Scan }
+        requires of_device { is_of_device command.now ≡ true }
         ensures stays { OnErr result (self.new ≡ self.old) }
         ensures holds { OnOk result (held_at self.new ≤ held_at self.old + needed command.now) }
+        ensures puts { OnOk result (puts_at self.new ≤ puts_at self.old + records_of command.now) }
         ensures reserves { OnOk result (coins_by self.new.job ≡ coins_by self.old.job + coins_asked command.now) }
         ensures commands { device.now.serial < 2 ^ 24
             → CommandsAbove setup.now last (places.device device.now) self.old self.new command.now result }
@@ -186,6 +189,49 @@ impl JobDesk {
         }
     }
 
+    /// Whether an epoch with a mask may begin at the acceptor of this desk: none runs, and each place of the mask, which
+    /// isn't 0, has a value.
+    pub(crate) fn epoch_may_begin(&self, device: &DeviceSetup, mask: u16) -> bool
+        ensures { result ≡ may_begin device.now self.now.epoch mask }
+    {
+        device.body.is_acceptor()
+            && !self.epoch_runs()
+            && mask != 0
+            && valueless(&device.body, mask).is_none()
+    }
+
+    /// Whether an epoch runs.
+    pub(crate) fn epoch_runs(&self) -> bool
+        ensures { result ≡ following.is_running self.now.epoch }
+    {
+        match self.epoch {
+            EpochState::Idle => false,
+            EpochState::Running { .. } => true,
+        }
+    }
+
+    /// Whether the open order has this id.
+    pub(crate) fn owes(&self, id: u32) -> bool
+        ensures { result ≡ has_id id (order_of self.now.dues.order) }
+    {
+        match &self.dues.order {
+            Some(owed) => owed.order.id == id,
+            None => false,
+        }
+    }
+
+    /// A record of this desk's device is recalled: the epoch or the open order goes on by it.
+    pub(crate) fn recall(&mut self, entry: &Record)
+        requires encodable { Encodable entry.now }
+        ensures job { self.new.job ≡ self.old.job }
+        ensures epoch { self.new.epoch ≡ epoch_by entry.now self.old.epoch }
+        ensures order { order_of self.new.dues.order ≡ order_by entry.now (order_of self.old.dues.order) }
+        ensures id { self.new.dues.id ≡ self.old.dues.id }
+    {
+        self.epoch = epoch_by(entry, self.epoch);
+        self.dues.order = order_by(entry, self.dues.order);
+    }
+
     /// A scan is taken, or refused since one runs; a refused one changes nothing.
     pub(crate) fn scan(&mut self, command: &Command, setup: &Setup) -> Result<(), CommandNo>
         requires { command.now ≡ Command.Scan }
@@ -198,6 +244,42 @@ impl JobDesk {
                 self.job = Some(Job::begin(command, setup, &self.epoch, None));
                 Ok(())
             }
+        }
+    }
+
+    /// A sale is taken, or refused since one runs or its id isn't above the last one; a refused one changes nothing.
+    pub(crate) fn sell(
+        &mut self,
+        id: u32,
+        price: u32,
+        setup: &Setup,
+        last: u32,
+    ) -> Result<(), CommandNo>
+        ensures stays { OnErr result (self.new ≡ self.old) }
+        ensures holds { OnOk result (held_at self.new ≤ held_at self.old + 1) }
+        ensures puts { OnOk result (puts_at self.new ≤ puts_at self.old + 1) }
+        ensures reserves { OnOk result (price_by self.new.job ≡ price_by self.old.job + price) }
+        ensures sells { sells_only self.old.job ≡ true → sells_only self.new.job ≡ true }
+        ensures commands { CommandsAbove setup.now last places.sales self.old self.new (Command.Vend id price) result }
+    {
+        match self.sale_refusal(id, last) {
+            Some(why) => Err(why),
+            None => {
+                let command = Command::Vend { id, price };
+                self.job = Some(Job::begin(&command, setup, &self.epoch, None));
+                self.dues.id = id;
+                Ok(())
+            }
+        }
+    }
+
+    /// Why a sale is refused, if it is: one runs, or its id isn't new.
+    pub(crate) fn sale_refusal(&self, id: u32, last: u32) -> Option<CommandNo>
+        ensures { result ≡ sale_refusal self.now.job id last }
+    {
+        match self.busy() {
+            Some(why) => Some(why),
+            None => id_refusal(id, last),
         }
     }
 
@@ -316,10 +398,11 @@ impl JobDesk {
         requires room { array_vec_len report.old ≤ 6 }
         ensures attempts { Attempts L.gives link.old link.new addr self.old.job self.old.epoch self.old.dues
             self.new result report.old.items report.new.items }
-        ensures holds { held_at self.new ≤ held_at self.old }
-        ensures puts { IfSome (due_by self.old.job) (λ r. held_at self.new < held_at self.old) }
+        ensures left { puts_at self.new ≤ puts_at self.old }
+        ensures puts { IfSome (due_by self.old.job) (λ r. puts_at self.new < puts_at self.old) }
         ensures reserves { coins_by self.new.job ≤ coins_by self.old.job }
         ensures clears { IfSome (due_by self.old.job) (λ r. coins_by self.new.job ≡ 0) }
+        ensures sells { sells_only self.old.job ≡ true → self.new.job ≡ None }
     {
         match self.job.take() {
             None => {
@@ -343,11 +426,11 @@ impl JobDesk {
         requires room { array_vec_len report.old ≤ 6 }
         ensures attempts { Attempts L.gives link.old link.new addr (Some job) self.old.epoch self.old.dues
             self.new result report.old.items report.new.items }
-        ensures holds { held_at self.new ≤ held_by (Some job) (order_of self.old.dues.order) }
-        ensures puts { IfSome (due_by (Some job)) (λ r. held_at self.new
-            < held_by (Some job) (order_of self.old.dues.order)) }
+        ensures left { puts_at self.new ≤ puts_left (Some job) }
+        ensures puts { IfSome (due_by (Some job)) (λ r. puts_at self.new < puts_left (Some job)) }
         ensures reserves { coins_by self.new.job ≤ coins_by (Some job) }
         ensures clears { IfSome (due_by (Some job)) (λ r. coins_by self.new.job ≡ 0) }
+        ensures sells { sells_only (Some job) ≡ true → self.new.job ≡ None }
     {
         match job.needs() {
             Need::Exchange => {
@@ -369,9 +452,16 @@ impl JobDesk {
         }
     }
 
+    /// The id of the payment or the sale that is at work, or 0.
+    pub(crate) fn id(&self) -> u32
+        ensures { result ≡ self.now.dues.id }
+    {
+        self.dues.id
+    }
+
     /// How many records are held for this place: those that its job may still put, and one for an open order that no
     /// job is at work to close.
-    fn held(&self) -> u32
+    pub(crate) fn held(&self) -> u32
         ensures value { result ≡ held_at self.now }
         ensures few { result ≤ 3 }
     {
@@ -435,6 +525,16 @@ impl JobDesk {
         }
     }
 
+    /// What the job reserves besides coins, in units of value.
+    pub(crate) fn price_reserved(&self) -> u32
+        ensures { result ≡ price_by self.now.job }
+    {
+        match &self.job {
+            Some(job) => job.price_reserved(),
+            None => 0,
+        }
+    }
+
     /// The greatest id of the payments at work at desks.
     pub(crate) fn greatest_paying(desks: &[JobDesk]) -> u32
         ensures { result ≡ greatest_paying desks.now }
@@ -445,7 +545,7 @@ impl JobDesk {
         }
     }
 
-    /// The id of the payment that is still at work, or 0.
+    /// The id of the payment or the sale that is still at work, or 0.
     fn id_left(&self) -> u32
         ensures { result ≡ id_left self.now.job self.now.dues.id }
     {
@@ -499,7 +599,7 @@ fn id_refusal(id: u32, last: u32) -> Option<CommandNo>
 }
 
 /// The id that a record uses, of an order that it opens or of a sale; 0 of others.
-fn id_of(entry: &Record) -> u32
+pub(crate) fn id_of(entry: &Record) -> u32
     ensures { result ≡ id_of entry.now }
 {
     match entry {
@@ -529,6 +629,31 @@ fn epoch_by(entry: &Record, before: EpochState) -> EpochState
         Record::Reading { counter, .. } => counted(*counter, before),
         Record::Broken { .. } => EpochState::Idle,
         Record::EpochEnd { .. } => EpochState::Idle,
+        _ => before,
+    }
+}
+
+/// The open order after a record: it is opened, closed, or as before.
+fn order_by(entry: &Record, before: Option<Owed>) -> Option<Owed>
+    requires encodable { Encodable entry.now }
+    ensures { order_of result ≡ order_by entry.now (order_of before) }
+{
+    match entry {
+        Record::Opened {
+            id,
+            addr,
+            count,
+            life,
+        } => Some(Owed {
+            order: OpenOrder {
+                id: *id,
+                addr: *addr,
+                count: *count,
+                life: *life,
+            },
+        }),
+        Record::Closed { .. } => None,
+        Record::Odd { .. } => None,
         _ => before,
     }
 }

@@ -1,20 +1,29 @@
 //! The host's desks: a job at each address, the epochs of its acceptors, and the open orders of its hoppers.
-ghost use Rattle.std.specs.Prelude.{◌≡◌, ◌≢◌, ◌==◌, ◌<◌, ◌≤◌, ℕ, List, [], ◌∷◌, ◌++◌, ◌+◌, ◌-◌, IfSome, IsTrue, OnErr, OnOk, Option, Some, None, length, max};
+ghost use Rattle.std.specs.Prelude.{◌≡◌, ◌==◌, ◌<◌, ◌≤◌, ℕ, List, [], ◌∷◌, ◌++◌, ◌+◌, ◌-◌, ◌*◌, IfSome, OnErr, OnOk, Option, Some, None, false, length, max, true};
 ghost use Rattle.std.specs.List.{All, position};
 ghost use Rattle.arrayvec.specs.ArrayVec.{array_vec_len};
 ghost use Rattle.cct_model.specs.Exchange.{device_at};
+ghost use Rattle.cct_model.specs.Following.{all_follow, follows, is_running};
 ghost use Rattle.cct_model.specs.Job.{address_of};
 ghost use Rattle.cct_model.specs.lines.entry.Entry.{Entry};
-ghost use Rattle.cct_model.specs.Legal.{due_at, is_played_command};
-ghost use Rattle.cct_model.specs.Money.{coins_of, freed_by};
+ghost use Rattle.cct_model.specs.lines.record.Record.TheVariants as record_of;
+ghost use Rattle.cct_model.specs.Legal.{due_at};
+ghost use Rattle.cct_model.specs.Money.{freed_by};
+ghost use Rattle.cct_model.specs.Records.{epoch_in, owner_in};
 ghost use Rattle.cct_model.specs.Refusal.{held};
 ghost use Rattle.cct_model.specs.Setup.{IsSoundSetup};
+ghost use Rattle.cct_ledger.specs.Orders.{has_id};
+ghost use Rattle.cct_ledger.specs.Told.{is_of_money};
 ghost use Rattle.cct_record.specs.Body.{Encodable};
-ghost use Rattle.cct_host.specs.Desk.{IsFree, greatest_paying};
+ghost use Rattle.cct_jobs.specs.Jobs.{is_of_device, order_of, records_of};
+ghost use Rattle.cct_host.specs.Desk.{IsFree, puts_at};
+ghost use Rattle.cct_host.specs.Held.{sells_only};
 ghost use Rattle.cct_host.specs.Running.{amount_of, needed};
+ghost use Rattle.cct_host.specs.Sound.{IsSoundSetup-prop};
 
-use crate::desk::{JobDesk, greater};
+use crate::desk::{JobDesk, greater, id_of};
 use arrayvec::ArrayVec;
+use cct_ledger::coins_of;
 use cct_model::{BROADCAST, Command, CommandNo, DEVICES, DeviceSetup, Entry, HOST, Record, Setup};
 use cct_wire::Link;
 
@@ -28,26 +37,31 @@ pub struct Desks<'s> {
     devices: ArrayVec<JobDesk, DEVICES>,
     /// The desk of scans.
     scan: JobDesk,
+    /// The desk of sales.
+    sale: JobDesk,
     /// The greatest id of the records.
     last: u32,
+    ghost sound: { IsSoundSetup setup.now } by { IsSoundSetup-prop setup.now },
     ghost many: { length devices.items ≡ length setup.now.devices },
+    ghost sells: { sells_only sale.job ≡ true },
 }
 
 impl<'s> Desks<'s> {
-    ghost use Rattle.cct_host.specs.Desks.{Answers, Nexts, Refuses, StandsFor, Stays, coins_on, desk_there, due_on, held_of, reserved_of, setup_of};
+    ghost use Rattle.cct_host.specs.Desks.{Answers, Nexts, Refuses, StandsFor, Stays, amount_at_desk, amount_on, desk_there, due_at_desk, due_on, held_of, puts_of, reserved_of, setup_of, working_id};
+    ghost use Rattle.cct_host.specs.Recalled.{AreUnused, Recalls};
 
     /// The desks of a host to which nothing has happened: there is no job, and no epoch runs.
     pub fn new(setup: &'s Setup) -> Self
         requires sound { IsSoundSetup setup.now }
         ensures setup { setup_of result ≡ setup.now }
-        ensures holds { held_of result ≡ 0 }
-        ensures reserves { reserved_of result ≡ 0 }
+        ensures recalls { Recalls result [] }
         ensures fresh { StandsFor result [] }
     {
         Desks {
             setup,
             devices: free_desks(setup.devices.as_slice()),
             scan: JobDesk::default(),
+            sale: JobDesk::default(),
             last: 0,
         }
     }
@@ -61,16 +75,20 @@ impl<'s> Desks<'s> {
 
     /// The operator gives a command. A refused one, for the first reason that holds, changes nothing.
     pub fn command(&mut self, command: &Command) -> Result<(), CommandNo>
-        requires played { IsTrue (is_played_command command.now) }
         ensures setup { setup_of self.new ≡ setup_of self.old }
         ensures stays { OnErr result (Stays self.old self.new) }
         ensures holds { OnOk result (held_of self.new ≤ held_of self.old + needed command.now) }
+        ensures puts { OnOk result (puts_of self.new ≤ puts_of self.old + records_of command.now) }
         ensures reserves { OnOk result (reserved_of self.new
             ≡ reserved_of self.old + amount_of (setup_of self.old) command.now) }
         ensures answers { Answers self.old self.new command.now result }
     {
         match *command {
             Command::Scan => self.scan.scan(command, self.setup),
+            Command::Vend { id, price } => {
+                let last = self.last_id();
+                self.sale.sell(id, price, self.setup, last)
+            }
             Command::Start { addr, .. } => self.command_at(addr, command),
             Command::Round { addr } => self.command_at(addr, command),
             Command::Stop { addr } => self.command_at(addr, command),
@@ -79,18 +97,17 @@ impl<'s> Desks<'s> {
             Command::Settle { addr } => self.command_at(addr, command),
             Command::Halt { addr } => self.command_at(addr, command),
             Command::Ident { addr } => self.command_at(addr, command),
-            _ => unreachable!(),
         }
     }
 
     /// The operator gives a command to the device at an address.
     fn command_at(&mut self, addr: u8, command: &Command) -> Result<(), CommandNo>
-        requires played { IsTrue (is_played_command command.now) }
-        requires no_scan { command.now ≢ Command.Scan }
+        requires of_device { is_of_device command.now ≡ true }
         requires address { address_of command.now ≡ addr }
         ensures setup { setup_of self.new ≡ setup_of self.old }
         ensures stays { OnErr result (Stays self.old self.new) }
         ensures holds { OnOk result (held_of self.new ≤ held_of self.old + needed command.now) }
+        ensures puts { OnOk result (puts_of self.new ≤ puts_of self.old + records_of command.now) }
         ensures reserves { OnOk result (reserved_of self.new
             ≡ reserved_of self.old + amount_of (setup_of self.old) command.now) }
         ensures answers { Answers self.old self.new command.now result }
@@ -106,19 +123,18 @@ impl<'s> Desks<'s> {
     /// Why a command is refused, if it is: the first reason that holds, whatever room there is for its records and
     /// whatever is available. This only asks: the command isn't taken.
     pub fn refusal(&self, command: &Command) -> Option<CommandNo>
-        requires played { IsTrue (is_played_command command.now) }
         ensures { Refuses self.now command.now result }
     {
         match command {
             Command::Scan => self.scan.busy(),
+            Command::Vend { id, .. } => self.sale.sale_refusal(*id, self.last_id()),
             _ => self.refusal_at(address_of(command), command),
         }
     }
 
     /// Why a command to the device at an address is refused, if it is.
     fn refusal_at(&self, addr: u8, command: &Command) -> Option<CommandNo>
-        requires played { IsTrue (is_played_command command.now) }
-        requires no_scan { command.now ≢ Command.Scan }
+        requires of_device { is_of_device command.now ≡ true }
         requires address { address_of command.now ≡ addr }
         ensures { Refuses self.now command.now result }
     {
@@ -133,46 +149,157 @@ impl<'s> Desks<'s> {
         }
     }
 
-    /// The last id: the greatest of the records and of the payments at work, 0 where there is none.
+    /// The last id: the greatest of the records, of the payments and of the sale at work, 0 where there is none.
     fn last_id(&self) -> u32
-        ensures { result ≡ max self.now.last (greatest_paying self.now.devices.items) }
+        ensures { result ≡ max self.now.last (working_id self.now) }
     {
-        greater(self.last, JobDesk::greatest_paying(self.devices.as_slice()))
+        let at_work = greater(
+            JobDesk::greatest_paying(self.devices.as_slice()),
+            self.sale.id(),
+        );
+        greater(self.last, at_work)
     }
 
     /// How many records are held: those that running jobs may still put, and one for each open order that no job is at
     /// work to close.
     pub fn held(&self) -> u32
         ensures value { result ≡ held_of self.now }
+        ensures few { result ≤ 3 * (DEVICES + 1) }
         ensures stands { (past : List Entry) → StandsFor self.now past → result ≡ held (setup_of self.now) past }
     {
-        JobDesk::held_in(self.devices.as_slice())
+        JobDesk::held_in(self.devices.as_slice()) + self.sale.held()
     }
 
     /// The record that the job at an address is about to put, if it is about to put one.
     pub fn due(&self, addr: u8) -> Option<Record>
         ensures value { result ≡ due_on self.now addr }
         ensures fits { IfSome result Encodable }
-        ensures holds { IfSome result (λ r. 1 ≤ held_of self.now) }
+        ensures puts { IfSome result (λ r. 1 ≤ puts_of self.now) }
         ensures stands { (past : List Entry) → StandsFor self.now past
             → result ≡ due_at (setup_of self.now) past addr }
     {
         match index_of(self.setup.devices.as_slice(), addr) {
             Some(index) => self.devices[index].due(),
-            None => None,
+            None => self.bare_due(addr),
         }
     }
 
-    /// How many coins the job at an address reserves: those of the order that a payment there is still to open. The
-    /// record that the job is about to put, if it is about to put one, takes just their value.
-    pub fn coins_reserved(&self, addr: u8) -> u8
-        ensures value { result ≡ coins_on self.now addr }
-        ensures frees { (past : List Entry) → StandsFor self.now past → IfSome (due_on self.now addr)
-            (λ r. coins_of (setup_of self.now) addr result ≡ freed_by (setup_of self.now) r) }
+    /// The record that the job at an address without a device is about to put, if it is about to put one: it is a sale.
+    fn bare_due(&self, addr: u8) -> Option<Record>
+        ensures value { result ≡ due_at_desk self.now.sale addr None }
+        ensures fits { IfSome result Encodable }
+        ensures puts { IfSome result (λ r. 1 ≤ puts_at self.now.sale) }
+    {
+        if addr == HOST { self.sale.due() } else { None }
+    }
+
+    /// Whether a record of an epoch follows those before it. A record of an order or of a sale is the ledger's to
+    /// judge.
+    pub(crate) fn may_follow(&self, entry: &Record) -> bool
+        ensures epochs { (before : List Record) → Recalls self.now before
+            → all_follow (setup_of self.now) before ≡ true → is_of_money entry.now ≡ false
+            → result ≡ follows (setup_of self.now) before entry.now }
+        ensures others { is_of_money entry.now ≡ true → result ≡ true }
+    {
+        match entry {
+            Record::Epoch { addr, mask } => self.epoch_may_begin(*addr, *mask),
+            Record::Reading { addr, .. } => self.epoch_runs(*addr),
+            Record::Broken { addr, .. } => self.epoch_runs(*addr),
+            Record::EpochEnd { addr } => self.epoch_runs(*addr),
+            _ => true,
+        }
+    }
+
+    /// Whether an epoch with a mask may begin at an address.
+    fn epoch_may_begin(&self, addr: u8, mask: u16) -> bool
+        ensures { (before : List Record) → Recalls self.now before
+            → result ≡ follows (setup_of self.now) before (record_of.Epoch addr mask) }
+    {
+        let devices = self.setup.devices.as_slice();
+        match index_of(devices, addr) {
+            Some(index) => self.devices[index].epoch_may_begin(&devices[index], mask),
+            None => false,
+        }
+    }
+
+    /// Whether an epoch runs at an address.
+    fn epoch_runs(&self, addr: u8) -> bool
+        ensures { (before : List Record) → Recalls self.now before → all_follow (setup_of self.now) before ≡ true
+            → result ≡ is_running (epoch_in addr before) }
     {
         match index_of(self.setup.devices.as_slice(), addr) {
-            Some(index) => self.devices[index].coins_reserved(),
-            None => 0,
+            Some(index) => self.devices[index].epoch_runs(),
+            None => false,
+        }
+    }
+
+    /// A record that follows those before it is recalled: its device's epoch or open order goes on by it, and its id is
+    /// used.
+    pub(crate) fn recall(&mut self, entry: &Record)
+        requires encodable { Encodable entry.now }
+        ensures setup { setup_of self.new ≡ setup_of self.old }
+        ensures unused { AreUnused self.old → AreUnused self.new }
+        ensures recalls { (before : List Record) → Recalls self.old before
+            → all_follow (setup_of self.old) before ≡ true → follows (setup_of self.old) before entry.now ≡ true
+            → Recalls self.new (entry.now ∷ before) }
+    {
+        let owner = self.owner_of(entry);
+        self.last = greater(id_of(entry), self.last);
+        if let Some(index) = owner {
+            self.devices[index].recall(entry);
+        }
+    }
+
+    /// The index of the device that a record belongs to, or none of a sale.
+    fn owner_of(&self, entry: &Record) -> Option<usize>
+        ensures within { IfSome result (λ index. index < length self.now.devices.items) }
+        ensures owner { (before : List Record) → Recalls self.now before
+            → all_follow (setup_of self.now) before ≡ true → follows (setup_of self.now) before entry.now ≡ true
+            → result ≡ position (λ d. d.addr == owner_in before entry.now) (setup_of self.now).devices }
+    {
+        let devices = self.setup.devices.as_slice();
+        match entry {
+            Record::Epoch { addr, .. } => index_of(devices, *addr),
+            Record::Reading { addr, .. } => index_of(devices, *addr),
+            Record::Broken { addr, .. } => index_of(devices, *addr),
+            Record::EpochEnd { addr } => index_of(devices, *addr),
+            Record::Opened { addr, .. } => index_of(devices, *addr),
+            Record::Closed { id, .. } => self.owing(*id),
+            Record::Odd { id, .. } => self.owing(*id),
+            Record::Sold { .. } => None,
+        }
+    }
+
+    /// The index of the device whose open order has an id, or none.
+    fn owing(&self, id: u32) -> Option<usize>
+        ensures within { IfSome result (λ index. index < length self.now.devices.items) }
+        ensures first { result ≡ position (λ desk. has_id id (order_of desk.dues.order)) self.now.devices.items }
+    {
+        self.devices.iter().position(|desk| desk.owes(id))
+    }
+
+    /// What the job at an address reserves, in units of value: that of the coins of the order that a payment there is
+    /// still to open, and the price of a sale that is still to be put. The record that the job is about to put, if it
+    /// is about to put one, takes just that.
+    pub fn reserved_at(&self, addr: u8) -> u64
+        ensures value { result ≡ amount_on self.now addr }
+        ensures frees { (past : List Entry) → StandsFor self.now past → IfSome (due_on self.now addr)
+            (λ r. result ≡ freed_by (setup_of self.now) r) }
+    {
+        match index_of(self.setup.devices.as_slice(), addr) {
+            Some(index) => coins_of(self.setup, addr, self.devices[index].coins_reserved()),
+            None => self.bare_reserved(addr),
+        }
+    }
+
+    /// What the job at an address without a device reserves: it is a sale.
+    fn bare_reserved(&self, addr: u8) -> u64
+        ensures { result ≡ amount_at_desk (setup_of self.now) self.now.sale addr None }
+    {
+        if addr == HOST {
+            u64::from(self.sale.price_reserved())
+        } else {
+            0
         }
     }
 
@@ -181,12 +308,11 @@ impl<'s> Desks<'s> {
     pub fn next<L: Link>(&mut self, addr: u8, link: &mut L, report: &mut ArrayVec<Entry, 8>)
         requires room { array_vec_len report.old ≤ 6 }
         ensures setup { setup_of self.new ≡ setup_of self.old }
-        ensures holds { held_of self.new ≤ held_of self.old }
-        ensures puts { IfSome (due_on self.old addr) (λ r. held_of self.new < held_of self.old) }
-        ensures reserves { coins_on self.new addr ≤ coins_on self.old addr }
-        ensures clears { IfSome (due_on self.old addr) (λ r. coins_on self.new addr ≡ 0) }
-        ensures frees { reserved_of self.new
-            + coins_of (setup_of self.old) addr (coins_on self.old addr - coins_on self.new addr)
+        ensures left { puts_of self.new ≤ puts_of self.old }
+        ensures puts { IfSome (due_on self.old addr) (λ r. puts_of self.new < puts_of self.old) }
+        ensures reserves { amount_on self.new addr ≤ amount_on self.old addr }
+        ensures clears { IfSome (due_on self.old addr) (λ r. amount_on self.new addr ≡ 0) }
+        ensures frees { reserved_of self.new + (amount_on self.old addr - amount_on self.new addr)
             ≡ reserved_of self.old }
         ensures nexts { Nexts L.gives link.old link.new addr self.old self.new report.old.items report.new.items }
     {
@@ -199,23 +325,25 @@ impl<'s> Desks<'s> {
         }
     }
 
-    /// An address without a device is idle, but for a scan at the address of all devices.
+    /// An address without a device is idle, but for a scan at the address of all devices, and a sale at the host's own.
     fn bare_next<L: Link>(&mut self, addr: u8, link: &mut L, report: &mut ArrayVec<Entry, 8>)
         requires bare { device_at (setup_of self.old).devices addr ≡ None }
         requires nobody { desk_there self.old addr ≡ None }
         requires room { array_vec_len report.old ≤ 6 }
         ensures setup { setup_of self.new ≡ setup_of self.old }
-        ensures holds { held_of self.new ≤ held_of self.old }
-        ensures puts { IfSome (due_on self.old addr) (λ r. held_of self.new < held_of self.old) }
-        ensures reserves { coins_on self.new addr ≤ coins_on self.old addr }
-        ensures clears { IfSome (due_on self.old addr) (λ r. coins_on self.new addr ≡ 0) }
-        ensures frees { reserved_of self.new
-            + coins_of (setup_of self.old) addr (coins_on self.old addr - coins_on self.new addr)
+        ensures left { puts_of self.new ≤ puts_of self.old }
+        ensures puts { IfSome (due_on self.old addr) (λ r. puts_of self.new < puts_of self.old) }
+        ensures reserves { amount_on self.new addr ≤ amount_on self.old addr }
+        ensures clears { IfSome (due_on self.old addr) (λ r. amount_on self.new addr ≡ 0) }
+        ensures frees { reserved_of self.new + (amount_on self.old addr - amount_on self.new addr)
             ≡ reserved_of self.old }
         ensures nexts { Nexts L.gives link.old link.new addr self.old self.new report.old.items report.new.items }
     {
         if addr == BROADCAST {
             let used = self.scan.next(addr, link, report);
+            self.last = greater(used, self.last);
+        } else if addr == HOST {
+            let used = self.sale.next(addr, link, report);
             self.last = greater(used, self.last);
         } else {
             report.push(Entry::Idle { addr });

@@ -1,39 +1,37 @@
 //! The host over its journal: a record is put before its entry is told, and no put finds the journal full.
-ghost use Rattle.std.specs.Prelude.{◌≡◌, ◌≤◌, ◌<◌, ◌+◌, ◌-◌, List, [], Option, Some, None, IfOk, OnErr, OnOk, IsTrue, false, is_ok};
+ghost use Rattle.std.specs.Prelude.{◌≡◌, ◌≢◌, ◌≤◌, ◌+◌, length, List, [], Option, Some, None, Err, IfErr, IfOk, IfSome, MatchResult, OnErr, OnOk, IsTrue, false, is_ok, reverse};
 ghost use Rattle.arrayvec.specs.ArrayVec.{array_vec_len};
 ghost use Rattle.cct_edge.specs.Faults.{Rose};
 ghost use Rattle.cct_model.specs.lines.entry.Entry.{Entry};
 ghost use Rattle.cct_model.specs.lines.record.Record.{Record};
-ghost use Rattle.cct_model.specs.Legal.{is_played_command};
 ghost use Rattle.cct_model.specs.Money.{totals};
+ghost use Rattle.cct_model.specs.Records.{records};
 ghost use Rattle.cct_model.specs.Refusal as refusals;
+ghost use Rattle.cct_model.specs.Script.{IsCrash};
 ghost use Rattle.cct_model.specs.Setup.{IsSoundSetup};
-ghost use Rattle.cct_disk.specs.Disk.{IsTrusted};
+ghost use Rattle.cct_disk.specs.Disk.{IsTrusted, OnlyReads};
 ghost use Rattle.cct_journal.specs.Image.{capacity_of};
 ghost use Rattle.cct_journal.specs.Journal as journals;
-ghost use Rattle.cct_journal.specs.Stands.{GoesOn, Stands};
+ghost use Rattle.cct_journal.specs.Losing.{LeavesWith};
+ghost use Rattle.cct_journal.specs.Stands.{GoesOn, Outlasts, Reads, Stands};
+ghost use Rattle.cct_laws.specs.Restart.{CrashSuits, due_in};
 ghost use Rattle.cct_ledger.specs.Ledger as ledgers;
 ghost use Rattle.cct_host.specs.Desks as all_desks;
+ghost use Rattle.cct_jobs.specs.Jobs.{records_of};
 ghost use Rattle.cct_host.specs.Running.{amount_of, needed};
 
 use crate::Desks;
 use crate::advance::advance;
+use crate::recall::recall;
+use crate::refusal::{CrashNo, StartNo};
+use crate::restart::{Crashed, restart};
 use arrayvec::ArrayVec;
 use cct_disk::Disk;
 use cct_edge::Failed;
 use cct_journal::Journal;
 use cct_ledger::{Ledger, coins_of};
-use cct_model::{Command, CommandNo, Entry, Setup, Totals};
+use cct_model::{Command, CommandNo, CrashAt, Entry, Setup, Totals};
 use cct_wire::Link;
-use thiserror::Error;
-
-/// Why a host can't be started over a journal.
-#[derive(Clone, Copy, Debug, Error, PartialEq, Eq)]
-pub enum StartNo {
-    /// A call of the disk failed.
-    #[error("the disk failed")]
-    Disk,
-}
 
 /// The host: the desks of its jobs, over a journal of its records, with the ledger of what they are worth.
 ///
@@ -47,37 +45,67 @@ pub struct Host<'s, D: Disk> {
     ghost same: { ledgers.setup_of ledger ≡ all_desks.setup_of desks },
     ghost reserved: { ledgers.reserved_of ledger ≡ all_desks.reserved_of desks },
     ghost counted: { ledgers.applied ledger ≤ journals.used_of journal },
-    ghost room: { journals.used_of journal + all_desks.held_of desks ≤ capacity_of (D.size (journals.disk_of journal)) },
+    ghost room: { journals.used_of journal + all_desks.puts_of desks ≤ capacity_of (D.size (journals.disk_of journal)) },
 }
 
 impl<'s, D: Disk> Host<'s, D> {
-    ghost use Rattle.cct_host.specs.Host.{Answers, Fails, Keeps, Nexts, StandsFor, Stays, capacity_in, disk_of, has_failed, setup_of};
+    ghost use Rattle.cct_host.specs.Host.{Answers, Fails, Keeps, Nexts, StandsFor, Stays, capacity_in, disk_of, has_failed, journal_of, put_by, setup_of};
+    ghost use Rattle.cct_host.specs.Restarting.{Crashes, Opens, RefusesCrash, RefusesWith, due_of};
+    ghost use Rattle.cct_host.specs.Starting.{RefusesStart, StartsOver};
 
-    /// The host over a journal without records: it has no job, and no epoch runs.
+    /// The host over a journal, whose records it goes over, oldest first: it has no job, and the epochs, open orders
+    /// and money that they tell. The disk is only read.
     ///
-    /// It is always started: such a journal needn't be read.
+    /// Over a journal without records it always starts. [`StartNo::Disk`] comes where a call of the disk fails, and
+    /// [`StartNo::BadRecord`] at the first record that can't be read or doesn't follow those before it.
     pub fn start(setup: &'s Setup, journal: Journal<D>) -> Result<Host<'s, D>, (D, StartNo)>
         requires sound { IsSoundSetup setup.now }
-        requires unused { journals.used_of journal ≡ 0 }
         requires whole { journals.has_failed journal ≡ false }
-        ensures starts { IsTrue (is_ok result) }
         ensures setup { IfOk result (λ host. setup_of host ≡ setup.now) }
-        ensures disk { IfOk result (λ host. disk_of host ≡ journals.disk_of journal) }
         ensures whole { IfOk result (λ host. has_failed host ≡ false) }
-        ensures fresh { IfOk result (λ host. (IsTrusted D.honest D.seen (journals.disk_of journal)
-            → Stands D.honest D.seen D.may_leave (journals.disk_of journal) (journals.place_of journal) [])
-            → StandsFor host []) }
+
+        // what it knows, and why it isn't started
+        ensures knows { IfOk result (λ host. (records : List Record)
+            → Reads D.seen (journals.disk_of journal) (journals.place_of journal) records
+            → StartsOver host (reverse records)) }
+        ensures refused { IfErr result (λ e. (records : List Record)
+            → Reads D.seen (journals.disk_of journal) (journals.place_of journal) records
+            → RefusesStart e.1 setup.now records) }
+        ensures cause { IfErr result (λ e. e.1 ≡ StartNo.Disk
+            → Rose (D.faults (journals.disk_of journal)) (D.faults e.0)) }
+
+        // over a journal without records
+        ensures starts { journals.used_of journal ≡ 0 → IsTrue (is_ok result) }
+        ensures fresh { IfOk result (λ host. journals.used_of journal ≡ 0 → StartsOver host []) }
+        ensures untouched { IfOk result (λ host. journals.used_of journal ≡ 0 → journal_of host ≡ journal) }
+
+        // the journal and its disk
+        ensures stands { IfOk result (λ host. (records : List Record)
+            → Stands D.honest D.seen D.may_leave (journals.disk_of journal) (journals.place_of journal) records
+            → Stands D.honest D.seen D.may_leave (disk_of host) (journals.place_of (journal_of host)) records) }
+        ensures reads { MatchResult result
+            (λ host. OnlyReads D.size D.honest D.seen D.may_leave D.moment D.left_since D.cuts
+            (journals.disk_of journal) (disk_of host))
+            (λ e. OnlyReads D.size D.honest D.seen D.may_leave D.moment D.left_since D.cuts
+            (journals.disk_of journal) e.0) }
+        ensures later { MatchResult result (λ host. D.faults (journals.disk_of journal) ≤ D.faults (disk_of host))
+            (λ e. D.faults (journals.disk_of journal) ≤ D.faults e.0) }
     {
-        Ok(Host {
-            desks: Desks::new(setup),
-            ledger: Ledger::new(setup),
-            journal,
-        })
+        let mut desks = Desks::new(setup);
+        let mut ledger = Ledger::new(setup);
+        let mut journal = journal;
+        match recall(&mut desks, &mut ledger, &mut journal) {
+            Ok(()) => Ok(Host {
+                desks,
+                ledger,
+                journal,
+            }),
+            Err(why) => Err((journal.into_disk(), why)),
+        }
     }
 
     /// The operator gives a command. A refused one, for the first reason that holds, changes nothing.
     pub fn command(&mut self, command: &Command) -> Result<(), CommandNo>
-        requires played { IsTrue (is_played_command command.now) }
         ensures setup { setup_of self.new ≡ setup_of self.old }
         ensures disk { disk_of self.new ≡ disk_of self.old }
         ensures whole { has_failed self.new ≡ has_failed self.old }
@@ -93,11 +121,10 @@ impl<'s, D: Disk> Host<'s, D> {
     /// Why a command is refused beside the tests of its device, if it is: what it spends isn't available, or the journal
     /// has no room for the records that it may put.
     fn room_refusal(&self, command: &Command) -> Option<CommandNo>
-        requires played { IsTrue (is_played_command command.now) }
         ensures affords { result ≡ None → amount_of (setup_of self.now) command.now
             ≤ ledgers.available_of self.now.ledger }
-        ensures fits { result ≡ None → journals.used_of self.now.journal + all_desks.held_of self.now.desks
-            + needed command.now ≤ capacity_in self.now }
+        ensures fits { result ≡ None → 1 ≤ records_of command.now → journals.used_of self.now.journal
+            + all_desks.held_of self.now.desks + needed command.now ≤ capacity_in self.now }
         ensures stands { (past : List Entry) → Keeps self.now past
             → result ≡ refusals.room_refusal (capacity_in self.now) (setup_of self.now) past command.now }
     {
@@ -110,6 +137,10 @@ impl<'s, D: Disk> Host<'s, D> {
                 self.short_refusal(wanted).or(self.full_refusal(2))
             }
             Command::Settle { .. } => self.full_refusal(0),
+            Command::Vend { price, .. } => {
+                self.short_refusal(u64::from(price))
+                    .or(self.full_refusal(1))
+            }
             _ => None,
         }
     }
@@ -181,6 +212,106 @@ impl<'s, D: Disk> Host<'s, D> {
         )
     }
 
+    /// The host loses its power, in a put of the job at an address, behind so many, 0 to 4, of its four disk calls, or
+    /// in none; and it starts again over what its disk then keeps, which `choice` chooses as for [`Disk::power_cut`]. No
+    /// job runs then.
+    ///
+    /// [`CrashNo::Disk`] comes where a call of the disk fails. Then come, in this order, [`CrashNo::Alien`] and
+    /// [`CrashNo::BadRecord`] as the journal is opened again, [`CrashNo::Lost`], and [`CrashNo::BadRecord`] at the
+    /// first record that doesn't follow those before it. Behind any of them only [`Host::into_disk`] may be called.
+    pub fn restart(&mut self, at: Option<CrashAt>, choice: u64) -> Result<Crashed, CrashNo>
+        requires whole { has_failed self.old ≡ false }
+        requires few { IsCrash at }
+        ensures setup { setup_of self.new ≡ setup_of self.old }
+        ensures whole { OnOk result (has_failed self.new ≡ false) }
+
+        // what it tells, and what it then stands for
+        ensures crashes { IfOk result (Crashes self.old self.new at) }
+        ensures found { OnOk result (Opens (journal_of self.new)) }
+        ensures recalls { OnOk result ((records : List Record)
+            → Reads D.seen (disk_of self.new) (journals.place_of (journal_of self.new)) records
+            → StartsOver self.new (reverse records)) }
+        ensures records { IfOk result (λ crashed. crashed.records ≡ journals.used_of (journal_of self.new)) }
+        ensures counts { IfOk result (λ crashed. crashed.records
+            ≡ journals.used_of (journal_of self.old) + length (put_by crashed.kept)) }
+        ensures kept { IfOk result (λ crashed. IfSome crashed.kept (λ r. due_of self.old at ≡ Some r)) }
+        ensures due { (past : List Entry) → StandsFor self.old past
+            → due_of self.old at ≡ due_in (setup_of self.old) past at }
+
+        // why it isn't started again, and what its disk may then keep
+        ensures refused { IfErr result (RefusesCrash (journal_of self.old) (journal_of self.new) (due_of self.old at)
+            (setup_of self.old)) }
+        ensures never { IfErr result (λ why. (past : List Entry) → StandsFor self.old past
+            → CrashSuits (setup_of self.old) past at → IsTrusted D.honest D.seen (disk_of self.old)
+            → why ≡ CrashNo.Disk) }
+        ensures left { OnErr result ((past : List Entry) → StandsFor self.old past
+            → IsTrusted D.honest D.seen (disk_of self.old) → LeavesWith D.honest D.seen D.may_leave (disk_of self.new)
+            (due_in (setup_of self.old) past at) (reverse (records past))) }
+        ensures cause { result ≡ Err CrashNo.Disk → Rose (D.faults (disk_of self.old)) (D.faults (disk_of self.new)) }
+
+        // the disk
+        ensures cut { result ≢ Err CrashNo.Disk → Rose (D.cuts (disk_of self.old)) (D.cuts (disk_of self.new)) }
+        ensures outlasts { Outlasts D.size D.honest D.seen D.cuts (disk_of self.old) (disk_of self.new) }
+        ensures later { D.faults (disk_of self.old) ≤ D.faults (disk_of self.new) }
+    {
+        restart(
+            &mut self.desks,
+            &mut self.ledger,
+            &mut self.journal,
+            at,
+            choice,
+        )
+    }
+
+    /// As [`Host::restart`], for a host that is given up where it isn't started again.
+    pub fn crash(
+        self,
+        at: Option<CrashAt>,
+        choice: u64,
+    ) -> Result<(Host<'s, D>, Crashed), (D, CrashNo)>
+        requires whole { has_failed self ≡ false }
+        requires few { IsCrash at }
+        ensures setup { IfOk result (λ again. setup_of again.0 ≡ setup_of self.entry) }
+        ensures whole { IfOk result (λ again. has_failed again.0 ≡ false) }
+
+        // what it tells, and what it then stands for
+        ensures crashes { IfOk result (λ again. Crashes self.entry again.0 at again.1) }
+        ensures found { IfOk result (λ again. Opens (journal_of again.0)) }
+        ensures recalls { IfOk result (λ again. (records : List Record)
+            → Reads D.seen (disk_of again.0) (journals.place_of (journal_of again.0)) records
+            → StartsOver again.0 (reverse records)) }
+        ensures records { IfOk result (λ again. again.1.records ≡ journals.used_of (journal_of again.0)) }
+        ensures counts { IfOk result (λ again. again.1.records
+            ≡ journals.used_of (journal_of self.entry) + length (put_by again.1.kept)) }
+        ensures kept { IfOk result (λ again. IfSome again.1.kept (λ r. due_of self.entry at ≡ Some r)) }
+
+        // why it isn't started again, and what its disk may then keep
+        ensures refused { IfErr result (λ e. RefusesWith (journal_of self.entry) (due_of self.entry at)
+            (setup_of self.entry) e.0 e.1) }
+        ensures never { IfErr result (λ e. (past : List Entry) → StandsFor self.entry past
+            → CrashSuits (setup_of self.entry) past at → IsTrusted D.honest D.seen (disk_of self.entry)
+            → e.1 ≡ CrashNo.Disk) }
+        ensures left { IfErr result (λ e. (past : List Entry) → StandsFor self.entry past
+            → IsTrusted D.honest D.seen (disk_of self.entry) → LeavesWith D.honest D.seen D.may_leave e.0
+            (due_in (setup_of self.entry) past at) (reverse (records past))) }
+        ensures cause { IfErr result (λ e. e.1 ≡ CrashNo.Disk
+            → Rose (D.faults (disk_of self.entry)) (D.faults e.0)) }
+
+        // the disk
+        ensures cut { IfOk result (λ again. Rose (D.cuts (disk_of self.entry)) (D.cuts (disk_of again.0))) }
+        ensures outlasts { MatchResult result
+            (λ again. Outlasts D.size D.honest D.seen D.cuts (disk_of self.entry) (disk_of again.0))
+            (λ e. Outlasts D.size D.honest D.seen D.cuts (disk_of self.entry) e.0) }
+        ensures later { MatchResult result (λ again. D.faults (disk_of self.entry) ≤ D.faults (disk_of again.0))
+            (λ e. D.faults (disk_of self.entry) ≤ D.faults e.0) }
+    {
+        let mut host = self;
+        match host.restart(at, choice) {
+            Ok(crashed) => Ok((host, crashed)),
+            Err(why) => Err((host.into_disk(), why)),
+        }
+    }
+
     /// What is available, reserved, paid and sold, in units of value.
     pub fn totals(&self) -> Totals
         ensures { (past : List Entry) → Keeps self.now past → result ≡ totals (setup_of self.now) past }
@@ -204,7 +335,6 @@ impl<'s, D: Disk> Host<'s, D> {
 /// A command is taken, which spends no more than is available, or refused for the first reason that holds whatever room
 /// there is; a taken one reserves what it spends.
 fn take(desks: &mut Desks<'_>, ledger: &mut Ledger<'_>, command: &Command) -> Result<(), CommandNo>
-    requires played { IsTrue (is_played_command command.now) }
     requires available { amount_of (all_desks.setup_of desks.old) command.now ≤ ledgers.available_of ledger.old }
     requires reserved { ledgers.reserved_of ledger.old ≡ all_desks.reserved_of desks.old }
     ensures setup { all_desks.setup_of desks.new ≡ all_desks.setup_of desks.old }
@@ -212,6 +342,7 @@ fn take(desks: &mut Desks<'_>, ledger: &mut Ledger<'_>, command: &Command) -> Re
     ensures reserved { ledgers.reserved_of ledger.new ≡ all_desks.reserved_of desks.new }
     ensures counted { ledgers.applied ledger.new ≡ ledgers.applied ledger.old }
     ensures holds { all_desks.held_of desks.new ≤ all_desks.held_of desks.old + needed command.now }
+    ensures puts { all_desks.puts_of desks.new ≤ all_desks.puts_of desks.old + records_of command.now }
     ensures stays { OnErr result (all_desks.Stays desks.old desks.new × (ledger.new ≡ ledger.old)) }
     ensures answers { all_desks.Answers desks.old desks.new command.now result }
     ensures stands { (before : List Record)
@@ -230,6 +361,7 @@ fn amount_of(setup: &Setup, command: &Command) -> u64
 {
     match *command {
         Command::Pay { addr, count, .. } => coins_of(setup, addr, count),
+        Command::Vend { price, .. } => u64::from(price),
         _ => 0,
     }
 }

@@ -8,10 +8,15 @@ mod desks;
 mod dues;
 mod exchange;
 mod host;
+mod recall;
+mod refusal;
+mod restart;
 mod values;
 
 pub use desks::Desks;
-pub use host::{Host, StartNo};
+pub use host::Host;
+pub use refusal::{CrashNo, StartNo};
+pub use restart::Crashed;
 
 #[cfg(test)]
 mod tests;

@@ -17,7 +17,7 @@ use Rattle.cct_model.specs.Order.{close, life_between}
 use Rattle.cct_model.specs.Reading.{coins_among, distance, judge, posted_of, shows_break}
 use Rattle.cct_record.specs.Body.{Encodable, IsPlaced}
 use Rattle.cct_jobs.specs.declared.job.Job.{Job}
-use Rattle.cct_jobs.specs.declared.job.Job.TheVariants.{Asks, StartPuts, RoundPuts, StopPuts, StopEnds, OrderOpens, OrderCloses}
+use Rattle.cct_jobs.specs.declared.job.Job.TheVariants.{Asks, StartPuts, RoundPuts, StopPuts, StopEnds, OrderOpens, OrderCloses, SalePuts}
 use Rattle.cct_jobs.specs.declared.job.Need.{Need}
 use Rattle.cct_jobs.specs.declared.job.Need.TheVariants as need
 use Rattle.cct_jobs.specs.declared.stage.Stage.TheVariants.{Pays}
@@ -90,6 +90,7 @@ fits_by (StopPuts target own end) entry is fits = subst Encodable (same_record o
 fits_by (StopEnds target) entry is fits = subst Encodable (same_record _ entry is) tt
 fits_by (OrderOpens target own halted) entry is fits = subst Encodable (same_record _ entry is) own.fits
 fits_by (OrderCloses own end) entry is fits = subst Encodable (same_record own entry is) fits
+fits_by (SalePuts id price) entry is fits = subst Encodable (same_record _ entry is) tt
 fits_by job entry is fits = absurd cc
 
 pub put_fits : (job : Job) (n : Need) (entry : Record) → n ≡ need_of job → PutsFit job → n ≡ need.Put entry
@@ -106,6 +107,7 @@ put_leaves_fit (StopPuts target entry (Some end)) is = tt
 put_leaves_fit (StopEnds target) is = tt
 put_leaves_fit (OrderOpens target own halted) is = tt
 put_leaves_fit (OrderCloses entry end) is = tt
+put_leaves_fit (SalePuts id price) is = tt
 put_leaves_fit job is = absurd is
 
 pub after_put_fits : (job after : Job) → after ≡ after_put job → IsPut (need_of job) → PutsFit after

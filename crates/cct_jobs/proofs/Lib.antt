@@ -11,6 +11,7 @@ pub mod Payments
 pub mod Payouts
 pub mod Questions
 pub mod Reserves
+pub mod Sales
 pub mod Scans
 pub mod Sets
 pub mod Stages

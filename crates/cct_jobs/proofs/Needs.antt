@@ -22,7 +22,7 @@ use Rattle.cct_jobs.specs.declared.job.Need.{Need}
 use Rattle.cct_jobs.specs.declared.job.Need.TheVariants as need
 use Rattle.cct_jobs.specs.declared.job.Sending.{Sending}
 use Rattle.cct_jobs.specs.declared.job.Job.{Job}
-use Rattle.cct_jobs.specs.declared.job.Job.TheVariants.{Asks, StartPuts, RoundPuts, StopPuts, StopEnds, OrderOpens, OrderCloses, ScanCallsSimple, ScanCallsCrc, ScanPollsSimple, ScanPollsCrc, Done}
+use Rattle.cct_jobs.specs.declared.job.Job.TheVariants.{Asks, StartPuts, RoundPuts, StopPuts, StopEnds, OrderOpens, OrderCloses, SalePuts, ScanCallsSimple, ScanCallsCrc, ScanPollsSimple, ScanPollsCrc, Done}
 use Rattle.cct_jobs.specs.declared.stage.Stage.{Stage}
 use Rattle.cct_jobs.specs.declared.stage.Stage.TheVariants.{StartResets, StartReads, StartSets, Reads, Looks, Pays}
 use Rattle.cct_jobs.specs.declared.stage.Visit.TheVariants.{Round, Stop}
@@ -142,6 +142,7 @@ put_has_room (StopPuts device own end) entry e = omega arith
 put_has_room (StopEnds device) entry e = omega arith
 put_has_room (OrderOpens device own halted) entry e = omega arith
 put_has_room (OrderCloses own end) entry e = omega arith
+put_has_room (SalePuts id price) entry e = omega arith
 put_has_room job entry e = absurd cc
 
 pub put_allowed : (job : Job) (n : Need) (entry : Record) → n ≡ need_of job → n ≡ need.Put entry → 1 ≤ may_put_of job
@@ -155,6 +156,7 @@ put_falls (StopPuts device own (Some end)) put = omega arith
 put_falls (StopEnds device) put = omega arith
 put_falls (OrderOpens device own halted) put = omega arith
 put_falls (OrderCloses own end) put = omega arith
+put_falls (SalePuts id price) put = omega arith
 put_falls job put = absurd put
 
 pub fewer_after : (job after : Job) → after ≡ after_put job → IsPut (need_of job) → may_put_of after < may_put_of job

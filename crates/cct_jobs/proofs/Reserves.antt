@@ -12,7 +12,7 @@ use Rattle.cct_model.specs.Job.{credits_read, done, mask_read, puts, row, works}
 use Rattle.cct_model.specs.Line.{Line}
 use Rattle.cct_model.specs.Money.{coins_of, freed_by, hopper_value, reserved_by}
 use Rattle.cct_jobs.specs.declared.job.Job.{Job}
-use Rattle.cct_jobs.specs.declared.job.Job.TheVariants.{Asks, StartPuts, RoundPuts, StopPuts, StopEnds, OrderOpens, OrderCloses, Done}
+use Rattle.cct_jobs.specs.declared.job.Job.TheVariants.{Asks, StartPuts, RoundPuts, StopPuts, StopEnds, OrderOpens, OrderCloses, SalePuts, Done}
 use Rattle.cct_jobs.specs.declared.job.Need.TheVariants as need
 use Rattle.cct_jobs.specs.declared.payout.Closing.{Closing}
 use Rattle.cct_jobs.specs.declared.payout.Closing.TheVariants as closing_of
@@ -204,4 +204,5 @@ frees_by setup d (OrderOpens device own halted) c since state owed r is at =
 frees_by setup d (OrderCloses entry end) c since state owed r is at =
     nothing setup d.addr ∙ freed_put setup entry r _ is
     (close_frees setup at.order at.life ∙ ap (freed_by setup) (sym at.closes))
+frees_by setup d (SalePuts id price) c since state owed r is at = absurd at
 frees_by setup d job c since state owed r is at = absurd cc

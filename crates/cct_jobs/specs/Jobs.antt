@@ -20,7 +20,7 @@ use Rattle.cct_model.specs.lines.command.Command.{Command}
 use Rattle.cct_model.specs.lines.command.Command.TheVariants as command
 use Rattle.cct_model.specs.lines.entry.End.{End}
 use Rattle.cct_model.specs.lines.entry.Entry.{Entry}
-use Rattle.cct_model.specs.lines.entry.End.TheVariants.{Broke, Clean, Posted, Stopped, Closed, OddLife}
+use Rattle.cct_model.specs.lines.entry.End.TheVariants.{Broke, Clean, Posted, Stopped, Closed, OddLife, Sold}
 use Rattle.cct_model.specs.Request.{header_of, form_of}
 use Rattle.cct_model.specs.Reply.{Reply}
 use Rattle.cct_model.specs.Reply as reply
@@ -47,7 +47,7 @@ use Rattle.cct_jobs.specs.declared.job.Sending.{Sending}
 use Rattle.cct_jobs.specs.declared.job.Need.{Need}
 use Rattle.cct_jobs.specs.declared.job.Need.TheVariants as need
 use Rattle.cct_jobs.specs.declared.job.Job.{Job}
-use Rattle.cct_jobs.specs.declared.job.Job.TheVariants.{Asks, StartPuts, RoundPuts, StopPuts, StopEnds, OrderOpens, OrderCloses, ScanCallsSimple, ScanCallsCrc, ScanPollsSimple, ScanPollsCrc, Done}
+use Rattle.cct_jobs.specs.declared.job.Job.TheVariants.{Asks, StartPuts, RoundPuts, StopPuts, StopEnds, OrderOpens, OrderCloses, SalePuts, ScanCallsSimple, ScanCallsCrc, ScanPollsSimple, ScanPollsCrc, Done}
 
 -- What a job knows of a device.
 abbrev pub target_of : DeviceSetup → Target
@@ -197,8 +197,14 @@ need_of (StopPuts device entry end) = need.Put entry
 need_of (StopEnds device) = need.Put (record_of.EpochEnd device.addr)
 need_of (OrderOpens device own halted) = need.Put (opened_by own.order)
 need_of (OrderCloses entry end) = need.Put entry
+need_of (SalePuts id price) = need.Put (record_of.Sold id price)
 need_of (Done end) = need.Done end
 need_of job = need.Exchange
+
+-- What the job of a command needs first: a sale puts its record, and any other job sends a request.
+abbrev pub first_need : Command → Need
+first_need (command.Vend id price) = need.Put (record_of.Sold id price)
+first_need c = need.Exchange
 
 -- A record is to be put.
 abbrev pub IsPut : Need → Type 0
@@ -235,8 +241,8 @@ closing_end r = OddLife
 abbrev pub settling : Closing → Owed → Bool → Payout
 settling closing own halted = if halted then Stops closing own else Waits closing own
 
--- The job after its record was put: a stop that put no end yet puts its epoch's, and a payment that opened its order
--- lets the hopper dispense.
+-- The job after its record was put: a stop that put no end yet puts its epoch's, a payment that opened its order lets
+-- the hopper dispense, and a sale is done.
 abbrev pub after_put : Job → Job
 after_put (StartPuts device mask) = Asks device (StartSets mask) 0
 after_put (RoundPuts entry end) = Done end
@@ -245,6 +251,7 @@ after_put (StopPuts device entry (Some end)) = Done end
 after_put (StopEnds device) = Done Stopped
 after_put (OrderOpens device own halted) = Asks device (Pays (Dispenses device.serial own halted)) 0
 after_put (OrderCloses entry end) = Done end
+after_put (SalePuts id price) = Done Sold
 after_put job = job
 
 -- The order that is open where one is owed.
@@ -288,6 +295,7 @@ may_put_of (StopPuts device entry end) = 2
 may_put_of (StopEnds device) = 1
 may_put_of (OrderOpens device own halted) = 2
 may_put_of (OrderCloses entry end) = 1
+may_put_of (SalePuts id price) = 1
 may_put_of job = 0
 
 -- How many records the job of a command may put in all.
@@ -297,6 +305,7 @@ records_of (command.Round addr) = 1
 records_of (command.Stop addr) = 2
 records_of (command.Pay addr id count) = 2
 records_of (command.Settle addr) = 1
+records_of (command.Vend id price) = 1
 records_of c = 0
 
 -- A stage is one of a payment or a settlement.
@@ -338,6 +347,16 @@ coins_reserved job = 0
 abbrev pub coins_asked : Command → ℕ
 coins_asked (command.Pay addr id count) = count
 coins_asked c = 0
+
+-- What a job reserves besides coins: the price of a sale that is still to be put.
+abbrev pub price_reserved : Job → ℕ
+price_reserved (SalePuts id price) = price
+price_reserved job = 0
+
+-- The price that a command asks.
+abbrev pub price_asked : Command → ℕ
+price_asked (command.Vend id price) = price
+price_asked c = 0
 
 -- The record that a job is about to put, if it is about to put one, can be spelt in a journal.
 abbrev pub PutsFit : Job → Type 0
@@ -402,11 +421,18 @@ after_halt (Asks device stage failed) = halted_at device stage failed
 after_halt (OrderOpens device own halted) = OrderOpens device own true
 after_halt job = job
 
--- The commands that begin a job today: a scan, the identification of a device of the setup, a start and the setting of
--- a path at an acceptor of the setup, a round and a stop where its epoch runs, a payment at a hopper of the setup, and
--- a settlement where its order is open.
+-- A command whose job is at a device: any but a scan and a sale.
+abbrev pub is_of_device : Command → Bool
+is_of_device command.Scan = false
+is_of_device (command.Vend id price) = false
+is_of_device c = true
+
+-- The commands that begin a job: a scan, a sale, the identification of a device of the setup, a start and the setting
+-- of a path at an acceptor of the setup, a round and a stop where its epoch runs, a payment at a hopper of the setup,
+-- and a settlement where its order is open.
 abbrev pub MayBegin : Command → List DeviceSetup → EpochState → Option OpenOrder → Type 0
 MayBegin command.Scan devices state owed = ⊤
+MayBegin (command.Vend id price) devices state owed = ⊤
 MayBegin (command.Ident addr) devices state owed = IsTrue (is_some (device_at devices addr))
 MayBegin (command.Start addr mask) devices state owed = IsTrue (acceptor_there (device_at devices addr))
 MayBegin (command.Path addr place path) devices state owed = IsTrue (acceptor_there (device_at devices addr))

@@ -11,14 +11,15 @@ ghost use Rattle.cct_model.specs.terms.request.Request.{Request};
 ghost use Rattle.cct_model.specs.terms.wire.CheckKind.{CheckKind};
 ghost use Rattle.cct_model.specs.Exchange.{ask, device_at};
 ghost use Rattle.cct_model.specs.declared.judging.OpenOrder.{OpenOrder};
-ghost use Rattle.cct_model.specs.Job.{address_of, can_halt, done, puts_at, row, sends, works};
+ghost use Rattle.cct_model.specs.Job.{address_of, can_halt, done, puts_at, row, row_of_sale, sends, works};
 ghost use Rattle.cct_model.specs.Line.{Line, put, taken};
 ghost use Rattle.cct_model.specs.Money.{coins_of, reserved_by};
 ghost use Rattle.cct_model.specs.Order.{order_by};
 ghost use Rattle.cct_model.specs.Scan.{end_of_scan, poll_of, scan_row};
 ghost use Rattle.cct_model.specs.Transcript.{scan_line};
 ghost use Rattle.cct_record.specs.Body.{Encodable};
-ghost use Rattle.cct_jobs.specs.Jobs.{IsPut, IsRunning, MayBegin, Needs, PutsFit, Stands, after_halt, after_put, closes_order, coins_asked, coins_reserved, end_of_job, halts, is_closing, line_heard, may_put_of, need_of, newest_end, opened_by, order_of, owed_after, records_of, runs, sending_of};
+ghost use Rattle.cct_jobs.specs.Jobs.{IsPut, IsRunning, MayBegin, Needs, PutsFit, Stands, after_halt, after_put, closes_order, coins_asked, coins_reserved, end_of_job, first_need, halts, is_closing, is_of_device, line_heard, may_put_of, need_of, newest_end, opened_by, order_of, owed_after, price_asked, price_reserved, records_of, runs, sending_of};
+ghost use Rattle.cct_jobs.specs.Sales.{NeedsSale, StandsSale, end_of_sale};
 ghost use Rattle.cct_jobs.specs.Scans.{NeedsScan, StandsScan};
 
 use crate::asks::first_try;
@@ -73,6 +74,11 @@ pub enum Job {
     OrderCloses {
         entry: Record,
         end: End,
+    },
+    /// A sale puts that something was sold.
+    SalePuts {
+        id: u32,
+        price: u32,
     },
     /// A scan polls all devices under the simple check.
     ScanCallsSimple {
@@ -132,14 +138,17 @@ impl Job {
         requires may_begin { MayBegin command.now setup.now.devices epoch.now (option_map (λ o. o.now) order) }
         requires life { (o : OpenOrder) → option_map (λ o. o.now) order ≡ Some o → o.life < 2 ^ 24 }
         ensures device { (d : DeviceSetup) → device_at setup.now.devices (address_of command.now) ≡ Some d
-            → d.serial < 2 ^ 24 → command.now ≢ Command.Scan
+            → d.serial < 2 ^ 24 → is_of_device command.now ≡ true
             → Stands d result command.now [] epoch.now (option_map (λ o. o.now) order.entry) }
         ensures scan { command.now ≡ Command.Scan → StandsScan result [] }
-        ensures asks { need_of result ≡ Need.Exchange }
+        ensures sale { (id price : ℕ) → command.now ≡ Command.Vend id price → StandsSale result command.now [] }
+        ensures needs { need_of result ≡ first_need command.now }
+        ensures runs { end_of_job result ≡ None }
         ensures may_put { may_put_of result ≡ records_of command.now }
         ensures fits { PutsFit result }
         ensures closes { closes_order result ≡ is_closing command.now }
         ensures reserves { coins_reserved result ≡ coins_asked command.now }
+        ensures price { price_reserved result ≡ price_asked command.now }
     {
         match *command {
             Command::Start { addr, mask } => {
@@ -187,12 +196,13 @@ impl Job {
                 },
             ),
             Command::Scan => Job::ScanCallsSimple { failed: 0 },
+            Command::Vend { id, price } => Job::SalePuts { id, price },
             _ => unreachable!(),
         }
     }
 
     /// What the job needs next.
-    #[tactic(auto, using(crate::proofs::Needs::need_known, crate::proofs::Needs::scan_need_known, crate::proofs::Needs::put_allowed, crate::proofs::Fits::put_fits))]
+    #[tactic(auto, using(crate::proofs::Needs::need_known, crate::proofs::Needs::scan_need_known, crate::proofs::Needs::put_allowed, crate::proofs::Fits::put_fits, crate::proofs::Sales::sale_need_known))]
     pub fn needs(&self) -> Need
         ensures value { result ≡ need_of self.now }
         ensures may_put { (entry : Record) → result ≡ Need.Put entry → 1 ≤ may_put_of self.now }
@@ -200,6 +210,7 @@ impl Job {
         ensures row { (d : DeviceSetup) (c : Command) (since : List Line) (state : EpochState)
             (owed : Option OpenOrder) → Stands d self.now c since state owed → Needs result d c since state owed }
         ensures scan { (since : List Line) → StandsScan self.now since → NeedsScan result since }
+        ensures sale { (c : Command) (since : List Line) → StandsSale self.now c since → NeedsSale result c since }
     {
         self.need()
     }
@@ -218,18 +229,24 @@ impl Job {
             Job::StopEnds { device } => Need::Put(Record::EpochEnd { addr: device.addr }),
             Job::OrderOpens { owed, .. } => Need::Put(opened(&owed.order)),
             Job::OrderCloses { entry, .. } => Need::Put(copied(entry)),
+            Job::SalePuts { id, price } => Need::Put(Record::Sold {
+                id: *id,
+                price: *price,
+            }),
             Job::Done(end) => Need::Done(*end),
             _ => Need::Exchange,
         }
     }
 
     /// The end of a job that is done, or none while it runs.
-    #[tactic(auto, using(crate::proofs::Needs::end_known, crate::proofs::Needs::scan_end_known))]
+    #[tactic(auto, using(crate::proofs::Needs::end_known, crate::proofs::Needs::scan_end_known, crate::proofs::Sales::sale_end_known))]
     pub fn end(&self) -> Option<End>
         ensures value { result ≡ end_of_job self.now }
         ensures row { (d : DeviceSetup) (c : Command) (since : List Line) (state : EpochState)
             (owed : Option OpenOrder) → Stands d self.now c since state owed → result ≡ newest_end d c since state }
         ensures scan { (since : List Line) → StandsScan self.now since → result ≡ end_of_scan since }
+        ensures sale { (c : Command) (since : List Line) → StandsSale self.now c since
+            → result ≡ end_of_sale c since }
     {
         self.told_end()
     }
@@ -245,11 +262,14 @@ impl Job {
     }
 
     /// How many records the job may still put. A put that ends a stop with a break leaves none of its two.
+    #[tactic(auto, using(crate::proofs::Sales::sale_may_put))]
     pub fn may_put(&self) -> u32
         ensures value { result ≡ may_put_of self.now }
         ensures row { (d : DeviceSetup) (c : Command) (since : List Line) (state : EpochState)
             (owed : Option OpenOrder) → Stands d self.now c since state owed → newest_end d c since state ≡ None
             → result ≡ puts_at c (done since) (row d c since state owed) }
+        ensures sale { (c : Command) (since : List Line) → StandsSale self.now c since → end_of_sale c since ≡ None
+            → result ≡ puts_at c (done since) (row_of_sale c since) }
     {
         self.records()
     }
@@ -266,17 +286,19 @@ impl Job {
             Job::StopEnds { .. } => 1,
             Job::OrderOpens { .. } => 2,
             Job::OrderCloses { .. } => 1,
+            Job::SalePuts { .. } => 1,
             _ => 0,
         }
     }
 
     /// Whether the job is a payment or a settlement, which is at work to close an order.
-    #[tactic(auto, using(crate::proofs::Reserves::closes_known))]
+    #[tactic(auto, using(crate::proofs::Reserves::closes_known, crate::proofs::Sales::sale_never_closes))]
     pub fn closes_order(&self) -> bool
         ensures value { result ≡ closes_order self.now }
         ensures row { (d : DeviceSetup) (c : Command) (since : List Line) (state : EpochState)
             (owed : Option OpenOrder) → Stands d self.now c since state owed → newest_end d c since state ≡ None
             → result ≡ is_closing c }
+        ensures sale { (c : Command) (since : List Line) → StandsSale self.now c since → result ≡ false }
     {
         match self {
             Job::Asks {
@@ -289,13 +311,29 @@ impl Job {
         }
     }
 
+    /// What the job reserves besides coins, in units of value: the price of a sale that is still to be put.
+    #[tactic(auto, using(crate::proofs::Sales::sale_price, crate::proofs::Sales::no_price))]
+    pub fn price_reserved(&self) -> u32
+        ensures value { result ≡ price_reserved self.now }
+        ensures row { (d : DeviceSetup) (c : Command) (since : List Line) (state : EpochState)
+            (owed : Option OpenOrder) → Stands d self.now c since state owed → result ≡ 0 }
+        ensures sale { (setup : Setup) (c : Command) (since : List Line) → StandsSale self.now c since
+            → end_of_sale c since ≡ None → result ≡ reserved_by setup (works c since) }
+    {
+        match self {
+            Job::SalePuts { price, .. } => *price,
+            _ => 0,
+        }
+    }
+
     /// How many coins the job reserves: those of the order that a payment is still to open.
-    #[tactic(auto, using(crate::proofs::Reserves::reserves_known))]
+    #[tactic(auto, using(crate::proofs::Reserves::reserves_known, crate::proofs::Sales::no_coins))]
     pub fn coins_reserved(&self) -> u8
         ensures value { result ≡ coins_reserved self.now }
         ensures row { (setup : Setup) (d : DeviceSetup) (c : Command) (since : List Line) (state : EpochState)
             (owed : Option OpenOrder) → Stands d self.now c since state owed → newest_end d c since state ≡ None
             → coins_of setup d.addr result ≡ reserved_by setup (works c since) }
+        ensures sale { (c : Command) (since : List Line) → StandsSale self.now c since → result ≡ 0 }
     {
         match self {
             Job::Asks {
@@ -379,13 +417,15 @@ impl Job {
 
     /// The job after its record was put. What it does then no longer depends on the epoch, which the record has
     /// moved, and beside an order the record has moved it.
-    #[tactic(auto, using(crate::proofs::Epochs::put_leaves, crate::proofs::Needs::fewer_after, crate::proofs::Fits::after_put_fits))]
+    #[tactic(auto, using(crate::proofs::Epochs::put_leaves, crate::proofs::Needs::fewer_after, crate::proofs::Fits::after_put_fits, crate::proofs::Sales::put_sells))]
     pub fn was_put(self) -> Job
         requires puts { IsPut (need_of self) }
         ensures put { (d : DeviceSetup) (c : Command) (since : List Line) (state after : EpochState)
             (owed : Option OpenOrder) (entry : Record)
             → need_of self ≡ Need.Put entry → Stands d self c since state owed
             → Stands d result c (put entry ∷ since) after (order_by entry owed) }
+        ensures sale { (c : Command) (since : List Line) (entry : Record) → need_of self ≡ Need.Put entry
+            → StandsSale self c since → StandsSale result c (put entry ∷ since) }
         ensures may_put { may_put_of result < may_put_of self }
         ensures fits { PutsFit result }
         ensures value { result ≡ after_put self }
@@ -421,16 +461,18 @@ impl Job {
                 },
             ),
             Job::OrderCloses { end, .. } => Job::Done(end),
+            Job::SalePuts { .. } => Job::Done(End::Sold),
             _ => unreachable!(),
         }
     }
 
     /// The order that is open at the job's device after its record was put, where this one was open before.
-    #[tactic(auto, using(crate::proofs::Orders::put_owes))]
+    #[tactic(auto, using(crate::proofs::Orders::put_owes, crate::proofs::Sales::sale_owes))]
     pub fn order_after(&self, before: Option<Owed>) -> Option<Owed>
         ensures put { (d : DeviceSetup) (c : Command) (since : List Line) (state : EpochState) (entry : Record)
             → need_of self.now ≡ Need.Put entry → Stands d self.now c since state (order_of before)
             → order_of result ≡ order_by entry (order_of before) }
+        ensures sale { (c : Command) (since : List Line) → StandsSale self.now c since → result ≡ before }
         ensures value { result ≡ owed_after self.now before }
     {
         self.owed_after(before)
@@ -449,13 +491,14 @@ impl Job {
 
     /// Whether the job can be halted: a payment up to the row that waits for the last coin, and a settlement at that
     /// row.
-    #[tactic(auto, using(crate::proofs::Halts::halts_known, crate::proofs::Halts::scan_never_halts))]
+    #[tactic(auto, using(crate::proofs::Halts::halts_known, crate::proofs::Halts::scan_never_halts, crate::proofs::Sales::sale_never_halts))]
     pub fn can_halt(&self) -> bool
         ensures value { result ≡ halts self.now }
         ensures row { (d : DeviceSetup) (c : Command) (since : List Line) (state : EpochState)
             (owed : Option OpenOrder) → Stands d self.now c since state owed → newest_end d c since state ≡ None
             → result ≡ can_halt (works c since) }
         ensures scan { (since : List Line) → StandsScan self.now since → result ≡ false }
+        ensures sale { (c : Command) (since : List Line) → StandsSale self.now c since → result ≡ false }
     {
         self.may_halt()
     }

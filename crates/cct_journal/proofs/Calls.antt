@@ -1,13 +1,14 @@
 -- What the calls of a put make of a disk on which a journal stands.
-use Rattle.std.proofs.Common.{◌≡◌, ◌⊎◌, inl, inr, ⊎_elim, ◌≤◌, true, is_some, ℕ, ◌+◌, ◌*◌, ◌<◌, Bool, Option, Some}
-use Rattle.std.proofs.Common.{List, [], ◌∷◌, ◌++◌, length, sym, ◌∙◌, ap, subst, arith, length-append}
+use Rattle.std.proofs.Common.{◌≡◌, ◌⊎◌, inl, inr, ⊎_elim, ◌≤◌, true, is_some, ℕ, ◌+◌, ◌*◌, ◌<◌, Bool, Option, None}
+use Rattle.std.proofs.Common.{Some, List, [], ◌∷◌, ◌++◌, length, sym, ◌∙◌, ap, subst, arith, length-append}
 use Rattle.cct_lines.specs.declared.record.Record.{Record}
 use Rattle.cct_record.specs.Body.{InRange, body_of}
 use Rattle.cct_disk.specs.Disk.{Holds, LeavesOnly, Only, SameOutside}
 use Rattle.cct_journal.specs.declared.place.Place.{Place}
 use Rattle.cct_journal.specs.Image.{Keeps, KeepsOneOf, capacity_of}
 use Rattle.cct_journal.specs.Gated.{IsBegun, behind_open_gate}
-use Rattle.cct_journal.specs.Stands.{GoesOn, Leaves, LeavesOneOf, Reads, Settled, Stands}
+use Rattle.cct_journal.specs.Losing.{KeepsWith, LeavesBy, LeavesWith, LeftBy}
+use Rattle.cct_journal.specs.Stands.{Leaves, LeavesOneOf, Reads, Settled, Stands}
 use Rattle.cct_journal.proofs.Moments.{now_too, weaker}
 use Rattle.cct_journal.proofs.Puts.{begun_keeps, body_torn, written_keeps}
 use Rattle.cct_journal.proofs.Blanks.{told_image}
@@ -65,19 +66,19 @@ module _ {D : Type 0} (size : D → ℕ) (honest : D → Bool) (seen : D → Opt
     count = omega (arith, one_more, stands.count, length-append records (entry ∷ []));
   }
 
-module _ {D : Type 0} (size : D → ℕ) (honest : D → Bool) (seen : D → Option (List ℕ)) (may_leave : D → List ℕ → Type 0)
-    (moment : D → ℕ) (left_since : D → ℕ → List ℕ → Type 0) (cuts : D → ℕ)
+module _ {D : Type 0} (honest : D → Bool) (seen : D → Option (List ℕ)) (may_leave : D → List ℕ → Type 0)
+    (moment : D → ℕ) (left_since : D → ℕ → List ℕ → Type 0)
     (counts_now : (disk : D) (t : ℕ) (c : List ℕ) → t ≤ moment disk → may_leave disk c → left_since disk t c)
-    (old new : D) (place : Place) (records : List Record)
-    (stands : Stands honest seen may_leave old place records) (goes_on : GoesOn size honest seen cuts old new) where
+    (old new : D) (place : Place) (records : List Record) (stands : Stands honest seen may_leave old place records)
+    (same_honest : honest new ≡ honest old) (same_telling : is_some (seen new) ≡ is_some (seen old)) where
   still_told : is_some (seen new) ≡ true
-  still_told = goes_on.same_telling ∙ ap is_some stands.held.tells
+  still_told = same_telling ∙ ap is_some stands.held.tells
 
   -- what a loss of power may leave behind a run that adds none
   pub leaves_same : LeavesOnly moment left_since old new (λ c. Keeps c records)
       → Leaves honest seen may_leave new records
   leaves_same run = record {
-    keeps_synced = goes_on.same_honest ∙ stands.held.keeps_synced;
+    keeps_synced = same_honest ∙ stands.held.keeps_synced;
     tells = still_told;
     each = now_too moment left_since old new (λ c. Keeps c records) (may_leave new) (counts_now new) run;
   }
@@ -86,10 +87,16 @@ module _ {D : Type 0} (size : D → ℕ) (honest : D → Bool) (seen : D → Opt
   pub leaves_one_of : (entry : Record) → LeavesOnly moment left_since old new (KeepsOneOf records entry)
       → LeavesOneOf honest seen may_leave new records entry
   leaves_one_of entry run = record {
-    keeps_synced = goes_on.same_honest ∙ stands.held.keeps_synced;
+    keeps_synced = same_honest ∙ stands.held.keeps_synced;
     tells = still_told;
     each = now_too moment left_since old new (KeepsOneOf records entry) (may_leave new) (counts_now new) run;
   }
+
+  -- and behind one in which a record is put, or none
+  pub leaves_with : (put : Option Record) → LeavesOnly moment left_since old new (KeepsWith put records)
+      → LeavesWith honest seen may_leave new put records
+  leaves_with None run = leaves_same run
+  leaves_with (Some r) run = leaves_one_of r run
 
 -- An honest disk whose power was lost keeps one of the images that this might leave.
 module _ {D : Type 0} (honest : D → Bool) (seen : D → Option (List ℕ)) (may_leave : D → List ℕ → Type 0) (old new : D)
@@ -115,6 +122,14 @@ module _ {D : Type 0} (honest : D → Bool) (seen : D → Option (List ℕ)) (ma
   cut_settled records leaves =
       let found = cut_holds leaves.keeps_synced leaves.tells in
       record { image = found.0; held = found.1; keeps = leaves.each found.0 found.2 }
+
+  pub cut_by : (calls : ℕ) (put : Option Record) (records : List Record)
+      → LeavesBy honest seen may_leave old calls put records
+      → (left : List Record) × LeftBy calls put records left × Settled honest seen may_leave new left
+  cut_by calls put records leaves =
+      let found = cut_holds leaves.keeps_synced leaves.tells in
+      let which = leaves.each found.0 found.2 in
+      (which.0, which.1, record { image = found.0; held = found.1; keeps = which.2 })
 
   pub cut_one_of : (records : List Record) (entry : Record) → LeavesOneOf honest seen may_leave old records entry
       → Settled honest seen may_leave new records ⊎ Settled honest seen may_leave new (records ++ entry ∷ [])

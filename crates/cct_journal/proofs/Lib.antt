@@ -6,3 +6,4 @@ pub mod Calls
 mod Walks
 mod Blanks
 mod Opens
+mod Losses

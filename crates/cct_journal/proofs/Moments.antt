@@ -1,6 +1,6 @@
 -- What a loss of power might have left over a run of calls.
-use Rattle.std.proofs.Common.{◌≡◌, inl, inr, ⊎_elim, ℕ, ◌≤◌, Bool, Option, List, ◌∙◌, arith}
-use Rattle.cct_disk.specs.Disk.{Holds, LeavesOnly, OnlyReads}
+use Rattle.std.proofs.Common.{◌≡◌, inl, inr, ⊎_elim, ℕ, ◌≤◌, Bool, true, Option, List, ◌∙◌, arith}
+use Rattle.cct_disk.specs.Disk.{Elapses, Holds, IsWithin, LeavesOnly, OnlyReads}
 
 module _ {D : Type 0} (moment : D → ℕ) (left_since : D → ℕ → List ℕ → Type 0) where
   -- before the first call
@@ -37,6 +37,27 @@ module _ {D : Type 0} (moment : D → ℕ) (left_since : D → ℕ → List ℕ 
       → ((t : ℕ) (c : List ℕ) → t ≤ moment new → may_leave c → left_since new t c)
       → LeavesOnly moment left_since old new P → (c : List ℕ) → may_leave c → P c
   now_too old new P may_leave counts_now run c now = run.each c (counts_now (moment old) c run.later now)
+
+  -- a call behind a run, which adds no image
+  then_adds_none : (old mid new : D) (P may_leave : List ℕ → Type 0)
+      → ((t : ℕ) (c : List ℕ) → t ≤ moment mid → may_leave c → left_since mid t c)
+      → LeavesOnly moment left_since old mid P → LeavesOnly moment left_since mid new may_leave
+      → LeavesOnly moment left_since old new P
+  then_adds_none old mid new P may_leave counts_now first second =
+      then old mid new P first (weaker mid new may_leave P (now_too old mid P may_leave counts_now first) second)
+
+  -- the same by what the call says of the clock
+  pub then_elapses : (old mid new : D) (P before now : List ℕ → Type 0)
+      → ((t : ℕ) (c : List ℕ) → t ≤ moment mid → before c → left_since mid t c)
+      → ((c : List ℕ) → left_since mid (moment mid) c → before c) → IsWithin before now
+      → Elapses (moment mid) (moment new) (left_since mid) (left_since new) now
+      → LeavesOnly moment left_since old mid P → LeavesOnly moment left_since old new P
+  then_elapses old mid new P before now counts_now only_now within time first =
+      then_adds_none old mid new P before counts_now first (record {
+        later = time.later;
+        each = λ c left. ⊎_elim (only_now c) (within c) (time.nothing_else (moment mid) c (omega arith) left);
+        before = λ t c le left. ⊎_elim (λ was. inl was) (λ has. inr (within c has)) (time.nothing_else t c le left);
+      })
 
 -- one run that only reads behind another
 pub reads_then : {D : Type 0} {size : D → ℕ} {honest : D → Bool} {seen : D → Option (List ℕ)}
@@ -82,3 +103,15 @@ then_leaves {D} {size} {honest} {seen} {may_leave} {moment} {left_since} {cuts} 
     (weaker moment left_since old mid (may_leave old) Q (λ c left. here c (held.only c left))
     (run.moments held.keeps_synced))
     (weaker moment left_since mid new P Q to (second (reads_hold run image held)))
+
+-- a run that only reads behind one that leaves only what has P
+pub then_reads : {D : Type 0} {size : D → ℕ} {honest : D → Bool} {seen : D → Option (List ℕ)}
+    {may_leave : D → List ℕ → Type 0} {moment : D → ℕ} {left_since : D → ℕ → List ℕ → Type 0} {cuts : D → ℕ}
+    {old mid new : D} (P : List ℕ → Type 0)
+    → ((t : ℕ) (c : List ℕ) → t ≤ moment mid → may_leave mid c → left_since mid t c) → honest mid ≡ true
+    → LeavesOnly moment left_since old mid P
+    → OnlyReads size honest seen may_leave moment left_since cuts mid new
+    → LeavesOnly moment left_since old new P
+then_reads {D} {size} {honest} {seen} {may_leave} {moment} {left_since} {cuts} {old} {mid} {new} P counts_now is first
+    run =
+    then_adds_none moment left_since old mid new P (may_leave mid) counts_now first (run.moments is)

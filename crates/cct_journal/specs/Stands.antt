@@ -59,3 +59,12 @@ pub record GoesOn {D : Type 0} (size : D → ℕ) (honest : D → Bool) (seen : 
   pub same_honest : honest new ≡ honest old
   pub same_telling : is_some (seen new) ≡ is_some (seen old)
   pub same_cuts : cuts new ≡ cuts old
+
+-- A disk goes on to tell or not to tell its bytes, and to be honest or not, and has the same size; its power may have been
+-- cut.
+pub record Outlasts {D : Type 0} (size : D → ℕ) (honest : D → Bool) (seen : D → Option (List ℕ)) (cuts : D → ℕ)
+    (old new : D) : Type 0 where
+  pub same_size : size new ≡ size old
+  pub same_honest : honest new ≡ honest old
+  pub same_telling : is_some (seen new) ≡ is_some (seen old)
+  pub later_cuts : cuts old ≤ cuts new

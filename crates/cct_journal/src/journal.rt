@@ -1,17 +1,19 @@
 //! The journal.
 ghost use Rattle.std.specs.Prelude.{◌≡◌, ◌≢◌, ◌⊎◌, ◌↔◌, ◌<◌, ◌≤◌, ◌+◌, ℕ, true, false, Err, Some, is_some, List, []};
 ghost use Rattle.std.specs.Prelude.{◌∷◌, ◌++◌};
-ghost use Rattle.std.specs.Prelude.{IfErr, IfOk, IsErrAnd, MatchResult, OnErr, OnOk, slice_get};
+ghost use Rattle.std.specs.Prelude.{IfErr, IfOk, IfSome, IsErrAnd, MatchResult, OnErr, OnOk, slice_get};
 ghost use Rattle.cct_edge.specs.Faults.{Rose};
 ghost use Rattle.cct_lines.specs.declared.record.Record.{Record};
 ghost use Rattle.cct_record.specs.Body.{Encodable, Spells};
 ghost use Rattle.cct_disk.specs.Disk.{Holds, IsWithin, LeavesOnly, Only, OnlyReads};
 ghost use Rattle.cct_journal.specs.Image.{IsBlank, Keeps, KeepsOneOf, StandsFor, capacity_of, least_size};
 ghost use Rattle.cct_journal.specs.Creating.{IsCreated, RefusesCreate};
+ghost use Rattle.cct_journal.specs.Losing.{KeepsWith, LeavesWith, LeftBy};
 ghost use Rattle.cct_journal.specs.Opening.{RefusesOpen, RefusesRead};
 ghost use Rattle.cct_journal.specs.Stands.{GoesOn, IsPlaced, Leaves, LeavesOneOf, Reads, Settled, Stands, body_in};
 
 use crate::creating::lay_header;
+use crate::losing::lose;
 use crate::opening::find_place;
 use crate::place::Place;
 use crate::range::GATED_CALLS;
@@ -160,6 +162,7 @@ impl<D: Disk> Journal<D> {
             → Reads D.seen (disk_of self.old) (place_of self.old) records → slice_get records index ≡ Some entry) }
         ensures spelt { IfOk result (λ entry. (image : List ℕ) → D.seen (disk_of self.old) ≡ Some image
             → Spells entry (body_in (place_of self.old) index image)) }
+        ensures fits { IfOk result Encodable }
 
         // why it is refused
         ensures refused { IfErr result (λ why. (image : List ℕ) → D.seen (disk_of self.old) ≡ Some image
@@ -296,6 +299,7 @@ impl<D: Disk> Journal<D> {
         ensures seen { OnErr result (D.honest (disk_of self) ≡ true
             → D.seen (disk_back result) ≡ D.seen (disk_of self)) }
         ensures not_cut { OnErr result (D.cuts (disk_back result) ≡ D.cuts (disk_of self)) }
+        ensures cuts { D.cuts (disk_of self) ≤ D.cuts (disk_back result) }
         ensures cause { OnErr result (Rose (D.faults (disk_of self)) (D.faults (disk_back result))) }
 
         // either
@@ -316,6 +320,73 @@ impl<D: Disk> Journal<D> {
         match disk.power_cut(choice) {
             Ok(()) => Ok(disk),
             Err(failed) => Err((disk, failed)),
+        }
+    }
+
+    /// Loses the power in the midst of a put or in none, opens what is left in place, and tells how many records it
+    /// has.
+    ///
+    /// `put` is the record of the put that is interrupted, behind the first `calls` of its four disk calls, 0 to 4, and
+    /// `choice` is that of [`Disk::power_cut`]. No earlier put on this value may have failed. [`OpenNo::Disk`] comes
+    /// where a disk call fails, and the others as from [`Journal::reopen`]. Behind any of them nothing more may be put.
+    pub fn restart(&mut self, put: &Option<Record>, calls: u8, choice: u64) -> Result<u32, OpenNo>
+        requires whole { has_failed self.old ≡ false }
+        requires few { calls ≤ 4 }
+        requires room { IfSome put.now (λ _. used_of self.old < capacity_of (D.size (disk_of self.old))) }
+        requires encodable { IfSome put.now Encodable }
+
+        // each image that a loss of power at a moment of the call may leave
+        ensures moments { (records : List Record)
+            → Stands D.honest D.seen D.may_leave (disk_of self.old) (place_of self.old) records
+            → LeavesOnly D.moment D.left_since (disk_of self.old) (disk_of self.new) (KeepsWith put.now records) }
+
+        // what is opened
+        ensures stands { OnOk result ((records : List Record)
+            → Stands D.honest D.seen D.may_leave (disk_of self.old) (place_of self.old) records
+            → (left : List Record) × LeftBy calls put.now records left
+            × Stands D.honest D.seen D.may_leave (disk_of self.new) (place_of self.new) left) }
+        ensures found { OnOk result ((image : List ℕ) → D.seen (disk_of self.new) ≡ Some image
+            → (records : List Record) × Reads D.seen (disk_of self.new) (place_of self.new) records) }
+        ensures every { OnOk result ((image : List ℕ) (records : List Record)
+            → D.seen (disk_of self.new) ≡ Some image → StandsFor image records
+            → Reads D.seen (disk_of self.new) (place_of self.new) records) }
+        ensures counted { IfOk result (λ used. used ≡ used_of self.new) }
+        ensures unbroken { OnOk result (has_failed self.new ≡ false) }
+
+        // why nothing is opened, and what stands then
+        ensures refused { IfErr result (λ why. (image : List ℕ) → D.seen (disk_of self.new) ≡ Some image
+            → RefusesOpen why image) }
+        ensures never { IfErr result (λ why. (records : List Record)
+            → Stands D.honest D.seen D.may_leave (disk_of self.old) (place_of self.old) records
+            → why ≡ OpenNo.Disk) }
+        ensures left { OnErr result ((records : List Record)
+            → Stands D.honest D.seen D.may_leave (disk_of self.old) (place_of self.old) records
+            → LeavesWith D.honest D.seen D.may_leave (disk_of self.new) put.now records) }
+        ensures still { OnErr result (place_of self.new ≡ place_of self.old) }
+        ensures broken { OnErr result (has_failed self.new ≡ true) }
+        ensures cause { result ≡ Err OpenNo.Disk
+            → Rose (D.faults (disk_of self.old)) (D.faults (disk_of self.new)) }
+
+        // the disk
+        ensures cut { MatchResult result (λ _. Rose (D.cuts (disk_of self.old)) (D.cuts (disk_of self.new)))
+            (λ why. why ≢ OpenNo.Disk → Rose (D.cuts (disk_of self.old)) (D.cuts (disk_of self.new))) }
+        ensures cuts { D.cuts (disk_of self.old) ≤ D.cuts (disk_of self.new) }
+        ensures tells { is_some (D.seen (disk_of self.new)) ≡ is_some (D.seen (disk_of self.old)) }
+        ensures size { D.size (disk_of self.new) ≡ D.size (disk_of self.old) }
+        ensures honest { D.honest (disk_of self.new) ≡ D.honest (disk_of self.old) }
+        ensures later { D.faults (disk_of self.old) ≤ D.faults (disk_of self.new) }
+    {
+        self.failed = true;
+        let Ok(()) = lose(&mut self.disk, self.place, put, calls, choice) else {
+            return Err(OpenNo::Disk);
+        };
+        match find_place(&mut self.disk) {
+            Ok(place) => {
+                self.place = place;
+                self.failed = false;
+                Ok(place.used)
+            }
+            Err(why) => Err(why),
         }
     }
 }

@@ -4,6 +4,7 @@
 mod creating;
 mod format;
 mod journal;
+mod losing;
 mod opening;
 mod place;
 mod range;

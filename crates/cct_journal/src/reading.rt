@@ -3,7 +3,7 @@ ghost use Rattle.std.specs.Prelude.{◌≡◌, ◌≢◌, ℕ, ◌+◌, ◌*◌,
 ghost use Rattle.std.specs.Prelude.{IfErr, IfOk, IsTrue, slice_get};
 ghost use Rattle.cct_edge.specs.Faults.{HasCause, Rose};
 ghost use Rattle.cct_lines.specs.declared.record.Record.{Record};
-ghost use Rattle.cct_record.specs.Body.{Spells};
+ghost use Rattle.cct_record.specs.Body.{Encodable, Spells};
 ghost use Rattle.cct_disk.specs.Disk.{OnlyReads};
 ghost use Rattle.cct_journal.specs.Image.{body_at, capacity_of, gate_at, header, least_size};
 ghost use Rattle.cct_journal.specs.Stands.{IsPlaced, Reads, body_in};
@@ -103,6 +103,7 @@ pub(crate) fn read_record<D: Disk>(disk: &mut D, place: Place, index: u32) -> Re
         → slice_get records index ≡ Some entry) }
     ensures spelt { IfOk result (λ entry. (image : List ℕ) → D.seen disk.old ≡ Some image
         → Spells entry (body_in place index image)) }
+    ensures fits { IfOk result Encodable }
     ensures refused { IfErr result (λ why. (image : List ℕ) → D.seen disk.old ≡ Some image
         → RefusesRead index (body_in place index image) why) }
     ensures never { IfErr result (λ why. (records : List Record) → Reads D.seen disk.old place records

@@ -94,6 +94,20 @@ fn cut_short(rt: &impl Abort, journal: Journal<MemDisk>, calls: u8) -> Result<Me
         .map_err(|(_, failed)| failed)
 }
 
+// How many records a journal has behind a loss of power in the midst of a put.
+fn restarted(
+    rt: &impl Abort,
+    journal: Journal<MemDisk>,
+    calls: u8,
+    choice: u64,
+) -> Result<u32, OpenNo>
+    requires { has_failed journal ≡ false }
+{
+    let mut journal = journal;
+    assert!(rt; calls <= 4 && journal.used() < journal.capacity());
+    journal.restart(&Some(ENTRY), calls, choice)
+}
+
 // All that a read gives.
 fn image_of(rt: &impl Abort, disk: &mut MemDisk) -> Result<[u8; 128], Fail> {
     let mut image = [0; 128];
@@ -147,6 +161,11 @@ fn a_loss_of_power_leaves_the_record_or_not(rt: HostRuntime) -> Result<(), Fail>
             "{calls} calls, choice {choice}"
         );
         assert_eq!(rt; found(disk)?, records, "{calls} calls, choice {choice}");
+        assert_eq!(rt;
+            restarted(&rt, created(alloc, &[])?, calls, choice)?,
+            records,
+            "in place, {calls} calls, choice {choice}"
+        );
     }
     Ok(())
 }

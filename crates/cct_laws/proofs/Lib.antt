@@ -34,6 +34,7 @@ pub mod Moves
 pub mod Needed
 pub mod NewIds
 pub mod Newest
+pub mod Onto
 pub mod Opening
 pub mod Orders
 pub mod Owing
@@ -45,8 +46,10 @@ pub mod Pieces
 pub mod Posts
 pub mod Putting
 pub mod Readings
+pub mod Recalling
 pub mod Recorded
 pub mod Replies
+pub mod Restarts
 pub mod Room
 pub mod Rounds
 pub mod Rows

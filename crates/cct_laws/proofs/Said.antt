@@ -17,13 +17,12 @@ use Rattle.cct_model.specs.lines.command.Step.TheVariants as step
 use Rattle.cct_model.specs.lines.entry.LineKind.{LineKind}
 use Rattle.cct_model.specs.lines.entry.LineKind.TheVariants as kind
 use Rattle.cct_model.specs.Device.{IsWord, IsId, IsSound}
-use Rattle.cct_model.specs.Grammar.{◌>>=◌, is_space, number_in, within, ranged, three_byte_in, check_in, is_printing, word_in, id_in, bytes_in, piece_in, plain_acceptor, acceptor_line, hopper_line, value_line, texts_line, alone, setup_fields, setup_line, mask_of_bytes, mask_in, address_in, step_at, coin_step, fault_step, start_step, pay_step, path_step, step_fields, step_line}
-use Rattle.cct_model.specs.Legal.{is_played_command}
-use Rattle.cct_model.specs.Script.{word_of, is_later_word, IsCommand, IsFault}
+use Rattle.cct_model.specs.Grammar.{◌>>=◌, is_space, number_in, within, ranged, three_byte_in, check_in, is_printing, word_in, id_in, bytes_in, piece_in, plain_acceptor, acceptor_line, hopper_line, value_line, texts_line, alone, setup_fields, setup_line, mask_of_bytes, mask_in, address_in, step_at, coin_step, fault_step, start_step, pay_step, path_step, vend_step, choice_in, crash_step, step_fields, step_line}
+use Rattle.cct_model.specs.Script.{word_of, IsCommand, IsFault, IsCrash}
 use Rattle.cct_model.proofs.Added.{KeepsEach}
 use Rattle.cct_terms.proofs.OfBytes.{IfThere}
 use Rattle.cct_laws.specs.Law.{IsCommandOfBytes, HasBytes}
-use Rattle.cct_laws.proofs.Words.{first_part, no_word}
+use Rattle.cct_laws.proofs.Words.{first_part}
 
 -- a fact of what a line says, if it isn't refused
 abbrev pub IfSaid : {A : Type 0} → (A → Type 0) → Result A LineKind → Type 0
@@ -216,7 +215,7 @@ setup_said line =
     let first = first_part is_space line in
     subst (λ parts. IfSaid KeepsSound (setup_fields parts)) (sym first.1) (setup_fields_said (word_of line) first.0)
 
--- a step in range that is played, or the end
+-- a step in range, or the end
 abbrev pub IsToday : Step → Type 0
 IsToday (step.Coin addr place) = (1 ≤ place) × (place ≤ 16)
 IsToday (step.Alien addr) = ⊤
@@ -225,10 +224,10 @@ IsToday (step.Jam addr) = ⊤
 IsToday (step.Reset addr) = ⊤
 IsToday (step.Fault f) = IsFault f × HasBytes (step.Fault f)
 IsToday (step.Next addr) = addr < 256
-IsToday (step.Command c) = (is_played_command c ≡ true) × IsCommand c × IsCommandOfBytes c
+IsToday (step.Command c) = IsCommand c × IsCommandOfBytes c
+IsToday (step.Crash at choice) = IsCrash at
 IsToday step.Balance = ⊤
 IsToday step.End = ⊤
-IsToday s = ⊥
 
 small_address : (field : List ℕ) (addr : ℕ) → address_in field ≡ Some addr → addr < 256
 small_address field addr found = omega (arith, (ranged_in 0 255 field addr found).1)
@@ -273,7 +272,7 @@ start_said : (fields : List (List ℕ)) → IfThere IsToday (start_step fields)
 start_said (a ∷ m ∷ []) =
     bind IsToday (address_in a) _ (λ addr at.
     bind IsToday (mask_in m) _ (λ mask has.
-    (refl, (mask_found m mask has).0, (small_address a addr at, (mask_found m mask has).1))))
+    ((mask_found m mask has).0, (small_address a addr at, (mask_found m mask has).1))))
 start_said fields = tt
 
 pay_said : (fields : List (List ℕ)) → IfThere IsToday (pay_step fields)
@@ -281,7 +280,7 @@ pay_said (a ∷ i ∷ n ∷ []) =
     bind IsToday (address_in a) _ (λ addr at.
     bind IsToday (ranged 1 4294967295 i) _ (λ id numbered.
     bind IsToday (ranged 1 255 n) _ (λ count many.
-    (refl, ((ranged_in 1 4294967295 i id numbered).0, (ranged_in 1 255 n count many).0, (ranged_in 1 255 n count many).1), small_address a addr at))))
+    (((ranged_in 1 4294967295 i id numbered).0, (ranged_in 1 255 n count many).0, (ranged_in 1 255 n count many).1), small_address a addr at))))
 pay_said fields = tt
 
 path_said : (fields : List (List ℕ)) → IfThere IsToday (path_step fields)
@@ -289,8 +288,21 @@ path_said (a ∷ p ∷ q ∷ []) =
     bind IsToday (address_in a) _ (λ addr at.
     bind IsToday (ranged 0 16 p) _ (λ place placed.
     bind IsToday (ranged 1 8 q) _ (λ path sorted.
-    (refl, ((ranged_in 0 16 p place placed).1, (ranged_in 1 8 q path sorted).0, (ranged_in 1 8 q path sorted).1), small_address a addr at))))
+    (((ranged_in 0 16 p place placed).1, (ranged_in 1 8 q path sorted).0, (ranged_in 1 8 q path sorted).1), small_address a addr at))))
 path_said fields = tt
+
+vend_said : (fields : List (List ℕ)) → IfThere IsToday (vend_step fields)
+vend_said (i ∷ p ∷ []) =
+    bind IsToday (ranged 1 4294967295 i) _ (λ id numbered.
+    bind IsToday (ranged 1 1000000000 p) _ (λ price priced. (
+      (
+        (ranged_in 1 4294967295 i id numbered).0,
+        (ranged_in 1 1000000000 p price priced).0,
+        (ranged_in 1 1000000000 p price priced).1,
+      ),
+      omega arith,
+    )))
+vend_said fields = tt
 
 mapped : (make : List ℕ → Step) (found : Option (List ℕ)) → ((piece : List ℕ) → found ≡ Some piece → IsToday (make piece)) → IfThere IsToday (option_map make found)
 mapped make None holds = tt
@@ -307,14 +319,21 @@ fault_said (whom ∷ p ∷ []) =
     (fault_by (bytes_eq whom (codes "whole")) _ _ (mapped _ (piece_in 520 p) (λ piece found. (piece_short 520 p piece found, piece_bytes 520 p piece found))) tt))
 fault_said fields = tt
 
--- a word that isn't played
-not_today : (word name : List ℕ) (x : Result Step LineKind) → is_later_word name ≡ true →
-    is_later_word word ≡ false → bytes_eq word name ≡ true → IfSaid IsToday x
-not_today word name x later played here = absurd (no_word is_later_word word name here later played)
+-- the choice of a power cut may be any
+chosen : (found : Option ℕ) → IfThere IsToday (option_map (step.Crash None) found)
+chosen None = tt
+chosen (Some choice) = tt
 
-step_fields_said : (word : List ℕ) (fields : List (List ℕ)) → is_later_word word ≡ false →
-    IfSaid IsToday (step_fields (word ∷ fields))
-step_fields_said word fields played =
+crash_said : (fields : List (List ℕ)) → IfThere IsToday (crash_step fields)
+crash_said (x ∷ []) = chosen (choice_in x)
+crash_said (a ∷ n ∷ x ∷ []) =
+    bind IsToday (address_in a) _ (λ addr at.
+    bind IsToday (ranged 0 4 n) _ (λ calls few.
+    bind IsToday (choice_in x) _ (λ choice any. (ranged_in 0 4 n calls few).1)))
+crash_said fields = tt
+
+step_fields_said : (word : List ℕ) (fields : List (List ℕ)) → IfSaid IsToday (step_fields (word ∷ fields))
+step_fields_said word fields =
     let at = λ (make : ℕ → Step) (holds : (addr : ℕ) → addr < 256 → IsToday (make addr)). said_or IsToday (step_at make fields) kind.Form (at_said make fields holds) in
     word_by IsToday (bytes_eq word (codes "coin")) _ _ (λ _. said_or IsToday (coin_step fields) kind.Form (coin_said fields))
     (word_by IsToday (bytes_eq word (codes "alien")) _ _ (λ _. at step.Alien (λ addr small. tt))
@@ -324,22 +343,22 @@ step_fields_said word fields played =
     (word_by IsToday (bytes_eq word (codes "next")) _ _ (λ _. at step.Next (λ addr small. small))
     (word_by IsToday (bytes_eq word (codes "fault")) _ _ (λ _. said_or IsToday (fault_step fields) kind.Form (fault_said fields))
     (word_by IsToday (bytes_eq word (codes "start")) _ _ (λ _. said_or IsToday (start_step fields) kind.Form (start_said fields))
-    (word_by IsToday (bytes_eq word (codes "round")) _ _ (λ _. at (λ a. step.Command (command.Round a)) (λ addr small. (refl, tt, small)))
-    (word_by IsToday (bytes_eq word (codes "stop")) _ _ (λ _. at (λ a. step.Command (command.Stop a)) (λ addr small. (refl, tt, small)))
-    (word_by IsToday (bytes_eq word (codes "settle")) _ _ (λ _. at (λ a. step.Command (command.Settle a)) (λ addr small. (refl, tt, small)))
-    (word_by IsToday (bytes_eq word (codes "halt")) _ _ (λ _. at (λ a. step.Command (command.Halt a)) (λ addr small. (refl, tt, small)))
-    (word_by IsToday (bytes_eq word (codes "ident")) _ _ (λ _. at (λ a. step.Command (command.Ident a)) (λ addr small. (refl, tt, small)))
+    (word_by IsToday (bytes_eq word (codes "round")) _ _ (λ _. at (λ a. step.Command (command.Round a)) (λ addr small. (tt, small)))
+    (word_by IsToday (bytes_eq word (codes "stop")) _ _ (λ _. at (λ a. step.Command (command.Stop a)) (λ addr small. (tt, small)))
+    (word_by IsToday (bytes_eq word (codes "settle")) _ _ (λ _. at (λ a. step.Command (command.Settle a)) (λ addr small. (tt, small)))
+    (word_by IsToday (bytes_eq word (codes "halt")) _ _ (λ _. at (λ a. step.Command (command.Halt a)) (λ addr small. (tt, small)))
+    (word_by IsToday (bytes_eq word (codes "ident")) _ _ (λ _. at (λ a. step.Command (command.Ident a)) (λ addr small. (tt, small)))
     (word_by IsToday (bytes_eq word (codes "pay")) _ _ (λ _. said_or IsToday (pay_step fields) kind.Form (pay_said fields))
-    (word_by IsToday (bytes_eq word (codes "scan")) _ _ (λ _. said_or IsToday (alone (step.Command command.Scan) fields) kind.Form (alone_said IsToday (step.Command command.Scan) fields (refl, tt, omega arith)))
+    (word_by IsToday (bytes_eq word (codes "scan")) _ _ (λ _. said_or IsToday (alone (step.Command command.Scan) fields) kind.Form (alone_said IsToday (step.Command command.Scan) fields (tt, omega arith)))
     (word_by IsToday (bytes_eq word (codes "path")) _ _ (λ _. said_or IsToday (path_step fields) kind.Form (path_said fields))
-    (word_by IsToday (bytes_eq word (codes "vend")) _ _ (not_today word (codes "vend") _ refl played)
-    (word_by IsToday (bytes_eq word (codes "crash")) _ _ (not_today word (codes "crash") _ refl played)
+    (word_by IsToday (bytes_eq word (codes "vend")) _ _ (λ _. said_or IsToday (vend_step fields) kind.Form (vend_said fields))
+    (word_by IsToday (bytes_eq word (codes "crash")) _ _ (λ _. said_or IsToday (crash_step fields) kind.Form (crash_said fields))
     (word_by IsToday (bytes_eq word (codes "balance")) _ _ (λ _. said_or IsToday (alone step.Balance fields) kind.Form (alone_said IsToday step.Balance fields tt))
     (word_by IsToday (bytes_eq word (codes "end")) _ _ (λ _. said_or IsToday (alone step.End fields) kind.Form (alone_said IsToday step.End fields tt)) tt)))))))))))))))))))
 
--- a step line whose word is played
-pub step_said : (line : List ℕ) → is_later_word (word_of line) ≡ false → IfSaid IsToday (step_line line)
+-- a step line
+pub step_said : (line : List ℕ) → IfSaid IsToday (step_line line)
 unfolding step_line
-step_said line played =
+step_said line =
     let first = first_part is_space line in
-    subst (λ parts. IfSaid IsToday (step_fields parts)) (sym first.1) (step_fields_said (word_of line) first.0 played)
+    subst (λ parts. IfSaid IsToday (step_fields parts)) (sym first.1) (step_fields_said (word_of line) first.0)

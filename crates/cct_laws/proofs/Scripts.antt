@@ -16,7 +16,7 @@ use Rattle.cct_model.specs.Claims.{InOrder, Covers, Pace}
 use Rattle.cct_model.specs.Device.{IsSound, IsHopper}
 use Rattle.cct_model.specs.Grammar.{setup_line, step_line, added}
 use Rattle.cct_model.specs.Legal.{Legal, is_played}
-use Rattle.cct_model.specs.Script.{Stage, at_setup, at_steps, at_end, setup_at, Read, opens, plays, refuses, opened, read_setup_line, read_step_line, read_form, most_lines, most_bytes, is_over, read_line, Script, stage_after, goes_on, script_from, no_devices, script, word_of, is_later_word, is_line_feed, IsInRange}
+use Rattle.cct_model.specs.Script.{Stage, at_setup, at_steps, at_end, setup_at, Read, opens, plays, refuses, opened, read_setup_line, read_step_line, read_form, most_lines, most_bytes, is_over, read_line, Script, stage_after, goes_on, script_from, no_devices, script, is_line_feed, IsInRange}
 use Rattle.cct_model.proofs.Added.{AreAll, KeepsEach, added_keeps}
 use Rattle.cct_model.specs.Text.{text}
 use Rattle.cct_text.proofs.Whole.{text_is_one}
@@ -72,20 +72,16 @@ step_read setup (Ok (step.Jam addr)) today all = known_read _ setup (step.Jam ad
 step_read setup (Ok (step.Reset addr)) today all = known_read _ setup (step.Reset addr) all (tt, refl, tt)
 step_read setup (Ok (step.Next addr)) today all = known_read true setup (step.Next addr) all (tt, refl, today)
 step_read setup (Ok (step.Fault f)) today all = known_read true setup (step.Fault f) all (today.0, refl, today.1)
-step_read setup (Ok (step.Command c)) today all = known_read true setup (step.Command c) all (today.1, today.0, today.2)
+step_read setup (Ok (step.Command c)) today all = known_read true setup (step.Command c) all (today.0, refl, today.1)
+step_read setup (Ok (step.Crash at choice)) today all =
+    known_read true setup (step.Crash at choice) all (today, refl, tt)
 step_read setup (Ok step.Balance) today all = known_read true setup step.Balance all (tt, refl, tt)
-step_read setup (Ok s) today all = absurd today
 
 -- a line
-read_unless : (b : Bool) (r : Read) → (b ≡ false → IsRead r) → IsRead (cond b (refuses kind.Word) r)
-read_unless true r holds = tt
-read_unless false r holds = holds refl
-
 form_read : (stage : Stage) (line : List ℕ) → AreAll IsSound (setup_at stage) → IsRead (read_form stage line)
 unfolding read_form
 form_read (at_setup setup) line all = setup_read setup (setup_line line) (setup_said line) all
-form_read (at_steps setup) line all =
-    read_unless (is_later_word (word_of line)) _ (λ played. step_read setup (step_line line) (step_said line played) all)
+form_read (at_steps setup) line all = step_read setup (step_line line) (step_said line) all
 form_read (at_end setup) line all = tt
 
 refused_if : (b : Bool) (why : LineKind) (r : Read) → IsRead r → IsRead (cond b (refuses why) r)

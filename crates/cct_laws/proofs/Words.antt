@@ -1,7 +1,6 @@
--- The first field of a line, and the words that aren't played.
-use Rattle.std.proofs.Common.{◌≡◌, ℕ, suc, ◌+◌, not, Bool, true, false, cond, List, [], ◌∷◌, take, bytes_eq, refl, ap, sym, ◌∙◌, arith}
+-- The first field of a line.
+use Rattle.std.proofs.Common.{◌≡◌, ℕ, suc, ◌+◌, not, Bool, true, false, cond, List, [], ◌∷◌, take, refl, ap, sym, ◌∙◌, arith}
 use Rattle.std.specs.List.{slice_split, before_first, onto_first, position_or_len}
-use Rattle.std.specs.Cmp.Lexicographic.{bytes_decides}
 
 -- the first part of a list that is cut is what stands before the first element that passes
 abbrev FirstPart : (List ℕ) → List (List ℕ) → Type 0
@@ -17,11 +16,3 @@ first_by p false x xs n parts first =
 pub first_part : (p : ℕ → Bool) (xs : List ℕ) → FirstPart (before_first p xs) (slice_split p xs)
 first_part p [] = ([], refl)
 first_part p (x ∷ xs) = first_by p (p x) x xs (position_or_len p xs) (slice_split p xs) (first_part p xs)
-
--- a word that is none of these is no name of them
-pub no_word : (is_one : List ℕ → Bool) (word name : List ℕ) → bytes_eq word name ≡ true → is_one name ≡ true →
-    is_one word ≡ false → ⊥
-no_word is_one word name same one none = clash (sym one ∙ ap is_one (sym ((bytes_decides word name).0 same)) ∙ none)
-  where
-    clash : true ≡ false → ⊥
-    clash e = cc

@@ -10,5 +10,6 @@ pub mod Law
 pub mod Odd
 pub mod PaidOut
 pub mod Recorded
+pub mod Restart
 pub mod Since
 pub mod Tries

@@ -12,7 +12,9 @@
 //! `steps_of_today` and `front_of_today` of `proofs/Scripts.antt`, and there `played_in_order`, `played_covers` and
 //! `played_paid`, which say three laws of the front of a script; `legal_written` of `proofs/Texts.antt`; and
 //! `legal_due_follows` and `legal_due_allowed` of `proofs/Journal.antt`, which say of every legal past that what a job
-//! is about to put follows its records, and that a ledger takes it.
+//! is about to put follows its records, and that a ledger takes it. For a host that starts again over its records there
+//! are `proofs/Restarts.antt`, by which every legal past suits a loss of power (`legal_crash_suits`) and which say what
+//! entries that leaves, and `proofs/Recalling.antt`, which says what each record more tells.
 #![tactic(auto)]
 
 ghost use Rattle.std.specs.Prelude.{ℕ, ◌≡◌, ◌<◌, ◌≤◌, ◌⊎◌, false, List, [], ◌++◌, None, true, Option, Some, ◌≢◌, ◌+◌, ◌-◌, length};
@@ -26,6 +28,7 @@ ghost use Rattle.cct_model.specs.lines.record.Record.TheVariants.{Broken};
 ghost use Rattle.cct_model.specs.declared.judging.EpochState.TheVariants.{Idle, Running};
 ghost use Rattle.cct_model.specs.lines.command.Command.{Command};
 ghost use Rattle.cct_model.specs.lines.command.Command.TheVariants.{Round, Settle};
+ghost use Rattle.cct_model.specs.lines.command.CrashAt.{CrashAt};
 ghost use Rattle.cct_model.specs.lines.command.Step.{Step};
 ghost use Rattle.cct_model.specs.lines.command.WireFault.TheVariants.{Clear};
 ghost use Rattle.cct_model.specs.lines.entry.Entry.{Entry};
@@ -35,7 +38,7 @@ ghost use Rattle.cct_model.specs.Claims.{AllPast, InOrder, Covers, Pace};
 ghost use Rattle.cct_model.specs.Device.{IsAcceptor, IsHopper};
 ghost use Rattle.cct_model.specs.Exchange.{ask};
 ghost use Rattle.cct_model.specs.Job.{works, job, epoch, row, row_at, sends, puts, Payment};
-ghost use Rattle.cct_model.specs.Legal.{Legal, LegalFrom, due_at};
+ghost use Rattle.cct_model.specs.Legal.{EntriesOfCrash, Legal, LegalFrom, due_at};
 ghost use Rattle.cct_model.specs.Line.{Line};
 ghost use Rattle.cct_model.specs.Reading.{coins_among};
 ghost use Rattle.cct_model.specs.Script.{IsCommand, IsInRange, script};
@@ -370,15 +373,17 @@ pub fn life_counts_fit_each_order()
 {}
 
 /// What the records alone tell: the epoch of an acceptor and the open order of a hopper are those that the device's
-/// address and the records tell, after any entries whatever. Where the host has just lost its power, no job is left,
-/// and what the operator has, the last id and how many records are held are what the records tell. So a host that is
-/// built from a journal needs nothing else.
+/// address and the records tell, after any entries whatever. Where the host has just lost its power, in a put or not, no
+/// job is left, and what the operator has, the last id and how many records are held are what the records tell. So a
+/// host that is built from a journal needs nothing else.
 pub fn records_tell_what_a_host_needs()
     ensures epochs { (d : DeviceSetup) (past : List Entry)
         → epoch (lines_of d past) ≡ epoch_in d.addr (records past) }
     ensures orders { (d : DeviceSetup) (past : List Entry)
         → order (lines_of d past) ≡ order_in d.addr (records past) }
     ensures restart { (past : List Entry) → IsRestart past → HasNoJob past }
+    ensures crash { (setup : Setup) (past : List Entry) (at : Option CrashAt) (news : List Entry)
+        → EntriesOfCrash setup past at news → HasNoJob (news ++ past) }
     ensures totals { (setup : Setup) (past : List Entry) → HasNoJob past
         → totals setup past ≡ totals_in setup (records past) }
     ensures last_id { (setup : Setup) (past : List Entry) → HasNoJob past

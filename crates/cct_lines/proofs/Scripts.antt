@@ -97,10 +97,12 @@ greatest_steps :
     map step_line (
     codes "coin 255 16"
     ∷ codes "scan"
+    ∷ codes "vend 4294967295 1000000000"
     ∷ codes "crash 2 4 0"
     ∷ [])
     ≡ Ok (step.Coin 255 16)
     ∷ Ok (step.Command command.Scan)
+    ∷ Ok (step.Command (command.Vend 4294967295 1000000000))
     ∷ Ok (step.Crash (Some (record { addr = 2; calls = 4 })) 0)
     ∷ []
 unfolding step_line ranged
@@ -137,7 +139,3 @@ no_acceptor_refused = refl
 given_twice_refused : (script (codes "acceptor 2 simple 1 0" ++ 10 ∷ codes "value 2 1 5 XX005A" ++ 10 ∷ codes "value 2 1 5 XX005A" ++ 10 ∷ [])).refused ≡ Some (record { number = 3; why = kind.Again })
 unfolding script read_form setup_line step_line ranged id_in added most_lines
 given_twice_refused = refl
-
-later_word_refused : (script (codes "begin" ++ 10 ∷ codes "vend" ++ 10 ∷ [])).refused ≡ Some (record { number = 2; why = kind.Word })
-unfolding script read_form setup_line most_lines
-later_word_refused = refl

@@ -1,5 +1,5 @@
 -- What a script says: its setup, its steps, and the first line that is refused, with its kind (docs/SCRIPT.md).
-use Rattle.std.specs.Prelude.{◌≤◌, ℕ, ◌+◌, ◌==◌, ◌||◌, ◌&&◌, nat_lt, Bool, true, false, List, [], ◌∷◌, length, if◌then◌else◌, Option, Some, None, is_some, Result, Ok, Err, codes, bytes_eq, ⊤}
+use Rattle.std.specs.Prelude.{◌≤◌, ℕ, ◌+◌, ◌==◌, ◌&&◌, nat_lt, Bool, true, false, List, [], ◌∷◌, length, if◌then◌else◌, Option, Some, None, is_some, Result, Ok, Err, ⊤}
 use Rattle.std.specs.List.{slice_split, before_first}
 use Rattle.cct_lines.specs.terms.coin.TheConstants.{COIN_PLACES, PATHS}
 use Rattle.cct_lines.specs.terms.wire.TheConstants.{MOST_HEARD, MOST_SENT}
@@ -26,10 +26,6 @@ is_line_feed byte = byte == 10
 -- The first field of a line.
 abbrev pub word_of : List ℕ → List ℕ
 word_of line = before_first is_space line
-
--- The step words that no program plays yet: for now they are no words.
-abbrev pub is_later_word : List ℕ → Bool
-is_later_word word = bytes_eq word (codes "vend") || bytes_eq word (codes "crash")
 
 -- Which line a script wants next: one of its setup, a step, or none.
 pub data Stage : Type 0 where
@@ -79,10 +75,10 @@ read_step_line setup (Err why) = refuses why
 read_step_line setup (Ok step.End) = opens (at_end setup)
 read_step_line setup (Ok s) = read_known setup s
 
--- A whole line, by its word and its form; a word that isn't played yet is no word.
+-- A whole line, by its word and its form.
 unfoldable pub read_form : Stage → List ℕ → Read
 read_form (at_setup setup) line = read_setup_line setup (setup_line line)
-read_form (at_steps setup) line = if is_later_word (word_of line) then refuses kind.Word else read_step_line setup (step_line line)
+read_form (at_steps setup) line = read_step_line setup (step_line line)
 read_form (at_end setup) line = refuses kind.Trailing
 
 -- The most lines of a script.

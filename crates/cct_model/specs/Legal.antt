@@ -5,7 +5,6 @@ use Rattle.cct_model.specs.terms.wire.CheckKind.{CheckKind}
 use Rattle.cct_model.specs.terms.device.DeviceSetup.{DeviceSetup}
 use Rattle.cct_model.specs.terms.device.Setup.{Setup}
 use Rattle.cct_model.specs.lines.command.Command.{Command}
-use Rattle.cct_model.specs.lines.command.Command.TheVariants as command
 use Rattle.cct_model.specs.lines.command.CommandNo.{CommandNo}
 use Rattle.cct_model.specs.lines.command.CrashAt.{CrashAt}
 use Rattle.cct_model.specs.lines.command.Step.{Step}
@@ -182,15 +181,8 @@ Entries capacity setup past (step.Crash at choice) news = EntriesOfCrash setup p
 Entries capacity setup past step.Balance news = news ≡ entry.Balance (totals setup past) ∷ []
 Entries capacity setup past step.End news = ⊥
 
--- A command that the program plays: all but a sale.
-abbrev pub is_played_command : Command → Bool
-is_played_command (command.Vend id price) = false
-is_played_command c = true
-
--- A step that the program plays: all but a sale and a loss of power.
+-- A step that the program plays: all but the end of a script.
 abbrev pub is_played : Step → Bool
-is_played (step.Command c) = is_played_command c
-is_played (step.Crash at choice) = false
 is_played step.End = false
 is_played s = true
 

@@ -16,5 +16,6 @@ mod words;
 pub use adding::add;
 pub use cct_lines::SetupLine;
 pub use lines::{Line, Lines, LinesNo};
+pub use numbers::ranged;
 pub use setup::read_setup_line;
 pub use step::read_step_line;

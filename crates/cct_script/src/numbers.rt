@@ -2,9 +2,11 @@
 ghost use Rattle.std.specs.Prelude.{◌≡◌, ◌≤◌, ◌^◌, ◌<◌, IfSome, option_and_then};
 ghost use Rattle.cct_lines.specs.Grammar.{digits_from, number_in, within, ranged};
 
-/// The number from `least` up to `most` that a field spells in decimal, without sign and without leading zeros.
+/// The number that a field spells in decimal, without sign and without leading zeros.
+///
+/// `None` where the field spells no number that way, or one below `least` or above `most`.
 #[tactic(auto, unfolding(cct_lines::specs::Grammar::ranged))]
-pub(crate) fn ranged(least: u64, most: u64, field: &[u8]) -> Option<u64>
+pub fn ranged(least: u64, most: u64, field: &[u8]) -> Option<u64>
     ensures reads { result ≡ ranged least most field.now }
     ensures within { IfSome result (λ number. (least ≤ number) × (number ≤ most)) }
 {

@@ -1,4 +1,5 @@
 pub mod Texts
+pub mod Writing
 pub mod Listing
 pub mod Numbers
 pub mod Cuts

@@ -2,3 +2,4 @@ pub mod Joined
 pub mod Reading
 pub mod ScriptLine
 pub mod Written
+pub mod Writing

@@ -6,6 +6,7 @@ ghost use Rattle.std.specs.Io.KnownBytes.{Appends};
 ghost use Rattle.cct_edge.specs.Bytes.{AppendsFront, TellsAsBefore};
 ghost use Rattle.cct_edge.specs.Faults.{HasCause};
 ghost use Rattle.cct_lines.specs.Text.{line_of};
+ghost use Rattle.cct_text.specs.Writing.{Writes};
 
 use cct_edge::{Failed, Sink};
 use cct_lines::{Entry, MOST_TEXT};
@@ -38,6 +39,22 @@ pub fn write_entry<K: Sink>(out: &mut K, line: &mut TextLine, entry: &Entry) -> 
 {
     write_line(line, entry);
     out.put(line.as_slice())
+}
+
+/// Writes the lines of entries, in their order, each by one put.
+pub fn write_entries<K: Sink>(
+    out: &mut K,
+    line: &mut TextLine,
+    entries: &[Entry],
+) -> Result<(), Failed>
+    ensures writes { Writes K.written K.puts out.old entries.now result out.new }
+    ensures tells { TellsAsBefore (K.written out.old) (K.written out.new) }
+    ensures cause { HasCause (K.faults out.old) (K.faults out.new) result }
+{
+    for entry in entries {
+        write_entry(out, line, entry)?;
+    }
+    Ok(())
 }
 
 /// Writes the line of an entry by one put, as `write_entry` does, with a line buffer of its own.

@@ -6,10 +6,12 @@ use Rattle.cct_model.specs.lines.command.Step.{Step}
 use Rattle.cct_model.specs.lines.command.Step.TheVariants as step
 use Rattle.cct_model.specs.lines.record.Record.{Record}
 use Rattle.cct_model.specs.lines.entry.Entry.{Entry}
+use Rattle.cct_model.specs.lines.command.CrashAt.{CrashAt}
 use Rattle.cct_model.specs.Following.{is_allowed}
 use Rattle.cct_model.specs.Legal.{due_at}
 use Rattle.cct_model.specs.Money.{freed_by, reserved_at_work}
 use Rattle.cct_model.specs.Records.{records}
+use Rattle.cct_laws.specs.Restart.{CrashSuits}
 use Rattle.cct_host.proofs.Owned.{AreOwned, owns_its_put}
 use Rattle.cct_world.specs.Machine.{StepSuits}
 
@@ -23,11 +25,14 @@ if_due : (due : Option Record) (P : Record → Type 0) → ((r : Record) → due
 if_due None P is = tt
 if_due (Some r) P is = is r refl
 
--- where each open order was opened at its own hopper, and a ledger takes what any job is about to put, each step suits
+-- each step suits a past that suits a loss of power, where each open order was opened at its own hopper, and a ledger takes
+-- what any job is about to put
 pub step_suits : (setup : Setup) (past : List Entry) (s : Step) → AreOwned setup past
-    → ((addr : ℕ) (r : Record) → due_at setup past addr ≡ Some r → IsTaken setup past r) → StepSuits setup past s
-step_suits setup past (step.Next addr) owned taken = record {
+    → ((addr : ℕ) (r : Record) → due_at setup past addr ≡ Some r → IsTaken setup past r)
+    → ((at : Option CrashAt) → CrashSuits setup past at) → StepSuits setup past s
+step_suits setup past (step.Next addr) owned taken suits = record {
   owned = owns_its_put setup past addr owned;
   taken = if_due (due_at setup past addr) (IsTaken setup past) (taken addr);
 }
-step_suits setup past s owned taken = tt
+step_suits setup past (step.Crash at choice) owned taken suits = suits at
+step_suits setup past s owned taken suits = tt

@@ -9,22 +9,29 @@ use Rattle.cct_model.specs.Legal.{Entries, due_at}
 use Rattle.cct_model.specs.Records.{records}
 use Rattle.cct_disk.specs.declared.disk.Disk.{Ghosts}
 use Rattle.cct_disk.specs.Disk.{IsTrusted}
+use Rattle.cct_journal.specs.Losing.{LeavesWith}
 use Rattle.cct_journal.specs.Stands.{LeavesOneOf}
 use Rattle.cct_bus.specs.Bus as wires
+use Rattle.cct_laws.specs.Restart.{CrashSuits, due_in}
 use Rattle.cct_host.specs.Host as hosts
 use Rattle.cct_host.specs.Host.{PutSuits}
 use Rattle.cct_world.specs.declared.machine.Machine.{Machine}
+use Rattle.cct_world.specs.declared.refusal.WorldNo.{WorldNo}
+use Rattle.cct_world.specs.declared.refusal.WorldNo.TheVariants as world_no
 
 -- What a step takes for granted of the past: of a `next`, that the record that it puts, if it puts one, suits the
--- records before it. Of any other step nothing is asked.
+-- records before it; and of a loss of power, that the records follow one another, with the one whose put it interrupts.
+-- Of any other step nothing is asked.
 abbrev pub StepSuits : Setup → List Entry → Step → Type 0
 StepSuits setup past (step.Next addr) = PutSuits setup past addr
+StepSuits setup past (step.Crash at choice) = CrashSuits setup past at
 StepSuits setup past s = ⊤
 
--- A step is a `next` whose job is about to put this record.
-abbrev pub Puts : Setup → List Entry → Record → Step → Type 0
-Puts setup past r (step.Next addr) = due_at setup past addr ≡ Some r
-Puts setup past r s = ⊥
+-- What a step takes for granted of the disk: of a loss of power, that it is trusted. Of any other step nothing is
+-- asked.
+abbrev pub Survives : Type 0 → Step → Type 0
+Survives trusted (step.Crash at choice) = trusted
+Survives trusted s = ⊤
 
 module _ {D : Type 0} {g : Ghosts D} where
   -- The setup of a machine.
@@ -48,17 +55,37 @@ module _ {D : Type 0} {g : Ghosts D} where
     pub host : hosts.StandsFor machine.host past
     pub bus : wires.StandsFor machine.bus past
 
+  -- The disk is trusted.
+  abbrev pub HasTrusted : Machine D g → Type 0
+  HasTrusted machine = IsTrusted g.honest g.seen (disk_of machine)
+
   -- A step gives these entries, oldest first, whatever is behind it, where a record that it puts suits those before it;
-  -- and the machine goes on by them.
+  -- and the machine goes on by them. A loss of power does so on a trusted disk.
   abbrev pub Plays : Machine D g → Machine D g → Step → List Entry → Type 0
   Plays old new s report =
-      (past : List Entry) → StandsFor old past → StepSuits (setup_of old) past s
+      (past : List Entry) → StandsFor old past → StepSuits (setup_of old) past s → Survives (HasTrusted old) s
       → Entries (capacity_in old) (setup_of old) past s (reverse report) × StandsFor new (reverse report ++ past)
 
-  -- A step wasn't played: it is a `next` that was about to put a record, and whatever a loss of power leaves on the
-  -- trusted disk stands for the records of the past, or for these and that one.
-  abbrev pub Breaks : Machine D g → D → Step → Type 0
-  Breaks old left s =
+  -- A call of the disk failed in a step. It is a `next` that was about to put a record, and whatever a loss of power
+  -- leaves on the trusted disk stands for the records of the past, or for these and that one; or it is a loss of
+  -- power, and that leaves these alone where no put was interrupted.
+  abbrev pub FailsIn : Machine D g → D → Step → Type 0
+  FailsIn old left (step.Next addr) =
       (past : List Entry) → StandsFor old past
-      → (r : Record) × (Puts (setup_of old) past r s × (IsTrusted g.honest g.seen (disk_of old)
+      → (r : Record) × ((due_at (setup_of old) past addr ≡ Some r) × (HasTrusted old
       → LeavesOneOf g.honest g.seen g.may_leave left (reverse (records past)) r))
+  FailsIn old left (step.Crash at choice) =
+      (past : List Entry) → StandsFor old past → HasTrusted old
+      → LeavesWith g.honest g.seen g.may_leave left (due_in (setup_of old) past at) (reverse (records past))
+  FailsIn old left s = ⊥
+
+  -- What a loss of power left isn't what stood on the disk. That is told of no other step, and never of a trusted disk.
+  abbrev pub LosesIn : Machine D g → Step → Type 0
+  LosesIn old (step.Crash at choice) =
+      (past : List Entry) → StandsFor old past → CrashSuits (setup_of old) past at → HasTrusted old → ⊥
+  LosesIn old s = ⊥
+
+  -- Why a step wasn't played, where this disk is left.
+  abbrev pub Breaks : Machine D g → D → WorldNo → Step → Type 0
+  Breaks old left world_no.Disk s = FailsIn old left s
+  Breaks old left why s = LosesIn old s

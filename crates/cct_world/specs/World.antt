@@ -4,6 +4,7 @@ use Rattle.cct_model.specs.terms.device.Setup.{Setup}
 use Rattle.cct_model.specs.lines.command.Step.{Step}
 use Rattle.cct_model.specs.lines.entry.Entry.{Entry}
 use Rattle.cct_disk.specs.declared.disk.Disk.{Ghosts}
+use Rattle.cct_world.specs.declared.refusal.WorldNo.{WorldNo}
 use Rattle.cct_world.specs.declared.world.World.{World}
 use Rattle.cct_world.specs.Machine as machines
 
@@ -25,10 +26,10 @@ module _ {D : Type 0} {g : Ghosts D} where
   StandsFor world past = machines.StandsFor world.machine.value past
 
   -- A step gives these entries, oldest first, whatever is behind it, where a record that it puts suits those before it;
-  -- and the world goes on by them.
+  -- and the world goes on by them. A loss of power does so on a trusted disk.
   abbrev pub Plays : World D g → World D g → Step → List Entry → Type 0
   Plays old new s report = machines.Plays old.machine.value new.machine.value s report
 
-  -- A step wasn't played, since its put failed; this disk is left.
-  abbrev pub Breaks : World D g → D → Step → Type 0
-  Breaks old left s = machines.Breaks old.machine.value left s
+  -- Why a step wasn't played, where this disk is left.
+  abbrev pub Breaks : World D g → D → WorldNo → Step → Type 0
+  Breaks old left why s = machines.Breaks old.machine.value left why s

@@ -2,6 +2,8 @@
 #![tactic(auto)]
 
 mod machine;
+mod refusal;
 mod world;
 
-pub use world::{World, WorldNo};
+pub use refusal::WorldNo;
+pub use world::World;

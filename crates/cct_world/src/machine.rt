@@ -1,22 +1,26 @@
 //! The machine of a world: the host, and the bus with its devices.
-ghost use Rattle.std.specs.Prelude.{◌≡◌, ◌≤◌, [], IsTrue, OnErr, OnOk, false, is_some};
+ghost use Rattle.std.specs.Prelude.{◌≡◌, ◌≢◌, ◌≤◌, [], IfErr, IsTrue, List, OnErr, OnOk, false, is_some, reverse};
 ghost use Rattle.cct_model.specs.lines.command.Step.TheVariants as step;
 ghost use Rattle.cct_model.specs.Exchange.{acceptor_there, device_at, hopper_there};
-ghost use Rattle.cct_model.specs.Legal.{is_played, is_played_command};
-ghost use Rattle.cct_model.specs.Script.{IsFault, IsInRange, is_known};
+ghost use Rattle.cct_model.specs.lines.entry.Entry.{Entry};
+ghost use Rattle.cct_model.specs.Legal.{is_played};
+ghost use Rattle.cct_model.specs.Money.{totals};
+ghost use Rattle.cct_model.specs.Script.{IsCrash, IsFault, IsInRange, is_known};
 ghost use Rattle.cct_bus.specs.Bus as wires;
 ghost use Rattle.cct_edge.specs.Faults.{Rose};
-ghost use Rattle.cct_journal.specs.Stands.{GoesOn};
+ghost use Rattle.cct_journal.specs.Stands.{GoesOn, Outlasts};
 ghost use Rattle.cct_host.specs.Host as hosts;
-ghost use Rattle.cct_world.specs.Step.{entry_of, fall_told, is_next, jam_told};
+ghost use Rattle.cct_host.specs.Restarting.{crash_news};
+ghost use Rattle.cct_world.specs.Step.{LastsIn, RoseBy, crashes, crashes_of, entry_of, fall_told, is_next, jam_told, unplayed};
 
+use crate::refusal::WorldNo;
 use arrayvec::ArrayVec;
 use cct_acceptor::Inserted;
 use cct_bus::Bus;
 use cct_disk::Disk;
 use cct_edge::Failed;
-use cct_host::Host;
-use cct_model::{COIN_PLACES, Command, Entry, Step, WireFault};
+use cct_host::{CrashNo, Crashed, Host};
+use cct_model::{COIN_PLACES, Command, CrashAt, Entry, Step, Totals, WireFault};
 
 /// The host and the bus of a world. They stand in a box, so that a world that is moved costs a pointer.
 #[derive(Drop)]
@@ -27,7 +31,7 @@ pub(crate) struct Machine<'s, D: Disk> {
 }
 
 impl<D: Disk> Machine<'_, D> {
-    ghost use Rattle.cct_world.specs.Machine.{Breaks, Plays, StandsFor, disk_of, has_failed, setup_of};
+    ghost use Rattle.cct_world.specs.Machine.{Breaks, FailsIn, Plays, StandsFor, disk_of, has_failed, setup_of};
 
     pub fn knows(&self, step: &Step) -> bool
         ensures { result ≡ is_known (setup_of self.now) step.now }
@@ -47,7 +51,7 @@ impl<D: Disk> Machine<'_, D> {
         }
     }
 
-    pub fn step(&mut self, step: &Step, report: &mut ArrayVec<Entry, 8>) -> Result<(), Failed>
+    pub fn step(&mut self, step: &Step, report: &mut ArrayVec<Entry, 8>) -> Result<(), WorldNo>
         requires known { IsTrue (is_known (setup_of self.old) step.now) }
         requires in_range { IsInRange step.now }
         requires played { IsTrue (is_played step.now) }
@@ -56,14 +60,24 @@ impl<D: Disk> Machine<'_, D> {
         ensures whole { OnOk result (has_failed self.new ≡ false) }
         ensures plays { OnOk result (Plays self.old self.new step.now report.new.items) }
         ensures empty { OnErr result (report.new.items ≡ []) }
-        ensures breaks { OnErr result (Breaks self.old (disk_of self.new) step.now) }
-        ensures cause { OnErr result (Rose (D.faults (disk_of self.old)) (D.faults (disk_of self.new))) }
-        ensures goes_on { GoesOn D.size D.honest D.seen D.cuts (disk_of self.old) (disk_of self.new) }
+        ensures told { OnOk result (crashes (reverse report.new.items) ≡ crashes_of step.now) }
+        ensures cut { OnOk result
+            (RoseBy (crashes_of step.now) (D.cuts (disk_of self.old)) (D.cuts (disk_of self.new))) }
+        ensures breaks { IfErr result (λ why. Breaks self.old (disk_of self.new) why step.now) }
+        ensures cause { IfErr result
+            (λ why. why ≡ WorldNo.Disk → Rose (D.faults (disk_of self.old)) (D.faults (disk_of self.new))) }
+        ensures lost { IfErr result
+            (λ why. why ≢ WorldNo.Disk → Rose (D.cuts (disk_of self.old)) (D.cuts (disk_of self.new))) }
+        ensures lasts { LastsIn step.now D.size D.honest D.seen D.cuts (disk_of self.old) (disk_of self.new) }
         ensures later { D.faults (disk_of self.old) ≤ D.faults (disk_of self.new) }
     {
         report.clear();
         match step {
-            Step::Next { addr } => self.next(*addr, report),
+            Step::Next { addr } => match self.next(*addr, report) {
+                Ok(()) => Ok(()),
+                Err(Failed) => Err(WorldNo::Disk),
+            },
+            Step::Crash { at, choice } => self.crash(*at, *choice, report),
             _ => {
                 self.undisturbed_step(step, report);
                 Ok(())
@@ -71,17 +85,19 @@ impl<D: Disk> Machine<'_, D> {
         }
     }
 
-    /// Plays a step that makes no call of the disk: any but a `next`.
+    /// Plays a step that makes no call of the disk: any but a `next` and a loss of power.
     fn undisturbed_step(&mut self, step: &Step, report: &mut ArrayVec<Entry, 8>)
         requires known { IsTrue (is_known (setup_of self.old) step.now) }
         requires in_range { IsInRange step.now }
         requires played { IsTrue (is_played step.now) }
         requires no_next { is_next step.now ≡ false }
+        requires no_crash { crashes_of step.now ≡ 0 }
         requires report { report.old.items ≡ [] }
         ensures setup { setup_of self.new ≡ setup_of self.old }
         ensures whole { has_failed self.new ≡ has_failed self.old }
         ensures disk { disk_of self.new ≡ disk_of self.old }
         ensures plays { Plays self.old self.new step.now report.new.items }
+        ensures told { crashes (reverse report.new.items) ≡ 0 }
     {
         match step {
             Step::Coin { addr, place } => self.coin(*addr, *place, report),
@@ -98,6 +114,40 @@ impl<D: Disk> Machine<'_, D> {
         }
     }
 
+    /// The host loses its power, in a put of the job at an address or in none, and starts again over what its disk then
+    /// keeps.
+    fn crash(
+        &mut self,
+        at: Option<CrashAt>,
+        choice: u64,
+        report: &mut ArrayVec<Entry, 8>,
+    ) -> Result<(), WorldNo>
+        requires few { IsCrash at }
+        requires whole { has_failed self.old ≡ false }
+        requires report { report.old.items ≡ [] }
+        ensures setup { setup_of self.new ≡ setup_of self.old }
+        ensures whole { OnOk result (has_failed self.new ≡ false) }
+        ensures plays { OnOk result (Plays self.old self.new (step.Crash at choice) report.new.items) }
+        ensures empty { OnErr result (report.new.items ≡ []) }
+        ensures told { OnOk result (crashes (reverse report.new.items) ≡ 1) }
+        ensures cut { OnOk result (RoseBy 1 (D.cuts (disk_of self.old)) (D.cuts (disk_of self.new))) }
+        ensures breaks { IfErr result (λ why. Breaks self.old (disk_of self.new) why (step.Crash at choice)) }
+        ensures cause { IfErr result
+            (λ why. why ≡ WorldNo.Disk → Rose (D.faults (disk_of self.old)) (D.faults (disk_of self.new))) }
+        ensures lost { IfErr result
+            (λ why. why ≢ WorldNo.Disk → Rose (D.cuts (disk_of self.old)) (D.cuts (disk_of self.new))) }
+        ensures lasts { Outlasts D.size D.honest D.seen D.cuts (disk_of self.old) (disk_of self.new) }
+        ensures later { D.faults (disk_of self.old) ≤ D.faults (disk_of self.new) }
+    {
+        match self.host.restart(at, choice) {
+            Ok(crashed) => {
+                tell_crash(crashed, report);
+                Ok(())
+            }
+            Err(why) => Err(unplayed(why)),
+        }
+    }
+
     /// A coin falls into an acceptor.
     fn coin(&mut self, addr: u8, place: u8, report: &mut ArrayVec<Entry, 8>)
         requires there { IsTrue (acceptor_there (device_at (setup_of self.old).devices addr)) }
@@ -108,6 +158,7 @@ impl<D: Disk> Machine<'_, D> {
         ensures whole { has_failed self.new ≡ has_failed self.old }
         ensures disk { disk_of self.new ≡ disk_of self.old }
         ensures plays { Plays self.old self.new (step.Coin addr place) report.new.items }
+        ensures told { crashes (reverse report.new.items) ≡ 0 }
     {
         let inserted = self.bus.coin(addr, place);
         report.push(coin_entry(inserted, addr, place));
@@ -121,6 +172,7 @@ impl<D: Disk> Machine<'_, D> {
         ensures whole { has_failed self.new ≡ has_failed self.old }
         ensures disk { disk_of self.new ≡ disk_of self.old }
         ensures plays { Plays self.old self.new (step.Alien addr) report.new.items }
+        ensures told { crashes (reverse report.new.items) ≡ 0 }
     {
         self.bus.alien(addr);
         report.push(Entry::Alien { addr });
@@ -134,6 +186,7 @@ impl<D: Disk> Machine<'_, D> {
         ensures whole { has_failed self.new ≡ has_failed self.old }
         ensures disk { disk_of self.new ≡ disk_of self.old }
         ensures plays { Plays self.old self.new (step.Fall addr) report.new.items }
+        ensures told { crashes (reverse report.new.items) ≡ 0 }
     {
         let does = self.bus.fall(addr);
         report.push(fall_told(does, addr));
@@ -147,6 +200,7 @@ impl<D: Disk> Machine<'_, D> {
         ensures whole { has_failed self.new ≡ has_failed self.old }
         ensures disk { disk_of self.new ≡ disk_of self.old }
         ensures plays { Plays self.old self.new (step.Jam addr) report.new.items }
+        ensures told { crashes (reverse report.new.items) ≡ 0 }
     {
         let does = self.bus.jam(addr);
         report.push(jam_told(does, addr));
@@ -160,6 +214,7 @@ impl<D: Disk> Machine<'_, D> {
         ensures whole { has_failed self.new ≡ has_failed self.old }
         ensures disk { disk_of self.new ≡ disk_of self.old }
         ensures plays { Plays self.old self.new (step.Reset addr) report.new.items }
+        ensures told { crashes (reverse report.new.items) ≡ 0 }
     {
         self.bus.reset(addr);
         report.push(Entry::Reset { addr });
@@ -173,6 +228,7 @@ impl<D: Disk> Machine<'_, D> {
         ensures whole { has_failed self.new ≡ has_failed self.old }
         ensures disk { disk_of self.new ≡ disk_of self.old }
         ensures plays { Plays self.old self.new (step.Fault fault.now) report.new.items }
+        ensures told { crashes (reverse report.new.items) ≡ 0 }
     {
         self.bus.set_fault(fault.copied());
         report.push(Entry::Fault(fault.copied()));
@@ -180,12 +236,12 @@ impl<D: Disk> Machine<'_, D> {
 
     /// The operator gives the host a command. A refused one changes nothing.
     fn command(&mut self, command: &Command, report: &mut ArrayVec<Entry, 8>)
-        requires played { IsTrue (is_played_command command.now) }
         requires report { report.old.items ≡ [] }
         ensures setup { setup_of self.new ≡ setup_of self.old }
         ensures whole { has_failed self.new ≡ has_failed self.old }
         ensures disk { disk_of self.new ≡ disk_of self.old }
         ensures plays { Plays self.old self.new (step.Command command.now) report.new.items }
+        ensures told { crashes (reverse report.new.items) ≡ 0 }
     {
         match self.host.command(command) {
             Ok(()) => report.push(Entry::Taken(*command)),
@@ -199,7 +255,8 @@ impl<D: Disk> Machine<'_, D> {
     /// The operator is told what is available, reserved, paid and sold.
     fn balance(&self, report: &mut ArrayVec<Entry, 8>)
         requires report { report.old.items ≡ [] }
-        ensures { Plays self.now self.now step.Balance report.new.items }
+        ensures plays { Plays self.now self.now step.Balance report.new.items }
+        ensures told { crashes (reverse report.new.items) ≡ 0 }
     {
         report.push(Entry::Balance(self.host.totals()));
     }
@@ -211,13 +268,21 @@ impl<D: Disk> Machine<'_, D> {
         ensures setup { setup_of self.new ≡ setup_of self.old }
         ensures whole { OnOk result (has_failed self.new ≡ false) }
         ensures plays { OnOk result (Plays self.old self.new (step.Next addr) report.new.items) }
+        ensures told { OnOk result (crashes (reverse report.new.items) ≡ 0) }
         ensures empty { OnErr result (report.new.items ≡ []) }
-        ensures breaks { OnErr result (Breaks self.old (disk_of self.new) (step.Next addr)) }
+        ensures fails { OnErr result (FailsIn self.old (disk_of self.new) (step.Next addr)) }
         ensures cause { OnErr result (Rose (D.faults (disk_of self.old)) (D.faults (disk_of self.new))) }
         ensures goes_on { GoesOn D.size D.honest D.seen D.cuts (disk_of self.old) (disk_of self.new) }
         ensures later { D.faults (disk_of self.old) ≤ D.faults (disk_of self.new) }
     {
         self.host.next(addr, &mut self.bus, report)
+    }
+
+    /// What is available, reserved, paid and sold, in units of value.
+    pub fn totals(&self) -> Totals
+        ensures { (past : List Entry) → StandsFor self.now past → result ≡ totals (setup_of self.now) past }
+    {
+        self.host.totals()
     }
 
     /// The disk.
@@ -226,6 +291,30 @@ impl<D: Disk> Machine<'_, D> {
     {
         let Machine { host, bus: _ } = self;
         host.into_disk()
+    }
+}
+
+/// Tells what a loss of power left.
+fn tell_crash(crashed: Crashed, report: &mut ArrayVec<Entry, 8>)
+    requires { report.old.items ≡ [] }
+    ensures { reverse report.new.items ≡ crash_news crashed }
+{
+    let Crashed { records, kept } = crashed;
+    report.push(Entry::Crash { records });
+    if let Some(entry) = kept {
+        report.push(Entry::Kept(entry));
+    }
+}
+
+/// Why a step isn't played, where the host isn't started again behind a loss of power.
+fn unplayed(why: CrashNo) -> WorldNo
+    ensures { result ≡ unplayed why }
+{
+    match why {
+        CrashNo::Disk => WorldNo::Disk,
+        CrashNo::Alien => WorldNo::Alien,
+        CrashNo::BadRecord { index } => WorldNo::BadRecord { index },
+        CrashNo::Lost { found, put } => WorldNo::Lost { found, put },
     }
 }
 

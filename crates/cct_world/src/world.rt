@@ -1,31 +1,27 @@
 //! The world of a script: the host, and the bus with its devices.
-ghost use Rattle.std.specs.Prelude.{◌≡◌, ◌≤◌, [], IfErr, IfOk, IsTrue, MatchResult, OnErr, false};
+ghost use Rattle.std.specs.Prelude.{◌≡◌, ◌≢◌, ◌≤◌, [], IfErr, IfOk, IsTrue, MatchResult, OnErr, false, reverse};
 ghost use Rattle.cct_model.specs.Legal.{is_played};
 ghost use Rattle.cct_model.specs.Script.{IsInRange, is_known};
 ghost use Rattle.cct_model.specs.Setup.{IsSoundSetup};
+ghost use Rattle.std.specs.Prelude.{List};
+ghost use Rattle.cct_model.specs.lines.entry.Entry.{Entry};
+ghost use Rattle.cct_model.specs.Money.{totals};
 ghost use Rattle.cct_disk.specs.Disk.{IsTrusted};
 ghost use Rattle.cct_edge.specs.Faults.{Rose};
 ghost use Rattle.cct_journal.specs.Journal as journals;
-ghost use Rattle.cct_journal.specs.Stands.{GoesOn, Stands};
+ghost use Rattle.cct_journal.specs.Stands.{Stands};
 ghost use Rattle.cct_world.specs.Machine as machines;
+ghost use Rattle.cct_world.specs.Step.{LastsIn, RoseBy, crashes, crashes_of};
 
 use crate::machine::Machine;
+use crate::refusal::WorldNo;
 use arrayvec::ArrayVec;
 use cct_bus::Bus;
 use cct_disk::Disk;
 use cct_host::Host;
 use cct_journal::Journal;
-use cct_model::{Entry, Setup, Step};
+use cct_model::{Entry, Setup, Step, Totals};
 use std::alloc::{AllocError, AllocFailed, Global};
-use thiserror::Error;
-
-/// Why a step wasn't played.
-#[derive(Clone, Copy, Debug, Error, PartialEq, Eq)]
-pub enum WorldNo {
-    /// A call of the disk failed.
-    #[error("the disk failed")]
-    Disk,
-}
 
 /// The machine that a script plays on: the devices on their wire, and the host over its journal. Its contracts tell it
 /// by the transcript of all that happened on it, newest entry first.
@@ -80,8 +76,9 @@ impl<'s, D: Disk> World<'s, D> {
 
     /// Plays one step; the report is replaced by the entries of the step.
     ///
-    /// Fails only where a call of the disk failed in a `next` whose job had a record to put. Then the report is empty,
-    /// the world is gone, and the disk is given back: whether the record stands there is open.
+    /// Fails only where a call of the disk failed, in a `next` whose job had a record to put or in a loss of power, or
+    /// where a loss of power left another journal than was there. Then the report is empty, the world is gone, and the
+    /// disk is given back: whether the record stands there is open.
     pub fn step(
         self,
         step: &Step,
@@ -93,19 +90,30 @@ impl<'s, D: Disk> World<'s, D> {
         ensures setup { IfOk result (λ world. setup_of world ≡ setup_of self.entry) }
         ensures plays { IfOk result (λ world. Plays self.entry world step.now report.new.items) }
         ensures empty { OnErr result (report.new.items ≡ []) }
-        ensures breaks { IfErr result (λ e. Breaks self.entry e.0 step.now) }
-        ensures cause { IfErr result (λ e. Rose (D.faults (disk_of self.entry)) (D.faults e.0)) }
-        ensures goes_on { MatchResult result
-            (λ world. GoesOn D.size D.honest D.seen D.cuts (disk_of self.entry) (disk_of world))
-            (λ e. GoesOn D.size D.honest D.seen D.cuts (disk_of self.entry) e.0) }
+        ensures told { IfOk result (λ world. crashes (reverse report.new.items) ≡ crashes_of step.now) }
+        ensures cut { IfOk result (λ world.
+            RoseBy (crashes_of step.now) (D.cuts (disk_of self.entry)) (D.cuts (disk_of world))) }
+        ensures breaks { IfErr result (λ e. Breaks self.entry e.0 e.1 step.now) }
+        ensures cause { IfErr result (λ e. e.1 ≡ WorldNo.Disk → Rose (D.faults (disk_of self.entry)) (D.faults e.0)) }
+        ensures lost { IfErr result (λ e. e.1 ≢ WorldNo.Disk → Rose (D.cuts (disk_of self.entry)) (D.cuts e.0)) }
+        ensures lasts { MatchResult result
+            (λ world. LastsIn step.now D.size D.honest D.seen D.cuts (disk_of self.entry) (disk_of world))
+            (λ e. LastsIn step.now D.size D.honest D.seen D.cuts (disk_of self.entry) e.0) }
         ensures later { MatchResult result (λ world. D.faults (disk_of self.entry) ≤ D.faults (disk_of world))
             (λ e. D.faults (disk_of self.entry) ≤ D.faults e.0) }
     {
         let World { mut machine } = self;
         match machine.step(step, report) {
             Ok(()) => Ok(World { machine }),
-            Err(_) => Err((Box::into_inner(machine).into_disk(), WorldNo::Disk)),
+            Err(why) => Err((Box::into_inner(machine).into_disk(), why)),
         }
+    }
+
+    /// What is available, reserved, paid and sold, in units of value.
+    pub fn totals(&self) -> Totals
+        ensures { (past : List Entry) → StandsFor self.now past → result ≡ totals (setup_of self.now) past }
+    {
+        self.machine.totals()
     }
 
     /// The disk.

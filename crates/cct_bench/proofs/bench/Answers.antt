@@ -1,14 +1,22 @@
-use Rattle.std.proofs.Common.{◌≡◌, refl}
-use Rattle.std.specs.Prelude.{IfSome}
+use Rattle.std.proofs.Common.{◌≡◌, ◌⊎◌, Some, ap, map, refl, true, ◌∙◌}
+use Rattle.std.specs.Prelude.{IfSome, string_bytes}
 use Rattle.cct_edge.specs.Faults.{Rose}
 use Rattle.cct_model.specs.Script.{script}
 use Rattle.cct_journal.specs.Image.{IsBlank}
 use Rattle.cct_bench.specs.declared.play.TheConstants.{JOURNAL_BYTES}
+use Rattle.cct_world.specs.Sure.{losses_in}
+use Rattle.cct_gen.specs.Load.{load_steps}
+use Rattle.cct_bench.specs.declared.outcome.Status.TheVariants as status
 use Rattle.cct_bench.specs.Disks.{disks}
-use Rattle.cct_bench.specs.Writing.{Wrote, Broke}
+use Rattle.cct_bench.specs.Load.{Loaded}
+use Rattle.cct_bench.specs.Report.{IsOrMemory}
+use Rattle.cct_bench.specs.Words.{said_in}
+use Rattle.cct_text.specs.Writing.{Wrote, Broke}
 use Rattle.cct_bench.specs.Run.{Completes, Ran}
 use Rattle.cct_bench.proofs.Closing.{no_memory, some_weaker, told_completes}
-use Rattle.cct_bench.proofs.Writing.{wrote_none}
+use Rattle.cct_bench.proofs.LoadEnds.{load_at_once, load_completes}
+use Rattle.cct_bench.proofs.Words.{load_said, words_most}
+use Rattle.cct_text.proofs.Writing.{wrote_none}
 use Rattle.cct_bench.proofs.bench.Goals as goal
 
 pub returns-in-Ok-clause-complete : goal.returns-in-Ok-clause-complete
@@ -28,12 +36,14 @@ returns-in-Ok-clause-complete g c is_run =
     let Read = Rose (source.faults script0) (source.faults script1) in
     let Write = Rose (sink.faults out0) (sink.faults out1) in
     let Failed = Rose (disk.faults c.args.disk) (disk.faults last) in
+    let Honest = disk.honest c.args.disk ≡ true in
     let ran = c.run.ensures in
     some_weaker (λ bytes. Ran bytes s (source.left script1) W B ds)
     (λ bytes. IfSome (disk.seen c.args.disk) (λ image. disk.size c.args.disk ≡ JOURNAL_BYTES → IsBlank image
-    → (Read → ⊥) → (Write → ⊥) → (Failed → ⊥) → Completes (script bytes).refused s)) (source.left script0)
-    (λ bytes. told_completes bytes s (source.left script1) W B ds Read Write Failed (disk.seen c.args.disk) refl
-    ran.read_cause ran.write_cause ran.disk_cause) ran.ran
+    → Honest ⊎ (losses_in (script bytes).steps ≡ 0) → (Read → ⊥) → (Write → ⊥) → (Failed → ⊥)
+    → Completes (script bytes).refused s)) (source.left script0)
+    (λ bytes. told_completes bytes s (source.left script1) W B ds Read Write Failed Honest (disk.seen c.args.disk) refl
+    (λ honest tells. (honest, tells)) ran.read_cause ran.write_cause ran.disk_cause) ran.ran
 
 pub returns-in-Err-clause-ran : goal.returns-in-Err-clause-ran
 returns-in-Err-clause-ran g c is_run =
@@ -42,5 +52,65 @@ returns-in-Err-clause-ran g c is_run =
     let out = c.args.out.now in
     no_memory (g.S.Source.left c.args.script.now) (Wrote sink.written sink.puts out out)
     (Broke sink.written sink.puts out out)
+    (disks disk.size disk.honest disk.seen disk.may_leave disk.cuts c.args.disk c.args.disk) refl
+    (wrote_none sink.written sink.puts out)
+
+pub returns-in-Err-Memory-clause-ran : goal.returns-in-Err-Memory-clause-ran
+returns-in-Err-Memory-clause-ran g c is_run =
+    let sink = g.K.Sink in
+    let disk = g.D.Disk in
+    let out = c.args.out.now in
+    no_memory (g.S.Source.left c.args.script.now) (Wrote sink.written sink.puts out out)
+    (Broke sink.written sink.puts out out)
+    (disks disk.size disk.honest disk.seen disk.may_leave disk.cuts c.args.disk c.args.disk) refl
+    (wrote_none sink.written sink.puts out)
+
+pub run_load-requires : goal.run_load-requires
+run_load-requires g c =
+    record {
+      rounds = words_most (map string_bytes c.args.words.now) c.in-Ok-Load.seed c.in-Ok-Load.rounds
+          (c.in-Ok-Load.ensures.said ∙ ap Some c.in-Ok-Load.field-0-is);
+    }
+
+pub returns-in-Ok-Load-clause-loaded : goal.returns-in-Ok-Load-clause-loaded
+returns-in-Ok-Load-clause-loaded g c =
+    let sink = g.K.Sink in
+    let disk = g.D.Disk in
+    let out = c.args.out.now in
+    let W = Wrote sink.written sink.puts out c.run_load.new.out in
+    let B = Broke sink.written sink.puts out c.run_load.new.out in
+    let ds = disks disk.size disk.honest disk.seen disk.may_leave disk.cuts c.args.disk c.run_load.result.1 in
+    load_said (said_in c.args.words.now) c.in-Ok-Load.seed c.in-Ok-Load.rounds
+    (λ seed rounds. Loaded seed rounds c.run_load.result.0 W B ds)
+    (c.in-Ok-Load.ensures.said ∙ ap Some c.in-Ok-Load.field-0-is) c.run_load.ensures.loaded
+
+pub returns-in-Ok-Load-clause-load_complete : goal.returns-in-Ok-Load-clause-load_complete
+returns-in-Ok-Load-clause-load_complete g c =
+    let sink = g.K.Sink in
+    let disk = g.D.Disk in
+    let out0 = c.args.out.now in
+    let out1 = c.run_load.new.out in
+    let s = c.run_load.result.0 in
+    let last = c.run_load.result.1 in
+    let W = Wrote sink.written sink.puts out0 out1 in
+    let B = Broke sink.written sink.puts out0 out1 in
+    let ds = disks disk.size disk.honest disk.seen disk.may_leave disk.cuts c.args.disk last in
+    let Write = Rose (sink.faults out0) (sink.faults out1) in
+    let Failed = Rose (disk.faults c.args.disk) (disk.faults last) in
+    let Honest = disk.honest c.args.disk ≡ true in
+    let load = c.run_load.ensures in
+    load_said (said_in c.args.words.now) c.in-Ok-Load.seed c.in-Ok-Load.rounds
+    (λ seed rounds. IfSome (disk.seen c.args.disk) (λ image. disk.size c.args.disk ≡ JOURNAL_BYTES → IsBlank image
+    → Honest ⊎ (losses_in (load_steps seed rounds) ≡ 0) → (Write → ⊥) → (Failed → ⊥) → IsOrMemory status.Done s))
+    (c.in-Ok-Load.ensures.said ∙ ap Some c.in-Ok-Load.field-0-is)
+    (load_completes c.in-Ok-Load.seed c.in-Ok-Load.rounds s W B ds Write Failed Honest (disk.seen c.args.disk) refl
+    (λ honest tells. (honest, tells)) load.write_cause load.disk_cause load.loaded)
+
+pub returns-in-Err-Memory-clause-loaded : goal.returns-in-Err-Memory-clause-loaded
+returns-in-Err-Memory-clause-loaded g c seed rounds is =
+    let sink = g.K.Sink in
+    let disk = g.D.Disk in
+    let out = c.args.out.now in
+    load_at_once seed rounds (Wrote sink.written sink.puts out out) (Broke sink.written sink.puts out out)
     (disks disk.size disk.honest disk.seen disk.may_leave disk.cuts c.args.disk c.args.disk) refl
     (wrote_none sink.written sink.puts out)

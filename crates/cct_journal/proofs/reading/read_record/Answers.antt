@@ -1,4 +1,5 @@
 use Rattle.std.proofs.Common.{ℕ, List, subst, arith}
+use Rattle.cct_record.proofs.Spellings.{encodable}
 use Rattle.cct_record.specs.Body.{IsRefused, Spells}
 use Rattle.cct_journal.proofs.Opens.{never_unread, read_is}
 use Rattle.cct_journal.proofs.reading.read_record.Goals as goal
@@ -9,6 +10,9 @@ returns-in-Some-clause-given g c records reads =
     (omega (arith, reads.count, c.requires.within))
     (subst (λ (b : List ℕ). Spells c.in-Some.entry b)
     (c.in_ok-slot.ensures.body reads.image reads.tells) c.in-Some.ensures.spelt)
+
+pub returns-in-Some-clause-fits : goal.returns-in-Some-clause-fits
+returns-in-Some-clause-fits g c = encodable c.in-Some.entry c.in-Some.ensures.spelt.in_range
 
 pub returns-in-None-clause-never : goal.returns-in-None-clause-never
 returns-in-None-clause-never g c records reads =

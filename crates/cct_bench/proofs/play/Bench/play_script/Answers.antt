@@ -1,17 +1,21 @@
-use Rattle.std.proofs.Common.{sym, subst}
+use Rattle.std.proofs.Common.{ap, sym, subst, ◌∙◌}
 use Rattle.cct_model.specs.Script.{at_steps}
-use Rattle.cct_journal.specs.Stands.{GoesOn}
-use Rattle.cct_world.specs.World.{StandsFor, setup_of}
+use Rattle.cct_disk.specs.Disk.{IsTrusted}
+use Rattle.cct_journal.specs.Stands.{Outlasts}
+use Rattle.cct_world.specs.World.{StandsFor, disk_of, setup_of}
 use Rattle.cct_script.specs.Giving.{standing_of}
-use Rattle.cct_bench.specs.Writing.{Wrote, IsNothing}
-use Rattle.cct_bench.specs.Going.{Going}
-use Rattle.cct_bench.proofs.Writing.{wrote_nothing}
-use Rattle.cct_bench.proofs.Going.{going_setup, going_stands, going_by}
+use Rattle.cct_text.specs.Writing.{Wrote, IsNothing}
+use Rattle.cct_bench.specs.Disks.{Always}
+use Rattle.cct_world.specs.Sure.{Sure}
+use Rattle.cct_bench.specs.Going.{Going, WorldHolds}
+use Rattle.cct_text.proofs.Writing.{wrote_nothing}
+use Rattle.cct_bench.proofs.Going.{going_by, going_holds, going_setup, holds_first}
+use Rattle.cct_world.proofs.Lasting.{lasts_on}
 use Rattle.cct_bench.proofs.play.Bench.play_script.Goals as goal
 
 pub build-requires-clause-sound : goal.build-requires-clause-sound
 build-requires-clause-sound g c =
-    going_setup (g.S.Source.left c.args.script.now) (g.S.Source.left c.read_setup.new.script)
+    going_setup Always (g.S.Source.left c.args.script.now) (g.S.Source.left c.read_setup.new.script)
     (standing_of c.read_setup.new.lines).held c.in-Ok.first c.read_setup.new.setup IsNothing IsNothing
     c.in-Ok.ensures.opened
 
@@ -26,15 +30,20 @@ returns-in-Ok-build-clause-played g c given ready on stands =
     let first = c.in-Ok.first in
     let world = c.in-Ok-build.world in
     let W = Wrote sink.written sink.puts out out in
+    let R = Sure (IsTrusted disk.honest disk.seen given) in
     let opened =
-    subst (λ setup. Going left0 left lines first (at_steps setup) IsNothing IsNothing)
+    subst (λ setup. Going Always left0 left lines first (at_steps setup) IsNothing IsNothing)
     (sym c.in-Ok-build.ensures.setup) c.in-Ok.ensures.opened in
     let going =
-    going_by left0 left lines first (at_steps (setup_of world)) IsNothing IsNothing W
+    going_by Always left0 left lines first (at_steps (setup_of world)) IsNothing IsNothing W
     (wrote_nothing sink.written sink.puts out) opened in
+    let same = c.in-Ok-build.ensures.disk in
     c.play_steps.ensures.played left0 given ready
-    (subst (GoesOn disk.size disk.honest disk.seen disk.cuts given) (sym c.in-Ok-build.ensures.disk) on)
+    (subst (Outlasts disk.size disk.honest disk.seen disk.cuts given) (sym same)
+    (lasts_on disk.size disk.honest disk.seen disk.cuts given _ on))
     (
-    going_stands left0 left lines first (at_steps (setup_of world)) IsNothing (StandsFor world) W
-    (λ past nothing. subst (StandsFor world) (sym nothing) (c.in-Ok-build.ensures.fresh stands)) going
+    going_holds Always R left0 left lines first (at_steps (setup_of world)) IsNothing (WorldHolds given world) W
+    (λ past relies. tt)
+    (holds_first R (StandsFor world) (disk.cuts given) (disk.cuts (disk_of world))
+    (ap disk.cuts same ∙ on.same_cuts) (c.in-Ok-build.ensures.fresh stands)) going
     )

@@ -1,6 +1,7 @@
 use Rattle.cct_bench.specs.Disks.{disks}
-use Rattle.cct_bench.specs.Writing.{Wrote, Broke}
-use Rattle.cct_bench.specs.Run.{Over, Played, Ran}
+use Rattle.cct_world.specs.Sure.{Sure}
+use Rattle.cct_text.specs.Writing.{Wrote, Broke}
+use Rattle.cct_bench.specs.Run.{OverCut, Played, Ran}
 use Rattle.cct_bench.proofs.Closing.{some_weaker, ran_written}
 use Rattle.cct_bench.proofs.play.Bench.run.Goals as goal
 
@@ -20,7 +21,8 @@ returns-clause-ran g c =
     let B1 = Broke sink.written sink.puts out out1 in
     let W2 = Wrote sink.written sink.puts out out2 in
     let B2 = Broke sink.written sink.puts out out2 in
-    some_weaker (λ bytes. Played bytes how left W1 B1 (Over ds)) (λ bytes. Ran bytes c.finish_run.result left W2 B2 ds)
+    some_weaker (λ bytes. Played (Sure ds.trusted) bytes how left W1 B1 (OverCut ds))
+    (λ bytes. Ran bytes c.finish_run.result left W2 B2 ds)
     (g.S.Source.left c.args.script.now)
     (λ bytes p. ran_written sink.written sink.puts out out1 out2 bytes how c.finish_run.result closed.0 left ds
-    c.play_over-how.ensures.goes_on.same_cuts closed.1 closed.2 p) c.play_over-how.ensures.played
+    closed.1 closed.2 p) c.play_over-how.ensures.played

@@ -7,7 +7,7 @@ use Rattle.cct_host.proofs.desk.JobDesk.begin.Goals as goal
 pub returns-in-Some-clause-commands : goal.returns-in-Some-clause-commands
 returns-in-Some-clause-commands c fits past is_last sits =
     command_refused c.args.setup.now c.args.device.now c.args.command.now c.args.self.now.job c.args.self.now.epoch
-    c.args.self.now.dues c.args.last past c.in-Some.why is_last c.requires.no_scan c.requires.no_halt c.requires.played
+    c.args.self.now.dues c.args.last past c.in-Some.why is_last c.requires.of_device c.requires.no_halt
     c.requires.there (sym c.refusal.ensures ∙ c.in-Some.is) sits
 
 pub returns-in-None-clause-commands : goal.returns-in-None-clause-commands
@@ -15,23 +15,23 @@ returns-in-None-clause-commands c fits past is_last sits =
     let free = sym c.refusal.ensures ∙ c.in-None.is in
     command_taken c.args.setup.now c.args.device.now c.args.command.now c.args.self.now.job c.begin.result
     c.args.self.now.epoch c.args.self.now.dues _ c.args.last past is_last
-    c.requires.no_scan c.requires.no_halt c.requires.played refl c.id_begun-self.ensures c.requires.there free
+    c.requires.of_device c.requires.no_halt refl c.id_begun-self.ensures c.requires.there free
     (may_begin c.args.setup.now.devices c.args.device.now c.args.self.now.job c.args.self.now.epoch
     c.args.self.now.dues c.args.last c.args.command.now
-    c.requires.played c.requires.no_halt c.requires.no_scan c.requires.there free)
+    c.requires.no_halt c.requires.of_device c.requires.there free)
     (subst (Stands c.args.device.now c.begin.result c.args.command.now [] c.args.self.now.epoch) c.order.ensures.value
-    (c.begin.ensures.device c.args.device.now c.requires.there fits c.requires.no_scan)) sits
+    (c.begin.ensures.device c.args.device.now c.requires.there fits c.requires.of_device)) sits
 
 pub returns-in-None-clause-holds : goal.returns-in-None-clause-holds
 returns-in-None-clause-holds c =
     let desk = c.args.self.now in
     begun_holds c.args.device.now desk.job desk.epoch desk.dues c.args.last c.args.command.now c.begin.result
-    c.requires.played c.requires.no_halt c.requires.no_scan (sym c.refusal.ensures ∙ c.in-None.is)
+    c.requires.no_halt c.requires.of_device (sym c.refusal.ensures ∙ c.in-None.is)
     c.begin.ensures.may_put c.begin.ensures.closes
 
 pub returns-in-None-clause-reserves : goal.returns-in-None-clause-reserves
 returns-in-None-clause-reserves c =
     let desk = c.args.self.now in
     begun_reserves c.args.device.now desk.job desk.epoch desk.dues c.args.last c.args.command.now c.begin.result
-    c.requires.played c.requires.no_halt c.requires.no_scan (sym c.refusal.ensures ∙ c.in-None.is)
+    c.requires.no_halt c.requires.of_device (sym c.refusal.ensures ∙ c.in-None.is)
     c.begin.ensures.reserves

@@ -14,4 +14,4 @@ returns-else-is_halt c setup there past is_last sits =
     let desk = c.args.self.now in
     c.refusal.ensures
     ∙ refusal_is setup c.args.device.now desk.job desk.epoch desk.dues c.args.last past c.args.command.now is_last
-    c.requires.no_scan (sym c.is_halt.ensures ∙ c.if-is_halt.false) c.requires.played there sits
+    c.requires.of_device (sym c.is_halt.ensures ∙ c.if-is_halt.false) there sits

@@ -1,10 +1,9 @@
 use Rattle.std.proofs.Common.{sym}
 use Rattle.cct_model.specs.Exchange.{device_at}
-use Rattle.cct_host.specs.Place.{scans}
-use Rattle.cct_host.proofs.Lines.{attempt_last, attempt_unsold}
-use Rattle.cct_host.proofs.Places.{scan_turn}
-use Rattle.cct_host.proofs.Standing.{of_scan}
-use Rattle.cct_host.proofs.Turning.{none_freed}
+use Rattle.cct_host.specs.Place.{sales, scans}
+use Rattle.cct_host.proofs.Lines.{attempt_last}
+use Rattle.cct_host.proofs.Places.{sale_turn, scan_turn}
+use Rattle.cct_host.proofs.Standing.{of_sale, of_scan}
 use Rattle.cct_host.proofs.desks.Desks.bare_next.Goals as goal
 
 pub returns-then-addr-eq-BROADCAST-clause-nexts : goal.returns-then-addr-eq-BROADCAST-clause-nexts
@@ -16,20 +15,43 @@ returns-then-addr-eq-BROADCAST-clause-nexts g c =
       reported_is = attempt.reported_is;
       link = attempt.link;
       goes = λ hears past heard stands owns.
-          let goes = attempt.goes hears scans past heard (sym c.if-addr-eq-BROADCAST.true) stands.scan tt in (
-            of_scan hears (device_at setup.devices c.args.addr) _ past _ c.args.addr c.requires.bare
-                c.if-addr-eq-BROADCAST.true goes.entries,
+          let is = c.if-addr-eq-BROADCAST.true in
+          let goes = attempt.goes hears scans past heard (sym is) stands.scan tt in
+          let sale = c.args.self.now.sale in
+          let turned = scan_turn setup _ sale past _ stands.sound goes.at stands.devices stands.sale in (
+            of_scan hears (device_at setup.devices c.args.addr) _ past _ c.args.addr c.requires.bare is goes.entries,
             record {
               sound = stands.sound;
-              devices = scan_turn setup _ past _ stands.sound goes.at stands.devices;
-              scan =
-                  goes.keeps;
+              devices = turned.0;
+              scan = goes.keeps;
+              sale = turned.1;
               last = attempt_last past c.args.addr attempt.what c.next-used.result c.args.self.now.last _
                   attempt.used_is stands.last c.greater-self.ensures;
-              unsold = attempt_unsold past c.args.addr attempt.what stands.unsold;
             },
           );
     }
 
-pub returns-then-addr-eq-BROADCAST-clause-frees : goal.returns-then-addr-eq-BROADCAST-clause-frees
-returns-then-addr-eq-BROADCAST-clause-frees g c = none_freed _ c.args.addr _ _
+pub returns-then-addr-eq-HOST-clause-nexts : goal.returns-then-addr-eq-HOST-clause-nexts
+returns-then-addr-eq-HOST-clause-nexts g c =
+    let setup = c.args.self.now.setup.now in
+    let attempt = c.next-used-then-addr-eq-HOST.ensures.attempts in
+    record {
+      what = attempt.what;
+      reported_is = attempt.reported_is;
+      link = attempt.link;
+      goes = λ hears past heard stands owns.
+          let is = c.if-addr-eq-HOST.true in
+          let goes = attempt.goes hears sales past heard (sym is) stands.sale tt in
+          let scan = c.args.self.now.scan in
+          let turned = sale_turn setup _ scan past _ stands.sound goes.at stands.devices stands.scan in (
+            of_sale hears (device_at setup.devices c.args.addr) _ past _ c.args.addr c.requires.bare is goes.entries,
+            record {
+              sound = stands.sound;
+              devices = turned.0;
+              scan = turned.1;
+              sale = goes.keeps;
+              last = attempt_last past c.args.addr attempt.what c.next-used-then-addr-eq-HOST.result
+                  c.args.self.now.last _ attempt.used_is stands.last c.greater-self-then-addr-eq-HOST.ensures;
+            },
+          );
+    }

@@ -1,19 +1,19 @@
-use Rattle.std.proofs.Common.{◌∙◌, ◌<◌, [], ◌∷◌, get_or, length, set, ap, refl, subst, sym}
+use Rattle.std.proofs.Common.{◌+◌, ◌∙◌, ◌<◌, [], ◌∷◌, get_or, length, set, ap, refl, subst, sym}
 use Rattle.std.specs.List.{position}
 use Rattle.std.proofs.lemmas.List.{set-get_or}
 use Rattle.cct_model.specs.lines.command.CommandNo.TheVariants.{NoDevice}
 use Rattle.cct_model.specs.Exchange.{device_at}
-use Rattle.cct_model.specs.Job.{address_of}
 use Rattle.cct_model.specs.Legal.{command_entry}
-use Rattle.cct_jobs.specs.Jobs.{coins_asked}
-use Rattle.cct_host.specs.Desk.{no_of}
+use Rattle.cct_jobs.specs.Jobs.{coins_asked, records_of}
+use Rattle.cct_host.specs.Desk.{held_at, no_of, puts_at}
+use Rattle.cct_host.specs.Desks.{reserved_of}
 use Rattle.cct_host.specs.Place.{AreAt}
 use Rattle.cct_host.specs.Running.{needed}
 use Rattle.cct_host.proofs.Commands.{absent_refused, stays_by}
-use Rattle.cct_host.proofs.Lines.{command_at, command_last, command_unsold, refused_quiet}
-use Rattle.cct_host.proofs.Places.{absent, desk_lent, desk_sits, device_apart, device_found, device_turn, fits_three, found_in, is_at, last_is, refilled}
+use Rattle.cct_host.proofs.Lines.{command_at, command_last, refused_quiet}
+use Rattle.cct_host.proofs.Places.{absent, desk_lent, desk_sits, device_found, device_turn, fits_three, found_in, is_at, last_is, refilled}
 use Rattle.cct_host.proofs.Standing.{desks_stand}
-use Rattle.cct_host.proofs.Turning.{held_turn, ok_by, reserved_turn}
+use Rattle.cct_host.proofs.Turning.{amount_asked, ok_by, reserved_turn, sum_turn}
 use Rattle.cct_host.proofs.desks.Desks.command_at.Goals as goal
 
 pub command-requires-clause-there : goal.command-requires-clause-there
@@ -31,7 +31,7 @@ returns-in-None-clause-answers c past stands =
     let first = c.index_of.ensures.first ∙ ap (position (is_at c.args.addr)) c.as_slice-devices.ensures.value in
     let none = absent setup.devices c.args.addr _ first c.in-None.is in
     let bare = ap (device_at setup.devices) c.requires.address ∙ none in (
-      absent_refused setup past c.args.command.now c.requires.played c.requires.no_scan bare,
+      absent_refused setup past c.args.command.now c.requires.of_device bare,
       desks_stand c.args.self.now past _ (refused_quiet past c.args.command.now NoDevice) stands,
     )
 
@@ -41,9 +41,9 @@ returns-in-Some-clause-stays c =
     let i = c.in-Some.index in
     let y = c.index-deref_mut-index.result in
     let lent = c.deref_mut.ensures.value in
-    stays_by _ _ _ _ _ _ _ _ c.command.ensures.stays
+    stays_by _ _ _ _ _ _ _ _ _ _ c.command.ensures.stays
     (λ same. refilled ks _ i c.command.new.self lent ∙ ap (set ks i) (same ∙ ap (λ ls. get_or ls i y) lent)
-    ∙ set-get_or ks i y) (λ same. refl)
+    ∙ set-get_or ks i y) (λ same. refl) (λ same. refl)
 
 pub returns-in-Some-clause-answers : goal.returns-in-Some-clause-answers
 returns-in-Some-clause-answers c past stands =
@@ -59,21 +59,19 @@ returns-in-Some-clause-answers c past stands =
     let within = (device_found setup.devices i d c.args.addr found is).0 in
     let sits = desk_sits setup.devices ks i d _ past within is y stands.devices in
     let answered = c.command.ensures.commands (fits_three setup i d stands.sound within is) past
-    (last_is setup ks past c.args.self.now.last c.last_id-last.result stands.devices stands.unsold stands.last
-    c.last_id-last.ensures) sits in
+    (last_is c.args.self.now past c.last_id-last.result stands c.last_id-last.ensures) sits in
     let news = command_entry c.args.command.now (no_of c.command.result) ∷ [] in
     let at = subst (λ a. AreAt a past news) c.requires.address (command_at past c.args.command.now _) in
-    let turned = device_turn setup ks _ c.args.self.now.scan i c.command.new.self d c.args.addr past news stands.sound
-    kept found is at answered.1 stands.devices stands.scan in (
+    let desks = c.args.self.now in
+    let turned = device_turn setup ks _ desks.scan desks.sale i c.command.new.self d c.args.addr past news stands.sound
+    kept found is at answered.1 stands.devices stands.scan stands.sale in (
       answered.0,
       record {
         sound = stands.sound;
         devices = turned.0;
         scan = turned.1;
+        sale = turned.2;
         last = command_last past c.args.command.now (no_of c.command.result) c.args.self.now.last stands.last;
-        unsold = command_unsold past c.args.command.now (no_of c.command.result)
-            (λ same. device_apart setup i d c.args.addr stands.sound found is (sym c.requires.address
-            ∙ same)) stands.unsold;
       },
     )
 
@@ -84,8 +82,19 @@ returns-in-Some-clause-holds c =
     let lent = c.as_slice-devices.ensures.value in
     let within : i < length c.args.self.now.setup.now.devices = subst (λ ds. i < length ds) lent c.in-Some.ensures.within in
     ok_by c.command.result _ _ c.command.ensures.holds
-    (held_turn ks _ i c.index-deref_mut-index.result c.command.new.self (needed c.args.command.now) c.deref_mut.ensures.value
+    (sum_turn held_at ks _ i c.index-deref_mut-index.result c.command.new.self _ (needed c.args.command.now) c.deref_mut.ensures.value
     (subst (λ n. i < n) (sym c.args.self.now.many) within))
+
+pub returns-in-Some-clause-puts : goal.returns-in-Some-clause-puts
+returns-in-Some-clause-puts c =
+    let ks = c.args.self.now.devices.items in
+    let i = c.in-Some.index in
+    let lent = c.as_slice-devices.ensures.value in
+    let within : i < length c.args.self.now.setup.now.devices =
+    subst (λ ds. i < length ds) lent c.in-Some.ensures.within in
+    ok_by c.command.result _ _ c.command.ensures.puts
+    (sum_turn puts_at ks _ i c.index-deref_mut-index.result c.command.new.self _ (records_of c.args.command.now)
+    c.deref_mut.ensures.value (subst (λ n. i < n) (sym c.args.self.now.many) within))
 
 pub returns-in-Some-clause-reserves : goal.returns-in-Some-clause-reserves
 returns-in-Some-clause-reserves c =
@@ -98,6 +107,8 @@ returns-in-Some-clause-reserves c =
     let within : i < length setup.devices = subst (λ ds. i < length ds) lent c.in-Some.ensures.within in
     let is = c.index-devices-index.is ∙ ap (λ ds. get_or ds i d) lent in
     ok_by c.command.result _ _ c.command.ensures.reserves
-    (reserved_turn setup ks _ i d (address_of c.args.command.now) c.index-deref_mut-index.result c.command.new.self
-    (coins_asked c.args.command.now) c.deref_mut.ensures.value c.args.self.now.many within is
-    ((device_found setup.devices i d c.args.addr found is).2 ∙ sym c.requires.address))
+    (λ coins. reserved_turn setup ks _ i d c.args.addr c.index-deref_mut-index.result c.command.new.self
+    (coins_asked c.args.command.now) _ c.deref_mut.ensures.value c.args.self.now.many within is
+    (device_found setup.devices i d c.args.addr found is).2 coins
+    ∙ ap (λ n. reserved_of c.args.self.now + n)
+    (amount_asked setup c.args.command.now c.args.addr c.requires.of_device c.requires.address))

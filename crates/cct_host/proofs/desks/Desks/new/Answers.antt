@@ -1,20 +1,20 @@
-use Rattle.std.proofs.Common.{length, refl, ap, ◌∙◌}
-use Rattle.cct_host.specs.Place.{scans}
-use Rattle.cct_host.proofs.Places.{desks_free, free_keeps}
-use Rattle.cct_host.proofs.Turning.{free_held, free_reserved}
+use Rattle.std.proofs.Common.{[], length, refl, ap, ◌∙◌}
+use Rattle.cct_host.proofs.Recalling.{all_unused, none_recalled}
+use Rattle.cct_host.proofs.Starting.{nothing_yet, recalled_stand}
 use Rattle.cct_host.proofs.desks.Desks.new.Goals as goal
 
-pub returns-clause-fresh : goal.returns-clause-fresh
-returns-clause-fresh c = record {
+pub returns-clause-recalls : goal.returns-clause-recalls
+returns-clause-recalls c = record {
   sound = c.requires.sound;
-  devices = desks_free _ _ (c.free_desks.ensures.many ∙ ap length c.as_slice.ensures.value) c.free_desks.ensures.free;
-  scan = free_keeps scans c.default.result c.default.ensures;
+  unused = record {
+    devices = all_unused _ c.free_desks.ensures.free;
+    scan = c.default.ensures;
+    sale = c.default-2.ensures;
+  };
+  devices = none_recalled _ _ (c.free_desks.ensures.many ∙ ap length c.as_slice.ensures.value)
+      c.free_desks.ensures.free;
   last = refl;
-  unsold = refl;
 }
 
-pub returns-clause-holds : goal.returns-clause-holds
-returns-clause-holds c = free_held _ c.free_desks.ensures.free
-
-pub returns-clause-reserves : goal.returns-clause-reserves
-returns-clause-reserves c = free_reserved _ _ _ c.free_desks.ensures.free
+pub returns-clause-fresh : goal.returns-clause-fresh
+returns-clause-fresh c = recalled_stand _ [] [] nothing_yet refl (returns-clause-recalls c)

@@ -1,16 +1,15 @@
 use Rattle.std.proofs.Common.{◌∙◌, ◌<◌, arith, get_or, length, ap, refl, subst, sym}
-use Rattle.std.specs.Prelude.{option_and_then}
 use Rattle.std.specs.List.{position}
 use Rattle.cct_model.specs.Exchange.{device_at}
-use Rattle.cct_host.specs.declared.desk.JobDesk.{JobDesk}
+use Rattle.cct_model.specs.Money.{coins_of}
 use Rattle.cct_host.specs.Attempt.{news_of}
-use Rattle.cct_host.specs.Desks.{coins_there}
-use Rattle.cct_host.specs.Held.{due_by}
+use Rattle.cct_host.specs.Desk.{puts_at}
+use Rattle.cct_host.specs.Desks.{amount_at_desk, due_at_desk}
 use Rattle.cct_host.specs.Place.{AreAt, device}
-use Rattle.cct_host.proofs.Lines.{attempt_last, attempt_unsold}
+use Rattle.cct_host.proofs.Lines.{attempt_last}
 use Rattle.cct_host.proofs.Places.{absent, at_this, desk_absent, desk_found, desk_lent, desk_sits, device_found, device_turn, found_in, is_at, owns_there}
 use Rattle.cct_host.proofs.Standing.{of_next}
-use Rattle.cct_host.proofs.Turning.{desk_turned, held_falls, held_turn, reserved_freed, some_by}
+use Rattle.cct_host.proofs.Turning.{desk_turned, less_coins, no_coins, reserved_freed, some_by, sum_falls, sum_turn}
 use Rattle.cct_host.proofs.desks.Desks.next.Goals as goal
 
 pub bare_next-requires-clause-bare : goal.bare_next-requires-clause-bare
@@ -41,16 +40,16 @@ returns-in-Some-clause-nexts g c =
           let goes = attempt.goes hears (device this.0) past heard place.2 sits (owns_there setup this.0 c.args.addr
           past place.1 place.2 owns) in
           let at = subst (λ a. AreAt a past news) place.2 goes.at in
-          let turned = device_turn setup ks _ c.args.self.now.scan i c.next-used.new.self this.0 c.args.addr past news
-          stands.sound kept found this.1 at goes.keeps stands.devices stands.scan in (
+          let turned = device_turn setup ks _ c.args.self.now.scan c.args.self.now.sale i c.next-used.new.self this.0
+          c.args.addr past news stands.sound kept found this.1 at goes.keeps stands.devices stands.scan stands.sale in (
             of_next (device_at setup.devices c.args.addr) this.0 _ _ place.1 goes.entries,
             record {
               sound = stands.sound;
               devices = turned.0;
               scan = turned.1;
+              sale = turned.2;
               last = attempt_last past c.args.addr attempt.what c.next-used.result c.args.self.now.last _
                   attempt.used_is stands.last c.greater-self.ensures;
-              unsold = attempt_unsold past c.args.addr attempt.what stands.unsold;
             },
           );
     }
@@ -61,8 +60,8 @@ bare_next-requires-clause-nobody g c =
     let first = c.index_of.ensures.first ∙ ap (position (is_at c.args.addr)) c.as_slice.ensures.value in
     desk_absent setup.devices c.args.self.now.devices.items c.args.addr (sym first ∙ c.in-None.is)
 
-pub returns-in-Some-clause-holds : goal.returns-in-Some-clause-holds
-returns-in-Some-clause-holds g c =
+pub returns-in-Some-clause-left : goal.returns-in-Some-clause-left
+returns-in-Some-clause-left g c =
     let setup = c.args.self.now.setup.now in
     let ks = c.args.self.now.devices.items in
     let i = c.in-Some.index in
@@ -73,7 +72,8 @@ returns-in-Some-clause-holds g c =
     let found = found_in setup.devices _ c.args.addr _ i lent c.index_of.ensures.first c.in-Some.is in
     let within : i < length setup.devices = subst (λ ds. i < length ds) lent c.in-Some.ensures.within in
     let there : i < length ks = subst (λ n. i < n) (sym c.args.self.now.many) within in
-    let less = held_turn ks _ i y x 0 kept there (omega (arith, c.next-used.ensures.holds)) in
+    let less = sum_turn puts_at ks _ i y x (puts_at c.args.self.now.sale) 0 kept there
+    (omega (arith, c.next-used.ensures.left)) in
     omega (arith, less)
 
 pub returns-in-Some-clause-puts : goal.returns-in-Some-clause-puts
@@ -89,10 +89,10 @@ returns-in-Some-clause-puts g c =
     let within : i < length setup.devices = subst (λ ds. i < length ds) lent c.in-Some.ensures.within in
     let there : i < length ks = subst (λ n. i < n) (sym c.args.self.now.many) within in
     some_by _ _ _ _
-    (ap (option_and_then (λ (k : JobDesk). due_by k.job))
+    (ap (due_at_desk c.args.self.now.sale c.args.addr)
     (desk_found setup.devices ks ks c.args.addr i (get_or _ i y) refl (desk_lent ks _ i y kept c.index-deref_mut-index.is)
     c.args.self.now.many within found))
-    c.next-used.ensures.puts (held_falls ks _ i y x kept there)
+    c.next-used.ensures.puts (sum_falls puts_at ks _ i y x _ kept there)
 
 pub returns-in-Some-clause-reserves : goal.returns-in-Some-clause-reserves
 returns-in-Some-clause-reserves g c =
@@ -106,10 +106,11 @@ returns-in-Some-clause-reserves g c =
     let found = found_in setup.devices _ c.args.addr _ i lent c.index_of.ensures.first c.in-Some.is in
     let within : i < length setup.devices = subst (λ ds. i < length ds) lent c.in-Some.ensures.within in
     let there : i < length ks = subst (λ n. i < n) (sym c.args.self.now.many) within in
-    let before = ap coins_there (desk_found setup.devices ks ks c.args.addr i (get_or _ i y) refl
+    let amount = amount_at_desk setup c.args.self.now.sale c.args.addr in
+    let before = ap amount (desk_found setup.devices ks ks c.args.addr i (get_or _ i y) refl
     (desk_lent ks _ i y kept c.index-deref_mut-index.is) c.args.self.now.many within found) in
-    let after = ap coins_there (desk_turned setup.devices ks _ c.args.addr i x kept there found) in
-    omega (arith, before, after, c.next-used.ensures.reserves)
+    let after = ap amount (desk_turned setup.devices ks _ c.args.addr i x kept there found) in
+    less_coins setup c.args.addr _ _ _ _ c.next-used.ensures.reserves before after
 
 pub returns-in-Some-clause-frees : goal.returns-in-Some-clause-frees
 returns-in-Some-clause-frees g c =
@@ -125,10 +126,11 @@ returns-in-Some-clause-frees g c =
     let there : i < length ks = subst (λ n. i < n) (sym c.args.self.now.many) within in
     let this = at_this setup.devices i within in
     let place = device_found setup.devices i this.0 c.args.addr found this.1 in
-    reserved_freed setup ks _ i this.0 c.args.addr y x _ _ kept c.args.self.now.many within this.1 place.2
-    (ap coins_there (desk_found setup.devices ks ks c.args.addr i (get_or _ i y) refl
+    let amount = amount_at_desk setup c.args.self.now.sale c.args.addr in
+    reserved_freed setup ks _ i this.0 c.args.addr y x _ _ _ kept c.args.self.now.many within this.1 place.2
+    (ap amount (desk_found setup.devices ks ks c.args.addr i (get_or _ i y) refl
     (desk_lent ks _ i y kept c.index-deref_mut-index.is) c.args.self.now.many within found))
-    (ap coins_there (desk_turned setup.devices ks _ c.args.addr i x kept there found))
+    (ap amount (desk_turned setup.devices ks _ c.args.addr i x kept there found))
     c.next-used.ensures.reserves
 
 pub returns-in-Some-clause-clears : goal.returns-in-Some-clause-clears
@@ -143,8 +145,10 @@ returns-in-Some-clause-clears g c =
     let within : i < length setup.devices = subst (λ ds. i < length ds) lent c.in-Some.ensures.within in
     let there : i < length ks = subst (λ n. i < n) (sym c.args.self.now.many) within in
     some_by _ _ _ _
-    (ap (option_and_then (λ (k : JobDesk). due_by k.job))
+    (ap (due_at_desk c.args.self.now.sale c.args.addr)
     (desk_found setup.devices ks ks c.args.addr i (get_or _ i y) refl (desk_lent ks _ i y kept c.index-deref_mut-index.is)
     c.args.self.now.many within found))
     c.next-used.ensures.clears
-    (λ none. ap coins_there (desk_turned setup.devices ks _ c.args.addr i c.next-used.new.self kept there found) ∙ none)
+    (λ none. ap (amount_at_desk setup c.args.self.now.sale c.args.addr)
+    (desk_turned setup.devices ks _ c.args.addr i c.next-used.new.self kept there found)
+    ∙ ap (coins_of setup c.args.addr) none ∙ no_coins _)

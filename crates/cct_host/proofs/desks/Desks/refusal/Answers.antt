@@ -1,7 +1,8 @@
 use Rattle.std.proofs.Common.{◌∙◌, ap, sym}
 use Rattle.cct_model.specs.Refusal.{state_refusal}
 use Rattle.cct_host.specs.Place.{scans}
-use Rattle.cct_host.proofs.Commands.{busy_is}
+use Rattle.cct_host.proofs.Commands.{busy_is, sale_refusal_is}
+use Rattle.cct_host.proofs.Places.{last_is}
 use Rattle.cct_host.proofs.desks.Desks.refusal.Goals as goal
 
 pub returns-in-Scan : goal.returns-in-Scan
@@ -9,3 +10,11 @@ returns-in-Scan c past stands =
     let scan = c.args.self.now.scan in
     c.busy.ensures ∙ busy_is scans scan.job _ _ _ stands.scan.works
     ∙ sym (ap (state_refusal c.args.self.now.setup.now past) c.in-Scan.is)
+
+pub returns-in-Vend : goal.returns-in-Vend
+returns-in-Vend c past stands =
+    let desks = c.args.self.now in
+    let last = last_is desks past c.last_id.result stands c.last_id.ensures in
+    c.sale_refusal.ensures
+    ∙ sale_refusal_is desks.setup.now _ c.in-Vend.price desks.sale.job _ _ c.last_id.result past last stands.sale
+    ∙ sym (ap (state_refusal desks.setup.now past) c.in-Vend.is)

@@ -10,7 +10,7 @@ returns-in-None c past stands =
     let setup = c.args.self.now.setup.now in
     let first = c.index_of.ensures.first ∙ ap (position (is_at c.args.addr)) c.as_slice-devices.ensures.value in
     let none = absent setup.devices c.args.addr _ first c.in-None.is in
-    absent_refused setup past c.args.command.now c.requires.played c.requires.no_scan
+    absent_refused setup past c.args.command.now c.requires.of_device
     (ap (device_at setup.devices) c.requires.address ∙ none)
 
 pub returns-in-Some : goal.returns-in-Some
@@ -26,5 +26,4 @@ returns-in-Some c past stands =
     let y : k ≡ get_or ks i k = c.index-deref-index.is ∙ ap (λ ls. get_or ls i k) c.deref.ensures.0 in
     let place = device_found setup.devices i d c.args.addr found is in
     c.command_refusal.ensures setup (ap (device_at setup.devices) c.requires.address ∙ place.1) past
-    (last_is setup ks past c.args.self.now.last c.last_id.result stands.devices stands.unsold stands.last
-    c.last_id.ensures) (desk_sits setup.devices ks i d k past place.0 is y stands.devices)
+    (last_is c.args.self.now past c.last_id.result stands c.last_id.ensures) (desk_sits setup.devices ks i d k past place.0 is y stands.devices)

@@ -6,7 +6,7 @@ use Rattle.cct_world.proofs.Steps.{CoinGoes, coin_goes, one_entry}
 use Rattle.cct_world.proofs.machine.Machine.coin.Goals as goal
 
 pub returns-clause-plays : goal.returns-clause-plays
-returns-clause-plays g c past stands suits =
+returns-clause-plays g c past stands suits survives =
     let machine = c.args.self.now in
     let bus = c.coin-inserted.new.self in
     let devices = (wires.setup_of machine.bus).devices in

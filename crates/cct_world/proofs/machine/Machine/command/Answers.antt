@@ -6,7 +6,7 @@ use Rattle.cct_world.proofs.Steps.{command_goes, one_entry}
 use Rattle.cct_world.proofs.machine.Machine.command.Goals as goal
 
 pub returns-in-Err-clause-plays : goal.returns-in-Err-clause-plays
-returns-in-Err-clause-plays g c past stands suits =
+returns-in-Err-clause-plays g c past stands suits survives =
     let machine = c.args.self.now in
     let host = c.command.new.self in
     let why = c.in-Err.why in

@@ -6,7 +6,7 @@ use Rattle.cct_world.proofs.Steps.{one_entry, one_goes}
 use Rattle.cct_world.proofs.machine.Machine.fault.Goals as goal
 
 pub returns-clause-plays : goal.returns-clause-plays
-returns-clause-plays g c past stands suits =
+returns-clause-plays g c past stands suits survives =
     let bus = c.set_fault.new.self in
     let goes = one_goes c.args.self.now.host bus past (Fault c.args.fault.now) c.push.new.self.items
     (one_entry _ _ _ c.requires.report c.push.ensures.items ∙ ap (λ f. Fault f ∷ []) c.copied-2.ensures)

@@ -12,7 +12,7 @@ use Rattle.cct_world.proofs.Steps.{HopperGoes, jam_by, hopper_goes, one_entry}
 use Rattle.cct_world.proofs.machine.Machine.jam.Goals as goal
 
 pub returns-clause-plays : goal.returns-clause-plays
-returns-clause-plays g c past stands suits =
+returns-clause-plays g c past stands suits survives =
     let machine = c.args.self.now in
     let bus = c.jam-does.new.self in
     let devices = (wires.setup_of machine.bus).devices in

@@ -5,12 +5,12 @@ use Rattle.cct_world.proofs.machine.Machine.next.Goals as goal
 pub returns-clause-plays : goal.returns-clause-plays
 returns-clause-plays g c =
     let machine = c.args.self.now in
-    on_ok_weaker c.next.result (λ nexts past stands suits.
+    on_ok_weaker c.next.result (λ nexts past stands suits survives.
     let goes = next_goes machine.bus c.next.new.link machine.host c.next.new.self c.args.addr past _ _ c.requires.report
     nexts machine.same stands.host stands.bus suits in
     (goes.0, record { host = goes.1.0; bus = goes.1.1 })) c.next.ensures.nexts
 
-pub returns-clause-breaks : goal.returns-clause-breaks
-returns-clause-breaks g c =
+pub returns-clause-fails : goal.returns-clause-fails
+returns-clause-fails g c =
     on_err_weaker c.next.result (λ fails past stands.
     let due = (fails past stands.host).1 in (due.0, (due.1, due.2))) c.next.ensures.fails

@@ -1,0 +1,362 @@
+-- What a load leaves, by how its steps came to their end, and its last line.
+use Rattle.std.proofs.Common.{◌≡◌, ◌≢◌, ◌⊎◌, ℕ, true, List, [], ◌∷◌, ◌++◌, Option, None, Some, Result, Ok, Err, All}
+use Rattle.std.proofs.Common.{refl, sym, ap, subst, ◌∙◌, inl, inr}
+use Rattle.std.specs.Prelude.{IfSome, is_some}
+use Rattle.std.proofs.lemmas.List.{append-nil}
+use Rattle.std.proofs.lemmas.List.Elements.{All-cons, All-head, All-nil, All-tail}
+use Rattle.cct_edge.specs.declared.fault.Failed.{Failed}
+use Rattle.cct_model.specs.terms.device.DeviceSetup.{DeviceSetup}
+use Rattle.cct_model.specs.lines.command.Step.{Step}
+use Rattle.cct_model.specs.lines.command.Step.TheVariants as step
+use Rattle.cct_model.specs.lines.entry.Entry.{Entry}
+use Rattle.cct_model.specs.Legal.{Legal}
+use Rattle.cct_model.specs.Script.{IsInRange}
+use Rattle.cct_model.specs.Transcript.{onto}
+use Rattle.cct_laws.proofs.Coinless.{each_covers, each_in_order}
+use Rattle.cct_laws.proofs.Payments.{legal_paid}
+use Rattle.cct_journal.specs.Image.{IsBlank, capacity_of}
+use Rattle.cct_journal.specs.Stands.{GoesOn}
+use Rattle.cct_disk.specs.declared.disk.Disk.{Ghosts}
+use Rattle.cct_disk.specs.Disk.{IsTrusted}
+use Rattle.cct_text.specs.Writing.{Broke, Writes, Wrote}
+use Rattle.cct_world.specs.declared.refusal.WorldNo.{WorldNo}
+use Rattle.cct_world.specs.declared.refusal.WorldNo.TheVariants as world_no
+use Rattle.cct_world.specs.declared.world.World.{World}
+use Rattle.cct_world.specs.Step.{RoseBy, crashes}
+use Rattle.cct_world.specs.Sure.{First, IsCrash, MayFail, Sure, losses_in}
+use Rattle.cct_world.specs.World.{disk_of}
+use Rattle.cct_world.proofs.Lasting.{lasts_on, trusted_on}
+use Rattle.cct_world.proofs.Told.{rose_none}
+use Rattle.cct_gen.specs.Load.{load_setup, load_steps}
+use Rattle.cct_gen.proofs.LoadSetup.{setup_sound}
+use Rattle.cct_gen.proofs.Lines.{lines_in_range}
+use Rattle.cct_load.specs.declared.load.Load.{Load}
+use Rattle.cct_load.specs.declared.load.LoadEnd.{LoadEnd}
+use Rattle.cct_load.specs.declared.load.LoadEnd.TheVariants as load_end
+use Rattle.cct_load.specs.Played.{PlaysLoad, Relies, first_line}
+use Rattle.cct_load.specs.Played as loads
+use Rattle.cct_bench.specs.declared.outcome.Status.{Status}
+use Rattle.cct_bench.specs.declared.outcome.Status.TheVariants as status
+use Rattle.cct_bench.specs.declared.play.Ending.{Ending}
+use Rattle.cct_bench.specs.declared.play.Ending.TheVariants as ending
+use Rattle.cct_bench.specs.declared.play.TheConstants.{JOURNAL_BYTES}
+use Rattle.cct_bench.specs.Disks.{Disks, IsReady, disks, most_records}
+use Rattle.cct_bench.specs.Load.{LoadCloses, LoadEnds, LoadPlayed, LoadStops, Loaded, load_ending}
+use Rattle.cct_bench.specs.Report.{IsOrMemory}
+use Rattle.cct_bench.specs.Run.{Book, IsUnopened, TellsLoss, last_entry, listed, status_by, status_of, unplayed_by}
+use Rattle.cct_bench.proofs.Closing.{LastLine, blank_first, kept_by, last_line, no_line, none_next}
+
+-- ---- what the laws say of a load
+
+-- the steps that were played are in range
+all_front : (P : Step → Type 0) (xs ys : List Step) → All P (xs ++ ys) → All P xs
+all_front P [] ys all = All-nil P
+all_front P (x ∷ xs) ys all =
+    All-cons P x xs (All-head P x (xs ++ ys) all) (all_front P xs ys (All-tail P x (xs ++ ys) all))
+
+played_in_range : (seed rounds : ℕ) (played unplayed : List Step) → load_steps seed rounds ≡ played ++ unplayed
+    → All IsInRange played
+played_in_range seed rounds played unplayed steps_are =
+    all_front IsInRange played unplayed (subst (All IsInRange) steps_are (lines_in_range seed _))
+
+-- a load by its status, from how it came to its end
+loaded_by : (seed rounds : ℕ) (how : Ending) (s : Status) (tail : List Entry) (disks : Disks)
+    (Before Written : List Entry → Type 0) (Broken Breaks : List Entry → List Entry → Type 0)
+    → tail ≡ listed (last_entry how) → (p : LoadPlayed seed rounds how Before Broken disks)
+    → LoadEnds disks seed rounds p.played p.unplayed (onto [] p.transcript) s p.told tail Written Breaks
+    → Loaded seed rounds s Written Breaks disks
+loaded_by seed rounds how s tail disks Before Written Broken Breaks is p ends =
+    let in_range = played_in_range seed rounds p.played p.unplayed p.steps_are in
+    record {
+      played = p.played;
+      unplayed = p.unplayed;
+      transcript = p.transcript;
+      told = p.told;
+      tail = tail;
+      steps_are = p.steps_are;
+      losses = p.losses;
+      legal = p.legal;
+      in_order = λ sure d own honest.
+          each_in_order most_records load_setup p.played p.transcript d setup_sound own in_range (p.legal sure) honest;
+      covers = λ sure d own honest.
+          each_covers most_records load_setup p.played p.transcript d setup_sound own in_range (p.legal sure) honest;
+      paid = λ sure d own paying honest.
+          legal_paid most_records load_setup p.played p.transcript d setup_sound own paying in_range (p.legal sure)
+          honest;
+      ends = ends;
+      book = λ trusted some. subst (Book disks load_setup p.unplayed (onto [] p.transcript)) (sym is)
+          (p.book trusted some);
+      keeps = λ trusted tells. p.keeps trusted (subst TellsLoss is tells);
+      cut = p.cut;
+      uncut = p.uncut;
+    }
+
+-- ---- the last line
+
+module _ (disks : Disks) (seed rounds : ℕ) (played unplayed : List Step) (past told : List Entry)
+    (Before Written : List Entry → Type 0) (Broken Breaks : List Entry → List Entry → Type 0) where
+  -- what a status with its own lines says, where all was written whole
+  load_whole : (s : Status) (tail : List Entry) → LoadCloses disks seed rounds played unplayed past s told tail
+      → Written (told ++ tail) → LoadEnds disks seed rounds played unplayed past s told tail Written Breaks
+  load_whole status.WriteFault tail closes wrote = absurd closes
+  load_whole status.OutOfMemory tail closes wrote = absurd closes
+  load_whole s tail closes wrote = (closes, wrote)
+
+  load_last : (s : Status) (tail : List Entry) (answer : Result (Unit {0}) Failed)
+      → LastLine Before Written Breaks tail answer
+      → LoadCloses disks seed rounds played unplayed past s told tail → Before told
+      → LoadEnds disks seed rounds played unplayed past (status_by answer s) told tail Written Breaks
+  load_last s tail (Ok done) line closes wrote = load_whole s tail closes (line told wrote)
+  load_last s tail (Err failed) line closes wrote = (told, tail, refl, line told wrote, inr (s, closes))
+
+  load_ends : (how : Ending) (answer : Result (Unit {0}) Failed)
+      → LastLine Before Written Breaks (listed (last_entry how)) answer
+      → ((xs ys : List Entry) → last_entry how ≡ None → Broken xs ys → Breaks xs ys)
+      → ((failed : Failed) → answer ≡ Err failed → last_entry how ≡ None → ⊥)
+      → LoadStops disks seed rounds played unplayed past how told Before Broken
+      → LoadEnds disks seed rounds played unplayed past (status_by answer (status_of how)) told
+      (listed (last_entry how)) Written Breaks
+  load_ends ending.Unwritten (Ok done) line broke fails (whole, cut, is, breaks, inl first) =
+      (whole, cut, append-nil told ∙ is, broke whole cut refl breaks, inl (first, refl))
+  load_ends ending.Unwritten (Ok done) line broke fails (whole, cut, is, breaks, inr closes) =
+      (whole, cut, append-nil told ∙ is, broke whole cut refl breaks, inr (status.Done, closes))
+  load_ends ending.Unwritten (Err failed) line broke fails stops = absurd (fails failed refl refl)
+  load_ends ending.NoMemory (Ok done) line broke fails stops = (stops.0, stops.1, refl, line [] stops.2)
+  load_ends ending.NoMemory (Err failed) line broke fails stops = absurd (fails failed refl refl)
+  load_ends how answer line broke fails stops =
+      load_last (status_of how) (listed (last_entry how)) answer line stops.0 stops.1
+
+-- what was written before, and then the last line
+module _ {K : Type 0} (written : K → Option (List ℕ)) (puts : K → List ℕ → Result (Unit {0}) Failed → K → Type 0) where
+  pub load_written : (a b c : K) (seed rounds : ℕ) (how : Ending) (s : Status) (answer : Result (Unit {0}) Failed)
+      (disks : Disks) → Writes written puts b (listed (last_entry how)) answer c → s ≡ status_by answer (status_of how)
+      → LoadPlayed seed rounds how (Wrote written puts a b) (Broke written puts a b) disks
+      → Loaded seed rounds s (Wrote written puts a c) (Broke written puts a c) disks
+  load_written a b c seed rounds how s answer disks h is p =
+      let tail = listed (last_entry how) in
+      subst (λ s. Loaded seed rounds s (Wrote written puts a c) (Broke written puts a c) disks) (sym is)
+      (loaded_by seed rounds how (status_by answer (status_of how)) tail disks (Wrote written puts a b)
+      (Wrote written puts a c) (Broke written puts a b) (Broke written puts a c) refl p
+      (load_ends disks seed rounds p.played p.unplayed (onto [] p.transcript) p.told (Wrote written puts a b)
+      (Wrote written puts a c) (Broke written puts a b) (Broke written puts a c) how answer
+      (last_line written puts a b c tail answer h)
+      (λ xs ys none broke. subst (λ k. Broke written puts a k xs ys)
+      (sym (no_line written puts b c (last_entry how) answer none h).1) broke)
+      (λ failed err none. cc (err, (no_line written puts b c (last_entry how) answer none h).0)) p.stops))
+
+-- ---- before the first line
+
+-- nothing was played, since there is no journal or no memory
+module _ (seed rounds : ℕ) (Written : List Entry → Type 0) (Breaks : List Entry → List Entry → Type 0) (disks : Disks)
+    (same : disks.cuts_after ≡ disks.cuts) where
+  unbegun : (how : Ending) → (disks.trusted → TellsLoss (listed (last_entry how)) → ⊥)
+      → LoadStops disks seed rounds [] (load_steps seed rounds) [] how [] Written Breaks
+      → LoadPlayed seed rounds how Written Breaks disks
+  unbegun how keeps stops = record {
+    played = [];
+    unplayed = load_steps seed rounds;
+    transcript = [];
+    told = [];
+    steps_are = refl;
+    losses = refl;
+    legal = λ sure. refl;
+    stops = stops;
+    book = λ trusted some. absurd (some refl);
+    keeps = keeps;
+    cut = subst (RoseBy 0 disks.cuts) (sym same) (rose_none 0 disks.cuts refl);
+    uncut = λ none next. same;
+  }
+
+  pub load_unopened : (how : Ending) → IsUnopened disks.size disks.seen how → Written []
+      → LoadPlayed seed rounds how Written Breaks disks
+  load_unopened ending.DiskFailed sized wrote =
+      unbegun ending.DiskFailed (λ trusted tells. tells) ((sized, refl, inl (refl, refl)), wrote)
+  load_unopened (ending.NotBlank at) h wrote =
+      unbegun (ending.NotBlank at) (λ trusted tells. tells) ((at, h.0, refl, refl, refl, h.1), wrote)
+  load_unopened (ending.OtherSize len) h wrote =
+      unbegun (ending.OtherSize len) (λ trusted tells. tells)
+      ((h.0, refl, refl, ap (λ n. listed (last_entry (ending.OtherSize n))) h.1), wrote)
+  load_unopened how h wrote = absurd h
+
+  pub load_no_memory : Written [] → LoadPlayed seed rounds ending.NoMemory Written Breaks disks
+  load_no_memory wrote = unbegun ending.NoMemory (λ trusted tells. tells) (refl, refl, wrote)
+
+  -- with no memory to read the words
+  pub load_at_once : Written [] → Loaded seed rounds status.OutOfMemory Written Breaks disks
+  load_at_once wrote =
+      let p = load_no_memory wrote in
+      loaded_by seed rounds ending.NoMemory status.OutOfMemory [] disks Written Written Breaks Breaks refl p
+      (p.stops.0, p.stops.1, refl, p.stops.2)
+
+-- ---- over a machine
+
+-- a first one of some steps is such in another way
+first_by : (P Q : Step → Type 0) (steps : List Step) → ((s : Step) → P s → Q s) → First P steps → First Q steps
+first_by P Q [] by first = first
+first_by P Q (s ∷ steps) by first = by s first
+
+none_first : (steps : List Step) → First (λ s. ⊥) steps → ⊥
+none_first [] first = first
+none_first (s ∷ steps) first = first
+
+-- the disk may fail in a step where more may be relied on
+fails_by : (sure sure1 : Type 0) (past : List Entry) → (sure1 → sure) → (s : Step) → MayFail sure load_setup past s
+    → MayFail sure1 load_setup past s
+fails_by sure sure1 past more (step.Next addr) fails = λ is. fails (more is)
+fails_by sure sure1 past more (step.Crash at choice) fails = tt
+fails_by sure sure1 past more s fails = absurd fails
+
+module _ {D : Type 0} {g : Ghosts D} (given left : D) (world : World D g)
+    (ready : IsReady (g.size given) (g.seen given)) (on : GoesOn g.size g.honest g.seen g.cuts given (disk_of world))
+    (seed rounds : ℕ) (Written : List Entry → Type 0) (Breaks : List Entry → List Entry → Type 0) where
+  abbrev ds : Disks
+  ds = disks g.size g.honest g.seen g.may_leave g.cuts given left
+
+  abbrev load : Load
+  load = record { seed = seed; rounds = rounds }
+
+  now_trusted : IsTrusted g.honest g.seen given → IsTrusted g.honest g.seen (disk_of world)
+  now_trusted =
+      trusted_on g.size g.honest g.seen g.cuts given (disk_of world)
+      (lasts_on g.size g.honest g.seen g.cuts given (disk_of world) on)
+
+  relies : (past : List Entry) → Sure (IsTrusted g.honest g.seen given) past → Relies world past
+  relies past (inl trusted) = inl (now_trusted trusted)
+  relies past (inr none) = inr none
+
+  -- what was told, by how the playing of it ended
+  told_by : (how : LoadEnd) (played unplayed : List Step) (past : List Entry)
+      → loads.Ends world load how played unplayed past Written Breaks
+      → (told : List Entry)
+      × LoadStops ds seed rounds played unplayed past (load_ending how) told Written Breaks
+  told_by load_end.Done played unplayed past ends =
+      let sums = ends.1 in (
+        _,
+        ((ends.0, (sums.0, λ sure. sums.1 (relies past sure), refl), refl, ready), sums.2),
+      )
+  told_by load_end.Unwritten played unplayed past (inl first) =
+      (_, ([], first_line load ∷ [], refl, first.1, inl (refl, first.0, ready)))
+  told_by load_end.Unwritten played unplayed past (inr last) =
+      let sums = last.1 in (
+        _,
+        (
+          first_line load ∷ [],
+          _,
+          refl,
+          sums.2,
+          inr (last.0, (sums.0, λ sure. sums.1 (relies past sure), refl), refl, ready),
+        ),
+      )
+  told_by (load_end.Unplayed world_no.Disk) played unplayed past ends = (
+    _,
+    (
+      (
+        ready.sized,
+        refl,
+        inr (
+          refl,
+          ready,
+          first_by (MayFail (Relies world past) load_setup past)
+              (MayFail (Sure (IsTrusted g.honest g.seen given) past) load_setup past) unplayed
+              (fails_by (Relies world past) (Sure (IsTrusted g.honest g.seen given) past) past (relies past)) ends.0,
+        ),
+      ),
+      ends.1,
+    ),
+  )
+  told_by (load_end.Unplayed world_no.Alien) played unplayed past ends =
+      (_, ((tt, refl, first_by _ IsCrash unplayed (λ s is. is) ends.0, ready), ends.1))
+  told_by (load_end.Unplayed (world_no.BadRecord index)) played unplayed past ends =
+      (_, ((tt, refl, first_by _ IsCrash unplayed (λ s is. is) ends.0, ready), ends.1))
+  told_by (load_end.Unplayed (world_no.Lost found put)) played unplayed past ends =
+      (_, ((tt, refl, first_by _ IsCrash unplayed (λ s is. is) ends.0, ready), ends.1))
+
+  -- what the disk keeps
+  book_by : (how : LoadEnd) (unplayed : List Step) (past : List Entry) → loads.Book world left how unplayed past
+      → Book ds load_setup unplayed past (listed (last_entry (load_ending how)))
+  book_by load_end.Done unplayed past book = book
+  book_by load_end.Unwritten unplayed past book = book
+  book_by (load_end.Unplayed world_no.Disk) unplayed past book = first_by _ _ unplayed (λ s leaves. leaves) book
+  book_by (load_end.Unplayed world_no.Alien) unplayed past book =
+      absurd (none_first unplayed (first_by _ (λ s. ⊥) unplayed (λ s never. never) book))
+  book_by (load_end.Unplayed (world_no.BadRecord index)) unplayed past book =
+      absurd (none_first unplayed (first_by _ (λ s. ⊥) unplayed (λ s never. never) book))
+  book_by (load_end.Unplayed (world_no.Lost found put)) unplayed past book =
+      absurd (none_first unplayed (first_by _ (λ s. ⊥) unplayed (λ s never. never) book))
+
+  -- and that another journal than was there never comes
+  keeps_by : (how : LoadEnd) (unplayed : List Step) (past : List Entry) → loads.Book world left how unplayed past
+      → TellsLoss (listed (last_entry (load_ending how))) → ⊥
+  keeps_by load_end.Done unplayed past book tells = tells
+  keeps_by load_end.Unwritten unplayed past book tells = tells
+  keeps_by (load_end.Unplayed world_no.Disk) unplayed past book tells = tells
+  keeps_by (load_end.Unplayed world_no.Alien) unplayed past book tells =
+      none_first unplayed (first_by _ (λ s. ⊥) unplayed (λ s never. never) book)
+  keeps_by (load_end.Unplayed (world_no.BadRecord index)) unplayed past book tells =
+      none_first unplayed (first_by _ (λ s. ⊥) unplayed (λ s never. never) book)
+  keeps_by (load_end.Unplayed (world_no.Lost found put)) unplayed past book tells =
+      none_first unplayed (first_by _ (λ s. ⊥) unplayed (λ s never. never) book)
+
+  pub load_played : (how : LoadEnd) → PlaysLoad world load how left Written Breaks
+      → LoadPlayed seed rounds (load_ending how) Written Breaks ds
+  load_played how p =
+      let past = onto [] p.transcript in
+      let told = told_by how p.played p.unplayed past p.ends in
+      record {
+        played = p.played;
+        unplayed = p.unplayed;
+        transcript = p.transcript;
+        told = told.0;
+        steps_are = p.steps_are;
+        losses = p.losses;
+        legal = λ sure. subst (λ size. Legal (capacity_of size) load_setup p.played p.transcript)
+            (on.same_size ∙ ready.sized) (p.legal (relies past sure));
+        stops = told.1;
+        book = λ trusted some. book_by how p.unplayed past (p.book (now_trusted trusted));
+        keeps = λ trusted tells. keeps_by how p.unplayed past (p.book (now_trusted trusted)) tells;
+        cut = subst (λ n. RoseBy (crashes past) n (g.cuts left)) on.same_cuts p.cut;
+        uncut = λ none next. p.uncut none next ∙ on.same_cuts;
+      }
+
+-- ---- with no fault
+
+-- a load has a status of its own
+pub load_statuses : (seed rounds : ℕ) (s : Status) (Written : List Entry → Type 0)
+    (Breaks : List Entry → List Entry → Type 0) (disks : Disks) → Loaded seed rounds s Written Breaks disks
+    → (s ≢ status.ReadFault) × (s ≢ status.WordsRefused)
+load_statuses seed rounds status.ReadFault Written Breaks disks h = absurd h.ends.0
+load_statuses seed rounds status.WordsRefused Written Breaks disks h = absurd h.ends.0
+load_statuses seed rounds s Written Breaks disks h = (λ is. cc is, λ is. cc is)
+
+load_done : (seed rounds : ℕ) (s : Status) (Written : List Entry → Type 0) (Breaks : List Entry → List Entry → Type 0)
+    (disks : Disks) (image : List ℕ) → disks.seen ≡ Some image → disks.size ≡ JOURNAL_BYTES → IsBlank image
+    → disks.trusted ⊎ (losses_in (load_steps seed rounds) ≡ 0) → (s ≡ status.WriteFault → ⊥)
+    → (s ≡ status.DiskFault → ⊥) → Loaded seed rounds s Written Breaks disks → IsOrMemory status.Done s
+load_done seed rounds status.Done Written Breaks disks image told sized blank kept w d h = inl refl
+load_done seed rounds status.ScriptRefused Written Breaks disks image told sized blank kept w d h = absurd h.ends.0
+load_done seed rounds status.WordsRefused Written Breaks disks image told sized blank kept w d h = absurd h.ends.0
+load_done seed rounds status.ReadFault Written Breaks disks image told sized blank kept w d h = absurd h.ends.0
+load_done seed rounds status.WriteFault Written Breaks disks image told sized blank kept w d h = absurd (w refl)
+load_done seed rounds status.DiskFault Written Breaks disks image told sized blank kept w d h = absurd (d refl)
+load_done seed rounds status.NotBlank Written Breaks disks image told sized blank kept w d h =
+    absurd (blank_first image h.ends.0.0 blank (h.ends.0.5 image told))
+load_done seed rounds status.DiskSize Written Breaks disks image told sized blank kept w d h =
+    absurd (h.ends.0.0 sized)
+load_done seed rounds status.OutOfMemory Written Breaks disks image told sized blank kept w d h = inr refl
+load_done seed rounds status.JournalLost Written Breaks disks image told sized blank (inl trusted) w d h =
+    absurd (h.keeps trusted h.ends.0.0)
+load_done seed rounds status.JournalLost Written Breaks disks image told sized blank (inr none) w d h =
+    absurd (none_next h.played h.unplayed (ap losses_in (sym h.steps_are) ∙ none) h.ends.0.2)
+
+-- with a told disk, and a cause for each fault
+pub load_completes : (seed rounds : ℕ) (s : Status) (Written : List Entry → Type 0)
+    (Breaks : List Entry → List Entry → Type 0) (disks : Disks) (Write Disk Honest : Type 0) (seen : Option (List ℕ))
+    → disks.seen ≡ seen → (Honest → is_some seen ≡ true → disks.trusted) → (s ≡ status.WriteFault → Write)
+    → (s ≡ status.DiskFault → Disk) → Loaded seed rounds s Written Breaks disks
+    → IfSome seen (λ image. disks.size ≡ JOURNAL_BYTES → IsBlank image
+    → Honest ⊎ (losses_in (load_steps seed rounds) ≡ 0) → (Write → ⊥) → (Disk → ⊥) → IsOrMemory status.Done s)
+load_completes seed rounds s Written Breaks disks Write Disk Honest None told trusts write disk h = tt
+load_completes seed rounds s Written Breaks disks Write Disk Honest (Some image) told trusts write disk h =
+    λ sized blank kept w d. load_done seed rounds s Written Breaks disks image told sized blank
+    (kept_by Honest disks.trusted (losses_in (load_steps seed rounds) ≡ 0) (λ honest. trusts honest refl) kept)
+    (λ is. w (write is)) (λ is. d (disk is)) h

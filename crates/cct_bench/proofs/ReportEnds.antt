@@ -1,0 +1,141 @@
+-- What a report wrote, by how its listing ended and by the answer of the put of its last line.
+use Rattle.std.proofs.Common.{◌≡◌, ◌≢◌, ◌⊎◌, ℕ, List, [], ◌∷◌, ◌++◌, Option, Result, Ok, Err, refl, sym, ◌∙◌, ap, subst}
+use Rattle.std.proofs.Common.{inl, inr}
+use Rattle.std.proofs.lemmas.List.{append-nil}
+use Rattle.cct_edge.specs.declared.fault.Failed.{Failed}
+use Rattle.cct_model.specs.lines.record.Record.{Record}
+use Rattle.cct_model.specs.lines.entry.Entry.{Entry}
+use Rattle.cct_model.specs.lines.entry.Entry.TheVariants as entry
+use Rattle.cct_journal.specs.Image.{StandsFor}
+use Rattle.cct_text.specs.Writing.{Writes}
+use Rattle.cct_text.proofs.Writing.{writes_then}
+use Rattle.cct_report.specs.Listing.{Decides, Finds, Lists, ListsSome, listed, listing_from}
+use Rattle.cct_report.specs.declared.listing.ReportEnd.{ReportEnd}
+use Rattle.cct_report.specs.declared.listing.ReportEnd.TheVariants as listing
+use Rattle.cct_bench.specs.declared.outcome.Status.{Status}
+use Rattle.cct_bench.specs.declared.outcome.Status.TheVariants as status
+use Rattle.cct_bench.specs.declared.play.TheConstants.{JOURNAL_BYTES}
+use Rattle.cct_bench.specs.Report.{IsDecided, Known, ReportIs, Reported, image_known, line_behind, records_known}
+use Rattle.cct_bench.specs.Report.{reported_by, size_known}
+use Rattle.cct_bench.specs.Run.{status_by}
+
+-- what a listing wrote, by how it ended, of a disk of which this is known
+abbrev pub ListsOf : Known → ReportEnd → (List Entry → Result (Unit {0}) Failed → Type 0) → Type 0
+ListsOf disk listing.Done writes = (records : List Record) × disk.stands records × writes (listed records) (Ok tt)
+ListsOf disk listing.Unwritten writes =
+    (records : List Record) × (failed : Failed) × disk.stands records × writes (listed records) (Err failed)
+ListsOf disk listing.DiskFailed writes =
+    writes [] (Ok tt)
+    ⊎ ((first : List Record) × (behind : List Record) × disk.stands (first ++ behind)
+    × writes (listing_from 0 first) (Ok tt))
+ListsOf disk listing.Alien writes = disk.alien × writes [] (Ok tt)
+ListsOf disk (listing.Bad index) writes =
+    (first : List Record) × disk.bad first index × writes (listing_from 0 first) (Ok tt)
+
+pub image_lists : (size : ℕ) (image : List ℕ) (how : ReportEnd) (nothing : Type 0)
+    (writes : List Entry → Result (Unit {0}) Failed → Type 0) → (nothing → writes [] (Ok tt))
+    → Finds how image nothing → ((records : List Record) → StandsFor image records → Lists how records writes)
+    → ListsOf (image_known size image) how writes
+image_lists size image listing.Done nothing writes none finds every = (finds.0, finds.1, every finds.0 finds.1)
+image_lists size image listing.Unwritten nothing writes none finds every =
+    let lists = every finds.0 finds.1 in (finds.0, lists.0, finds.1, lists.1)
+image_lists size image listing.DiskFailed nothing writes none (inl finds) every =
+    let lists = every finds.0 finds.1 in
+    inr (lists.0, lists.1, subst (StandsFor image) lists.2 finds.1, lists.3)
+image_lists size image listing.DiskFailed nothing writes none (inr finds) every = inl (none finds)
+image_lists size image listing.Alien nothing writes none finds every = (finds.0, none finds.1)
+image_lists size image (listing.Bad index) nothing writes none finds every = ([], (refl, finds.0), none finds.1)
+
+pub records_lists : (size : ℕ) (records : List Record) (how : ReportEnd)
+    (writes : List Entry → Result (Unit {0}) Failed → Type 0) → Lists how records writes
+    → ListsOf (records_known size records) how writes
+records_lists size records listing.Done writes lists = (records, refl, lists)
+records_lists size records listing.Unwritten writes lists = (records, lists.0, refl, lists.1)
+records_lists size records listing.DiskFailed writes lists = inr (lists.0, lists.1, sym lists.2, lists.3)
+records_lists size records listing.Alien writes lists = absurd lists
+records_lists size records (listing.Bad index) writes lists = absurd lists
+
+pub size_lists : (size : ℕ) (how : ReportEnd) (writes : List Entry → Result (Unit {0}) Failed → Type 0)
+    → ListsSome how writes → ListsOf (size_known size) how writes
+size_lists size listing.Done writes lists = (lists.0, tt, lists.1)
+size_lists size listing.Unwritten writes lists = (lists.0, lists.1, tt, lists.2)
+size_lists size listing.DiskFailed writes lists = inr (lists.0, [], tt, lists.1)
+size_lists size listing.Alien writes lists = (tt, lists)
+size_lists size (listing.Bad index) writes lists = (lists.0, tt, lists.1)
+
+-- all lines were written, or up to a put that failed
+pub reported : (disk : Known) (s : Status) (lines : List Entry) (answer : Result (Unit {0}) Failed)
+    (writes : List Entry → Result (Unit {0}) Failed → Type 0) → ReportIs disk s lines → writes lines answer
+    → Reported disk (status_by answer s) writes
+reported disk s lines (Err failed) writes is wrote = (s, lines, failed, is, wrote)
+reported disk status.Done lines (Ok done) writes is wrote = (lines, is, wrote)
+reported disk status.DiskFault lines (Ok done) writes is wrote = (lines, is, wrote)
+reported disk status.DiskSize lines (Ok done) writes is wrote = (lines, is, wrote)
+reported disk status.JournalLost lines (Ok done) writes is wrote = (lines, is, wrote)
+reported disk s lines (Ok done) writes is wrote = absurd is
+
+-- a disk of another size is told by that alone
+pub other_reported : (disk : Known) (len : ℕ) (s : Status) (answer : Result (Unit {0}) Failed)
+    (writes : List Entry → Result (Unit {0}) Failed → Type 0) → len ≡ disk.size → disk.size ≢ JOURNAL_BYTES
+    → writes (entry.DiskSize len ∷ []) answer → s ≡ status_by answer status.DiskSize → Reported disk s writes
+other_reported disk len s answer writes same other wrote is =
+    subst (λ s. Reported disk s writes) (sym is) (reported disk status.DiskSize (entry.DiskSize len ∷ []) answer writes
+    (other, ap (λ n. entry.DiskSize n ∷ []) same) wrote)
+
+-- the listing, and then the last line
+module _ {K : Type 0} (written : K → Option (List ℕ)) (puts : K → List ℕ → Result (Unit {0}) Failed → K → Type 0) where
+  behind : (disk : Known) (a b c : K) (how : ReportEnd) (answer : Result (Unit {0}) Failed)
+      → disk.size ≡ JOURNAL_BYTES → ListsOf disk how (λ lines r. Writes written puts a lines r b)
+      → Writes written puts b (line_behind how) answer c
+      → Reported disk (status_by answer (reported_by how)) (λ lines r. Writes written puts a lines r c)
+  behind disk a b c listing.Done answer sized lists last =
+      let lines = listed lists.0 in
+      reported disk status.Done lines answer (λ lines r. Writes written puts a lines r c)
+      (lists.0, sized, lists.1, refl) (subst (λ xs. Writes written puts a xs answer c) (append-nil lines)
+      (writes_then written puts a b c lines [] answer lists.2 last))
+  behind disk a b c listing.Unwritten (Ok done) sized lists last = (
+    status.Done,
+    listed lists.0,
+    lists.1,
+    (lists.0, sized, lists.2, refl),
+    subst (λ k. Writes written puts a (listed lists.0) (Err lists.1) k) (sym last.put.1) lists.3,
+  )
+  behind disk a b c listing.Unwritten (Err failed) sized lists last = cc last.put.0
+  behind disk a b c listing.DiskFailed answer sized (inl none) last =
+      let tail = entry.DiskFault ∷ [] in
+      reported disk status.DiskFault tail answer (λ lines r. Writes written puts a lines r c) (sized, inl refl)
+      (writes_then written puts a b c [] tail answer none last)
+  behind disk a b c listing.DiskFailed answer sized (inr lists) last =
+      let tail = entry.DiskFault ∷ [] in
+      let first = listing_from 0 lists.0 in
+      reported disk status.DiskFault (first ++ tail) answer (λ lines r. Writes written puts a lines r c)
+      (sized, inr (lists.0, lists.1, lists.2, refl)) (writes_then written puts a b c first tail answer lists.3 last)
+  behind disk a b c listing.Alien answer sized lists last =
+      let tail = entry.JournalAlien ∷ [] in
+      reported disk status.JournalLost tail answer (λ lines r. Writes written puts a lines r c)
+      (sized, inl (lists.0, refl)) (writes_then written puts a b c [] tail answer lists.1 last)
+  behind disk a b c (listing.Bad index) answer sized lists last =
+      let tail = entry.JournalBad index ∷ [] in
+      let first = listing_from 0 lists.0 in
+      reported disk status.JournalLost (first ++ tail) answer (λ lines r. Writes written puts a lines r c)
+      (sized, inr (lists.0, index, lists.1, refl)) (writes_then written puts a b c first tail answer lists.2 last)
+
+  pub reported_behind : (disk : Known) (a b c : K) (how : ReportEnd) (s : Status) (answer : Result (Unit {0}) Failed)
+      → disk.size ≡ JOURNAL_BYTES → ListsOf disk how (λ lines r. Writes written puts a lines r b)
+      → Writes written puts b (line_behind how) answer c → s ≡ status_by answer (reported_by how)
+      → Reported disk s (λ lines r. Writes written puts a lines r c)
+  reported_behind disk a b c how s answer sized lists last is =
+      subst (λ s. Reported disk s (λ lines r. Writes written puts a lines r c)) (sym is)
+      (behind disk a b c how answer sized lists last)
+
+-- a report of a disk of the right size is decided as its listing is, where its last line was put
+pub decided : (size : ℕ) (image : List ℕ) (how : ReportEnd) (s : Status) (Fault : Type 0) → size ≡ JOURNAL_BYTES
+    → Decides how image → (s ≡ reported_by how) ⊎ ((s ≡ status.WriteFault) × Fault) → (Fault → ⊥)
+    → IsDecided size image s
+decided size image how s Fault sized decides (inl is) none = record {
+  done = λ _ records stands. inl (is ∙ ap reported_by (decides.done records stands));
+  alien = λ _ alien. inl (is ∙ ap reported_by (decides.alien alien));
+  bad = λ _ index bad. inl (is ∙ ap reported_by (decides.bad index bad));
+  other = λ other. absurd (other sized);
+}
+decided size image how s Fault sized decides (inr broke) none = absurd (none broke.1)

@@ -1,0 +1,34 @@
+use Rattle.std.proofs.Common.{Err, refl, inl, sym, ap, subst, ◌∙◌}
+use Rattle.cct_world.specs.Step.{RoseBy, crashes_of}
+use Rattle.cct_world.specs.World.{disk_of}
+use Rattle.cct_text.specs.Writing.{Writes}
+use Rattle.cct_world.proofs.Lasting.{uncut_in}
+use Rattle.cct_bench.proofs.Keeping.{books_play}
+use Rattle.cct_bench.proofs.play.Page.play.Goals as goal
+
+pub returns-in-Err-write_entries-clause-ended : goal.returns-in-Err-write_entries-clause-ended
+returns-in-Err-write_entries-clause-ended g c =
+    let sink = g.K.Sink in
+    let disk = g.D.Disk in
+    let world = c.args.world in
+    let next = c.in-Ok.world in
+    let last = c.into_disk.result in
+    let s = c.args.step.now in
+    let played = c.in-Ok.ensures in
+    let is = c.into_disk.ensures in
+    let failed = c.in-Err-write_entries.field-0 in
+    inl (
+      refl,
+      failed,
+      record {
+        report = c.step.new.report.items;
+        plays = books_play world next last s c.step.new.report.items c.requires.size played.plays is;
+        told = played.told;
+        cut = subst (λ d. RoseBy (crashes_of s) (disk.cuts (disk_of world)) (disk.cuts d)) (sym is) played.cut;
+        uncut = λ none. ap disk.cuts is
+            ∙ uncut_in disk.size disk.honest disk.seen disk.cuts s (disk_of world) (disk_of next) played.lasts none;
+        wrote = subst
+            (λ report. Writes sink.written sink.puts c.args.out.now report (Err failed) c.write_entries.new.out)
+            c.as_slice.ensures.value c.in-Err-write_entries.ensures.writes;
+      },
+    )

@@ -1,0 +1,333 @@
+//! The words of the command line, and reports over disks of many kinds.
+
+use crate::tests::{CALLS, DISK, POSTED, disk, lines_and, play, play_posted};
+use crate::{Status, Words, WordsNo, read_words};
+use cct_disk::{Disk, MemDisk};
+use std::alloc::Global;
+use std::test::Fail;
+
+/// Lists of words that say what to do.
+const TAKEN: [(&[&str], Words); 8] = [
+    (&["run"], Words::Run),
+    (&["report"], Words::Report),
+    (&["load", "0", "1"], Words::Load { seed: 0, rounds: 1 }),
+    (&["load", "1", "9"], Words::Load { seed: 1, rounds: 9 }),
+    (
+        &["load", "7", "10000"],
+        Words::Load {
+            seed: 7,
+            rounds: 10_000,
+        },
+    ),
+    (
+        &["load", "4294967296", "256"],
+        Words::Load {
+            seed: 4_294_967_296,
+            rounds: 256,
+        },
+    ),
+    (
+        &["load", "18446744073709551615", "1"],
+        Words::Load {
+            seed: 18_446_744_073_709_551_615,
+            rounds: 1,
+        },
+    ),
+    (
+        &["load", "18446744073709551615", "10000"],
+        Words::Load {
+            seed: 18_446_744_073_709_551_615,
+            rounds: 10_000,
+        },
+    ),
+];
+
+/// Lists of words that are in no grammar.
+const REFUSED: [&[&str]; 58] = [
+    &[],
+    &[""],
+    &["", "run"],
+    &["run", ""],
+    &["run", "run"],
+    &["run", "now"],
+    &["run", "report"],
+    &["report", "now"],
+    &["report", "report"],
+    &["now"],
+    &["r"],
+    &["ru"],
+    &["rep"],
+    &["runs"],
+    &["RUN"],
+    &["Run"],
+    &[" run"],
+    &["run "],
+    &["run\n"],
+    &["cct_main"],
+    &["cct_main", "run"],
+    &["help"],
+    &["help", "run"],
+    &["run", "help"],
+    &["--help"],
+    &["-h"],
+    &["run", "--help"],
+    &["load", "--help"],
+    &["load", "1", "2", "--help"],
+    &["-V"],
+    &["--version"],
+    &["-"],
+    &["--"],
+    &["--", "run"],
+    &["run", "--"],
+    &["load"],
+    &["load", "1"],
+    &["load", "1", "2", "3"],
+    &["load", "1 2"],
+    &["lo", "1", "2"],
+    &["load", "", "1"],
+    &["load", "1", ""],
+    &["load", "+1", "1"],
+    &["load", "1", "+1"],
+    &["load", "-1", "1"],
+    &["load", "1", "-1"],
+    &["load", "01", "1"],
+    &["load", "1", "01"],
+    &["load", "00", "1"],
+    &["load", "1", "0"],
+    &["load", "0", "10001"],
+    &["load", "0", "4294967297"],
+    &["load", "18446744073709551616", "1"],
+    &["load", "0", "18446744073709551617"],
+    &["load", "0x1", "1"],
+    &["load", "1_0", "1"],
+    &["load", "a", "1"],
+    &["load", "\u{661}", "1"],
+];
+
+/// The words of a command line.
+fn said(alloc: Global, words: &[&str]) -> Result<Vec<String>, Fail> {
+    let mut said = Vec::new(alloc);
+    for word in words {
+        said.push(String::from_str(alloc, word)?)?;
+    }
+    Ok(said)
+}
+
+#[test]
+fn words_are_taken_or_refused(rt: HostRuntime) -> Result<(), Fail> {
+    let alloc = rt.alloc();
+    for (words, wanted) in TAKEN {
+        let said = said(alloc, words)?;
+        assert_eq!(rt; read_words(alloc, said.as_slice()), Ok(wanted), "{words:?}");
+    }
+    for words in REFUSED {
+        let said = said(alloc, words)?;
+        assert_eq!(rt;
+            read_words(alloc, said.as_slice()),
+            Err(WordsNo::Refused),
+            "{words:?}"
+        );
+    }
+    Ok(())
+}
+
+#[test]
+fn refused_words_take_nothing(rt: HostRuntime) -> Result<(), Fail> {
+    let alloc = rt.alloc();
+    for words in REFUSED {
+        let bare = disk(alloc, 64, &[1])?;
+        let script = POSTED.to_vec(alloc)?;
+        let (status, written, _) = play(alloc, words, script, 4096, &[1], &[], bare)?;
+        assert_eq!(rt; status, Status::WordsRefused, "{words:?}");
+        assert_eq!(rt; written.as_slice(), b"words\n".as_slice(), "{words:?}");
+    }
+    Ok(())
+}
+
+/// Lists the journal on a disk, with the puts of these numbers failing. Any take of a script would fail.
+fn report(alloc: Global, puts: &[u64], disk: MemDisk) -> Result<(Status, Vec<u8>, MemDisk), Fail> {
+    play(alloc, &["report"], Vec::new(alloc), 1, &[1], puts, disk)
+}
+
+/// What a report tells behind the run of a posted coin.
+const LISTED: &[u8] = b"record 0 epoch 2 ffff\nrecord 1 reading 2 1 0 5/1\ntotal 1 0 0 0 0\n";
+
+#[test]
+fn a_report_lists_what_a_run_put(rt: HostRuntime) -> Result<(), Fail> {
+    let alloc = rt.alloc();
+    let (ran, _, used) = play_posted(alloc, 0)?;
+    assert_eq!(rt; ran, Status::Done);
+    let (status, written, listed) = report(alloc, &[], used)?;
+    assert_eq!(rt; (status, written.as_slice()), (Status::Done, LISTED));
+    // It changes nothing: a second one tells the same, and a run finds the disk used.
+    let (status, written, listed) = report(alloc, &[], listed)?;
+    assert_eq!(rt; (status, written.as_slice()), (Status::Done, LISTED));
+    let script = POSTED.to_vec(alloc)?;
+    let (status, written, _) = play(alloc, &["run"], script, 4096, &[], &[], listed)?;
+    assert_eq!(rt;
+        (status, written.as_slice()),
+        (Status::NotBlank, b"notblank 0\n".as_slice())
+    );
+    Ok(())
+}
+
+/// The lengths of blank disks, and how a report over each ends.
+const BLANK: [(u64, Status, &[u8]); 6] = [
+    (DISK, Status::JournalLost, b"journal alien\n"),
+    (0, Status::DiskSize, b"disksize 0\n"),
+    (64, Status::DiskSize, b"disksize 64\n"),
+    (DISK - 1, Status::DiskSize, b"disksize 2097151\n"),
+    (DISK + 1, Status::DiskSize, b"disksize 2097153\n"),
+    (2 * DISK, Status::DiskSize, b"disksize 4194304\n"),
+];
+
+#[test]
+fn a_report_over_a_blank_disk_finds_no_journal(rt: HostRuntime) -> Result<(), Fail> {
+    let alloc = rt.alloc();
+    for (len, status, text) in BLANK {
+        let (ended, written, _) = report(alloc, &[], disk(alloc, len, &[])?)?;
+        assert_eq!(rt; (ended, written.as_slice()), (status, text), "{len} bytes");
+        let (ended, written, _) = report(alloc, &[1], disk(alloc, len, &[])?)?;
+        assert_eq!(rt;
+            (ended, written.as_slice()),
+            (Status::WriteFault, b"".as_slice()),
+            "{len} bytes"
+        );
+    }
+    Ok(())
+}
+
+#[test]
+fn a_report_stops_at_each_fault_of_the_sink(rt: HostRuntime) -> Result<(), Fail> {
+    let alloc = rt.alloc();
+    for put in 1..4usize {
+        let (_, _, used) = play_posted(alloc, 0)?;
+        let (status, written, _) = report(alloc, &[put as u64], used)?;
+        let text = lines_and(alloc, LISTED, put.saturating_sub(1), b"")?;
+        assert_eq!(rt;
+            (status, written.as_slice()),
+            (Status::WriteFault, text.as_slice()),
+            "put {put}"
+        );
+    }
+    let (_, _, used) = play_posted(alloc, 0)?;
+    let (status, written, _) = report(alloc, &[4], used)?;
+    assert_eq!(rt; (status, written.as_slice()), (Status::Done, LISTED));
+    Ok(())
+}
+
+/// How many line feeds a text has.
+fn count_lines(text: &[u8]) -> usize {
+    text.iter().filter(|byte| **byte == b'\n').count()
+}
+
+// How often a report reads is open, but it reads once at the least, and ends.
+#[test]
+fn a_report_stops_at_each_fault_of_the_disk(rt: HostRuntime) -> Result<(), Fail> {
+    let alloc = rt.alloc();
+    let mut failed = 0;
+    for call in CALLS + 1..CALLS + 33 {
+        let (_, _, used) = play_posted(alloc, call)?;
+        let (status, written, _) = report(alloc, &[], used)?;
+        if status == Status::Done {
+            assert_eq!(rt; written.as_slice(), LISTED, "call {call}");
+        } else {
+            let front = count_lines(written.as_slice()).saturating_sub(1);
+            let text = lines_and(alloc, LISTED, front, b"diskfault\n")?;
+            assert_eq!(rt;
+                (status, written.as_slice()),
+                (Status::DiskFault, text.as_slice()),
+                "call {call}"
+            );
+            failed = call;
+        }
+        assert!(rt; call > CALLS + 1 || status == Status::DiskFault);
+    }
+    assert!(rt; failed < CALLS + 32, "the last read is call {failed}");
+    Ok(())
+}
+
+/// A byte that is set on the disk behind the run of a posted coin, and how a report then ends. Slots have 32 bytes: the
+/// header has the first, the epoch the second, and the reading the third.
+const POKED: [(u64, u8, Status, &[u8]); 28] = [
+    // the header
+    (0, 0, Status::JournalLost, b"journal alien\n"),
+    (0, 0xa4, Status::JournalLost, b"journal alien\n"),
+    (1, b'c', Status::JournalLost, b"journal alien\n"),
+    (15, 2, Status::JournalLost, b"journal alien\n"),
+    (31, 1, Status::JournalLost, b"journal alien\n"),
+    // the body of the epoch
+    (33, 0, Status::JournalLost, b"journal bad 0\n"),
+    (33, 9, Status::JournalLost, b"journal bad 0\n"),
+    (37, 1, Status::JournalLost, b"journal bad 0\n"),
+    (63, 1, Status::JournalLost, b"journal bad 0\n"),
+    (
+        34,
+        255,
+        Status::Done,
+        b"record 0 epoch 255 ffff\nrecord 1 reading 2 1 0 5/1\ntotal 1 0 0 0 0\n",
+    ),
+    (
+        35,
+        0,
+        Status::Done,
+        b"record 0 epoch 2 ff00\nrecord 1 reading 2 1 0 5/1\ntotal 1 0 0 0 0\n",
+    ),
+    // the body of the reading
+    (65, 0, Status::JournalLost, b"journal bad 1\n"),
+    (69, 0, Status::JournalLost, b"journal bad 1\n"),
+    (69, 2, Status::JournalLost, b"journal bad 1\n"),
+    (69, 6, Status::JournalLost, b"journal bad 1\n"),
+    (70, 0, Status::JournalLost, b"journal bad 1\n"),
+    (72, 1, Status::JournalLost, b"journal bad 1\n"),
+    (95, 1, Status::JournalLost, b"journal bad 1\n"),
+    (
+        68,
+        249,
+        Status::Done,
+        b"record 0 epoch 2 ffff\nrecord 1 reading 2 1 249 5/1\ntotal 1 249 0 0 0\n",
+    ),
+    (
+        70,
+        255,
+        Status::Done,
+        b"record 0 epoch 2 ffff\nrecord 1 reading 2 1 0 255/1\ntotal 1 0 0 0 0\n",
+    ),
+    (
+        71,
+        0,
+        Status::Done,
+        b"record 0 epoch 2 ffff\nrecord 1 reading 2 1 0 5/0\ntotal 1 0 0 0 0\n",
+    ),
+    // their gates
+    (32, 0, Status::Done, b"total 0 0 0 0 0\n"),
+    (
+        64,
+        0,
+        Status::Done,
+        b"record 0 epoch 2 ffff\ntotal 0 0 0 0 0\n",
+    ),
+    // behind the end
+    (96, 0xa5, Status::JournalLost, b"journal bad 2\n"),
+    (96, 0xa4, Status::Done, LISTED),
+    (97, 1, Status::Done, LISTED),
+    (128, 0xa5, Status::Done, LISTED),
+    (DISK - 32, 0xa5, Status::Done, LISTED),
+];
+
+#[test]
+fn a_report_looks_at_each_byte_of_the_records(rt: HostRuntime) -> Result<(), Fail> {
+    let alloc = rt.alloc();
+    for (place, byte, status, text) in POKED {
+        let (_, _, mut used) = play_posted(alloc, 0)?;
+        assert!(rt; place < used.len());
+        used.poke(place, byte);
+        let (ended, written, _) = report(alloc, &[], used)?;
+        assert_eq!(rt;
+            (ended, written.as_slice()),
+            (status, text),
+            "place {place}, byte {byte}"
+        );
+    }
+    Ok(())
+}

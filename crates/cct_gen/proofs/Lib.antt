@@ -1,0 +1,3 @@
+pub mod LoadSetup
+pub mod Lines
+mod Vectors

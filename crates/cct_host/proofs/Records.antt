@@ -1,0 +1,195 @@
+-- A host goes over the records of its journal, oldest first.
+use Rattle.std.proofs.Common.{◌≡◌, ℕ, ◌+◌, ◌&&◌, Bool, true, false, List, [], ◌∷◌, ◌++◌, length, reverse, slice_get, Some, refl, sym, ap, subst, ◌∙◌, arith, append_assoc, append-nil, length-append, true≢false}
+use Rattle.std.proofs.lemmas.Bool.{and_from}
+use Rattle.std.proofs.lemmas.List.{length-reverse, nil_from_length, reverse-append, reverse-reverse}
+use Rattle.cct_model.specs.terms.device.Setup.{Setup}
+use Rattle.cct_model.specs.lines.record.Record.{Record}
+use Rattle.cct_model.specs.lines.record.Record.TheVariants as record_of
+use Rattle.cct_model.specs.Following.{all_follow, follows, is_allowed}
+use Rattle.cct_disk.specs.declared.disk.Disk.{Ghosts}
+use Rattle.cct_journal.specs.declared.journal.Journal.{Journal}
+use Rattle.cct_journal.specs.Journal as journals
+use Rattle.cct_journal.specs.Stands.{Reads, Stands}
+use Rattle.cct_journal.proofs.Moments.{reads_hold, reads_then}
+use Rattle.cct_ledger.specs.declared.ledger.Ledger.{Ledger}
+use Rattle.cct_ledger.specs.Ledger as ledgers
+use Rattle.cct_ledger.specs.Told.{is_of_money}
+use Rattle.cct_ledger.proofs.Following.{allowed_alone}
+use Rattle.cct_host.specs.declared.desks.Desks.{Desks}
+use Rattle.cct_host.specs.Desks as all_desks
+use Rattle.cct_host.specs.Recalled.{Recalls}
+use Rattle.cct_host.specs.Starting.{IsFirstBad, OnlyReadIn, WentOver, WentOverFirst}
+
+-- a journal that was only read
+
+module _ {D : Type 0} {g : Ghosts D} where
+  pub read_then : (old mid new : Journal D g) → OnlyReadIn old mid → OnlyReadIn mid new → OnlyReadIn old new
+  read_then old mid new first second = record {
+    place = second.place ∙ first.place;
+    whole = second.whole ∙ first.whole;
+    disk = reads_then first.disk second.disk;
+    later = omega (arith, first.later, second.later);
+  }
+
+  pub read_tells : (old new : Journal D g) (rs : List Record) → OnlyReadIn old new
+      → Reads g.seen (journals.disk_of old) (journals.place_of old) rs
+      → Reads g.seen (journals.disk_of new) (journals.place_of new) rs
+  read_tells old new rs read reads = record {
+    image = reads.image;
+    tells = read.disk.same_seen ∙ reads.tells;
+    stands = reads.stands;
+    count = ap (λ p. p.used) read.place ∙ reads.count;
+  }
+
+  pub read_stands : (old new : Journal D g) (rs : List Record) → OnlyReadIn old new
+      → Stands g.honest g.seen g.may_leave (journals.disk_of old) (journals.place_of old) rs
+      → Stands g.honest g.seen g.may_leave (journals.disk_of new) (journals.place_of new) rs
+  read_stands old new rs read stands = record {
+    image = stands.image;
+    held = reads_hold read.disk stands.image stands.held;
+    keeps = stands.keeps;
+    count = ap (λ p. p.used) read.place ∙ stands.count;
+  }
+
+-- the record behind the first ones
+
+behind : (front later : List Record) → slice_get (front ++ later) (length front) ≡ slice_get later 0
+behind [] later = refl
+behind (r ∷ front) later = behind front later
+
+first_there : (later : List Record) (entry : Record) → slice_get later 0 ≡ Some entry
+    → (rest : List Record) × (later ≡ entry ∷ rest)
+first_there [] entry is = absurd cc
+first_there (r ∷ rest) entry is = (rest, cc)
+
+pub next_there : (rs before later : List Record) (index : ℕ) (entry : Record) → rs ≡ reverse before ++ later
+    → index ≡ length before → slice_get rs index ≡ Some entry → (rest : List Record) × (later ≡ entry ∷ rest)
+next_there rs before later index entry all many there =
+    first_there later entry
+    (sym (behind (reverse before) later)
+    ∙ ap (slice_get (reverse before ++ later)) (length-reverse before ∙ sym many)
+    ∙ ap (λ ls. slice_get ls index) (sym all) ∙ there)
+
+-- what the desks and the ledger say of a record is whether it follows
+
+others_allowed : (setup : Setup) (before : List Record) (r : Record) → is_of_money r ≡ false
+    → is_allowed setup before 0 r ≡ true
+others_allowed setup before (record_of.Opened id addr count life) other = absurd (true≢false other)
+others_allowed setup before (record_of.Closed id paid unpaid) other = absurd (true≢false other)
+others_allowed setup before (record_of.Odd id life_before life_after) other = absurd (true≢false other)
+others_allowed setup before (record_of.Sold id price) other = absurd (true≢false other)
+others_allowed setup before r other = refl
+
+judged_by : (setup : Setup) (before : List Record) (r : Record) (may money : Bool) → is_of_money r ≡ money
+    → (is_of_money r ≡ false → may ≡ follows setup before r) → (is_of_money r ≡ true → may ≡ true)
+    → (may && is_allowed setup before 0 r) ≡ follows setup before r
+judged_by setup before r may true is epochs others =
+    ap (λ b. b && is_allowed setup before 0 r) (others is) ∙ allowed_alone setup before r is
+judged_by setup before r may false is epochs others =
+    ap (λ b. may && b) (others_allowed setup before r is) ∙ and_true may ∙ epochs is
+  where
+    and_true : (b : Bool) → (b && true) ≡ b
+    and_true true = refl
+    and_true false = refl
+
+pub judged : (setup : Setup) (before : List Record) (r : Record) (may : Bool)
+    → (is_of_money r ≡ false → may ≡ follows setup before r) → (is_of_money r ≡ true → may ≡ true)
+    → (may && is_allowed setup before 0 r) ≡ follows setup before r
+judged setup before r may epochs others = judged_by setup before r may (is_of_money r) refl epochs others
+
+-- so a record that they take is one more that they went over
+pub went_next : (old new : Desks) (ledger posted : Ledger) (rs : List Record) (index : ℕ) (entry : Record)
+    → slice_get rs index ≡ Some entry → all_desks.setup_of new ≡ all_desks.setup_of old
+    → ledgers.setup_of ledger ≡ all_desks.setup_of old
+    → ((before : List Record) → Recalls old before → all_follow (all_desks.setup_of old) before ≡ true
+    → is_of_money entry ≡ false → true ≡ follows (all_desks.setup_of old) before entry)
+    → ledgers.Judges ledger entry true → ledgers.GoesOn ledger posted entry
+    → ((before : List Record) → Recalls old before → all_follow (all_desks.setup_of old) before ≡ true
+    → follows (all_desks.setup_of old) before entry ≡ true → Recalls new (entry ∷ before))
+    → WentOverFirst old ledger rs index → WentOverFirst new posted rs (index + 1)
+went_next old new ledger posted rs index entry there setup same epochs judges posts recalls went =
+    let over = went.over in
+    let next = next_there rs went.before went.later index entry went.all went.many there in
+    let follow : follows (all_desks.setup_of old) went.before entry ≡ true =
+    sym (judged (all_desks.setup_of old) went.before entry true (epochs went.before over.recalls over.follow)
+    (λ _. refl)) ∙ ap (λ s. is_allowed s went.before 0 entry) (sym same) ∙ sym (judges went.before 0 over.money) in
+    record {
+      before = entry ∷ went.before;
+      later = next.0;
+      all = went.all ∙ ap (λ ls. reverse went.before ++ ls) next.1
+          ∙ sym (append_assoc (reverse went.before) (entry ∷ []) next.0)
+          ∙ ap (λ ls. ls ++ next.0) (sym (reverse-append (entry ∷ []) went.before));
+      many = omega (arith, went.many);
+      over = record {
+        recalls = recalls went.before over.recalls over.follow follow;
+        money = posts went.before 0 over.money;
+        follow = subst (λ s. all_follow s (entry ∷ went.before) ≡ true) (sym setup)
+            (and_from _ _ follow over.follow);
+      };
+    }
+
+-- and one that they don't take is the first bad one
+bad_at : (setup : Setup) (desks : Desks) (ledger : Ledger) (rs : List Record) (index : ℕ) (entry : Record)
+    → slice_get rs index ≡ Some entry → all_desks.setup_of desks ≡ setup
+    → (went : WentOverFirst desks ledger rs index) → follows setup went.before entry ≡ false
+    → IsFirstBad setup rs index
+bad_at setup desks ledger rs index entry there same went refused =
+    let next = next_there rs went.before went.later index entry went.all went.many there in
+    record {
+      before = went.before;
+      bad = entry;
+      later = next.0;
+      all = went.all ∙ ap (λ ls. reverse went.before ++ ls) next.1;
+      many = went.many;
+      follow = subst (λ s. all_follow s went.before ≡ true) same went.over.follow;
+      refused = refused;
+    }
+
+pub desks_refuse : (desks : Desks) (ledger : Ledger) (rs : List Record) (index : ℕ) (entry : Record)
+    → slice_get rs index ≡ Some entry
+    → ((before : List Record) → Recalls desks before → all_follow (all_desks.setup_of desks) before ≡ true
+    → is_of_money entry ≡ false → false ≡ follows (all_desks.setup_of desks) before entry)
+    → (is_of_money entry ≡ true → false ≡ true)
+    → WentOverFirst desks ledger rs index → IsFirstBad (all_desks.setup_of desks) rs index
+desks_refuse desks ledger rs index entry there epochs others went =
+    bad_at (all_desks.setup_of desks) desks ledger rs index entry there refl went
+    (sym (judged (all_desks.setup_of desks) went.before entry false
+    (epochs went.before went.over.recalls went.over.follow) others))
+
+pub ledger_refuses : (desks : Desks) (ledger : Ledger) (rs : List Record) (index : ℕ) (entry : Record)
+    → slice_get rs index ≡ Some entry → ledgers.setup_of ledger ≡ all_desks.setup_of desks
+    → ((before : List Record) → Recalls desks before → all_follow (all_desks.setup_of desks) before ≡ true
+    → is_of_money entry ≡ false → true ≡ follows (all_desks.setup_of desks) before entry)
+    → ledgers.Judges ledger entry false
+    → WentOverFirst desks ledger rs index → IsFirstBad (all_desks.setup_of desks) rs index
+ledger_refuses desks ledger rs index entry there same epochs judges went =
+    let over = went.over in
+    bad_at (all_desks.setup_of desks) desks ledger rs index entry there refl went
+    (sym (judged (all_desks.setup_of desks) went.before entry true (epochs went.before over.recalls over.follow)
+    (λ _. refl)) ∙ ap (λ s. is_allowed s went.before 0 entry) (sym same) ∙ sym (judges went.before 0 over.money))
+
+-- at first, and at the end
+
+pub went_none : (desks : Desks) (ledger : Ledger) (rs : List Record) → Recalls desks []
+    → ledgers.StandsFor ledger [] 0 → WentOverFirst desks ledger rs 0
+went_none desks ledger rs recalls stands = record {
+  before = [];
+  later = rs;
+  all = refl;
+  many = refl;
+  over = record { recalls = recalls; money = stands; follow = refl };
+}
+
+none_left : (rs before later : List Record) → rs ≡ reverse before ++ later → length rs ≡ length before → later ≡ []
+none_left rs before later all many =
+    let sum : length rs ≡ length before + length later =
+    ap length all ∙ length-append (reverse before) later ∙ ap (λ n. n + length later) (length-reverse before) in
+    nil_from_length later (omega (arith, sum, many))
+
+pub went_all : (desks : Desks) (ledger : Ledger) (rs : List Record) (index : ℕ) → index ≡ length rs
+    → WentOverFirst desks ledger rs index → WentOver desks ledger (reverse rs)
+went_all desks ledger rs index many went =
+    let whole : rs ≡ reverse went.before = went.all
+    ∙ ap (λ ls. reverse went.before ++ ls) (none_left rs went.before went.later went.all (sym many ∙ went.many))
+    ∙ append-nil (reverse went.before) in
+    subst (WentOver desks ledger) (sym (ap reverse whole ∙ reverse-reverse went.before)) went.over

@@ -1,0 +1,143 @@
+-- A host that starts over records has all of a past without a job that has these records.
+use Rattle.std.proofs.Common.{◌≡◌, ◌+◌, List, [], ◌∷◌, length, refl, reverse, sym, ap, ap₂, subst, ◌∙◌}
+use Rattle.std.specs.List.{All}
+use Rattle.std.proofs.lemmas.List.Elements.{All-head, All-tail}
+use Rattle.cct_model.specs.terms.device.DeviceSetup.{DeviceSetup}
+use Rattle.cct_model.specs.terms.device.Setup.{Setup}
+use Rattle.cct_model.specs.lines.entry.Entry.{Entry}
+use Rattle.cct_model.specs.lines.record.Record.{Record}
+use Rattle.cct_model.specs.Exchange.{device_at}
+use Rattle.cct_model.specs.Job as model
+use Rattle.cct_model.specs.Money.{coins_of, hopper_value}
+use Rattle.cct_model.specs.Order.{order}
+use Rattle.cct_model.specs.Records.{epoch_in, greatest_id, order_in, records}
+use Rattle.cct_model.specs.Refusal.{running_id}
+use Rattle.cct_model.specs.Transcript.{lines_of, sale_lines, scan_lines}
+use Rattle.cct_disk.specs.declared.disk.Disk.{Ghosts}
+use Rattle.cct_disk.specs.Disk.{IsTrusted}
+use Rattle.cct_journal.specs.Journal as journals
+use Rattle.cct_journal.specs.Stands.{Stands}
+use Rattle.cct_ledger.specs.Ledger as ledgers
+use Rattle.cct_laws.specs.Recorded.{HasNoJob}
+use Rattle.cct_laws.proofs.Recorded.{epoch_recorded, order_recorded}
+use Rattle.cct_host.specs.declared.desk.JobDesk.{JobDesk}
+use Rattle.cct_host.specs.declared.desks.Desks.{Desks}
+use Rattle.cct_host.specs.declared.dues.Dues.{Dues}
+use Rattle.cct_host.specs.declared.host.Host.{Host}
+use Rattle.cct_host.specs.Desk.{AllSit, IsFree, Sits, Works, puts_at, reserved_over, sum_in}
+use Rattle.cct_host.specs.Desks as all_desks
+use Rattle.cct_host.specs.Held.{coins_by, price_by, puts_left}
+use Rattle.cct_host.specs.Host.{Keeps, StandsFor, disk_of}
+use Rattle.cct_host.specs.Place.{device, sales, scans}
+use Rattle.cct_host.specs.Recalled.{AllRecall, AreUnused, IsUnused, Recalls, RecallsAt}
+use Rattle.cct_host.specs.Starting.{StartsOver}
+use Rattle.cct_host.proofs.Turning.{no_coins}
+
+-- the desk of a device
+recalled_sits : (d : DeviceSetup) (k : JobDesk) (past : List Entry) (before : List Record)
+    → model.job (lines_of d past) ≡ model.free → records past ≡ before → IsUnused k → RecallsAt d k before
+    → Sits past (device d) k
+recalled_sits d k past before free same unused recalls = record {
+  works = subst (λ j. Works (device d) k.job j (model.epoch (lines_of d past)) (order (lines_of d past))) (sym free)
+      (subst (λ j. Works (device d) j model.free (model.epoch (lines_of d past)) (order (lines_of d past))) (sym unused)
+      tt);
+  knows = (
+    recalls.epoch_is ∙ ap (epoch_in d.addr) (sym same) ∙ sym (epoch_recorded d past),
+    recalls.order_is ∙ ap (order_in d.addr) (sym same) ∙ sym (order_recorded d past),
+    recalls.id_is ∙ sym (ap running_id free),
+  );
+}
+
+recalled_all : (ds : List DeviceSetup) (ks : List JobDesk) (past : List Entry) (before : List Record)
+    → HasNoJob past → records past ≡ before → All IsUnused ks → AllRecall ds ks before → AllSit past ds ks
+recalled_all [] [] past before none same unused recalls = tt
+recalled_all [] (k ∷ ks) past before none same unused recalls = absurd recalls
+recalled_all (d ∷ ds) [] past before none same unused recalls = absurd recalls
+recalled_all (d ∷ ds) (k ∷ ks) past before none same unused recalls = (
+  recalled_sits d k past before (none.devices d) same (All-head IsUnused k ks unused) recalls.0,
+  recalled_all ds ks past before none same (All-tail IsUnused k ks unused) recalls.1,
+)
+
+-- the desk of scans
+free_scan : (k : JobDesk) (past : List Entry) → model.job (scan_lines past) ≡ model.free → IsFree k → Sits past scans k
+free_scan k past none free = record {
+  works = subst (λ j. Works scans k.job j (model.epoch (scan_lines past)) (order (scan_lines past))) (sym none)
+      (subst (λ j. Works scans j model.free (model.epoch (scan_lines past)) (order (scan_lines past))) (sym free.0) tt);
+  knows = tt;
+}
+
+-- the desk of sales
+free_sale : (k : JobDesk) (past : List Entry) → model.job (sale_lines past) ≡ model.free → IsFree k → Sits past sales k
+free_sale k past none free = record {
+  works = subst (λ j. Works sales k.job j (model.epoch (sale_lines past)) (order (sale_lines past))) (sym none)
+      (subst (λ j. Works sales j model.free (model.epoch (sale_lines past)) (order (sale_lines past))) (sym free.0) tt);
+  knows = (
+    ap (λ (x : Dues). x.order) free.2,
+    ap (λ (x : Dues). x.id) free.2 ∙ sym (ap running_id none),
+  );
+}
+
+pub recalled_stand : (desks : Desks) (past : List Entry) (before : List Record) → HasNoJob past → records past ≡ before
+    → Recalls desks before → all_desks.StandsFor desks past
+recalled_stand desks past before none same recalls = record {
+  sound = recalls.sound;
+  devices = recalled_all _ _ past before none same recalls.unused.devices recalls.devices;
+  scan = free_scan desks.scan past none.scan recalls.unused.scan;
+  sale = free_sale desks.sale past none.sale recalls.unused.sale;
+  last = recalls.last ∙ ap greatest_id (sym same);
+}
+
+-- no job may put anything, and none reserves anything
+unused_put : (ks : List JobDesk) → All IsUnused ks → sum_in puts_at ks ≡ 0
+unused_put [] unused = refl
+unused_put (k ∷ ks) unused =
+    ap₂ (λ m n. m + n) (ap puts_left (All-head IsUnused k ks unused))
+    (unused_put ks (All-tail IsUnused k ks unused))
+
+pub nothing_put : (desks : Desks) → AreUnused desks → all_desks.puts_of desks ≡ 0
+nothing_put desks unused =
+    ap₂ (λ m n. m + n) (unused_put desks.devices.items unused.devices) (ap puts_left unused.sale.0)
+
+none_reserved : (setup : Setup) (d : DeviceSetup) (k : JobDesk) → IsUnused k
+    → coins_of setup d.addr (coins_by k.job) ≡ 0
+none_reserved setup d k unused =
+    ap (λ j. coins_of setup d.addr (coins_by j)) unused ∙ no_coins (hopper_value (device_at setup.devices d.addr))
+
+unused_reserve : (setup : Setup) (ds : List DeviceSetup) (ks : List JobDesk) → All IsUnused ks
+    → reserved_over setup ds ks ≡ 0
+unused_reserve setup [] ks unused = refl
+unused_reserve setup (d ∷ ds) [] unused = refl
+unused_reserve setup (d ∷ ds) (k ∷ ks) unused =
+    ap₂ (λ m n. m + n) (none_reserved setup d k (All-head IsUnused k ks unused))
+    (unused_reserve setup ds ks (All-tail IsUnused k ks unused))
+
+pub nothing_reserved : (desks : Desks) → AreUnused desks → all_desks.reserved_of desks ≡ 0
+nothing_reserved desks unused =
+    ap₂ (λ m n. m + n) (unused_reserve (all_desks.setup_of desks) _ _ unused.devices) (ap price_by unused.sale.0)
+
+-- at first
+pub nothing_yet : HasNoJob []
+nothing_yet = record { devices = λ d. refl; scan = refl; sale = refl }
+
+module _ {D : Type 0} {g : Ghosts D} where
+  pub started_keeps : (host : Host D g) (past : List Entry) (before : List Record) → HasNoJob past
+      → records past ≡ before → StartsOver host before → Keeps host past
+  started_keeps host past before none same starts = record {
+    desks = recalled_stand host.desks past before none same starts.over.recalls;
+    ledger = subst (ledgers.StandsFor host.ledger (records past))
+        (sym (nothing_reserved host.desks starts.over.recalls.unused))
+        (subst (λ rs. ledgers.StandsFor host.ledger rs 0) (sym same) starts.over.money);
+    used = starts.used ∙ ap length (sym same);
+  }
+
+  -- and stands for it, where its disk, if that is trusted, keeps just these records
+  pub started_stands : (host : Host D g) (past : List Entry) (before : List Record) → HasNoJob past
+      → records past ≡ before → StartsOver host before
+      → (IsTrusted g.honest g.seen (disk_of host)
+      → Stands g.honest g.seen g.may_leave (disk_of host) (journals.place_of host.journal) (reverse before))
+      → StandsFor host past
+  started_stands host past before none same starts book = record {
+    keeps = started_keeps host past before none same starts;
+    book = λ trusted. subst (λ rs. Stands g.honest g.seen g.may_leave (disk_of host)
+        (journals.place_of host.journal) (reverse rs)) (sym same) (book trusted);
+  }

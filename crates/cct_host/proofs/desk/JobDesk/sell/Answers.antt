@@ -1,0 +1,34 @@
+use Rattle.std.proofs.Common.{refl, sym, ◌∙◌}
+use Rattle.cct_model.specs.lines.command.Command.TheVariants as command
+use Rattle.cct_jobs.specs.Jobs.{order_of}
+use Rattle.cct_host.proofs.Commands.{sale_refused, sale_taken}
+use Rattle.cct_host.proofs.Holding.{sale_reserves, sale_room, sells_begun}
+use Rattle.cct_host.proofs.desk.JobDesk.sell.Goals as goal
+
+pub returns-in-Some-clause-commands : goal.returns-in-Some-clause-commands
+returns-in-Some-clause-commands c past is_last sits =
+    let desk = c.args.self.now in
+    sale_refused c.args.setup.now c.args.id c.args.price desk.job desk.epoch desk.dues c.args.last past c.in-Some.why
+    is_last (sym c.sale_refusal.ensures ∙ c.in-Some.is) sits
+
+pub returns-in-None-clause-commands : goal.returns-in-None-clause-commands
+returns-in-None-clause-commands c past is_last sits =
+    let desk = c.args.self.now in
+    sale_taken c.args.setup.now c.args.id c.args.price desk.job c.begin.result desk.epoch desk.dues _ c.args.last past
+    is_last refl refl (sym c.sale_refusal.ensures ∙ c.in-None.is)
+    (c.begin.ensures.sale c.args.id c.args.price refl) sits
+
+pub returns-in-None-clause-holds : goal.returns-in-None-clause-holds
+returns-in-None-clause-holds c =
+    let desk = c.args.self.now in
+    sale_room desk.job c.args.id c.args.last c.begin.result (order_of desk.dues.order)
+    (sym c.sale_refusal.ensures ∙ c.in-None.is) c.begin.ensures.may_put c.begin.ensures.closes
+
+pub returns-in-None-clause-reserves : goal.returns-in-None-clause-reserves
+returns-in-None-clause-reserves c =
+    sale_reserves c.args.self.now.job c.args.id c.args.last c.args.price c.begin.result
+    (sym c.sale_refusal.ensures ∙ c.in-None.is) c.begin.ensures.price
+
+pub returns-in-None-clause-sells : goal.returns-in-None-clause-sells
+returns-in-None-clause-sells c = λ sells.
+    sells_begun c.begin.result (command.Vend c.args.id c.args.price) (c.begin.ensures.sale c.args.id c.args.price refl)

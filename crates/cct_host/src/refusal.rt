@@ -1,0 +1,30 @@
+//! Why a host isn't started.
+use thiserror::Error;
+
+/// Why a host isn't started over a journal.
+#[derive(Clone, Copy, Debug, Error, PartialEq, Eq)]
+pub enum StartNo {
+    /// A call of the disk failed.
+    #[error("the disk failed")]
+    Disk,
+    /// The record of this index, the first at 0, can't be read or doesn't follow those before it.
+    #[error("record {index} of the journal can't be read or doesn't follow")]
+    BadRecord { index: u32 },
+}
+
+/// Why a host isn't started again behind a loss of power.
+#[derive(Clone, Copy, Debug, Error, PartialEq, Eq)]
+pub enum CrashNo {
+    /// A call of the disk failed.
+    #[error("the disk failed")]
+    Disk,
+    /// The disk has no journal.
+    #[error("the disk has no journal")]
+    Alien,
+    /// The record of this index, the first at 0, can't be read or doesn't follow those before it.
+    #[error("record {index} of the journal can't be read or doesn't follow")]
+    BadRecord { index: u32 },
+    /// So many records were found, and so many were put: neither these, nor these and the one of the put under way.
+    #[error("{found} records were found, and {put} were put")]
+    Lost { found: u32, put: u32 },
+}

@@ -1,0 +1,68 @@
+//! The power is lost, in the midst of a put or in none.
+ghost use Rattle.std.specs.Prelude.{◌≡◌, ◌<◌, ◌≤◌, List, IfSome, OnErr, OnOk, is_some};
+ghost use Rattle.cct_edge.specs.Faults.{HasCause, Rose};
+ghost use Rattle.cct_lines.specs.declared.record.Record.{Record};
+ghost use Rattle.cct_record.specs.Body.{Encodable};
+ghost use Rattle.cct_disk.specs.Disk.{LeavesOnly};
+ghost use Rattle.cct_journal.specs.Image.{capacity_of};
+ghost use Rattle.cct_journal.specs.Losing.{KeepsWith, LeavesBy, LeftBy};
+ghost use Rattle.cct_journal.specs.Stands.{GoesOn, Settled, Stands};
+
+use crate::place::Place;
+use crate::range::GATED_CALLS;
+use crate::slot::put_slot;
+use cct_disk::Disk;
+use cct_edge::Failed;
+use cct_lines::Record;
+
+/// Makes the first `calls` of the four disk calls of a put, where there is one.
+fn begin_put<D: Disk>(
+    disk: &mut D,
+    place: Place,
+    put: &Option<Record>,
+    calls: u8,
+) -> Result<(), Failed>
+    requires room { IfSome put.now (λ _. place.used < capacity_of (D.size disk.old)) }
+    requires few { calls ≤ GATED_CALLS }
+    requires encodable { IfSome put.now Encodable }
+    ensures moments { (records : List Record) → Stands D.honest D.seen D.may_leave disk.old place records
+        → LeavesOnly D.moment D.left_since disk.old disk.new (KeepsWith put.now records) }
+    ensures left { OnOk result ((records : List Record) → Stands D.honest D.seen D.may_leave disk.old place records
+        → LeavesBy D.honest D.seen D.may_leave disk.new calls put.now records) }
+    ensures goes_on { GoesOn D.size D.honest D.seen D.cuts disk.old disk.new }
+    ensures cause { HasCause (D.faults disk.old) (D.faults disk.new) result }
+{
+    let mut place = place;
+    match put {
+        None => Ok(()),
+        Some(entry) => put_slot(disk, &mut place, entry, calls),
+    }
+}
+
+/// Loses the power behind the first `calls` of the four disk calls of a put, or in no put.
+pub(crate) fn lose<D: Disk>(
+    disk: &mut D,
+    place: Place,
+    put: &Option<Record>,
+    calls: u8,
+    choice: u64,
+) -> Result<(), Failed>
+    requires room { IfSome put.now (λ _. place.used < capacity_of (D.size disk.old)) }
+    requires few { calls ≤ GATED_CALLS }
+    requires encodable { IfSome put.now Encodable }
+    ensures moments { (records : List Record) → Stands D.honest D.seen D.may_leave disk.old place records
+        → LeavesOnly D.moment D.left_since disk.old disk.new (KeepsWith put.now records) }
+    ensures left { OnOk result ((records : List Record) → Stands D.honest D.seen D.may_leave disk.old place records
+        → (left : List Record) × LeftBy calls put.now records left
+        × Settled D.honest D.seen D.may_leave disk.new left) }
+    ensures cut { OnOk result (Rose (D.cuts disk.old) (D.cuts disk.new)) }
+    ensures cuts { D.cuts disk.old ≤ D.cuts disk.new }
+    ensures size { D.size disk.new ≡ D.size disk.old }
+    ensures honest { D.honest disk.new ≡ D.honest disk.old }
+    ensures tells { is_some (D.seen disk.new) ≡ is_some (D.seen disk.old) }
+    ensures cause { HasCause (D.faults disk.old) (D.faults disk.new) result }
+{
+    begin_put(disk, place, put, calls)?;
+    disk.power_cut(choice)?;
+    Ok(())
+}

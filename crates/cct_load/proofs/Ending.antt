@@ -1,0 +1,124 @@
+-- What the playing of a load leaves, by how it came to its end.
+use Rattle.std.proofs.Common.{◌≡◌, ◌+◌, ◌*◌, List, [], ◌∷◌, ◌++◌, reverse, refl, sym, ap, ◌∙◌, subst, inl, inr}
+use Rattle.std.proofs.lemmas.List.{append-nil}
+use Rattle.cct_model.specs.lines.command.Step.{Step}
+use Rattle.cct_model.specs.lines.entry.Entry.{Entry}
+use Rattle.cct_model.specs.lines.entry.Entry.TheVariants as entry
+use Rattle.cct_model.specs.lines.entry.Totals.{Totals}
+use Rattle.cct_model.specs.Money.{totals}
+use Rattle.cct_model.specs.Records.{records}
+use Rattle.cct_model.specs.Transcript.{onto}
+use Rattle.cct_disk.specs.declared.disk.Disk.{Ghosts}
+use Rattle.cct_disk.specs.Disk.{IsTrusted}
+use Rattle.cct_journal.specs.Stands.{Leaves, Outlasts}
+use Rattle.cct_journal.proofs.Calls.{settled_leaves, stands_settled}
+use Rattle.cct_world.specs.declared.refusal.WorldNo.{WorldNo}
+use Rattle.cct_world.specs.declared.world.World.{World}
+use Rattle.cct_world.specs.Step.{RoseBy, crashes}
+use Rattle.cct_world.specs.World.{StandsFor, disk_of, setup_of}
+use Rattle.cct_world.proofs.Lasting.{trusted_on}
+use Rattle.cct_world.proofs.Told.{rose_none}
+use Rattle.cct_gen.specs.Load.{line_at, lines_before, load_setup, load_steps}
+use Rattle.cct_load.specs.declared.load.Load.{Load}
+use Rattle.cct_load.specs.declared.load.LoadEnd.{LoadEnd}
+use Rattle.cct_load.specs.declared.load.LoadEnd.TheVariants as load_end
+use Rattle.cct_load.specs.declared.sums.LoadSums.{LoadSums}
+use Rattle.cct_load.specs.Sums.{sums_of}
+use Rattle.cct_load.specs.Played.{Became, Book, Ends, HasTrusted, PlayedLines, PlaysLoad, StoppedWithin, Told}
+use Rattle.cct_load.specs.Played.{first_line}
+use Rattle.cct_load.proofs.Lines.{lines_behind}
+
+module _ {D : Type 0} {g : Ghosts D} where
+  -- the disk of a world that stands for a past has its records
+  world_leaves : (world : World D g) (left : D) (past : List Entry) → left ≡ disk_of world → StandsFor world past
+      → IsTrusted g.honest g.seen (disk_of world)
+      → Leaves g.honest g.seen g.may_leave left (reverse (records past))
+  world_leaves world left past is stands trusted =
+      subst (λ disk. Leaves g.honest g.seen g.may_leave disk (reverse (records past))) (sym is)
+      (settled_leaves (stands_settled (stands.host.book trusted)))
+
+module _ {D : Type 0} {g : Ghosts D} (world : World D g) (load : Load) (left : D) (Written : List Entry → Type 0)
+    (Breaks : List Entry → List Entry → Type 0) where
+  -- no step was played, since the first line wasn't written whole
+  pub broke_first : StandsFor world [] → left ≡ disk_of world → Breaks [] (first_line load ∷ [])
+      → PlaysLoad world load load_end.Unwritten left Written Breaks
+  broke_first fresh is breaks = record {
+    played = [];
+    unplayed = load_steps load.seed load.rounds;
+    transcript = [];
+    steps_are = refl;
+    legal = λ relies. refl;
+    losses = refl;
+    ends = inl (refl, breaks);
+    book = λ trusted. world_leaves world left [] is fresh trusted;
+    cut = subst (λ disk. RoseBy 0 (g.cuts (disk_of world)) (g.cuts disk)) (sym is)
+        (rose_none 0 (g.cuts (disk_of world)) refl);
+    uncut = λ none quiet. ap g.cuts is;
+  }
+
+  -- a step wasn't played
+  pub stopped_in : (why : WorldNo) → StoppedWithin world load.seed (5 + 18 * load.rounds) left why
+      → Written (first_line load ∷ []) → PlaysLoad world load (load_end.Unplayed why) left Written Breaks
+  stopped_in why within wrote =
+      let n = within.0 in
+      let lines = within.2 in
+      let behind = lines_behind load.seed n (5 + 18 * load.rounds) within.1 in
+      record {
+        played = lines_before load.seed n;
+        unplayed = line_at load.seed n ∷ behind.0;
+        transcript = lines.transcript;
+        steps_are = behind.1;
+        legal = lines.legal;
+        losses = lines.losses;
+        ends = (lines.holds.fails, wrote);
+        book = lines.holds.book;
+        cut = lines.holds.cut;
+        uncut = lines.holds.uncut;
+      }
+
+  -- all steps were played
+  module _ (next : World D g) (sums : LoadSums) (told : Totals) (same : setup_of next ≡ load_setup)
+      (tells : (past : List Entry) → StandsFor next past → told ≡ totals (setup_of next) past)
+      (lasts : Outlasts g.size g.honest g.seen g.cuts (disk_of world) (disk_of next)) (is : left ≡ disk_of next)
+      (lines : PlayedLines world load.seed (5 + 18 * load.rounds)
+      (Became world next sums load.seed (5 + 18 * load.rounds))) where
+    abbrev steps : List Step
+    steps = load_steps load.seed load.rounds
+
+    abbrev past : List Entry
+    past = onto [] lines.transcript
+
+    ends_by : (how : LoadEnd) → Ends world load how steps [] past Written Breaks
+        → (HasTrusted world → Book world left how [] past) → PlaysLoad world load how left Written Breaks
+    ends_by how ends book = record {
+      played = steps;
+      unplayed = [];
+      transcript = lines.transcript;
+      steps_are = sym (append-nil steps);
+      legal = lines.legal;
+      losses = lines.losses;
+      ends = ends;
+      book = book;
+      cut = subst (λ disk. RoseBy (crashes past) (g.cuts (disk_of world)) (g.cuts disk)) (sym is) lines.holds.cut;
+      uncut = λ none quiet. ap g.cuts is ∙ lines.holds.uncut none;
+    }
+
+    leaves_all : HasTrusted world → Leaves g.honest g.seen g.may_leave left (reverse (records past))
+    leaves_all trusted =
+        world_leaves next left past is (lines.holds.stands (inl trusted))
+        (trusted_on g.size g.honest g.seen g.cuts (disk_of world) (disk_of next) lasts trusted)
+
+    tells_all : (Wrote : List Entry → Type 0) → Wrote (sums_of steps past ++ entry.Balance told ∷ [])
+        → Told world steps past Wrote
+    tells_all Wrote wrote =
+        (told, λ relies. tells past (lines.holds.stands relies) ∙ ap (λ setup. totals setup past) same, wrote)
+
+    pub done : Written (first_line load ∷ (sums_of steps past ++ entry.Balance told ∷ []))
+        → PlaysLoad world load load_end.Done left Written Breaks
+    done wrote =
+        ends_by load_end.Done (refl, tells_all (λ entries. Written (first_line load ∷ entries)) wrote) leaves_all
+
+    pub broke_last : Breaks (first_line load ∷ []) (sums_of steps past ++ entry.Balance told ∷ [])
+        → PlaysLoad world load load_end.Unwritten left Written Breaks
+    broke_last broke =
+        ends_by load_end.Unwritten (inr (refl, tells_all (Breaks (first_line load ∷ [])) broke)) leaves_all

@@ -1,0 +1,204 @@
+-- What the playing of a load keeps from line to line, and what it leaves where it stops.
+use Rattle.std.proofs.Common.{◌≡◌, ◌≤◌, ◌<◌, ◌+◌, ℕ, List, [], ◌∷◌, ◌++◌, reverse, Some, refl, sym, ap, ◌∙◌, subst}
+use Rattle.std.proofs.Common.{inl, arith, add-one}
+use Rattle.cct_model.specs.lines.command.Step.{Step}
+use Rattle.cct_model.specs.lines.command.Step.TheVariants as step
+use Rattle.cct_model.specs.lines.entry.Entry.{Entry}
+use Rattle.cct_model.specs.Legal.{Entries, Legal, due_at}
+use Rattle.cct_model.specs.Records.{records}
+use Rattle.cct_model.specs.Transcript.{onto}
+use Rattle.cct_disk.specs.declared.disk.Disk.{Ghosts}
+use Rattle.cct_disk.specs.Disk.{IsTrusted}
+use Rattle.cct_journal.specs.Image.{capacity_of}
+use Rattle.cct_journal.specs.Losing.{LeavesWith}
+use Rattle.cct_journal.specs.Stands.{Outlasts}
+use Rattle.cct_laws.specs.Restart.{due_in}
+use Rattle.cct_laws.proofs.Onto.{legal_more, transcript_on}
+use Rattle.cct_world.specs.declared.refusal.WorldNo.{WorldNo}
+use Rattle.cct_world.specs.declared.refusal.WorldNo.TheVariants as world_no
+use Rattle.cct_world.specs.declared.world.World.{World}
+use Rattle.cct_world.specs.Machine.{FailsIn, LosesIn, StepSuits}
+use Rattle.cct_world.specs.Step.{LastsIn, RoseBy, crashes, crashes_of}
+use Rattle.cct_world.specs.Sure.{IsCrash, MayFail, due_to, losses_in}
+use Rattle.cct_world.specs.World.{Breaks, Plays, StandsFor, capacity_in, disk_of, setup_of}
+use Rattle.cct_world.proofs.Lasting.{lasts_here, lasts_in, lasts_then, trusted_on, uncut_in}
+use Rattle.cct_world.proofs.Suiting.{legal_suits}
+use Rattle.cct_world.proofs.Sure.{crashes_none, cut_on, losses_more, sure_back, sure_survives, uncut_on}
+use Rattle.cct_world.proofs.Told.{rose_none}
+use Rattle.cct_gen.specs.Load.{line_at, lines_before, load_setup}
+use Rattle.cct_gen.proofs.LoadSetup.{setup_sound}
+use Rattle.cct_gen.proofs.Lines.{lines_in_range, one_line_more}
+use Rattle.cct_load.specs.declared.sums.LoadSums.{LoadSums}
+use Rattle.cct_load.specs.Sums.{SumsUp}
+use Rattle.cct_load.specs.Played.{Became, FailsAt, HasTrusted, LeftAt, PlayedLines, Relies, Stopped, StoppedWithin}
+
+-- a count that rose by so many doesn't fall
+rose_later : (many first now last : ℕ) → RoseBy many first now → now ≤ last → RoseBy many first last
+rose_later many first now last rose later = omega (arith, rose, later)
+
+module _ {D : Type 0} {g : Ghosts D} (world : World D g) where
+  -- What the loop over the lines of a load keeps: so many of them were played, the world became this one, and its disk
+  -- outlasts the first one.
+  pub record Goes (now : World D g) (sums : LoadSums) (seed n : ℕ) : Type 0 where
+    pub lines : PlayedLines world seed n (Became world now sums seed n)
+    pub setup : setup_of now ≡ load_setup
+    pub lasts : Outlasts g.size g.honest g.seen g.cuts (disk_of world) (disk_of now)
+    pub later : g.faults (disk_of world) ≤ g.faults (disk_of now)
+
+  pub goes_begin : (sums : LoadSums) (seed : ℕ) → StandsFor world [] → SumsUp sums [] [] → setup_of world ≡ load_setup
+      → Goes world sums seed 0
+  unfolding lines_before
+  goes_begin sums seed fresh counted setup = record {
+    lines = record {
+      transcript = [];
+      legal = λ relies. refl;
+      losses = refl;
+      holds = record { stands = λ relies. fresh; counted = counted; cut = rose_none 0 _ refl; uncut = λ none. refl };
+    };
+    setup = setup;
+    lasts = lasts_here g.size g.honest g.seen g.cuts (disk_of world);
+    later = omega arith;
+  }
+
+  -- what a step takes for granted of the past is so after the lines before it
+  suits : (now : World D g) (sums : LoadSums) (seed n : ℕ) → (goes : Goes now sums seed n)
+      → Relies world (onto [] goes.lines.transcript) → (s : Step)
+      → StepSuits (setup_of now) (onto [] goes.lines.transcript) s
+  suits now sums seed n goes relies s =
+      subst (λ setup. StepSuits setup (onto [] goes.lines.transcript) s) (sym goes.setup)
+      (legal_suits (capacity_in world) load_setup (lines_before seed n) goes.lines.transcript s setup_sound
+      (lines_in_range seed n) (goes.lines.legal relies))
+
+  -- the entries of the step that comes next, and that the world goes on by them
+  next_goes : (now next : World D g) (sums : LoadSums) (seed n : ℕ) (s : Step) (report : List Entry)
+      → (goes : Goes now sums seed n) → Plays now next s report → crashes (reverse report) ≡ crashes_of s
+      → Relies world (reverse report ++ onto [] goes.lines.transcript)
+      → Entries (capacity_in world) load_setup (onto [] goes.lines.transcript) s (reverse report)
+      × StandsFor next (reverse report ++ onto [] goes.lines.transcript)
+  next_goes now next sums seed n s report goes plays told relies =
+      let past = onto [] goes.lines.transcript in
+      let news = reverse report in
+      let here = sure_back (HasTrusted world) news past relies in
+      let survives =
+      sure_survives (HasTrusted world) (HasTrusted now)
+      (trusted_on g.size g.honest g.seen g.cuts (disk_of world) (disk_of now) goes.lasts) news past s told relies in
+      let goes_so = plays past (goes.lines.holds.stands here) (suits now sums seed n goes here s) survives in
+      let by_setup : Entries (capacity_in now) load_setup past s news =
+      subst (λ setup. Entries (capacity_in now) setup past s news) goes.setup goes_so.0 in
+      (subst (λ size. Entries (capacity_of size) load_setup past s news) goes.lasts.same_size by_setup, goes_so.1)
+
+  -- one line more
+  pub goes_on : (now next : World D g) (sums sums1 : LoadSums) (seed n : ℕ) (s : Step) (report : List Entry)
+      → s ≡ line_at seed n → Goes now sums seed n → Plays now next s report
+      → crashes (reverse report) ≡ crashes_of s
+      → RoseBy (crashes_of s) (g.cuts (disk_of now)) (g.cuts (disk_of next))
+      → setup_of next ≡ setup_of now
+      → LastsIn s g.size g.honest g.seen g.cuts (disk_of now) (disk_of next)
+      → g.faults (disk_of now) ≤ g.faults (disk_of next)
+      → ((played : List Step) (past : List Entry) (s : Step) → SumsUp sums played past
+      → SumsUp sums1 (played ++ s ∷ []) (reverse report ++ past))
+      → Goes next sums1 seed (n + 1)
+  goes_on now next sums sums1 seed n s report is goes plays told cut same lasts later counts =
+      let t = goes.lines.transcript in
+      let past = onto [] t in
+      let news = reverse report in
+      let before = goes.lines.holds in
+      let on : onto [] (t ++ report) ≡ news ++ past = transcript_on t report in
+      let more : lines_before seed (n + 1) ≡ lines_before seed n ++ s ∷ [] =
+      rw (is, add-one) (one_line_more seed n) in
+      let entries = next_goes now next sums seed n s report goes plays told in
+      record {
+        lines = record {
+          transcript = t ++ report;
+          legal = λ relies. let here = subst (Relies world) on relies in
+              subst (λ steps. Legal (capacity_in world) load_setup steps (t ++ report)) (sym more)
+              (legal_more (capacity_in world) load_setup (lines_before seed n) t report s
+              (goes.lines.legal (sure_back (HasTrusted world) news past here)) (entries here).0);
+          losses = ap crashes on ∙ losses_more (lines_before seed n) news past s goes.lines.losses told
+              ∙ ap losses_in (sym more);
+          holds = subst (Became world next sums1 seed (n + 1)) (sym on) (record {
+            stands = λ relies. (entries relies).1;
+            counted = subst (λ steps. SumsUp sums1 steps (news ++ past)) (sym more)
+                (counts (lines_before seed n) past s before.counted);
+            cut = cut_on news past (g.cuts (disk_of world)) (g.cuts (disk_of now)) (g.cuts (disk_of next))
+                (crashes_of s) before.cut told cut;
+            uncut = uncut_on news past (g.cuts (disk_of world)) (g.cuts (disk_of now)) (g.cuts (disk_of next))
+                (crashes_of s) before.uncut told
+                (uncut_in g.size g.honest g.seen g.cuts s (disk_of now) (disk_of next) lasts);
+          });
+        };
+        setup = same ∙ goes.setup;
+        lasts = lasts_then g.size g.honest g.seen g.cuts (disk_of world) (disk_of now) (disk_of next) goes.lasts
+            (lasts_in g.size g.honest g.seen g.cuts s (disk_of now) (disk_of next) lasts);
+        later = omega (arith, goes.later, later);
+      }
+
+  -- why a step isn't played
+  module _ (now : World D g) (left : D) (past : List Entry) (same : setup_of now ≡ load_setup)
+      (stands : Relies world past → StandsFor now past) where
+    disk_fails : (s : Step) → FailsIn now.machine.value left s → MayFail (Relies world past) load_setup past s
+    disk_fails (step.Next addr) breaks = λ relies.
+        let due = breaks past (stands relies) in
+        (due.0, subst (λ setup. due_at setup past addr ≡ Some due.0) same due.1.0)
+    disk_fails (step.Crash at choice) breaks = tt
+    disk_fails s breaks = absurd breaks
+
+    is_lost : (s : Step) → LosesIn now.machine.value s → IsCrash s
+    is_lost (step.Crash at choice) breaks = tt
+    is_lost s breaks = absurd breaks
+
+    fails_at : (why : WorldNo) (s : Step) → Breaks now left why s → FailsAt world why past s
+    fails_at world_no.Disk s breaks = disk_fails s breaks
+    fails_at why s breaks = is_lost s breaks
+
+    disk_leaves : (s : Step) → HasTrusted world → IsTrusted g.honest g.seen (disk_of now)
+        → FailsIn now.machine.value left s
+        → LeavesWith g.honest g.seen g.may_leave left (due_to load_setup past s) (reverse (records past))
+    disk_leaves (step.Next addr) given trusted breaks =
+        let due = breaks past (stands (inl given)) in
+        let is : due_at load_setup past addr ≡ Some due.0 =
+        subst (λ setup. due_at setup past addr ≡ Some due.0) same due.1.0 in
+        subst (λ r. LeavesWith g.honest g.seen g.may_leave left r (reverse (records past))) (sym is) (due.1.1 trusted)
+    disk_leaves (step.Crash at choice) given trusted breaks =
+        subst (λ setup. LeavesWith g.honest g.seen g.may_leave left (due_in setup past at) (reverse (records past)))
+        same (breaks past (stands (inl given)) trusted)
+    disk_leaves s given trusted breaks = absurd breaks
+
+    never_lost : (s : Step) → HasTrusted world → IsTrusted g.honest g.seen (disk_of now)
+        → StepSuits (setup_of now) past s → LosesIn now.machine.value s → ⊥
+    never_lost (step.Crash at choice) given trusted here breaks = breaks past (stands (inl given)) here trusted
+    never_lost s given trusted here breaks = breaks
+
+    left_at : (why : WorldNo) (s : Step) → HasTrusted world → IsTrusted g.honest g.seen (disk_of now)
+        → StepSuits (setup_of now) past s → Breaks now left why s → LeftAt world left why past s
+    left_at world_no.Disk s given trusted here breaks = disk_leaves s given trusted breaks
+    left_at why s given trusted here breaks = never_lost s given trusted here breaks
+
+  -- a line wasn't played
+  pub goes_stops : (now : World D g) (left : D) (why : WorldNo) (sums : LoadSums) (seed n lines : ℕ) (s : Step)
+      → n < lines → s ≡ line_at seed n → Goes now sums seed n → Breaks now left why s
+      → LastsIn s g.size g.honest g.seen g.cuts (disk_of now) left
+      → StoppedWithin world seed lines left why
+  goes_stops now left why sums seed n lines s within is goes breaks lasts =
+      let past = onto [] goes.lines.transcript in
+      let before = goes.lines.holds in
+      let outlasts = lasts_in g.size g.honest g.seen g.cuts s (disk_of now) left lasts in (
+        n,
+        within,
+        record {
+          transcript = goes.lines.transcript;
+          legal = goes.lines.legal;
+          losses = goes.lines.losses;
+          holds = subst (λ x. Stopped world left why x past) is (record {
+            fails = fails_at now left past goes.setup before.stands why s breaks;
+            book = λ given. left_at now left past goes.setup before.stands why s given
+                (trusted_on g.size g.honest g.seen g.cuts (disk_of world) (disk_of now) goes.lasts given)
+                (suits now sums seed n goes (inl given) s) breaks;
+            cut = rose_later (crashes past) (g.cuts (disk_of world)) (g.cuts (disk_of now)) (g.cuts left) before.cut
+                outlasts.later_cuts;
+            uncut = λ none quiet.
+                uncut_in g.size g.honest g.seen g.cuts s (disk_of now) left lasts (crashes_none s quiet)
+                ∙ before.uncut none;
+          });
+        },
+      )

@@ -1,0 +1,126 @@
+-- What the playing of a load leaves: what was played and written, and what is on the disk, by how it came to its end.
+use Rattle.std.specs.Prelude.{◌≡◌, ◌⊎◌, ℕ, ◌<◌, List, [], ◌∷◌, ◌++◌, None, reverse}
+use Rattle.cct_model.specs.lines.command.Step.{Step}
+use Rattle.cct_model.specs.lines.entry.Entry.{Entry}
+use Rattle.cct_model.specs.lines.entry.Entry.TheVariants as entry
+use Rattle.cct_model.specs.lines.entry.Totals.{Totals}
+use Rattle.cct_model.specs.Legal.{Legal}
+use Rattle.cct_model.specs.Money.{totals}
+use Rattle.cct_model.specs.Records.{records}
+use Rattle.cct_model.specs.Transcript.{onto}
+use Rattle.cct_disk.specs.declared.disk.Disk.{Ghosts}
+use Rattle.cct_disk.specs.Disk.{IsTrusted}
+use Rattle.cct_journal.specs.Losing.{LeavesWith}
+use Rattle.cct_world.specs.declared.refusal.WorldNo.{WorldNo}
+use Rattle.cct_world.specs.declared.refusal.WorldNo.TheVariants as world_no
+use Rattle.cct_world.specs.declared.world.World.{World}
+use Rattle.cct_world.specs.Step.{RoseBy, crashes}
+use Rattle.cct_world.specs.Sure.{First, IsCrash, MayFail, Sure, due_to, losses_in}
+use Rattle.cct_world.specs.World.{StandsFor, capacity_in, disk_of}
+use Rattle.cct_gen.specs.Load.{line_at, lines_before, load_setup, load_steps}
+use Rattle.cct_load.specs.declared.load.Load.{Load}
+use Rattle.cct_load.specs.declared.load.LoadEnd.{LoadEnd}
+use Rattle.cct_load.specs.declared.load.LoadEnd.TheVariants as load_end
+use Rattle.cct_load.specs.declared.sums.LoadSums.{LoadSums}
+use Rattle.cct_load.specs.Sums.{SumsUp, sums_of}
+
+-- What is written before the first step.
+abbrev pub first_line : Load → Entry
+first_line load = entry.Load load.seed load.rounds
+
+module _ {D : Type 0} {g : Ghosts D} (world : World D g) where
+  -- The disk of the world is trusted.
+  abbrev pub HasTrusted : Type 0
+  HasTrusted = IsTrusted g.honest g.seen (disk_of world)
+
+  -- A past may be relied on: the disk was trusted, or no loss of power is told.
+  abbrev pub Relies : List Entry → Type 0
+  Relies past = Sure HasTrusted past
+
+  -- So many lines of a load were played on the world, from the first on: the entries of the transcript are those of the
+  -- steps, where its past may be relied on; it tells as many losses of power as the steps are; and this holds of its
+  -- past.
+  pub record PlayedLines (seed n : ℕ) (Holds : List Entry → Type 0) : Type 0 where
+    pub transcript : List Entry
+    pub legal : Relies (onto [] transcript) → Legal (capacity_in world) load_setup (lines_before seed n) transcript
+    pub losses : crashes (onto [] transcript) ≡ losses_in (lines_before seed n)
+    pub holds : Holds (onto [] transcript)
+
+  -- What is so after a past, where so many lines of a load were played and the world became another: that one stands
+  -- for the past, where it may be relied on; the sums are those of the steps and of the past; and the power of the disk
+  -- was cut as often as the past tells, and never where that tells no loss of power.
+  pub record Became (next : World D g) (sums : LoadSums) (seed n : ℕ) (past : List Entry) : Type 0 where
+    pub stands : Relies past → StandsFor next past
+    pub counted : SumsUp sums (lines_before seed n) past
+    pub cut : RoseBy (crashes past) (g.cuts (disk_of world)) (g.cuts (disk_of next))
+    pub uncut : crashes past ≡ 0 → g.cuts (disk_of next) ≡ g.cuts (disk_of world)
+
+  -- Why the step behind a past wasn't played: the disk failed in a `next` that was about to put a record, or in a loss
+  -- of power; or the disk isn't the one that it was, which comes in a loss of power alone.
+  abbrev pub FailsAt : WorldNo → List Entry → Step → Type 0
+  FailsAt world_no.Disk past s = MayFail (Relies past) load_setup past s
+  FailsAt why past s = IsCrash s
+
+  -- What a loss of power may leave on this disk, where the step behind a past wasn't played: each image stands for the
+  -- records of the past, or, where a record was due, for these or for these and that record. Any reason but that the
+  -- disk failed never comes on a trusted disk.
+  abbrev pub LeftAt : D → WorldNo → List Entry → Step → Type 0
+  LeftAt left world_no.Disk past s =
+      LeavesWith g.honest g.seen g.may_leave left (due_to load_setup past s) (reverse (records past))
+  LeftAt left why past s = ⊥
+
+  -- The step behind a past wasn't played, for this reason, and this disk is left.
+  pub record Stopped (left : D) (why : WorldNo) (s : Step) (past : List Entry) : Type 0 where
+    pub fails : FailsAt why past s
+    pub book : HasTrusted → LeftAt left why past s
+    pub cut : RoseBy (crashes past) (g.cuts (disk_of world)) (g.cuts left)
+    pub uncut : crashes past ≡ 0 → (IsCrash s → ⊥) → g.cuts left ≡ g.cuts (disk_of world)
+
+  -- One of so many lines of a load wasn't played, for this reason, and all lines before were; this disk is left.
+  abbrev pub StoppedWithin : ℕ → ℕ → D → WorldNo → Type 0
+  StoppedWithin seed lines left why =
+      (n : ℕ) × (n < lines) × PlayedLines seed n (Stopped left why (line_at seed n))
+
+  -- This holds of what is written behind the steps: their sums, and what is told that the operator has, which is so
+  -- where the past may be relied on.
+  abbrev pub Told : List Step → List Entry → (List Entry → Type 0) → Type 0
+  Told played past Wrote =
+      (told : Totals) × (Relies past → told ≡ totals load_setup past)
+      × Wrote (sums_of played past ++ entry.Balance told ∷ [])
+
+  -- What is written of a load, by how it ended: its first line, and what stands behind its steps, where all of them
+  -- were played; where a put failed, a front of the first line, before any step was played, or that line and a front of
+  -- what stands behind all steps; and the first line alone where a step wasn't played.
+  abbrev pub Ends : Load → LoadEnd → List Step → List Step → List Entry → (List Entry → Type 0)
+      → (List Entry → List Entry → Type 0) → Type 0
+  Ends load load_end.Done played unplayed past Written Breaks =
+      (unplayed ≡ []) × Told played past (λ sums. Written (first_line load ∷ sums))
+  Ends load load_end.Unwritten played unplayed past Written Breaks =
+      ((played ≡ []) × Breaks [] (first_line load ∷ []))
+      ⊎ ((unplayed ≡ []) × Told played past (Breaks (first_line load ∷ [])))
+  Ends load (load_end.Unplayed why) played unplayed past Written Breaks =
+      First (FailsAt why past) unplayed × Written (first_line load ∷ [])
+
+  -- What a loss of power may leave on this disk, by how a load ended.
+  abbrev pub Book : D → LoadEnd → List Step → List Entry → Type 0
+  Book left (load_end.Unplayed why) unplayed past = First (LeftAt left why past) unplayed
+  Book left how unplayed past = LeavesWith g.honest g.seen g.may_leave left None (reverse (records past))
+
+  -- A load was played on the world, ended so, and left this disk: the steps that were played and those that weren't;
+  -- the transcript, whose entries are those of the steps, where its past may be relied on; what was written, where
+  -- `Written` holds of entries that were written whole, and `Breaks` where a put failed in the second list; and what
+  -- the disk keeps where it was trusted. Its power was cut as often as the transcript tells, and never where that tells
+  -- no loss of power and the first step that wasn't played is none.
+  pub record PlaysLoad (load : Load) (how : LoadEnd) (left : D) (Written : List Entry → Type 0)
+      (Breaks : List Entry → List Entry → Type 0) : Type 0 where
+    pub played : List Step
+    pub unplayed : List Step
+    pub transcript : List Entry
+    pub steps_are : load_steps load.seed load.rounds ≡ played ++ unplayed
+    pub legal : Relies (onto [] transcript) → Legal (capacity_in world) load_setup played transcript
+    pub losses : crashes (onto [] transcript) ≡ losses_in played
+    pub ends : Ends load how played unplayed (onto [] transcript) Written Breaks
+    pub book : HasTrusted → Book left how unplayed (onto [] transcript)
+    pub cut : RoseBy (crashes (onto [] transcript)) (g.cuts (disk_of world)) (g.cuts left)
+    pub uncut : crashes (onto [] transcript) ≡ 0 → (First IsCrash unplayed → ⊥)
+        → g.cuts left ≡ g.cuts (disk_of world)

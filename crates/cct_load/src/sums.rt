@@ -1,0 +1,121 @@
+//! What a load's transcript sums up to.
+ghost use Rattle.std.specs.Prelude.{◌≡◌, ◌+◌, ◌*◌, ◌^◌, ◌<◌, ◌≤◌, List, [], ◌∷◌, ◌++◌, length, reverse};
+ghost use Rattle.cct_model.specs.lines.command.Step.{Step};
+ghost use Rattle.cct_model.specs.lines.entry.Entry.{Entry};
+ghost use Rattle.cct_model.specs.lines.entry.Entry.TheVariants.{Sum};
+ghost use Rattle.cct_model.specs.lines.record.Record.{Record};
+
+use arrayvec::ArrayVec;
+use cct_model::{Entry, Record, SumOf};
+
+/// Sums over a transcript: steps, coins accepted, coins posted, events lost, coins that fell, and orders closed.
+///
+/// A step has eight entries at the most, and an entry adds fewer than 512 to all sums together, so the number of the
+/// steps bounds each of them.
+#[derive(Clone, Copy, Debug)]
+pub struct LoadSums {
+    steps: u64,
+    accepted: u64,
+    posted: u64,
+    lost: u64,
+    fell: u64,
+    closed: u64,
+    ghost few: { accepted + posted + lost + fell + closed ≤ 4096 * steps },
+}
+
+impl LoadSums {
+    ghost use Rattle.cct_load.specs.Sums.{Counts, SumsUp, coins_posted, events_lost, orders_closed, sums_of, together};
+
+    /// The sums before the first step.
+    pub fn new() -> Self
+        ensures { SumsUp result [] [] }
+    {
+        LoadSums {
+            steps: 0,
+            accepted: 0,
+            posted: 0,
+            lost: 0,
+            fell: 0,
+            closed: 0,
+        }
+    }
+
+    /// One step more, with these entries, the oldest first. Fewer than 2^32 steps may have been added before.
+    pub fn add_step(&mut self, report: &[Entry])
+        requires steps { self.old.steps < 2 ^ 32 }
+        requires entries { length report.now ≤ 8 }
+        ensures { (played : List Step) (past : List Entry) (step : Step) → SumsUp self.old played past
+            → SumsUp self.new (played ++ step ∷ []) (reverse report.now ++ past) }
+    {
+        self.steps += 1;
+        for entry in report {
+            self.add(entry);
+        }
+    }
+
+    /// One entry more.
+    fn add(&mut self, entry: &Entry)
+        requires few { together self.old + 512 ≤ 4096 * self.old.steps }
+        requires steps { self.old.steps ≤ 2 ^ 32 }
+        ensures counts { (past : List Entry) → Counts self.old past → Counts self.new (entry.now ∷ past) }
+        ensures steps { self.new.steps ≡ self.old.steps }
+        ensures few { together self.new ≤ together self.old + 512 }
+    {
+        match entry {
+            Entry::Accepted { .. } => self.accepted += 1,
+            Entry::Fell { .. } => self.fell += 1,
+            Entry::Put(entry) => self.add_record(entry),
+            Entry::Kept(entry) => self.add_record(entry),
+            _ => {}
+        }
+    }
+
+    /// One record more.
+    fn add_record(&mut self, entry: &Record)
+        requires few { together self.old + 512 ≤ 4096 * self.old.steps }
+        requires steps { self.old.steps ≤ 2 ^ 32 }
+        ensures posted { (before : List Record) → self.old.posted ≡ coins_posted before
+            → self.new.posted ≡ coins_posted (entry.now ∷ before) }
+        ensures lost { (before : List Record) → self.old.lost ≡ events_lost before
+            → self.new.lost ≡ events_lost (entry.now ∷ before) }
+        ensures closed { (before : List Record) → self.old.closed ≡ orders_closed before
+            → self.new.closed ≡ orders_closed (entry.now ∷ before) }
+        ensures accepted { self.new.accepted ≡ self.old.accepted }
+        ensures fell { self.new.fell ≡ self.old.fell }
+        ensures steps { self.new.steps ≡ self.old.steps }
+        ensures few { together self.new ≤ together self.old + 512 }
+    {
+        match entry {
+            Record::Reading { lost, posted, .. } => {
+                self.posted += posted.as_slice().len() as u64;
+                self.lost += u64::from(*lost);
+            }
+            Record::Broken { posted, .. } => self.posted += posted.as_slice().len() as u64,
+            Record::Closed { .. } => self.closed += 1,
+            _ => {}
+        }
+    }
+
+    /// The entries of the sums, in their order.
+    pub fn told(&self) -> ArrayVec<Entry, 8>
+        ensures sums { (played : List Step) (past : List Entry) → SumsUp self.now played past
+            → result.items ≡ sums_of played past }
+        ensures six { length result.items ≡ 6 }
+    {
+        let mut told = ArrayVec::new();
+        told.push(sum(SumOf::Steps, self.steps));
+        told.push(sum(SumOf::Accepted, self.accepted));
+        told.push(sum(SumOf::Posted, self.posted));
+        told.push(sum(SumOf::Lost, self.lost));
+        told.push(sum(SumOf::Fell, self.fell));
+        told.push(sum(SumOf::Closed, self.closed));
+        told
+    }
+}
+
+/// The entry of one sum.
+fn sum(what: SumOf, amount: u64) -> Entry
+    ensures { result ≡ Sum what amount }
+{
+    Entry::Sum { what, amount }
+}

@@ -1,0 +1,152 @@
+-- The records that were listed so far.
+use Rattle.std.proofs.Common.{◌≡◌, ℕ, ◌+◌, List, [], ◌∷◌, ◌++◌, length, Option, Some, Result, Ok, Err, refl, sym, ◌∙◌}
+use Rattle.std.proofs.Common.{ap, subst, append_assoc, arith, length-append}
+use Rattle.std.specs.List.{slice_get}
+use Rattle.std.proofs.lemmas.List.{append-nil, nil_from_length}
+use Rattle.cct_edge.specs.declared.fault.Failed.{Failed}
+use Rattle.cct_lines.specs.declared.record.Record.{Record}
+use Rattle.cct_lines.specs.declared.entry.Entry.{Entry}
+use Rattle.cct_lines.specs.declared.entry.Entry.TheVariants.{Listing}
+use Rattle.cct_text.specs.Writing.{Writes, Wrote}
+use Rattle.cct_text.proofs.Writing.{wrote_none, writes_more, writes_then}
+use Rattle.cct_report.specs.declared.sums.Sums.{Sums}
+use Rattle.cct_report.specs.declared.listing.ReportEnd.{ReportEnd}
+use Rattle.cct_report.specs.declared.listing.ReportEnd.TheVariants.{Done, Unwritten, DiskFailed, Alien, Bad}
+use Rattle.cct_report.specs.Sums.{sums_of, with_record}
+use Rattle.cct_report.specs.Listing.{Lists, ListsOne, ListsSome, listed, listing_from, total_in, total_of}
+use Rattle.cct_report.proofs.Lines.{behind_first, listed_front, listing_more, sums_more}
+
+-- Records are the first of others.
+abbrev pub IsFront : List Record → List Record → Type 0
+IsFront first records = (behind : List Record) × (records ≡ first ++ behind)
+
+-- So many records were read, the first of each list that is held; they were added to the sums, and their lines written.
+pub record Going {K : Type 0} (written : K → Option (List ℕ))
+    (puts : K → List ℕ → Result (Unit {0}) Failed → K → Type 0) (before now : K) (holds : List Record → Type 0)
+    (sums : Sums) (index : ℕ) : Type 0 where
+  pub read : List Record
+  pub count : index ≡ length read
+  pub summed : sums ≡ sums_of read
+  pub wrote : Wrote written puts before now (listing_from 0 read)
+  pub first : (records : List Record) → holds records → IsFront read records
+
+-- one more of the first records
+front_more : (read records : List Record) (index : ℕ) (entry : Record) → index ≡ length read → IsFront read records
+    → slice_get records index ≡ Some entry → IsFront (read ++ entry ∷ []) records
+front_more read records index entry count front is =
+    let here : slice_get (read ++ front.0) (length read) ≡ Some entry =
+    ap (λ l. slice_get l (length read)) (sym front.1) ∙ ap (λ k. slice_get records k) (sym count) ∙ is in
+    let found = behind_first read front.0 entry here in (
+      found.0,
+      front.1
+          ∙ ap (λ l. read ++ l) found.1
+          ∙ sym (append_assoc read (entry ∷ []) found.0),
+    )
+
+-- all of them
+front_all : (read records : List Record) → IsFront read records → length records ≡ length read → records ≡ read
+front_all read records front same =
+    let none : length front.0 ≡ 0 = omega (arith, same, ap length front.1, length-append read front.0) in
+    front.1 ∙ ap (λ l. read ++ l) (nil_from_length front.0 none) ∙ append-nil read
+
+module _ {K : Type 0} (written : K → Option (List ℕ)) (puts : K → List ℕ → Result (Unit {0}) Failed → K → Type 0) where
+  -- before the first record
+  pub going_starts : (before : K) (holds : List Record → Type 0) (sums : Sums) → sums ≡ sums_of []
+      → Going written puts before before holds sums 0
+  going_starts before holds sums none = record {
+    read = [];
+    count = refl;
+    summed = none;
+    wrote = wrote_none written puts before;
+    first = λ records held. (records, refl);
+  }
+
+  -- the line of a record broke off within each listing that begins with the records up to this one
+  broke_within : (before between now : K) (read : List Record) (index : ℕ) (entry : Record) (failed : Failed)
+      (records : List Record) → index ≡ length read → Wrote written puts before between (listing_from 0 read)
+      → Writes written puts between (Listing index entry ∷ []) (Err failed) now → IsFront (read ++ entry ∷ []) records
+      → Writes written puts before (listed records) (Err failed) now
+  broke_within before between now read index entry failed records count wrote broke front =
+      let lines = listing_from 0 read in
+      let found = listed_front (read ++ entry ∷ []) front.0 in
+      let whole : listed records ≡ (lines ++ Listing index entry ∷ []) ++ found.0 = ap listed front.1 ∙ found.1
+      ∙ ap (λ l. l ++ found.0) (listing_more index read entry count) in
+      subst (λ l. Writes written puts before l (Err failed) now) (sym whole)
+      (writes_more written puts before now (lines ++ Listing index entry ∷ []) found.0 failed
+      (writes_then written puts before between now lines (Listing index entry ∷ []) (Err failed) wrote broke))
+
+  module _ {before between : K} {holds : List Record → Type 0} {sums : Sums} {index : ℕ}
+      (going : Going written puts before between holds sums index) (now : K) where
+    -- one record more was listed
+    pub going_on : (here : List Record → Type 0) (after : Sums)
+        → ((records : List Record) → holds records → here records)
+        → ListsOne here index (λ entry. after ≡ with_record entry sums)
+        (λ entries answer. Writes written puts between entries answer now) (now ≡ between) (Ok tt)
+        → Going written puts before now holds after (index + 1)
+    going_on here after still one =
+        let entry = one.0 in record {
+          read = going.read ++ entry ∷ [];
+          count = omega (arith, going.count, length-append going.read (entry ∷ []));
+          summed = one.2 ∙ ap (with_record entry) going.summed ∙ sums_more going.read entry;
+          wrote = subst (λ l. Wrote written puts before now l) (sym (listing_more index going.read entry going.count))
+              (writes_then written puts before between now (listing_from 0 going.read) (Listing index entry ∷ [])
+              (Ok tt) going.wrote one.3);
+          first = λ records held. front_more going.read records index entry going.count (going.first records held)
+              (one.1 records (still records held));
+        }
+
+    -- or none, by how the listing ended then
+    pub going_ends : (here : List Record → Type 0) (adds : Record → Type 0) (how : ReportEnd)
+        → ListsOne here index adds (λ entries answer. Writes written puts between entries answer now) (now ≡ between)
+        (Err how)
+        → ListsSome how (λ entries answer. Writes written puts before entries answer now)
+    going_ends here adds Done one = absurd one
+    going_ends here adds Unwritten one = (
+      going.read ++ one.0 ∷ [],
+      one.1,
+      broke_within before between now going.read index one.0 one.1 (going.read ++ one.0 ∷ []) going.count going.wrote
+          one.3
+          ([], sym (append-nil (going.read ++ one.0 ∷ []))),
+    )
+    going_ends here adds DiskFailed one =
+        (going.read, subst (λ k. Wrote written puts before k (listing_from 0 going.read)) (sym one) going.wrote)
+    going_ends here adds Alien one = absurd one
+    going_ends here adds (Bad told) one =
+        (going.read, subst (λ k. Wrote written puts before k (listing_from 0 going.read)) (sym one.0) going.wrote)
+
+    pub going_ends_within : (here : List Record → Type 0) (adds : Record → Type 0) (records : List Record)
+        → holds records → here records → (how : ReportEnd)
+        → ListsOne here index adds (λ entries answer. Writes written puts between entries answer now) (now ≡ between)
+        (Err how)
+        → Lists how records (λ entries answer. Writes written puts before entries answer now)
+    going_ends_within here adds records held still Done one = absurd one
+    going_ends_within here adds records held still Unwritten one = (
+      one.1,
+      broke_within before between now going.read index one.0 one.1 records going.count going.wrote one.3
+          (front_more going.read records index one.0 going.count (going.first records held) (one.2 records still)),
+    )
+    going_ends_within here adds records held still DiskFailed one =
+        let front = going.first records held in (
+          going.read,
+          front.0,
+          front.1,
+          subst (λ k. Wrote written puts before k (listing_from 0 going.read)) (sym one) going.wrote,
+        )
+    going_ends_within here adds records held still Alien one = absurd one
+    going_ends_within here adds records held still (Bad told) one = absurd (one.1 records still)
+
+    -- the line of the sums behind all records
+    pub sums_told : (total : Entry) (answer : Result (Unit {0}) Failed) → total ≡ total_in sums
+        → Writes written puts between (total ∷ []) answer now
+        → Writes written puts before (listed going.read) answer now
+    sums_told total answer is wrote =
+        writes_then written puts before between now (listing_from 0 going.read) (total_of going.read ∷ []) answer
+        going.wrote
+        (subst (λ e. Writes written puts between (e ∷ []) answer now) (is ∙ ap total_in going.summed) wrote)
+
+    pub sums_told_of : (total : Entry) (answer : Result (Unit {0}) Failed) (records : List Record) → holds records
+        → index ≡ length records → total ≡ total_in sums → Writes written puts between (total ∷ []) answer now
+        → Writes written puts before (listed records) answer now
+    sums_told_of total answer records held all is wrote =
+        let whole = front_all going.read records (going.first records held) (sym all ∙ going.count) in
+        subst (λ l. Writes written puts before (listed l) answer now) (sym whole) (sums_told total answer is wrote)

@@ -1,0 +1,85 @@
+-- What the listing of a journal is, and what of it was written.
+use Rattle.std.specs.Prelude.{◌≡◌, ◌⊎◌, ℕ, suc, List, [], ◌∷◌, ◌++◌, Some, Result, Ok, Err, slice_get}
+use Rattle.cct_edge.specs.declared.fault.Failed.{Failed}
+use Rattle.cct_lines.specs.declared.record.Record.{Record}
+use Rattle.cct_lines.specs.declared.entry.Entry.{Entry}
+use Rattle.cct_lines.specs.declared.entry.Entry.TheVariants.{Listing, Total}
+use Rattle.cct_journal.specs.Image.{IsAlien, IsBadAt, StandsFor}
+use Rattle.cct_journal.specs.declared.refusal.OpenNo.{OpenNo}
+use Rattle.cct_journal.specs.declared.refusal.OpenNo.TheVariants as opening
+use Rattle.cct_report.specs.Sums.{sums_of}
+use Rattle.cct_report.specs.declared.sums.Sums.{Sums}
+use Rattle.cct_report.specs.declared.listing.ReportEnd.{ReportEnd}
+use Rattle.cct_report.specs.declared.listing.ReportEnd.TheVariants.{Done, Unwritten, DiskFailed, Alien, Bad}
+
+-- The lines of records, the oldest first, numbered upwards from this index.
+abbrev pub listing_from : ℕ → List Record → List Entry
+listing_from index [] = []
+listing_from index (r ∷ records) = Listing index r ∷ listing_from (suc index) records
+
+-- The line of sums.
+abbrev pub total_in : Sums → Entry
+total_in sums = Total sums.posted sums.lost sums.paid sums.unpaid sums.sold
+
+-- The line of the sums over records.
+abbrev pub total_of : List Record → Entry
+total_of records = total_in (sums_of records)
+
+-- The listing of records: the line of each, and the line of their sums.
+abbrev pub listed : List Record → List Entry
+listed records = listing_from 0 records ++ total_of records ∷ []
+
+-- What was written of the listing of these records, by how it ended: the whole; up to a put that failed; or whole lines
+-- of the first records, where the disk failed.
+abbrev pub Lists : ReportEnd → List Record → (List Entry → Result (Unit {0}) Failed → Type 0) → Type 0
+Lists Done records writes = writes (listed records) (Ok tt)
+Lists Unwritten records writes = (failed : Failed) × writes (listed records) (Err failed)
+Lists DiskFailed records writes =
+    (first behind : List Record) × (records ≡ first ++ behind) × writes (listing_from 0 first) (Ok tt)
+Lists Alien records writes = ⊥
+Lists (Bad index) records writes = ⊥
+
+-- What was written of the listing of records that are told by no image, by how it ended.
+abbrev pub ListsSome : ReportEnd → (List Entry → Result (Unit {0}) Failed → Type 0) → Type 0
+ListsSome Done writes = (read : List Record) × writes (listed read) (Ok tt)
+ListsSome Unwritten writes = (read : List Record) × (failed : Failed) × writes (listed read) (Err failed)
+ListsSome DiskFailed writes = (read : List Record) × writes (listing_from 0 read) (Ok tt)
+ListsSome Alien writes = writes [] (Ok tt)
+ListsSome (Bad index) writes = (read : List Record) × writes (listing_from 0 read) (Ok tt)
+
+-- What the image of a disk is to a listing, by how it ended: it stands for records, where any line was to be written;
+-- else nothing was written, and it has no journal, or one with a record that is spelt wrongly.
+abbrev pub Finds : ReportEnd → List ℕ → Type 0 → Type 0
+Finds Done image nothing = (records : List Record) × StandsFor image records
+Finds Unwritten image nothing = (records : List Record) × StandsFor image records
+Finds DiskFailed image nothing = ((records : List Record) × StandsFor image records) ⊎ nothing
+Finds Alien image nothing = IsAlien image × nothing
+Finds (Bad index) image nothing = IsBadAt image index × nothing
+
+-- A listing ended as the image decides.
+pub record Decides (how : ReportEnd) (image : List ℕ) : Type 0 where
+  pub done : (records : List Record) → StandsFor image records → how ≡ Done
+  pub alien : IsAlien image → how ≡ Alien
+  pub bad : (index : ℕ) → IsBadAt image index → how ≡ Bad index
+
+-- How a listing ends where no journal is opened on its disk.
+abbrev pub unopened : OpenNo → ReportEnd
+unopened opening.Disk = DiskFailed
+unopened opening.Alien = Alien
+unopened (opening.BadRecord index) = Bad index
+
+-- A record is that of an index in each list of records that is held.
+abbrev pub IsAt : (List Record → Type 0) → ℕ → Record → Type 0
+IsAt holds index entry = (records : List Record) → holds records → slice_get records index ≡ Some entry
+
+-- What came of reading the record of an index, adding it to the sums and writing its line, by the answer.
+abbrev pub ListsOne : (List Record → Type 0) → ℕ → (Record → Type 0) → (List Entry → Result (Unit {0}) Failed → Type 0)
+    → Type 0 → Result (Unit {0}) ReportEnd → Type 0
+ListsOne holds index adds writes nothing (Ok done) =
+    (entry : Record) × IsAt holds index entry × adds entry × writes (Listing index entry ∷ []) (Ok tt)
+ListsOne holds index adds writes nothing (Err Done) = ⊥
+ListsOne holds index adds writes nothing (Err Unwritten) =
+    (entry : Record) × (failed : Failed) × IsAt holds index entry × writes (Listing index entry ∷ []) (Err failed)
+ListsOne holds index adds writes nothing (Err DiskFailed) = nothing
+ListsOne holds index adds writes nothing (Err Alien) = ⊥
+ListsOne holds index adds writes nothing (Err (Bad told)) = nothing × ((records : List Record) → holds records → ⊥)

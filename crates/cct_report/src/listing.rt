@@ -1,0 +1,160 @@
+//! A journal is listed, record by record.
+ghost use Rattle.std.specs.Prelude.{◌≡◌, ◌<◌, ◌≤◌, ◌+◌, ◌*◌, ◌^◌, ℕ, List, Err, Some};
+ghost use Rattle.cct_edge.specs.Bytes.{TellsAsBefore};
+ghost use Rattle.cct_edge.specs.Faults.{Rose};
+ghost use Rattle.cct_lines.specs.declared.record.Record.{Record};
+ghost use Rattle.cct_disk.specs.Disk.{OnlyReads};
+ghost use Rattle.cct_journal.specs.Image.{StandsFor, least_size};
+ghost use Rattle.cct_journal.specs.Journal as journals;
+ghost use Rattle.cct_journal.specs.Stands.{Reads};
+ghost use Rattle.cct_text.specs.Writing.{Writes};
+ghost use Rattle.cct_report.specs.Sums.{together, with_record};
+ghost use Rattle.cct_report.specs.Listing.{Decides, Finds, Lists, ListsOne, ListsSome, unopened};
+
+use crate::sums::Sums;
+use cct_disk::Disk;
+use cct_edge::{Failed, Sink};
+use cct_journal::{Journal, OpenNo, ReadNo};
+use cct_lines::Entry;
+use cct_text::{TextLine, write_entry};
+
+/// How the listing of a journal came to its end.
+#[derive(Clone, Copy, Debug, PartialEq, Eq)]
+pub enum ReportEnd {
+    /// All records and their sums were written.
+    Done,
+    /// Writing failed. What was written is a front of the listing.
+    Unwritten,
+    /// A call of the disk failed. What was written are the lines of the first records, or none.
+    DiskFailed,
+    /// The disk has no journal.
+    Alien,
+    /// The body of the record of this index, 0 to 65,534, spells none.
+    Bad { index: u32 },
+}
+
+/// Lists the journal on a disk, which is only read: a line for each record, numbered from 0, and then the line of their
+/// sums, each by one put. The disk is given back.
+///
+/// [`ReportEnd::Alien`] comes where the disk has fewer than 64 bytes or doesn't begin with the header of a journal, and
+/// [`ReportEnd::Bad`] at the first body behind an open gate that spells no record, where no shut gate stands before it.
+/// Then nothing is written, unless a later read of the disk gives other bytes than an earlier one.
+pub fn list_journal<K: Sink, D: Disk>(out: &mut K, line: &mut TextLine, disk: D) -> (ReportEnd, D)
+    // what the image of the disk stands for, and what was written of it
+    ensures found { (image : List ℕ) → D.seen disk ≡ Some image → Finds result.0 image (out.new ≡ out.old) }
+    ensures every { (image : List ℕ) (records : List Record) → D.seen disk ≡ Some image → StandsFor image records
+        → Lists result.0 records (λ entries answer. Writes K.written K.puts out.old entries answer out.new) }
+
+    // what was written, whether or not the disk tells its bytes
+    ensures lines { ListsSome result.0 (λ entries answer. Writes K.written K.puts out.old entries answer out.new) }
+    ensures short { D.size disk < least_size → result.0 ≡ ReportEnd.Alien }
+
+    // Each end that isn't told by the image has its cause.
+    ensures write_cause { result.0 ≡ ReportEnd.Unwritten → Rose (K.faults out.old) (K.faults out.new) }
+    ensures disk_cause { result.0 ≡ ReportEnd.DiskFailed → Rose (D.faults disk) (D.faults result.1) }
+
+    // the disk and the sink
+    ensures reads { OnlyReads D.size D.honest D.seen D.may_leave D.moment D.left_since D.cuts disk result.1 }
+    ensures later { D.faults disk ≤ D.faults result.1 }
+    ensures tells { TellsAsBefore (K.written out.old) (K.written out.new) }
+    ensures sink_later { K.faults out.old ≤ K.faults out.new }
+
+    // With no fault the image alone decides.
+    ensures complete { (image : List ℕ) → D.seen disk ≡ Some image → (Rose (K.faults out.old) (K.faults out.new) → ⊥)
+        → (Rose (D.faults disk) (D.faults result.1) → ⊥) → Decides result.0 image }
+{
+    match Journal::reopen(disk) {
+        Ok((mut journal, _)) => {
+            let how = list_records(out, line, &mut journal);
+            (how, journal.into_disk())
+        }
+        Err((disk, why)) => (unopened(why), disk),
+    }
+}
+
+/// How a listing ends where no journal is opened on its disk.
+fn unopened(why: OpenNo) -> ReportEnd
+    ensures { result ≡ unopened why }
+{
+    match why {
+        OpenNo::Disk => ReportEnd::DiskFailed,
+        OpenNo::Alien => ReportEnd::Alien,
+        OpenNo::BadRecord { index } => ReportEnd::Bad { index },
+    }
+}
+
+/// Lists the records of a journal, and then their sums.
+fn list_records<K: Sink, D: Disk>(
+    out: &mut K,
+    line: &mut TextLine,
+    journal: &mut Journal<D>,
+) -> ReportEnd
+    ensures lines { ListsSome result (λ entries answer. Writes K.written K.puts out.old entries answer out.new) }
+    ensures every { (records : List Record)
+        → Reads D.seen (journals.disk_of journal.old) (journals.place_of journal.old) records
+        → Lists result records (λ entries answer. Writes K.written K.puts out.old entries answer out.new) }
+    ensures write_cause { result ≡ ReportEnd.Unwritten → Rose (K.faults out.old) (K.faults out.new) }
+    ensures disk_cause { result ≡ ReportEnd.DiskFailed
+        → Rose (D.faults (journals.disk_of journal.old)) (D.faults (journals.disk_of journal.new)) }
+    ensures reads { OnlyReads D.size D.honest D.seen D.may_leave D.moment D.left_since D.cuts
+        (journals.disk_of journal.old) (journals.disk_of journal.new) }
+    ensures later { D.faults (journals.disk_of journal.old) ≤ D.faults (journals.disk_of journal.new) }
+    ensures tells { TellsAsBefore (K.written out.old) (K.written out.new) }
+    ensures sink_later { K.faults out.old ≤ K.faults out.new }
+{
+    let mut sums = Sums::default();
+    for index in 0..journal.used() {
+        match list_record(out, line, journal, index, &mut sums) {
+            Ok(()) => {}
+            Err(how) => return how,
+        }
+    }
+    match write_entry(out, line, &sums.total()) {
+        Ok(()) => ReportEnd::Done,
+        Err(Failed) => ReportEnd::Unwritten,
+    }
+}
+
+/// Lists one record of a journal, and adds it to the sums.
+fn list_record<K: Sink, D: Disk>(
+    out: &mut K,
+    line: &mut TextLine,
+    journal: &mut Journal<D>,
+    index: u32,
+    sums: &mut Sums,
+) -> Result<(), ReportEnd>
+    requires within { index < journals.used_of journal.old }
+    requires few { index < 65535 }
+    requires small { together sums.old ≤ index * 2 ^ 32 }
+    ensures lists { ListsOne (Reads D.seen (journals.disk_of journal.old) (journals.place_of journal.old)) index
+        (λ entry. sums.new ≡ with_record entry sums.old)
+        (λ entries answer. Writes K.written K.puts out.old entries answer out.new) (out.new ≡ out.old) result }
+    ensures small { together sums.new ≤ (index + 1) * 2 ^ 32 }
+    ensures write_cause { result ≡ Err ReportEnd.Unwritten → Rose (K.faults out.old) (K.faults out.new) }
+    ensures disk_cause { result ≡ Err ReportEnd.DiskFailed
+        → Rose (D.faults (journals.disk_of journal.old)) (D.faults (journals.disk_of journal.new)) }
+
+    // the journal stays as it is
+    ensures told { (records : List Record)
+        → Reads D.seen (journals.disk_of journal.old) (journals.place_of journal.old) records
+        → Reads D.seen (journals.disk_of journal.new) (journals.place_of journal.new) records }
+    ensures place { journals.place_of journal.new ≡ journals.place_of journal.old }
+    ensures reads { OnlyReads D.size D.honest D.seen D.may_leave D.moment D.left_since D.cuts
+        (journals.disk_of journal.old) (journals.disk_of journal.new) }
+    ensures later { D.faults (journals.disk_of journal.old) ≤ D.faults (journals.disk_of journal.new) }
+
+    // the sink
+    ensures tells { TellsAsBefore (K.written out.old) (K.written out.new) }
+    ensures sink_later { K.faults out.old ≤ K.faults out.new }
+{
+    let entry = match journal.read_at(index) {
+        Ok(entry) => entry,
+        Err(ReadNo::Disk) => return Err(ReportEnd::DiskFailed),
+        Err(ReadNo::BadRecord { index }) => return Err(ReportEnd::Bad { index }),
+    };
+    sums.add(&entry);
+    match write_entry(out, line, &Entry::Listing { index, entry }) {
+        Ok(()) => Ok(()),
+        Err(Failed) => Err(ReportEnd::Unwritten),
+    }
+}

@@ -1,0 +1,17 @@
+use Rattle.std.proofs.Common.{◌≡◌, ◌∙◌, ap, ap₂, codes, rules}
+use Rattle.std.proofs.lemmas.Result.{IfOk-weaker}
+use Rattle.clap.specs.Words.{App, app_of, new_app, with_subcommand}
+use Rattle.cct_words.specs.Command.{load_app, words_app}
+use Rattle.cct_words.proofs.command.words_command.Goals as goal
+
+pub returns : goal.returns
+unfolding words_app
+returns c =
+    let run : app_of c.new.result ≡ new_app (codes "run") = search rules in
+    let report : app_of c.new-2.result ≡ new_app (codes "report") = search rules in
+    let load : app_of c.in_ok-load_command.field-0 ≡ load_app = c.in_ok-load_command.ensures.app in
+    IfOk-weaker c.subcommand-3.result _ _ (λ command adds. adds.shape c.in_ok-load_command.ensures.local
+    ∙ ap₂ with_subcommand (c.in_ok-subcommand-2.ensures.shape c.new-2.ensures.local
+    ∙ ap₂ with_subcommand (c.in_ok-subcommand.ensures.shape c.new.ensures.local
+    ∙ ap₂ with_subcommand c.bare_command.ensures (ap (λ (a : App). a.top) run)) (ap (λ (a : App). a.top) report))
+    (ap (λ (a : App). a.top) load)) c.subcommand-3.ensures

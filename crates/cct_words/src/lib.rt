@@ -1,0 +1,8 @@
+//! The words of the command line, read as a command with three subcommands.
+#![tactic(auto)]
+
+mod command;
+mod said;
+mod words;
+
+pub use words::{Words, WordsNo, read_words};
