@@ -43,11 +43,12 @@ pub record IsImage (past : List Change) (bytes image : List ℕ) : Type 0 where
   pub size : length image ≡ length bytes
   pub same : (place : ℕ) → IsSynced past place → get_or image place 0 ≡ get_or bytes place 0
 
--- the bytes before a change, and the replaced bytes before it
+-- the bytes before a change
 abbrev pub bytes_before : Change → List ℕ → List ℕ → List ℕ
 bytes_before (Wrote span) replaced bytes = put_at bytes span.at (drop (length replaced - span.len) replaced)
 bytes_before Settled replaced bytes = bytes
 
+-- the replaced bytes before a change
 abbrev pub replaced_before : Change → List ℕ → List ℕ
 replaced_before (Wrote span) replaced = take (length replaced - span.len) replaced
 replaced_before Settled replaced = replaced
@@ -88,10 +89,11 @@ pub record CutsBytes (choice : ℕ) (old : Content) (bytes : List ℕ) : Type 0 
       get_or bytes place 0
       ≡ cut_byte choice place (get_or (synced_bytes old.past old.replaced old.bytes) place 0) (get_or old.bytes place 0)
 
--- the images that a cut may leave now, and the images that it might have left at some moment from t on
+-- the images that a cut may leave now
 abbrev pub may_leave : Content → List ℕ → Type 0
 may_leave content image = IsImage content.past content.bytes image
 
+-- the images that a cut might have left at some moment from t on
 abbrev pub left_since : Content → ℕ → List ℕ → Type 0
 left_since content t image = IsImageSince content.past content.replaced content.bytes t image
 

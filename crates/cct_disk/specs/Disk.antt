@@ -29,7 +29,8 @@ pub record Elapses (before now : ℕ) (past since : ℕ → List ℕ → Type 0)
   pub nothing_else : (t : ℕ) (c : List ℕ) → t ≤ before → since t c → past t c ⊎ may_leave c
   pub keeps : (t : ℕ) (c : List ℕ) → t ≤ before → past t c → since t c
 
--- a cut at any moment from `old` to `new` might have left only what has P
+-- a cut at any moment from `old` to `new` might have left only what has P; and one since an earlier moment only that, or
+-- what it might have left before
 pub record LeavesOnly {D : Type 0} (moment : D → ℕ) (left_since : D → ℕ → List ℕ → Type 0) (old new : D)
     (P : List ℕ → Type 0) : Type 0 where
   pub later : moment old ≤ moment new

@@ -36,10 +36,11 @@ now_only [] replaced bytes image since = since
 now_only (change ∷ past) replaced bytes image (inl now) = now
 now_only (change ∷ past) replaced bytes image (inr earlier) = absurd (lt_irrefl (length past) earlier.0)
 
--- a disk that doesn't tell its bytes has no bytes of another length
+-- bytes that aren't told
 abbrev IsUntold : Option (List ℕ) → Type 0
 IsUntold None = Unit
 IsUntold (Some bytes) = ⊥
 
+-- a disk that doesn't tell its bytes has no bytes of another length
 pub untold_fits : (size : ℕ) (bytes : List ℕ) → None ≡ Some bytes → length bytes ≡ size
 untold_fits size bytes is = absurd (subst IsUntold is tt)

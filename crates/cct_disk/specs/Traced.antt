@@ -8,6 +8,7 @@ use Rattle.cct_disk.specs.declared.traced.Change.TheVariants.{Wrote, Settled}
 use Rattle.cct_disk.specs.declared.traced.Traced.{Traced}
 use Rattle.cct_disk.specs.declared.traced.TheConstants.{MOST_CHANGES, MOST_ENTRIES, MOST_REPLACED}
 
+-- the content of a traced disk: its bytes, its changes, newest first, and the bytes that the writes replaced
 abbrev pub content_of : Traced → Content
 content_of traced =
     record { bytes = traced.bytes.items; past = reverse traced.trace.items; replaced = traced.replaced.items }
@@ -52,7 +53,7 @@ pub record IsKept (traced : Traced) : Type 0 where
   pub few_changes : traced.changes ≤ MOST_CHANGES
   pub few_entries : length traced.trace.items ≤ 2 * traced.changes
 
--- and its counts are those of the trace, with room for what a cut writes again
+-- the trace fits the bytes, and the counts are those of the trace, with room for what a cut writes again
 pub record IsTraced (traced : Traced) : Type 0 where
   pub kept : IsKept traced
   pub few_unsynced : traced.unsynced ≤ length traced.replaced.items

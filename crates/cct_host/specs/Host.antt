@@ -93,7 +93,8 @@ module _ {D : Type 0} {g : Ghosts D} where
       × StandsFor new (command_entry c (no_of result) ∷ past)
 
   -- A `next` at an address makes one attempt over a link. What it adds to the report are the entries of a `next` after
-  -- whatever happened, where what it heard is what follows the piece that it sent, and the host goes on by them.
+  -- whatever happened, where what it heard is what follows the piece that it sent and the record that it puts, if it puts
+  -- one, suits the past; and the host goes on by them.
   pub record Nexts {L : Type 0} (gives : L → List ℕ → List ℕ → L → Type 0) (old new : L) (addr : ℕ) (before after : Host D g)
       (report reported : List Entry) : Type 0 where
     pub what : Attempt

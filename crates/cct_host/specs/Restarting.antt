@@ -44,6 +44,7 @@ abbrev pub told_by : ℕ → Option Record → List Entry
 told_by many None = entry.Crash many ∷ []
 told_by many (Some r) = entry.Kept r ∷ entry.Crash many ∷ []
 
+-- What a loss of power left, as a host tells it, in entries, newest first.
 abbrev pub crash_news : Crashed → List Entry
 crash_news crashed = told_by crashed.records crashed.kept
 
