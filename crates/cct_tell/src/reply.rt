@@ -2,9 +2,12 @@
 
 use crate::event::Event;
 use crate::lists::{Count, Places};
-use cct_lines::{Credits, Pair};
+use cct_lines::{Credits, EVENTS, Pair};
 use cct_msg::Reply;
 use std::fmt;
+
+/// An empty place of a credit buffer.
+const NO_EVENT: Pair = Pair { a: 0, b: 0 };
 
 /// A reply as people read it.
 #[derive(Drop)]
@@ -59,12 +62,15 @@ fn write_acceptor<W: fmt::Write>(reply: Reply<'_>, f: &mut fmt::Formatter<W>) ->
 fn write_credits<W: fmt::Write>(credits: Credits, f: &mut fmt::Formatter<W>) -> fmt::Result {
     let counter = credits.counter;
     write!(f, "event counter {counter}")?;
-    let events = filled(&credits.pairs);
-    if events.is_empty() {
+    let count = event_count(&credits.pairs);
+    if count == 0 {
         return f.write_str(", no event");
     }
     let mut before = ", newest event first: ";
-    for pair in events {
+    for (index, pair) in credits.pairs.iter().enumerate() {
+        if index == count {
+            break;
+        }
         let event = Event(*pair);
         write!(f, "{before}{event}")?;
         before = ", ";
@@ -72,13 +78,15 @@ fn write_credits<W: fmt::Write>(credits: Credits, f: &mut fmt::Formatter<W>) -> 
     Ok(())
 }
 
-/// Events without those behind the last one that isn't empty.
-fn filled(pairs: &[Pair]) -> &[Pair] {
-    let mut rest = pairs;
-    while let [front @ .., Pair { a: 0, b: 0 }] = rest {
-        rest = front;
+/// How many events of a credit buffer there are up to the last place that isn't empty.
+fn event_count(pairs: &[Pair; EVENTS]) -> usize {
+    let mut count = 0;
+    for (index, pair) in pairs.iter().enumerate() {
+        if *pair != NO_EVENT {
+            count = index + 1;
+        }
     }
-    rest
+    count
 }
 
 /// Writes a reply that a hopper alone gives.
