@@ -1,0 +1,10 @@
+//! A sequence picture of a run, in SVG: a lane for the host and one for each device, and time downwards.
+#![tactic(auto)]
+
+mod label;
+mod mark;
+mod picture;
+
+pub use label::{Label, MOST_LABEL};
+pub use mark::{FaultAt, Happening, Heard, Mark};
+pub use picture::{MOST_MARKS, Picture};
