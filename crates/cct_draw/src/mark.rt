@@ -93,3 +93,14 @@ pub enum Mark {
     /// Any other line.
     Note(Label),
 }
+
+impl Mark {
+    /// The device in whose lane a mark is drawn, if it is in one.
+    pub(crate) fn device(&self) -> Option<u8> {
+        match self {
+            Mark::Exchange { addr: 0, .. } | Mark::Happened { addr: 0, .. } => None,
+            Mark::Exchange { addr, .. } | Mark::Happened { addr, .. } => Some(*addr),
+            _ => None,
+        }
+    }
+}
