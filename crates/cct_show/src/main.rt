@@ -3,10 +3,13 @@
 #![tactic(auto)]
 
 mod lines;
+mod mark;
 mod page;
+mod picture;
 mod status;
 mod text;
 
+use crate::picture::show_picture;
 use crate::status::Status;
 use crate::text::show_text;
 use cct_edge::{StdSink, StdSource};
@@ -20,6 +23,8 @@ use std::{env, io};
 enum Form {
     /// `text`: each line, and below it what it says.
     Text,
+    /// `svg`: a sequence picture.
+    Picture,
 }
 
 fn main(rt: HostRuntime) -> ExitCode {
@@ -35,11 +40,12 @@ fn main(rt: HostRuntime) -> ExitCode {
 }
 
 /// Shows what is on standard input in a form.
-fn show(form: Form, rt: &(impl Input + Print)) -> Status {
+fn show(form: Form, rt: &(impl Input + Print + AllocGlobal)) -> Status {
     let mut source = StdSource::new(rt.reader());
     let mut out = StdSink::new(io::writer(rt));
     match form {
         Form::Text => show_text(&mut source, &mut out),
+        Form::Picture => show_picture(rt.alloc(), &mut source, &mut out),
     }
 }
 
@@ -62,6 +68,7 @@ fn form_wanted(rt: &(impl Env + AllocGlobal)) -> io::Result<Option<Form>> {
 fn form_named(word: &str) -> Option<Form> {
     match word {
         "text" => Some(Form::Text),
+        "svg" => Some(Form::Picture),
         _ => None,
     }
 }

@@ -31,7 +31,12 @@ pub enum Answer<'e> {
         from: u8,
         reply: Reply<'e>,
     },
-    /// Another message.
+    /// A message that is not the reply that was wanted.
+    NotWanted {
+        kind: CheckKind,
+        view: FrameView<'e>,
+    },
+    /// A message behind something of which it isn't known what reply it wants.
     Message {
         kind: CheckKind,
         view: FrameView<'e>,
@@ -53,45 +58,47 @@ impl<'e> Answer<'e> {
                 ..
             } => bare_answer(sent, heard),
             Asked::Request { to, request, .. } => {
-                let form = form_of(request).unwrap_or(ReplyForm::Ack);
-                message_answer(kind, form, Some(to), sent, heard)
+                message_answer(kind, Some(to), form_of(request), sent, heard)
             }
-            Asked::Message { view, .. } => {
-                message_answer(kind, ReplyForm::Ack, Some(view.to), sent, heard)
-            }
-            Asked::Nothing | Asked::Broken(_) => message_answer(
-                kind,
-                ReplyForm::Ack,
-                None,
-                sent,
-                heard,
-            ),
+            Asked::Message { view, .. } => message_answer(kind, Some(view.to), None, sent, heard),
+            Asked::Nothing | Asked::Broken(_) => message_answer(kind, None, None, sent, heard),
         }
     }
 }
 
-/// What was heard behind a request from `asked`, whose reply is wanted in a form.
+/// What was heard behind something that was sent to `asked`, with the form of its reply, where both are known.
 fn message_answer<'e>(
     kind: CheckKind,
-    form: ReplyForm,
     asked: Option<u8>,
+    form: Option<ReplyForm>,
     sent: &[u8],
     heard: &'e [u8],
 ) -> Answer<'e> {
-    let view = match hear(kind, sent, heard) {
-        Heard::EchoBad { at } => return bad_echo(at, sent, heard),
-        Heard::Silence => return Answer::Silence,
-        Heard::Broken(fault) => return Answer::Broken(fault),
-        Heard::Message(view) => view,
-    };
-    let Some(from) = asked else {
-        return Answer::Message { kind, view };
-    };
-    let reply = match read_reply(form, from, &view) {
+    match hear(kind, sent, heard) {
+        Heard::EchoBad { at } => bad_echo(at, sent, heard),
+        Heard::Silence => Answer::Silence,
+        Heard::Broken(fault) => Answer::Broken(fault),
+        Heard::Message(view) => match asked {
+            Some(from) => reply_answer(kind, from, form, view),
+            None => Answer::Message { kind, view },
+        },
+    }
+}
+
+/// What a message says that follows something sent to `from`. Where no form is known, it may still be bare: ACK, NAK or
+/// BUSY.
+fn reply_answer(
+    kind: CheckKind,
+    from: u8,
+    form: Option<ReplyForm>,
+    view: FrameView<'_>,
+) -> Answer<'_> {
+    let reply = match read_reply(form.unwrap_or(ReplyForm::Ack), from, &view) {
         Ok(reply) => reply,
         Err(NotWanted::Nak) => Reply::Nak,
         Err(NotWanted::Busy) => Reply::Busy,
-        Err(NotWanted::Other) => return Answer::Message { kind, view },
+        Err(NotWanted::Other) if form.is_none() => return Answer::Message { kind, view },
+        Err(NotWanted::Other) => return Answer::NotWanted { kind, view },
     };
     Answer::Reply { kind, from, reply }
 }
@@ -121,16 +128,20 @@ impl fmt::Display for Answer<'_> {
             Answer::Silence => f.write_str("silence"),
             Answer::Addresses(addresses) => {
                 let addresses = Addresses(addresses);
-                write!(f, "to host: addresses {addresses}, without a check")
+                write!(f, "to host, bare addresses: {addresses}")
             }
             Answer::Broken(fault) => {
                 let why = Fault(fault);
-                write!(f, "to host, no message: {why}")
+                write!(f, "the host heard no message: {why}")
             }
             Answer::Reply { kind, from, reply } => {
                 let says = Says(reply);
                 let check = check_name(kind);
                 write!(f, "{from} to host: {says}; {check} good")
+            }
+            Answer::NotWanted { kind, view } => {
+                let message = Message { kind, view };
+                write!(f, "not the wanted reply, {message}")
             }
             Answer::Message { kind, view } => {
                 let message = Message { kind, view };

@@ -5,7 +5,7 @@ use std::fmt;
 
 /// An event as people read it: a credit by place and path, an error by its text, or none.
 #[derive(Drop)]
-pub(crate) struct Event(pub Pair);
+pub struct Event(pub Pair);
 
 impl fmt::Display for Event {
     fn fmt<W: fmt::Write>(&self, f: &mut fmt::Formatter<W>) -> fmt::Result {
@@ -20,7 +20,7 @@ impl fmt::Display for Event {
 /// Writes an error by its code, and by its text where that is known.
 fn write_error<W: fmt::Write>(code: u8, f: &mut fmt::Formatter<W>) -> fmt::Result {
     match error_text(code) {
-        Some(text) => write!(f, "error {code}, {text}"),
+        Some(text) => write!(f, "error {code} ({text})"),
         None => write!(f, "error {code}"),
     }
 }

@@ -21,7 +21,9 @@ mod told;
 
 pub use answer::Answer;
 pub use asked::Asked;
+pub use event::Event;
 pub use exchange::Exchange;
 pub use header::name_of;
 pub use line::read_line;
+pub use reply::Says;
 pub use told::Told;

@@ -11,14 +11,14 @@ const NO_EVENT: Pair = Pair { a: 0, b: 0 };
 
 /// A reply as people read it.
 #[derive(Drop)]
-pub(crate) struct Says<'r>(pub Reply<'r>);
+pub struct Says<'r>(pub Reply<'r>);
 
 impl fmt::Display for Says<'_> {
     fn fmt<W: fmt::Write>(&self, f: &mut fmt::Formatter<W>) -> fmt::Result {
         match self.0 {
             Reply::Ack => f.write_str("ACK"),
             Reply::Nak => f.write_str("NAK (5), it refuses"),
-            Reply::Busy => f.write_str("BUSY (6), it can't act now"),
+            Reply::Busy => f.write_str("BUSY (6), it cannot act now"),
             Reply::Text { text } => {
                 let text = text.escape_ascii();
                 write!(f, "\"{text}\"")
@@ -53,7 +53,10 @@ fn write_acceptor<W: fmt::Write>(reply: Reply<'_>, f: &mut fmt::Formatter<W>) ->
             let id = id.escape_ascii();
             write!(f, "coin \"{id}\"")
         }
-        Reply::Accepts { count } => write!(f, "{count} coins accepted so far"),
+        Reply::Accepts { count } => {
+            let coins = Count(u64::from(count), "coin");
+            write!(f, "{coins} accepted so far")
+        }
         _ => Ok(()),
     }
 }

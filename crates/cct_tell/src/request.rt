@@ -1,6 +1,6 @@
 //! What a request says behind its name.
 
-use crate::lists::Places;
+use crate::lists::{Count, Places};
 use cct_lines::ENABLE_CODE;
 use cct_msg::Request;
 use std::fmt;
@@ -24,10 +24,8 @@ impl fmt::Display for Values<'_> {
             Request::Enable { code: ENABLE_CODE } => f.write_str(": it may pay"),
             Request::Enable { .. } => f.write_str(": it may not pay"),
             Request::Dispense { serial, count } => {
-                write!(
-                    f,
-                    ": {count} coins, of the hopper with serial number {serial}"
-                )
+                let coins = Count(u64::from(count), "coin");
+                write!(f, ": {coins}, by the hopper with serial number {serial}")
             }
             Request::CipherDispense => f.write_str(", under a cipher"),
             _ => Ok(()),
