@@ -10,7 +10,7 @@ const CHUNK: usize = 4096;
 
 /// What becomes of the lines of the input.
 pub(crate) trait Form {
-    /// A whole line of fewer bytes than a line of a transcript may have, without its line feed.
+    /// A whole line, without its line feed: at most as many bytes as a line of a transcript may have with it.
     fn line(&mut self, line: &[u8]) -> Result<(), Stop>;
 
     /// The next bytes of a longer line.

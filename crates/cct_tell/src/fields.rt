@@ -31,6 +31,30 @@ pub(crate) fn amount(field: &[u8]) -> Option<u64> {
     ranged(0, u64::MAX, field)
 }
 
+/// The number below 2^8 that one field alone spells.
+pub(crate) fn one_byte(fields: &[&[u8]]) -> Option<u8> {
+    match fields {
+        [field] => byte(field),
+        _ => None,
+    }
+}
+
+/// The numbers below 2^8 that two fields spell.
+pub(crate) fn two_bytes(fields: &[&[u8]]) -> Option<(u8, u8)> {
+    match fields {
+        [first, second] => Some((byte(first)?, byte(second)?)),
+        _ => None,
+    }
+}
+
+/// The number below 2^32 that one field alone spells.
+pub(crate) fn one_number(fields: &[&[u8]]) -> Option<u32> {
+    match fields {
+        [field] => number(field),
+        _ => None,
+    }
+}
+
 /// The inhibit mask that a field spells: four hexadecimal digits.
 pub(crate) fn mask(field: &[u8]) -> Option<u16> {
     let mut bytes = [0; 2];

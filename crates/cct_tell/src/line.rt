@@ -1,7 +1,7 @@
 //! The entry that a line of a transcript is.
 
 use crate::ends::end_line;
-use crate::fields::{amount, byte, fields_of, number};
+use crate::fields::{amount, byte, fields_of, number, one_byte, one_number, two_bytes};
 use crate::record::record_in;
 use crate::refusal::refusal_in;
 use cct_lines::{Coin, Entry, MOST_HEARD, MOST_SENT, Sent, Step, Totals};
@@ -15,18 +15,24 @@ use cct_script::{piece_in, read_step_line};
 /// faults of a file, and the sums of a load.
 pub fn read_line(line: &[u8]) -> Option<Entry> {
     let fields = fields_of(line)?;
-    match fields.as_slice() {
-        [b"wire", addr, sent, heard] => exchange_in(byte(addr)?, sent, heard),
-        [b"put", record @ ..] => Some(Entry::Put(record_in(record)?)),
-        [b"kept", record @ ..] => Some(Entry::Kept(record_in(record)?)),
-        [b"record", index, record @ ..] => Some(Entry::Listing {
-            index: number(index)?,
-            entry: record_in(record)?,
-        }),
-        [b"ok", ..] => taken_line(line),
-        [b"no", ..] => refused_line(line),
-        [b"fault", _, _] => fault_line(line),
-        fields => other_line(fields),
+    let (word, rest) = fields.as_slice().split_first()?;
+    match *word {
+        b"wire" => wire_line(rest),
+        b"put" => Some(Entry::Put(record_in(rest)?)),
+        b"kept" => Some(Entry::Kept(record_in(rest)?)),
+        b"record" => listing_line(rest),
+        b"ok" => taken_line(line),
+        b"no" => refused_line(line),
+        b"fault" => fault_line(line),
+        word => device_line(word, rest),
+    }
+}
+
+/// The line `wire A SENT HEARD`.
+fn wire_line(rest: &[&[u8]]) -> Option<Entry> {
+    match rest {
+        [addr, sent, heard] => exchange_in(byte(addr)?, sent, heard),
+        _ => None,
     }
 }
 
@@ -38,6 +44,15 @@ fn exchange_in(addr: u8, sent: &[u8], heard: &[u8]) -> Option<Entry> {
         addr,
         sent: message,
         heard: piece_in(MOST_HEARD, heard)?,
+    })
+}
+
+/// The line `record INDEX RECORD` of a report.
+fn listing_line(rest: &[&[u8]]) -> Option<Entry> {
+    let (index, record) = rest.split_first()?;
+    Some(Entry::Listing {
+        index: number(index)?,
+        entry: record_in(record)?,
     })
 }
 
@@ -63,71 +78,98 @@ fn fault_line(line: &[u8]) -> Option<Entry> {
     }
 }
 
-/// A line that says what happened to a device or to the host, or how a job ended; or the line of a logger.
-fn other_line(fields: &[&[u8]]) -> Option<Entry> {
-    if let Some(entry) = device_line(fields) {
-        return Some(entry);
-    }
-    if let Some(entry) = host_line(fields) {
-        return Some(entry);
-    }
-    if let Some(entry) = end_line(fields) {
-        return Some(entry);
-    }
-    logged_line(fields)
-}
-
-/// A line that says what happened to a device.
-fn device_line(fields: &[&[u8]]) -> Option<Entry> {
-    match fields {
-        [b"accepted", addr, place, path] => Some(Entry::Accepted {
-            addr: byte(addr)?,
-            coin: Coin {
-                place: byte(place)?,
-                path: byte(path)?,
-            },
+/// A line that says what happened to a device; or another line.
+fn device_line(word: &[u8], rest: &[&[u8]]) -> Option<Entry> {
+    match word {
+        b"accepted" => accepted_line(rest),
+        b"inhibited" => inhibited_line(rest),
+        b"alien" => Some(Entry::Alien {
+            addr: one_byte(rest)?,
         }),
-        [b"inhibited", addr, place] => Some(Entry::Inhibited {
-            addr: byte(addr)?,
-            place: byte(place)?,
+        b"fell" => Some(Entry::Fell {
+            addr: one_byte(rest)?,
         }),
-        [b"alien", addr] => Some(Entry::Alien { addr: byte(addr)? }),
-        [b"fell", addr] => Some(Entry::Fell { addr: byte(addr)? }),
-        [b"nofall", addr] => Some(Entry::NoFall { addr: byte(addr)? }),
-        [b"jammed", addr] => Some(Entry::Jammed { addr: byte(addr)? }),
-        [b"nojam", addr] => Some(Entry::NoJam { addr: byte(addr)? }),
-        [b"reset", addr] => Some(Entry::Reset { addr: byte(addr)? }),
-        _ => None,
+        b"nofall" => Some(Entry::NoFall {
+            addr: one_byte(rest)?,
+        }),
+        b"jammed" => Some(Entry::Jammed {
+            addr: one_byte(rest)?,
+        }),
+        b"nojam" => Some(Entry::NoJam {
+            addr: one_byte(rest)?,
+        }),
+        b"reset" => Some(Entry::Reset {
+            addr: one_byte(rest)?,
+        }),
+        _ => host_line(word, rest),
     }
 }
 
-/// A line that says what happened to the host, or what it has.
-fn host_line(fields: &[&[u8]]) -> Option<Entry> {
-    match fields {
-        [b"idle", addr] => Some(Entry::Idle { addr: byte(addr)? }),
-        [b"crash", records] => Some(Entry::Crash {
-            records: number(records)?,
+/// The line `accepted A PLACE PATH`.
+fn accepted_line(rest: &[&[u8]]) -> Option<Entry> {
+    let (addr, coin) = rest.split_first()?;
+    let addr = byte(addr)?;
+    let (place, path) = two_bytes(coin)?;
+    Some(Entry::Accepted {
+        addr,
+        coin: Coin { place, path },
+    })
+}
+
+/// The line `inhibited A PLACE`.
+fn inhibited_line(rest: &[&[u8]]) -> Option<Entry> {
+    let (addr, place) = two_bytes(rest)?;
+    Some(Entry::Inhibited { addr, place })
+}
+
+/// A line that says what happened to the host, or what it has; or another line.
+fn host_line(word: &[u8], rest: &[&[u8]]) -> Option<Entry> {
+    match word {
+        b"idle" => Some(Entry::Idle {
+            addr: one_byte(rest)?,
         }),
-        [b"balance", available, reserved, paid, sold] => Some(Entry::Balance(Totals {
-            available: amount(available)?,
-            reserved: amount(reserved)?,
-            paid: amount(paid)?,
-            sold: amount(sold)?,
-        })),
-        [b"total", posted, lost, paid, unpaid, sold] => Some(Entry::Total {
-            posted: amount(posted)?,
-            lost: amount(lost)?,
-            paid: amount(paid)?,
-            unpaid: amount(unpaid)?,
-            sold: amount(sold)?,
+        b"crash" => Some(Entry::Crash {
+            records: one_number(rest)?,
         }),
-        _ => None,
+        b"balance" => balance_line(rest),
+        b"total" => total_line(rest),
+        _ => match end_line(word, rest) {
+            Some(entry) => Some(entry),
+            None => logged_line(word, rest),
+        },
     }
 }
 
-/// The line of a bus logger: what was sent, and what was heard.
-fn logged_line(fields: &[&[u8]]) -> Option<Entry> {
-    let [sent, heard] = fields else {
+/// The line `balance AVAILABLE RESERVED PAID SOLD`.
+fn balance_line(rest: &[&[u8]]) -> Option<Entry> {
+    let [available, reserved, paid, sold] = rest else {
+        return None;
+    };
+    Some(Entry::Balance(Totals {
+        available: amount(available)?,
+        reserved: amount(reserved)?,
+        paid: amount(paid)?,
+        sold: amount(sold)?,
+    }))
+}
+
+/// The line `total POSTED LOST PAID UNPAID SOLD` of a report.
+fn total_line(rest: &[&[u8]]) -> Option<Entry> {
+    let [posted, lost, paid, unpaid, sold] = rest else {
+        return None;
+    };
+    Some(Entry::Total {
+        posted: amount(posted)?,
+        lost: amount(lost)?,
+        paid: amount(paid)?,
+        unpaid: amount(unpaid)?,
+        sold: amount(sold)?,
+    })
+}
+
+/// The line of a bus logger: what was sent, and behind it what was heard.
+fn logged_line(sent: &[u8], rest: &[&[u8]]) -> Option<Entry> {
+    let [heard] = rest else {
         return None;
     };
     let addr = match piece_in(MOST_SENT, sent)?.as_slice() {

@@ -1,6 +1,6 @@
 //! The command that was refused, and why.
 
-use crate::fields::{amount, byte, fields_of, number};
+use crate::fields::{amount, fields_of, number, one_byte, one_number};
 use cct_lines::{Command, CommandNo, Step};
 use cct_script::read_step_line;
 
@@ -27,37 +27,56 @@ fn command_in(line: &[u8]) -> Option<Command> {
 
 /// The reason for which a command is refused that a text spells.
 fn reason_in(text: &[u8]) -> Option<CommandNo> {
-    let fields = fields_of(text)?;
-    match fields.as_slice() {
-        [b"nodevice"] => Some(CommandNo::NoDevice),
-        [b"wrongkind"] => Some(CommandNo::WrongKind),
-        [b"busy"] => Some(CommandNo::Busy),
-        [b"epochruns"] => Some(CommandNo::EpochRuns),
-        [b"noepoch"] => Some(CommandNo::NoEpoch),
-        [b"noorder"] => Some(CommandNo::NoOrder),
-        [b"nopayout"] => Some(CommandNo::NoPayout),
-        fields => numbered_reason_in(fields),
+    match text {
+        b"nodevice" => Some(CommandNo::NoDevice),
+        b"wrongkind" => Some(CommandNo::WrongKind),
+        b"busy" => Some(CommandNo::Busy),
+        b"epochruns" => Some(CommandNo::EpochRuns),
+        b"noepoch" => Some(CommandNo::NoEpoch),
+        b"noorder" => Some(CommandNo::NoOrder),
+        b"nopayout" => Some(CommandNo::NoPayout),
+        _ => numbered_reason_in(text),
     }
 }
 
 /// The reason that a word and the numbers behind it spell.
-fn numbered_reason_in(fields: &[&[u8]]) -> Option<CommandNo> {
-    match fields {
-        [b"novalue", place] => Some(CommandNo::NoValue {
-            place: byte(place)?,
+fn numbered_reason_in(text: &[u8]) -> Option<CommandNo> {
+    let fields = fields_of(text)?;
+    let (word, rest) = fields.as_slice().split_first()?;
+    match *word {
+        b"novalue" => Some(CommandNo::NoValue {
+            place: one_byte(rest)?,
         }),
-        [b"orderopen", id] => Some(CommandNo::OrderOpen { id: number(id)? }),
-        [b"oldid", last] => Some(CommandNo::OldId {
-            last: number(last)?,
+        b"orderopen" => Some(CommandNo::OrderOpen {
+            id: one_number(rest)?,
         }),
-        [b"short", have] => Some(CommandNo::Short {
+        b"oldid" => Some(CommandNo::OldId {
+            last: one_number(rest)?,
+        }),
+        b"short" => short_in(rest),
+        b"journalfull" => full_in(rest),
+        _ => None,
+    }
+}
+
+/// The field `HAVE` of the reason that there is too little.
+fn short_in(rest: &[&[u8]]) -> Option<CommandNo> {
+    match rest {
+        [have] => Some(CommandNo::Short {
             have: amount(have)?,
-        }),
-        [b"journalfull", used, held, need] => Some(CommandNo::JournalFull {
-            used: number(used)?,
-            held: number(held)?,
-            need: number(need)?,
         }),
         _ => None,
     }
+}
+
+/// The fields `USED HELD NEED` of the reason that the journal is full.
+fn full_in(rest: &[&[u8]]) -> Option<CommandNo> {
+    let [used, held, need] = rest else {
+        return None;
+    };
+    Some(CommandNo::JournalFull {
+        used: number(used)?,
+        held: number(held)?,
+        need: number(need)?,
+    })
 }
