@@ -51,7 +51,8 @@ fn draw_request<K: Sink>(
 ) -> Result<(), Failed> {
     draw_arrow(out, line, Arrow::Request, HOST_LANE, lane)?;
     begin_text(line, Caption::Request, HOST_LANE);
-    write_numbered(line, b"", u32::from(header), b" ");
+    line.push_number(header);
+    line.push(b" ");
     write_label(line, name);
     draw_text(out, line)
 }

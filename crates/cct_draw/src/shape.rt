@@ -53,7 +53,7 @@ impl Shape {
             }
             Shape::Jammed => b"m-5-5l10 10m0-10l-10 10",
             Shape::NoJam => b"m-3-3l6 6m0-6l-6 6",
-            Shape::Reset => b"m-4-4a6 6 0 1 1-1 6m1-6h-4m4 0v-4",
+            Shape::Reset => b"m-4-4a6 6 0 1 1 0 8m0 5v-5h5",
             Shape::Taken => b"m-5-6l11 6l-11 6z",
             Shape::Refused => b"m-6 0a6 6 0 1 0 12 0a6 6 0 1 0-12 0zm2 4l8-8",
             Shape::Put | Shape::Kept => b"m-5-7h10v14h-10zm2 4h6m-6 3h6m-6 3h6",
