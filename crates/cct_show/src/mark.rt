@@ -2,10 +2,9 @@
 
 use arrayvec::ArrayString;
 use cct_draw::{FaultAt, Happening, Heard, Label, MOST_LABEL, Mark};
-use cct_lines::{Credits, Entry, WireFault};
-use cct_tell::{Answer, Asked, Event, Exchange, Says, name_of, read_line};
-use cct_terms::Reply;
-use std::fmt::{self, Write};
+use cct_lines::{Entry, Reply, WireFault};
+use cct_tell::{Answer, Asked, Exchange, Short, name_of, read_line};
+use std::fmt::Write;
 
 /// The mark of a line, without its line feed. One that says nothing known is a note.
 pub(crate) fn mark_of(line: &[u8]) -> Mark {
@@ -106,38 +105,8 @@ fn heard_in(exchange: &Exchange<'_>) -> Heard {
 /// What a reply says, as far as a label has room.
 fn says(answer: &Answer<'_>) -> Label {
     let mut text: ArrayString<MOST_LABEL> = ArrayString::new();
-    // What finds no room in the text has none in the label.
-    let _ = write_short(answer, &mut text);
+    let short = Short(answer);
+    // What finds no room here would find none in the label.
+    let _ = write!(text, "{short}");
     Label::new(text.as_bytes())
-}
-
-/// Writes what a reply says shorter than in words; nothing where the name of what was heard says it all.
-fn write_short<W: fmt::Write>(answer: &Answer<'_>, out: &mut W) -> fmt::Result {
-    match *answer {
-        Answer::Reply {
-            reply: Reply::Credits(credits),
-            ..
-        } => write_credits(credits, out),
-        Answer::Reply {
-            reply: Reply::Mask { mask },
-            ..
-        } => write!(out, "mask {mask:04x}"),
-        Answer::Reply {
-            reply: Reply::Nak | Reply::Busy,
-            ..
-        } => Ok(()),
-        Answer::Reply { reply, .. } => {
-            let says = Says(reply);
-            write!(out, "{says}")
-        }
-        _ => Ok(()),
-    }
-}
-
-/// Writes an event counter, and the newest event.
-fn write_credits<W: fmt::Write>(credits: Credits, out: &mut W) -> fmt::Result {
-    let counter = credits.counter;
-    let [newest, ..] = credits.pairs;
-    let event = Event(newest);
-    write!(out, "counter {counter}, {event}")
 }

@@ -11,7 +11,7 @@ use cct_wire::{EchoBad, Heard, bare_after_echo, hear};
 use std::fmt;
 
 /// What was heard in an exchange, behind the echo of what was sent.
-#[derive(Clone, Copy, Debug)]
+#[derive(Clone, Copy)]
 pub enum Answer<'e> {
     /// The echo is damaged: at the place `at`, counted from 0, `sent` was sent and `heard` was heard, or no byte.
     EchoBad {

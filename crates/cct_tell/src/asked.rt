@@ -10,7 +10,7 @@ use cct_msg::{Request, read_request};
 use std::fmt;
 
 /// What was sent in an exchange.
-#[derive(Clone, Copy, Debug)]
+#[derive(Clone, Copy)]
 pub enum Asked<'e> {
     /// No byte.
     Nothing,

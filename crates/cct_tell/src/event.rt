@@ -5,7 +5,7 @@ use std::fmt;
 
 /// An event as people read it: a credit by place and path, an error by its text, or none.
 #[derive(Drop)]
-pub struct Event(pub Pair);
+pub(crate) struct Event(pub Pair);
 
 impl fmt::Display for Event {
     fn fmt<W: fmt::Write>(&self, f: &mut fmt::Formatter<W>) -> fmt::Result {

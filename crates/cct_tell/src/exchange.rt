@@ -8,7 +8,7 @@ use cct_wire::{Heard, hear};
 use std::fmt;
 
 /// One exchange: what the host sent, and what it heard behind the echo.
-#[derive(Clone, Copy, Debug)]
+#[derive(Clone, Copy)]
 pub struct Exchange<'e> {
     pub asked: Asked<'e>,
     pub answer: Answer<'e>,

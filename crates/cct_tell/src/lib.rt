@@ -17,13 +17,13 @@ mod record;
 mod refusal;
 mod reply;
 mod request;
+mod short;
 mod told;
 
 pub use answer::Answer;
 pub use asked::Asked;
-pub use event::Event;
 pub use exchange::Exchange;
 pub use header::name_of;
 pub use line::read_line;
-pub use reply::Says;
+pub use short::Short;
 pub use told::Told;

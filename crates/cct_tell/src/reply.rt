@@ -11,7 +11,7 @@ const NO_EVENT: Pair = Pair { a: 0, b: 0 };
 
 /// A reply as people read it.
 #[derive(Drop)]
-pub struct Says<'r>(pub Reply<'r>);
+pub(crate) struct Says<'r>(pub Reply<'r>);
 
 impl fmt::Display for Says<'_> {
     fn fmt<W: fmt::Write>(&self, f: &mut fmt::Formatter<W>) -> fmt::Result {
