@@ -5,8 +5,8 @@ ghost use Rattle.cct_jobs.specs.Jobs.{request_of, stage_halts, stage_puts, visit
 
 use crate::path;
 use crate::payout::Payout;
-use crate::target::form_of;
 use cct_model::{Credits, ReplyForm, Request};
+use cct_msg::form_of;
 
 /// The request that inhibits every coin.
 const INHIBIT: Request = Request::SetMaster { value: 0 };

@@ -4,10 +4,9 @@ ghost use Rattle.std.specs.Option.{option_map};
 ghost use Rattle.cct_model.specs.terms.device.DeviceSetup.{DeviceSetup};
 ghost use Rattle.cct_model.specs.Exchange.{device_at, got};
 ghost use Rattle.cct_model.specs.Reply.{reply_shown};
-ghost use Rattle.cct_model.specs.Request.{form_of};
 ghost use Rattle.cct_jobs.specs.Jobs.{after_failed, reply_wanted, target_of};
 
-use cct_model::{CheckKind, DeviceSetup, Reply, ReplyForm, Request, Setup};
+use cct_model::{CheckKind, DeviceSetup, Reply, ReplyForm, Setup};
 use cct_msg::read_reply;
 use cct_wire::{Heard, hear};
 
@@ -59,42 +58,6 @@ pub(crate) fn wanted_reply<'h>(
             Ok(reply) => Some(reply),
             Err(_) => None,
         },
-    }
-}
-
-/// The form of the reply that a request wants, where it wants one of header 0 in a message.
-#[tactic(auto, unfolding(cct_terms::specs::Request::form_of))]
-pub(crate) fn form_of(request: Request) -> Option<ReplyForm>
-    ensures { result ≡ form_of request }
-{
-    match request {
-        Request::SimplePoll
-        | Request::ResetDevice
-        | Request::SetMask { .. }
-        | Request::SetMaster { .. }
-        | Request::SetPath { .. }
-        | Request::SetDefault { .. }
-        | Request::Enable { .. }
-        | Request::Dispense { .. } => Some(ReplyForm::Ack),
-        Request::MakerId
-        | Request::Category
-        | Request::ProductCode
-        | Request::SoftwareRevision
-        | Request::BuildCode => Some(ReplyForm::Text),
-        Request::SerialNumber => Some(ReplyForm::Serial),
-        Request::CommsRevision => Some(ReplyForm::Revision),
-        Request::GetMask => Some(ReplyForm::Mask),
-        Request::GetMaster => Some(ReplyForm::Master),
-        Request::ReadCredits => Some(ReplyForm::Credits),
-        Request::GetPath { .. } | Request::GetDefault => Some(ReplyForm::Path),
-        Request::CoinId { .. } => Some(ReplyForm::CoinId),
-        Request::AcceptCount => Some(ReplyForm::Accepts),
-        Request::GetStatus => Some(ReplyForm::Status),
-        Request::GetLife => Some(ReplyForm::Life),
-        Request::StopNow => Some(ReplyForm::Remaining),
-        Request::TestHopper => Some(ReplyForm::Register),
-        Request::AddressPoll | Request::CipherDispense | Request::PumpRng | Request::CipherKey =>
-            None,
     }
 }
 

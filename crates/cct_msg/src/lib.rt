@@ -9,6 +9,7 @@ mod reply_reading;
 mod reply_writing;
 mod request_reading;
 mod request_writing;
+mod wanted_form;
 
 pub use cct_terms::{Reply, ReplyForm, Request};
 pub use laws::{
@@ -19,3 +20,4 @@ pub use reply_reading::{NotWanted, read_reply};
 pub use reply_writing::encode_reply;
 pub use request_reading::read_request;
 pub use request_writing::encode_request;
+pub use wanted_form::form_of;

@@ -19,3 +19,4 @@ pub use lines::{Line, Lines, LinesNo};
 pub use numbers::ranged;
 pub use setup::read_setup_line;
 pub use step::read_step_line;
+pub use words::piece_in;

@@ -73,7 +73,7 @@ pub(crate) fn id_in(field: &[u8]) -> Option<[u8; 6]>
 /// The piece of up to `most` bytes that a field spells: a hyphen is the empty piece, else it is in hexadecimal of
 /// either case, two digits a byte.
 #[tactic(auto, unfolding(cct_lines::specs::Grammar::piece_in))]
-pub(crate) fn piece_in(most: usize, field: &[u8]) -> Option<Piece>
+pub fn piece_in(most: usize, field: &[u8]) -> Option<Piece>
     requires { most ≤ MOST_HEARD }
     ensures reads { result ≡ piece_in most field.now }
     ensures few { IfSome result (λ piece. length piece ≤ most) }

@@ -1,0 +1,19 @@
+//! A sequence picture of a run, in SVG: a lane for the host and one for each device, and time downwards.
+#![tactic(auto)]
+
+mod element;
+mod label;
+mod layout;
+mod mark;
+mod page;
+mod picture;
+mod row;
+mod shape;
+mod words;
+
+pub use label::{Label, MOST_LABEL};
+pub use mark::{FaultAt, Happening, Heard, Mark};
+pub use picture::{MOST_MARKS, Picture};
+
+#[cfg(test)]
+mod tests;

@@ -1,0 +1,106 @@
+//! What a picture shows: a mark for each line of a transcript.
+
+use crate::Label;
+use cct_lines::Record;
+
+/// What the host heard in an exchange, behind what it sent.
+#[derive(Clone, Copy, Debug, PartialEq, Eq)]
+pub enum Heard {
+    /// Its echo, and a reply that is neither of the next two.
+    Answered,
+    /// Its echo, and NAK (ccTalk Generic Specification 4, header 5).
+    Nak,
+    /// Its echo, and BUSY (ccTalk Generic Specification 4, header 6).
+    Busy,
+    /// Its echo, and no byte behind it.
+    Silence,
+    /// Its echo, and behind it bytes that are no reply.
+    Damaged,
+    /// Something else than its echo first, or nothing at all.
+    DamagedEcho,
+}
+
+/// What happened in or at a device.
+#[derive(Clone, Copy, Debug, PartialEq, Eq)]
+pub enum Happening {
+    /// An acceptor took a coin of this place, which fell by this sorter path.
+    Accepted { place: u8, path: u8 },
+    /// An acceptor gave a coin of this place back.
+    Inhibited { place: u8 },
+    /// A piece that is no coin fell into an acceptor.
+    Alien,
+    /// A coin fell out of a hopper.
+    Fell,
+    /// No coin fell, since the hopper had none left to pay.
+    NoFall,
+    /// A coin stuck in a hopper.
+    Jammed,
+    /// No coin stuck, since the hopper had none left to pay.
+    NoJam,
+    /// The device started again.
+    Reset,
+}
+
+/// Where the wire has a fault in the next exchange.
+#[derive(Clone, Copy, Debug, PartialEq, Eq)]
+pub enum FaultAt {
+    /// Nowhere: a fault that was set is cleared.
+    Nowhere,
+    /// The devices hear something else than the host sends.
+    Devices,
+    /// The host hears its echo, and behind it something else than the replies.
+    Host,
+    /// The host hears something else than its echo and the replies.
+    Whole,
+}
+
+/// One row of a picture. The texts are those of the transcript (`docs/TRANSCRIPT.md`).
+#[derive(Debug, Drop)]
+pub enum Mark {
+    /// An exchange with the device at the address, or with all for address 0: the header of what the host sent and its
+    /// name, what the host heard, and what the reply says, which may be nothing.
+    Exchange {
+        addr: u8,
+        header: u8,
+        name: Label,
+        heard: Heard,
+        says: Label,
+    },
+    /// Something happened in the device at the address.
+    Happened {
+        addr: u8,
+        what: Happening,
+    },
+    /// The wire has a fault in the next exchange: the host or the devices hear this piece, in hexadecimal.
+    Fault {
+        at: FaultAt,
+        piece: Label,
+    },
+    /// The host took a command, as `pay 3 41 4`.
+    Taken(Label),
+    /// The host refused a command, as `pay 3 41 4 short 30`.
+    Refused(Label),
+    /// The host put a record.
+    Put(Record),
+    /// A record was kept of a put that a loss of power cut off.
+    Kept(Record),
+    /// A job ended, as `posted 2`.
+    Ended(Label),
+    /// The host lost its power, and started again over so many records.
+    Crash {
+        records: u32,
+    },
+    /// Any other line.
+    Note(Label),
+}
+
+impl Mark {
+    /// The device in whose lane a mark is drawn, if it is in one.
+    pub(crate) fn device(&self) -> Option<u8> {
+        match self {
+            Mark::Exchange { addr: 0, .. } | Mark::Happened { addr: 0, .. } => None,
+            Mark::Exchange { addr, .. } | Mark::Happened { addr, .. } => Some(*addr),
+            _ => None,
+        }
+    }
+}

@@ -1,0 +1,170 @@
+//! What the host heard.
+
+use crate::asked::{Asked, Message};
+use crate::fault::{Fault, check_name};
+use crate::lists::Addresses;
+use crate::reply::Says;
+use cct_frame::{FrameFault, FrameView};
+use cct_lines::{BROADCAST, CheckKind};
+use cct_msg::{NotWanted, Reply, ReplyForm, Request, form_of, read_reply};
+use cct_wire::{EchoBad, Heard, bare_after_echo, hear};
+use std::fmt;
+
+/// What was heard in an exchange, behind the echo of what was sent.
+#[derive(Clone, Copy)]
+pub enum Answer<'e> {
+    /// The echo is damaged: at the place `at`, counted from 0, `sent` was sent and `heard` was heard, or no byte.
+    EchoBad {
+        at: usize,
+        sent: Option<u8>,
+        heard: Option<u8>,
+    },
+    /// No byte.
+    Silence,
+    /// The bare addresses that answer an address poll.
+    Addresses(&'e [u8]),
+    /// A piece that is no message under the check of the request.
+    Broken(FrameFault),
+    /// The reply that was wanted, NAK or BUSY.
+    Reply {
+        kind: CheckKind,
+        from: u8,
+        reply: Reply<'e>,
+    },
+    /// A message that is not the reply that was wanted.
+    NotWanted {
+        kind: CheckKind,
+        view: FrameView<'e>,
+    },
+    /// A message behind something of which it isn't known what reply it wants.
+    Message {
+        kind: CheckKind,
+        view: FrameView<'e>,
+    },
+}
+
+impl<'e> Answer<'e> {
+    /// Reads what was heard behind what was asked.
+    pub(crate) fn new(
+        kind: CheckKind,
+        asked: &Asked<'_>,
+        sent: &[u8],
+        heard: &'e [u8],
+    ) -> Answer<'e> {
+        match *asked {
+            Asked::Request {
+                to: BROADCAST,
+                request: Request::AddressPoll,
+                ..
+            } => bare_answer(sent, heard),
+            Asked::Request { to, request, .. } => {
+                message_answer(kind, Some(to), form_of(request), sent, heard)
+            }
+            Asked::Message { view, .. } => message_answer(kind, Some(view.to), None, sent, heard),
+            Asked::Nothing | Asked::Broken(_) => message_answer(kind, None, None, sent, heard),
+        }
+    }
+}
+
+/// What was heard behind something that was sent to `asked`, with the form of its reply, where both are known.
+fn message_answer<'e>(
+    kind: CheckKind,
+    asked: Option<u8>,
+    form: Option<ReplyForm>,
+    sent: &[u8],
+    heard: &'e [u8],
+) -> Answer<'e> {
+    match hear(kind, sent, heard) {
+        Heard::EchoBad { at } => bad_echo(at, sent, heard),
+        Heard::Silence => Answer::Silence,
+        Heard::Broken(fault) => Answer::Broken(fault),
+        Heard::Message(view) => match asked {
+            Some(from) => reply_answer(kind, from, form, view),
+            None => Answer::Message { kind, view },
+        },
+    }
+}
+
+/// What a message says that follows something sent to `from`. Where no form is known, it may still be bare: ACK, NAK or
+/// BUSY.
+fn reply_answer(
+    kind: CheckKind,
+    from: u8,
+    form: Option<ReplyForm>,
+    view: FrameView<'_>,
+) -> Answer<'_> {
+    let reply = match read_reply(form.unwrap_or(ReplyForm::Ack), from, &view) {
+        Ok(reply) => reply,
+        Err(NotWanted::Nak) => Reply::Nak,
+        Err(NotWanted::Busy) => Reply::Busy,
+        Err(NotWanted::Other) if form.is_none() => return Answer::Message { kind, view },
+        Err(NotWanted::Other) => return Answer::NotWanted { kind, view },
+    };
+    Answer::Reply { kind, from, reply }
+}
+
+/// What was heard behind an address poll, which is answered by bare addresses.
+fn bare_answer<'e>(sent: &[u8], heard: &'e [u8]) -> Answer<'e> {
+    match bare_after_echo(sent, heard) {
+        Err(EchoBad { at }) => bad_echo(at, sent, heard),
+        Ok([]) => Answer::Silence,
+        Ok(addresses) => Answer::Addresses(addresses),
+    }
+}
+
+/// An echo that is damaged first at a place.
+fn bad_echo<'e>(at: usize, sent: &[u8], heard: &[u8]) -> Answer<'e> {
+    Answer::EchoBad {
+        at,
+        sent: sent.get(at).copied(),
+        heard: heard.get(at).copied(),
+    }
+}
+
+impl fmt::Display for Answer<'_> {
+    fn fmt<W: fmt::Write>(&self, f: &mut fmt::Formatter<W>) -> fmt::Result {
+        match *self {
+            Answer::EchoBad { at, sent, heard } => write_bad_echo(at, sent, heard, f),
+            Answer::Silence => f.write_str("silence"),
+            Answer::Addresses(addresses) => {
+                let addresses = Addresses(addresses);
+                write!(f, "to host, bare addresses: {addresses}")
+            }
+            Answer::Broken(fault) => {
+                let why = Fault(fault);
+                write!(f, "the host heard no message: {why}")
+            }
+            Answer::Reply { kind, from, reply } => {
+                let says = Says(reply);
+                let check = check_name(kind);
+                write!(f, "{from} to host: {says}; {check} good")
+            }
+            Answer::NotWanted { kind, view } => {
+                let message = Message { kind, view };
+                write!(f, "not the wanted reply, {message}")
+            }
+            Answer::Message { kind, view } => {
+                let message = Message { kind, view };
+                write!(f, "{message}")
+            }
+        }
+    }
+}
+
+/// Writes where the echo is damaged, counted from 1, and how.
+fn write_bad_echo<W: fmt::Write>(
+    at: usize,
+    sent: Option<u8>,
+    heard: Option<u8>,
+    f: &mut fmt::Formatter<W>,
+) -> fmt::Result {
+    let place = at.saturating_add(1);
+    write!(f, "the echo is damaged at byte {place}")?;
+    if let Some(byte) = sent {
+        write!(f, ": {byte:02x} was sent")?;
+    }
+    match heard {
+        Some(byte) => write!(f, " and {byte:02x} heard"),
+        None => f.write_str(" and no byte heard"),
+    }
+}

@@ -1,0 +1,133 @@
+//! What the host sent.
+
+use crate::fault::{NoMessage, check_name};
+use crate::header::name_of;
+use crate::lists::Hex;
+use crate::request::Values;
+use cct_frame::{FrameView, read};
+use cct_lines::{BROADCAST, CheckKind, HOST};
+use cct_msg::{Request, read_request};
+use std::fmt;
+
+/// What was sent in an exchange.
+#[derive(Clone, Copy)]
+pub enum Asked<'e> {
+    /// No byte.
+    Nothing,
+    /// A request of the host to an address, or to all by address 0, under this check and with this header.
+    Request {
+        kind: CheckKind,
+        to: u8,
+        header: u8,
+        request: Request,
+    },
+    /// A message under this check that is no request, or that another address than the host's sent.
+    Message {
+        kind: CheckKind,
+        view: FrameView<'e>,
+    },
+    /// A piece that is no message under either check.
+    Broken(&'e [u8]),
+}
+
+impl<'e> Asked<'e> {
+    /// Reads what was sent under a check.
+    pub(crate) fn new(kind: CheckKind, sent: &'e [u8]) -> Asked<'e> {
+        if sent.is_empty() {
+            return Asked::Nothing;
+        }
+        let Ok(view) = read(kind, sent) else {
+            return Asked::Broken(sent);
+        };
+        match read_request(&view) {
+            Some(request) if view.from.unwrap_or(HOST) == HOST => Asked::Request {
+                kind,
+                to: view.to,
+                header: view.header,
+                request,
+            },
+            _ => Asked::Message { kind, view },
+        }
+    }
+}
+
+impl fmt::Display for Asked<'_> {
+    fn fmt<W: fmt::Write>(&self, f: &mut fmt::Formatter<W>) -> fmt::Result {
+        match *self {
+            Asked::Nothing => f.write_str("the host sent nothing"),
+            Asked::Request {
+                kind,
+                to,
+                header,
+                request,
+            } => {
+                let to = Recipient(to);
+                let name = name_of(header).unwrap_or("request");
+                let values = Values(&request);
+                let check = check_name(kind);
+                write!(f, "host to {to}: {name} ({header}){values}; {check} good")
+            }
+            Asked::Message { kind, view } => {
+                let message = Message { kind, view };
+                write!(f, "{message}")
+            }
+            Asked::Broken(piece) => {
+                let why = NoMessage(piece);
+                write!(f, "the host sent no message: {why}")
+            }
+        }
+    }
+}
+
+/// An address that a message is for.
+#[derive(Drop)]
+struct Recipient(u8);
+
+impl fmt::Display for Recipient {
+    fn fmt<W: fmt::Write>(&self, f: &mut fmt::Formatter<W>) -> fmt::Result {
+        match self.0 {
+            BROADCAST => f.write_str("all"),
+            HOST => f.write_str("host"),
+            addr => write!(f, "{addr}"),
+        }
+    }
+}
+
+/// Who sent a message, with a space behind it; nothing where the message names nobody.
+#[derive(Drop)]
+struct Sender(Option<u8>);
+
+impl fmt::Display for Sender {
+    fn fmt<W: fmt::Write>(&self, f: &mut fmt::Formatter<W>) -> fmt::Result {
+        match self.0 {
+            None => Ok(()),
+            Some(HOST) => f.write_str("host "),
+            Some(addr) => write!(f, "{addr} "),
+        }
+    }
+}
+
+/// A message whose values aren't read, by its header and its data.
+#[derive(Drop)]
+pub(crate) struct Message<'e> {
+    pub kind: CheckKind,
+    pub view: FrameView<'e>,
+}
+
+impl fmt::Display for Message<'_> {
+    fn fmt<W: fmt::Write>(&self, f: &mut fmt::Formatter<W>) -> fmt::Result {
+        let from = Sender(self.view.from);
+        let to = Recipient(self.view.to);
+        let header = self.view.header;
+        write!(f, "{from}to {to}: header {header}")?;
+        if let Some(name) = name_of(header) {
+            write!(f, " ({name})")?;
+        }
+        if !self.view.body.is_empty() {
+            let body = Hex(self.view.body);
+            write!(f, ", data {body}")?;
+        }
+        let check = check_name(self.kind);
+        write!(f, "; {check} good")
+    }
+}

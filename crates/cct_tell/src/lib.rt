@@ -1,0 +1,29 @@
+//! What a line of a transcript says, and what an exchange on the wire says, in words for people (`docs/SHOW.md`). The
+//! bytes of the wire are read by the proved readers of `cct_wire`, `cct_frame` and `cct_msg` alone.
+#![tactic(auto)]
+
+mod answer;
+mod asked;
+mod ends;
+mod event;
+mod exchange;
+mod fault;
+mod fields;
+mod header;
+mod line;
+mod lists;
+mod posting;
+mod record;
+mod refusal;
+mod reply;
+mod request;
+mod short;
+mod told;
+
+pub use answer::Answer;
+pub use asked::Asked;
+pub use exchange::Exchange;
+pub use header::name_of;
+pub use line::read_line;
+pub use short::Short;
+pub use told::Told;

@@ -1,0 +1,180 @@
+//! The entry that a line of a transcript is.
+
+use crate::ends::end_line;
+use crate::fields::{amount, byte, fields_of, number, one_byte, one_number, two_bytes};
+use crate::record::record_in;
+use crate::refusal::refusal_in;
+use cct_lines::{Coin, Entry, MOST_HEARD, MOST_SENT, Sent, Step, Totals};
+use cct_script::{piece_in, read_step_line};
+
+/// What a line of a transcript says, without its line feed (`docs/TRANSCRIPT.md`), or a line of a bus logger: two pieces
+/// in hexadecimal, what was sent and what was heard, each a hyphen where it is empty. That is an exchange with the
+/// address that the first byte sent names.
+///
+/// `None` for any other line, and for those of which there is no more to say: the list of a scan, a refused line, the
+/// faults of a file, and the sums of a load.
+pub fn read_line(line: &[u8]) -> Option<Entry> {
+    let fields = fields_of(line)?;
+    let (word, rest) = fields.as_slice().split_first()?;
+    match *word {
+        b"wire" => wire_line(rest),
+        b"put" => Some(Entry::Put(record_in(rest)?)),
+        b"kept" => Some(Entry::Kept(record_in(rest)?)),
+        b"record" => listing_line(rest),
+        b"ok" => taken_line(line),
+        b"no" => refused_line(line),
+        b"fault" => fault_line(line),
+        word => device_line(word, rest),
+    }
+}
+
+/// The line `wire A SENT HEARD`.
+fn wire_line(rest: &[&[u8]]) -> Option<Entry> {
+    match rest {
+        [addr, sent, heard] => exchange_in(byte(addr)?, sent, heard),
+        _ => None,
+    }
+}
+
+/// The exchange with an address that two fields spell.
+fn exchange_in(addr: u8, sent: &[u8], heard: &[u8]) -> Option<Entry> {
+    let mut message = Sent::new();
+    message.extend_from_slice(piece_in(MOST_SENT, sent)?.as_slice());
+    Some(Entry::Wire {
+        addr,
+        sent: message,
+        heard: piece_in(MOST_HEARD, heard)?,
+    })
+}
+
+/// The line `record INDEX RECORD` of a report.
+fn listing_line(rest: &[&[u8]]) -> Option<Entry> {
+    let (index, record) = rest.split_first()?;
+    Some(Entry::Listing {
+        index: number(index)?,
+        entry: record_in(record)?,
+    })
+}
+
+/// The line `ok COMMAND`: behind its word stands the line of the command.
+fn taken_line(line: &[u8]) -> Option<Entry> {
+    match read_step_line(line.strip_prefix(b"ok ")?) {
+        Ok(Step::Command(command)) => Some(Entry::Taken(command)),
+        _ => None,
+    }
+}
+
+/// The line `no COMMAND REASON`.
+fn refused_line(line: &[u8]) -> Option<Entry> {
+    let (command, why) = refusal_in(line.strip_prefix(b"no ")?)?;
+    Some(Entry::No { command, why })
+}
+
+/// The line of a fault, which is that of the script.
+fn fault_line(line: &[u8]) -> Option<Entry> {
+    match read_step_line(line) {
+        Ok(Step::Fault(fault)) => Some(Entry::Fault(fault)),
+        _ => None,
+    }
+}
+
+/// A line that says what happened to a device; or another line.
+fn device_line(word: &[u8], rest: &[&[u8]]) -> Option<Entry> {
+    match word {
+        b"accepted" => accepted_line(rest),
+        b"inhibited" => inhibited_line(rest),
+        b"alien" => Some(Entry::Alien {
+            addr: one_byte(rest)?,
+        }),
+        b"fell" => Some(Entry::Fell {
+            addr: one_byte(rest)?,
+        }),
+        b"nofall" => Some(Entry::NoFall {
+            addr: one_byte(rest)?,
+        }),
+        b"jammed" => Some(Entry::Jammed {
+            addr: one_byte(rest)?,
+        }),
+        b"nojam" => Some(Entry::NoJam {
+            addr: one_byte(rest)?,
+        }),
+        b"reset" => Some(Entry::Reset {
+            addr: one_byte(rest)?,
+        }),
+        _ => host_line(word, rest),
+    }
+}
+
+/// The line `accepted A PLACE PATH`.
+fn accepted_line(rest: &[&[u8]]) -> Option<Entry> {
+    let (addr, coin) = rest.split_first()?;
+    let addr = byte(addr)?;
+    let (place, path) = two_bytes(coin)?;
+    Some(Entry::Accepted {
+        addr,
+        coin: Coin { place, path },
+    })
+}
+
+/// The line `inhibited A PLACE`.
+fn inhibited_line(rest: &[&[u8]]) -> Option<Entry> {
+    let (addr, place) = two_bytes(rest)?;
+    Some(Entry::Inhibited { addr, place })
+}
+
+/// A line that says what happened to the host, or what it has; or another line.
+fn host_line(word: &[u8], rest: &[&[u8]]) -> Option<Entry> {
+    match word {
+        b"idle" => Some(Entry::Idle {
+            addr: one_byte(rest)?,
+        }),
+        b"crash" => Some(Entry::Crash {
+            records: one_number(rest)?,
+        }),
+        b"balance" => balance_line(rest),
+        b"total" => total_line(rest),
+        _ => match end_line(word, rest) {
+            Some(entry) => Some(entry),
+            None => logged_line(word, rest),
+        },
+    }
+}
+
+/// The line `balance AVAILABLE RESERVED PAID SOLD`.
+fn balance_line(rest: &[&[u8]]) -> Option<Entry> {
+    let [available, reserved, paid, sold] = rest else {
+        return None;
+    };
+    Some(Entry::Balance(Totals {
+        available: amount(available)?,
+        reserved: amount(reserved)?,
+        paid: amount(paid)?,
+        sold: amount(sold)?,
+    }))
+}
+
+/// The line `total POSTED LOST PAID UNPAID SOLD` of a report.
+fn total_line(rest: &[&[u8]]) -> Option<Entry> {
+    let [posted, lost, paid, unpaid, sold] = rest else {
+        return None;
+    };
+    Some(Entry::Total {
+        posted: amount(posted)?,
+        lost: amount(lost)?,
+        paid: amount(paid)?,
+        unpaid: amount(unpaid)?,
+        sold: amount(sold)?,
+    })
+}
+
+/// The line of a bus logger: what was sent, and behind it what was heard.
+fn logged_line(sent: &[u8], rest: &[&[u8]]) -> Option<Entry> {
+    let [heard] = rest else {
+        return None;
+    };
+    let addr = match piece_in(MOST_SENT, sent)?.as_slice() {
+        [] => 0,
+        [addr, ..] => *addr,
+    };
+    exchange_in(addr, sent, heard)
+}

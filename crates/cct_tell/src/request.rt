@@ -1,0 +1,34 @@
+//! What a request says behind its name.
+
+use crate::lists::{Count, Places};
+use cct_lines::ENABLE_CODE;
+use cct_msg::Request;
+use std::fmt;
+
+/// The values of a request, behind a colon; nothing where it has none.
+#[derive(Drop)]
+pub(crate) struct Values<'r>(pub &'r Request);
+
+impl fmt::Display for Values<'_> {
+    fn fmt<W: fmt::Write>(&self, f: &mut fmt::Formatter<W>) -> fmt::Result {
+        match *self.0 {
+            Request::SetMask { mask } => {
+                let places = Places(mask);
+                write!(f, ": accept {places}")
+            }
+            Request::SetMaster { value } if value & 1 == 1 => f.write_str(": normal operation"),
+            Request::SetMaster { .. } => f.write_str(": every coin inhibited"),
+            Request::SetPath { place, path } => write!(f, ": place {place} by path {path}"),
+            Request::GetPath { place } | Request::CoinId { place } => write!(f, ": place {place}"),
+            Request::SetDefault { path } => write!(f, ": path {path}"),
+            Request::Enable { code: ENABLE_CODE } => f.write_str(": it may pay"),
+            Request::Enable { .. } => f.write_str(": it may not pay"),
+            Request::Dispense { serial, count } => {
+                let coins = Count(u64::from(count), "coin");
+                write!(f, ": {coins}, by the hopper with serial number {serial}")
+            }
+            Request::CipherDispense => f.write_str(", under a cipher"),
+            _ => Ok(()),
+        }
+    }
+}

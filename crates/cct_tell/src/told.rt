@@ -1,0 +1,106 @@
+//! What people read below a line.
+
+use crate::exchange::Exchange;
+use crate::lists::Hex;
+use crate::posting::Means;
+use cct_lines::{End, Entry, Totals, WireFault};
+use std::fmt;
+
+/// What people read below the line of an entry: lines that are indented by four spaces, each with its line feed; nothing
+/// where the line says it all.
+#[derive(Drop)]
+pub struct Told<'e>(pub &'e Entry);
+
+impl fmt::Display for Told<'_> {
+    fn fmt<W: fmt::Write>(&self, f: &mut fmt::Formatter<W>) -> fmt::Result {
+        match self.0 {
+            Entry::Wire { sent, heard, .. } => {
+                let exchange = Exchange::new(sent.as_slice(), heard.as_slice());
+                write!(f, "{exchange}")
+            }
+            Entry::Put(record) => {
+                let means = Means(record);
+                write!(f, "    {means}\n")
+            }
+            Entry::Kept(record) => {
+                let means = Means(record);
+                write!(f, "    kept of the put that was cut off: {means}\n")
+            }
+            Entry::Listing { entry, .. } => {
+                let means = Means(entry);
+                write!(f, "    {means}\n")
+            }
+            Entry::No { why, .. } => write!(f, "    refused, since {why}\n"),
+            Entry::Fault(fault) => write_fault(fault, f),
+            Entry::Ended { end, .. } => write_end(*end, f),
+            _ => write_sums(self.0, f),
+        }
+    }
+}
+
+/// Writes what a fault on the wire does.
+fn write_fault<W: fmt::Write>(fault: &WireFault, f: &mut fmt::Formatter<W>) -> fmt::Result {
+    match fault {
+        WireFault::Clear => Ok(()),
+        WireFault::DevicesHear(_) => {
+            f.write_str(
+                "    in the next exchange the devices hear this in place of what the host sends\n",
+            )
+        }
+        WireFault::HostHears(_) => {
+            f.write_str(
+                "    in the next exchange the host hears this behind its echo, in place of the replies\n",
+            )
+        }
+        WireFault::WholeHeard(_) => {
+            f.write_str("    in the next exchange this is all that the host hears\n")
+        }
+    }
+}
+
+/// Writes what an end means that isn't a good one (`docs/OPERATING.md`).
+fn write_end<W: fmt::Write>(end: End, f: &mut fmt::Formatter<W>) -> fmt::Result {
+    f.write_str(match end {
+        End::StartUnsure =>
+            "    the mask was sent and not acknowledged: the epoch runs, and the next round tells\n",
+        End::Unquiet { .. } => "    pieces fell in behind the reset: no epoch began\n",
+        End::Broke =>
+            "    the epoch is over, and coins of it may be lost: the cash box is to be counted\n",
+        End::OddLife =>
+            "    more coins fell than the order has: what the hopper paid is to be counted\n",
+        End::NoAnswer => "    three tries in succession got no wanted reply\n",
+        _ => "",
+    })
+}
+
+/// Writes sums by their names, and what is left behind a loss of power.
+fn write_sums<W: fmt::Write>(entry: &Entry, f: &mut fmt::Formatter<W>) -> fmt::Result {
+    match entry {
+        Entry::Crash { records } => write!(
+            f,
+            "    the host lost its power and started again over {records} records; no job is left\n"
+        ),
+        Entry::Balance(
+            Totals {
+                available,
+                reserved,
+                paid,
+                sold,
+            },
+        ) => write!(
+            f,
+            "    {available} available, {reserved} reserved, {paid} paid, {sold} sold\n"
+        ),
+        Entry::Total {
+            posted,
+            lost,
+            paid,
+            unpaid,
+            sold,
+        } => write!(
+            f,
+            "    {posted} coins posted, {lost} events overrun, {paid} coins paid, {unpaid} unpaid, {sold} sold\n"
+        ),
+        _ => Ok(()),
+    }
+}
