@@ -17,11 +17,6 @@ def holds(whole: list[str], part: list[str]) -> bool:
     return any(whole[at:at + len(part)] == part for at in range(len(whole) - len(part) + 1))
 
 
-def dedented(lines: list[str]) -> list[str]:
-    margin = min((len(line) - len(line.lstrip()) for line in lines if line.strip()), default=0)
-    return [line[margin:] for line in lines]
-
-
 def stands(root: Path, block: markdown.Block, name: str) -> list[str]:
     """The block's lines stand in the file, at whatever margin."""
     lines = (root / name).read_text().splitlines()
@@ -32,15 +27,30 @@ def stands(root: Path, block: markdown.Block, name: str) -> list[str]:
     return [f"{block.path.name}:{block.line}: doesn't stand in {name}"]
 
 
+def bytes_of(table: markdown.Table) -> str:
+    """The bytes of a table's first column, in hexadecimal."""
+    return "".join(markdown.quoted(row.cells[0])[0].replace(" ", "") for row in table.rows)
+
+
 def code(root: Path):
-    """Each block of Rust that a document shows below the name of a file stands in that file."""
+    """Each block of Rust that a document shows below the name of a file stands in that file, and each table of bytes below
+    one spells a string of bytes in a block of its section."""
     count, faults = 0, []
     for path in [root / "README.md", *sorted(root.glob("docs/*.md"))]:
-        for block in markdown.read(path)[1]:
+        tables, blocks = markdown.read(path)
+        shown = {}
+        for block in blocks:
             named = [name for name in markdown.quoted(block.above) if re.fullmatch(r"crates/.*\.rt", name)]
             if block.words == "rust" and named:
                 count += 1
+                shown[block.section] = shown.get(block.section, "") + "\n".join(block.lines)
                 faults += stands(root, block, named[-1])
+        for table in tables:
+            if table.header[0] == "Bytes" and table.section in shown:
+                count += 1
+                spelt = '"' + re.sub("(..)", r"\\x\1", bytes_of(table)) + '"'
+                if spelt not in shown[table.section]:
+                    faults.append(f"{path.name}:{table.rows[0].line}: {spelt} isn't in the code above")
     return count, faults
 
 
@@ -59,9 +69,8 @@ def transcripts(root: Path):
         if table.header[0] in ("Byte", "Bytes") and table.section in shown:
             count += 1
             said = markdown.quoted(table.above)[-1].replace(" ", "")
-            bytes_of = "".join(markdown.quoted(row.cells[0])[0].replace(" ", "") for row in table.rows)
-            if bytes_of != said or said not in shown[table.section]:
-                faults.append(f"TRANSCRIPT.md:{table.rows[0].line}: {bytes_of} beside {said}")
+            if bytes_of(table) != said or said not in shown[table.section]:
+                faults.append(f"TRANSCRIPT.md:{table.rows[0].line}: {bytes_of(table)} beside {said}")
     return count, faults
 
 
