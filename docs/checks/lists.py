@@ -1,4 +1,4 @@
-"""Lists that stand in a document and in the tree: crates, must-fail edits, examples."""
+"""Lists and names that stand in a document and in the tree: crates, must-fail edits, examples, files."""
 
 import re
 from pathlib import Path
@@ -75,3 +75,20 @@ def examples(root: Path):
                        for line in markdown.quoted(row.cells[table.header.index("Look at")]) if line not in written]
     faults += [f"{name}: two rows" for name in sorted(set(told)) if told.count(name) > 1]
     return len(told), difference("examples/", there, "examples/README.md", set(told)) + faults
+
+
+def paths(root: Path):
+    """Each file and folder that a document names is there, and has the word that is said to stand in it."""
+    count, faults = 0, []
+    for path in [root / "README.md", *sorted(root.glob("*/*.md"))]:
+        for number, line in enumerate(path.read_text().splitlines(), 1):
+            for word, name in re.findall(r"(?:`(\w+)` in )?`((?:bench|crates|docs|examples)/[^` ]*[^` .])`", line):
+                # those that stand for any name, and what is built
+                if re.search(r"NAME|EDIT|\*|/out\b", name):
+                    continue
+                count += 1
+                if not (root / name).exists():
+                    faults.append(f"{path.name}:{number}: {name} isn't there")
+                elif word and (root / name).is_file() and word not in (root / name).read_text():
+                    faults.append(f"{path.name}:{number}: {word} isn't in {name}")
+    return count, faults
