@@ -1,0 +1,94 @@
+"""Lists and names that stand in a document and in the tree: crates, must-fail edits, examples, files."""
+
+import re
+from pathlib import Path
+
+import markdown
+
+
+def stands_on(root: Path) -> dict[str, list[str]]:
+    """By each crate of crates.txt, the libraries that its line names."""
+    lines = (root / "crates.txt").read_text().splitlines()
+    return {line.split(":")[0]: line.split(":")[1].split() for line in lines if ":" in line and not line.startswith("#")}
+
+
+def below(root: Path) -> dict[str, list[str]]:
+    """By each crate, all crates of the repository below it."""
+    direct = stands_on(root)
+
+    def reach(name: str) -> list[str]:
+        found = []
+        for each in direct[name]:
+            if each in direct:
+                found += [each, *reach(each)]
+        return list(dict.fromkeys(found))
+
+    return {name: reach(name) for name in direct}
+
+
+def difference(left: str, lefts: set[str], right: str, rights: set[str]) -> list[str]:
+    return ([f"{each}: in {left} alone" for each in sorted(lefts - rights)]
+            + [f"{each}: in {right} alone" for each in sorted(rights - lefts)])
+
+
+def crates(root: Path):
+    """The crates of docs/ARCHITECTURE.md, and what each stands on, are those of crates.txt."""
+    listed = {f"{name}: {' '.join(on)}" for name, on in stands_on(root).items()}
+    told = set()
+    for table in markdown.read(root / "docs/ARCHITECTURE.md")[0]:
+        if "Stands on" in table.header:
+            column = table.header.index("Stands on")
+            for row in table.rows:
+                on = row.cells[column].replace("`", "").replace(",", "")
+                told.add(f"{row.cells[0].strip('`')}: {'' if on == 'nothing' else on}")
+    return len(told), difference("crates.txt", listed, "docs/ARCHITECTURE.md", told)
+
+
+def edits(root: Path):
+    """The must-fail edits that docs/PROOFS.md names, each in the section of its crate, are those that are there."""
+    there = {f"{path.parent.parent.name} {path.stem}" for path in root.glob("crates/*/must-fail/*.edit")}
+    named = set()
+    for table in markdown.read(root / "docs/PROOFS.md")[0]:
+        section = re.search(r"cct_\w+", table.section)
+        if "Edit" in table.header and section:
+            column = table.header.index("Edit")
+            for row in table.rows:
+                own = re.fullmatch(r"`(cct_\w+)`", row.cells[0])
+                crate = own[1] if own else section[0]
+                named.update(f"{crate} {edit}" for edit in markdown.quoted(row.cells[column])
+                             if not edit.startswith("cct_"))
+    return len(named), difference("crates/*/must-fail", there, "docs/PROOFS.md", named)
+
+
+def examples(root: Path):
+    """Each example has its row in examples/README.md, each row its example, and each line to look at stands in its
+    transcript."""
+    there = {path.stem for path in root.glob("examples/*.status")}
+    told, faults = [], []
+    for table in markdown.read(root / "examples/README.md")[0]:
+        for row in table.rows:
+            name = markdown.quoted(row.cells[0])[0]
+            told.append(name)
+            transcript = root / f"examples/{name}.transcript"
+            written = transcript.read_text() if transcript.exists() else ""
+            faults += [f"examples/README.md:{row.line}: {name} doesn't write {line}"
+                       for line in markdown.quoted(row.cells[table.header.index("Look at")]) if line not in written]
+    faults += [f"{name}: two rows" for name in sorted(set(told)) if told.count(name) > 1]
+    return len(told), difference("examples/", there, "examples/README.md", set(told)) + faults
+
+
+def paths(root: Path):
+    """Each file and folder that a document names is there, and has the word that is said to stand in it."""
+    count, faults = 0, []
+    for path in [root / "README.md", *sorted(root.glob("*/*.md"))]:
+        for number, line in enumerate(path.read_text().splitlines(), 1):
+            for word, name in re.findall(r"(?:`(\w+)` in )?`((?:bench|crates|docs|examples)/[^` ]*[^` .])`", line):
+                # those that stand for any name, and what is built
+                if re.search(r"NAME|EDIT|\*|/out\b", name):
+                    continue
+                count += 1
+                if not (root / name).exists():
+                    faults.append(f"{path.name}:{number}: {name} isn't there")
+                elif word and (root / name).is_file() and word not in (root / name).read_text():
+                    faults.append(f"{path.name}:{number}: {word} isn't in {name}")
+    return count, faults
