@@ -325,8 +325,14 @@ fn fails_by(
     Ok(status)
 }
 
-// Each of the calls of the put, the loss of power itself, and one read at the least behind it may fail. How many more
-// reads there are is open.
+/// How many calls a loss of power makes in all, so many of a put among them: it cuts the power, and reads the header, the
+/// slot of each record, and the slot behind them.
+fn calls_of_a_loss(made: u64) -> u64 {
+    let records: u64 = if made > 2 { 2 } else { 1 };
+    made.saturating_add(1 + 1 + records + 1)
+}
+
+// Each of these calls may fail, and there is none behind them.
 #[test]
 fn a_loss_of_power_stops_at_each_fault_of_the_disk(rt: HostRuntime) -> Result<(), Fail> {
     let alloc = rt.alloc();
@@ -335,9 +341,9 @@ fn a_loss_of_power_stops_at_each_fault_of_the_disk(rt: HostRuntime) -> Result<()
             let call = CALLS_BEFORE.saturating_add(number);
             for choice in [0, 1, 3] {
                 let status = fails_by(&rt, alloc, (line, made), call, choice)?;
-                assert!(rt;
-                    status == Status::DiskFault
-                        || status == Status::Done && number > made.saturating_add(2),
+                assert_eq!(rt;
+                    status == Status::DiskFault,
+                    number <= calls_of_a_loss(made),
                     "{line}, call {number}"
                 );
             }

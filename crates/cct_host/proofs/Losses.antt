@@ -25,15 +25,14 @@ use Rattle.cct_laws.proofs.Restarts.{crash_bare, crash_frees, crash_keeps}
 use Rattle.cct_laws.proofs.Setups.{same_some}
 use Rattle.cct_host.specs.declared.host.Host.{Host}
 use Rattle.cct_host.specs.declared.refusal.CrashNo.{CrashNo}
-use Rattle.cct_host.specs.declared.refusal.StartNo.{StartNo}
-use Rattle.cct_host.specs.declared.refusal.StartNo.TheVariants.{BadRecord}
+use Rattle.cct_host.specs.declared.recall.Recollection.{Recollection}
 use Rattle.cct_host.specs.declared.restart.Crashed.{Crashed}
 use Rattle.cct_host.specs.Desks as all_desks
 use Rattle.cct_host.specs.Host.{StandsFor, disk_of, journal_of, put_by, setup_of}
-use Rattle.cct_host.specs.Restarting.{Crashes, IsLost, KeptBy, ReadsBad, due_of, told_by}
-use Rattle.cct_host.specs.Starting.{IsFirstBad, OnlyReadIn, RefusesStart, StartsOver, WentOver}
+use Rattle.cct_host.specs.Replaying.{GoesOver, Recollects}
+use Rattle.cct_host.specs.Restarting.{Crashes, IsLost, KeptBy, due_of, told_by}
+use Rattle.cct_host.specs.Starting.{IsFirstBad, StartsOver, WentOver}
 use Rattle.cct_host.proofs.Putting.{one_turned}
-use Rattle.cct_host.proofs.Records.{read_stands, read_tells}
 use Rattle.cct_host.proofs.Starting.{started_stands}
 
 -- an answer passes on
@@ -124,29 +123,15 @@ module _ {D : Type 0} (g : Ghosts D) where
       left_with disk calls due kept rs stands.image by stands.held.keeps_synced stands.held.tells stands.held.only
       stands.keeps
 
-  -- what was opened stands behind a reading of it
-  pub over_stands : (mid new : Journal D g) (calls many : ℕ) (due found kept : Option Record) (rs : List Record)
-      → OnlyReadIn mid new → calls ≡ many → due ≡ found
-      → KeptBy calls due kept × Stands g.honest g.seen g.may_leave (journals.disk_of mid) (journals.place_of mid)
-      (rs ++ put_by kept)
-      → KeptBy many found kept × Stands g.honest g.seen g.may_leave (journals.disk_of new) (journals.place_of new)
-      (rs ++ put_by kept)
-  over_stands mid new calls many due found kept rs read counts is stands = (
-    subst (λ n. KeptBy n found kept) counts (subst (λ d. KeptBy calls d kept) is stands.0),
-    read_stands mid new (rs ++ put_by kept) read stands.1,
-  )
-
-  -- and the first bad record of it is that of what a read gives
-  pub read_bad : (mid new : Journal D g) (setup : Setup) (index : ℕ) (image : List ℕ) → OnlyReadIn mid new
-      → g.seen (journals.disk_of new) ≡ Some image
-      → (g.seen (journals.disk_of mid) ≡ Some image
-      → (rs : List Record) × Reads g.seen (journals.disk_of mid) (journals.place_of mid) rs)
-      → ((rs : List Record) → Reads g.seen (journals.disk_of mid) (journals.place_of mid) rs
-      → IsFirstBad setup rs index)
-      → ReadsBad new setup index
-  read_bad mid new setup index image read tells found bad =
-      let reads = found (sym read.disk.same_seen ∙ tells) in
-      (reads.0, read_tells mid new reads.0 read reads.1, bad reads.0 reads.1)
+  -- the same by what is due, and by how many calls were made
+  pub kept_stands : (journal : Journal D g) (calls many : ℕ) (due found kept : Option Record) (rs : List Record)
+      → calls ≡ many → due ≡ found
+      → KeptBy calls due kept × Stands g.honest g.seen g.may_leave (journals.disk_of journal)
+      (journals.place_of journal) (rs ++ put_by kept)
+      → KeptBy many found kept × Stands g.honest g.seen g.may_leave (journals.disk_of journal)
+      (journals.place_of journal) (rs ++ put_by kept)
+  kept_stands journal calls many due found kept rs counts is stands =
+      (subst (λ n. KeptBy n found kept) counts (subst (λ d. KeptBy calls d kept) is stands.0), stands.1)
 
   -- a read gives what stands
   pub stands_read : (disk : D) (place : Place) (rs : List Record)
@@ -158,11 +143,13 @@ module _ {D : Type 0} (g : Ghosts D) where
     count = stands.count;
   }
 
--- the first bad record, by the answer
-pub bad_of : (why : StartNo) (index : ℕ) (over setup : Setup) (rs : List Record) → why ≡ BadRecord index
-    → over ≡ setup → RefusesStart why over rs → IsFirstBad setup rs index
-bad_of why index over setup rs is same refuses =
-    subst (λ s. IsFirstBad s rs index) same (subst (λ w. RefusesStart w over rs) is refuses)
+-- the first bad record of those that were gone over
+pub first_bad : (first now : Recollection) (setup : Setup) (index : ℕ) (rs : List Record) → now.bad ≡ Some index
+    → all_desks.setup_of first.desks ≡ setup → Recollects first (reverse rs) now → IsFirstBad setup rs index
+first_bad first now setup index rs is same over =
+    subst (λ ls. IsFirstBad setup ls index) (reverse-reverse rs)
+    (subst (λ s. IsFirstBad s (reverse (reverse rs)) index) (over.setup ∙ same)
+    (subst (λ bad. GoesOver bad (all_desks.setup_of now.desks) now.desks now.ledger (reverse rs)) is over.over))
 
 -- records that follow one another have no first bad one
 pub none_bad : (setup : Setup) (rs : List Record) (index : ℕ) → all_follow setup (reverse rs) ≡ true

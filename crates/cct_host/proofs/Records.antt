@@ -1,5 +1,6 @@
 -- A host goes over the records of its journal, oldest first.
-use Rattle.std.proofs.Common.{◌≡◌, ℕ, ◌+◌, ◌&&◌, Bool, true, false, List, [], ◌∷◌, ◌++◌, length, reverse, slice_get, Some, refl, sym, ap, subst, ◌∙◌, arith, append_assoc, append-nil, length-append, true≢false}
+use Rattle.std.proofs.Common.{◌≡◌, ℕ, ◌+◌, ◌&&◌, Bool, true, false, List, [], ◌∷◌, ◌++◌, length, reverse, slice_get, Option, Some, None, refl, sym, ap, subst, ◌∙◌, arith, append_assoc, append-nil, length-append, true≢false}
+use Rattle.std.specs.Option.{is_some}
 use Rattle.std.proofs.lemmas.Bool.{and_from}
 use Rattle.std.proofs.lemmas.List.{length-reverse, nil_from_length, reverse-append, reverse-reverse}
 use Rattle.cct_model.specs.terms.device.Setup.{Setup}
@@ -18,6 +19,7 @@ use Rattle.cct_ledger.proofs.Following.{allowed_alone}
 use Rattle.cct_host.specs.declared.desks.Desks.{Desks}
 use Rattle.cct_host.specs.Desks as all_desks
 use Rattle.cct_host.specs.Recalled.{Recalls}
+use Rattle.cct_host.specs.Replaying.{GoesOver}
 use Rattle.cct_host.specs.Starting.{IsFirstBad, OnlyReadIn, WentOver, WentOverFirst}
 
 -- a journal that was only read
@@ -98,21 +100,53 @@ pub judged : (setup : Setup) (before : List Record) (r : Record) (may : Bool)
 judged setup before r may epochs others = judged_by setup before r may (is_of_money r) refl epochs others
 
 -- so a record that they take is one more that they went over
-pub went_next : (old new : Desks) (ledger posted : Ledger) (rs : List Record) (index : ℕ) (entry : Record)
-    → slice_get rs index ≡ Some entry → all_desks.setup_of new ≡ all_desks.setup_of old
-    → ledgers.setup_of ledger ≡ all_desks.setup_of old
+pub went_on : (old new : Desks) (ledger posted : Ledger) (entry : Record)
+    → all_desks.setup_of new ≡ all_desks.setup_of old → ledgers.setup_of ledger ≡ all_desks.setup_of old
     → ((before : List Record) → Recalls old before → all_follow (all_desks.setup_of old) before ≡ true
     → is_of_money entry ≡ false → true ≡ follows (all_desks.setup_of old) before entry)
     → ledgers.Judges ledger entry true → ledgers.GoesOn ledger posted entry
     → ((before : List Record) → Recalls old before → all_follow (all_desks.setup_of old) before ≡ true
     → follows (all_desks.setup_of old) before entry ≡ true → Recalls new (entry ∷ before))
+    → (before : List Record) → WentOver old ledger before → WentOver new posted (entry ∷ before)
+went_on old new ledger posted entry setup same epochs judges posts recalls before over =
+    let follow : follows (all_desks.setup_of old) before entry ≡ true =
+    sym (judged (all_desks.setup_of old) before entry true (epochs before over.recalls over.follow)
+    (λ _. refl)) ∙ ap (λ s. is_allowed s before 0 entry) (sym same) ∙ sym (judges before 0 over.money) in
+    record {
+      recalls = recalls before over.recalls over.follow follow;
+      money = posts before 0 over.money;
+      follow = subst (λ s. all_follow s (entry ∷ before) ≡ true) (sym setup) (and_from _ _ follow over.follow);
+    }
+
+-- and one that they don't take doesn't follow
+pub desks_refuse : (desks : Desks) (ledger : Ledger) (entry : Record)
+    → ((before : List Record) → Recalls desks before → all_follow (all_desks.setup_of desks) before ≡ true
+    → is_of_money entry ≡ false → false ≡ follows (all_desks.setup_of desks) before entry)
+    → (is_of_money entry ≡ true → false ≡ true)
+    → (before : List Record) → WentOver desks ledger before
+    → follows (all_desks.setup_of desks) before entry ≡ false
+desks_refuse desks ledger entry epochs others before over =
+    sym (judged (all_desks.setup_of desks) before entry false (epochs before over.recalls over.follow) others)
+
+pub ledger_refuses : (desks : Desks) (ledger : Ledger) (entry : Record)
+    → ledgers.setup_of ledger ≡ all_desks.setup_of desks
+    → ((before : List Record) → Recalls desks before → all_follow (all_desks.setup_of desks) before ≡ true
+    → is_of_money entry ≡ false → true ≡ follows (all_desks.setup_of desks) before entry)
+    → ledgers.Judges ledger entry false
+    → (before : List Record) → WentOver desks ledger before
+    → follows (all_desks.setup_of desks) before entry ≡ false
+ledger_refuses desks ledger entry same epochs judges before over =
+    sym (judged (all_desks.setup_of desks) before entry true (epochs before over.recalls over.follow)
+    (λ _. refl)) ∙ ap (λ s. is_allowed s before 0 entry) (sym same) ∙ sym (judges before 0 over.money)
+
+-- where the records are those that a read gives
+
+pub went_next : (old new : Desks) (ledger posted : Ledger) (rs : List Record) (index : ℕ) (entry : Record)
+    → slice_get rs index ≡ Some entry
+    → ((before : List Record) → WentOver old ledger before → WentOver new posted (entry ∷ before))
     → WentOverFirst old ledger rs index → WentOverFirst new posted rs (index + 1)
-went_next old new ledger posted rs index entry there setup same epochs judges posts recalls went =
-    let over = went.over in
+went_next old new ledger posted rs index entry there goes went =
     let next = next_there rs went.before went.later index entry went.all went.many there in
-    let follow : follows (all_desks.setup_of old) went.before entry ≡ true =
-    sym (judged (all_desks.setup_of old) went.before entry true (epochs went.before over.recalls over.follow)
-    (λ _. refl)) ∙ ap (λ s. is_allowed s went.before 0 entry) (sym same) ∙ sym (judges went.before 0 over.money) in
     record {
       before = entry ∷ went.before;
       later = next.0;
@@ -120,20 +154,15 @@ went_next old new ledger posted rs index entry there setup same epochs judges po
           ∙ sym (append_assoc (reverse went.before) (entry ∷ []) next.0)
           ∙ ap (λ ls. ls ++ next.0) (sym (reverse-append (entry ∷ []) went.before));
       many = omega (arith, went.many);
-      over = record {
-        recalls = recalls went.before over.recalls over.follow follow;
-        money = posts went.before 0 over.money;
-        follow = subst (λ s. all_follow s (entry ∷ went.before) ≡ true) (sym setup)
-            (and_from _ _ follow over.follow);
-      };
+      over = goes went.before went.over;
     }
 
--- and one that they don't take is the first bad one
-bad_at : (setup : Setup) (desks : Desks) (ledger : Ledger) (rs : List Record) (index : ℕ) (entry : Record)
-    → slice_get rs index ≡ Some entry → all_desks.setup_of desks ≡ setup
-    → (went : WentOverFirst desks ledger rs index) → follows setup went.before entry ≡ false
-    → IsFirstBad setup rs index
-bad_at setup desks ledger rs index entry there same went refused =
+pub bad_at : (desks : Desks) (ledger : Ledger) (rs : List Record) (index : ℕ) (entry : Record)
+    → slice_get rs index ≡ Some entry
+    → ((before : List Record) → WentOver desks ledger before
+    → follows (all_desks.setup_of desks) before entry ≡ false)
+    → WentOverFirst desks ledger rs index → IsFirstBad (all_desks.setup_of desks) rs index
+bad_at desks ledger rs index entry there refused went =
     let next = next_there rs went.before went.later index entry went.all went.many there in
     record {
       before = went.before;
@@ -141,32 +170,49 @@ bad_at setup desks ledger rs index entry there same went refused =
       later = next.0;
       all = went.all ∙ ap (λ ls. reverse went.before ++ ls) next.1;
       many = went.many;
-      follow = subst (λ s. all_follow s went.before ≡ true) same went.over.follow;
-      refused = refused;
+      follow = went.over.follow;
+      refused = refused went.before went.over;
     }
 
-pub desks_refuse : (desks : Desks) (ledger : Ledger) (rs : List Record) (index : ℕ) (entry : Record)
-    → slice_get rs index ≡ Some entry
-    → ((before : List Record) → Recalls desks before → all_follow (all_desks.setup_of desks) before ≡ true
-    → is_of_money entry ≡ false → false ≡ follows (all_desks.setup_of desks) before entry)
-    → (is_of_money entry ≡ true → false ≡ true)
-    → WentOverFirst desks ledger rs index → IsFirstBad (all_desks.setup_of desks) rs index
-desks_refuse desks ledger rs index entry there epochs others went =
-    bad_at (all_desks.setup_of desks) desks ledger rs index entry there refl went
-    (sym (judged (all_desks.setup_of desks) went.before entry false
-    (epochs went.before went.over.recalls went.over.follow) others))
+-- where they are shown one after another
 
-pub ledger_refuses : (desks : Desks) (ledger : Ledger) (rs : List Record) (index : ℕ) (entry : Record)
-    → slice_get rs index ≡ Some entry → ledgers.setup_of ledger ≡ all_desks.setup_of desks
-    → ((before : List Record) → Recalls desks before → all_follow (all_desks.setup_of desks) before ≡ true
-    → is_of_money entry ≡ false → true ≡ follows (all_desks.setup_of desks) before entry)
-    → ledgers.Judges ledger entry false
-    → WentOverFirst desks ledger rs index → IsFirstBad (all_desks.setup_of desks) rs index
-ledger_refuses desks ledger rs index entry there same epochs judges went =
-    let over = went.over in
-    bad_at (all_desks.setup_of desks) desks ledger rs index entry there refl went
-    (sym (judged (all_desks.setup_of desks) went.before entry true (epochs went.before over.recalls over.follow)
-    (λ _. refl)) ∙ ap (λ s. is_allowed s went.before 0 entry) (sym same) ∙ sym (judges went.before 0 over.money))
+pub bad_next : (setup : Setup) (desks : Desks) (ledger : Ledger) (before : List Record) (index : ℕ) (entry : Record)
+    → setup ≡ all_desks.setup_of desks → index ≡ length before → WentOver desks ledger before
+    → follows (all_desks.setup_of desks) before entry ≡ false
+    → IsFirstBad setup (reverse (entry ∷ before)) index
+bad_next setup desks ledger before index entry same many over refused = record {
+  before = before;
+  bad = entry;
+  later = [];
+  all = reverse-append (entry ∷ []) before;
+  many = many;
+  follow = ap (λ s. all_follow s before) same ∙ over.follow;
+  refused = ap (λ s. follows s before entry) same ∙ refused;
+}
+
+bad_before : (setup : Setup) (before : List Record) (index : ℕ) (entry : Record)
+    → IsFirstBad setup (reverse before) index → IsFirstBad setup (reverse (entry ∷ before)) index
+bad_before setup before index entry bad = record {
+  before = bad.before;
+  bad = bad.bad;
+  later = bad.later ++ entry ∷ [];
+  all = reverse-append (entry ∷ []) before ∙ ap (λ ls. ls ++ entry ∷ []) bad.all
+      ∙ append_assoc (reverse bad.before) (bad.bad ∷ bad.later) (entry ∷ []);
+  many = bad.many;
+  follow = bad.follow;
+  refused = bad.refused;
+}
+
+pub bad_stays : (bad : Option ℕ) (setup : Setup) (desks : Desks) (ledger : Ledger) (before : List Record)
+    (entry : Record) → is_some bad ≡ true → GoesOver bad setup desks ledger before
+    → GoesOver bad setup desks ledger (entry ∷ before)
+bad_stays None setup desks ledger before entry is over = absurd (true≢false (sym is))
+bad_stays (Some index) setup desks ledger before entry is bad = bad_before setup before index entry bad
+
+pub all_good : (bad : Option ℕ) (setup : Setup) (desks : Desks) (ledger : Ledger) (before : List Record)
+    → is_some bad ≡ false → GoesOver bad setup desks ledger before → WentOver desks ledger before
+all_good None setup desks ledger before is over = over
+all_good (Some index) setup desks ledger before is over = absurd (true≢false is)
 
 -- at first, and at the end
 

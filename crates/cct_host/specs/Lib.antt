@@ -11,3 +11,4 @@ pub mod Recalled
 pub mod Host
 pub mod Starting
 pub mod Restarting
+pub mod Replaying

@@ -1,7 +1,10 @@
-//! A host that starts goes over the records of its journal.
-ghost use Rattle.std.specs.Prelude.{◌≡◌, ◌≤◌, ◌<◌, ◌+◌, List, [], Err, IfErr, IsTrue, OnOk, is_ok, reverse};
+//! A host that starts goes over the records of its journal: it reads them, or is shown them as they are found.
+ghost use Rattle.std.specs.Prelude.{◌≡◌, ◌≤◌, ◌<◌, ◌+◌, ◌-◌, ◌^◌, List, [], ◌∷◌, Err, IfErr, IsTrue, OnErr, OnOk, false, is_ok, reverse};
 ghost use Rattle.cct_edge.specs.Faults.{Rose};
 ghost use Rattle.cct_model.specs.lines.record.Record.{Record};
+ghost use Rattle.cct_model.specs.Following.{follows};
+ghost use Rattle.cct_model.specs.Setup.{IsSoundSetup};
+ghost use Rattle.cct_record.specs.Body.{Encodable};
 ghost use Rattle.cct_journal.specs.Image.{capacity_of};
 ghost use Rattle.cct_journal.specs.Journal as journals;
 ghost use Rattle.cct_journal.specs.Stands.{Reads};
@@ -13,8 +16,9 @@ ghost use Rattle.cct_host.specs.Starting.{OnlyReadIn, RefusesStart, WentOver, We
 use crate::Desks;
 use crate::refusal::StartNo;
 use cct_disk::Disk;
-use cct_journal::{Journal, ReadNo};
+use cct_journal::{Journal, ReadNo, Replay};
 use cct_ledger::{Ledger, NotAllowed};
+use cct_model::{Record, Setup};
 
 /// Desks and a ledger without records go over the records of a journal, oldest first.
 ///
@@ -58,7 +62,7 @@ pub(crate) fn recall<D: Disk>(
     Ok(())
 }
 
-/// The record of an index is recalled after those before it.
+/// The record of an index is read, and recalled behind those before it.
 fn recall_next<D: Disk>(
     desks: &mut Desks<'_>,
     ledger: &mut Ledger<'_>,
@@ -90,14 +94,81 @@ fn recall_next<D: Disk>(
         Err(ReadNo::Disk) => return Err(StartNo::Disk),
         Err(ReadNo::BadRecord { index }) => return Err(StartNo::BadRecord { index }),
     };
-    if !desks.may_follow(&entry) {
-        return Err(StartNo::BadRecord { index });
+    match recall_entry(desks, ledger, &entry) {
+        Ok(()) => Ok(()),
+        Err(NotAllowed) => Err(StartNo::BadRecord { index }),
     }
-    match ledger.apply(&entry) {
+}
+
+/// A record is recalled behind those before it, or refused where it doesn't follow them.
+fn recall_entry(
+    desks: &mut Desks<'_>,
+    ledger: &mut Ledger<'_>,
+    entry: &Record,
+) -> Result<(), NotAllowed>
+    requires few { ledgers.applied ledger.old < 2 ^ 32 - 1 }
+    requires encodable { Encodable entry.now }
+    requires same { ledgers.setup_of ledger.old ≡ all_desks.setup_of desks.old }
+    ensures setup { all_desks.setup_of desks.new ≡ all_desks.setup_of desks.old }
+    ensures same { ledgers.setup_of ledger.new ≡ all_desks.setup_of desks.new }
+    ensures unused { AreUnused desks.old → AreUnused desks.new }
+    ensures reserved { ledgers.reserved_of ledger.new ≡ ledgers.reserved_of ledger.old }
+    ensures counted { ledgers.applied ledger.new ≤ ledgers.applied ledger.old + 1 }
+    ensures over { OnOk result ((before : List Record) → WentOver desks.old ledger.old before
+        → WentOver desks.new ledger.new (entry.now ∷ before)) }
+    ensures refused { OnErr result ((before : List Record) → WentOver desks.old ledger.old before
+        → follows (all_desks.setup_of desks.old) before entry.now ≡ false) }
+{
+    if !desks.may_follow(entry) {
+        return Err(NotAllowed);
+    }
+    match ledger.apply(entry) {
         Ok(()) => {
-            desks.recall(&entry);
+            desks.recall(entry);
             Ok(())
         }
-        Err(NotAllowed) => Err(StartNo::BadRecord { index }),
+        Err(NotAllowed) => Err(NotAllowed),
+    }
+}
+
+/// What is recalled of the records that are found behind a loss of power: desks and a ledger, up to the first record
+/// that doesn't follow those before it.
+#[derive(Drop)]
+pub(crate) struct Recollection<'s> {
+    pub(crate) desks: Desks<'s>,
+    pub(crate) ledger: Ledger<'s>,
+    /// The index of that record. Nothing is recalled from it on.
+    pub(crate) bad: Option<u32>,
+}
+
+impl<'s> Recollection<'s> {
+    ghost use Rattle.cct_host.specs.Replaying.{Recollects};
+
+    /// Before the first record.
+    pub(crate) fn new(setup: &'s Setup) -> Self
+        requires sound { IsSoundSetup setup.now }
+        ensures setup { all_desks.setup_of result.desks ≡ setup.now }
+        ensures starts { Recollects result [] result }
+    {
+        Recollection {
+            desks: Desks::new(setup),
+            ledger: Ledger::new(setup),
+            bad: None,
+        }
+    }
+}
+
+impl Replay for Recollection<'_> {
+    ghost use Rattle.cct_host.specs.Replaying.{Recollects};
+
+    ghost replayed = { Recollects };
+
+    fn replay(&mut self, index: u32, entry: &Record) {
+        if self.bad.is_some() {
+            return;
+        }
+        if let Err(NotAllowed) = recall_entry(&mut self.desks, &mut self.ledger, entry) {
+            self.bad = Some(index);
+        }
     }
 }

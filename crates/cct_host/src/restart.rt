@@ -1,5 +1,5 @@
 //! A host starts again behind a loss of power, over what its disk then keeps.
-ghost use Rattle.std.specs.Prelude.{◌≡◌, ◌≢◌, ◌≤◌, ◌<◌, ◌+◌, List, ◌++◌, Err, IfErr, IfOk, IfSome, OnErr, OnOk, Option, Some, false, length, reverse, true};
+ghost use Rattle.std.specs.Prelude.{◌≡◌, ◌≢◌, ◌≤◌, ◌<◌, ◌+◌, List, [], ◌++◌, Err, IfErr, IfOk, IfSome, OnErr, OnOk, Option, Some, false, length, reverse, true};
 ghost use Rattle.cct_edge.specs.Faults.{Rose};
 ghost use Rattle.cct_model.specs.lines.entry.Entry.{Entry};
 ghost use Rattle.cct_model.specs.terms.device.Setup.{Setup};
@@ -19,10 +19,10 @@ ghost use Rattle.cct_host.specs.Restarting.{IsLost, KeptBy, Opens, RefusesCrash,
 ghost use Rattle.cct_host.specs.Starting.{WentOver};
 
 use crate::Desks;
-use crate::recall::recall;
-use crate::refusal::{CrashNo, StartNo};
+use crate::recall::Recollection;
+use crate::refusal::CrashNo;
 use cct_disk::Disk;
-use cct_journal::{Journal, OpenNo};
+use cct_journal::{Journal, OpenNo, Replay};
 use cct_ledger::Ledger;
 use cct_model::{CrashAt, Record};
 
@@ -99,15 +99,19 @@ pub(crate) fn restart<'s, D: Disk>(
     let setup = desks.setup();
     *desks = Desks::new(setup);
     *ledger = Ledger::new(setup);
-    match lose(journal, due, calls_in(at), choice) {
-        Ok(kept) => match recall(desks, ledger, journal) {
-            Ok(()) => Ok(Crashed {
-                records: journal.used(),
-                kept,
-            }),
-            Err(StartNo::Disk) => Err(CrashNo::Disk),
-            Err(StartNo::BadRecord { index }) => Err(CrashNo::BadRecord { index }),
-        },
+    let mut recalled = Recollection::new(setup);
+    match lose(journal, due, calls_in(at), choice, &mut recalled) {
+        Ok(kept) => {
+            *desks = recalled.desks;
+            *ledger = recalled.ledger;
+            match recalled.bad {
+                None => Ok(Crashed {
+                    records: journal.used(),
+                    kept,
+                }),
+                Some(index) => Err(CrashNo::BadRecord { index }),
+            }
+        }
         Err(why) => Err(why),
     }
 }
@@ -136,21 +140,23 @@ fn calls_in(at: Option<CrashAt>) -> u8
     }
 }
 
-/// A journal loses the power in a put of the record that is due, or in none, and is opened on what is left. It tells
-/// which record was kept beside those that were put.
-fn lose<D: Disk>(
+/// A journal loses the power in a put of the record that is due, or in none, and is opened on what is left, whose
+/// records are replayed. It tells which record was kept beside those that were put.
+fn lose<D: Disk, R: Replay>(
     journal: &mut Journal<D>,
     due: Option<Record>,
     calls: u8,
     choice: u64,
+    replay: &mut R,
 ) -> Result<Option<Record>, CrashNo>
     requires whole { journals.has_failed journal.old ≡ false }
     requires few { calls ≤ 4 }
     requires room { IfSome due (λ _. journals.used_of journal.old
         < capacity_of (D.size (journals.disk_of journal.old))) }
     requires encodable { IfSome due Encodable }
+    requires starts { R.replayed replay.old [] replay.old }
 
-    // what is opened
+    // what is opened, and what is replayed of it
     ensures whole { OnOk result (journals.has_failed journal.new ≡ false) }
     ensures kept { IfOk result (λ kept. IfSome kept (λ r. due ≡ Some r)) }
     ensures counts { IfOk result (λ kept. journals.used_of journal.new
@@ -161,6 +167,11 @@ fn lose<D: Disk>(
         → KeptBy calls due kept
         × Stands D.honest D.seen D.may_leave (journals.disk_of journal.new) (journals.place_of journal.new)
         (records ++ put_by kept)) }
+    ensures replayed { OnOk result ((before : List Record) × (journals.used_of journal.new ≡ length before)
+        × R.replayed replay.old before replay.new) }
+    ensures told { OnOk result ((records : List Record)
+        → Reads D.seen (journals.disk_of journal.new) (journals.place_of journal.new) records
+        → R.replayed replay.old (reverse records) replay.new) }
 
     // why nothing is, and what stands then
     ensures refused { IfErr result (λ why. (setup : Setup) → RefusesCrash journal.old journal.new due setup why) }
@@ -181,7 +192,7 @@ fn lose<D: Disk>(
     ensures later { D.faults (journals.disk_of journal.old) ≤ D.faults (journals.disk_of journal.new) }
 {
     let put = journal.used();
-    match journal.restart(&due, calls, choice) {
+    match journal.restart(&due, calls, choice, replay) {
         Ok(found) => kept_in(found, put, due),
         Err(OpenNo::Disk) => Err(CrashNo::Disk),
         Err(OpenNo::Alien) => Err(CrashNo::Alien),

@@ -5,12 +5,12 @@ ghost use Rattle.cct_model.specs.Setup.{IsSoundSetup};
 ghost use Rattle.cct_journal.specs.Journal as journals;
 ghost use Rattle.cct_host.specs.Host.{has_failed};
 
-use crate::Host;
+use crate::{CrashNo, Host};
 use arrayvec::ArrayVec;
 use cct_disk::MemDisk;
 use cct_journal::Journal;
 use cct_model::{
-    COIN_PLACES, CheckKind, Command, CommandNo, DeviceBody, DeviceSetup, Devices, MOST_HEARD, Name,
+    COIN_PLACES, CheckKind, Command, CommandNo, CrashAt, DeviceBody, DeviceSetup, Devices, MOST_HEARD, Name,
     Setup, Texts,
 };
 use cct_wire::Link;
@@ -94,12 +94,23 @@ fn setup() -> Setup
     Setup { devices }
 }
 
-/// A new journal that takes three records.
-fn journal(alloc: Global) -> Result<Journal<MemDisk>, Fail>
+/// A new journal that takes three records, on a disk whose calls with these numbers fail.
+fn journal(alloc: Global, fails: &[u64]) -> Result<Journal<MemDisk>, Fail>
     ensures { IfOk result (λ journal. (journals.used_of journal ≡ 0) × (journals.has_failed journal ≡ false)) }
 {
-    match Journal::create(MemDisk::new(alloc, 128, Vec::new(alloc))?) {
+    match Journal::create(MemDisk::new(alloc, 128, fails.to_vec(alloc)?)?) {
         Ok(journal) => Ok(journal),
+        Err((_, why)) => Err(Fail::from(why)),
+    }
+}
+
+/// The host over such a journal.
+fn host<'s>(setup: &'s Setup, alloc: Global, fails: &[u64]) -> Result<Host<'s, MemDisk>, Fail>
+    requires { IsSoundSetup setup.now }
+    ensures { IfOk result (λ host. has_failed host ≡ false) }
+{
+    match Host::start(setup, journal(alloc, fails)?) {
+        Ok(host) => Ok(host),
         Err((_, why)) => Err(Fail::from(why)),
     }
 }
@@ -114,25 +125,30 @@ fn next(host: &mut Host<'_, MemDisk>, link: &mut Told) -> Result<(), Fail>
     Ok(())
 }
 
-#[test]
-fn a_payment_wants_room_for_two_records(rt: HostRuntime) -> Result<(), Fail> {
-    let setup = setup();
-    let mut host = match Host::start(&setup, journal(rt.alloc())?) {
-        Ok(host) => host,
-        Err((_, why)) => return Err(Fail::from(why)),
-    };
-    let mut link = Told { exchanges: 0 };
+/// The acceptor is started, which puts the record of its epoch, and takes a coin, the record of whose reading is due.
+fn play_to_a_reading(host: &mut Host<'_, MemDisk>, link: &mut Told) -> Result<(), Fail>
+    requires { has_failed host.old ≡ false }
+    ensures { OnOk result (has_failed host.new ≡ false) }
+{
     host.command(&Command::Start {
         addr: 2,
         mask: 0xffff,
     })?;
-    next(&mut host, &mut link)?;
-    next(&mut host, &mut link)?;
-    next(&mut host, &mut link)?;
-    next(&mut host, &mut link)?;
+    next(host, link)?;
+    next(host, link)?;
+    next(host, link)?;
+    next(host, link)?;
     host.command(&Command::Round { addr: 2 })?;
-    next(&mut host, &mut link)?;
-    next(&mut host, &mut link)?;
+    next(host, link)?;
+    next(host, link)
+}
+
+#[test]
+fn a_payment_wants_room_for_two_records(rt: HostRuntime) -> Result<(), Fail> {
+    let setup = setup();
+    let mut host = host(&setup, rt.alloc(), &[])?;
+    let mut link = Told { exchanges: 0 };
+    play_to_a_reading(&mut host, &mut link)?;
     next(&mut host, &mut link)?;
     assert_eq!(rt; host.totals().available, 100);
     match host.command(&Command::Pay {
@@ -145,5 +161,30 @@ fn a_payment_wants_room_for_two_records(rt: HostRuntime) -> Result<(), Fail> {
         }
         _ => panic!(rt; "a payment finds room"),
     }
+    Ok(())
+}
+
+/// How many records there are behind a loss of power in the put of a reading, or none where the disk failed, one of whose
+/// calls fails.
+fn crashed(setup: &Setup, alloc: Global, fails: u64) -> Result<Option<u32>, Fail>
+    requires { IsSoundSetup setup.now }
+{
+    let mut host = host(setup, alloc, &[fails])?;
+    play_to_a_reading(&mut host, &mut Told { exchanges: 0 })?;
+    match host.crash(Some(CrashAt { addr: 2, calls: 4 }), 1) {
+        Ok((_, crashed)) => Ok(Some(crashed.records)),
+        Err((_, CrashNo::Disk)) => Ok(None),
+        Err((_, why)) => Err(Fail::from(why)),
+    }
+}
+
+// Of the disk's calls five make the journal, four put the record of the epoch, and four that of the reading. One cuts the
+// power, one reads the header, and three read the slots: two of records, and the last, whose gate is shut. That is the
+// eighteenth.
+#[test]
+fn a_loss_of_power_reads_each_slot_once(rt: HostRuntime) -> Result<(), Fail> {
+    let setup = setup();
+    assert_eq!(rt; crashed(&setup, rt.alloc(), 18)?, None);
+    assert_eq!(rt; crashed(&setup, rt.alloc(), 19)?, Some(2));
     Ok(())
 }

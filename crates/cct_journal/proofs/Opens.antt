@@ -1,9 +1,9 @@
 -- What the records that are counted on an image are to a journal.
 use Rattle.std.proofs.Common.{◌≡◌, inl, inr, Some, ℕ, zero, suc, ◌+◌, ◌*◌, ◌<◌, ◌≤◌, List, [], ◌∷◌, ◌++◌, length, take}
-use Rattle.std.proofs.Common.{drop, map, refl, sym, ◌∙◌, ap, subst, arith}
+use Rattle.std.proofs.Common.{drop, map, refl, sym, ◌∙◌, ap, ap₂, subst, arith}
 use Rattle.std.specs.List.{All, slice_get}
 use Rattle.std.proofs.lemmas.Bool.{cases_eq}
-use Rattle.std.proofs.lemmas.List.{drop-drop, length-map}
+use Rattle.std.proofs.lemmas.List.{drop-drop}
 use Rattle.std.proofs.lemmas.List.Elements.{All-head, All-tail}
 use Rattle.cct_lines.specs.declared.record.Record.{Record}
 use Rattle.cct_record.specs.Body.{InRange, IsRefused, Spells, body_of}
@@ -14,17 +14,28 @@ use Rattle.cct_journal.specs.Image.{StandsFor, bodies, body_at, capacity_of, hea
 use Rattle.cct_journal.specs.Opening.{CountsIn, RefusesOpen, StopsCount}
 use Rattle.cct_journal.proofs.Rooms.{closed, opened}
 
--- as many are counted as any list has for which the image stands
-pub counted_all : (image : List ℕ) (used : ℕ) (records : List Record) → CountsIn image used → StandsFor image records
-    → used ≡ length records
-counted_all image used records counts stands =
-    counts.count ∙ sym (length-map counts.records body_of) ∙ ap length (sym counts.bodies_are ∙ stands.records_are)
-    ∙ length-map records body_of
+-- the bodies of records are those of no others
+one_list : (rs ss : List Record) → All InRange rs → All InRange ss → map body_of rs ≡ map body_of ss → rs ≡ ss
+one_list [] [] fits others same = refl
+one_list [] (s ∷ ss) fits others same = absurd cc
+one_list (r ∷ rs) [] fits others same = absurd cc
+one_list (r ∷ rs) (s ∷ ss) fits others same =
+    let first : body_of r ≡ body_of s = cc in
+    let later : map body_of rs ≡ map body_of ss = cc in
+    ap₂ (λ x xs. x ∷ xs)
+    (one_spelling r s (All-head InRange r rs fits) (All-head InRange s ss others) first)
+    (one_list rs ss (All-tail InRange r rs fits) (All-tail InRange s ss others) later)
+
+-- so those that are counted are those for which the image stands
+pub counted_same : (image : List ℕ) (counted records : List Record) → CountsIn image counted → StandsFor image records
+    → counted ≡ records
+counted_same image counted records counts stands =
+    one_list counted records counts.in_range stands.in_range (sym counts.bodies_are ∙ stands.records_are)
 
 -- and with the header the image stands for those that were counted
-pub counted_stands : (image : List ℕ) (used : ℕ) (counts : CountsIn image used) → least_size ≤ length image
-    → take 32 image ≡ header → StandsFor image counts.records
-counted_stands image used counts long header_is =
+pub counted_stands : (image : List ℕ) (counted : List Record) → CountsIn image counted → least_size ≤ length image
+    → take 32 image ≡ header → StandsFor image counted
+counted_stands image counted counts long header_is =
     record { long = long; header_is = header_is; records_are = counts.bodies_are; in_range = counts.in_range }
 
 -- where they can't be counted, no journal is opened

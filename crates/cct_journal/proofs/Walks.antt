@@ -1,15 +1,14 @@
 -- What is read of an image, slot by slot.
-use Rattle.std.proofs.Common.{◌≡◌, ◌≢◌, true, false, Option, Some, None, ℕ, suc, ◌+◌, ◌-◌, ◌*◌, ◌<◌, List, [], ◌∷◌}
-use Rattle.std.proofs.Common.{◌++◌, length, take, drop, map, refl, sym, ◌∙◌, ap, subst, arith, append_assoc}
+use Rattle.std.proofs.Common.{◌≡◌, ◌≢◌, ℕ, suc, ◌+◌, ◌-◌, ◌*◌, ◌<◌, List, [], ◌∷◌, ◌++◌, length, take, drop, map}
+use Rattle.std.proofs.Common.{refl, reverse, sym, ◌∙◌, ap, subst, arith, append_assoc}
 use Rattle.std.proofs.Common.{length-append}
-use Rattle.std.proofs.lemmas.List.{drop-drop, drop-take, drop_more, take-take, map-append}
-use Rattle.std.specs.Option.{IfNone, IfSome, is_some}
+use Rattle.std.proofs.lemmas.List.{drop-drop, drop-take, drop_more, take-take, map-append, reverse-append}
 use Rattle.std.proofs.lemmas.List.{append-nil}
 use Rattle.std.proofs.lemmas.List.Elements.{All-append, All-cons, All-nil}
 use Rattle.cct_lines.specs.declared.record.Record.{Record}
 use Rattle.cct_record.specs.Body.{InRange, IsRefused, Spells, body_of}
 use Rattle.cct_journal.specs.Image.{IsRefusedAt, bodies, body_at, capacity_of, gate_at, open_gate}
-use Rattle.cct_journal.specs.Opening.{CountsIn, Walked}
+use Rattle.cct_journal.specs.Opening.{CountsIn, Replayed, Walked}
 use Rattle.cct_journal.proofs.Rooms.{closed, opened}
 
 -- a room that was filled whole has so many bytes of the image
@@ -28,29 +27,26 @@ body_read bytes body image index at read whole place is =
     ∙ ap (λ (l : List ℕ). take 31 l) (drop-drop 1 at image ∙ ap (λ n. drop (n + 1) image) place)
 
 -- before the first slot
-pub walked_none : (image : List ℕ) → Walked image 0
+pub walked_none : (image : List ℕ) → Walked image 0 []
 walked_none image =
     let all : capacity_of (length image) - 0 ≡ capacity_of (length image) = omega arith in
     record {
-      records = [];
       bodies_are = ap (λ n. bodies n (drop 32 image)) (sym all);
       in_range =
           All-nil InRange;
       count = refl;
     }
 
-module _ (image : List ℕ) (index : ℕ) (walked : Walked image index) where
+module _ (image : List ℕ) (index : ℕ) (records : List Record) (walked : Walked image index records) where
   -- behind the last slot
-  pub walked_full : (all : ℕ) → index ≡ all → all ≡ capacity_of (length image) → CountsIn image all
+  pub walked_full : (all : ℕ) → index ≡ all → all ≡ capacity_of (length image) → CountsIn image records
   walked_full all last full =
       let none : capacity_of (length image) - index ≡ 0 = omega arith in
       record {
-        records = walked.records;
         bodies_are = walked.bodies_are
-            ∙ ap (λ n. map body_of walked.records ++ bodies n (drop (32 * (index + 1)) image)) none
-            ∙ append-nil (map body_of walked.records);
+            ∙ ap (λ n. map body_of records ++ bodies n (drop (32 * (index + 1)) image)) none
+            ∙ append-nil (map body_of records);
         in_range = walked.in_range;
-        count = sym last ∙ walked.count;
       }
 
   module _ (below : index < capacity_of (length image)) where
@@ -59,18 +55,16 @@ module _ (image : List ℕ) (index : ℕ) (walked : Walked image index) where
     next_slot = drop_more image (32 * (index + 1)) 0 (omega arith)
 
     -- a shut gate ends the records
-    pub walked_shut : gate_at index image ≢ open_gate → CountsIn image index
+    pub walked_shut : gate_at index image ≢ open_gate → CountsIn image records
     walked_shut shut = record {
-      records = walked.records;
       bodies_are =
           walked.bodies_are
-          ∙ ap (λ (l : List ℕ). map body_of walked.records ++ bodies (capacity_of (length image) - index) l) next_slot
-          ∙ ap (λ bs. map body_of walked.records ++ bs)
+          ∙ ap (λ (l : List ℕ). map body_of records ++ bodies (capacity_of (length image) - index) l) next_slot
+          ∙ ap (λ bs. map body_of records ++ bs)
           (closed (capacity_of (length image) - index) (gate_at index image)
           (drop (32 * (index + 1) + 1) image) shut)
-          ∙ append-nil (map body_of walked.records);
+          ∙ append-nil (map body_of records);
       in_range = walked.in_range;
-      count = walked.count;
     }
 
     -- behind an open gate stands one body more
@@ -88,48 +82,72 @@ module _ (image : List ℕ) (index : ℕ) (walked : Walked image index) where
         (drop-drop 31 (32 * (index + 1) + 1) image ∙ ap (λ n. drop n image) place)
 
     -- which spells a record
-    walked_step : (r : Record) → gate_at index image ≡ open_gate → Spells r (body_at index image)
-        → Walked image (index + 1)
+    pub walked_step : (r : Record) → gate_at index image ≡ open_gate → Spells r (body_at index image)
+        → Walked image (index + 1) (records ++ r ∷ [])
     walked_step r is_open spells = record {
-      records = walked.records ++ r ∷ [];
       bodies_are =
           walked.bodies_are
-          ∙ ap (λ bs. map body_of walked.records ++ bs) (one_more is_open)
-          ∙ ap (λ b. map body_of walked.records ++
+          ∙ ap (λ bs. map body_of records ++ bs) (one_more is_open)
+          ∙ ap (λ b. map body_of records ++
           (b ∷ bodies (capacity_of (length image) - (index + 1)) (drop (32 * (index + 1 + 1)) image)))
           (sym spells.spelt)
-          ∙ sym (append_assoc (map body_of walked.records) (body_of r ∷ [])
+          ∙ sym (append_assoc (map body_of records) (body_of r ∷ [])
           (bodies (capacity_of (length image) - (index + 1)) (drop (32 * (index + 1 + 1)) image)))
           ∙ ap (λ bs. bs ++ bodies (capacity_of (length image) - (index + 1)) (drop (32 * (index + 1 + 1)) image))
-          (sym (map-append body_of walked.records (r ∷ [])));
-      in_range = All-append InRange walked.records (r ∷ []) walked.in_range
+          (sym (map-append body_of records (r ∷ [])));
+      in_range = All-append InRange records (r ∷ []) walked.in_range
           (All-cons InRange r [] spells.in_range (All-nil InRange));
-      count = omega (arith, walked.count, length-append walked.records (r ∷ []));
+      count = omega (arith, walked.count, length-append records (r ∷ []));
     }
 
     -- or none
-    walked_refused : gate_at index image ≡ open_gate → IsRefused (body_at index image) → IsRefusedAt image index
+    pub walked_refused : gate_at index image ≡ open_gate → IsRefused (body_at index image) → IsRefusedAt image index
     walked_refused is_open refused = record {
-      before = walked.records;
+      before = records;
       body = body_at index image;
       rest = bodies (capacity_of (length image) - (index + 1)) (drop (32 * (index + 1 + 1)) image);
-      bodies_are = walked.bodies_are ∙ ap (λ bs. map body_of walked.records ++ bs) (one_more is_open);
+      bodies_are = walked.bodies_are ∙ ap (λ bs. map body_of records ++ bs) (one_more is_open);
       in_range = walked.in_range;
       count = walked.count;
       refused = refused;
     }
 
-    -- what a reader makes of the body tells which
-    pub walked_on : (found : Option Record) (gate : ℕ) (body : List ℕ) → gate ≡ gate_at index image
-        → body ≡ body_at index image → gate ≡ open_gate → is_some found ≡ true
-        → IfSome found (λ r. Spells r body) → Walked image (index + 1)
-    walked_on None gate body gate_is body_is is_open some spells = absurd cc
-    walked_on (Some r) gate body gate_is body_is is_open some spells =
-        walked_step r (sym gate_is ∙ is_open) (subst (λ (b : List ℕ). Spells r b) body_is spells)
+-- the records of an image that were replayed
 
-    pub walked_off : (found : Option Record) (gate : ℕ) (body : List ℕ) → gate ≡ gate_at index image
-        → body ≡ body_at index image → gate ≡ open_gate → is_some found ≡ false
-        → IfNone found (IsRefused body) → IsRefusedAt image index
-    walked_off None gate body gate_is body_is is_open none refused =
-        walked_refused (sym gate_is ∙ is_open) (subst (λ (b : List ℕ). IsRefused b) body_is refused)
-    walked_off (Some r) gate body gate_is body_is is_open none refused = absurd cc
+pub replayed_none : {R : Type 0} (replayed : R → List Record → R → Type 0) (old : R) (images : List ℕ → Type 0)
+    → replayed old [] old
+    → Replayed replayed old old 0 (λ records. (image : List ℕ) → images image → Walked image 0 records)
+replayed_none replayed old images starts = record {
+  before = [];
+  count = refl;
+  over = starts;
+  fact = λ image is. walked_none image;
+}
+
+pub replayed_on : {R : Type 0} (replayed : R → List Record → R → Type 0) (first old new : R) (index : ℕ) (r : Record)
+    (images : List ℕ → Type 0)
+    → Replayed replayed first old index (λ records. (image : List ℕ) → images image → Walked image index records)
+    → ((before : List Record) → index ≡ length before → replayed first before old → replayed first (r ∷ before) new)
+    → ((image : List ℕ) → images image
+    → (index < capacity_of (length image)) × (gate_at index image ≡ open_gate) × Spells r (body_at index image))
+    → Replayed replayed first new (index + 1)
+    (λ records. (image : List ℕ) → images image → Walked image (index + 1) records)
+replayed_on replayed first old new index r images so_far goes slot = record {
+  before = r ∷ so_far.before;
+  count = omega (arith, so_far.count);
+  over = goes so_far.before so_far.count so_far.over;
+  fact = λ image is.
+      let here = slot image is in
+      subst (Walked image (index + 1)) (sym (reverse-append (r ∷ []) so_far.before))
+      (walked_step image index (reverse so_far.before) (so_far.fact image is) here.0 r here.1 here.2);
+}
+
+pub replayed_all : {R : Type 0} (replayed : R → List Record → R → Type 0) (old new : R) (many : ℕ)
+    (holds are : List Record → Type 0) → Replayed replayed old new many holds
+    → ((records : List Record) → holds records → are records) → Replayed replayed old new many are
+replayed_all replayed old new many holds are over weaker = record {
+  before = over.before;
+  count = over.count;
+  over = over.over;
+  fact = weaker (reverse over.before) over.fact;
+}

@@ -1,6 +1,6 @@
 //! The journal.
 ghost use Rattle.std.specs.Prelude.{◌≡◌, ◌≢◌, ◌⊎◌, ◌↔◌, ◌<◌, ◌≤◌, ◌+◌, ℕ, true, false, Err, Some, is_some, List, []};
-ghost use Rattle.std.specs.Prelude.{◌∷◌, ◌++◌};
+ghost use Rattle.std.specs.Prelude.{◌∷◌, ◌++◌, length, reverse};
 ghost use Rattle.std.specs.Prelude.{IfErr, IfOk, IfSome, IsErrAnd, MatchResult, OnErr, OnOk, slice_get};
 ghost use Rattle.cct_edge.specs.Faults.{Rose};
 ghost use Rattle.cct_lines.specs.declared.record.Record.{Record};
@@ -18,8 +18,9 @@ use crate::opening::find_place;
 use crate::place::Place;
 use crate::range::GATED_CALLS;
 use crate::reading::{capacity_in, read_record};
+use crate::replay::OnlyCounted;
 use crate::slot::put_slot;
-use crate::{CreateNo, JournalNo, OpenNo, ReadNo};
+use crate::{CreateNo, JournalNo, OpenNo, ReadNo, Replay};
 use cct_disk::Disk;
 use cct_edge::Failed;
 use cct_lines::Record;
@@ -112,7 +113,7 @@ impl<D: Disk> Journal<D> {
             (λ e. D.faults disk ≤ D.faults e.0) }
     {
         let mut disk = disk;
-        match find_place(&mut disk) {
+        match find_place(&mut disk, &mut OnlyCounted) {
             Ok(place) => {
                 let journal = Journal {
                     disk,
@@ -324,16 +325,24 @@ impl<D: Disk> Journal<D> {
     }
 
     /// Loses the power in the midst of a put or in none, opens what is left in place, and tells how many records it
-    /// has.
+    /// has. Each is replayed as it is found, so each slot is read once.
     ///
     /// `put` is the record of the put that is interrupted, behind the first `calls` of its four disk calls, 0 to 4, and
     /// `choice` is that of [`Disk::power_cut`]. No earlier put on this value may have failed. [`OpenNo::Disk`] comes
-    /// where a disk call fails, and the others as from [`Journal::reopen`]. Behind any of them nothing more may be put.
-    pub fn restart(&mut self, put: &Option<Record>, calls: u8, choice: u64) -> Result<u32, OpenNo>
+    /// where a disk call fails, and the others as from [`Journal::reopen`]. Behind any of them nothing more may be put,
+    /// and some of the records may have been replayed.
+    pub fn restart<R: Replay>(
+        &mut self,
+        put: &Option<Record>,
+        calls: u8,
+        choice: u64,
+        replay: &mut R,
+    ) -> Result<u32, OpenNo>
         requires whole { has_failed self.old ≡ false }
         requires few { calls ≤ 4 }
         requires room { IfSome put.now (λ _. used_of self.old < capacity_of (D.size (disk_of self.old))) }
         requires encodable { IfSome put.now Encodable }
+        requires starts { R.replayed replay.old [] replay.old }
 
         // each image that a loss of power at a moment of the call may leave
         ensures moments { (records : List Record)
@@ -352,6 +361,13 @@ impl<D: Disk> Journal<D> {
             → Reads D.seen (disk_of self.new) (place_of self.new) records) }
         ensures counted { IfOk result (λ used. used ≡ used_of self.new) }
         ensures unbroken { OnOk result (has_failed self.new ≡ false) }
+
+        // what was replayed then: so many records, and just those that a read gives
+        ensures replayed { OnOk result ((before : List Record) × (used_of self.new ≡ length before)
+            × R.replayed replay.old before replay.new) }
+        ensures told { OnOk result ((records : List Record)
+            → Reads D.seen (disk_of self.new) (place_of self.new) records
+            → R.replayed replay.old (reverse records) replay.new) }
 
         // why nothing is opened, and what stands then
         ensures refused { IfErr result (λ why. (image : List ℕ) → D.seen (disk_of self.new) ≡ Some image
@@ -380,7 +396,7 @@ impl<D: Disk> Journal<D> {
         let Ok(()) = lose(&mut self.disk, self.place, put, calls, choice) else {
             return Err(OpenNo::Disk);
         };
-        match find_place(&mut self.disk) {
+        match find_place(&mut self.disk, replay) {
             Ok(place) => {
                 self.place = place;
                 self.failed = false;

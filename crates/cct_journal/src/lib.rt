@@ -10,10 +10,12 @@ mod place;
 mod range;
 mod reading;
 mod refusal;
+mod replay;
 mod slot;
 
 pub use journal::Journal;
 pub use refusal::{CreateNo, JournalNo, OpenNo, ReadNo};
+pub use replay::Replay;
 
 #[cfg(test)]
 mod tests;

@@ -1,5 +1,5 @@
 //! What stands on the disk is read: single slots, the header, and how many records there are.
-ghost use Rattle.std.specs.Prelude.{◌≡◌, ◌≢◌, ℕ, ◌+◌, ◌*◌, ◌<◌, ◌≤◌, ◌↔◌, Err, Some, List, length, take};
+ghost use Rattle.std.specs.Prelude.{◌≡◌, ◌≢◌, ℕ, ◌+◌, ◌*◌, ◌<◌, ◌≤◌, ◌↔◌, Err, Some, List, [], length, take};
 ghost use Rattle.std.specs.Prelude.{IfErr, IfOk, IsTrue, slice_get};
 ghost use Rattle.cct_edge.specs.Faults.{HasCause, Rose};
 ghost use Rattle.cct_lines.specs.declared.record.Record.{Record};
@@ -7,11 +7,11 @@ ghost use Rattle.cct_record.specs.Body.{Encodable, Spells};
 ghost use Rattle.cct_disk.specs.Disk.{OnlyReads};
 ghost use Rattle.cct_journal.specs.Image.{body_at, capacity_of, gate_at, header, least_size};
 ghost use Rattle.cct_journal.specs.Stands.{IsPlaced, Reads, body_in};
-ghost use Rattle.cct_journal.specs.Opening.{CountsIn, RefusesRead, StopsCount};
+ghost use Rattle.cct_journal.specs.Opening.{CountsIn, RefusesRead, Replayed, StopsCount};
 
 use crate::format::{HEADER, MOST_RECORDS, OPEN, SLOT};
 use crate::place::Place;
-use crate::{OpenNo, ReadNo};
+use crate::{OpenNo, ReadNo, Replay};
 use cct_disk::Disk;
 use cct_edge::Failed;
 use cct_lines::Record;
@@ -72,11 +72,17 @@ fn is_header(bytes: &[u8; 32]) -> bool
     *bytes == HEADER
 }
 
-/// How many records there are behind the header: those of the slots up to the first shut gate or the last slot.
-pub(crate) fn count_records<D: Disk>(disk: &mut D) -> Result<u32, OpenNo>
-    requires { least_size ≤ D.size disk.old }
+/// How many records there are behind the header: those of the slots up to the first shut gate or the last slot. Each is
+/// replayed as it is found.
+pub(crate) fn replay_records<D: Disk, R: Replay>(
+    disk: &mut D,
+    replay: &mut R,
+) -> Result<u32, OpenNo>
+    requires long { least_size ≤ D.size disk.old }
+    requires starts { R.replayed replay.old [] replay.old }
     ensures fits { IfOk result (λ used. used ≤ capacity_of (D.size disk.old)) }
-    ensures counted { IfOk result (λ used. (image : List ℕ) → D.seen disk.old ≡ Some image → CountsIn image used) }
+    ensures replayed { IfOk result (λ used. Replayed R.replayed replay.old replay.new used
+        (λ records. (image : List ℕ) → D.seen disk.old ≡ Some image → CountsIn image records)) }
     ensures stopped { IfErr result (λ why. (image : List ℕ) → D.seen disk.old ≡ Some image → StopsCount why image) }
     ensures reads { OnlyReads D.size D.honest D.seen D.may_leave D.moment D.left_since D.cuts disk.old disk.new }
     ensures later { D.faults disk.old ≤ D.faults disk.new }
@@ -88,8 +94,9 @@ pub(crate) fn count_records<D: Disk>(disk: &mut D) -> Result<u32, OpenNo>
         if slot.gate != OPEN {
             return Ok(index);
         }
-        if read(&slot.body).is_none() {
-            return Err(OpenNo::BadRecord { index });
+        match read(&slot.body) {
+            Some(entry) => replay.replay(index, &entry),
+            None => return Err(OpenNo::BadRecord { index }),
         }
     }
     Ok(capacity)

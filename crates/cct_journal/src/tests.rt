@@ -105,7 +105,40 @@ fn restarted(
 {
     let mut journal = journal;
     assert!(rt; calls <= 4 && journal.used() < journal.capacity());
-    journal.restart(&Some(ENTRY), calls, choice)
+    journal.restart(&Some(ENTRY), calls, choice, &mut Shown::default())
+}
+
+// How many records were replayed, each at its index.
+#[derive(Debug, Default, Drop)]
+struct Shown {
+    records: u32,
+}
+
+impl Replay for Shown {
+    ghost replayed = { λ _ _ _. Unit {0} };
+
+    fn replay(&mut self, index: u32, _entry: &Record) {
+        if index == self.records {
+            self.records = self.records.saturating_add(1);
+        }
+    }
+}
+
+// A new journal with so many records, three at the most, on a disk whose calls with these numbers fail.
+fn filled(alloc: Global, records: u32, fails: &[u64]) -> Result<Journal<MemDisk>, Fail>
+    ensures { IfOk result (λ journal. has_failed journal ≡ false) }
+{
+    let mut journal = created(alloc, fails)?;
+    if records > 0 {
+        journal.put(&ENTRY)?;
+    }
+    if records > 1 {
+        journal.put(&ENTRY)?;
+    }
+    if records > 2 {
+        journal.put(&ENTRY)?;
+    }
+    Ok(journal)
 }
 
 // All that a read gives.
@@ -166,6 +199,32 @@ fn a_loss_of_power_leaves_the_record_or_not(rt: HostRuntime) -> Result<(), Fail>
             records,
             "in place, {calls} calls, choice {choice}"
         );
+    }
+    Ok(())
+}
+
+// How many records there are before a loss of power in no put, and the number of its last disk call. Five calls make the
+// journal and four put each record; then one cuts the power, one reads the header, and one reads each slot up to the first
+// shut gate.
+const LAST_CALLS: [(u32, u64); 4] = [(0, 8), (1, 13), (2, 18), (3, 22)];
+
+#[test]
+fn a_loss_of_power_costs_one_reading(rt: HostRuntime) -> Result<(), Fail> {
+    let alloc = rt.alloc();
+    for (records, last) in LAST_CALLS {
+        let mut journal = filled(alloc, records, &[last])?;
+        assert!(rt;
+            matches!(journal.restart(&None, 0, 1, &mut Shown::default()), Err(OpenNo::Disk)),
+            "{records} records, fewer calls"
+        );
+        let mut shown = Shown::default();
+        let mut journal = filled(alloc, records, &[last + 1])?;
+        assert_eq!(rt;
+            journal.restart(&None, 0, 1, &mut shown)?,
+            records,
+            "{records} records, more calls"
+        );
+        assert_eq!(rt; shown.records, records);
     }
     Ok(())
 }

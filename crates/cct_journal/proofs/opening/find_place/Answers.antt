@@ -1,7 +1,8 @@
-use Rattle.std.proofs.Common.{◌≤◌, length, ◌∙◌, rules, arith}
+use Rattle.std.proofs.Common.{◌≤◌, length, reverse, ◌∙◌, sym, ap, subst, rules, arith}
 use Rattle.std.specs.Bool.{IsTrue}
+use Rattle.std.proofs.lemmas.List.{length-reverse, reverse-reverse}
 use Rattle.cct_journal.specs.Image.{least_size}
-use Rattle.cct_journal.proofs.Opens.{counted_all, counted_stands, stopped_refuses}
+use Rattle.cct_journal.proofs.Opens.{counted_same, counted_stands, stopped_refuses}
 use Rattle.cct_journal.proofs.opening.find_place.Goals as goal
 
 pub returns-in-Ok-clause-found : goal.returns-in-Ok-clause-found
@@ -11,25 +12,35 @@ returns-in-Ok-clause-found g c image told =
     let long : least_size ≤ length image =
     omega (arith, g.met.D.Disk.fits _ image told, c.len.ensures, c.if-len-lt-LEAST.false) in
     let seen = c.has_header.ensures.reads.same_seen ∙ told in
-    let counts = c.in-Ok.ensures.counted image seen in (
-      counts.records,
+    let over = c.in-Ok.ensures.replayed in (
+      reverse over.before,
       record {
         image = image;
-        tells = c.count_records.ensures.reads.same_seen ∙ seen;
-        stands = counted_stands image c.in-Ok.used counts long header_is;
-        count = counts.count;
+        tells = c.replay_records.ensures.reads.same_seen ∙ seen;
+        stands = counted_stands image _ (over.fact image seen) long header_is;
+        count = over.count ∙ sym (length-reverse over.before);
       },
     )
 
 pub returns-in-Ok-clause-every : goal.returns-in-Ok-clause-every
 returns-in-Ok-clause-every g c image records told stands =
     let seen = c.has_header.ensures.reads.same_seen ∙ told in
+    let over = c.in-Ok.ensures.replayed in
     record {
       image = image;
-      tells = c.count_records.ensures.reads.same_seen ∙ seen;
+      tells = c.replay_records.ensures.reads.same_seen ∙ seen;
       stands = stands;
-      count = counted_all image c.in-Ok.used records (c.in-Ok.ensures.counted image seen) stands;
+      count = over.count ∙ sym (length-reverse over.before)
+          ∙ ap length (counted_same image _ records (over.fact image seen) stands);
     }
+
+pub returns-in-Ok-clause-told : goal.returns-in-Ok-clause-told
+returns-in-Ok-clause-told g c records reads =
+    let over = c.in-Ok.ensures.replayed in
+    let seen = sym c.replay_records.ensures.reads.same_seen ∙ reads.tells in
+    let same = counted_same reads.image _ records (over.fact reads.image seen) reads.stands in
+    subst (λ before. g.R.Replay.replayed c.args.replay.now before c.replay_records.new.replay)
+    (sym (reverse-reverse over.before) ∙ ap reverse same) over.over
 
 pub returns-in-Err-clause-refused : goal.returns-in-Err-clause-refused
 returns-in-Err-clause-refused g c image told =

@@ -1,0 +1,31 @@
+//! The records of a journal are replayed as they are found.
+ghost use Rattle.std.specs.Prelude.{◌≡◌, ◌<◌, List, ◌∷◌, length};
+ghost use Rattle.cct_lines.specs.declared.record.Record.{Record};
+ghost use Rattle.cct_record.specs.Body.{Encodable};
+
+use cct_lines::Record;
+
+/// Whatever goes over the records of a journal as they are found, oldest first, so that each slot is read once.
+pub trait Replay {
+    /// What goes over these records, newest first, is the first value before them and the second behind them.
+    ghost replayed: { Self → List Record → Self → Type 0 };
+
+    /// Goes over the record of an index, behind those before it.
+    fn replay(&mut self, index: u32, entry: &Record)
+        requires few { index < 65535 }
+        requires encodable { Encodable entry.now }
+        requires behind { (first : Self) × (before : List Record) × (index ≡ length before)
+            × replayed first before self.old }
+        ensures { (first : Self) (before : List Record) → index ≡ length before → replayed first before self.old
+            → replayed first (entry.now ∷ before) self.new };
+}
+
+/// The records are only counted.
+#[derive(Drop)]
+pub(crate) struct OnlyCounted;
+
+impl Replay for OnlyCounted {
+    ghost replayed = { λ _ _ _. Unit {0} };
+
+    fn replay(&mut self, _index: u32, _entry: &Record) {}
+}
