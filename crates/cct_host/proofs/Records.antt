@@ -7,11 +7,6 @@ use Rattle.cct_model.specs.terms.device.Setup.{Setup}
 use Rattle.cct_model.specs.lines.record.Record.{Record}
 use Rattle.cct_model.specs.lines.record.Record.TheVariants as record_of
 use Rattle.cct_model.specs.Following.{all_follow, follows, is_allowed}
-use Rattle.cct_disk.specs.declared.disk.Disk.{Ghosts}
-use Rattle.cct_journal.specs.declared.journal.Journal.{Journal}
-use Rattle.cct_journal.specs.Journal as journals
-use Rattle.cct_journal.specs.Stands.{Reads, Stands}
-use Rattle.cct_journal.proofs.Moments.{reads_hold, reads_then}
 use Rattle.cct_ledger.specs.declared.ledger.Ledger.{Ledger}
 use Rattle.cct_ledger.specs.Ledger as ledgers
 use Rattle.cct_ledger.specs.Told.{is_of_money}
@@ -20,38 +15,7 @@ use Rattle.cct_host.specs.declared.desks.Desks.{Desks}
 use Rattle.cct_host.specs.Desks as all_desks
 use Rattle.cct_host.specs.Recalled.{Recalls}
 use Rattle.cct_host.specs.Replaying.{GoesOver}
-use Rattle.cct_host.specs.Starting.{IsFirstBad, OnlyReadIn, WentOver, WentOverFirst}
-
--- a journal that was only read
-
-module _ {D : Type 0} {g : Ghosts D} where
-  pub read_then : (old mid new : Journal D g) → OnlyReadIn old mid → OnlyReadIn mid new → OnlyReadIn old new
-  read_then old mid new first second = record {
-    place = second.place ∙ first.place;
-    whole = second.whole ∙ first.whole;
-    disk = reads_then first.disk second.disk;
-    later = omega (arith, first.later, second.later);
-  }
-
-  pub read_tells : (old new : Journal D g) (rs : List Record) → OnlyReadIn old new
-      → Reads g.seen (journals.disk_of old) (journals.place_of old) rs
-      → Reads g.seen (journals.disk_of new) (journals.place_of new) rs
-  read_tells old new rs read reads = record {
-    image = reads.image;
-    tells = read.disk.same_seen ∙ reads.tells;
-    stands = reads.stands;
-    count = ap (λ p. p.used) read.place ∙ reads.count;
-  }
-
-  pub read_stands : (old new : Journal D g) (rs : List Record) → OnlyReadIn old new
-      → Stands g.honest g.seen g.may_leave (journals.disk_of old) (journals.place_of old) rs
-      → Stands g.honest g.seen g.may_leave (journals.disk_of new) (journals.place_of new) rs
-  read_stands old new rs read stands = record {
-    image = stands.image;
-    held = reads_hold read.disk stands.image stands.held;
-    keeps = stands.keeps;
-    count = ap (λ p. p.used) read.place ∙ stands.count;
-  }
+use Rattle.cct_host.specs.Starting.{IsFirstBad, WentOver, WentOverFirst}
 
 -- the record behind the first ones
 
@@ -214,17 +178,7 @@ pub all_good : (bad : Option ℕ) (setup : Setup) (desks : Desks) (ledger : Ledg
 all_good None setup desks ledger before is over = over
 all_good (Some index) setup desks ledger before is over = absurd (true≢false is)
 
--- at first, and at the end
-
-pub went_none : (desks : Desks) (ledger : Ledger) (rs : List Record) → Recalls desks []
-    → ledgers.StandsFor ledger [] 0 → WentOverFirst desks ledger rs 0
-went_none desks ledger rs recalls stands = record {
-  before = [];
-  later = rs;
-  all = refl;
-  many = refl;
-  over = record { recalls = recalls; money = stands; follow = refl };
-}
+-- at the end
 
 none_left : (rs before later : List Record) → rs ≡ reverse before ++ later → length rs ≡ length before → later ≡ []
 none_left rs before later all many =

@@ -10,8 +10,8 @@ use arrayvec::ArrayVec;
 use cct_disk::MemDisk;
 use cct_journal::Journal;
 use cct_model::{
-    COIN_PLACES, CheckKind, Command, CommandNo, CrashAt, DeviceBody, DeviceSetup, Devices, MOST_HEARD, Name,
-    Setup, Texts,
+    COIN_PLACES, CheckKind, Command, CommandNo, CrashAt, DeviceBody, DeviceSetup, Devices,
+    MOST_HEARD, Name, Setup, Texts,
 };
 use cct_wire::Link;
 use std::alloc::Global;
@@ -171,10 +171,10 @@ fn crashed(setup: &Setup, alloc: Global, fails: u64) -> Result<Option<u32>, Fail
 {
     let mut host = host(setup, alloc, &[fails])?;
     play_to_a_reading(&mut host, &mut Told { exchanges: 0 })?;
-    match host.crash(Some(CrashAt { addr: 2, calls: 4 }), 1) {
-        Ok((_, crashed)) => Ok(Some(crashed.records)),
-        Err((_, CrashNo::Disk)) => Ok(None),
-        Err((_, why)) => Err(Fail::from(why)),
+    match host.restart(Some(CrashAt { addr: 2, calls: 4 }), 1) {
+        Ok(crashed) => Ok(Some(crashed.records)),
+        Err(CrashNo::Disk) => Ok(None),
+        Err(why) => Err(Fail::from(why)),
     }
 }
 

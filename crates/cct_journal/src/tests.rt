@@ -214,7 +214,10 @@ fn a_loss_of_power_costs_one_reading(rt: HostRuntime) -> Result<(), Fail> {
     for (records, last) in LAST_CALLS {
         let mut journal = filled(alloc, records, &[last])?;
         assert!(rt;
-            matches!(journal.restart(&None, 0, 1, &mut Shown::default()), Err(OpenNo::Disk)),
+            matches!(
+                journal.restart(&None, 0, 1, &mut Shown::default()),
+                Err(OpenNo::Disk)
+            ),
             "{records} records, fewer calls"
         );
         let mut shown = Shown::default();

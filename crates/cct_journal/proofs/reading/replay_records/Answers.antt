@@ -1,4 +1,4 @@
-use Rattle.std.proofs.Common.{◌≡◌, ◌∙◌, ◌+◌, length, sym, ap, arith, subst}
+use Rattle.std.proofs.Common.{◌≡◌, ◌∙◌, length, sym, ap, arith, subst}
 use Rattle.cct_record.specs.Body.{IsRefused, Spells}
 use Rattle.cct_journal.specs.Image.{capacity_of}
 use Rattle.cct_journal.proofs.Moments.{reads_then}
