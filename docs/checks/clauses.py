@@ -55,7 +55,7 @@ def read_code(crate: Crate, path: Path) -> None:
             owners = []
         if named := re.match(r"\s*pub (?:struct|enum|trait|type|const) (\w+)", line):
             crate.types.add(named[1])
-        if named := re.match(r"\s*ghost (\w+)", line):
+        if named := re.match(r"\s*ghost (?!use\b)(\w+)", line):
             for owner in owners:
                 crate.ghosts.setdefault(owner, set()).add(named[1])
         if named := re.match(r"(\s*)(?:pub(?:\(\w+\))? )?(?:const |unsafe )*fn (\w+)", line):
@@ -66,7 +66,8 @@ def read_code(crate: Crate, path: Path) -> None:
             continue
         for kind, name in re.findall(r"\b(ensures|requires)\*?(?: (\w+))? \{", line):
             (function.promises if kind == "ensures" else function.conditions).append(name)
-        if line == margin + "{" or line.endswith(("};", ") {")) or re.search(r"\bfn\b.*[;}{]$", line):
+        ends_head = line == margin + "{" or re.match(margin + r"\).*[;{]$", line) or line.endswith("};")
+        if ends_head or re.search(r"\bfn\b.*[;}{]$", line):
             function = None
 
 
@@ -88,7 +89,8 @@ def read_definitions(crate: Crate, path: Path) -> None:
 def read_crate(folder: Path) -> Crate:
     crate = Crate()
     for path in sorted(folder.glob("src/**/*.rt")):
-        read_code(crate, path)
+        if not path.name.endswith("tests.rt"):
+            read_code(crate, path)
     for path in sorted(folder.glob("specs/**/*.antt")):
         read_definitions(crate, path)
     for path in folder.glob("proofs/*.antt"):
