@@ -10,6 +10,8 @@ import played
 # or a longer text in which it stands.
 SHOWN = [
     ("docs/TRANSCRIPT.md", "A load", "cct_main", ["load", "7", "20"], None),
+    ("docs/SHOW.md", "An example", "cct_show", ["text"], "examples/one_coin.transcript"),
+    ("README.md", "", "cct_show", ["text"], "examples/lost_acknowledgement_of_a_dispense.transcript"),
 ]
 
 
