@@ -1,6 +1,7 @@
 """Lists and names that stand in a document and in the tree: crates, must-fail edits, examples, files."""
 
 import re
+import subprocess
 from pathlib import Path
 
 import markdown
@@ -92,3 +93,10 @@ def paths(root: Path):
                 elif word and (root / name).is_file() and word not in (root / name).read_text():
                     faults.append(f"{path.name}:{number}: {word} isn't in {name}")
     return count, faults
+
+
+def sentences(root: Path):
+    """Each definition of specs/ has its sentence (docs/index)."""
+    listed = subprocess.run([root / "docs/index"], capture_output=True, text=True).stdout.splitlines()
+    told = [line for line in listed if line.startswith("  ")]
+    return len(told), [line.strip() for line in told if ": NO SENTENCE" in line]
