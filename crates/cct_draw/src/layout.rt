@@ -9,20 +9,32 @@ pub(crate) const PAGE_ROWS: usize = 200;
 /// The height of a row. The signs, lines and captions of `shape.rt` are drawn for it.
 pub(crate) const ROW_HEIGHT: u32 = 32;
 
-/// How far below the top of a row its middle is, the line of a request, and the line of what was heard.
+/// The middle of a row, below its top.
 pub(crate) const ROW_MIDDLE: u32 = 16;
 
+/// The line of a request, below the top of its row.
 pub(crate) const REQUEST_LINE: u32 = 13;
 
+/// The line of what was heard, below the top of its row.
 pub(crate) const HEARD_LINE: u32 = 27;
 
-/// The height of what stands above the first row of a page, and below the last.
+/// The height of what stands above the first row of a page.
 pub(crate) const HEAD_HEIGHT: u32 = 56;
 
+/// Where the lanes begin in it, below their names.
+pub(crate) const LANE_TOP: u32 = 48;
+
+/// The height of what stands below the last row of a page.
 pub(crate) const FOOT_HEIGHT: u32 = 24;
+
+/// The left end of a page's title.
+pub(crate) const TITLE_START: u32 = 8;
 
 /// The right end of the row numbers.
 pub(crate) const NUMBERS_END: u32 = 44;
+
+/// The left end of the bar of a loss of power.
+pub(crate) const BAR_START: u32 = 52;
 
 /// The lane of the host; what is written of it stands to its left.
 pub(crate) const HOST_LANE: u32 = 420;

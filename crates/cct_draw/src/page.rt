@@ -3,7 +3,9 @@ ghost use Rattle.std.specs.Prelude.{◌≤◌, ◌<◌, ◌+◌, ◌*◌, length
 
 use crate::Mark;
 use crate::element::{begin_text, draw_text};
-use crate::layout::{HEAD_HEIGHT, HOST_LANE, Lanes, NUMBERS_END, PAGE_ROWS, ROW_HEIGHT};
+use crate::layout::{
+    HEAD_HEIGHT, HOST_LANE, LANE_TOP, Lanes, NUMBERS_END, PAGE_ROWS, ROW_HEIGHT, TITLE_START,
+};
 use crate::row::draw_mark;
 use crate::shape::Caption;
 use crate::words::write_numbered;
@@ -109,7 +111,7 @@ fn draw_title<K: Sink>(
     requires { rows ≤ PAGE_ROWS }
 {
     let before = page.index * PAGE_ROWS as u32;
-    begin_text(line, Caption::Title, 8);
+    begin_text(line, Caption::Title, TITLE_START);
     write_numbered(line, b"page ", page.index + 1, b" of ");
     write_numbered(line, b"", page.count, b"");
     if rows > 0 {
@@ -123,7 +125,8 @@ fn draw_title<K: Sink>(
 fn draw_lane<K: Sink>(out: &mut K, line: &mut TextLine, lane: u32, end: u32) -> Result<(), Failed> {
     line.clear();
     write_numbered(line, b"<path class=\"lane\" d=\"M", lane, b" ");
-    write_numbered(line, b"48V", end, b"\"/>\n");
+    write_numbered(line, b"", LANE_TOP, b"V");
+    write_numbered(line, b"", end, b"\"/>\n");
     out.put(line.as_slice())
 }
 
@@ -192,7 +195,7 @@ pub(crate) fn draw_left_out<K: Sink>(
     line: &mut TextLine,
     left_out: u64,
 ) -> Result<(), Failed> {
-    begin_text(line, Caption::LeftOut, 8);
+    begin_text(line, Caption::LeftOut, TITLE_START);
     line.push_number(left_out);
     line.push(b" more lines are left out");
     draw_text(out, line)

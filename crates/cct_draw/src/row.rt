@@ -2,7 +2,7 @@
 ghost use Rattle.std.specs.Prelude.{◌≤◌, length};
 
 use crate::element::{begin_text, draw_arrow, draw_shape, draw_text, write_label};
-use crate::layout::{HOST_LANE, Lanes, NUMBERS_END};
+use crate::layout::{BAR_START, HOST_LANE, Lanes};
 use crate::shape::{Arrow, Caption, Shape};
 use crate::words::{write_fault, write_happening, write_heard, write_numbered, write_record};
 use crate::{FaultAt, Happening, Heard, Label, Mark};
@@ -159,7 +159,7 @@ fn draw_crash<K: Sink>(
     end: u32,
     records: u32,
 ) -> Result<(), Failed> {
-    draw_arrow(out, line, Arrow::Crash, NUMBERS_END, end)?;
+    draw_arrow(out, line, Arrow::Crash, BAR_START, end)?;
     begin_text(line, Caption::Crash, HOST_LANE);
     write_numbered(
         line,
