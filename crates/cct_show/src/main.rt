@@ -19,7 +19,7 @@ use std::rt::Env;
 use std::{env, io};
 
 /// In which form the lines are shown.
-#[derive(Clone, Copy, Debug, PartialEq, Eq)]
+#[derive(Clone, Copy)]
 enum Form {
     /// `text`: each line, and below it what it says.
     Text,

@@ -25,20 +25,21 @@ pub(crate) fn show_picture<S: Source, K: Sink>(
         picture: Picture::new(alloc),
         is_marked: false,
     };
-    let read = read_lines(source, &mut marks);
-    Status::of(read.and_then(|()| marks.picture.write(out).map_err(|_| Stop::Write)))
+    Status::of(draw(&mut marks, source, out))
 }
 
-impl Marks {
-    /// Adds a mark.
-    fn add(&mut self, mark: Mark) -> Result<(), Stop> {
-        self.picture.add(mark).map_err(|_| Stop::Memory)
-    }
+/// Reads all lines, and writes their picture.
+fn draw<S: Source, K: Sink>(marks: &mut Marks, source: &mut S, out: &mut K) -> Result<(), Stop> {
+    read_lines(source, marks)?;
+    marks.picture.write(out)?;
+    Ok(())
 }
 
 impl Form for Marks {
     fn line(&mut self, line: &[u8]) -> Result<(), Stop> {
-        self.add(mark_of(line.strip_suffix(b"\r").unwrap_or(line)))
+        self.picture
+            .add(mark_of(line.strip_suffix(b"\r").unwrap_or(line)))?;
+        Ok(())
     }
 
     fn part(&mut self, bytes: &[u8]) -> Result<(), Stop> {
@@ -46,7 +47,8 @@ impl Form for Marks {
             return Ok(());
         }
         self.is_marked = true;
-        self.add(Mark::Note(Label::new(bytes)))
+        self.picture.add(Mark::Note(Label::new(bytes)))?;
+        Ok(())
     }
 
     fn end(&mut self) -> Result<(), Stop> {

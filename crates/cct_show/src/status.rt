@@ -1,9 +1,11 @@
 //! How the program ends.
 
 use cct_edge::Failed;
+use std::alloc::AllocError;
+use std::fmt;
 
-/// Why a form stops before the input's end.
-#[derive(Clone, Copy, Debug, PartialEq, Eq)]
+/// Why a form stops before its end. A sink's failure and a formatter's, which is a sink's too, are writing.
+#[derive(Clone, Copy)]
 pub(crate) enum Stop {
     /// Reading failed.
     Read,
@@ -13,8 +15,26 @@ pub(crate) enum Stop {
     Memory,
 }
 
+impl From<Failed> for Stop {
+    fn from(_failed: Failed) -> Stop {
+        Stop::Write
+    }
+}
+
+impl From<fmt::Error> for Stop {
+    fn from(_error: fmt::Error) -> Stop {
+        Stop::Write
+    }
+}
+
+impl From<AllocError> for Stop {
+    fn from(_error: AllocError) -> Stop {
+        Stop::Memory
+    }
+}
+
 /// How the program ends, with its exit status.
-#[derive(Clone, Copy, Debug, PartialEq, Eq)]
+#[derive(Clone, Copy)]
 pub(crate) enum Status {
     /// 0: the input was shown to its end.
     Done,
