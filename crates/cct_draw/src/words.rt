@@ -111,7 +111,7 @@ pub(crate) fn write_record(line: &mut TextLine, record: &Record)
         } => {
             write_numbered(line, b"order ", *id, b" opened");
             write_numbered(line, b" at ", u32::from(*addr), b": ");
-            write_numbered(line, b"", u32::from(*count), b" coins");
+            write_numbered(line, b"", u32::from(*count), coins_of(*count));
         }
         Record::Closed { id, paid, unpaid } => {
             write_numbered(line, b"order ", *id, b" closed: ");
@@ -125,6 +125,16 @@ pub(crate) fn write_record(line: &mut TextLine, record: &Record)
             write_numbered(line, b"sale ", *id, b" at ");
             line.push_number(*price);
         }
+    }
+}
+
+/// What so many coins are called, behind a space.
+fn coins_of(count: u8) -> &'static [u8]
+    ensures { length result.now ≤ 10 }
+{
+    match count {
+        1 => b" coin",
+        _ => b" coins",
     }
 }
 
