@@ -116,8 +116,17 @@ fn bare_answer<'e>(sent: &[u8], heard: &'e [u8]) -> Answer<'e> {
 fn bad_echo<'e>(at: usize, sent: &[u8], heard: &[u8]) -> Answer<'e> {
     Answer::EchoBad {
         at,
-        sent: sent.get(at).copied(),
-        heard: heard.get(at).copied(),
+        sent: byte_at(at, sent),
+        heard: byte_at(at, heard),
+    }
+}
+
+/// The byte at a place, where there is one.
+fn byte_at(at: usize, bytes: &[u8]) -> Option<u8> {
+    if at < bytes.len() {
+        Some(bytes[at])
+    } else {
+        None
     }
 }
 
@@ -159,12 +168,10 @@ fn write_bad_echo<W: fmt::Write>(
     f: &mut fmt::Formatter<W>,
 ) -> fmt::Result {
     let place = at.saturating_add(1);
-    write!(f, "the echo is damaged at byte {place}")?;
-    if let Some(byte) = sent {
-        write!(f, ": {byte:02x} was sent")?;
-    }
-    match heard {
-        Some(byte) => write!(f, " and {byte:02x} heard"),
-        None => f.write_str(" and no byte heard"),
+    write!(f, "the echo is damaged at byte {place}: ")?;
+    match (sent, heard) {
+        (Some(sent), Some(heard)) => write!(f, "{sent:02x} was sent and {heard:02x} heard"),
+        (Some(sent), None) => write!(f, "{sent:02x} was sent and no byte heard"),
+        (None, _) => f.write_str("no byte was sent"),
     }
 }

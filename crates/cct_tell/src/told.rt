@@ -1,7 +1,7 @@
 //! What people read below a line.
 
 use crate::exchange::Exchange;
-use crate::lists::Hex;
+use crate::lists::Count;
 use crate::posting::Means;
 use cct_lines::{End, Entry, Totals, WireFault};
 use std::fmt;
@@ -76,10 +76,13 @@ fn write_end<W: fmt::Write>(end: End, f: &mut fmt::Formatter<W>) -> fmt::Result 
 /// Writes sums by their names, and what is left behind a loss of power.
 fn write_sums<W: fmt::Write>(entry: &Entry, f: &mut fmt::Formatter<W>) -> fmt::Result {
     match entry {
-        Entry::Crash { records } => write!(
-            f,
-            "    the host lost its power and started again over {records} records; no job is left\n"
-        ),
+        Entry::Crash { records } => {
+            let records = Count(u64::from(*records), "record");
+            write!(
+                f,
+                "    the host lost its power and started again over {records}; no job is left\n"
+            )
+        }
         Entry::Balance(
             Totals {
                 available,
@@ -87,20 +90,27 @@ fn write_sums<W: fmt::Write>(entry: &Entry, f: &mut fmt::Formatter<W>) -> fmt::R
                 paid,
                 sold,
             },
-        ) => write!(
-            f,
-            "    {available} available, {reserved} reserved, {paid} paid, {sold} sold\n"
-        ),
+        ) => {
+            write!(
+                f,
+                "    {available} available, {reserved} reserved, {paid} paid, {sold} sold\n"
+            )
+        }
         Entry::Total {
             posted,
             lost,
             paid,
             unpaid,
             sold,
-        } => write!(
-            f,
-            "    {posted} coins posted, {lost} events overrun, {paid} coins paid, {unpaid} unpaid, {sold} sold\n"
-        ),
+        } => {
+            let posted = Count(*posted, "coin");
+            let lost = Count(*lost, "event");
+            let paid = Count(*paid, "coin");
+            write!(
+                f,
+                "    {posted} posted, {lost} overrun, {paid} paid, {unpaid} unpaid, {sold} sold\n"
+            )
+        }
         _ => Ok(()),
     }
 }
