@@ -97,8 +97,6 @@ pub(crate) fn restart<'s, D: Disk>(
 {
     let due = due_for(desks, at);
     let setup = desks.setup();
-    *desks = Desks::new(setup);
-    *ledger = Ledger::new(setup);
     let mut recalled = Recollection::new(setup);
     match lose(journal, due, calls_in(at), choice, &mut recalled) {
         Ok(kept) => {
@@ -112,7 +110,11 @@ pub(crate) fn restart<'s, D: Disk>(
                 Some(index) => Err(CrashNo::BadRecord { index }),
             }
         }
-        Err(why) => Err(why),
+        Err(why) => {
+            *desks = Desks::new(setup);
+            *ledger = Ledger::new(setup);
+            Err(why)
+        }
     }
 }
 

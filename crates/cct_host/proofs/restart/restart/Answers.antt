@@ -67,7 +67,7 @@ returns-in-Some-clause-left g c records stands =
 
 pub returns-in-Err-clause-reserved : goal.returns-in-Err-clause-reserved
 returns-in-Err-clause-reserved g c =
-    c.new-2.ensures.reserved ∙ sym (nothing_reserved c.new.result c.new.ensures.recalls.unused)
+    c.new-in-Err.ensures.reserved ∙ sym (nothing_reserved c.new.result c.new.ensures.recalls.unused)
 
 pub returns-in-Err-clause-fits : goal.returns-in-Err-clause-fits
 returns-in-Err-clause-fits g c =
