@@ -8,8 +8,8 @@ use cct_lines::MOST_TEXT;
 /// How many bytes are taken from the source in one call at the most.
 const CHUNK: usize = 4096;
 
-/// What becomes of the lines of the input.
-pub(crate) trait Form {
+/// What takes the lines of the input.
+pub(crate) trait LineSink {
     /// A whole line, without its line feed: at most as many bytes as a line of a transcript may have with it.
     fn line(&mut self, line: &[u8]) -> Result<(), Stop>;
 
@@ -28,8 +28,8 @@ struct Line {
     is_long: bool,
 }
 
-/// Gives a form all lines of a source, whatever bytes they have. The last one may be without line feed.
-pub(crate) fn read_lines<S: Source, F: Form>(source: &mut S, form: &mut F) -> Result<(), Stop> {
+/// Gives all lines of a source to `sink`, whatever bytes they have. The last one may be without line feed.
+pub(crate) fn read_lines<S: Source, L: LineSink>(source: &mut S, sink: &mut L) -> Result<(), Stop> {
     let mut line = Line {
         bytes: ArrayVec::new(),
         is_long: false,
@@ -44,48 +44,48 @@ pub(crate) fn read_lines<S: Source, F: Form>(source: &mut S, form: &mut F) -> Re
             break;
         }
         for piece in room[..count].split_inclusive(|byte| *byte == b'\n') {
-            line.add(piece, form)?;
+            line.add(piece, sink)?;
         }
     }
     if line.is_long || !line.bytes.is_empty() {
-        line.end(form)?;
+        line.end(sink)?;
     }
     Ok(())
 }
 
 impl Line {
     /// Adds bytes, of which the last may be a line feed, which ends the line.
-    fn add<F: Form>(&mut self, piece: &[u8], form: &mut F) -> Result<(), Stop> {
+    fn add<L: LineSink>(&mut self, piece: &[u8], sink: &mut L) -> Result<(), Stop> {
         match piece {
             [bytes @ .., b'\n'] => {
-                self.hold(bytes, form)?;
-                self.end(form)
+                self.hold(bytes, sink)?;
+                self.end(sink)
             }
-            bytes => self.hold(bytes, form),
+            bytes => self.hold(bytes, sink),
         }
     }
 
     /// Holds more bytes of the line; where there is no room for them, it is a longer one.
-    fn hold<F: Form>(&mut self, bytes: &[u8], form: &mut F) -> Result<(), Stop> {
+    fn hold<L: LineSink>(&mut self, bytes: &[u8], sink: &mut L) -> Result<(), Stop> {
         if self.is_long {
-            return form.part(bytes);
+            return sink.part(bytes);
         }
         if self.bytes.try_extend_from_slice(bytes).is_ok() {
             return Ok(());
         }
         self.is_long = true;
-        form.part(self.bytes.as_slice())?;
+        sink.part(self.bytes.as_slice())?;
         self.bytes.clear();
-        form.part(bytes)
+        sink.part(bytes)
     }
 
     /// The line is at its end, and the next one begins.
-    fn end<F: Form>(&mut self, form: &mut F) -> Result<(), Stop> {
+    fn end<L: LineSink>(&mut self, sink: &mut L) -> Result<(), Stop> {
         if self.is_long {
             self.is_long = false;
-            return form.end();
+            return sink.end();
         }
-        form.line(self.bytes.as_slice())?;
+        sink.line(self.bytes.as_slice())?;
         self.bytes.clear();
         Ok(())
     }

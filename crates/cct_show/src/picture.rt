@@ -1,6 +1,6 @@
 //! The form `svg`: a sequence picture of all lines.
 
-use crate::lines::{Form, read_lines};
+use crate::lines::{LineSink, read_lines};
 use crate::mark::mark_of;
 use crate::status::{Status, Stop};
 use cct_draw::{Label, Mark, Picture};
@@ -35,7 +35,7 @@ fn draw<S: Source, K: Sink>(marks: &mut Marks, source: &mut S, out: &mut K) -> R
     Ok(())
 }
 
-impl Form for Marks {
+impl LineSink for Marks {
     fn line(&mut self, line: &[u8]) -> Result<(), Stop> {
         self.picture
             .add(mark_of(line.strip_suffix(b"\r").unwrap_or(line)))?;

@@ -1,6 +1,6 @@
 //! The form `text`: each line as it is, and below it what it says.
 
-use crate::lines::{Form, read_lines};
+use crate::lines::{LineSink, read_lines};
 use crate::page::Page;
 use crate::status::{Status, Stop};
 use cct_edge::{Sink, Source};
@@ -21,7 +21,7 @@ pub(crate) fn show_text<S: Source, K: Sink>(source: &mut S, out: &mut K) -> Stat
     Status::of(read_lines(source, &mut text))
 }
 
-impl<K: Sink> Form for Text<'_, K> {
+impl<K: Sink> LineSink for Text<'_, K> {
     fn line(&mut self, line: &[u8]) -> Result<(), Stop> {
         self.page.add(line)?;
         self.page.add(b"\n")?;

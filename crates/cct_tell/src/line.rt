@@ -7,9 +7,9 @@ use crate::refusal::refusal_in;
 use cct_lines::{Coin, Entry, MOST_HEARD, MOST_SENT, Sent, Step, Totals};
 use cct_script::{piece_in, read_step_line};
 
-/// What a line of a transcript says, without its line feed (`docs/TRANSCRIPT.md`), or a line of a bus logger: two pieces
-/// in hexadecimal, what was sent and what was heard, each a hyphen where it is empty. That is an exchange with the
-/// address that the first byte sent names.
+/// What a line of a transcript says, without its line feed (`docs/TRANSCRIPT.md`), or a line of a bus logger: two
+/// pieces in hexadecimal, what was sent and what was heard, each a hyphen where it is empty. That is an exchange with
+/// the address that the first byte sent names.
 ///
 /// `None` for any other line, and for those of which there is no more to say: the list of a scan, a refused line, the
 /// faults of a file, and the sums of a load.

@@ -4,8 +4,8 @@ use crate::fields::{amount, fields_of, number, one_byte, one_number};
 use cct_lines::{Command, CommandNo, Step};
 use cct_script::read_step_line;
 
-/// The command and the reason that a text spells, as they stand behind `no`: the reason is the first text behind a space
-/// that is one.
+/// The command and the reason that a text spells, as they stand behind `no`: the reason is the first text behind a
+/// space that is one.
 pub(crate) fn refusal_in(text: &[u8]) -> Option<(Command, CommandNo)> {
     for (at, letter) in text.iter().enumerate() {
         if *letter == b' '

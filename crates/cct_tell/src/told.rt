@@ -6,8 +6,8 @@ use crate::posting::Means;
 use cct_lines::{End, Entry, Totals, WireFault};
 use std::fmt;
 
-/// What people read below the line of an entry: lines that are indented by four spaces, each with its line feed; nothing
-/// where the line says it all.
+/// What people read below the line of an entry: lines that are indented by four spaces, each with its line feed;
+/// nothing where the line says it all.
 #[derive(Drop)]
 pub struct Told<'e>(pub &'e Entry);
 
