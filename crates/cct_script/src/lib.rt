@@ -1,5 +1,6 @@
 //! The whole script reader: the lines of a script, taken from its source in whatever pieces it gives them; what each
-//! line says, or why it is refused; and what a setup line adds to a setup (`docs/SCRIPT.md`).
+//! line says, or why it is refused; and what a setup line adds to a setup (`docs/SCRIPT.md`). Numbers in decimal and
+//! pieces in hexadecimal are read by calls of their own, which serve whoever reads other lines too.
 #![tactic(auto)]
 
 mod adding;
