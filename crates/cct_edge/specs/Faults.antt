@@ -13,7 +13,7 @@ next_count count = min (count + 1) last_count
 abbrev pub Rose : ℕ → ℕ → Type 0
 Rose before now = min (before + 1) last_count ≤ now
 
--- a count never falls, and an answer is an error only where the count rose
+-- a count never falls, and an answer is an error only where the count rose, or stands at its last value
 pub record HasCause {T E : Type 0} (before now : ℕ) (result : Result T E) : Type 0 where
   pub later : before ≤ now
   pub failed : IsErr result → Rose before now

@@ -35,6 +35,7 @@ use Rattle.cct_host.specs.declared.desk.JobDesk.{JobDesk}
 use Rattle.cct_host.specs.Attempt as attempt
 use Rattle.cct_host.specs.Desk.{Attempts, Goes, Keeps, Knows, Works}
 use Rattle.cct_host.specs.Exchange.{Converses, Ends, Talks}
+use Rattle.cct_host.specs.Held.{due_by}
 use Rattle.cct_host.specs.Place.{Asks, AsksNext, NextAt, OwnsAt, Place, StandsAt, addr_of, device, end_at, line_at, lines_at, sales, scans}
 use Rattle.cct_host.specs.Running.{Settles, dues_left}
 use Rattle.cct_host.proofs.Keeps.{asked_keeps, knows_same, left_keeps, put_keeps, sold_keeps}
@@ -128,6 +129,7 @@ idle_attempts gives link addr state owed desk report reported none same ordered 
   what = attempt.idle;
   reported_is = is;
   link = refl;
+  put_is = refl;
   used_is = refl;
   goes = λ hears place past heard at keeps owns.
       subst (λ a. Goes hears place past (entry.Idle a ∷ []) desk.job desk.epoch desk.dues) at
@@ -215,16 +217,17 @@ asked_by hears place past old new state owed sent heard end kept told reported (
 -- a job asks
 pub ask_attempts : {L : Type 0} (gives : L → List ℕ → List ℕ → L → Type 0) (before after : L) (addr : ℕ) (old new : Job)
     (state : EpochState) (owed : Dues) (desk : JobDesk) (end : Option End) (report told reported : List Entry)
-    → AsksOn old → Converses gives before after addr old new report told → Ends new end
+    → AsksOn old → due_by (Some old) ≡ None → Converses gives before after addr old new report told → Ends new end
     → Settles end new addr desk.job told reported
     → desk.epoch ≡ state → desk.dues ≡ dues_left desk.job owed
     → Attempts gives before after addr (Some old) state owed desk 0 report reported
-ask_attempts gives before after addr old new state owed desk end report told reported needs talk ends settled same
+ask_attempts gives before after addr old new state owed desk end report told reported needs none talk ends settled same
     ordered = record {
       what = attempt.asked talk.sent talk.heard end;
       reported_is = reported_with report told reported addr (entry.Wire addr talk.sent talk.heard) end new desk.job
           talk.reported_is settled;
       link = talk.goes;
+      put_is = sym none;
       used_is = refl;
       goes = λ hears place past heard_is at keeps owns.
           let news = with_end addr (entry.Wire addr talk.sent talk.heard) end in
@@ -296,16 +299,17 @@ put_by hears (device d) past old new r state last owed left end kept told report
 pub put_attempts : {L : Type 0} (gives : L → List ℕ → List ℕ → L → Type 0) (link : L) (addr : ℕ) (old new : Job)
     (r : Record) (state : EpochState) (owed moves : Dues) (desk : JobDesk) (used : ℕ) (end : Option End)
     (report told reported : List Entry)
-    → PutsOn old new r owed.order moves.order → IsNoScan old → SellsOn old new r owed.order moves.order
-    → moves.id ≡ owed.id → Ends new end
+    → PutsOn old new r owed.order moves.order → due_by (Some old) ≡ Some r → IsNoScan old
+    → SellsOn old new r owed.order moves.order → moves.id ≡ owed.id → Ends new end
     → told ≡ report ++ entry.Put r ∷ [] → Settles end new addr desk.job told reported
     → desk.epoch ≡ model.epoch_by r state → desk.dues ≡ dues_left desk.job moves → used ≡ id_of r
     → Attempts gives link link addr (Some old) state owed desk used report reported
-put_attempts gives link addr old new r state owed moves desk used end report told reported puts_on no_scan sells same
-    ends told_is settled moved left used_is = record {
+put_attempts gives link addr old new r state owed moves desk used end report told reported puts_on due no_scan sells
+    same ends told_is settled moved left used_is = record {
       what = attempt.put r end;
       reported_is = reported_with report told reported addr (entry.Put r) end new desk.job told_is settled;
       link = refl;
+      put_is = sym due;
       used_is = used_is;
       goes = λ hears place past heard_is at keeps owns.
           subst (λ o. Goes hears place past (with_end addr (entry.Put r) end) desk.job desk.epoch o) (sym left)

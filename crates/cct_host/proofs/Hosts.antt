@@ -22,11 +22,11 @@ use Rattle.cct_host.specs.Desks as all_desks
 use Rattle.cct_host.specs.Host.{Answers, Keeps, Nexts, PutSuits, PutsDue, StandsFor, capacity_in, disk_of, put_by, setup_of}
 use Rattle.cct_host.proofs.Putting.{next_records, put_last}
 
--- an answer passes on with two facts
-pub both_ok : (result : Result Unit Failed) (P Q R : Type 0) → OnOk result P → OnOk result Q → (P → Q → R)
-    → OnOk result R
-both_ok (Ok done) P Q R p q goes = goes p q
-both_ok (Err why) P Q R p q goes = tt
+-- an answer passes on with three facts
+pub all_ok : (result : Result Unit Failed) (P Q R S : Type 0) → OnOk result P → OnOk result Q → OnOk result R
+    → (P → Q → R → S) → OnOk result S
+all_ok (Ok done) P Q R S p q r goes = goes p q r
+all_ok (Err why) P Q R S p q r goes = tt
 
 -- a disk that goes on is trusted as before
 pub trusted_before : {D : Type 0} (size : D → ℕ) (honest : D → Bool) (seen : D → Option (List ℕ)) (cuts : D → ℕ)
@@ -84,13 +84,16 @@ module _ {D : Type 0} {g : Ghosts D} where
       (old new : Host D g) (report reported : List Entry)
       → GoesOn g.size g.honest g.seen g.cuts (disk_of old) (disk_of new)
       → all_desks.Nexts gives link left addr old.desks new.desks report reported
+      → journals.used_of new.journal
+      ≡ journals.used_of old.journal + length (put_by (all_desks.due_on old.desks addr))
       → ((past : List Entry) → all_desks.StandsFor old.desks past
       → PutsDue past addr old.desks new.desks old.ledger new.ledger old.journal new.journal)
       → Nexts gives link left addr old new report reported
-  next_goes gives link left addr old new report reported goes nexts puts = record {
+  next_goes gives link left addr old new report reported goes nexts counts puts = record {
     what = nexts.what;
     reported_is = nexts.reported_is;
     link = nexts.link;
+    counts = counts ∙ ap (λ d. journals.used_of old.journal + length (put_by d)) (sym nexts.put_is);
     goes = λ hears past heard stands suits.
         let turned = nexts.goes hears past heard stands.keeps.desks suits.owned in (
           turned.0,

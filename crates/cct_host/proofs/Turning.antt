@@ -1,5 +1,5 @@
 -- How what all desks hold and reserve changes where one desk does.
-use Rattle.std.proofs.Common.{◌≡◌, ℕ, zero, suc, ◌+◌, ◌-◌, ◌*◌, ◌≤◌, ◌<◌, true, List, [], ◌∷◌, ◌++◌, length, set, take, drop, get_or, sym, ap, subst, ◌∙◌, Option, Some, None, arith}
+use Rattle.std.proofs.Common.{◌≡◌, ℕ, zero, suc, ◌+◌, ◌-◌, ◌*◌, ◌≤◌, ◌<◌, true, List, [], ◌∷◌, ◌++◌, length, set, take, drop, get_or, refl, sym, ap, subst, ◌∙◌, Option, Some, None, arith}
 use Rattle.std.specs.List.{position}
 use Rattle.std.specs.Option.{IfSome}
 use Rattle.std.specs.Prelude.{Err, Ok, OnOk, Result, option_and_then, slice_get}
@@ -7,6 +7,7 @@ use Rattle.std.proofs.Math.ListN.{length-set}
 use Rattle.std.proofs.Math.Nat.{add-mul}
 use Rattle.std.proofs.lemmas.List.{get_or-set_same}
 use Rattle.std.proofs.lemmas.Option.{slice_get-get_or}
+use Rattle.cct_model.specs.terms.wire.TheConstants.{BROADCAST, HOST}
 use Rattle.cct_model.specs.terms.device.DeviceSetup.{DeviceSetup}
 use Rattle.cct_model.specs.terms.device.Setup.{Setup}
 use Rattle.cct_model.specs.lines.command.Command.{Command}
@@ -16,13 +17,15 @@ use Rattle.cct_model.specs.lines.record.Record.{Record}
 use Rattle.cct_model.specs.Exchange.{device_at}
 use Rattle.cct_model.specs.Money.{coins_of, hopper_value}
 use Rattle.cct_model.specs.Job.{address_of}
+use Rattle.cct_jobs.specs.declared.job.Job.{Job}
 use Rattle.cct_jobs.specs.Jobs.{coins_asked, is_of_device}
 use Rattle.cct_host.specs.declared.desk.JobDesk.{JobDesk}
 use Rattle.cct_host.specs.declared.desks.Desks.{Desks}
 use Rattle.cct_host.specs.Desk.{held_at, puts_at, reserved_over, sum_in}
-use Rattle.cct_host.specs.Desks.{held_of, puts_of}
-use Rattle.cct_host.specs.Held.{coins_by}
+use Rattle.cct_host.specs.Desks.{due_at_desk, held_of, puts_of}
+use Rattle.cct_host.specs.Held.{coins_by, due_by, puts_left}
 use Rattle.cct_host.specs.Running.{amount_of}
+use Rattle.cct_host.proofs.Holding.{due_left}
 use Rattle.cct_host.proofs.Places.{is_at, refilled}
 
 -- an answer passes on
@@ -34,6 +37,23 @@ pub some_by : (found there : Option Record) (P Q : Type 0) → found ≡ there �
     → IfSome found (λ r. Q)
 some_by None there P Q is p goes = tt
 some_by (Some r) there P Q is p goes = goes (subst (λ f. IfSome f (λ r. P)) (sym is) p)
+
+-- where nothing may be put, nothing is due
+nothing_due : (due : Option Record) (most : ℕ) → IfSome due (λ r. 1 ≤ most) → most ≡ 0 → due ≡ None
+nothing_due None most some none = refl
+nothing_due (Some r) most some none = absurd (omega (arith, some, none))
+
+pub none_due : (job : Option Job) → puts_left job ≡ 0 → due_by job ≡ None
+none_due job none = nothing_due (due_by job) (puts_left job) (due_left job) none
+
+-- what is due at the address of all devices, where a scan puts nothing, and at the host's own
+pub scan_due : (sale : JobDesk) (addr : ℕ) (there : Option JobDesk) → there ≡ None → addr ≡ BROADCAST
+    → due_at_desk sale addr there ≡ None
+scan_due sale addr there nobody is = ap (due_at_desk sale addr) nobody ∙ ap (λ a. due_at_desk sale a None) is
+
+pub sale_due : (sale : JobDesk) (addr : ℕ) (there : Option JobDesk) → there ≡ None → addr ≡ HOST
+    → due_at_desk sale addr there ≡ due_by sale.job
+sale_due sale addr there nobody is = ap (due_at_desk sale addr) nobody ∙ ap (λ a. due_at_desk sale a None) is
 
 -- a sum over desks
 sum_set : (f : JobDesk → ℕ) (ks : List JobDesk) (i : ℕ) (y x : JobDesk) → i < length ks

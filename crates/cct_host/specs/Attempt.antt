@@ -1,6 +1,6 @@
 -- What one attempt of a job makes: nothing without a job, else one exchange or one put, and the end where it brings
 -- one.
-use Rattle.std.specs.Prelude.{◌≡◌, ℕ, List, [], ◌∷◌, Option, ⊤}
+use Rattle.std.specs.Prelude.{◌≡◌, ℕ, List, [], ◌∷◌, Option, Some, None, ⊤}
 use Rattle.cct_model.specs.lines.record.Record.{Record}
 use Rattle.cct_model.specs.lines.entry.End.{End}
 use Rattle.cct_model.specs.lines.entry.Entry.{Entry}
@@ -31,6 +31,11 @@ abbrev pub HeardBy : (List ℕ → List ℕ) → Attempt → Type 0
 HeardBy hears idle = ⊤
 HeardBy hears (asked sent heard end) = heard ≡ hears sent
 HeardBy hears (put r end) = ⊤
+
+-- The record that an attempt put, if it put one.
+abbrev pub put_of : Attempt → Option Record
+put_of (put r end) = Some r
+put_of what = None
 
 -- The id that an attempt used by its put, 0 where it used none.
 abbrev pub used_by : Attempt → ℕ

@@ -18,8 +18,8 @@ use Rattle.cct_jobs.specs.declared.job.Job.{Job}
 use Rattle.cct_host.specs.declared.dues.Dues.{Dues}
 use Rattle.cct_jobs.specs.Jobs.{order_of}
 use Rattle.cct_host.specs.declared.desk.JobDesk.{JobDesk}
-use Rattle.cct_host.specs.Attempt.{Attempt, HeardBy, Links, news_of, used_by}
-use Rattle.cct_host.specs.Held.{coins_by, held_by, puts_left}
+use Rattle.cct_host.specs.Attempt.{Attempt, HeardBy, Links, news_of, put_of, used_by}
+use Rattle.cct_host.specs.Held.{coins_by, due_by, held_by, puts_left}
 use Rattle.cct_host.specs.Place.{AreAt, NextAt, OwnsAt, Place, StandsAt, addr_of, device, lines_at, sales, scans}
 
 -- What the host has at a place is the job that its lines tell, beside the epoch and the open order.
@@ -116,8 +116,8 @@ pub record Goes (hears : List ℕ → List ℕ) (place : Place) (past news : Lis
   pub at : AreAt (addr_of place) past news
   pub keeps : Keeps place job state owed (lines_at place (news ++ past))
 
--- A job, an epoch and an open order make one attempt over a link, and leave this desk; this is the id that its put used,
--- or 0. What it adds to the report are the entries of a `next` at its place, where what it heard is what follows the
+-- A job, an epoch and an open order make one attempt over a link, and leave this desk; it puts the record that was due,
+-- if one was, and this is the id that its put used, or 0. What it adds to the report are the entries of a `next` at its place, where what it heard is what follows the
 -- piece that it sent, and an order that it closes was opened there.
 pub record Attempts {L : Type 0} (gives : L → List ℕ → List ℕ → L → Type 0) (old new : L) (addr : ℕ) (job : Option Job)
     (state : EpochState) (owed : Dues) (desk : JobDesk) (used : ℕ)
@@ -125,6 +125,7 @@ pub record Attempts {L : Type 0} (gives : L → List ℕ → List ℕ → L → 
   pub what : Attempt
   pub reported_is : reported ≡ report ++ reverse (news_of addr what)
   pub link : Links gives old new what
+  pub put_is : put_of what ≡ due_by job
   pub used_is : used ≡ used_by what
   pub goes : (hears : List ℕ → List ℕ) (place : Place) (past : List Entry) → HeardBy hears what → addr_of place ≡ addr
       → Keeps place job state owed (lines_at place past) → OwnsAt place past

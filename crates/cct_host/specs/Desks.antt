@@ -14,7 +14,7 @@ use Rattle.cct_model.specs.Refusal.{state_refusal}
 use Rattle.cct_model.specs.Setup.{IsSoundSetup}
 use Rattle.cct_host.specs.declared.desk.JobDesk.{JobDesk}
 use Rattle.cct_host.specs.declared.desks.Desks.{Desks}
-use Rattle.cct_host.specs.Attempt.{Attempt, HeardBy, Links, news_of}
+use Rattle.cct_host.specs.Attempt.{Attempt, HeardBy, Links, news_of, put_of}
 use Rattle.cct_host.specs.Desk.{AllSit, Sits, greatest_paying, held_at, held_in, no_of, puts_at, reserved_over, sum_in}
 use Rattle.cct_host.specs.Held.{coins_by, due_by, price_by}
 use Rattle.cct_host.specs.Place.{OwnsItsPut, sales, scans}
@@ -91,14 +91,15 @@ Answers old new c result =
 abbrev pub Refuses : Desks → Command → Option CommandNo → Type 0
 Refuses desks c why = (past : List Entry) → StandsFor desks past → why ≡ state_refusal (setup_of desks) past c
 
--- A `next` at an address makes one attempt over a link. What it adds to the report are the entries of a `next` after
--- whatever happened, where what it heard is what follows the piece that it sent, and an order that it closes was opened at
+-- A `next` at an address makes one attempt over a link, and puts the record that was due there, if one was. What it adds
+-- to the report are the entries of a `next` after whatever happened, where what it heard is what follows the piece that it sent, and an order that it closes was opened at
 -- that address; and the desks go on by them.
 pub record Nexts {L : Type 0} (gives : L → List ℕ → List ℕ → L → Type 0) (old new : L) (addr : ℕ) (before after : Desks)
     (report reported : List Entry) : Type 0 where
   pub what : Attempt
   pub reported_is : reported ≡ report ++ reverse (news_of addr what)
   pub link : Links gives old new what
+  pub put_is : put_of what ≡ due_on before addr
   pub goes : (hears : List ℕ → List ℕ) (past : List Entry) → HeardBy hears what → StandsFor before past
       → OwnsItsPut (setup_of before) past addr
       → EntriesOfNext hears (setup_of before) past addr (news_of addr what) × StandsFor after

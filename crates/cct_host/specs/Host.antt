@@ -21,7 +21,7 @@ use Rattle.cct_ledger.specs.declared.ledger.Ledger.{Ledger}
 use Rattle.cct_ledger.specs.Ledger as ledgers
 use Rattle.cct_host.specs.declared.desks.Desks.{Desks}
 use Rattle.cct_host.specs.declared.host.Host.{Host}
-use Rattle.cct_host.specs.Attempt.{Attempt, HeardBy, Links, news_of}
+use Rattle.cct_host.specs.Attempt.{Attempt, HeardBy, Links, news_of, put_of}
 use Rattle.cct_host.specs.Desk.{no_of}
 use Rattle.cct_host.specs.Desks as all_desks
 use Rattle.cct_host.specs.Place.{OwnsItsPut}
@@ -92,7 +92,8 @@ module _ {D : Type 0} {g : Ghosts D} where
       → (no_of result ≡ refusal (capacity_in old) (setup_of old) past c)
       × StandsFor new (command_entry c (no_of result) ∷ past)
 
-  -- A `next` at an address makes one attempt over a link. What it adds to the report are the entries of a `next` after
+  -- A `next` at an address makes one attempt over a link, and the journal counts the record that it puts, if it puts one,
+  -- whatever happened before. What it adds to the report are the entries of a `next` after
   -- whatever happened, where what it heard is what follows the piece that it sent and the record that it puts, if it puts
   -- one, suits the past; and the host goes on by them.
   pub record Nexts {L : Type 0} (gives : L → List ℕ → List ℕ → L → Type 0) (old new : L) (addr : ℕ) (before after : Host D g)
@@ -100,6 +101,8 @@ module _ {D : Type 0} {g : Ghosts D} where
     pub what : Attempt
     pub reported_is : reported ≡ report ++ reverse (news_of addr what)
     pub link : Links gives old new what
+    pub counts : journals.used_of (journal_of after)
+        ≡ journals.used_of (journal_of before) + length (put_by (put_of what))
     pub goes : (hears : List ℕ → List ℕ) (past : List Entry) → HeardBy hears what → StandsFor before past
         → PutSuits (setup_of before) past addr
         → EntriesOfNext hears (setup_of before) past addr (news_of addr what) × StandsFor after (news_of addr what ++ past)

@@ -53,6 +53,8 @@ pub(crate) fn advance<D: Disk, L: Link>(
     ensures whole { OnOk result (journals.has_failed journal.new ≡ false) }
     ensures nexts { OnOk result (all_desks.Nexts L.gives link.old link.new addr desks.old desks.new report.old.items
         report.new.items) }
+    ensures counts { OnOk result (journals.used_of journal.new
+        ≡ journals.used_of journal.old + length (put_by (all_desks.due_on desks.old addr))) }
     ensures puts { OnOk result ((past : List Entry) → all_desks.StandsFor desks.old past
         → PutsDue past addr desks.old desks.new ledger.old ledger.new journal.old journal.new) }
 

@@ -236,6 +236,7 @@ impl JobDesk {
     pub(crate) fn scan(&mut self, command: &Command, setup: &Setup) -> Result<(), CommandNo>
         requires { command.now ≡ Command.Scan }
         ensures stays { OnErr result (self.new ≡ self.old) }
+        ensures puts { OnOk result (puts_at self.new ≡ 0) }
         ensures commands { Commands setup.now places.scans self.old self.new command.now result }
     {
         match self.busy() {

@@ -44,6 +44,7 @@ pub struct Desks<'s> {
     ghost sound: { IsSoundSetup setup.now } by { IsSoundSetup-prop setup.now },
     ghost many: { length devices.items ≡ length setup.now.devices },
     ghost sells: { sells_only sale.job ≡ true },
+    ghost scans: { puts_at scan ≡ 0 },
 }
 
 impl<'s> Desks<'s> {

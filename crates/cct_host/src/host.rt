@@ -107,8 +107,7 @@ impl<'s, D: Disk> Host<'s, D> {
     /// The operator gives a command. A refused one, for the first reason that holds, changes nothing.
     pub fn command(&mut self, command: &Command) -> Result<(), CommandNo>
         ensures setup { setup_of self.new ≡ setup_of self.old }
-        ensures disk { disk_of self.new ≡ disk_of self.old }
-        ensures whole { has_failed self.new ≡ has_failed self.old }
+        ensures journal { journal_of self.new ≡ journal_of self.old }
         ensures stays { OnErr result (Stays self.old self.new) }
         ensures answers { Answers self.old self.new command.now result }
     {

@@ -1,5 +1,6 @@
 use Rattle.std.proofs.Common.{ap, arith, refl, sym, ◌∙◌}
 use Rattle.cct_jobs.specs.Jobs.{need_of}
+use Rattle.cct_host.specs.Held.{put_in}
 use Rattle.cct_host.proofs.Attempts.{ask_attempts, asks_next, no_scan, put_attempts, puts_next, sells_next}
 use Rattle.cct_host.proofs.Holding.{ask_reserves, is_put_by, put_clears, put_ends_sale, put_left, sale_never_asks, some_put}
 use Rattle.cct_host.proofs.desk.JobDesk.attempt.Goals as goal
@@ -9,7 +10,7 @@ returns-in-Exchange-clause-attempts g c =
     ask_attempts g.L.Link.gives _ _ c.args.addr c.args.job c.converse-job.result c.args.self.now.epoch
     c.args.self.now.dues _ _ _ _ _
     (asks_next _ c.args.job c.in-Exchange.is c.needs.ensures.row c.needs.ensures.scan c.needs.ensures.sale)
-    c.converse-job.ensures.converses
+    (ap put_in (sym c.needs.ensures.value ∙ c.in-Exchange.is)) c.converse-job.ensures.converses
     c.settled-self.ensures.ends c.settled-self.ensures.settled refl
     (ap (λ id. record { order = c.args.self.now.dues.order; id = id }) c.id_left-self.ensures)
 
@@ -25,7 +26,7 @@ returns-in-Put-clause-attempts g c =
     (puts_next _ job new r before _ c.in-Put.is c.needs.ensures.row
     (λ d k since n after owed stands. c.was_put.ensures.put d k since n after owed r is stands)
     (λ d k since n stands. c.order_after-self.ensures.put d k since n r is stands))
-    (no_scan _ job r c.in-Put.is c.needs.ensures.scan)
+    (ap put_in is) (no_scan _ job r c.in-Put.is c.needs.ensures.scan)
     (sells_next _ job new r before _ c.in-Put.is c.needs.ensures.sale
     (λ k since stands. c.was_put.ensures.sale k since r is stands) c.order_after-self.ensures.sale) refl
     c.settled-self-in-Put.ensures.ends c.push.ensures.items c.settled-self-in-Put.ensures.settled

@@ -4,6 +4,7 @@ use Rattle.cct_host.specs.Place.{sales, scans}
 use Rattle.cct_host.proofs.Lines.{attempt_last}
 use Rattle.cct_host.proofs.Places.{sale_turn, scan_turn}
 use Rattle.cct_host.proofs.Standing.{of_sale, of_scan}
+use Rattle.cct_host.proofs.Turning.{none_due, sale_due, scan_due}
 use Rattle.cct_host.proofs.desks.Desks.bare_next.Goals as goal
 
 pub returns-then-addr-eq-BROADCAST-clause-nexts : goal.returns-then-addr-eq-BROADCAST-clause-nexts
@@ -14,6 +15,8 @@ returns-then-addr-eq-BROADCAST-clause-nexts g c =
       what = attempt.what;
       reported_is = attempt.reported_is;
       link = attempt.link;
+      put_is = attempt.put_is ∙ none_due c.args.self.now.scan.job c.args.self.now.scans
+          ∙ sym (scan_due c.args.self.now.sale c.args.addr _ c.requires.nobody c.if-addr-eq-BROADCAST.true);
       goes = λ hears past heard stands owns.
           let is = c.if-addr-eq-BROADCAST.true in
           let goes = attempt.goes hears scans past heard (sym is) stands.scan tt in
@@ -39,6 +42,8 @@ returns-then-addr-eq-HOST-clause-nexts g c =
       what = attempt.what;
       reported_is = attempt.reported_is;
       link = attempt.link;
+      put_is = attempt.put_is
+          ∙ sym (sale_due c.args.self.now.sale c.args.addr _ c.requires.nobody c.if-addr-eq-HOST.true);
       goes = λ hears past heard stands owns.
           let is = c.if-addr-eq-HOST.true in
           let goes = attempt.goes hears sales past heard (sym is) stands.sale tt in

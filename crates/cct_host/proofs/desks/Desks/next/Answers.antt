@@ -35,6 +35,8 @@ returns-in-Some-clause-nexts g c =
       what = attempt.what;
       reported_is = attempt.reported_is;
       link = attempt.link;
+      put_is = attempt.put_is ∙ sym (ap (due_at_desk c.args.self.now.sale c.args.addr)
+          (desk_found setup.devices ks ks c.args.addr i _ refl y c.args.self.now.many within found));
       goes = λ hears past heard stands owns.
           let sits = desk_sits setup.devices ks i this.0 _ past within this.1 y stands.devices in
           let goes = attempt.goes hears (device this.0) past heard place.2 sits (owns_there setup this.0 c.args.addr
