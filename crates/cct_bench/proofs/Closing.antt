@@ -19,13 +19,16 @@ use Rattle.cct_bench.specs.declared.outcome.Status.TheVariants as status
 use Rattle.cct_bench.specs.declared.play.Ending.{Ending}
 use Rattle.cct_bench.specs.declared.play.Ending.TheVariants as ending
 use Rattle.cct_bench.specs.declared.play.TheConstants.{JOURNAL_BYTES}
+use Rattle.cct_world.specs.declared.refusal.WorldNo.{WorldNo}
+use Rattle.cct_world.specs.declared.refusal.WorldNo.TheVariants as world_no
+use Rattle.cct_world.specs.Restarts.{LosesAt}
 use Rattle.cct_world.specs.Step.{RoseBy}
 use Rattle.cct_world.specs.Sure.{First, IsCrash, Sure, losses_in}
-use Rattle.cct_bench.specs.Disks.{Disks, IsReady, most_records}
+use Rattle.cct_bench.specs.Disks.{Disks, most_records}
 use Rattle.cct_text.specs.Writing.{Writes, Wrote, Broke}
-use Rattle.cct_bench.specs.Run.{Book, BreaksOff, Closes, Completes, Ends, IsOfScript, Over, OverCut, Played, Ran}
-use Rattle.cct_bench.specs.Run.{TellsLoss, last_entry, listed, status_by, status_of}
-use Rattle.cct_world.proofs.Told.{rose_none}
+use Rattle.cct_bench.specs.Run.{Book, BreaksOff, Closes, Completes, Ends, EndsLost, IsOfScript, Over, OverCut}
+use Rattle.cct_bench.specs.Run.{OverLost, Played, Ran, TellsLoss, TellsOf, last_entry, listed, status_by, status_of}
+use Rattle.cct_world.proofs.Sure.{rose_none}
 use Rattle.cct_text.proofs.Writing.{writes_then}
 
 -- what holds where an object tells, also holds by a weaker fact
@@ -63,6 +66,7 @@ ran_by bytes how s tail left disks Before Written Broken Breaks keeps p ends boo
   ends = ends;
   book = book;
   keeps = keeps;
+  restarts = p.beside.restarts;
   cut = p.beside.cut;
   uncut = p.beside.uncut;
 }
@@ -159,13 +163,16 @@ breaks_by Relies setup played transcript tail Broken Breaks b h = record {
 module _ (bytes : List ℕ) (answer : Result (Unit {0}) Failed) (left : Option (List ℕ)) (disks : Disks)
     (Before Written : List Entry → Type 0) (Broken Breaks : List Entry → List Entry → Type 0) where
   -- what a loss of power left is told
-  ran_lost : (how : Ending) (tail : List Entry) → TellsLoss tail → LastLine Before Written Breaks tail answer
+  ran_lost : (how : Ending) (why : WorldNo) (tail : List Entry)
+      → ((P : WorldNo → Type 0) → P why → TellsOf P tail) → LastLine Before Written Breaks tail answer
       → (p : Played (Sure disks.trusted) bytes how left Before Broken (OverCut disks)) → Before p.transcript
-      → IsReady disks.size disks.seen × First IsCrash p.unplayed × (disks.trusted → ⊥)
+      → OverLost disks (script bytes).setup (onto [] p.transcript) p.unplayed why
       → Ran bytes (status_by answer status.JournalLost) left Written Breaks disks
-  ran_lost how tail tells line p wrote over =
+  ran_lost how why tail tells line p wrote over =
       ran_last bytes how status.JournalLost tail answer left disks Before Written Broken Breaks tt
-      (λ trusted tells. over.2 trusted) line p wrote (tells, over.1, over.0) (λ trusted some. absurd (over.2 trusted))
+      (λ trusted told. over.2 trusted) line p wrote
+      (tells (EndsLost disks (script bytes).setup (onto [] p.transcript) p.unplayed) over.1, over.0)
+      (λ trusted some. absurd (over.2 trusted))
 
 -- a run by how its steps came to their end, where its last line is put in this way
 ran_ends : (bytes : List ℕ) (how : Ending) (answer : Result (Unit {0}) Failed) (left : Option (List ℕ)) (disks : Disks)
@@ -216,14 +223,14 @@ ran_ends bytes (ending.OtherSize len) answer left disks Before Written Broken Br
     (p.beside.over.0, ap (λ n. entry.DiskSize n ∷ []) p.beside.over.2, p.beside.over.1)
     (λ trusted some. absurd (some p.beside.over.1.0))
 ran_ends bytes ending.JournalAlien answer left disks Before Written Broken Breaks line broke fails p =
-    ran_lost bytes answer left disks Before Written Broken Breaks ending.JournalAlien (entry.JournalAlien ∷ []) tt line
-    p p.stops p.beside.over
+    ran_lost bytes answer left disks Before Written Broken Breaks ending.JournalAlien world_no.Alien
+    (entry.JournalAlien ∷ []) (λ P is. is) line p p.stops p.beside.over
 ran_ends bytes (ending.JournalBad index) answer left disks Before Written Broken Breaks line broke fails p =
     ran_lost bytes answer left disks Before Written Broken Breaks (ending.JournalBad index)
-    (entry.JournalBad index ∷ []) tt line p p.stops p.beside.over
+    (world_no.BadRecord index) (entry.JournalBad index ∷ []) (λ P is. is) line p p.stops p.beside.over
 ran_ends bytes (ending.RecordsLost found put) answer left disks Before Written Broken Breaks line broke fails p =
     ran_lost bytes answer left disks Before Written Broken Breaks (ending.RecordsLost found put)
-    (entry.JournalLost found put ∷ []) tt line p p.stops p.beside.over
+    (world_no.Lost found put) (entry.JournalLost found put ∷ []) (λ P is. is) line p p.stops p.beside.over
 
 -- what was written before, and then the last line
 module _ {K : Type 0} (written : K → Option (List ℕ)) (puts : K → List ℕ → Result (Unit {0}) Failed → K → Type 0) where
@@ -277,6 +284,7 @@ at_once bytes Written Breaks disks uncut wrote =
       ends = (refl, refl, wrote);
       book = λ trusted some. absurd (some refl);
       keeps = λ trusted tells. tells;
+      restarts = refl;
       cut = subst (RoseBy 0 disks.cuts) (sym uncut) (rose_none 0 disks.cuts refl);
       uncut = λ none next. uncut;
     }
@@ -311,6 +319,37 @@ none_next [] (step.Crash at choice ∷ steps) none next = omega (arith, none)
 none_next [] (s ∷ steps) none next = next
 none_next (s ∷ played) unplayed none next = none_next played unplayed (omega (arith, none)) next
 
+-- what a last line tells
+pub tells_loss : (P : WorldNo → Type 0) (tail : List Entry) → TellsOf P tail → TellsLoss tail
+tells_loss P (entry.JournalAlien ∷ []) tells = tt
+tells_loss P (entry.JournalBad index ∷ []) tells = tt
+tells_loss P (entry.JournalLost found put ∷ []) tells = tt
+tells_loss P tail tells = absurd tells
+
+told_so : (P : WorldNo → Type 0) (Q : Type 0) (tail : List Entry) → ((why : WorldNo) → P why → Q) → TellsOf P tail → Q
+told_so P Q (entry.JournalAlien ∷ []) so tells = so world_no.Alien tells
+told_so P Q (entry.JournalBad index ∷ []) so tells = so (world_no.BadRecord index) tells
+told_so P Q (entry.JournalLost found put ∷ []) so tells = so (world_no.Lost found put) tells
+told_so P Q tail so tells = absurd tells
+
+-- a step behind which no host starts again is a loss of power
+is_crash : (sure : Type 0) (setup : Setup) (past : List Entry) (seen : Option (List ℕ)) (why : WorldNo) (s : Step)
+    → LosesAt sure setup past seen why s → IsCrash s
+is_crash sure setup past seen why (step.Crash at choice) loses = tt
+is_crash sure setup past seen why s loses = absurd loses
+
+first_crash : (sure : Type 0) (setup : Setup) (past : List Entry) (seen : Option (List ℕ)) (why : WorldNo)
+    (steps : List Step) → First (LosesAt sure setup past seen why) steps → First IsCrash steps
+first_crash sure setup past seen why [] first = first
+first_crash sure setup past seen why (s ∷ steps) first = is_crash sure setup past seen why s first
+
+pub lost_next : (sure : Type 0) (setup : Setup) (past : List Entry) (seen : Option (List ℕ)) (unplayed : List Step)
+    (tail : List Entry) → TellsOf (λ why. First (LosesAt sure setup past seen why) unplayed) tail
+    → First IsCrash unplayed
+lost_next sure setup past seen unplayed tail tells =
+    told_so (λ why. First (LosesAt sure setup past seen why) unplayed) (First IsCrash unplayed) tail
+    (λ why first. first_crash sure setup past seen why unplayed first) tells
+
 -- with no fault on a blank disk a run's status is as the script says, where the disk is trusted or no step is a loss of
 -- power
 pub ran_completes : (bytes : List ℕ) (s : Status) (left : Option (List ℕ)) (Written : List Entry → Type 0)
@@ -334,9 +373,12 @@ ran_completes bytes status.DiskSize left Written Breaks disks image told sized b
 ran_completes bytes status.OutOfMemory left Written Breaks disks image told sized blank kept r w d h =
     completes_memory (script bytes).refused
 ran_completes bytes status.JournalLost left Written Breaks disks image told sized blank (inl trusted) r w d h =
-    absurd (h.keeps trusted h.ends.0.0)
+    absurd (h.keeps trusted (tells_loss (EndsLost disks (script bytes).setup (onto [] h.transcript) h.unplayed) h.tail
+    h.ends.0.0))
 ran_completes bytes status.JournalLost left Written Breaks disks image told sized blank (inr none) r w d h =
-    absurd (none_next h.played h.unplayed (ap losses_in (sym h.steps_are) ∙ none) h.ends.0.1)
+    absurd (none_next h.played h.unplayed (ap losses_in (sym h.steps_are) ∙ none)
+    (lost_next (Sure disks.trusted (onto [] h.transcript)) (script bytes).setup (onto [] h.transcript) disks.seen_after
+    h.unplayed h.tail h.ends.0.0))
 
 -- an honest disk that tells is trusted
 pub kept_by : (honest trusted none : Type 0) → (honest → trusted) → honest ⊎ none → trusted ⊎ none

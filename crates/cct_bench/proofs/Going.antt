@@ -20,23 +20,20 @@ use Rattle.cct_model.specs.Transcript.{onto}
 use Rattle.cct_laws.proofs.Onto.{legal_more, transcript_on}
 use Rattle.cct_laws.proofs.Scripts.{setup_sound, front_of_today}
 use Rattle.cct_script.specs.Giving.{Standing}
-use Rattle.cct_world.specs.Machine.{StepSuits, Survives}
+use Rattle.cct_world.specs.Machine.{StepSuits}
 use Rattle.cct_world.specs.declared.refusal.WorldNo.{WorldNo}
 use Rattle.cct_world.specs.declared.refusal.WorldNo.TheVariants as world_no
-use Rattle.cct_world.specs.Step.{RoseBy, crashes, crashes_of}
-use Rattle.cct_world.specs.Sure.{losses_in}
+use Rattle.cct_world.specs.Step.{crashes, crashes_of}
 use Rattle.cct_world.proofs.Suiting.{legal_suits}
-use Rattle.cct_world.proofs.Sure.{cut_on, losses_more, uncut_on}
-use Rattle.cct_world.proofs.Told.{rose_none}
+use Rattle.cct_world.proofs.Sure.{losses_more}
 use Rattle.cct_bench.specs.declared.lines.ScriptStop.{ScriptStop}
 use Rattle.cct_bench.specs.declared.lines.ScriptStop.TheVariants as stop
 use Rattle.cct_bench.specs.declared.play.Ending.TheVariants as ending
 use Rattle.cct_bench.specs.Lines.{said_from, IsNext, ScriptGoesOn, IsClosed, StopsAt, EndsAt, Came}
-use Rattle.cct_bench.specs.Disks.{Always, Holds, most_records}
+use Rattle.cct_bench.specs.Disks.{Always, most_records}
 use Rattle.cct_bench.specs.Going.{AlsoSays, Going}
 use Rattle.cct_bench.specs.SetupLines.{TookOpening}
 use Rattle.cct_text.specs.Writing.{IsNothing}
-use Rattle.cct_bench.specs.Playing.{PlaysOn}
 use Rattle.cct_bench.specs.declared.play.Ending.{Ending}
 use Rattle.cct_bench.specs.Run.{BeforeSteps, IsOfScript, IsUnopened, Played, Stops, ending_at, unplayed_by}
 use Rattle.cct_bench.proofs.Continuing.{ended}
@@ -171,43 +168,6 @@ pub record Carries (Relies Before After : List Entry → Type 0) (setup : Setup)
   pub told : crashes (reverse report) ≡ crashes_of s
   pub wrote : WritesThem report
 
--- what stands for an empty past
-pub holds_first : (Relies Stands : List Entry → Type 0) (first now : ℕ) → now ≡ first → Stands [] → (past : List Entry)
-    → past ≡ [] → Holds Relies Stands first now past
-holds_first Relies Stands first now same stands past none = record {
-  stands = λ relies. subst Stands (sym none) stands;
-  cut = subst (RoseBy (crashes past) first) (sym same) (rose_none (crashes past) first (ap crashes none));
-  uncut = λ quiet. same;
-}
-
--- what a step takes for granted of the disk is so where the past with entries may be relied on that tell what it is
-abbrev pub LetsSurvive : Type 0 → (List Entry → Type 0) → Type 0
-LetsSurvive trusted Relies =
-    (news past : List Entry) (s : Step) → crashes news ≡ crashes_of s → Relies (news ++ past) → Survives trusted s
-
--- what holds of a past is carried over a step that was played
-pub carried : (Relies : List Entry → Type 0) (trusted : Type 0) (Before After : List Entry → Type 0) (setup : Setup)
-    (s : Step) (first old new : ℕ) (WritesThem : List Entry → Type 0) → GoesBack Relies → LetsSurvive trusted Relies
-    → PlaysOn trusted Before After setup s old new WritesThem
-    → Carries Relies (Holds Relies Before first old) (Holds Relies After first new) setup s WritesThem
-carried Relies trusted Before After setup s first old new WritesThem back survive p = record {
-  report = p.report;
-  goes = λ past before suits.
-      let news = reverse p.report in
-      let goes : Relies (news ++ past) → Entries most_records setup past s news × After (news ++ past) =
-      λ relies. let here = back news past relies in
-      p.plays past (before.stands here) (suits here) (survive news past s p.told relies) in (
-        λ relies. (goes relies).0,
-        record {
-          stands = λ relies. (goes relies).1;
-          cut = cut_on news past first old new (crashes_of s) before.cut p.told p.cut;
-          uncut = uncut_on news past first old new (crashes_of s) before.uncut p.told p.uncut;
-        },
-      );
-  told = p.told;
-  wrote = p.wrote;
-}
-
 -- what a step takes for granted of the past is so after what was played before it
 pub going_suits : (Relies : List Entry → Type 0) (left0 left left1 : Option (List ℕ)) (held rest : List ℕ)
     (number : ℕ) (stage next : Stage) (setup : Setup) (Before Written : List Entry → Type 0) (s : Step)
@@ -286,17 +246,36 @@ legal_of bytes taken came rest played transcript took h =
     subst (λ b. Legal most_records (script b).setup played transcript) (sym took)
     (legal_came taken came rest played transcript h)
 
--- what is said beside of an end that the script or its source brought, where this stands for the past
-abbrev pub EndsBeside : (List Entry → Type 0) → (Ending → Setup → List ℕ → List Step → List Step → List Entry → Type 0)
-    → Type 0
-EndsBeside Stands Beside =
+-- once its steps begin, a script has the setup of its stage
+abbrev pub IsSetupIn : Stage → Setup → Type 0
+IsSetupIn (at_setup before) setup = Unit {0}
+IsSetupIn (at_steps before) setup = setup ≡ before
+IsSetupIn (at_end before) setup = setup ≡ before
+
+closed_in : (stage : Stage) (setup : Setup) → setup ≡ setup_at stage → IsSetupIn stage setup
+closed_in (at_setup before) setup is = tt
+closed_in (at_steps before) setup is = is
+closed_in (at_end before) setup is = is
+
+said_in : (number : ℕ) (stage : Stage) (bytes : List ℕ) (setup : Setup) → setup ≡ (said_from number stage bytes).setup
+    → IsSetupIn stage setup
+said_in number (at_setup before) bytes setup is = tt
+said_in number (at_steps before) bytes setup is =
+    is ∙ setup_stays number before (at_steps before) (slice_split is_line_feed bytes) refl
+said_in number (at_end before) bytes setup is =
+    is ∙ setup_stays number before (at_end before) (slice_split is_line_feed bytes) refl
+
+-- what is said beside of an end that the script or its source brought at a stage, where this stands for the past
+abbrev pub EndsBeside : Stage → (List Entry → Type 0)
+    → (Ending → Setup → List ℕ → List Step → List Step → List Entry → Type 0) → Type 0
+EndsBeside stage Stands Beside =
     (how : Ending) (setup : Setup) (taken : List ℕ) (played unplayed : List Step) (past : List Entry) → IsOfScript how
-    → Stands past → Beside how setup taken played unplayed past
+    → IsSetupIn stage setup → Stands past → Beside how setup taken played unplayed past
 
 played_done : (Relies : List Entry → Type 0) (left0 left left1 : Option (List ℕ)) (held : List ℕ) (number : ℕ)
     (setup : Setup) (Stands Written : List Entry → Type 0) (Breaks : List Entry → List Entry → Type 0)
-    (Beside : Ending → Setup → List ℕ → List Step → List Step → List Entry → Type 0) → EndsBeside Stands Beside
-    → Going Relies left0 left held number (at_end setup) Stands Written
+    (Beside : Ending → Setup → List ℕ → List Step → List Step → List Entry → Type 0)
+    → EndsBeside (at_end setup) Stands Beside → Going Relies left0 left held number (at_end setup) Stands Written
     → Came held left left1 (IsClosed number (at_end setup) None left1)
     → IfSome left0 (λ bytes. Played Relies bytes ending.Done left1 Written Breaks Beside)
 played_done Relies None left left1 held number setup Stands Written Breaks Beside beside g r = tt
@@ -317,13 +296,14 @@ played_done Relies (Some bytes) left left1 held number setup Stands Written Brea
       losses = g.losses;
       legal = λ relies. legal_of bytes g.taken r.0 t.0 g.played g.transcript t.2 (g.legal relies (r.0 ++ t.0));
       stops = (refl, says.refused, g.wrote);
-      beside = beside ending.Done (script bytes).setup (g.taken ++ r.0) g.played [] (onto [] g.transcript) tt g.holds;
+      beside = beside ending.Done (script bytes).setup (g.taken ++ r.0) g.played [] (onto [] g.transcript) tt
+          (closed_in (at_end setup) (script bytes).setup says.setup) g.holds;
     }
 
 played_refused : (Relies : List Entry → Type 0) (left0 left left1 : Option (List ℕ)) (held : List ℕ) (number : ℕ)
     (why : LineKind) (stage : Stage) (Stands Written : List Entry → Type 0) (Breaks : List Entry → List Entry → Type 0)
-    (Beside : Ending → Setup → List ℕ → List Step → List Step → List Entry → Type 0) → EndsBeside Stands Beside
-    → Going Relies left0 left held number stage Stands Written
+    (Beside : Ending → Setup → List ℕ → List Step → List Step → List Entry → Type 0)
+    → EndsBeside stage Stands Beside → Going Relies left0 left held number stage Stands Written
     → Came held left left1 (IsClosed number stage (Some why) left1)
     → IfSome left0 (λ bytes. Played Relies bytes (ending.Refused number why) left1 Written Breaks Beside)
 played_refused Relies None left left1 held number why stage Stands Written Breaks Beside beside g r = tt
@@ -345,7 +325,7 @@ played_refused Relies (Some bytes) left left1 held number why stage Stands Writt
       legal = λ relies. legal_of bytes g.taken r.0 t.0 g.played g.transcript t.2 (g.legal relies (r.0 ++ t.0));
       stops = (refl, says.refused, g.wrote);
       beside = beside (ending.Refused number why) (script bytes).setup (g.taken ++ r.0) g.played []
-          (onto [] g.transcript) tt g.holds;
+          (onto [] g.transcript) tt (closed_in stage (script bytes).setup says.setup) g.holds;
     }
 
 -- a line without its end plays no step
@@ -361,8 +341,8 @@ unread_steps taken came held number stage played h none =
 
 played_unread : (Relies : List Entry → Type 0) (left0 left left1 : Option (List ℕ)) (held : List ℕ) (number : ℕ)
     (stage : Stage) (Stands Written : List Entry → Type 0) (Breaks : List Entry → List Entry → Type 0)
-    (Beside : Ending → Setup → List ℕ → List Step → List Step → List Entry → Type 0) → EndsBeside Stands Beside
-    → Going Relies left0 left held number stage Stands Written
+    (Beside : Ending → Setup → List ℕ → List Step → List Step → List Entry → Type 0)
+    → EndsBeside stage Stands Beside → Going Relies left0 left held number stage Stands Written
     → Came held left left1 (λ bytes. position is_line_feed bytes ≡ None)
     → IfSome left0 (λ bytes. Played Relies bytes ending.Unread left1 Written Breaks Beside)
 played_unread Relies None left left1 held number stage Stands Written Breaks Beside beside g r = tt
@@ -385,15 +365,15 @@ played_unread Relies (Some bytes) left left1 held number stage Stands Written Br
       legal = λ relies. legal_of bytes g.taken r.0 t.0 g.played g.transcript t.2 (g.legal relies (r.0 ++ t.0));
       stops = (unread_steps g.taken r.0 held number stage g.played (g.says (r.0 ++ [])) r.2, g.wrote);
       beside = beside ending.Unread (script bytes).setup (g.taken ++ r.0) g.played after.steps (onto [] g.transcript)
-          tt g.holds;
+          tt (said_in number stage ((held ++ r.0) ++ t.0) (script bytes).setup says.setup) g.holds;
     }
 
 -- a script that is read no further
 stopped : (Relies : List Entry → Type 0) (left0 left left1 : Option (List ℕ)) (held : List ℕ) (number : ℕ)
     (stage : Stage) (why : ScriptStop) (Stands Written : List Entry → Type 0)
     (Breaks : List Entry → List Entry → Type 0)
-    (Beside : Ending → Setup → List ℕ → List Step → List Step → List Entry → Type 0) → EndsBeside Stands Beside
-    → Going Relies left0 left held number stage Stands Written
+    (Beside : Ending → Setup → List ℕ → List Step → List Step → List Entry → Type 0)
+    → EndsBeside stage Stands Beside → Going Relies left0 left held number stage Stands Written
     → Came held left left1 (StopsAt number stage why left1)
     → IfSome left0 (λ bytes. Played Relies bytes (ending_at number why) left1 Written Breaks Beside)
 stopped Relies left0 left left1 held number stage stop.Unread Stands Written Breaks Beside beside g r =
@@ -405,7 +385,7 @@ pub played_stopped : (Relies : List Entry → Type 0) (left0 left left1 : Option
     (stage : Stage) (why : ScriptStop) (how : Ending) (Stands Written : List Entry → Type 0)
     (Breaks : List Entry → List Entry → Type 0)
     (Beside : Ending → Setup → List ℕ → List Step → List Step → List Entry → Type 0) → how ≡ ending_at number why
-    → EndsBeside Stands Beside → Going Relies left0 left held number stage Stands Written
+    → EndsBeside stage Stands Beside → Going Relies left0 left held number stage Stands Written
     → Came held left left1 (StopsAt number stage why left1)
     → IfSome left0 (λ bytes. Played Relies bytes how left1 Written Breaks Beside)
 played_stopped Relies left0 left left1 held number stage why how Stands Written Breaks Beside is beside g r =
@@ -415,8 +395,8 @@ played_stopped Relies left0 left left1 held number stage why how Stands Written 
 -- a script that ended
 pub played_ended : (Relies : List Entry → Type 0) (left0 left left1 : Option (List ℕ)) (held : List ℕ) (number : ℕ)
     (setup : Setup) (how : Ending) (Stands Written : List Entry → Type 0) (Breaks : List Entry → List Entry → Type 0)
-    (Beside : Ending → Setup → List ℕ → List Step → List Step → List Entry → Type 0) → EndsBeside Stands Beside
-    → Going Relies left0 left held number (at_end setup) Stands Written
+    (Beside : Ending → Setup → List ℕ → List Step → List Step → List Entry → Type 0)
+    → EndsBeside (at_end setup) Stands Beside → Going Relies left0 left held number (at_end setup) Stands Written
     → Came held left left1 (EndsAt number setup how left1)
     → IfSome left0 (λ bytes. Played Relies bytes how left1 Written Breaks Beside)
 played_ended Relies left0 left left1 held number setup ending.Done Stands Written Breaks Beside beside g r =
@@ -436,8 +416,8 @@ pub played_broke : (Relies : List Entry → Type 0) (left0 left left1 : Option (
     (number : ℕ) (stage next : Stage) (setup : Setup) (Before After : List Entry → Type 0) (s : Step)
     (Written WritesThem Written1 : List Entry → Type 0) (Breaks : List Entry → List Entry → Type 0)
     (Beside : Ending → Setup → List ℕ → List Step → List Step → List Entry → Type 0) → GoesBack Relies →
-    ((by : Setup) (taken : List ℕ) (played unplayed : List Step) (past : List Entry) → After past
-    → Beside ending.Unwritten by taken played unplayed past) →
+    ((taken : List ℕ) (played unplayed : List Step) (past : List Entry) → After past
+    → Beside ending.Unwritten setup taken played unplayed past) →
     IsDone setup next → ((xs ys : List Entry) → Written xs → WritesThem ys → Breaks xs ys)
     → Going Relies left0 left held number stage Before Written →
     Came held left left1 (λ bytes. ScriptGoesOn number stage bytes (plays s next) rest)
@@ -489,8 +469,11 @@ played_broke Relies (Some bytes) left left1 held rest number stage next setup Be
         in_one = inr refl;
         breaks = subst (Breaks g.transcript) (sym (append-nil p.report)) (broke g.transcript p.report g.wrote p.wrote);
       };
-      beside = beside (script bytes).setup (g.taken ++ r.0) (g.played ++ s ∷ []) on.steps
-          (onto [] (g.transcript ++ p.report)) (subst After (sym told) goes.1);
+      beside = subst
+          (λ by. Beside ending.Unwritten by (g.taken ++ r.0) (g.played ++ s ∷ []) on.steps
+          (onto [] (g.transcript ++ p.report))) same
+          (beside (g.taken ++ r.0) (g.played ++ s ∷ []) on.steps (onto [] (g.transcript ++ p.report))
+          (subst After (sym told) goes.1));
     }
 
 -- a step that isn't played leaves the transcript whole
@@ -628,7 +611,8 @@ pub played_by : (Relies Relies1 : List Entry → Type 0) (left0 left : Option (L
     (Written Written1 : List Entry → Type 0) (Breaks Breaks1 : List Entry → List Entry → Type 0)
     (Beside : Ending → Setup → List ℕ → List Step → List Step → List Entry → Type 0) →
     ((past : List Entry) → Relies1 past → Relies past) → ((xs : List Entry) → Written xs → Written1 xs)
-    → EndsBeside IsNothing Beside → IfSome left0 (λ bytes. Played Relies bytes how left Written Breaks BeforeSteps)
+    → EndsBeside (at_setup no_devices) IsNothing Beside
+    → IfSome left0 (λ bytes. Played Relies bytes how left Written Breaks BeforeSteps)
     → IfSome left0 (λ bytes. Played Relies1 bytes how left Written1 Breaks1 Beside)
 played_by Relies Relies1 None left how Written Written1 Breaks Breaks1 Beside less w beside p = tt
 played_by Relies Relies1 (Some bytes) left how Written Written1 Breaks Breaks1 Beside less w beside p = record {
@@ -644,7 +628,7 @@ played_by Relies Relies1 (Some bytes) left how Written Written1 Breaks Breaks1 B
   legal = λ relies. p.legal (less (onto [] p.transcript) relies);
   stops = stops_by Relies Relies1 bytes p.taken p.played p.unplayed p.transcript how Written Written1 Breaks Breaks1
       p.beside.0 w p.stops;
-  beside = beside how (script bytes).setup p.taken p.played p.unplayed (onto [] p.transcript) p.beside.0 p.beside.1;
+  beside = beside how (script bytes).setup p.taken p.played p.unplayed (onto [] p.transcript) p.beside.0 tt p.beside.1;
 }
 
 -- what the loop over the setup lines keeps

@@ -1,8 +1,8 @@
 -- What a disk keeps over a run, and what is left on it where the steps come to their end.
-use Rattle.std.proofs.Common.{◌≡◌, ◌⊎◌, ◌++◌, ◌≤◌, ℕ, Bool, List, [], ◌∷◌, reverse, Option, refl, sym, ap, ◌∙◌}
+use Rattle.std.proofs.Common.{◌≡◌, ◌⊎◌, ◌++◌, ℕ, Bool, List, [], ◌∷◌, reverse, Option, refl, sym, ap, ◌∙◌}
 use Rattle.std.proofs.Common.{arith, inl, inr, subst, Result, Err}
 use Rattle.std.specs.Prelude.{IfSome, is_some}
-use Rattle.std.proofs.Math.Nat.{le_refl, le_trans}
+use Rattle.std.proofs.Math.Nat.{le_trans}
 use Rattle.cct_model.specs.terms.device.Setup.{Setup}
 use Rattle.cct_model.specs.lines.command.Step.{Step}
 use Rattle.cct_model.specs.lines.command.Step.TheVariants as step
@@ -10,7 +10,7 @@ use Rattle.cct_model.specs.lines.record.Record.{Record}
 use Rattle.cct_model.specs.lines.entry.Entry.{Entry}
 use Rattle.cct_model.specs.Legal.{Entries}
 use Rattle.cct_model.specs.Records.{records}
-use Rattle.cct_model.specs.Script.{Stage, plays}
+use Rattle.cct_model.specs.Script.{Stage, at_setup, no_devices, plays}
 use Rattle.cct_disk.specs.declared.disk.Disk.{Ghosts}
 use Rattle.cct_disk.specs.Disk.{IsTrusted}
 use Rattle.cct_edge.specs.declared.fault.Failed.{Failed}
@@ -25,24 +25,27 @@ use Rattle.cct_journal.specs.declared.place.Place.{Place}
 use Rattle.cct_world.specs.declared.refusal.WorldNo.{WorldNo}
 use Rattle.cct_world.specs.declared.refusal.WorldNo.TheVariants as world_no
 use Rattle.cct_world.specs.declared.world.World.{World}
+use Rattle.cct_world.specs.Holds.{Holds, WorldHolds}
 use Rattle.cct_world.specs.Machine.{LosesIn, StepSuits}
-use Rattle.cct_world.specs.Step.{LastsIn, RoseBy, crashes, crashes_of}
+use Rattle.cct_world.specs.Restarts.{AtLosses, Restarted}
+use Rattle.cct_world.specs.Step.{LastsIn, RoseBy, crashes}
 use Rattle.cct_world.specs.World as worlds
-use Rattle.cct_world.specs.World.{Breaks, StandsFor, disk_of, setup_of}
-use Rattle.cct_world.specs.Sure.{First, IsCrash, Sure}
+use Rattle.cct_world.specs.World.{Breaks, StandsFor, disk_of, setup_of, used_of}
+use Rattle.cct_world.specs.Sure.{Sure}
+use Rattle.cct_world.proofs.Holding.{holds_on, loses_at}
 use Rattle.cct_world.proofs.Lasting.{lasts_in, lasts_on, lasts_then, trusted_on, uncut_in}
-use Rattle.cct_world.proofs.Sure.{crashes_none, sure_back, sure_survives}
-use Rattle.cct_world.proofs.Told.{rose_none}
+use Rattle.cct_world.proofs.Restarts.{losses_last}
+use Rattle.cct_world.proofs.Sure.{crashes_none, rose_none, sure_back, sure_survives}
 use Rattle.cct_bench.specs.declared.play.Ending.{Ending}
 use Rattle.cct_bench.specs.declared.play.Ending.TheVariants as ending
-use Rattle.cct_bench.specs.Disks.{Books, Holds, IsReady, disks}
+use Rattle.cct_bench.specs.Disks.{Books, IsReady, disks, most_records}
 use Rattle.cct_bench.specs.declared.play.TheConstants.{JOURNAL_BYTES}
-use Rattle.cct_bench.specs.Going.{Going, WorldHolds}
+use Rattle.cct_bench.specs.Going.{Going}
 use Rattle.cct_bench.specs.Lines.{Came, ScriptGoesOn}
 use Rattle.cct_bench.specs.Playing.{Plays, PlaysOn}
-use Rattle.cct_bench.specs.Run.{IsUnopened, Over, OverCut, Played, uncreated, unplayed_by}
+use Rattle.cct_bench.specs.Run.{IsUnopened, Over, OverCut, OverLost, Played, uncreated, unplayed_by}
 use Rattle.cct_text.specs.Writing.{Broke, IsNothing, Writes, Wrote}
-use Rattle.cct_bench.proofs.Going.{Carries, EndsBeside, carried, played_broke, played_torn}
+use Rattle.cct_bench.proofs.Going.{Carries, EndsBeside, IsSetupIn, played_broke, played_torn}
 use Rattle.cct_bench.proofs.Staying.{IsDone}
 
 -- each image of a disk that keeps just one stands for what that one does
@@ -58,29 +61,37 @@ stands_leaves honest seen may_leave disk place rs stands = record {
 -- the script or its source brought the end, and the disk has the records of the past
 module _ {D : Type 0} (size : D → ℕ) (honest : D → Bool) (seen : D → Option (List ℕ))
     (may_leave : D → List ℕ → Type 0) (cuts : D → ℕ) where
-  pub ends_over : (given last : D) (Before : List Entry → Type 0) → IsReady (size given) (seen given)
+  pub ends_over : (given last : D) (stage : Stage) (Before : List Entry → Type 0) → IsReady (size given) (seen given)
       → ((past : List Entry) → Before past → IsTrusted honest seen given
       → Leaves honest seen may_leave last (reverse (records past)))
+      → ((setup : Setup) (past : List Entry) → IsSetupIn stage setup → Before past
+      → AtLosses (Restarted size honest seen cuts setup given last) past)
       → ((past : List Entry) → Before past → RoseBy (crashes past) (cuts given) (cuts last))
       → ((past : List Entry) → Before past → crashes past ≡ 0 → cuts last ≡ cuts given)
-      → EndsBeside Before (OverCut (disks size honest seen may_leave cuts given last))
-  ends_over given last Before ready books cut uncut ending.Done setup taken played unplayed past is before = record {
-    over = (ready, books past before);
-    cut = cut past before;
-    uncut = λ none next. uncut past before none;
-  }
-  ends_over given last Before ready books cut uncut (ending.Refused number why) setup taken played unplayed past is
+      → EndsBeside stage Before (OverCut (disks size honest seen may_leave cuts given last))
+  ends_over given last stage Before ready books restarts cut uncut ending.Done setup taken played unplayed past is there
       before = record {
         over = (ready, books past before);
+        restarts = restarts setup past there before;
         cut = cut past before;
         uncut = λ none next. uncut past before none;
       }
-  ends_over given last Before ready books cut uncut ending.Unread setup taken played unplayed past is before = record {
-    over = (ready, books past before);
-    cut = cut past before;
-    uncut = λ none next. uncut past before none;
-  }
-  ends_over given last Before ready books cut uncut how setup taken played unplayed past is before = absurd is
+  ends_over given last stage Before ready books restarts cut uncut (ending.Refused number why) setup taken played
+      unplayed past is there before = record {
+        over = (ready, books past before);
+        restarts = restarts setup past there before;
+        cut = cut past before;
+        uncut = λ none next. uncut past before none;
+      }
+  ends_over given last stage Before ready books restarts cut uncut ending.Unread setup taken played unplayed past is
+      there before = record {
+        over = (ready, books past before);
+        restarts = restarts setup past there before;
+        cut = cut past before;
+        uncut = λ none next. uncut past before none;
+      }
+  ends_over given last stage Before ready books restarts cut uncut how setup taken played unplayed past is there before =
+      absurd is
 
 module _ {D : Type 0} {g : Ghosts D} where
   -- the disk of a machine that stands for a past has its records
@@ -90,30 +101,54 @@ module _ {D : Type 0} {g : Ghosts D} where
       stands_leaves g.honest g.seen g.may_leave (disk_of world) _ (reverse (records past)) (stands.host.book trusted)
 
   -- so what is left where a run over such a machine ends
-  pub world_ends : (given last : D) (world : World D g) → IsReady (g.size given) (g.seen given)
+  pub world_ends : (given last : D) (world : World D g) (stage : Stage)
+      → ((setup : Setup) → IsSetupIn stage setup → setup ≡ setup_of world) → IsReady (g.size given) (g.seen given)
       → Outlasts g.size g.honest g.seen g.cuts given (disk_of world) → last ≡ disk_of world
-      → EndsBeside (WorldHolds given world) (OverCut (disks g.size g.honest g.seen g.may_leave g.cuts given last))
-  world_ends given last world ready on is =
-      ends_over g.size g.honest g.seen g.may_leave g.cuts given last (WorldHolds given world) ready
+      → EndsBeside stage (WorldHolds given world)
+      (OverCut (disks g.size g.honest g.seen g.may_leave g.cuts given last))
+  world_ends given last world stage same ready on is =
+      ends_over g.size g.honest g.seen g.may_leave g.cuts given last stage (WorldHolds given world) ready
       (λ past holds trusted. subst (λ disk. Leaves g.honest g.seen g.may_leave disk (reverse (records past))) (sym is)
       (world_books world past (holds.stands (inl trusted))
       (trusted_on g.size g.honest g.seen g.cuts given (disk_of world) on trusted)))
+      (λ setup past there holds.
+      subst (λ by. AtLosses (Restarted g.size g.honest g.seen g.cuts by given last) past) (sym (same setup there))
+      (subst (λ disk. AtLosses (Restarted g.size g.honest g.seen g.cuts (setup_of world) given disk) past) (sym is)
+      holds.restarts))
       (λ past holds. subst (λ disk. RoseBy (crashes past) (g.cuts given) (g.cuts disk)) (sym is) holds.cut)
       (λ past holds none. ap g.cuts is ∙ holds.uncut none)
 
   -- what holds of a machine does so behind a step that was played
-  pub world_carried : (given : D) (world : World D g) (After : List Entry → Type 0) (new : ℕ) (s : Step)
-      (WritesThem : List Entry → Type 0) → Outlasts g.size g.honest g.seen g.cuts given (disk_of world)
+  pub world_carried : (given last : D) (world : World D g) (After : List Entry → Type 0) (setup : Setup) (many : ℕ)
+      (s : Step) (WritesThem : List Entry → Type 0) → setup ≡ setup_of world
+      → Outlasts g.size g.honest g.seen g.cuts given (disk_of world)
+      → LastsIn s g.size g.honest g.seen g.cuts (disk_of world) last
       → PlaysOn (IsTrusted g.honest g.seen (disk_of world)) (StandsFor world) After (setup_of world) s
-      (g.cuts (disk_of world)) new WritesThem
+      (g.cuts (disk_of world)) (g.cuts last) (used_of world) many (g.seen last) WritesThem
       → Carries (Sure (IsTrusted g.honest g.seen given)) (WorldHolds given world)
-      (Holds (Sure (IsTrusted g.honest g.seen given)) After (g.cuts given) new) (setup_of world) s WritesThem
-  world_carried given world After new s WritesThem on played =
+      (Holds g.size g.honest g.seen g.cuts After setup given last many) (setup_of world) s WritesThem
+  world_carried given last world After setup many s WritesThem same on lasts p =
       let trusted = IsTrusted g.honest g.seen given in
       let now = IsTrusted g.honest g.seen (disk_of world) in
-      carried (Sure trusted) now (StandsFor world) After (setup_of world) s (g.cuts given) (g.cuts (disk_of world)) new
-      WritesThem (sure_back trusted)
-      (sure_survives trusted now (trusted_on g.size g.honest g.seen g.cuts given (disk_of world) on)) played
+      let news = reverse p.report in
+      record {
+        report = p.report;
+        goes = λ past before suits.
+            let goes : Sure trusted (news ++ past)
+            → Entries most_records (setup_of world) past s news × After (news ++ past) =
+            λ sure. let here = sure_back trusted news past sure in
+            p.plays past (before.stands here) (suits here)
+            (sure_survives trusted now (trusted_on g.size g.honest g.seen g.cuts given (disk_of world) on) news past s
+            p.told sure) in (
+              λ sure. (goes sure).0,
+              subst (λ by. Holds g.size g.honest g.seen g.cuts After by given last many (news ++ past)) (sym same)
+                  (holds_on g.size g.honest g.seen g.cuts (setup_of world) given (StandsFor world) After (disk_of world)
+                  last s (used_of world) many news past on lasts p.told p.cut p.counts p.restarts
+                  (λ sure. (goes sure).1) before),
+            );
+        told = p.told;
+        wrote = p.wrote;
+      }
 
   -- a step that was played leaves the records of the past on the disk
   pub books_play : (world next : World D g) (last : D) (s : Step) (report : List Entry)
@@ -156,15 +191,18 @@ module _ {D : Type 0} {g : Ghosts D} where
   torn_over given left world s ready on breaks taken played unplayed past holds = absurd breaks
 
   -- a loss of power left something else than what stood on the disk
-  lost_over : (given : D) (world : World D g) (s : Step) → IsReady (g.size given) (g.seen given)
+  lost_over : (given left : D) (world : World D g) (why : WorldNo) (s : Step) → IsReady (g.size given) (g.seen given)
       → (IsTrusted g.honest g.seen given → IsTrusted g.honest g.seen (disk_of world))
-      → LosesIn world.machine.value s → (unplayed : List Step) (past : List Entry) → WorldHolds given world past
+      → LosesIn world.machine.value left why s → (unplayed : List Step) (past : List Entry) → WorldHolds given world past
       → (Sure (IsTrusted g.honest g.seen given) past → StepSuits (setup_of world) past s)
-      → IsReady (g.size given) (g.seen given) × First IsCrash (s ∷ unplayed)
-      × (IsTrusted g.honest g.seen given → ⊥)
-  lost_over given world (step.Crash at choice) ready on loses unplayed past holds suits =
-      (ready, tt, λ trusted. loses past (holds.stands (inl trusted)) (suits (inl trusted)) (on trusted))
-  lost_over given world s ready on loses unplayed past holds suits = absurd loses
+      → OverLost (disks g.size g.honest g.seen g.may_leave g.cuts given left) (setup_of world) past (s ∷ unplayed) why
+  lost_over given left world why (step.Crash at choice) ready on loses unplayed past holds suits = (
+    ready,
+    loses_at (Sure (IsTrusted g.honest g.seen given) past) world left why past (step.Crash at choice) holds.stands
+        holds.counts loses,
+    λ trusted. loses.0 past (holds.stands (inl trusted)) (suits (inl trusted)) (on trusted),
+  )
+  lost_over given left world why s ready on loses unplayed past holds suits = absurd loses
 
   unplayed_over : (given left : D) (world : World D g) (why : WorldNo) (s : Step)
       → IsReady (g.size given) (g.seen given)
@@ -176,11 +214,11 @@ module _ {D : Type 0} {g : Ghosts D} where
   unplayed_over given left world world_no.Disk s ready on breaks taken played unplayed past holds suits =
       torn_over given left world s ready on breaks taken played unplayed past holds
   unplayed_over given left world world_no.Alien s ready on breaks taken played unplayed past holds suits =
-      lost_over given world s ready on breaks unplayed past holds suits
+      lost_over given left world world_no.Alien s ready on breaks unplayed past holds suits
   unplayed_over given left world (world_no.BadRecord index) s ready on breaks taken played unplayed past holds suits =
-      lost_over given world s ready on breaks unplayed past holds suits
+      lost_over given left world (world_no.BadRecord index) s ready on breaks unplayed past holds suits
   unplayed_over given left world (world_no.Lost found put) s ready on breaks taken played unplayed past holds suits =
-      lost_over given world s ready on breaks unplayed past holds suits
+      lost_over given left world (world_no.Lost found put) s ready on breaks unplayed past holds suits
 
   -- a step that wasn't played
   pub unplayed_cut : (given left : D) (world : World D g) (why : WorldNo) (s : Step)
@@ -194,6 +232,8 @@ module _ {D : Type 0} {g : Ghosts D} where
     over = unplayed_over given left world why s ready
         (trusted_on g.size g.honest g.seen g.cuts given (disk_of world) on) breaks taken played unplayed past holds
         suits;
+    restarts = losses_last g.size g.honest g.seen g.cuts (setup_of world) given (disk_of world) left past
+        (lasts_in g.size g.honest g.seen g.cuts s (disk_of world) left lasts) holds.restarts;
     cut = le_trans holds.cut (lasts_in g.size g.honest g.seen g.cuts s (disk_of world) left lasts).later_cuts;
     uncut = λ none next. uncut_in g.size g.honest g.seen g.cuts s (disk_of world) left lasts (crashes_none s next)
         ∙ holds.uncut none;
@@ -214,12 +254,14 @@ module _ {D : Type 0} (size : D → ℕ) (honest : D → Bool) (seen : D → Opt
   pub fresh_ends : (given last disk : D) (place : Place) → IsReady (size given) (seen given)
       → GoesOn size honest seen cuts given disk → last ≡ disk
       → (IsTrusted honest seen disk → Stands honest seen may_leave disk place [])
-      → EndsBeside IsNothing (OverCut (disks size honest seen may_leave cuts given last))
+      → EndsBeside (at_setup no_devices) IsNothing (OverCut (disks size honest seen may_leave cuts given last))
   fresh_ends given last disk place ready on is stands =
       let same : cuts last ≡ cuts given = ap cuts is ∙ on.same_cuts in
-      ends_over size honest seen may_leave cuts given last IsNothing ready
+      ends_over size honest seen may_leave cuts given last (at_setup no_devices) IsNothing ready
       (λ past none trusted. fresh_leaves last disk place past is none
       (stands (trusted_on size honest seen cuts given disk (lasts_on size honest seen cuts given disk on) trusted)))
+      (λ setup past there none.
+      subst (AtLosses (Restarted size honest seen cuts setup given last)) (sym none) refl)
       (λ past none. subst (RoseBy (crashes past) (cuts given)) (sym same)
       (rose_none (crashes past) (cuts given) (ap crashes none)))
       (λ past none quiet. same)
@@ -230,6 +272,7 @@ module _ {D : Type 0} (size : D → ℕ) (honest : D → Bool) (seen : D → Opt
       → OverCut (disks size honest seen may_leave cuts given last) how setup taken [] unplayed []
   uncut_over given last how setup taken unplayed same over = record {
     over = over;
+    restarts = refl;
     cut = subst (RoseBy 0 (cuts given)) (sym same) (rose_none 0 (cuts given) refl);
     uncut = λ none next. same;
   }
@@ -268,12 +311,14 @@ uncreated_is size seen (create_no.NotBlank at) sized refused = (sized, refused.1
 -- a put to the sink failed, and the disk has the records of the past
 module _ {D : Type 0} (size : D → ℕ) (honest : D → Bool) (seen : D → Option (List ℕ))
     (may_leave : D → List ℕ → Type 0) (cuts : D → ℕ) where
-  pub broke_over : (given last : D) → IsReady (size given) (seen given) → Outlasts size honest seen cuts given last
-      → (setup : Setup) (taken : List ℕ) (played unplayed : List Step) (past : List Entry)
-      → Holds (Sure (IsTrusted honest seen given)) (Books honest seen may_leave last) (cuts given) (cuts last) past
+  pub broke_over : (given last : D) (setup : Setup) (many : ℕ) → IsReady (size given) (seen given)
+      → Outlasts size honest seen cuts given last
+      → (taken : List ℕ) (played unplayed : List Step) (past : List Entry)
+      → Holds size honest seen cuts (Books honest seen may_leave last) setup given last many past
       → OverCut (disks size honest seen may_leave cuts given last) ending.Unwritten setup taken played unplayed past
-  broke_over given last ready on setup taken played unplayed past holds = record {
+  broke_over given last setup many ready on taken played unplayed past holds = record {
     over = (ready, λ trusted. holds.stands (inl trusted) (trusted_on size honest seen cuts given last on trusted));
+    restarts = holds.restarts;
     cut = holds.cut;
     uncut = λ none next. holds.uncut none;
   }
@@ -283,10 +328,10 @@ module _ {K D : Type 0} {g : Ghosts D} (written : K → Option (List ℕ))
     (puts : K → List ℕ → Result (Unit {0}) Failed → K → Type 0) where
   abbrev pub StepEnds : K → K → World D g → Step → Ending → D → Type 0
   StepEnds out out1 world s how last =
-      ((how ≡ ending.Unwritten) × (failed : Failed)
+      ((how ≡ ending.Unwritten) × (failed : Failed) × (many : ℕ)
       × PlaysOn (IsTrusted g.honest g.seen (disk_of world)) (StandsFor world)
-      (Books g.honest g.seen g.may_leave last) (setup_of world) s (g.cuts (disk_of world)) (g.cuts last)
-      (λ report. Writes written puts out report (Err failed) out1))
+      (Books g.honest g.seen g.may_leave last) (setup_of world) s (g.cuts (disk_of world)) (g.cuts last) (used_of world)
+      many (g.seen last) (λ report. Writes written puts out report (Err failed) out1))
       ⊎ ((why : WorldNo) × (how ≡ unplayed_by why) × Breaks world last why s × (out1 ≡ out))
 
   pub step_ends : (out out1 out2 : K) (left0 left left1 : Option (List ℕ)) (held rest : List ℕ) (number : ℕ)
@@ -301,7 +346,7 @@ module _ {K D : Type 0} {g : Ghosts D} (written : K → Option (List ℕ))
       (Wrote written puts out out2) (Broke written puts out out2)
       (OverCut (disks g.size g.honest g.seen g.may_leave g.cuts given last)))
   step_ends out out1 out2 left0 left left1 held rest number stage how s given last world ready on lasts done going reads
-      (inl (is, failed, played)) =
+      (inl (is, failed, many, played)) =
       let trusted = IsTrusted g.honest g.seen given in
       let B = Broke written puts out out2 in
       let O = OverCut (disks g.size g.honest g.seen g.may_leave g.cuts given last) in
@@ -310,13 +355,13 @@ module _ {K D : Type 0} {g : Ghosts D} (written : K → Option (List ℕ))
       subst (λ how. IfSome left0 (λ bytes. Played (Sure trusted) bytes how left1 (Wrote written puts out out2) B O))
       (sym is)
       (played_broke (Sure trusted) left0 left left1 held rest number stage stage (setup_of world)
-      (WorldHolds given world) (Holds (Sure trusted) books (g.cuts given) (g.cuts last)) s (Wrote written puts out out1)
-      WritesThem (Wrote written puts out out2) B O (sure_back trusted)
-      (broke_over g.size g.honest g.seen g.may_leave g.cuts given last ready
+      (WorldHolds given world) (Holds g.size g.honest g.seen g.cuts books (setup_of world) given last many) s
+      (Wrote written puts out out1) WritesThem (Wrote written puts out out2) B O (sure_back trusted)
+      (broke_over g.size g.honest g.seen g.may_leave g.cuts given last (setup_of world) many ready
       (lasts_then g.size g.honest g.seen g.cuts given (disk_of world) last on
       (lasts_in g.size g.honest g.seen g.cuts s (disk_of world) last lasts))) done
       (λ xs ys whole broken. (out1, failed, whole, broken)) going reads
-      (world_carried given world books (g.cuts last) s WritesThem on played))
+      (world_carried given last world books (setup_of world) many s WritesThem refl on lasts played))
   step_ends out out1 out2 left0 left left1 held rest number stage how s given last world ready on lasts done going reads
       (inr (why, is, breaks, same)) =
       let trusted = IsTrusted g.honest g.seen given in

@@ -5,7 +5,7 @@ use Rattle.std.specs.Prelude.{IfSome, is_some}
 use Rattle.std.proofs.lemmas.List.{append-nil}
 use Rattle.std.proofs.lemmas.List.Elements.{All-cons, All-head, All-nil, All-tail}
 use Rattle.cct_edge.specs.declared.fault.Failed.{Failed}
-use Rattle.cct_model.specs.terms.device.DeviceSetup.{DeviceSetup}
+use Rattle.cct_model.specs.terms.device.Setup.{Setup}
 use Rattle.cct_model.specs.lines.command.Step.{Step}
 use Rattle.cct_model.specs.lines.command.Step.TheVariants as step
 use Rattle.cct_model.specs.lines.entry.Entry.{Entry}
@@ -22,11 +22,13 @@ use Rattle.cct_text.specs.Writing.{Broke, Writes, Wrote}
 use Rattle.cct_world.specs.declared.refusal.WorldNo.{WorldNo}
 use Rattle.cct_world.specs.declared.refusal.WorldNo.TheVariants as world_no
 use Rattle.cct_world.specs.declared.world.World.{World}
+use Rattle.cct_world.specs.Restarts.{AtLosses, LosesAt, Restarted}
 use Rattle.cct_world.specs.Step.{RoseBy, crashes}
-use Rattle.cct_world.specs.Sure.{First, IsCrash, MayFail, Sure, losses_in}
+use Rattle.cct_world.specs.Sure.{First, MayFail, Sure, losses_in}
 use Rattle.cct_world.specs.World.{disk_of}
-use Rattle.cct_world.proofs.Lasting.{lasts_on, trusted_on}
-use Rattle.cct_world.proofs.Told.{rose_none}
+use Rattle.cct_world.proofs.Lasting.{lasts_on, lasts_then, trusted_on}
+use Rattle.cct_world.proofs.Restarts.{at_losses}
+use Rattle.cct_world.proofs.Sure.{rose_none}
 use Rattle.cct_gen.specs.Load.{load_setup, load_steps}
 use Rattle.cct_gen.proofs.LoadSetup.{setup_sound}
 use Rattle.cct_gen.proofs.Lines.{lines_in_range}
@@ -43,8 +45,8 @@ use Rattle.cct_bench.specs.declared.play.TheConstants.{JOURNAL_BYTES}
 use Rattle.cct_bench.specs.Disks.{Disks, IsReady, disks, most_records}
 use Rattle.cct_bench.specs.Load.{LoadCloses, LoadEnds, LoadPlayed, LoadStops, Loaded, load_ending}
 use Rattle.cct_bench.specs.Report.{IsOrMemory}
-use Rattle.cct_bench.specs.Run.{Book, IsUnopened, TellsLoss, last_entry, listed, status_by, status_of, unplayed_by}
-use Rattle.cct_bench.proofs.Closing.{LastLine, blank_first, kept_by, last_line, no_line, none_next}
+use Rattle.cct_bench.specs.Run.{Book, EndsLost, IsUnopened, TellsLoss, last_entry, listed, status_by, status_of}
+use Rattle.cct_bench.proofs.Closing.{LastLine, blank_first, kept_by, last_line, lost_next, no_line, none_next, tells_loss}
 
 -- ---- what the laws say of a load
 
@@ -87,6 +89,7 @@ loaded_by seed rounds how s tail disks Before Written Broken Breaks is p ends =
       book = λ trusted some. subst (Book disks load_setup p.unplayed (onto [] p.transcript)) (sym is)
           (p.book trusted some);
       keeps = λ trusted tells. p.keeps trusted (subst TellsLoss is tells);
+      restarts = p.restarts;
       cut = p.cut;
       uncut = p.uncut;
     }
@@ -163,6 +166,7 @@ module _ (seed rounds : ℕ) (Written : List Entry → Type 0) (Breaks : List En
     stops = stops;
     book = λ trusted some. absurd (some refl);
     keeps = keeps;
+    restarts = refl;
     cut = subst (RoseBy 0 disks.cuts) (sym same) (rose_none 0 disks.cuts refl);
     uncut = λ none next. same;
   }
@@ -206,6 +210,12 @@ fails_by sure sure1 past more (step.Next addr) fails = λ is. fails (more is)
 fails_by sure sure1 past more (step.Crash at choice) fails = tt
 fails_by sure sure1 past more s fails = absurd fails
 
+loses_by : (sure sure1 : Type 0) (setup : Setup) (past : List Entry) (seen : Option (List ℕ)) (why : WorldNo)
+    → (sure1 → sure) → (s : Step) → LosesAt sure setup past seen why s → LosesAt sure1 setup past seen why s
+loses_by sure sure1 setup past seen why more (step.Crash at choice) loses =
+    (loses.0, λ is. loses.1 (more is), loses.2)
+loses_by sure sure1 setup past seen why more s loses = absurd loses
+
 module _ {D : Type 0} {g : Ghosts D} (given left : D) (world : World D g)
     (ready : IsReady (g.size given) (g.seen given)) (on : GoesOn g.size g.honest g.seen g.cuts given (disk_of world))
     (seed rounds : ℕ) (Written : List Entry → Type 0) (Breaks : List Entry → List Entry → Type 0) where
@@ -224,9 +234,20 @@ module _ {D : Type 0} {g : Ghosts D} (given left : D) (world : World D g)
   relies past (inl trusted) = inl (now_trusted trusted)
   relies past (inr none) = inr none
 
+  -- why no host starts again, where more may be relied on
+  lost_by : (why : WorldNo) (unplayed : List Step) (past : List Entry)
+      → ((s : Step) → loads.FailsAt world left why past s
+      → LosesAt (Relies world past) load_setup past (g.seen left) why s)
+      → First (loads.FailsAt world left why past) unplayed → EndsLost ds load_setup past unplayed why
+  lost_by why unplayed past is first =
+      first_by (loads.FailsAt world left why past)
+      (LosesAt (Sure (IsTrusted g.honest g.seen given) past) load_setup past (g.seen left) why) unplayed
+      (λ s fails. loses_by (Relies world past) (Sure (IsTrusted g.honest g.seen given) past) load_setup past (g.seen left)
+      why (relies past) s (is s fails)) first
+
   -- what was told, by how the playing of it ended
   told_by : (how : LoadEnd) (played unplayed : List Step) (past : List Entry)
-      → loads.Ends world load how played unplayed past Written Breaks
+      → loads.Ends world left load how played unplayed past Written Breaks
       → (told : List Entry)
       × LoadStops ds seed rounds played unplayed past (load_ending how) told Written Breaks
   told_by load_end.Done played unplayed past ends =
@@ -265,11 +286,11 @@ module _ {D : Type 0} {g : Ghosts D} (given left : D) (world : World D g)
     ),
   )
   told_by (load_end.Unplayed world_no.Alien) played unplayed past ends =
-      (_, ((tt, refl, first_by _ IsCrash unplayed (λ s is. is) ends.0, ready), ends.1))
+      (_, ((lost_by world_no.Alien unplayed past (λ s loses. loses) ends.0, refl, ready), ends.1))
   told_by (load_end.Unplayed (world_no.BadRecord index)) played unplayed past ends =
-      (_, ((tt, refl, first_by _ IsCrash unplayed (λ s is. is) ends.0, ready), ends.1))
+      (_, ((lost_by (world_no.BadRecord index) unplayed past (λ s loses. loses) ends.0, refl, ready), ends.1))
   told_by (load_end.Unplayed (world_no.Lost found put)) played unplayed past ends =
-      (_, ((tt, refl, first_by _ IsCrash unplayed (λ s is. is) ends.0, ready), ends.1))
+      (_, ((lost_by (world_no.Lost found put) unplayed past (λ s loses. loses) ends.0, refl, ready), ends.1))
 
   -- what the disk keeps
   book_by : (how : LoadEnd) (unplayed : List Step) (past : List Entry) → loads.Book world left how unplayed past
@@ -297,6 +318,21 @@ module _ {D : Type 0} {g : Ghosts D} (given left : D) (world : World D g)
   keeps_by (load_end.Unplayed (world_no.Lost found put)) unplayed past book tells =
       none_first unplayed (first_by _ (λ s. ⊥) unplayed (λ s never. never) book)
 
+  -- the disk of the world lasted from the one that was given
+  restarts_given : (past : List Entry)
+      → AtLosses (Restarted g.size g.honest g.seen g.cuts load_setup (disk_of world) left) past
+      → AtLosses (ds.restarted load_setup) past
+  restarts_given past restarts =
+      at_losses (Restarted g.size g.honest g.seen g.cuts load_setup (disk_of world) left)
+      (Restarted g.size g.honest g.seen g.cuts load_setup given left) (λ losses many restarted. record {
+        disk = restarted.disk;
+        lasted = lasts_then g.size g.honest g.seen g.cuts given (disk_of world) restarted.disk
+            (lasts_on g.size g.honest g.seen g.cuts given (disk_of world) on) restarted.lasted;
+        lasts = restarted.lasts;
+        cut = subst (λ n. RoseBy losses n (g.cuts restarted.disk)) on.same_cuts restarted.cut;
+        whole = restarted.whole;
+      }) past restarts
+
   pub load_played : (how : LoadEnd) → PlaysLoad world load how left Written Breaks
       → LoadPlayed seed rounds (load_ending how) Written Breaks ds
   load_played how p =
@@ -314,6 +350,7 @@ module _ {D : Type 0} {g : Ghosts D} (given left : D) (world : World D g)
         stops = told.1;
         book = λ trusted some. book_by how p.unplayed past (p.book (now_trusted trusted));
         keeps = λ trusted tells. keeps_by how p.unplayed past (p.book (now_trusted trusted)) tells;
+        restarts = restarts_given past p.restarts;
         cut = subst (λ n. RoseBy (crashes past) n (g.cuts left)) on.same_cuts p.cut;
         uncut = λ none next. p.uncut none next ∙ on.same_cuts;
       }
@@ -344,9 +381,11 @@ load_done seed rounds status.DiskSize Written Breaks disks image told sized blan
     absurd (h.ends.0.0 sized)
 load_done seed rounds status.OutOfMemory Written Breaks disks image told sized blank kept w d h = inr refl
 load_done seed rounds status.JournalLost Written Breaks disks image told sized blank (inl trusted) w d h =
-    absurd (h.keeps trusted h.ends.0.0)
+    absurd (h.keeps trusted (tells_loss (EndsLost disks load_setup (onto [] h.transcript) h.unplayed) h.tail h.ends.0.0))
 load_done seed rounds status.JournalLost Written Breaks disks image told sized blank (inr none) w d h =
-    absurd (none_next h.played h.unplayed (ap losses_in (sym h.steps_are) ∙ none) h.ends.0.2)
+    absurd (none_next h.played h.unplayed (ap losses_in (sym h.steps_are) ∙ none)
+    (lost_next (Sure disks.trusted (onto [] h.transcript)) load_setup (onto [] h.transcript) disks.seen_after h.unplayed
+    h.tail h.ends.0.0))
 
 -- with a told disk, and a cause for each fault
 pub load_completes : (seed rounds : ℕ) (s : Status) (Written : List Entry → Type 0)

@@ -1,5 +1,6 @@
 -- The disk that a run is given, and what it leaves on it.
 use Rattle.std.specs.Prelude.{◌≡◌, ℕ, Bool, Option, Some, List, reverse, ⊤}
+use Rattle.cct_model.specs.terms.device.Setup.{Setup}
 use Rattle.cct_model.specs.lines.record.Record.{Record}
 use Rattle.cct_model.specs.lines.entry.Entry.{Entry}
 use Rattle.cct_model.specs.Records.{records}
@@ -7,7 +8,7 @@ use Rattle.cct_disk.specs.Disk.{IsTrusted}
 use Rattle.cct_journal.specs.Image.{IsBlank}
 use Rattle.cct_journal.specs.Losing.{LeavesWith}
 use Rattle.cct_journal.specs.Stands.{Leaves}
-use Rattle.cct_world.specs.Step.{RoseBy, crashes}
+use Rattle.cct_world.specs.Restarts.{Restarted}
 use Rattle.cct_bench.specs.declared.play.TheConstants.{JOURNAL_BYTES}
 
 -- How many records a journal on a disk of that size takes.
@@ -22,14 +23,18 @@ pub record IsReady (size : ℕ) (seen : Option (List ℕ)) : Type 0 where
 -- What a run is told of its disk. As it was handed in: how many bytes it has, which bytes a read gives, where that is
 -- told, whether it is honest and tells them, and how often its power was cut. As it comes back: that each image that a
 -- loss of power may leave on it stands for records, the oldest first, or, where one is being put, for these or for
--- these and that one; and how often its power was cut by then.
+-- these and that one; which bytes a read then gives, where that is told; and how often its power was cut by then. And
+-- that in between, when its power had been cut so often, a read gave so many records, each of which follows those before
+-- it on a machine of a setup.
 pub record Disks : Type 1 where
   pub size : ℕ
   pub seen : Option (List ℕ)
   pub trusted : Type 0
   pub cuts : ℕ
   pub leaves : Option Record → List Record → Type 0
+  pub seen_after : Option (List ℕ)
   pub cuts_after : ℕ
+  pub restarted : Setup → ℕ → ℕ → Type 0
 
 -- of a kind of disk of which is known what each tells
 module _ {D : Type 0} (size : D → ℕ) (honest : D → Bool) (seen : D → Option (List ℕ))
@@ -42,7 +47,9 @@ module _ {D : Type 0} (size : D → ℕ) (honest : D → Bool) (seen : D → Opt
     trusted = IsTrusted honest seen given;
     cuts = cuts given;
     leaves = LeavesWith honest seen may_leave back;
+    seen_after = seen back;
     cuts_after = cuts back;
+    restarted = λ setup. Restarted size honest seen cuts setup given back;
   }
 
 -- Where a disk is trusted, each image that a loss of power may leave on it stands for the records of the past.
@@ -53,10 +60,3 @@ Books honest seen may_leave disk past =
 -- Any past may be relied on, as where no disk is used yet.
 abbrev pub Always : List Entry → Type 0
 Always past = ⊤
-
--- What is so after a past: what stands for it does so where it may be relied on, and the power of the disk was cut as
--- often as the past tells, and never where that tells no loss of power.
-pub record Holds (Relies Stands : List Entry → Type 0) (first now : ℕ) (past : List Entry) : Type 0 where
-  pub stands : Relies past → Stands past
-  pub cut : RoseBy (crashes past) first now
-  pub uncut : crashes past ≡ 0 → now ≡ first

@@ -6,13 +6,9 @@ use Rattle.cct_model.specs.lines.entry.Entry.{Entry}
 use Rattle.cct_model.specs.Legal.{Legal}
 use Rattle.cct_model.specs.Script.{Stage, Script, script}
 use Rattle.cct_model.specs.Transcript.{onto}
-use Rattle.cct_disk.specs.declared.disk.Disk.{Ghosts}
-use Rattle.cct_disk.specs.Disk.{IsTrusted}
-use Rattle.cct_world.specs.declared.world.World.{World}
 use Rattle.cct_world.specs.Step.{crashes}
-use Rattle.cct_world.specs.World.{StandsFor, disk_of}
-use Rattle.cct_bench.specs.Disks.{Holds, most_records}
-use Rattle.cct_world.specs.Sure.{Sure, losses_in}
+use Rattle.cct_world.specs.Sure.{losses_in}
+use Rattle.cct_bench.specs.Disks.{most_records}
 use Rattle.cct_bench.specs.Lines.{said_from}
 
 -- A script says these steps, and then what the rest says.
@@ -36,10 +32,3 @@ pub record Going (Relies : List Entry → Type 0) (left0 left : Option (List ℕ
   pub losses : crashes (onto [] transcript) ≡ losses_in played
   pub holds : Stands (onto [] transcript)
   pub wrote : Written transcript
-
-module _ {D : Type 0} {g : Ghosts D} where
-  -- What is so of a machine after a past, where the run was given this disk: it stands for the past, where that may be
-  -- relied on, and the power of its disk was cut as often as the past tells.
-  abbrev pub WorldHolds : D → World D g → List Entry → Type 0
-  WorldHolds given world =
-      Holds (Sure (IsTrusted g.honest g.seen given)) (StandsFor world) (g.cuts given) (g.cuts (disk_of world))

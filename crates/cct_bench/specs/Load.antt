@@ -14,6 +14,7 @@ use Rattle.cct_model.specs.Paid.{Paid}
 use Rattle.cct_model.specs.Transcript.{onto}
 use Rattle.cct_laws.specs.Law.{IsOf, lines_in}
 use Rattle.cct_journal.specs.Image.{IsFirstByteFrom}
+use Rattle.cct_world.specs.Restarts.{AtLosses}
 use Rattle.cct_world.specs.Step.{RoseBy, crashes}
 use Rattle.cct_world.specs.Sure.{First, IsCrash, MayFail, Sure, losses_in}
 use Rattle.cct_gen.specs.Load.{load_setup, load_steps}
@@ -26,7 +27,7 @@ use Rattle.cct_bench.specs.declared.play.Ending.{Ending}
 use Rattle.cct_bench.specs.declared.play.Ending.TheVariants as ending
 use Rattle.cct_bench.specs.declared.play.TheConstants.{JOURNAL_BYTES}
 use Rattle.cct_bench.specs.Disks.{Disks, IsReady, most_records}
-use Rattle.cct_bench.specs.Run.{Book, TellsLoss, last_entry, listed, status_of, unplayed_by}
+use Rattle.cct_bench.specs.Run.{Book, EndsLost, TellsLoss, TellsOf, last_entry, listed, status_of, unplayed_by}
 
 -- of a load over a disk: the steps that were played and those that weren't, and the past of those played
 module _ (disks : Disks) (seed rounds : ℕ) (played unplayed : List Step) (past : List Entry) where
@@ -45,8 +46,9 @@ module _ (disks : Disks) (seed rounds : ℕ) (played unplayed : List Step) (past
   -- What is told of a load by its own lines and by a last line, by its status, and what had been played then. With no
   -- last line all steps were played, and all is told. A fault of the disk comes before the first line, in a `next` that
   -- was about to put a record, or in a loss of power; a disk that isn't blank is told by its first byte that isn't 0, and
-  -- one of another size by that, before the first line. Another journal than was there comes in a loss of power alone.
-  -- Where a step wasn't played, none of the load's own lines but the first is told.
+  -- one of another size by that, before the first line. Another journal than was there comes in a loss of power alone,
+  -- and is told as it then is on the disk that comes back. Where a step wasn't played, none of the load's own lines but
+  -- the first is told.
   abbrev pub LoadCloses : Status → List Entry → List Entry → Type 0
   LoadCloses status.Done told tail =
       (unplayed ≡ []) × TellsAll told × (tail ≡ []) × IsReady disks.size disks.seen
@@ -61,7 +63,7 @@ module _ (disks : Disks) (seed rounds : ℕ) (played unplayed : List Step) (past
   LoadCloses status.DiskSize told tail =
       (disks.size ≢ JOURNAL_BYTES) × (told ≡ []) × (played ≡ []) × (tail ≡ entry.DiskSize disks.size ∷ [])
   LoadCloses status.JournalLost told tail =
-      TellsLoss tail × (told ≡ entry.Load seed rounds ∷ []) × First IsCrash unplayed
+      TellsOf (EndsLost disks load_setup past unplayed) tail × (told ≡ entry.Load seed rounds ∷ [])
       × IsReady disks.size disks.seen
   LoadCloses s told tail = ⊥
 
@@ -93,7 +95,7 @@ module _ (disks : Disks) (seed rounds : ℕ) (played unplayed : List Step) (past
 -- of power is told, the entries are those of the steps; and where the wire was honest besides, the posts of each device
 -- are its accepted coins in order, none twice; at each device that kept the pace, none is lost in silence; and at each
 -- hopper, each order is paid at most once, and closed with exactly the coins that fell. On a trusted disk no loss of
--- power leaves another journal than was there.
+-- power leaves another journal than was there; and on any that tells its bytes, none is played that does.
 pub record Loaded (seed rounds : ℕ) (s : Status) (Written : List Entry → Type 0)
     (Breaks : List Entry → List Entry → Type 0) (disks : Disks) : Type 0 where
   pub played : List Step
@@ -113,6 +115,7 @@ pub record Loaded (seed rounds : ℕ) (s : Status) (Written : List Entry → Typ
   pub ends : LoadEnds disks seed rounds played unplayed (onto [] transcript) s told tail Written Breaks
   pub book : disks.trusted → told ≢ [] → Book disks load_setup unplayed (onto [] transcript) tail
   pub keeps : disks.trusted → TellsLoss tail → ⊥
+  pub restarts : AtLosses (disks.restarted load_setup) (onto [] transcript)
   pub cut : RoseBy (crashes (onto [] transcript)) disks.cuts disks.cuts_after
   pub uncut : crashes (onto [] transcript) ≡ 0 → (First IsCrash unplayed → ⊥) → disks.cuts_after ≡ disks.cuts
 
@@ -130,6 +133,7 @@ pub record LoadPlayed (seed rounds : ℕ) (how : Ending) (Written : List Entry �
   pub book : disks.trusted → told ≢ []
       → Book disks load_setup unplayed (onto [] transcript) (listed (last_entry how))
   pub keeps : disks.trusted → TellsLoss (listed (last_entry how)) → ⊥
+  pub restarts : AtLosses (disks.restarted load_setup) (onto [] transcript)
   pub cut : RoseBy (crashes (onto [] transcript)) disks.cuts disks.cuts_after
   pub uncut : crashes (onto [] transcript) ≡ 0 → (First IsCrash unplayed → ⊥) → disks.cuts_after ≡ disks.cuts
 

@@ -1,12 +1,14 @@
 -- The steps of a script that are played.
-use Rattle.std.specs.Prelude.{◌≡◌, ℕ, List, ◌++◌, reverse, Bool, true, false, if◌then◌else◌, IsTrue}
+use Rattle.std.specs.Prelude.{◌≡◌, ℕ, ◌+◌, List, ◌++◌, length, reverse, Option, Bool, true, false, if◌then◌else◌, IsTrue}
 use Rattle.cct_model.specs.lines.command.Step.{Step}
 use Rattle.cct_model.specs.lines.command.Step.TheVariants as step
 use Rattle.cct_model.specs.terms.device.Setup.{Setup}
 use Rattle.cct_model.specs.lines.entry.Entry.{Entry}
 use Rattle.cct_model.specs.Legal.{Entries, is_played}
+use Rattle.cct_model.specs.Records.{records}
 use Rattle.cct_model.specs.Script.{Read, at_steps, at_end, opens, plays, is_known, IsInRange}
 use Rattle.cct_world.specs.Machine.{StepSuits, Survives}
+use Rattle.cct_world.specs.Restarts.{RestartsIn}
 use Rattle.cct_world.specs.Step.{RoseBy, crashes, crashes_of}
 use Rattle.cct_bench.specs.Disks.{most_records}
 
@@ -35,12 +37,15 @@ Plays trusted Before After setup s report =
     → Entries most_records setup past s (reverse report) × After (reverse report ++ past)
 
 -- A step was played, with the power of the disk cut so often before it and so often after it: just a loss of power
--- tells one, and cuts it. Its entries were written so, which holds by the answer.
+-- tells one, and cuts it. So many records were counted before it, and so many after it, just those more that it tells;
+-- behind a loss of power a read gives these bytes. Its entries were written so, which holds by the answer.
 pub record PlaysOn (trusted : Type 0) (Before After : List Entry → Type 0) (setup : Setup) (s : Step) (old new : ℕ)
-    (WritesThem : List Entry → Type 0) : Type 0 where
+    (used many : ℕ) (seen : Option (List ℕ)) (WritesThem : List Entry → Type 0) : Type 0 where
   pub report : List Entry
   pub plays : Plays trusted Before After setup s report
   pub told : crashes (reverse report) ≡ crashes_of s
   pub cut : RoseBy (crashes_of s) old new
   pub uncut : crashes_of s ≡ 0 → new ≡ old
+  pub counts : many ≡ used + length (records (reverse report))
+  pub restarts : RestartsIn setup s used many seen (reverse report)
   pub wrote : WritesThem report

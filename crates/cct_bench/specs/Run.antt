@@ -29,6 +29,7 @@ use Rattle.cct_bench.specs.declared.lines.ScriptStop.TheVariants as stop
 use Rattle.cct_bench.specs.declared.play.Ending.{Ending}
 use Rattle.cct_bench.specs.declared.play.Ending.TheVariants as ending
 use Rattle.cct_bench.specs.declared.play.TheConstants.{JOURNAL_BYTES}
+use Rattle.cct_world.specs.Restarts.{AtLosses, LosesAt}
 use Rattle.cct_world.specs.Step.{RoseBy, crashes}
 use Rattle.cct_world.specs.Sure.{First, IsCrash, MayFail, Sure, due_to, losses_in}
 use Rattle.cct_world.specs.declared.refusal.WorldNo.{WorldNo}
@@ -56,13 +57,23 @@ pub record BreaksOff (Relies : List Entry → Type 0) (setup : Setup) (played : 
 abbrev pub IsUntouched : List ℕ → List Step → Type 0
 IsUntouched taken played = (taken ≡ []) × (played ≡ [])
 
--- A last line tells that a loss of power left another journal than was there: none, one with a record that can't be
--- read or doesn't follow, or other records than those that were put.
+-- A last line tells why no host starts again behind a loss of power, and this holds of what it tells: that there is no
+-- journal, that a record can't be read or doesn't follow, or that there are other records than were put.
+abbrev pub TellsOf : (WorldNo → Type 0) → List Entry → Type 0
+TellsOf P (entry.JournalAlien ∷ []) = P world_no.Alien
+TellsOf P (entry.JournalBad index ∷ []) = P (world_no.BadRecord index)
+TellsOf P (entry.JournalLost found put ∷ []) = P (world_no.Lost found put)
+TellsOf P tail = ⊥
+
+-- A last line tells that a loss of power left another journal than was there.
 abbrev pub TellsLoss : List Entry → Type 0
-TellsLoss (entry.JournalAlien ∷ []) = ⊤
-TellsLoss (entry.JournalBad index ∷ []) = ⊤
-TellsLoss (entry.JournalLost found put ∷ []) = ⊤
-TellsLoss tail = ⊥
+TellsLoss = TellsOf (λ why. ⊤)
+
+-- The first step that wasn't played behind a past is a loss of power, and this is why no host starts again over what the
+-- disk then has that comes back.
+abbrev pub EndsLost : Disks → Setup → List Entry → List Step → WorldNo → Type 0
+EndsLost disks setup past unplayed why =
+    First (LosesAt (Sure disks.trusted past) setup past disks.seen_after why) unplayed
 
 -- What a loss of power may leave on the disk behind a past, by the last line, where these steps weren't played: each
 -- image stands for the records of the past; or, where the disk failed in a step with a record that was due, for these
@@ -79,7 +90,8 @@ module _ (disks : Disks) (bytes taken : List ℕ) (played unplayed : List Step) 
   -- that of a fault in reading, where every step was played whose line stands whole in the bytes taken. A fault of the
   -- disk comes before the first byte of the script, in a `next` that was about to put a record, or in a loss of power;
   -- a disk that isn't blank is told by its first byte that isn't 0, and one of another size by that, before the first
-  -- byte of the script. Another journal than was there comes in a loss of power alone.
+  -- byte of the script. Another journal than was there comes in a loss of power alone, and is told as it then is on the
+  -- disk that comes back.
   abbrev pub Closes : Status → List Entry → Type 0
   Closes status.Done tail =
       (unplayed ≡ []) × ((script bytes).refused ≡ None) × (tail ≡ []) × IsReady disks.size disks.seen
@@ -98,7 +110,8 @@ module _ (disks : Disks) (bytes taken : List ℕ) (played unplayed : List Step) 
       × ((image : List ℕ) → disks.seen ≡ Some image → IsFirstByteFrom 0 image at)
   Closes status.DiskSize tail =
       (disks.size ≢ JOURNAL_BYTES) × (tail ≡ entry.DiskSize disks.size ∷ []) × IsUntouched taken played
-  Closes status.JournalLost tail = TellsLoss tail × First IsCrash unplayed × IsReady disks.size disks.seen
+  Closes status.JournalLost tail =
+      TellsOf (EndsLost disks (script bytes).setup (onto [] transcript) unplayed) tail × IsReady disks.size disks.seen
   Closes s tail = ⊥
 
   -- What is written, by the status: the lines of the transcript and the last line, or some of them where the sink
@@ -117,7 +130,9 @@ module _ (disks : Disks) (bytes taken : List ℕ) (played unplayed : List Step) 
 -- Where the disk was trusted, or no loss of power is told, the entries are those of the steps; and where the wire was
 -- honest besides, the posts of each device are its accepted coins in order, none twice; at each device that kept the
 -- pace, none is lost in silence; and at each hopper, each order is paid at most once, and closed with exactly the
--- coins that fell. On a trusted disk no loss of power leaves another journal than was there.
+-- coins that fell. On a trusted disk no loss of power leaves another journal than was there; and on any that tells its
+-- bytes, none is played that does: behind each that is told, the disk had a journal of as many records as are told, each
+-- of which follows those before it.
 pub record Ran (bytes : List ℕ) (s : Status) (left : Option (List ℕ)) (Written : List Entry → Type 0)
     (Breaks : List Entry → List Entry → Type 0) (disks : Disks) : Type 0 where
   pub taken : List ℕ
@@ -140,6 +155,7 @@ pub record Ran (bytes : List ℕ) (s : Status) (left : Option (List ℕ)) (Writt
   pub ends : Ends disks bytes taken played unplayed transcript s tail Written Breaks
   pub book : disks.trusted → taken ≢ [] → Book disks (script bytes).setup unplayed (onto [] transcript) tail
   pub keeps : disks.trusted → TellsLoss tail → ⊥
+  pub restarts : AtLosses (disks.restarted (script bytes).setup) (onto [] transcript)
   pub cut : RoseBy (crashes (onto [] transcript)) disks.cuts disks.cuts_after
   pub uncut : crashes (onto [] transcript) ≡ 0 → (First IsCrash unplayed → ⊥) → disks.cuts_after ≡ disks.cuts
 
@@ -191,6 +207,11 @@ Stops Relies ending.Unwritten bytes taken played unplayed transcript Written Bre
 Stops Relies ending.NoMemory bytes taken played unplayed transcript Written Breaks = (played ≡ []) × Written []
 Stops Relies how bytes taken played unplayed transcript Written Breaks = Written transcript
 
+-- A disk was ready and isn't trusted, and no host starts again over it.
+abbrev pub OverLost : Disks → Setup → List Entry → List Step → WorldNo → Type 0
+OverLost disks setup past unplayed why =
+    IsReady disks.size disks.seen × EndsLost disks setup past unplayed why × (disks.trusted → ⊥)
+
 -- What is said of a disk by how the steps came to their end: whether it was ready, and what it keeps of the past.
 abbrev pub Over : Disks → Ending → Setup → List ℕ → List Step → List Step → List Entry → Type 0
 Over disks ending.NoMemory setup taken played unplayed past =
@@ -205,20 +226,20 @@ Over disks (ending.NotBlank at) setup taken played unplayed past =
     × ((image : List ℕ) → disks.seen ≡ Some image → IsFirstByteFrom 0 image at)
 Over disks (ending.OtherSize len) setup taken played unplayed past =
     (disks.size ≢ JOURNAL_BYTES) × IsUntouched taken played × (len ≡ disks.size)
-Over disks ending.JournalAlien setup taken played unplayed past =
-    IsReady disks.size disks.seen × First IsCrash unplayed × (disks.trusted → ⊥)
+Over disks ending.JournalAlien setup taken played unplayed past = OverLost disks setup past unplayed world_no.Alien
 Over disks (ending.JournalBad index) setup taken played unplayed past =
-    IsReady disks.size disks.seen × First IsCrash unplayed × (disks.trusted → ⊥)
+    OverLost disks setup past unplayed (world_no.BadRecord index)
 Over disks (ending.RecordsLost found put) setup taken played unplayed past =
-    IsReady disks.size disks.seen × First IsCrash unplayed × (disks.trusted → ⊥)
+    OverLost disks setup past unplayed (world_no.Lost found put)
 Over disks how setup taken played unplayed past =
     IsReady disks.size disks.seen × (disks.trusted → disks.leaves None (reverse (records past)))
 
--- Beside that, the power of the disk was cut at least as often as the past tells; and never where that tells no loss of
--- power, and none is the step that comes next.
+-- Beside that, the disk had a journal behind each loss of power that the past tells; and its power was cut at least as
+-- often as the past tells, and never where that tells no loss of power, and none is the step that comes next.
 pub record OverCut (disks : Disks) (how : Ending) (setup : Setup) (taken : List ℕ) (played unplayed : List Step)
     (past : List Entry) : Type 0 where
   pub over : Over disks how setup taken played unplayed past
+  pub restarts : AtLosses (disks.restarted setup) past
   pub cut : RoseBy (crashes past) disks.cuts disks.cuts_after
   pub uncut : crashes past ≡ 0 → (First IsCrash unplayed → ⊥) → disks.cuts_after ≡ disks.cuts
 

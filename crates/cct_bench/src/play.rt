@@ -4,7 +4,7 @@ ghost use Rattle.std.specs.Prelude.{◌≡◌, ◌≢◌, false, ◌⊎◌, ℕ,
 ghost use Rattle.std.specs.Prelude.{IfSome, IfOk, IfErr, MatchResult, OnOk};
 ghost use Rattle.cct_edge.specs.Bytes.{TellsAsBefore};
 ghost use Rattle.cct_edge.specs.declared.fault.Failed.{Failed};
-ghost use Rattle.cct_edge.specs.Faults.{HasCause, Rose};
+ghost use Rattle.cct_edge.specs.Faults.{Rose};
 ghost use Rattle.cct_model.specs.lines.entry.Entry.{Entry};
 ghost use Rattle.cct_model.specs.terms.device.Setup.{Setup};
 ghost use Rattle.cct_model.specs.Script.{no_devices, at_steps};
@@ -14,12 +14,13 @@ ghost use Rattle.cct_disk.specs.Disk.{IsTrusted};
 ghost use Rattle.cct_journal.specs.Journal as journals;
 ghost use Rattle.cct_journal.specs.Stands.{GoesOn, Outlasts, Stands};
 ghost use Rattle.cct_world.specs.declared.refusal.WorldNo.{WorldNo};
+ghost use Rattle.cct_world.specs.Holds.{WorldHolds};
 ghost use Rattle.cct_world.specs.Step.{LastsIn};
-ghost use Rattle.cct_world.specs.World.{Breaks, StandsFor, disk_of, setup_of};
+ghost use Rattle.cct_world.specs.World.{Breaks, StandsFor, disk_of, setup_of, used_of};
 ghost use Rattle.cct_bench.specs.Lines.{Came, EndsAt, IsNext};
 ghost use Rattle.cct_bench.specs.Disks.{Always, Books, IsReady, disks};
 ghost use Rattle.cct_world.specs.Sure.{Sure};
-ghost use Rattle.cct_bench.specs.Going.{Going, WorldHolds};
+ghost use Rattle.cct_bench.specs.Going.{Going};
 ghost use Rattle.cct_bench.specs.SetupLines.{TookOpening, TookSetup};
 ghost use Rattle.cct_text.specs.Writing.{Writes, Wrote, Broke, IsNothing, NeverBroke};
 ghost use Rattle.cct_bench.specs.Playing.{CanPlay, PlaysOn};
@@ -181,14 +182,15 @@ impl Page {
         requires size { D.size (disk_of world) ≡ JOURNAL_BYTES }
         ensures plays { IfOk result (λ next. PlaysOn (IsTrusted D.honest D.seen (disk_of world.entry))
             (StandsFor world.entry) (StandsFor next) (setup_of world.entry) step.now (D.cuts (disk_of world.entry))
-            (D.cuts (disk_of next)) (λ report. Writes K.written K.puts out.old report (Ok tt) out.new)) }
+            (D.cuts (disk_of next)) (used_of world.entry) (used_of next) (D.seen (disk_of next))
+            (λ report. Writes K.written K.puts out.old report (Ok tt) out.new)) }
         ensures setup { IfOk result (λ next. setup_of next ≡ setup_of world.entry) }
 
         // how the run ends
-        ensures ended { IfErr result (λ e. ((e.0 ≡ Ending.Unwritten) × (failed : Failed)
+        ensures ended { IfErr result (λ e. ((e.0 ≡ Ending.Unwritten) × (failed : Failed) × (many : ℕ)
             × PlaysOn (IsTrusted D.honest D.seen (disk_of world.entry)) (StandsFor world.entry)
             (Books D.honest D.seen D.may_leave e.1) (setup_of world.entry) step.now (D.cuts (disk_of world.entry))
-            (D.cuts e.1) (λ report. Writes K.written K.puts out.old report (Err failed) out.new))
+            (D.cuts e.1) (used_of world.entry) many (D.seen e.1) (λ report. Writes K.written K.puts out.old report (Err failed) out.new))
             ⊎ ((why : WorldNo) × (e.0 ≡ unplayed_by why) × Breaks world.entry e.1 why step.now × (out.new ≡ out.old))) }
         ensures memory { IfErr result (λ e. e.0 ≢ Ending.NoMemory) }
         ensures unread { IfErr result (λ e. e.0 ≢ Ending.Unread) }

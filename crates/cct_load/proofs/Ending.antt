@@ -14,17 +14,18 @@ use Rattle.cct_journal.specs.Stands.{Leaves, Outlasts}
 use Rattle.cct_journal.proofs.Calls.{settled_leaves, stands_settled}
 use Rattle.cct_world.specs.declared.refusal.WorldNo.{WorldNo}
 use Rattle.cct_world.specs.declared.world.World.{World}
+use Rattle.cct_world.specs.Restarts.{AtLosses, Restarted}
 use Rattle.cct_world.specs.Step.{RoseBy, crashes}
 use Rattle.cct_world.specs.World.{StandsFor, disk_of, setup_of}
 use Rattle.cct_world.proofs.Lasting.{trusted_on}
-use Rattle.cct_world.proofs.Told.{rose_none}
+use Rattle.cct_world.proofs.Sure.{rose_none}
 use Rattle.cct_gen.specs.Load.{line_at, lines_before, load_setup, load_steps}
 use Rattle.cct_load.specs.declared.load.Load.{Load}
 use Rattle.cct_load.specs.declared.load.LoadEnd.{LoadEnd}
 use Rattle.cct_load.specs.declared.load.LoadEnd.TheVariants as load_end
 use Rattle.cct_load.specs.declared.sums.LoadSums.{LoadSums}
 use Rattle.cct_load.specs.Sums.{sums_of}
-use Rattle.cct_load.specs.Played.{Became, Book, Ends, HasTrusted, PlayedLines, PlaysLoad, StoppedWithin, Told}
+use Rattle.cct_load.specs.Played.{Became, Book, Ends, HasTrusted, PlayedLines, PlaysLoad, RestartsAt, StoppedWithin, Told}
 use Rattle.cct_load.specs.Played.{first_line}
 use Rattle.cct_load.proofs.Lines.{lines_behind}
 
@@ -51,6 +52,7 @@ module _ {D : Type 0} {g : Ghosts D} (world : World D g) (load : Load) (left : D
     losses = refl;
     ends = inl (refl, breaks);
     book = λ trusted. world_leaves world left [] is fresh trusted;
+    restarts = refl;
     cut = subst (λ disk. RoseBy 0 (g.cuts (disk_of world)) (g.cuts disk)) (sym is)
         (rose_none 0 (g.cuts (disk_of world)) refl);
     uncut = λ none quiet. ap g.cuts is;
@@ -72,6 +74,7 @@ module _ {D : Type 0} {g : Ghosts D} (world : World D g) (load : Load) (left : D
         losses = lines.losses;
         ends = (lines.holds.fails, wrote);
         book = lines.holds.book;
+        restarts = lines.holds.restarts;
         cut = lines.holds.cut;
         uncut = lines.holds.uncut;
       }
@@ -88,7 +91,7 @@ module _ {D : Type 0} {g : Ghosts D} (world : World D g) (load : Load) (left : D
     abbrev past : List Entry
     past = onto [] lines.transcript
 
-    ends_by : (how : LoadEnd) → Ends world load how steps [] past Written Breaks
+    ends_by : (how : LoadEnd) → Ends world left load how steps [] past Written Breaks
         → (HasTrusted world → Book world left how [] past) → PlaysLoad world load how left Written Breaks
     ends_by how ends book = record {
       played = steps;
@@ -99,19 +102,22 @@ module _ {D : Type 0} {g : Ghosts D} (world : World D g) (load : Load) (left : D
       losses = lines.losses;
       ends = ends;
       book = book;
-      cut = subst (λ disk. RoseBy (crashes past) (g.cuts (disk_of world)) (g.cuts disk)) (sym is) lines.holds.cut;
-      uncut = λ none quiet. ap g.cuts is ∙ lines.holds.uncut none;
+      restarts = subst (λ disk. RestartsAt world disk past) (sym is)
+          (subst (λ setup. AtLosses (Restarted g.size g.honest g.seen g.cuts setup (disk_of world) (disk_of next)) past)
+          same lines.holds.so.restarts);
+      cut = subst (λ disk. RoseBy (crashes past) (g.cuts (disk_of world)) (g.cuts disk)) (sym is) lines.holds.so.cut;
+      uncut = λ none quiet. ap g.cuts is ∙ lines.holds.so.uncut none;
     }
 
     leaves_all : HasTrusted world → Leaves g.honest g.seen g.may_leave left (reverse (records past))
     leaves_all trusted =
-        world_leaves next left past is (lines.holds.stands (inl trusted))
+        world_leaves next left past is (lines.holds.so.stands (inl trusted))
         (trusted_on g.size g.honest g.seen g.cuts (disk_of world) (disk_of next) lasts trusted)
 
     tells_all : (Wrote : List Entry → Type 0) → Wrote (sums_of steps past ++ entry.Balance told ∷ [])
         → Told world steps past Wrote
     tells_all Wrote wrote =
-        (told, λ relies. tells past (lines.holds.stands relies) ∙ ap (λ setup. totals setup past) same, wrote)
+        (told, λ relies. tells past (lines.holds.so.stands relies) ∙ ap (λ setup. totals setup past) same, wrote)
 
     pub done : Written (first_line load ∷ (sums_of steps past ++ entry.Balance told ∷ []))
         → PlaysLoad world load load_end.Done left Written Breaks

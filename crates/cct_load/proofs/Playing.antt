@@ -1,5 +1,5 @@
 -- What the playing of a load keeps from line to line, and what it leaves where it stops.
-use Rattle.std.proofs.Common.{◌≡◌, ◌≤◌, ◌<◌, ◌+◌, ℕ, List, [], ◌∷◌, ◌++◌, reverse, Some, refl, sym, ap, ◌∙◌, subst}
+use Rattle.std.proofs.Common.{◌≡◌, ◌≤◌, ◌<◌, ◌+◌, ℕ, List, [], ◌∷◌, ◌++◌, length, reverse, Some, refl, sym, ap, ◌∙◌, subst}
 use Rattle.std.proofs.Common.{inl, arith, add-one}
 use Rattle.cct_model.specs.lines.command.Step.{Step}
 use Rattle.cct_model.specs.lines.command.Step.TheVariants as step
@@ -18,13 +18,15 @@ use Rattle.cct_world.specs.declared.refusal.WorldNo.{WorldNo}
 use Rattle.cct_world.specs.declared.refusal.WorldNo.TheVariants as world_no
 use Rattle.cct_world.specs.declared.world.World.{World}
 use Rattle.cct_world.specs.Machine.{FailsIn, LosesIn, StepSuits}
+use Rattle.cct_world.specs.Restarts.{AtLosses, LosesAt, Restarted}
 use Rattle.cct_world.specs.Step.{LastsIn, RoseBy, crashes, crashes_of}
-use Rattle.cct_world.specs.Sure.{IsCrash, MayFail, due_to, losses_in}
-use Rattle.cct_world.specs.World.{Breaks, Plays, StandsFor, capacity_in, disk_of, setup_of}
+use Rattle.cct_world.specs.Sure.{MayFail, due_to, losses_in}
+use Rattle.cct_world.specs.World.{Breaks, Plays, RestartsBy, StandsFor, capacity_in, disk_of, setup_of, used_of}
+use Rattle.cct_world.proofs.Holding.{holds_first, loses_at, world_on}
 use Rattle.cct_world.proofs.Lasting.{lasts_here, lasts_in, lasts_then, trusted_on, uncut_in}
+use Rattle.cct_world.proofs.Restarts.{losses_last}
 use Rattle.cct_world.proofs.Suiting.{legal_suits}
-use Rattle.cct_world.proofs.Sure.{crashes_none, cut_on, losses_more, sure_back, sure_survives, uncut_on}
-use Rattle.cct_world.proofs.Told.{rose_none}
+use Rattle.cct_world.proofs.Sure.{crashes_none, losses_more, sure_back, sure_survives}
 use Rattle.cct_gen.specs.Load.{line_at, lines_before, load_setup}
 use Rattle.cct_gen.proofs.LoadSetup.{setup_sound}
 use Rattle.cct_gen.proofs.Lines.{lines_in_range, one_line_more}
@@ -53,7 +55,11 @@ module _ {D : Type 0} {g : Ghosts D} (world : World D g) where
       transcript = [];
       legal = λ relies. refl;
       losses = refl;
-      holds = record { stands = λ relies. fresh; counted = counted; cut = rose_none 0 _ refl; uncut = λ none. refl };
+      holds = record {
+        so = holds_first g.size g.honest g.seen g.cuts (setup_of world) (disk_of world) (StandsFor world)
+            (disk_of world) (used_of world) refl fresh.host.keeps.used (λ sure. fresh) [] refl;
+        counted = counted;
+      };
     };
     setup = setup;
     lasts = lasts_here g.size g.honest g.seen g.cuts (disk_of world);
@@ -82,7 +88,7 @@ module _ {D : Type 0} {g : Ghosts D} (world : World D g) where
       let survives =
       sure_survives (HasTrusted world) (HasTrusted now)
       (trusted_on g.size g.honest g.seen g.cuts (disk_of world) (disk_of now) goes.lasts) news past s told relies in
-      let goes_so = plays past (goes.lines.holds.stands here) (suits now sums seed n goes here s) survives in
+      let goes_so = plays past (goes.lines.holds.so.stands here) (suits now sums seed n goes here s) survives in
       let by_setup : Entries (capacity_in now) load_setup past s news =
       subst (λ setup. Entries (capacity_in now) setup past s news) goes.setup goes_so.0 in
       (subst (λ size. Entries (capacity_of size) load_setup past s news) goes.lasts.same_size by_setup, goes_so.1)
@@ -92,13 +98,15 @@ module _ {D : Type 0} {g : Ghosts D} (world : World D g) where
       → s ≡ line_at seed n → Goes now sums seed n → Plays now next s report
       → crashes (reverse report) ≡ crashes_of s
       → RoseBy (crashes_of s) (g.cuts (disk_of now)) (g.cuts (disk_of next))
+      → used_of next ≡ used_of now + length (records (reverse report))
+      → RestartsBy now next s (reverse report)
       → setup_of next ≡ setup_of now
       → LastsIn s g.size g.honest g.seen g.cuts (disk_of now) (disk_of next)
       → g.faults (disk_of now) ≤ g.faults (disk_of next)
       → ((played : List Step) (past : List Entry) (s : Step) → SumsUp sums played past
       → SumsUp sums1 (played ++ s ∷ []) (reverse report ++ past))
       → Goes next sums1 seed (n + 1)
-  goes_on now next sums sums1 seed n s report is goes plays told cut same lasts later counts =
+  goes_on now next sums sums1 seed n s report is goes plays told cut many restarts same lasts later counts =
       let t = goes.lines.transcript in
       let past = onto [] t in
       let news = reverse report in
@@ -117,14 +125,10 @@ module _ {D : Type 0} {g : Ghosts D} (world : World D g) where
           losses = ap crashes on ∙ losses_more (lines_before seed n) news past s goes.lines.losses told
               ∙ ap losses_in (sym more);
           holds = subst (Became world next sums1 seed (n + 1)) (sym on) (record {
-            stands = λ relies. (entries relies).1;
+            so = world_on (disk_of world) now next s news past goes.lasts lasts told cut many restarts same
+                (λ relies. (entries relies).1) before.so;
             counted = subst (λ steps. SumsUp sums1 steps (news ++ past)) (sym more)
                 (counts (lines_before seed n) past s before.counted);
-            cut = cut_on news past (g.cuts (disk_of world)) (g.cuts (disk_of now)) (g.cuts (disk_of next))
-                (crashes_of s) before.cut told cut;
-            uncut = uncut_on news past (g.cuts (disk_of world)) (g.cuts (disk_of now)) (g.cuts (disk_of next))
-                (crashes_of s) before.uncut told
-                (uncut_in g.size g.honest g.seen g.cuts s (disk_of now) (disk_of next) lasts);
           });
         };
         setup = same ∙ goes.setup;
@@ -143,13 +147,12 @@ module _ {D : Type 0} {g : Ghosts D} (world : World D g) where
     disk_fails (step.Crash at choice) breaks = tt
     disk_fails s breaks = absurd breaks
 
-    is_lost : (s : Step) → LosesIn now.machine.value s → IsCrash s
-    is_lost (step.Crash at choice) breaks = tt
-    is_lost s breaks = absurd breaks
-
-    fails_at : (why : WorldNo) (s : Step) → Breaks now left why s → FailsAt world why past s
-    fails_at world_no.Disk s breaks = disk_fails s breaks
-    fails_at why s breaks = is_lost s breaks
+    fails_at : (why : WorldNo) (s : Step) → used_of now ≡ length (records past) → Breaks now left why s
+        → FailsAt world left why past s
+    fails_at world_no.Disk s many breaks = disk_fails s breaks
+    fails_at why s many breaks =
+        subst (λ setup. LosesAt (Relies world past) setup past (g.seen left) why s) same
+        (loses_at (Relies world past) now left why past s stands many breaks)
 
     disk_leaves : (s : Step) → HasTrusted world → IsTrusted g.honest g.seen (disk_of now)
         → FailsIn now.machine.value left s
@@ -164,15 +167,15 @@ module _ {D : Type 0} {g : Ghosts D} (world : World D g) where
         same (breaks past (stands (inl given)) trusted)
     disk_leaves s given trusted breaks = absurd breaks
 
-    never_lost : (s : Step) → HasTrusted world → IsTrusted g.honest g.seen (disk_of now)
-        → StepSuits (setup_of now) past s → LosesIn now.machine.value s → ⊥
-    never_lost (step.Crash at choice) given trusted here breaks = breaks past (stands (inl given)) here trusted
-    never_lost s given trusted here breaks = breaks
+    never_lost : (why : WorldNo) (s : Step) → HasTrusted world → IsTrusted g.honest g.seen (disk_of now)
+        → StepSuits (setup_of now) past s → LosesIn now.machine.value left why s → ⊥
+    never_lost why (step.Crash at choice) given trusted here breaks = breaks.0 past (stands (inl given)) here trusted
+    never_lost why s given trusted here breaks = breaks
 
     left_at : (why : WorldNo) (s : Step) → HasTrusted world → IsTrusted g.honest g.seen (disk_of now)
         → StepSuits (setup_of now) past s → Breaks now left why s → LeftAt world left why past s
     left_at world_no.Disk s given trusted here breaks = disk_leaves s given trusted breaks
-    left_at why s given trusted here breaks = never_lost s given trusted here breaks
+    left_at why s given trusted here breaks = never_lost why s given trusted here breaks
 
   -- a line wasn't played
   pub goes_stops : (now : World D g) (left : D) (why : WorldNo) (sums : LoadSums) (seed n lines : ℕ) (s : Step)
@@ -181,7 +184,7 @@ module _ {D : Type 0} {g : Ghosts D} (world : World D g) where
       → StoppedWithin world seed lines left why
   goes_stops now left why sums seed n lines s within is goes breaks lasts =
       let past = onto [] goes.lines.transcript in
-      let before = goes.lines.holds in
+      let before = goes.lines.holds.so in
       let outlasts = lasts_in g.size g.honest g.seen g.cuts s (disk_of now) left lasts in (
         n,
         within,
@@ -190,10 +193,14 @@ module _ {D : Type 0} {g : Ghosts D} (world : World D g) where
           legal = goes.lines.legal;
           losses = goes.lines.losses;
           holds = subst (λ x. Stopped world left why x past) is (record {
-            fails = fails_at now left past goes.setup before.stands why s breaks;
+            fails = fails_at now left past goes.setup before.stands why s before.counts breaks;
             book = λ given. left_at now left past goes.setup before.stands why s given
                 (trusted_on g.size g.honest g.seen g.cuts (disk_of world) (disk_of now) goes.lasts given)
                 (suits now sums seed n goes (inl given) s) breaks;
+            restarts = subst (λ setup. AtLosses (Restarted g.size g.honest g.seen g.cuts setup (disk_of world) left) past)
+                goes.setup
+                (losses_last g.size g.honest g.seen g.cuts (setup_of now) (disk_of world) (disk_of now) left past
+                outlasts before.restarts);
             cut = rose_later (crashes past) (g.cuts (disk_of world)) (g.cuts (disk_of now)) (g.cuts left) before.cut
                 outlasts.later_cuts;
             uncut = λ none quiet.

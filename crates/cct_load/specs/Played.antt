@@ -14,9 +14,11 @@ use Rattle.cct_journal.specs.Losing.{LeavesWith}
 use Rattle.cct_world.specs.declared.refusal.WorldNo.{WorldNo}
 use Rattle.cct_world.specs.declared.refusal.WorldNo.TheVariants as world_no
 use Rattle.cct_world.specs.declared.world.World.{World}
+use Rattle.cct_world.specs.Holds.{WorldHolds}
+use Rattle.cct_world.specs.Restarts.{AtLosses, LosesAt, Restarted}
 use Rattle.cct_world.specs.Step.{RoseBy, crashes}
 use Rattle.cct_world.specs.Sure.{First, IsCrash, MayFail, Sure, due_to, losses_in}
-use Rattle.cct_world.specs.World.{StandsFor, capacity_in, disk_of}
+use Rattle.cct_world.specs.World.{capacity_in, disk_of}
 use Rattle.cct_gen.specs.Load.{line_at, lines_before, load_setup, load_steps}
 use Rattle.cct_load.specs.declared.load.Load.{Load}
 use Rattle.cct_load.specs.declared.load.LoadEnd.{LoadEnd}
@@ -46,20 +48,22 @@ module _ {D : Type 0} {g : Ghosts D} (world : World D g) where
     pub losses : crashes (onto [] transcript) ≡ losses_in (lines_before seed n)
     pub holds : Holds (onto [] transcript)
 
-  -- What is so after a past, where so many lines of a load were played and the world became another: that one stands
-  -- for the past, where it may be relied on; the sums are those of the steps and of the past; and the power of the disk
-  -- was cut as often as the past tells, and never where that tells no loss of power.
+  -- What is so after a past, where so many lines of a load were played and the world became another: what holds of a
+  -- world behind a run; and the sums are those of the steps and of the past.
   pub record Became (next : World D g) (sums : LoadSums) (seed n : ℕ) (past : List Entry) : Type 0 where
-    pub stands : Relies past → StandsFor next past
+    pub so : WorldHolds (disk_of world) next past
     pub counted : SumsUp sums (lines_before seed n) past
-    pub cut : RoseBy (crashes past) (g.cuts (disk_of world)) (g.cuts (disk_of next))
-    pub uncut : crashes past ≡ 0 → g.cuts (disk_of next) ≡ g.cuts (disk_of world)
 
-  -- Why the step behind a past wasn't played: the disk failed in a `next` that was about to put a record, or in a loss
-  -- of power; or the disk isn't the one that it was, which comes in a loss of power alone.
-  abbrev pub FailsAt : WorldNo → List Entry → Step → Type 0
-  FailsAt world_no.Disk past s = MayFail (Relies past) load_setup past s
-  FailsAt why past s = IsCrash s
+  -- Behind each loss of power that a past tells, the disk had a journal of as many records as are told, until it became
+  -- this one.
+  abbrev pub RestartsAt : D → List Entry → Type 0
+  RestartsAt left = AtLosses (Restarted g.size g.honest g.seen g.cuts load_setup (disk_of world) left)
+
+  -- Why the step behind a past wasn't played, where this disk is left: it failed in a `next` that was about to put a
+  -- record, or in a loss of power; or it isn't the one that it was, which comes in a loss of power alone, and is told.
+  abbrev pub FailsAt : D → WorldNo → List Entry → Step → Type 0
+  FailsAt left world_no.Disk past s = MayFail (Relies past) load_setup past s
+  FailsAt left why past s = LosesAt (Relies past) load_setup past (g.seen left) why s
 
   -- What a loss of power may leave on this disk, where the step behind a past wasn't played: each image stands for the
   -- records of the past, or, where a record was due, for these or for these and that record. Any reason but that the
@@ -71,8 +75,9 @@ module _ {D : Type 0} {g : Ghosts D} (world : World D g) where
 
   -- The step behind a past wasn't played, for this reason, and this disk is left.
   pub record Stopped (left : D) (why : WorldNo) (s : Step) (past : List Entry) : Type 0 where
-    pub fails : FailsAt why past s
+    pub fails : FailsAt left why past s
     pub book : HasTrusted → LeftAt left why past s
+    pub restarts : RestartsAt left past
     pub cut : RoseBy (crashes past) (g.cuts (disk_of world)) (g.cuts left)
     pub uncut : crashes past ≡ 0 → (IsCrash s → ⊥) → g.cuts left ≡ g.cuts (disk_of world)
 
@@ -91,15 +96,15 @@ module _ {D : Type 0} {g : Ghosts D} (world : World D g) where
   -- What is written of a load, by how it ended: its first line, and what stands behind its steps, where all of them
   -- were played; where a put failed, a front of the first line, before any step was played, or that line and a front of
   -- what stands behind all steps; and the first line alone where a step wasn't played.
-  abbrev pub Ends : Load → LoadEnd → List Step → List Step → List Entry → (List Entry → Type 0)
+  abbrev pub Ends : D → Load → LoadEnd → List Step → List Step → List Entry → (List Entry → Type 0)
       → (List Entry → List Entry → Type 0) → Type 0
-  Ends load load_end.Done played unplayed past Written Breaks =
+  Ends left load load_end.Done played unplayed past Written Breaks =
       (unplayed ≡ []) × Told played past (λ sums. Written (first_line load ∷ sums))
-  Ends load load_end.Unwritten played unplayed past Written Breaks =
+  Ends left load load_end.Unwritten played unplayed past Written Breaks =
       ((played ≡ []) × Breaks [] (first_line load ∷ []))
       ⊎ ((unplayed ≡ []) × Told played past (Breaks (first_line load ∷ [])))
-  Ends load (load_end.Unplayed why) played unplayed past Written Breaks =
-      First (FailsAt why past) unplayed × Written (first_line load ∷ [])
+  Ends left load (load_end.Unplayed why) played unplayed past Written Breaks =
+      First (FailsAt left why past) unplayed × Written (first_line load ∷ [])
 
   -- What a loss of power may leave on this disk, by how a load ended.
   abbrev pub Book : D → LoadEnd → List Step → List Entry → Type 0
@@ -109,8 +114,9 @@ module _ {D : Type 0} {g : Ghosts D} (world : World D g) where
   -- A load was played on the world, ended so, and left this disk: the steps that were played and those that weren't;
   -- the transcript, whose entries are those of the steps, where its past may be relied on; what was written, where
   -- `Written` holds of entries that were written whole, and `Breaks` where a put failed in the second list; and what
-  -- the disk keeps where it was trusted. Its power was cut as often as the transcript tells, and never where that tells
-  -- no loss of power and the first step that wasn't played is none.
+  -- the disk keeps where it was trusted. Behind each loss of power that the transcript tells, the disk had a journal of
+  -- as many records as are told; its power was cut as often as the transcript tells, and never where that tells no loss
+  -- of power and the first step that wasn't played is none.
   pub record PlaysLoad (load : Load) (how : LoadEnd) (left : D) (Written : List Entry → Type 0)
       (Breaks : List Entry → List Entry → Type 0) : Type 0 where
     pub played : List Step
@@ -119,8 +125,9 @@ module _ {D : Type 0} {g : Ghosts D} (world : World D g) where
     pub steps_are : load_steps load.seed load.rounds ≡ played ++ unplayed
     pub legal : Relies (onto [] transcript) → Legal (capacity_in world) load_setup played transcript
     pub losses : crashes (onto [] transcript) ≡ losses_in played
-    pub ends : Ends load how played unplayed (onto [] transcript) Written Breaks
+    pub ends : Ends left load how played unplayed (onto [] transcript) Written Breaks
     pub book : HasTrusted → Book left how unplayed (onto [] transcript)
+    pub restarts : RestartsAt left (onto [] transcript)
     pub cut : RoseBy (crashes (onto [] transcript)) (g.cuts (disk_of world)) (g.cuts left)
     pub uncut : crashes (onto [] transcript) ≡ 0 → (First IsCrash unplayed → ⊥)
         → g.cuts left ≡ g.cuts (disk_of world)

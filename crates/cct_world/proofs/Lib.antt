@@ -1,7 +1,8 @@
+pub mod Holding
 pub mod Lasting
+pub mod Restarts
 pub mod Suiting
 pub mod Sure
 pub mod Steps
 pub mod Suited
-pub mod Told
 pub mod Wires

@@ -2,7 +2,7 @@
 use Rattle.std.proofs.Common.{◌≡◌, ◌+◌, ◌++◌, ◌≤◌, ℕ, List, [], ◌∷◌, refl, sym, ap, ◌∙◌, inl, inr, subst, arith}
 use Rattle.std.proofs.Common.{zero-add}
 use Rattle.std.specs.Prelude.{min}
-use Rattle.std.proofs.Math.Nat.{add_assoc}
+use Rattle.std.proofs.Math.Nat.{add_assoc, min-le_left}
 use Rattle.std.proofs.lemmas.Bool.Decides.{nat_tests}
 use Rattle.cct_model.specs.lines.command.Step.{Step}
 use Rattle.cct_model.specs.lines.command.Step.TheVariants as step
@@ -47,15 +47,24 @@ sure_survives given trusted on news past (step.Crash at choice) told (inr none) 
     absurd (omega (arith, none, told, crashes-append news past))
 sure_survives given trusted on news past s told sure = tt
 
+-- a count that stays
+pub rose_none : (many count : ℕ) → many ≡ 0 → RoseBy many count count
+rose_none many count none =
+    let same : count ≡ count + many = omega (arith, none) in
+    subst (λ n. min n last_count ≤ count) same (min-le_left count last_count)
+
 -- a count that rose by so many, and then by more
 min_on : (a b c m n top : ℕ) → min (a + m) top ≤ b → min (b + n) top ≤ c → min (a + (n + m)) top ≤ c
 min_on a b c m n top first second = grind (arith, nat_tests, first, second)
+
+pub rose_on : (m n first old new : ℕ) → RoseBy m first old → RoseBy n old new → RoseBy (n + m) first new
+rose_on m n first old new before cut = min_on first old new m n last_count before cut
 
 pub cut_on : (news past : List Entry) (first old new many : ℕ) → RoseBy (crashes past) first old
     → crashes news ≡ many → RoseBy many old new → RoseBy (crashes (news ++ past)) first new
 cut_on news past first old new many before told cut =
     let both : many + crashes past ≡ crashes (news ++ past) = omega (arith, crashes-append news past, told) in
-    subst (λ n. RoseBy n first new) both (min_on first old new (crashes past) many last_count before cut)
+    subst (λ n. RoseBy n first new) both (rose_on (crashes past) many first old new before cut)
 
 pub uncut_on : (news past : List Entry) (first old new many : ℕ) → (crashes past ≡ 0 → old ≡ first)
     → crashes news ≡ many → (many ≡ 0 → new ≡ old) → crashes (news ++ past) ≡ 0 → new ≡ first

@@ -1,6 +1,7 @@
 -- A host and a bus that stand for all that happened on them.
-use Rattle.std.specs.Prelude.{◌≡◌, Bool, ℕ, List, ◌++◌, Some, reverse, ⊤}
+use Rattle.std.specs.Prelude.{◌≡◌, Bool, ℕ, List, [], ◌++◌, Option, Some, reverse, ⊤}
 use Rattle.cct_model.specs.terms.device.Setup.{Setup}
+use Rattle.cct_model.specs.lines.command.CrashAt.{CrashAt}
 use Rattle.cct_model.specs.lines.command.Step.{Step}
 use Rattle.cct_model.specs.lines.command.Step.TheVariants as step
 use Rattle.cct_model.specs.lines.record.Record.{Record}
@@ -12,12 +13,14 @@ use Rattle.cct_disk.specs.Disk.{IsTrusted}
 use Rattle.cct_journal.specs.Losing.{LeavesWith}
 use Rattle.cct_journal.specs.Stands.{LeavesOneOf}
 use Rattle.cct_bus.specs.Bus as wires
+use Rattle.cct_journal.specs.Journal as journals
 use Rattle.cct_laws.specs.Restart.{CrashSuits, due_in}
 use Rattle.cct_host.specs.Host as hosts
 use Rattle.cct_host.specs.Host.{PutSuits}
 use Rattle.cct_world.specs.declared.machine.Machine.{Machine}
 use Rattle.cct_world.specs.declared.refusal.WorldNo.{WorldNo}
 use Rattle.cct_world.specs.declared.refusal.WorldNo.TheVariants as world_no
+use Rattle.cct_world.specs.Restarts.{Loses, Restarts, kept_in}
 
 -- What a step takes for granted of the past: of a `next`, that the record that it puts, if it puts one, suits the
 -- records before it; and of a loss of power, that the records follow one another, with the one whose put it interrupts.
@@ -45,6 +48,10 @@ module _ {D : Type 0} {g : Ghosts D} where
   -- A put of its journal failed.
   abbrev pub has_failed : Machine D g → Bool
   has_failed machine = hosts.has_failed machine.host
+
+  -- How many records its journal has.
+  abbrev pub used_of : Machine D g → ℕ
+  used_of machine = journals.used_of (hosts.journal_of machine.host)
 
   -- How many records its journal takes.
   abbrev pub capacity_in : Machine D g → ℕ
@@ -79,13 +86,27 @@ module _ {D : Type 0} {g : Ghosts D} where
       → LeavesWith g.honest g.seen g.may_leave left (due_in (setup_of old) past at) (reverse (records past))
   FailsIn old left s = ⊥
 
-  -- What a loss of power left isn't what stood on the disk. That is told of no other step, and never of a trusted disk.
-  abbrev pub LosesIn : Machine D g → Step → Type 0
-  LosesIn old (step.Crash at choice) =
-      (past : List Entry) → StandsFor old past → CrashSuits (setup_of old) past at → HasTrusted old → ⊥
-  LosesIn old s = ⊥
+  -- This record, or none, was due where a loss of power comes, as any past tells that the machine stands for.
+  abbrev pub IsDue : Machine D g → Option CrashAt → Option Record → Type 0
+  IsDue machine at due = (past : List Entry) → StandsFor machine past → due ≡ due_in (setup_of machine) past at
+
+  -- What a loss of power left isn't what stood on the disk, and this is why. That is told of no other step, and never of
+  -- a trusted disk.
+  abbrev pub LosesIn : Machine D g → D → WorldNo → Step → Type 0
+  LosesIn old left why (step.Crash at choice) =
+      ((past : List Entry) → StandsFor old past → CrashSuits (setup_of old) past at → HasTrusted old → ⊥)
+      × ((due : Option Record) × IsDue old at due × Loses (setup_of old) (used_of old) due (g.seen left) why)
+  LosesIn old left why s = ⊥
+
+  -- What the disk has behind a step that was played, where that is a loss of power, and what is told of it, newest entry
+  -- first. Any other step tells no record as kept.
+  abbrev pub RestartsBy : Machine D g → Machine D g → Step → List Entry → Type 0
+  RestartsBy old new (step.Crash at choice) news =
+      (due : Option Record) × IsDue old at due
+      × Restarts (setup_of old) due (used_of old) (used_of new) (g.seen (disk_of new)) news
+  RestartsBy old new s news = kept_in news ≡ []
 
   -- Why a step wasn't played, where this disk is left.
   abbrev pub Breaks : Machine D g → D → WorldNo → Step → Type 0
   Breaks old left world_no.Disk s = FailsIn old left s
-  Breaks old left why s = LosesIn old s
+  Breaks old left why s = LosesIn old left why s

@@ -17,6 +17,10 @@ module _ {D : Type 0} {g : Ghosts D} where
   abbrev pub disk_of : World D g → D
   disk_of world = machines.disk_of world.machine.value
 
+  -- How many records its journal has.
+  abbrev pub used_of : World D g → ℕ
+  used_of world = machines.used_of world.machine.value
+
   -- How many records its journal takes.
   abbrev pub capacity_in : World D g → ℕ
   capacity_in world = machines.capacity_in world.machine.value
@@ -29,6 +33,11 @@ module _ {D : Type 0} {g : Ghosts D} where
   -- and the world goes on by them. A loss of power does so on a trusted disk.
   abbrev pub Plays : World D g → World D g → Step → List Entry → Type 0
   Plays old new s report = machines.Plays old.machine.value new.machine.value s report
+
+  -- What the disk has behind a step that was played, where that is a loss of power, and what is told of it, newest entry
+  -- first. Any other step tells no record as kept.
+  abbrev pub RestartsBy : World D g → World D g → Step → List Entry → Type 0
+  RestartsBy old new s news = machines.RestartsBy old.machine.value new.machine.value s news
 
   -- Why a step wasn't played, where this disk is left.
   abbrev pub Breaks : World D g → D → WorldNo → Step → Type 0

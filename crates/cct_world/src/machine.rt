@@ -1,16 +1,18 @@
 //! The machine of a world: the host, and the bus with its devices.
-ghost use Rattle.std.specs.Prelude.{◌≡◌, ◌≢◌, ◌≤◌, [], IfErr, IsTrue, List, OnErr, OnOk, false, is_some, reverse};
+ghost use Rattle.std.specs.Prelude.{◌≡◌, ◌≢◌, ◌≤◌, ◌+◌, [], IfErr, IsTrue, List, OnErr, OnOk, false, is_some, length, reverse};
 ghost use Rattle.cct_model.specs.lines.command.Step.TheVariants as step;
 ghost use Rattle.cct_model.specs.Exchange.{acceptor_there, device_at, hopper_there};
 ghost use Rattle.cct_model.specs.lines.entry.Entry.{Entry};
 ghost use Rattle.cct_model.specs.Legal.{is_played};
 ghost use Rattle.cct_model.specs.Money.{totals};
+ghost use Rattle.cct_model.specs.Records.{records};
 ghost use Rattle.cct_model.specs.Script.{IsCrash, IsFault, IsInRange, is_known};
 ghost use Rattle.cct_bus.specs.Bus as wires;
 ghost use Rattle.cct_edge.specs.Faults.{Rose};
 ghost use Rattle.cct_journal.specs.Stands.{GoesOn, Outlasts};
 ghost use Rattle.cct_host.specs.Host as hosts;
 ghost use Rattle.cct_host.specs.Restarting.{crash_news};
+ghost use Rattle.cct_world.specs.Restarts.{kept_in};
 ghost use Rattle.cct_world.specs.Step.{LastsIn, RoseBy, crashes, crashes_of, entry_of, fall_told, is_next, jam_told, unplayed};
 
 use crate::refusal::WorldNo;
@@ -31,7 +33,7 @@ pub(crate) struct Machine<'s, D: Disk> {
 }
 
 impl<D: Disk> Machine<'_, D> {
-    ghost use Rattle.cct_world.specs.Machine.{Breaks, FailsIn, Plays, StandsFor, disk_of, has_failed, setup_of};
+    ghost use Rattle.cct_world.specs.Machine.{Breaks, FailsIn, Plays, RestartsBy, StandsFor, disk_of, has_failed, setup_of, used_of};
 
     pub fn knows(&self, step: &Step) -> bool
         ensures { result ≡ is_known (setup_of self.now) step.now }
@@ -61,6 +63,9 @@ impl<D: Disk> Machine<'_, D> {
         ensures plays { OnOk result (Plays self.old self.new step.now report.new.items) }
         ensures empty { OnErr result (report.new.items ≡ []) }
         ensures told { OnOk result (crashes (reverse report.new.items) ≡ crashes_of step.now) }
+        ensures counts { OnOk result
+            (used_of self.new ≡ used_of self.old + length (records (reverse report.new.items))) }
+        ensures restarts { OnOk result (RestartsBy self.old self.new step.now (reverse report.new.items)) }
         ensures cut { OnOk result
             (RoseBy (crashes_of step.now) (D.cuts (disk_of self.old)) (D.cuts (disk_of self.new))) }
         ensures breaks { IfErr result (λ why. Breaks self.old (disk_of self.new) why step.now) }
@@ -94,10 +99,11 @@ impl<D: Disk> Machine<'_, D> {
         requires no_crash { crashes_of step.now ≡ 0 }
         requires report { report.old.items ≡ [] }
         ensures setup { setup_of self.new ≡ setup_of self.old }
-        ensures whole { has_failed self.new ≡ has_failed self.old }
-        ensures disk { disk_of self.new ≡ disk_of self.old }
+        ensures journal { hosts.journal_of self.new.host ≡ hosts.journal_of self.old.host }
         ensures plays { Plays self.old self.new step.now report.new.items }
         ensures told { crashes (reverse report.new.items) ≡ 0 }
+        ensures recorded { records (reverse report.new.items) ≡ [] }
+        ensures restarts { RestartsBy self.old self.new step.now (reverse report.new.items) }
     {
         match step {
             Step::Coin { addr, place } => self.coin(*addr, *place, report),
@@ -130,6 +136,10 @@ impl<D: Disk> Machine<'_, D> {
         ensures plays { OnOk result (Plays self.old self.new (step.Crash at choice) report.new.items) }
         ensures empty { OnErr result (report.new.items ≡ []) }
         ensures told { OnOk result (crashes (reverse report.new.items) ≡ 1) }
+        ensures counts { OnOk result
+            (used_of self.new ≡ used_of self.old + length (records (reverse report.new.items))) }
+        ensures restarts { OnOk result
+            (RestartsBy self.old self.new (step.Crash at choice) (reverse report.new.items)) }
         ensures cut { OnOk result (RoseBy 1 (D.cuts (disk_of self.old)) (D.cuts (disk_of self.new))) }
         ensures breaks { IfErr result (λ why. Breaks self.old (disk_of self.new) why (step.Crash at choice)) }
         ensures cause { IfErr result
@@ -155,10 +165,11 @@ impl<D: Disk> Machine<'_, D> {
         requires high { place ≤ COIN_PLACES }
         requires report { report.old.items ≡ [] }
         ensures setup { setup_of self.new ≡ setup_of self.old }
-        ensures whole { has_failed self.new ≡ has_failed self.old }
-        ensures disk { disk_of self.new ≡ disk_of self.old }
+        ensures journal { hosts.journal_of self.new.host ≡ hosts.journal_of self.old.host }
         ensures plays { Plays self.old self.new (step.Coin addr place) report.new.items }
         ensures told { crashes (reverse report.new.items) ≡ 0 }
+        ensures recorded { records (reverse report.new.items) ≡ [] }
+        ensures unkept { kept_in (reverse report.new.items) ≡ [] }
     {
         let inserted = self.bus.coin(addr, place);
         report.push(coin_entry(inserted, addr, place));
@@ -169,10 +180,11 @@ impl<D: Disk> Machine<'_, D> {
         requires there { IsTrue (acceptor_there (device_at (setup_of self.old).devices addr)) }
         requires report { report.old.items ≡ [] }
         ensures setup { setup_of self.new ≡ setup_of self.old }
-        ensures whole { has_failed self.new ≡ has_failed self.old }
-        ensures disk { disk_of self.new ≡ disk_of self.old }
+        ensures journal { hosts.journal_of self.new.host ≡ hosts.journal_of self.old.host }
         ensures plays { Plays self.old self.new (step.Alien addr) report.new.items }
         ensures told { crashes (reverse report.new.items) ≡ 0 }
+        ensures recorded { records (reverse report.new.items) ≡ [] }
+        ensures unkept { kept_in (reverse report.new.items) ≡ [] }
     {
         self.bus.alien(addr);
         report.push(Entry::Alien { addr });
@@ -183,10 +195,11 @@ impl<D: Disk> Machine<'_, D> {
         requires there { IsTrue (hopper_there (device_at (setup_of self.old).devices addr)) }
         requires report { report.old.items ≡ [] }
         ensures setup { setup_of self.new ≡ setup_of self.old }
-        ensures whole { has_failed self.new ≡ has_failed self.old }
-        ensures disk { disk_of self.new ≡ disk_of self.old }
+        ensures journal { hosts.journal_of self.new.host ≡ hosts.journal_of self.old.host }
         ensures plays { Plays self.old self.new (step.Fall addr) report.new.items }
         ensures told { crashes (reverse report.new.items) ≡ 0 }
+        ensures recorded { records (reverse report.new.items) ≡ [] }
+        ensures unkept { kept_in (reverse report.new.items) ≡ [] }
     {
         let does = self.bus.fall(addr);
         report.push(fall_told(does, addr));
@@ -197,10 +210,11 @@ impl<D: Disk> Machine<'_, D> {
         requires there { IsTrue (hopper_there (device_at (setup_of self.old).devices addr)) }
         requires report { report.old.items ≡ [] }
         ensures setup { setup_of self.new ≡ setup_of self.old }
-        ensures whole { has_failed self.new ≡ has_failed self.old }
-        ensures disk { disk_of self.new ≡ disk_of self.old }
+        ensures journal { hosts.journal_of self.new.host ≡ hosts.journal_of self.old.host }
         ensures plays { Plays self.old self.new (step.Jam addr) report.new.items }
         ensures told { crashes (reverse report.new.items) ≡ 0 }
+        ensures recorded { records (reverse report.new.items) ≡ [] }
+        ensures unkept { kept_in (reverse report.new.items) ≡ [] }
     {
         let does = self.bus.jam(addr);
         report.push(jam_told(does, addr));
@@ -211,10 +225,11 @@ impl<D: Disk> Machine<'_, D> {
         requires there { IsTrue (is_some (device_at (setup_of self.old).devices addr)) }
         requires report { report.old.items ≡ [] }
         ensures setup { setup_of self.new ≡ setup_of self.old }
-        ensures whole { has_failed self.new ≡ has_failed self.old }
-        ensures disk { disk_of self.new ≡ disk_of self.old }
+        ensures journal { hosts.journal_of self.new.host ≡ hosts.journal_of self.old.host }
         ensures plays { Plays self.old self.new (step.Reset addr) report.new.items }
         ensures told { crashes (reverse report.new.items) ≡ 0 }
+        ensures recorded { records (reverse report.new.items) ≡ [] }
+        ensures unkept { kept_in (reverse report.new.items) ≡ [] }
     {
         self.bus.reset(addr);
         report.push(Entry::Reset { addr });
@@ -225,10 +240,11 @@ impl<D: Disk> Machine<'_, D> {
         requires in_range { IsFault fault.now }
         requires report { report.old.items ≡ [] }
         ensures setup { setup_of self.new ≡ setup_of self.old }
-        ensures whole { has_failed self.new ≡ has_failed self.old }
-        ensures disk { disk_of self.new ≡ disk_of self.old }
+        ensures journal { hosts.journal_of self.new.host ≡ hosts.journal_of self.old.host }
         ensures plays { Plays self.old self.new (step.Fault fault.now) report.new.items }
         ensures told { crashes (reverse report.new.items) ≡ 0 }
+        ensures recorded { records (reverse report.new.items) ≡ [] }
+        ensures unkept { kept_in (reverse report.new.items) ≡ [] }
     {
         self.bus.set_fault(fault.copied());
         report.push(Entry::Fault(fault.copied()));
@@ -238,10 +254,11 @@ impl<D: Disk> Machine<'_, D> {
     fn command(&mut self, command: &Command, report: &mut ArrayVec<Entry, 8>)
         requires report { report.old.items ≡ [] }
         ensures setup { setup_of self.new ≡ setup_of self.old }
-        ensures whole { has_failed self.new ≡ has_failed self.old }
-        ensures disk { disk_of self.new ≡ disk_of self.old }
+        ensures journal { hosts.journal_of self.new.host ≡ hosts.journal_of self.old.host }
         ensures plays { Plays self.old self.new (step.Command command.now) report.new.items }
         ensures told { crashes (reverse report.new.items) ≡ 0 }
+        ensures recorded { records (reverse report.new.items) ≡ [] }
+        ensures unkept { kept_in (reverse report.new.items) ≡ [] }
     {
         match self.host.command(command) {
             Ok(()) => report.push(Entry::Taken(*command)),
@@ -257,6 +274,8 @@ impl<D: Disk> Machine<'_, D> {
         requires report { report.old.items ≡ [] }
         ensures plays { Plays self.now self.now step.Balance report.new.items }
         ensures told { crashes (reverse report.new.items) ≡ 0 }
+        ensures recorded { records (reverse report.new.items) ≡ [] }
+        ensures unkept { kept_in (reverse report.new.items) ≡ [] }
     {
         report.push(Entry::Balance(self.host.totals()));
     }
@@ -269,6 +288,9 @@ impl<D: Disk> Machine<'_, D> {
         ensures whole { OnOk result (has_failed self.new ≡ false) }
         ensures plays { OnOk result (Plays self.old self.new (step.Next addr) report.new.items) }
         ensures told { OnOk result (crashes (reverse report.new.items) ≡ 0) }
+        ensures counts { OnOk result
+            (used_of self.new ≡ used_of self.old + length (records (reverse report.new.items))) }
+        ensures unkept { OnOk result (kept_in (reverse report.new.items) ≡ []) }
         ensures empty { OnErr result (report.new.items ≡ []) }
         ensures fails { OnErr result (FailsIn self.old (disk_of self.new) (step.Next addr)) }
         ensures cause { OnErr result (Rose (D.faults (disk_of self.old)) (D.faults (disk_of self.new))) }

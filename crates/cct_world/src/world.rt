@@ -1,11 +1,12 @@
 //! The world of a script: the host, and the bus with its devices.
-ghost use Rattle.std.specs.Prelude.{◌≡◌, ◌≢◌, ◌≤◌, [], IfErr, IfOk, IsTrue, MatchResult, OnErr, false, reverse};
+ghost use Rattle.std.specs.Prelude.{◌≡◌, ◌≢◌, ◌≤◌, ◌+◌, [], IfErr, IfOk, IsTrue, MatchResult, OnErr, false, length, reverse};
 ghost use Rattle.cct_model.specs.Legal.{is_played};
 ghost use Rattle.cct_model.specs.Script.{IsInRange, is_known};
 ghost use Rattle.cct_model.specs.Setup.{IsSoundSetup};
 ghost use Rattle.std.specs.Prelude.{List};
 ghost use Rattle.cct_model.specs.lines.entry.Entry.{Entry};
 ghost use Rattle.cct_model.specs.Money.{totals};
+ghost use Rattle.cct_model.specs.Records.{records};
 ghost use Rattle.cct_disk.specs.Disk.{IsTrusted};
 ghost use Rattle.cct_edge.specs.Faults.{Rose};
 ghost use Rattle.cct_journal.specs.Journal as journals;
@@ -32,7 +33,7 @@ pub struct World<'s, D: Disk> {
 }
 
 impl<'s, D: Disk> World<'s, D> {
-    ghost use Rattle.cct_world.specs.World.{Breaks, Plays, StandsFor, disk_of, setup_of};
+    ghost use Rattle.cct_world.specs.World.{Breaks, Plays, RestartsBy, StandsFor, disk_of, setup_of, used_of};
 
     /// A machine with the devices of a setup, on which nothing has happened, over a journal without records. This takes
     /// all memory that the machine ever has.
@@ -91,6 +92,10 @@ impl<'s, D: Disk> World<'s, D> {
         ensures plays { IfOk result (λ world. Plays self.entry world step.now report.new.items) }
         ensures empty { OnErr result (report.new.items ≡ []) }
         ensures told { IfOk result (λ world. crashes (reverse report.new.items) ≡ crashes_of step.now) }
+        ensures counts { IfOk result (λ world.
+            used_of world ≡ used_of self.entry + length (records (reverse report.new.items))) }
+        ensures restarts { IfOk result (λ world.
+            RestartsBy self.entry world step.now (reverse report.new.items)) }
         ensures cut { IfOk result (λ world.
             RoseBy (crashes_of step.now) (D.cuts (disk_of self.entry)) (D.cuts (disk_of world))) }
         ensures breaks { IfErr result (λ e. Breaks self.entry e.0 e.1 step.now) }

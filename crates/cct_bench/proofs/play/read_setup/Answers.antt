@@ -71,7 +71,7 @@ returns-in-Err-clause-ended g c =
     let stage = at_setup c.loop-number.setup in
     played_stopped Always left0 (g.S.Source.left c.loop-number.script) left1 (standing_of c.loop-number.lines).held
     c.loop-number.number stage c.in-Err.why c.ending_at.result IsNothing IsNothing NeverBroke BeforeSteps
-    c.ending_at.ensures (λ how setup taken played unplayed past is nothing. (is, nothing))
+    c.ending_at.ensures (λ how setup taken played unplayed past is there nothing. (is, nothing))
     c.loop-number.invariant.going c.in-Err.ensures.stops
 
 pub loop-number-preserved : goal.loop-number-preserved

@@ -2,14 +2,16 @@ use Rattle.std.proofs.Common.{ap, sym, subst, ◌∙◌}
 use Rattle.cct_model.specs.Script.{at_steps}
 use Rattle.cct_disk.specs.Disk.{IsTrusted}
 use Rattle.cct_journal.specs.Stands.{Outlasts}
-use Rattle.cct_world.specs.World.{StandsFor, disk_of, setup_of}
+use Rattle.cct_world.specs.Holds.{WorldHolds}
+use Rattle.cct_world.specs.World.{StandsFor, disk_of, setup_of, used_of}
 use Rattle.cct_script.specs.Giving.{standing_of}
 use Rattle.cct_text.specs.Writing.{Wrote, IsNothing}
 use Rattle.cct_bench.specs.Disks.{Always}
 use Rattle.cct_world.specs.Sure.{Sure}
-use Rattle.cct_bench.specs.Going.{Going, WorldHolds}
+use Rattle.cct_bench.specs.Going.{Going}
 use Rattle.cct_text.proofs.Writing.{wrote_nothing}
-use Rattle.cct_bench.proofs.Going.{going_by, going_holds, going_setup, holds_first}
+use Rattle.cct_world.proofs.Holding.{holds_first}
+use Rattle.cct_bench.proofs.Going.{going_by, going_holds, going_setup}
 use Rattle.cct_world.proofs.Lasting.{lasts_on}
 use Rattle.cct_bench.proofs.play.Bench.play_script.Goals as goal
 
@@ -38,12 +40,13 @@ returns-in-Ok-build-clause-played g c given ready on stands =
     going_by Always left0 left lines first (at_steps (setup_of world)) IsNothing IsNothing W
     (wrote_nothing sink.written sink.puts out) opened in
     let same = c.in-Ok-build.ensures.disk in
+    let fresh = c.in-Ok-build.ensures.fresh stands in
     c.play_steps.ensures.played left0 given ready
     (subst (Outlasts disk.size disk.honest disk.seen disk.cuts given) (sym same)
     (lasts_on disk.size disk.honest disk.seen disk.cuts given _ on))
     (
     going_holds Always R left0 left lines first (at_steps (setup_of world)) IsNothing (WorldHolds given world) W
     (λ past relies. tt)
-    (holds_first R (StandsFor world) (disk.cuts given) (disk.cuts (disk_of world))
-    (ap disk.cuts same ∙ on.same_cuts) (c.in-Ok-build.ensures.fresh stands)) going
+    (holds_first disk.size disk.honest disk.seen disk.cuts (setup_of world) given (StandsFor world) (disk_of world)
+    (used_of world) (ap disk.cuts same ∙ on.same_cuts) fresh.host.keeps.used (λ sure. fresh)) going
     )

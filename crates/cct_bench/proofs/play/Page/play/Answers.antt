@@ -1,7 +1,9 @@
-use Rattle.std.proofs.Common.{Err, refl, inl, sym, ap, subst, ◌∙◌}
+use Rattle.std.proofs.Common.{Err, refl, inl, reverse, sym, ap, subst, ◌∙◌}
 use Rattle.cct_world.specs.Step.{RoseBy, crashes_of}
-use Rattle.cct_world.specs.World.{disk_of}
+use Rattle.cct_world.specs.Restarts.{RestartsIn}
+use Rattle.cct_world.specs.World.{disk_of, setup_of, used_of}
 use Rattle.cct_text.specs.Writing.{Writes}
+use Rattle.cct_world.proofs.Holding.{restarts_in}
 use Rattle.cct_world.proofs.Lasting.{uncut_in}
 use Rattle.cct_bench.proofs.Keeping.{books_play}
 use Rattle.cct_bench.proofs.play.Page.play.Goals as goal
@@ -20,6 +22,7 @@ returns-in-Err-write_entries-clause-ended g c =
     inl (
       refl,
       failed,
+      used_of next,
       record {
         report = c.step.new.report.items;
         plays = books_play world next last s c.step.new.report.items c.requires.size played.plays is;
@@ -27,6 +30,10 @@ returns-in-Err-write_entries-clause-ended g c =
         cut = subst (λ d. RoseBy (crashes_of s) (disk.cuts (disk_of world)) (disk.cuts d)) (sym is) played.cut;
         uncut = λ none. ap disk.cuts is
             ∙ uncut_in disk.size disk.honest disk.seen disk.cuts s (disk_of world) (disk_of next) played.lasts none;
+        counts = played.counts;
+        restarts = subst (λ d. RestartsIn (setup_of world) s (used_of world) (used_of next) (disk.seen d)
+            (reverse c.step.new.report.items)) (sym is)
+            (restarts_in world next s (reverse c.step.new.report.items) played.restarts);
         wrote = subst
             (λ report. Writes sink.written sink.puts c.args.out.now report (Err failed) c.write_entries.new.out)
             c.as_slice.ensures.value c.in-Err-write_entries.ensures.writes;

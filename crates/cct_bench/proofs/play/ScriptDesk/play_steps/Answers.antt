@@ -2,13 +2,14 @@ use Rattle.std.proofs.Common.{◌≡◌, ◌+◌, Ok, refl, sym, ap, ◌∙◌, 
 use Rattle.std.specs.Prelude.{if◌then◌else◌}
 use Rattle.cct_model.specs.Script.{at_steps, at_end, opens, plays}
 use Rattle.cct_disk.specs.Disk.{IsTrusted}
-use Rattle.cct_world.specs.World.{StandsFor, disk_of, setup_of}
+use Rattle.cct_world.specs.Holds.{WorldHolds}
+use Rattle.cct_world.specs.World.{StandsFor, disk_of, setup_of, used_of}
 use Rattle.cct_script.specs.Giving.{standing_of}
 use Rattle.cct_bench.specs.Lines.{ScriptGoesOn, Came}
 use Rattle.cct_bench.specs.Disks.{disks}
 use Rattle.cct_world.specs.Sure.{Sure}
 use Rattle.cct_text.specs.Writing.{Writes, Wrote, Broke}
-use Rattle.cct_bench.specs.Going.{Going, WorldHolds}
+use Rattle.cct_bench.specs.Going.{Going}
 use Rattle.cct_bench.specs.Run.{OverCut}
 use Rattle.cct_text.proofs.Writing.{writes_then}
 use Rattle.cct_bench.proofs.Going.{going_opens, going_plays, played_ended, played_stopped}
@@ -48,7 +49,7 @@ returns-in-Err-clause-played g c left0 given ready on start =
     runs.disk in
     played_stopped R left0 left left1 (standing_of c.loop-why.self.lines).held c.loop-why.number
     (at_steps (setup_of world)) c.in-Err.why c.ending_at.result (WorldHolds given world) W B O c.ending_at.ensures
-    (world_ends given last world ready now c.into_disk.ensures) (runs.going left0 given on start) c.in-Err.ensures.stops
+    (world_ends given last world (at_steps (setup_of world)) (λ by is. is) ready now c.into_disk.ensures) (runs.going left0 given on start) c.in-Err.ensures.stops
 
 pub returns-then-is_end-clause-played : goal.returns-then-is_end-clause-played
 returns-then-is_end-clause-played g c left0 given ready on start =
@@ -80,7 +81,7 @@ returns-then-is_end-clause-played g c left0 given ready on start =
     going_opens R left0 left left1 held rest number stage (at_end setup) (WorldHolds given world) W
     (runs.going left0 given on start) ends in
     played_ended R left0 left1 left2 rest (number + 1) setup c.finish.result (WorldHolds given world) W B O
-    (world_ends given last world ready now c.into_disk-then-is_end.ensures) going (c.finish.ensures.ended setup)
+    (world_ends given last world (at_end setup) (λ by is. is) ready now c.into_disk-then-is_end.ensures) going (c.finish.ensures.ended setup)
 
 pub play-requires-clause-size : goal.play-requires-clause-size
 play-requires-clause-size g c = c.loop-why.invariant.disk.same_size ∙ c.requires.size
@@ -111,6 +112,16 @@ returns-in-Err-play-clause-played g c left0 given ready on start =
     (sym c.is_end.ensures ∙ c.if-is_end.false) c.in-Ok.ensures.reads in
     step_ends sink.written sink.puts out out1 out2 left0 left left1 held rest number stage c.in-Err-play.ended.0 s given
     c.in-Err-play.ended.1 world ready now played.lasts refl (runs.going left0 given on start) reads played.ended
+
+pub returns-in-Err-play-clause-lasts : goal.returns-in-Err-play-clause-lasts
+returns-in-Err-play-clause-lasts g c =
+    let disk = g.D.Disk in
+    let world = c.loop-why.world in
+    let last = c.in-Err-play.ended.1 in
+    lasts_then disk.size disk.honest disk.seen disk.cuts (disk_of c.args.world) (disk_of world) last
+    c.loop-why.invariant.disk
+    (lasts_in disk.size disk.honest disk.seen disk.cuts c.read_step.new.step (disk_of world) last
+    c.in-Err-play.ensures.lasts)
 
 pub loop-why-preserved : goal.loop-why-preserved
 loop-why-preserved g c =
@@ -149,8 +160,9 @@ loop-why-preserved g c =
           (λ report. Writes sink.written sink.puts out1 report (Ok tt) out2) W2 (sure_back trusted) refl
           (λ xs ys before here. writes_then sink.written sink.puts out out1 out2 xs ys (Ok tt) before here)
           (runs.going left0 given on start) reads
-          (world_carried given world (StandsFor world1) (disk.cuts (disk_of world1)) s
-          (λ report. Writes sink.written sink.puts out1 report (Ok tt) out2) now played.plays)
+          (world_carried given (disk_of world1) world (StandsFor world1) (setup_of world1) (used_of world1) s
+          (λ report. Writes sink.written sink.puts out1 report (Ok tt) out2) played.setup now played.lasts
+          played.plays)
           );
       source = c.in-Ok.ensures.tells ∙ runs.source;
       sink = played.tells ∙ runs.sink;

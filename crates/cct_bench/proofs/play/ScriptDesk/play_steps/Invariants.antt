@@ -2,11 +2,12 @@ use Rattle.std.proofs.Common.{◌-◌}
 use Rattle.cct_model.specs.Script.{at_steps}
 use Rattle.cct_disk.specs.Disk.{IsTrusted}
 use Rattle.cct_journal.specs.Stands.{Outlasts}
+use Rattle.cct_world.specs.Holds.{WorldHolds}
 use Rattle.cct_world.specs.World.{disk_of, setup_of}
 use Rattle.cct_script.specs.Giving.{standing_of}
 use Rattle.cct_text.specs.Writing.{Wrote}
 use Rattle.cct_world.specs.Sure.{Sure}
-use Rattle.cct_bench.specs.Going.{Going, WorldHolds}
+use Rattle.cct_bench.specs.Going.{Going}
 use Rattle.cct_bench.proofs.Going.{Runs}
 use Rattle.cct_bench.proofs.play.ScriptDesk.play_steps.Given as goal
 

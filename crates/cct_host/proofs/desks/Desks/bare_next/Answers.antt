@@ -1,4 +1,4 @@
-use Rattle.std.proofs.Common.{sym}
+use Rattle.std.proofs.Common.{sym, ◌∙◌}
 use Rattle.cct_model.specs.Exchange.{device_at}
 use Rattle.cct_host.specs.Place.{sales, scans}
 use Rattle.cct_host.proofs.Lines.{attempt_last}

@@ -1,0 +1,262 @@
+-- What the disk of a machine has behind a loss of power, and behind the steps that follow it.
+use Rattle.std.proofs.Common.{◌≡◌, ◌⊎◌, ◌+◌, ◌++◌, ℕ, Bool, true, List, [], ◌∷◌, length, reverse, refl, sym, ap, ◌∙◌}
+use Rattle.std.proofs.Common.{inl, inr, subst, arith, Option, Some, None}
+use Rattle.std.specs.Option.{IfSome}
+use Rattle.std.proofs.lemmas.List.{reverse-reverse}
+use Rattle.cct_model.specs.terms.device.Setup.{Setup}
+use Rattle.cct_model.specs.lines.command.CrashAt.{CrashAt}
+use Rattle.cct_model.specs.lines.command.Step.{Step}
+use Rattle.cct_model.specs.lines.command.Step.TheVariants as step
+use Rattle.cct_model.specs.lines.record.Record.{Record}
+use Rattle.cct_model.specs.lines.entry.Entry.{Entry}
+use Rattle.cct_model.specs.lines.entry.Entry.TheVariants as entry
+use Rattle.cct_model.specs.Following.{all_follow}
+use Rattle.cct_model.specs.Records.{records}
+use Rattle.cct_disk.specs.declared.disk.Disk.{Ghosts}
+use Rattle.cct_disk.specs.Disk.{IsTrusted}
+use Rattle.cct_journal.specs.declared.journal.Journal.{Journal}
+use Rattle.cct_journal.specs.Image as images
+use Rattle.cct_journal.specs.Image.{IsBadAt}
+use Rattle.cct_journal.specs.Journal as journals
+use Rattle.cct_journal.specs.Losing.{LeavesWith}
+use Rattle.cct_journal.specs.Stands.{Outlasts, Reads}
+use Rattle.cct_laws.specs.Restart.{CrashSuits, due_in}
+use Rattle.cct_host.specs.declared.host.Host.{Host}
+use Rattle.cct_host.specs.declared.refusal.CrashNo.{CrashNo}
+use Rattle.cct_host.specs.declared.refusal.CrashNo.TheVariants as crash_no
+use Rattle.cct_host.specs.declared.restart.Crashed.{Crashed}
+use Rattle.cct_host.specs.Attempt.{Attempt, asked, idle, news_of, put, put_of}
+use Rattle.cct_host.specs.Host as hosts
+use Rattle.cct_host.specs.Host.{put_by}
+use Rattle.cct_host.specs.Restarting.{IsLost, LosesNone, Opens, ReadsBad, RefusesCrash, crash_news, due_of, told_by}
+use Rattle.cct_host.specs.Starting.{StartsOver}
+use Rattle.cct_world.specs.declared.machine.Machine.{Machine}
+use Rattle.cct_world.specs.Machine.{Breaks, IsDue, StandsFor}
+use Rattle.cct_world.specs.Restarts.{AtLosses, AtLossesWith, HasBad, Loses, Restarted, Restarts, RestartsIn, kept_in}
+use Rattle.cct_world.specs.Step.{LastsIn, RoseBy, crashes, crashes_of, unplayed}
+use Rattle.cct_world.proofs.Lasting.{lasts_here, lasts_in, lasts_then}
+use Rattle.cct_world.proofs.Sure.{rose_on}
+
+-- records behind others
+pub records_counted : (news past : List Entry)
+    → length (records (news ++ past)) ≡ length (records news) + length (records past)
+records_counted [] past = omega arith
+records_counted (entry.Put r ∷ news) past = let rest = records_counted news past in omega (arith, rest)
+records_counted (entry.Kept r ∷ news) past = let rest = records_counted news past in omega (arith, rest)
+records_counted (e ∷ news) past = records_counted news past
+
+-- a journal counts the records that are told
+pub counts_on : (news past : List Entry) (used many : ℕ) → used ≡ length (records past)
+    → many ≡ used + length (records news) → many ≡ length (records (news ++ past))
+counts_on news past used many was is = omega (arith, was, is, records_counted news past)
+
+-- the records of an attempt
+news_records : (addr : ℕ) (what : Attempt) → records (news_of addr what) ≡ put_by (put_of what)
+news_records addr idle = refl
+news_records addr (asked sent heard None) = refl
+news_records addr (asked sent heard (Some end)) = refl
+news_records addr (put r None) = refl
+news_records addr (put r (Some end)) = refl
+
+news_are : (before after : List Entry) (addr : ℕ) (what : Attempt) → before ≡ []
+    → after ≡ before ++ reverse (news_of addr what) → reverse after ≡ news_of addr what
+news_are before after addr what none is =
+    ap reverse (is ∙ ap (λ es. es ++ reverse (news_of addr what)) none) ∙ reverse-reverse (news_of addr what)
+
+pub next_counts : (before after : List Entry) (addr : ℕ) (what : Attempt) (used many : ℕ) → before ≡ []
+    → after ≡ before ++ reverse (news_of addr what) → many ≡ used + length (put_by (put_of what))
+    → many ≡ used + length (records (reverse after))
+next_counts before after addr what used many none is counts =
+    counts
+    ∙ ap (λ rs. used + length rs)
+    (sym (ap records (news_are before after addr what none is) ∙ news_records addr what))
+
+-- and that none is told as kept
+news_unkept : (addr : ℕ) (what : Attempt) → kept_in (news_of addr what) ≡ []
+news_unkept addr idle = refl
+news_unkept addr (asked sent heard None) = refl
+news_unkept addr (asked sent heard (Some end)) = refl
+news_unkept addr (put r None) = refl
+news_unkept addr (put r (Some end)) = refl
+
+pub next_unkept : (before after : List Entry) (addr : ℕ) (what : Attempt) → before ≡ []
+    → after ≡ before ++ reverse (news_of addr what) → kept_in (reverse after) ≡ []
+next_unkept before after addr what none is = ap kept_in (news_are before after addr what none is) ∙ news_unkept addr what
+
+-- the records of a loss of power
+told_records : (many : ℕ) (kept : Option Record) → records (told_by many kept) ≡ put_by kept
+told_records many None = refl
+told_records many (Some r) = refl
+
+pub restarts_count : (setup : Setup) (due : Option Record) (used many : ℕ) (seen : Option (List ℕ)) (news : List Entry)
+    → Restarts setup due used many seen news → many ≡ used + length (records news)
+restarts_count setup due used many seen news restarts =
+    restarts.all.count
+    ∙ ap (λ rs. used + length rs) (sym (ap records restarts.news_are ∙ told_records many restarts.all.kept))
+
+same_image : (one other : List ℕ) (seen : Option (List ℕ)) → seen ≡ Some one → seen ≡ Some other → one ≡ other
+same_image one other seen is too = cc (is, too)
+
+module _ {D : Type 0} {g : Ghosts D} where
+  -- why no host starts again
+  bad_by : (old new : Journal D g) (due : Option Record) (setup : Setup) (index : ℕ) (image : List ℕ)
+      → g.seen (journals.disk_of new) ≡ Some image
+      → IsBadAt image index ⊎ (LosesNone old new due × ReadsBad new setup index)
+      → IsBadAt image index ⊎ HasBad setup (journals.used_of old) due image index
+  bad_by old new due setup index image tells (inl bad) = inl bad
+  bad_by old new due setup index image tells (inr (none, (rs, reads, bad))) = inr (
+    rs,
+    subst (λ i. images.StandsFor i rs) (same_image reads.image image _ reads.tells tells) reads.stands,
+    record { kept = none.0; kept_is = none.2; count = sym reads.count ∙ none.1 },
+    bad,
+  )
+
+  loses_by : (old new : Journal D g) (due : Option Record) (setup : Setup) (why : CrashNo)
+      → (why ≡ crash_no.Disk → ⊥) → RefusesCrash old new due setup why
+      → Loses setup (journals.used_of old) due (g.seen (journals.disk_of new)) (unplayed why)
+  loses_by old new due setup crash_no.Disk other refused = absurd (other refl)
+  loses_by old new due setup crash_no.Alien other refused = refused
+  loses_by old new due setup (crash_no.BadRecord index) other refused =
+      λ image tells. bad_by old new due setup index image tells (refused image tells)
+  loses_by old new due setup (crash_no.Lost found many) other refused = (
+    refused.1,
+    subst (IsLost due found) refused.1 refused.2,
+    λ image tells. let opens = refused.3 image tells in (
+      opens.0,
+      subst (λ i. images.StandsFor i opens.0) (same_image opens.1.image image _ opens.1.tells tells) opens.1.stands,
+      sym opens.1.count ∙ sym refused.0,
+    ),
+  )
+
+  crash_loses : (old : Machine D g) (host : Host D g) (at : Option CrashAt) (why : CrashNo)
+      → (why ≡ crash_no.Disk → ⊥)
+      → RefusesCrash (hosts.journal_of old.host) (hosts.journal_of host) (due_of old.host at) (hosts.setup_of old.host) why
+      → ((past : List Entry) → hosts.StandsFor old.host past → CrashSuits (hosts.setup_of old.host) past at
+      → IsTrusted g.honest g.seen (hosts.disk_of old.host) → why ≡ crash_no.Disk)
+      → ((past : List Entry) → hosts.StandsFor old.host past
+      → due_of old.host at ≡ due_in (hosts.setup_of old.host) past at)
+      → ((past : List Entry) → StandsFor old past → CrashSuits (hosts.setup_of old.host) past at
+      → IsTrusted g.honest g.seen (hosts.disk_of old.host) → ⊥)
+      × ((due : Option Record) × IsDue old at due
+      × Loses (hosts.setup_of old.host) (journals.used_of (hosts.journal_of old.host)) due
+      (g.seen (hosts.disk_of host)) (unplayed why))
+  crash_loses old host at why other refused never due = (
+    λ past stands suits trusted. other (never past stands.host suits trusted),
+    (
+      due_of old.host at,
+      λ past stands. due past stands.host,
+      loses_by (hosts.journal_of old.host) (hosts.journal_of host) (due_of old.host at) (hosts.setup_of old.host) why other
+          refused,
+    ),
+  )
+
+  pub crash_breaks : (old : Machine D g) (host : Host D g) (at : Option CrashAt) (choice : ℕ) (why : CrashNo)
+      → RefusesCrash (hosts.journal_of old.host) (hosts.journal_of host) (due_of old.host at) (hosts.setup_of old.host) why
+      → ((past : List Entry) → hosts.StandsFor old.host past → CrashSuits (hosts.setup_of old.host) past at
+      → IsTrusted g.honest g.seen (hosts.disk_of old.host) → why ≡ crash_no.Disk)
+      → ((past : List Entry) → hosts.StandsFor old.host past → IsTrusted g.honest g.seen (hosts.disk_of old.host)
+      → LeavesWith g.honest g.seen g.may_leave (hosts.disk_of host) (due_in (hosts.setup_of old.host) past at)
+      (reverse (records past)))
+      → ((past : List Entry) → hosts.StandsFor old.host past
+      → due_of old.host at ≡ due_in (hosts.setup_of old.host) past at)
+      → Breaks old (hosts.disk_of host) (unplayed why) (step.Crash at choice)
+  crash_breaks old host at choice crash_no.Disk refused never left due =
+      λ past stands trusted. left past stands.host trusted
+  crash_breaks old host at choice crash_no.Alien refused never left due =
+      crash_loses old host at crash_no.Alien (λ is. cc is) refused never due
+  crash_breaks old host at choice (crash_no.BadRecord index) refused never left due =
+      crash_loses old host at (crash_no.BadRecord index) (λ is. cc is) refused never due
+  crash_breaks old host at choice (crash_no.Lost found many) refused never left due =
+      crash_loses old host at (crash_no.Lost found many) (λ is. cc is) refused never due
+
+  -- a host starts again
+  pub crash_restarts : (old new : Host D g) (at : Option CrashAt) (crashed : Crashed) (news : List Entry)
+      → news ≡ crash_news crashed → hosts.setup_of new ≡ hosts.setup_of old → Opens (hosts.journal_of new)
+      → ((rs : List Record) → Reads g.seen (hosts.disk_of new) (journals.place_of (hosts.journal_of new)) rs
+      → StartsOver new (reverse rs))
+      → crashed.records ≡ journals.used_of (hosts.journal_of new)
+      → crashed.records ≡ journals.used_of (hosts.journal_of old) + length (put_by crashed.kept)
+      → IfSome crashed.kept (λ r. due_of old at ≡ Some r)
+      → Restarts (hosts.setup_of old) (due_of old at) (journals.used_of (hosts.journal_of old))
+      (journals.used_of (hosts.journal_of new)) (g.seen (hosts.disk_of new)) news
+  crash_restarts old new at crashed news told same opens recalls records counts kept = record {
+    all = record { kept = crashed.kept; kept_is = kept; count = sym records ∙ counts };
+    news_are = told ∙ ap (λ n. told_by n crashed.kept) records;
+    whole = λ image tells. let opened = opens image tells in (
+      opened.0,
+      subst (λ i. images.StandsFor i opened.0) (same_image opened.1.image image _ opened.1.tells tells)
+          opened.1.stands,
+      sym opened.1.count,
+      subst (λ setup. all_follow setup (reverse opened.0) ≡ true) same (recalls opened.0 opened.1).over.follow,
+    );
+  }
+
+-- a fact at each loss of power
+
+at_losses_with : (P Q : ℕ → ℕ → Type 0) → ((losses many : ℕ) → P losses many → Q losses many) → (kept : ℕ)
+    (past : List Entry) → AtLossesWith P kept past → AtLossesWith Q kept past
+at_losses_with P Q goes kept [] at = at
+at_losses_with P Q goes kept (entry.Crash many ∷ past) at =
+    (goes (1 + crashes past) many at.0, at.1, at_losses_with P Q goes 0 past at.2)
+at_losses_with P Q goes kept (entry.Kept r ∷ past) at = (at.0, at_losses_with P Q goes 1 past at.1)
+at_losses_with P Q goes kept (e ∷ past) at = (at.0, at_losses_with P Q goes 0 past at.1)
+
+pub at_losses : (P Q : ℕ → ℕ → Type 0) → ((losses many : ℕ) → P losses many → Q losses many) → (past : List Entry)
+    → AtLosses P past → AtLosses Q past
+at_losses P Q goes past at = at_losses_with P Q goes 0 past at
+
+at_quiet : (P : ℕ → ℕ → Type 0) (news past : List Entry) → crashes news ≡ 0 → kept_in news ≡ [] → AtLosses P past
+    → AtLosses P (news ++ past)
+at_quiet P [] past none unkept at = at
+at_quiet P (entry.Crash many ∷ news) past none unkept at = absurd (omega (arith, none))
+at_quiet P (entry.Kept r ∷ news) past none unkept at = absurd cc
+at_quiet P (e ∷ news) past none unkept at = (refl, at_quiet P news past (omega (arith, none)) unkept at)
+
+at_told : (P : ℕ → ℕ → Type 0) (many : ℕ) (kept : Option Record) (past : List Entry) → P (1 + crashes past) many
+    → many ≡ length (records past) + length (put_by kept) → AtLosses P past → AtLosses P (told_by many kept ++ past)
+at_told P many None past here count at = (here, omega (arith, count), at)
+at_told P many (Some r) past here count at = (refl, (here, omega (arith, count), at))
+
+module _ {D : Type 0} (size : D → ℕ) (honest : D → Bool) (seen : D → Option (List ℕ)) (cuts : D → ℕ)
+    (setup : Setup) (given : D) where
+  -- behind a disk that lasts
+  pub restarted_on : (old new : D) (losses many : ℕ) → Outlasts size honest seen cuts old new
+      → Restarted size honest seen cuts setup given old losses many
+      → Restarted size honest seen cuts setup given new losses many
+  restarted_on old new losses many lasts restarted = record {
+    disk = restarted.disk;
+    lasted = restarted.lasted;
+    lasts = lasts_then size honest seen cuts restarted.disk old new restarted.lasts lasts;
+    cut = restarted.cut;
+    whole = restarted.whole;
+  }
+
+  pub losses_last : (old new : D) (past : List Entry) → Outlasts size honest seen cuts old new
+      → AtLosses (Restarted size honest seen cuts setup given old) past
+      → AtLosses (Restarted size honest seen cuts setup given new) past
+  losses_last old new past lasts at =
+      at_losses (Restarted size honest seen cuts setup given old) (Restarted size honest seen cuts setup given new)
+      (λ losses many restarted. restarted_on old new losses many lasts restarted) past at
+
+  -- behind a step that was played
+  pub losses_on : (old new : D) (s : Step) (used many : ℕ) (news past : List Entry)
+      → Outlasts size honest seen cuts given old → LastsIn s size honest seen cuts old new
+      → RoseBy (crashes past) (cuts given) (cuts old) → RoseBy (crashes_of s) (cuts old) (cuts new)
+      → crashes news ≡ crashes_of s → used ≡ length (records past) → RestartsIn setup s used many (seen new) news
+      → AtLosses (Restarted size honest seen cuts setup given old) past
+      → AtLosses (Restarted size honest seen cuts setup given new) (news ++ past)
+  losses_on old new (step.Crash at choice) used many news past lasted lasts before cut told was (due, restarts) losses =
+      let P = Restarted size honest seen cuts setup given new in
+      let here : P (1 + crashes past) many = record {
+        disk = new;
+        lasted = lasts_then size honest seen cuts given old new lasted lasts;
+        lasts = lasts_here size honest seen cuts new;
+        cut = rose_on (crashes past) 1 (cuts given) (cuts old) (cuts new) before cut;
+        whole = restarts.whole;
+      } in
+      subst (λ es. AtLosses P (es ++ past)) (sym restarts.news_are)
+      (at_told P many restarts.all.kept past here (omega (arith, restarts.all.count, was))
+      (losses_last old new past lasts losses))
+  losses_on old new s used many news past lasted lasts before cut told was restarts losses =
+      at_quiet (Restarted size honest seen cuts setup given new) news past told restarts
+      (losses_last old new past (lasts_in size honest seen cuts s old new lasts) losses)

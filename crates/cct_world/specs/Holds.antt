@@ -1,0 +1,30 @@
+-- What is so of a machine after a past, where a run was given a disk.
+use Rattle.std.specs.Prelude.{◌≡◌, ℕ, Bool, List, Option, length}
+use Rattle.cct_model.specs.terms.device.Setup.{Setup}
+use Rattle.cct_model.specs.lines.entry.Entry.{Entry}
+use Rattle.cct_model.specs.Records.{records}
+use Rattle.cct_disk.specs.declared.disk.Disk.{Ghosts}
+use Rattle.cct_disk.specs.Disk.{IsTrusted}
+use Rattle.cct_world.specs.declared.world.World.{World}
+use Rattle.cct_world.specs.Restarts.{AtLosses, Restarted}
+use Rattle.cct_world.specs.Step.{RoseBy, crashes}
+use Rattle.cct_world.specs.Sure.{Sure}
+use Rattle.cct_world.specs.World.{StandsFor, disk_of, setup_of, used_of}
+
+-- What is so after a past, where one disk was given and became another: what stands for the past does so where that may
+-- be relied on; so many records are counted as the past has; behind each loss of power that it tells, the disk had a
+-- journal of as many records as are told; and the power of the disk was cut as often as the past tells, and never where
+-- that tells no loss of power.
+pub record Holds {D : Type 0} (size : D → ℕ) (honest : D → Bool) (seen : D → Option (List ℕ)) (cuts : D → ℕ)
+    (Stands : List Entry → Type 0) (setup : Setup) (given now : D) (used : ℕ) (past : List Entry) : Type 0 where
+  pub stands : Sure (IsTrusted honest seen given) past → Stands past
+  pub counts : used ≡ length (records past)
+  pub restarts : AtLosses (Restarted size honest seen cuts setup given now) past
+  pub cut : RoseBy (crashes past) (cuts given) (cuts now)
+  pub uncut : crashes past ≡ 0 → cuts now ≡ cuts given
+
+module _ {D : Type 0} {g : Ghosts D} where
+  -- That is so of a world, which stands for the past.
+  abbrev pub WorldHolds : D → World D g → List Entry → Type 0
+  WorldHolds given world =
+      Holds g.size g.honest g.seen g.cuts (StandsFor world) (setup_of world) given (disk_of world) (used_of world)

@@ -1,0 +1,105 @@
+-- What a disk has behind a loss of power: a journal over which the host starts again, or why it doesn't.
+use Rattle.std.specs.Prelude.{◌≡◌, ◌⊎◌, ℕ, ◌+◌, Bool, true, List, [], ◌∷◌, length, reverse, Option, Some}
+use Rattle.std.specs.Option.{IfSome}
+use Rattle.cct_model.specs.terms.device.Setup.{Setup}
+use Rattle.cct_model.specs.lines.command.Step.{Step}
+use Rattle.cct_model.specs.lines.command.Step.TheVariants as step
+use Rattle.cct_model.specs.lines.record.Record.{Record}
+use Rattle.cct_model.specs.lines.entry.Entry.{Entry}
+use Rattle.cct_model.specs.lines.entry.Entry.TheVariants as entry
+use Rattle.cct_model.specs.Following.{all_follow}
+use Rattle.cct_model.specs.Records.{records}
+use Rattle.cct_journal.specs.Image.{IsAlien, IsBadAt, StandsFor}
+use Rattle.cct_journal.specs.Stands.{Outlasts}
+use Rattle.cct_laws.specs.Restart.{due_in}
+use Rattle.cct_host.specs.Host.{put_by}
+use Rattle.cct_host.specs.Restarting.{IsLost, told_by}
+use Rattle.cct_host.specs.Starting.{IsFirstBad}
+use Rattle.cct_world.specs.declared.refusal.WorldNo.{WorldNo}
+use Rattle.cct_world.specs.declared.refusal.WorldNo.TheVariants as world_no
+use Rattle.cct_world.specs.Step.{RoseBy, crashes}
+
+-- So many records are there where so many were put: these, or these and the one that was due, which was kept.
+pub record HasAll (due : Option Record) (found put : ℕ) : Type 0 where
+  pub kept : Option Record
+  pub kept_is : IfSome kept (λ r. due ≡ Some r)
+  pub count : found ≡ put + length (put_by kept)
+
+-- An image stands for so many records.
+abbrev pub HasRecords : List ℕ → ℕ → Type 0
+HasRecords image many = (rs : List Record) × StandsFor image rs × (length rs ≡ many)
+
+-- An image stands for records of which none is missing, and the one of this index is the first that doesn't follow
+-- those before it.
+abbrev pub HasBad : Setup → ℕ → Option Record → List ℕ → ℕ → Type 0
+HasBad setup put due image index =
+    (rs : List Record) × StandsFor image rs × HasAll due (length rs) put × IsFirstBad setup rs index
+
+-- Why no host starts again behind a loss of power, where so many records were put and this one was due, if one was, by
+-- what a read of the disk then gives, where that is told: it has no journal; a record can't be read, or none is missing
+-- and this one doesn't follow; or it has so many, which are others than were put.
+abbrev pub Loses : Setup → ℕ → Option Record → Option (List ℕ) → WorldNo → Type 0
+Loses setup put due seen world_no.Disk = ⊥
+Loses setup put due seen world_no.Alien = (image : List ℕ) → seen ≡ Some image → IsAlien image
+Loses setup put due seen (world_no.BadRecord index) =
+    (image : List ℕ) → seen ≡ Some image → IsBadAt image index ⊎ HasBad setup put due image index
+Loses setup put due seen (world_no.Lost found many) =
+    (many ≡ put) × IsLost due found put × ((image : List ℕ) → seen ≡ Some image → HasRecords image found)
+
+-- The step behind a past is a loss of power, and this is why no host starts again behind it. Which record was due, the
+-- past tells where it may be relied on.
+abbrev pub LosesAt : Type 0 → Setup → List Entry → Option (List ℕ) → WorldNo → Step → Type 0
+LosesAt sure setup past seen why (step.Crash at choice) =
+    (due : Option Record) × (sure → due ≡ due_in setup past at) × Loses setup (length (records past)) due seen why
+LosesAt sure setup past seen why s = ⊥
+
+-- What a read gives, where that is told, stands for so many records, each of which follows those before it.
+abbrev pub IsWhole : Setup → Option (List ℕ) → ℕ → Type 0
+IsWhole setup seen many =
+    (image : List ℕ) → seen ≡ Some image
+    → (rs : List Record) × StandsFor image rs × (length rs ≡ many) × (all_follow setup (reverse rs) ≡ true)
+
+-- A host starts again behind a loss of power, where so many records were put and this one was due, if one was: these are
+-- its entries, newest first; none of the records is missing; so many does its journal then count; and a read of the
+-- disk gives just so many, each of which follows.
+pub record Restarts (setup : Setup) (due : Option Record) (put many : ℕ) (seen : Option (List ℕ)) (news : List Entry)
+    : Type 0 where
+  pub all : HasAll due many put
+  pub news_are : news ≡ told_by many all.kept
+  pub whole : IsWhole setup seen many
+
+-- The records that entries tell as kept.
+abbrev pub kept_in : List Entry → List Record
+kept_in [] = []
+kept_in (entry.Kept r ∷ past) = r ∷ kept_in past
+kept_in (e ∷ past) = kept_in past
+
+-- The same of a step where it is a loss of power. Any other tells no record as kept.
+abbrev pub RestartsIn : Setup → Step → ℕ → ℕ → Option (List ℕ) → List Entry → Type 0
+RestartsIn setup (step.Crash at choice) put many seen news =
+    (due : Option Record) × Restarts setup due put many seen news
+RestartsIn setup s put many seen news = kept_in news ≡ []
+
+-- While a disk became another its power had been cut so often, and a read then gave so many records, each of which
+-- follows those before it.
+pub record Restarted {D : Type 0} (size : D → ℕ) (honest : D → Bool) (seen : D → Option (List ℕ)) (cuts : D → ℕ)
+    (setup : Setup) (given now : D) (losses many : ℕ) : Type 0 where
+  pub disk : D
+  pub lasted : Outlasts size honest seen cuts given disk
+  pub lasts : Outlasts size honest seen cuts disk now
+  pub cut : RoseBy losses (cuts given) (cuts disk)
+  pub whole : IsWhole setup (seen disk) many
+
+-- At each loss of power that a past tells, this holds of how many it tells by then and of the number of records that it
+-- tells. That is the number of the records before it, with the one that is told as kept right behind it, if one is; and
+-- no record is told so elsewhere. So many, none or one, are told as kept right behind the whole past.
+abbrev pub AtLossesWith : (ℕ → ℕ → Type 0) → ℕ → List Entry → Type 0
+AtLossesWith P kept [] = kept ≡ 0
+AtLossesWith P kept (entry.Crash many ∷ past) =
+    P (1 + crashes past) many × (many ≡ length (records past) + kept) × AtLossesWith P 0 past
+AtLossesWith P kept (entry.Kept r ∷ past) = (kept ≡ 0) × AtLossesWith P 1 past
+AtLossesWith P kept (e ∷ past) = (kept ≡ 0) × AtLossesWith P 0 past
+
+-- The same of a past behind which none is told as kept.
+abbrev pub AtLosses : (ℕ → ℕ → Type 0) → List Entry → Type 0
+AtLosses P past = AtLossesWith P 0 past
