@@ -29,6 +29,7 @@ use Rattle.cct_text.specs.Writing.{Writes, Wrote, Broke}
 use Rattle.cct_bench.specs.Run.{Book, BreaksOff, Closes, Completes, Ends, EndsLost, IsOfScript, Over, OverCut}
 use Rattle.cct_bench.specs.Run.{OverLost, Played, Ran, TellsLoss, TellsOf, last_entry, listed, status_by, status_of}
 use Rattle.cct_world.proofs.Sure.{rose_none}
+use Rattle.cct_world.proofs.Told.{tells_first}
 use Rattle.cct_text.proofs.Writing.{writes_then}
 
 -- what holds where an object tells, also holds by a weaker fact
@@ -274,7 +275,7 @@ at_once bytes Written Breaks disks uncut wrote =
       took = refl;
       left_is = refl;
       steps_are = refl;
-      losses = refl;
+      losses = tells_first;
       legal = λ sure. legal;
       in_order = λ sure d own honest.
           played_in_order most_records bytes [] (script bytes).steps [] d refl legal honest own;

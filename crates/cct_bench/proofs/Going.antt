@@ -23,9 +23,9 @@ use Rattle.cct_script.specs.Giving.{Standing}
 use Rattle.cct_world.specs.Machine.{StepSuits}
 use Rattle.cct_world.specs.declared.refusal.WorldNo.{WorldNo}
 use Rattle.cct_world.specs.declared.refusal.WorldNo.TheVariants as world_no
-use Rattle.cct_world.specs.Step.{crashes, crashes_of}
+use Rattle.cct_world.specs.Restarts.{StepTells, TellsLosses}
 use Rattle.cct_world.proofs.Suiting.{legal_suits}
-use Rattle.cct_world.proofs.Sure.{losses_more}
+use Rattle.cct_world.proofs.Told.{tells_first, tells_on}
 use Rattle.cct_bench.specs.declared.lines.ScriptStop.{ScriptStop}
 use Rattle.cct_bench.specs.declared.lines.ScriptStop.TheVariants as stop
 use Rattle.cct_bench.specs.declared.play.Ending.TheVariants as ending
@@ -48,7 +48,7 @@ going_begin left = record {
   consumed = Consumes-nil left;
   says = λ more. record { setup = refl; steps = refl; refused = refl };
   legal = λ relies more. refl;
-  losses = refl;
+  losses = tells_first;
   holds = refl;
   wrote = refl;
 }
@@ -165,7 +165,7 @@ pub record Carries (Relies Before After : List Entry → Type 0) (setup : Setup)
   pub goes : (past : List Entry) → Before past → (Relies past → StepSuits setup past s)
       → (Relies (reverse report ++ past) → Entries most_records setup past s (reverse report))
       × After (reverse report ++ past)
-  pub told : crashes (reverse report) ≡ crashes_of s
+  pub tells : StepTells s (reverse report)
   pub wrote : WritesThem report
 
 -- what a step takes for granted of the past is so after what was played before it
@@ -210,7 +210,8 @@ going_plays Relies left0 left left1 held rest number stage next setup Before Aft
       legal = λ relies more. let here = subst Relies on relies in
           step_legal g.taken r.0 held more rest number stage next setup g.played g.transcript p.report s
           (g.says (r.0 ++ more)) r.2 done (g.legal (back (reverse p.report) past here) (r.0 ++ more)) (goes.0 here);
-      losses = ap crashes on ∙ losses_more g.played (reverse p.report) past s g.losses p.told;
+      losses = subst (TellsLosses (g.played ++ s ∷ [])) (sym on)
+          (tells_on g.played (reverse p.report) past s g.losses p.tells);
       holds = subst After (sym on) goes.1;
       wrote = more g.transcript p.report g.wrote p.wrote;
     }
@@ -452,7 +453,8 @@ played_broke Relies (Some bytes) left left1 held rest number stage next setup Be
       took = t.2;
       left_is = t.1;
       steps_are = says.steps;
-      losses = ap crashes told ∙ losses_more g.played news past s g.losses p.told;
+      losses = subst (TellsLosses (g.played ++ s ∷ [])) (sym told)
+          (tells_on g.played news past s g.losses p.tells);
       legal = λ relies. let here = subst Relies told relies in
           legal_more most_records (script bytes).setup g.played g.transcript p.report s (legal (back news past here))
           (entries here);
@@ -554,7 +556,7 @@ played_none Relies Relies1 (Some bytes) left held number stage Stands Written Br
       took = t.2;
       left_is = t.1;
       steps_are = refl;
-      losses = refl;
+      losses = tells_first;
       legal = λ relies. refl;
       stops = (refl, wrote);
       beside = beside (script bytes).setup g.taken (script bytes).steps;
@@ -584,7 +586,7 @@ played_before Relies (Some bytes) size seen how Written Breaks Beside is beside 
   took = refl;
   left_is = refl;
   steps_are = refl;
-  losses = refl;
+  losses = tells_first;
   legal = λ relies. refl;
   stops = before_stops Relies bytes size seen how (script bytes).steps Written Breaks is wrote;
   beside = beside (script bytes).setup (script bytes).steps;

@@ -36,6 +36,7 @@ use Rattle.cct_world.proofs.Holding.{holds_on, loses_at}
 use Rattle.cct_world.proofs.Lasting.{lasts_in, lasts_on, lasts_then, trusted_on, uncut_in}
 use Rattle.cct_world.proofs.Restarts.{losses_last}
 use Rattle.cct_world.proofs.Sure.{crashes_none, rose_none, sure_back, sure_survives}
+use Rattle.cct_world.proofs.Told.{step_tells}
 use Rattle.cct_bench.specs.declared.play.Ending.{Ending}
 use Rattle.cct_bench.specs.declared.play.Ending.TheVariants as ending
 use Rattle.cct_bench.specs.Disks.{Books, IsReady, disks, most_records}
@@ -146,7 +147,7 @@ module _ {D : Type 0} {g : Ghosts D} where
                   last s (used_of world) many news past on lasts p.told p.cut p.counts p.restarts
                   (λ sure. (goes sure).1) before),
             );
-        told = p.told;
+        tells = step_tells (setup_of world) s (used_of world) many (g.seen last) news p.restarts p.told;
         wrote = p.wrote;
       }
 

@@ -6,8 +6,10 @@ use Rattle.std.proofs.lemmas.List.{append-nil}
 use Rattle.std.proofs.lemmas.List.Elements.{All-cons, All-head, All-nil, All-tail}
 use Rattle.cct_edge.specs.declared.fault.Failed.{Failed}
 use Rattle.cct_model.specs.terms.device.Setup.{Setup}
+use Rattle.cct_model.specs.lines.command.CrashAt.{CrashAt}
 use Rattle.cct_model.specs.lines.command.Step.{Step}
 use Rattle.cct_model.specs.lines.command.Step.TheVariants as step
+use Rattle.cct_model.specs.lines.record.Record.{Record}
 use Rattle.cct_model.specs.lines.entry.Entry.{Entry}
 use Rattle.cct_model.specs.Legal.{Legal}
 use Rattle.cct_model.specs.Script.{IsInRange}
@@ -22,13 +24,14 @@ use Rattle.cct_text.specs.Writing.{Broke, Writes, Wrote}
 use Rattle.cct_world.specs.declared.refusal.WorldNo.{WorldNo}
 use Rattle.cct_world.specs.declared.refusal.WorldNo.TheVariants as world_no
 use Rattle.cct_world.specs.declared.world.World.{World}
-use Rattle.cct_world.specs.Restarts.{AtLosses, LosesAt, Restarted}
+use Rattle.cct_world.specs.Restarts.{AtLosses, LosesAt, Restarted, WasDue}
 use Rattle.cct_world.specs.Step.{RoseBy, crashes}
 use Rattle.cct_world.specs.Sure.{First, MayFail, Sure, losses_in}
 use Rattle.cct_world.specs.World.{disk_of}
 use Rattle.cct_world.proofs.Lasting.{lasts_on, lasts_then, trusted_on}
 use Rattle.cct_world.proofs.Restarts.{at_losses}
 use Rattle.cct_world.proofs.Sure.{rose_none}
+use Rattle.cct_world.proofs.Told.{tells_first}
 use Rattle.cct_gen.specs.Load.{load_setup, load_steps}
 use Rattle.cct_gen.proofs.LoadSetup.{setup_sound}
 use Rattle.cct_gen.proofs.Lines.{lines_in_range}
@@ -161,7 +164,7 @@ module _ (seed rounds : ℕ) (Written : List Entry → Type 0) (Breaks : List En
     transcript = [];
     told = [];
     steps_are = refl;
-    losses = refl;
+    losses = tells_first;
     legal = λ sure. refl;
     stops = stops;
     book = λ trusted some. absurd (some refl);
@@ -210,10 +213,15 @@ fails_by sure sure1 past more (step.Next addr) fails = λ is. fails (more is)
 fails_by sure sure1 past more (step.Crash at choice) fails = tt
 fails_by sure sure1 past more s fails = absurd fails
 
+due_by : (sure sure1 : Type 0) (setup : Setup) (past : List Entry) (at : Option CrashAt) (due : Option Record)
+    → (sure1 → sure) → WasDue sure setup past at due → WasDue sure1 setup past at due
+due_by sure sure1 setup past None due more was = was
+due_by sure sure1 setup past (Some at) due more was = λ is. was (more is)
+
 loses_by : (sure sure1 : Type 0) (setup : Setup) (past : List Entry) (seen : Option (List ℕ)) (why : WorldNo)
     → (sure1 → sure) → (s : Step) → LosesAt sure setup past seen why s → LosesAt sure1 setup past seen why s
 loses_by sure sure1 setup past seen why more (step.Crash at choice) loses =
-    (loses.0, λ is. loses.1 (more is), loses.2)
+    (loses.0, due_by sure sure1 setup past at loses.0 more loses.1, loses.2)
 loses_by sure sure1 setup past seen why more s loses = absurd loses
 
 module _ {D : Type 0} {g : Ghosts D} (given left : D) (world : World D g)

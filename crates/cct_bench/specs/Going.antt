@@ -6,8 +6,7 @@ use Rattle.cct_model.specs.lines.entry.Entry.{Entry}
 use Rattle.cct_model.specs.Legal.{Legal}
 use Rattle.cct_model.specs.Script.{Stage, Script, script}
 use Rattle.cct_model.specs.Transcript.{onto}
-use Rattle.cct_world.specs.Step.{crashes}
-use Rattle.cct_world.specs.Sure.{losses_in}
+use Rattle.cct_world.specs.Restarts.{TellsLosses}
 use Rattle.cct_bench.specs.Disks.{most_records}
 use Rattle.cct_bench.specs.Lines.{said_from}
 
@@ -29,6 +28,6 @@ pub record Going (Relies : List Entry → Type 0) (left0 left : Option (List ℕ
   pub says : (more : List ℕ) → AlsoSays (script (taken ++ more)) played (said_from number stage (held ++ more))
   pub legal : Relies (onto [] transcript) → (more : List ℕ)
       → Legal most_records (script (taken ++ more)).setup played transcript
-  pub losses : crashes (onto [] transcript) ≡ losses_in played
+  pub losses : TellsLosses played (onto [] transcript)
   pub holds : Stands (onto [] transcript)
   pub wrote : Written transcript

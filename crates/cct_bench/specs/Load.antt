@@ -14,9 +14,9 @@ use Rattle.cct_model.specs.Paid.{Paid}
 use Rattle.cct_model.specs.Transcript.{onto}
 use Rattle.cct_laws.specs.Law.{IsOf, lines_in}
 use Rattle.cct_journal.specs.Image.{IsFirstByteFrom}
-use Rattle.cct_world.specs.Restarts.{AtLosses}
+use Rattle.cct_world.specs.Restarts.{AtLosses, TellsLosses}
 use Rattle.cct_world.specs.Step.{RoseBy, crashes}
-use Rattle.cct_world.specs.Sure.{First, IsCrash, MayFail, Sure, losses_in}
+use Rattle.cct_world.specs.Sure.{First, IsCrash, MayFail, Sure}
 use Rattle.cct_gen.specs.Load.{load_setup, load_steps}
 use Rattle.cct_load.specs.Sums.{sums_of}
 use Rattle.cct_load.specs.declared.load.LoadEnd.{LoadEnd}
@@ -104,7 +104,7 @@ pub record Loaded (seed rounds : ℕ) (s : Status) (Written : List Entry → Typ
   pub told : List Entry
   pub tail : List Entry
   pub steps_are : load_steps seed rounds ≡ played ++ unplayed
-  pub losses : crashes (onto [] transcript) ≡ losses_in played
+  pub losses : TellsLosses played (onto [] transcript)
   pub legal : Sure disks.trusted (onto [] transcript) → Legal most_records load_setup played transcript
   pub in_order : Sure disks.trusted (onto [] transcript) → (d : DeviceSetup) → IsOf load_setup d
       → Honest transcript → InOrder (lines_in d transcript)
@@ -127,7 +127,7 @@ pub record LoadPlayed (seed rounds : ℕ) (how : Ending) (Written : List Entry �
   pub transcript : List Entry
   pub told : List Entry
   pub steps_are : load_steps seed rounds ≡ played ++ unplayed
-  pub losses : crashes (onto [] transcript) ≡ losses_in played
+  pub losses : TellsLosses played (onto [] transcript)
   pub legal : Sure disks.trusted (onto [] transcript) → Legal most_records load_setup played transcript
   pub stops : LoadStops disks seed rounds played unplayed (onto [] transcript) how told Written Breaks
   pub book : disks.trusted → told ≢ []

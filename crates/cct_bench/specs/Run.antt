@@ -29,9 +29,9 @@ use Rattle.cct_bench.specs.declared.lines.ScriptStop.TheVariants as stop
 use Rattle.cct_bench.specs.declared.play.Ending.{Ending}
 use Rattle.cct_bench.specs.declared.play.Ending.TheVariants as ending
 use Rattle.cct_bench.specs.declared.play.TheConstants.{JOURNAL_BYTES}
-use Rattle.cct_world.specs.Restarts.{AtLosses, LosesAt}
+use Rattle.cct_world.specs.Restarts.{AtLosses, LosesAt, TellsLosses}
 use Rattle.cct_world.specs.Step.{RoseBy, crashes}
-use Rattle.cct_world.specs.Sure.{First, IsCrash, MayFail, Sure, due_to, losses_in}
+use Rattle.cct_world.specs.Sure.{First, IsCrash, MayFail, Sure, due_to}
 use Rattle.cct_world.specs.declared.refusal.WorldNo.{WorldNo}
 use Rattle.cct_world.specs.declared.refusal.WorldNo.TheVariants as world_no
 use Rattle.cct_bench.specs.Disks.{Disks, IsReady, most_records}
@@ -144,7 +144,7 @@ pub record Ran (bytes : List ℕ) (s : Status) (left : Option (List ℕ)) (Writt
   pub took : bytes ≡ taken ++ rest
   pub left_is : left ≡ Some rest
   pub steps_are : (script bytes).steps ≡ played ++ unplayed
-  pub losses : crashes (onto [] transcript) ≡ losses_in played
+  pub losses : TellsLosses played (onto [] transcript)
   pub legal : Sure disks.trusted (onto [] transcript) → Legal most_records (script bytes).setup played transcript
   pub in_order : Sure disks.trusted (onto [] transcript) → (d : DeviceSetup) → IsOf (script bytes).setup d
       → Honest transcript → InOrder (lines_in d transcript)
@@ -260,7 +260,7 @@ pub record Played (Relies : List Entry → Type 0) (bytes : List ℕ) (how : End
   pub took : bytes ≡ taken ++ rest
   pub left_is : left ≡ Some rest
   pub steps_are : (script bytes).steps ≡ played ++ unplayed
-  pub losses : crashes (onto [] transcript) ≡ losses_in played
+  pub losses : TellsLosses played (onto [] transcript)
   pub legal : Relies (onto [] transcript) → Legal most_records (script bytes).setup played transcript
   pub stops : Stops Relies how bytes taken played unplayed transcript Written Breaks
   pub beside : Beside how (script bytes).setup taken played unplayed (onto [] transcript)

@@ -38,6 +38,12 @@ pub record IsLost (due : Option Record) (found put : ℕ) : Type 0 where
   pub others : found ≢ put
   pub unkept : (due ≡ None) ⊎ (found ≢ put + 1)
 
+-- So many records are found where so many were put: these, or these and the one that was due, which was kept.
+pub record HasAll (due : Option Record) (found put : ℕ) : Type 0 where
+  pub kept : Option Record
+  pub kept_is : IfSome kept (λ r. due ≡ Some r)
+  pub count : found ≡ put + length (put_by kept)
+
 -- What a loss of power left, as entries, newest first: the record that was kept of a put, if one was, behind how many
 -- records there are.
 abbrev pub told_by : ℕ → Option Record → List Entry
@@ -61,12 +67,6 @@ module _ {D : Type 0} {g : Ghosts D} where
       (records : List Record) × Reads g.seen (journals.disk_of journal) (journals.place_of journal) records
       × IsFirstBad setup records index
 
-  -- The second journal has as many records as the first, or one more where one was due: none are lost.
-  abbrev pub LosesNone : Journal D g → Journal D g → Option Record → Type 0
-  LosesNone old new due =
-      (kept : Option Record) × (journals.used_of new ≡ journals.used_of old + length (put_by kept))
-      × IfSome kept (λ r. due ≡ Some r)
-
   -- Why a host with the first journal isn't started again, where the second one is left: by what a read of its disk gives,
   -- and by how many records there are and were.
   abbrev pub RefusesCrash : Journal D g → Journal D g → Option Record → Setup → CrashNo → Type 0
@@ -75,7 +75,8 @@ module _ {D : Type 0} {g : Ghosts D} where
       (image : List ℕ) → g.seen (journals.disk_of new) ≡ Some image → IsAlien image
   RefusesCrash old new due setup (BadRecord index) =
       (image : List ℕ) → g.seen (journals.disk_of new) ≡ Some image
-      → IsBadAt image index ⊎ (LosesNone old new due × ReadsBad new setup index)
+      → IsBadAt image index
+      ⊎ (HasAll due (journals.used_of new) (journals.used_of old) × ReadsBad new setup index)
   RefusesCrash old new due setup (Lost found put) =
       (found ≡ journals.used_of new) × (put ≡ journals.used_of old) × IsLost due found put × Opens new
 

@@ -19,6 +19,7 @@ use Rattle.cct_world.specs.Step.{RoseBy, crashes}
 use Rattle.cct_world.specs.World.{StandsFor, disk_of, setup_of}
 use Rattle.cct_world.proofs.Lasting.{trusted_on}
 use Rattle.cct_world.proofs.Sure.{rose_none}
+use Rattle.cct_world.proofs.Told.{tells_first}
 use Rattle.cct_gen.specs.Load.{line_at, lines_before, load_setup, load_steps}
 use Rattle.cct_load.specs.declared.load.Load.{Load}
 use Rattle.cct_load.specs.declared.load.LoadEnd.{LoadEnd}
@@ -49,7 +50,7 @@ module _ {D : Type 0} {g : Ghosts D} (world : World D g) (load : Load) (left : D
     transcript = [];
     steps_are = refl;
     legal = λ relies. refl;
-    losses = refl;
+    losses = tells_first;
     ends = inl (refl, breaks);
     book = λ trusted. world_leaves world left [] is fresh trusted;
     restarts = refl;

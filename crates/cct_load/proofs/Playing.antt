@@ -18,15 +18,16 @@ use Rattle.cct_world.specs.declared.refusal.WorldNo.{WorldNo}
 use Rattle.cct_world.specs.declared.refusal.WorldNo.TheVariants as world_no
 use Rattle.cct_world.specs.declared.world.World.{World}
 use Rattle.cct_world.specs.Machine.{FailsIn, LosesIn, StepSuits}
-use Rattle.cct_world.specs.Restarts.{AtLosses, LosesAt, Restarted}
+use Rattle.cct_world.specs.Restarts.{AtLosses, LosesAt, Restarted, TellsLosses}
 use Rattle.cct_world.specs.Step.{LastsIn, RoseBy, crashes, crashes_of}
-use Rattle.cct_world.specs.Sure.{MayFail, due_to, losses_in}
+use Rattle.cct_world.specs.Sure.{MayFail, due_to}
 use Rattle.cct_world.specs.World.{Breaks, Plays, RestartsBy, StandsFor, capacity_in, disk_of, setup_of, used_of}
-use Rattle.cct_world.proofs.Holding.{holds_first, loses_at, world_on}
+use Rattle.cct_world.proofs.Holding.{holds_first, loses_at, restarts_in, world_on}
 use Rattle.cct_world.proofs.Lasting.{lasts_here, lasts_in, lasts_then, trusted_on, uncut_in}
 use Rattle.cct_world.proofs.Restarts.{losses_last}
 use Rattle.cct_world.proofs.Suiting.{legal_suits}
-use Rattle.cct_world.proofs.Sure.{crashes_none, losses_more, sure_back, sure_survives}
+use Rattle.cct_world.proofs.Sure.{crashes_none, sure_back, sure_survives}
+use Rattle.cct_world.proofs.Told.{step_tells, tells_first, tells_on}
 use Rattle.cct_gen.specs.Load.{line_at, lines_before, load_setup}
 use Rattle.cct_gen.proofs.LoadSetup.{setup_sound}
 use Rattle.cct_gen.proofs.Lines.{lines_in_range, one_line_more}
@@ -54,7 +55,7 @@ module _ {D : Type 0} {g : Ghosts D} (world : World D g) where
     lines = record {
       transcript = [];
       legal = λ relies. refl;
-      losses = refl;
+      losses = tells_first;
       holds = record {
         so = holds_first g.size g.honest g.seen g.cuts (setup_of world) (disk_of world) (StandsFor world)
             (disk_of world) (used_of world) refl fresh.host.keeps.used (λ sure. fresh) [] refl;
@@ -122,8 +123,11 @@ module _ {D : Type 0} {g : Ghosts D} (world : World D g) where
               subst (λ steps. Legal (capacity_in world) load_setup steps (t ++ report)) (sym more)
               (legal_more (capacity_in world) load_setup (lines_before seed n) t report s
               (goes.lines.legal (sure_back (HasTrusted world) news past here)) (entries here).0);
-          losses = ap crashes on ∙ losses_more (lines_before seed n) news past s goes.lines.losses told
-              ∙ ap losses_in (sym more);
+          losses = subst (λ steps. TellsLosses steps (onto [] (t ++ report))) (sym more)
+              (subst (TellsLosses (lines_before seed n ++ s ∷ [])) (sym on)
+              (tells_on (lines_before seed n) news past s goes.lines.losses
+              (step_tells (setup_of now) s (used_of now) (used_of next) (g.seen (disk_of next)) news
+              (restarts_in now next s news restarts) told)));
           holds = subst (Became world next sums1 seed (n + 1)) (sym on) (record {
             so = world_on (disk_of world) now next s news past goes.lasts lasts told cut many restarts same
                 (λ relies. (entries relies).1) before.so;

@@ -15,9 +15,9 @@ use Rattle.cct_world.specs.declared.refusal.WorldNo.{WorldNo}
 use Rattle.cct_world.specs.declared.refusal.WorldNo.TheVariants as world_no
 use Rattle.cct_world.specs.declared.world.World.{World}
 use Rattle.cct_world.specs.Holds.{WorldHolds}
-use Rattle.cct_world.specs.Restarts.{AtLosses, LosesAt, Restarted}
+use Rattle.cct_world.specs.Restarts.{AtLosses, LosesAt, Restarted, TellsLosses}
 use Rattle.cct_world.specs.Step.{RoseBy, crashes}
-use Rattle.cct_world.specs.Sure.{First, IsCrash, MayFail, Sure, due_to, losses_in}
+use Rattle.cct_world.specs.Sure.{First, IsCrash, MayFail, Sure, due_to}
 use Rattle.cct_world.specs.World.{capacity_in, disk_of}
 use Rattle.cct_gen.specs.Load.{line_at, lines_before, load_setup, load_steps}
 use Rattle.cct_load.specs.declared.load.Load.{Load}
@@ -45,7 +45,7 @@ module _ {D : Type 0} {g : Ghosts D} (world : World D g) where
   pub record PlayedLines (seed n : ℕ) (Holds : List Entry → Type 0) : Type 0 where
     pub transcript : List Entry
     pub legal : Relies (onto [] transcript) → Legal (capacity_in world) load_setup (lines_before seed n) transcript
-    pub losses : crashes (onto [] transcript) ≡ losses_in (lines_before seed n)
+    pub losses : TellsLosses (lines_before seed n) (onto [] transcript)
     pub holds : Holds (onto [] transcript)
 
   -- What is so after a past, where so many lines of a load were played and the world became another: what holds of a
@@ -124,7 +124,7 @@ module _ {D : Type 0} {g : Ghosts D} (world : World D g) where
     pub transcript : List Entry
     pub steps_are : load_steps load.seed load.rounds ≡ played ++ unplayed
     pub legal : Relies (onto [] transcript) → Legal (capacity_in world) load_setup played transcript
-    pub losses : crashes (onto [] transcript) ≡ losses_in played
+    pub losses : TellsLosses played (onto [] transcript)
     pub ends : Ends left load how played unplayed (onto [] transcript) Written Breaks
     pub book : HasTrusted → Book left how unplayed (onto [] transcript)
     pub restarts : RestartsAt left (onto [] transcript)

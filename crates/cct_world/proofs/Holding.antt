@@ -1,6 +1,7 @@
 -- What is so after a past goes on over a step.
-use Rattle.std.proofs.Common.{◌≡◌, ◌+◌, ◌++◌, ℕ, Bool, List, [], Option, length, refl, sym, subst}
+use Rattle.std.proofs.Common.{◌≡◌, ◌+◌, ◌++◌, ℕ, Bool, List, [], Option, Some, None, length, refl, sym, ap, subst}
 use Rattle.cct_model.specs.terms.device.Setup.{Setup}
+use Rattle.cct_model.specs.lines.command.CrashAt.{CrashAt}
 use Rattle.cct_model.specs.lines.command.Step.{Step}
 use Rattle.cct_model.specs.lines.command.Step.TheVariants as step
 use Rattle.cct_model.specs.lines.entry.Entry.{Entry}
@@ -8,11 +9,12 @@ use Rattle.cct_model.specs.Records.{records}
 use Rattle.cct_disk.specs.declared.disk.Disk.{Ghosts}
 use Rattle.cct_disk.specs.Disk.{IsTrusted}
 use Rattle.cct_journal.specs.Stands.{Outlasts}
+use Rattle.cct_world.specs.declared.machine.Machine.{Machine}
 use Rattle.cct_world.specs.declared.refusal.WorldNo.{WorldNo}
 use Rattle.cct_world.specs.declared.world.World.{World}
 use Rattle.cct_world.specs.Holds.{Holds, WorldHolds}
-use Rattle.cct_world.specs.Machine.{LosesIn}
-use Rattle.cct_world.specs.Restarts.{Loses, LosesAt, RestartsIn}
+use Rattle.cct_world.specs.Machine.{DueAsTold, LosesIn, due_of}
+use Rattle.cct_world.specs.Restarts.{Loses, LosesAt, RestartsIn, WasDue}
 use Rattle.cct_world.specs.Step.{LastsIn, RoseBy, crashes, crashes_of}
 use Rattle.cct_world.specs.Sure.{Sure}
 use Rattle.cct_world.specs.World.{RestartsBy, StandsFor, disk_of, setup_of, used_of}
@@ -54,10 +56,15 @@ module _ {D : Type 0} (size : D → ℕ) (honest : D → Bool) (seen : D → Opt
   }
 
 module _ {D : Type 0} {g : Ghosts D} where
+  -- none is due where a loss of power names no put
+  due_none : (machine : Machine D g) (at : Option CrashAt) → at ≡ None → due_of machine at ≡ None
+  due_none machine at none = ap (due_of machine) none
+
   -- what a loss of power leaves, whatever was due
   pub restarts_in : (now next : World D g) (s : Step) (news : List Entry) → RestartsBy now next s news
       → RestartsIn (setup_of now) s (used_of now) (used_of next) (g.seen (disk_of next)) news
-  restarts_in now next (step.Crash at choice) news restarts = (restarts.0, restarts.2)
+  restarts_in now next (step.Crash at choice) news restarts =
+      (due_of now.machine.value at, due_none now.machine.value at, restarts.1)
   restarts_in now next s news restarts = restarts
 
   -- what is so of a world
@@ -76,13 +83,19 @@ module _ {D : Type 0} {g : Ghosts D} where
       (disk_of next) s (used_of now) (used_of next) news past lasted lasts told cut counts
       (restarts_in now next s news restarts) stands before)
 
+  -- which record was due
+  was_due : (sure : Type 0) (now : World D g) (past : List Entry) (at : Option CrashAt) → (sure → StandsFor now past)
+      → DueAsTold now.machine.value at → WasDue sure (setup_of now) past at (due_of now.machine.value at)
+  was_due sure now past None stands told = refl
+  was_due sure now past (Some at) stands told = λ is. told past (stands is)
+
   -- why no host starts again
   pub loses_at : (sure : Type 0) (now : World D g) (left : D) (why : WorldNo) (past : List Entry) (s : Step)
       → (sure → StandsFor now past) → used_of now ≡ length (records past) → LosesIn now.machine.value left why s
       → LosesAt sure (setup_of now) past (g.seen left) why s
   loses_at sure now left why past (step.Crash at choice) stands many loses = (
-    loses.1.0,
-    λ is. loses.1.1 past (stands is),
-    subst (λ put. Loses (setup_of now) put loses.1.0 (g.seen left) why) many loses.1.2,
+    due_of now.machine.value at,
+    was_due sure now past at stands loses.1,
+    subst (λ put. Loses (setup_of now) put (due_of now.machine.value at) (g.seen left) why) many loses.2,
   )
   loses_at sure now left why past s stands many loses = absurd loses

@@ -28,10 +28,10 @@ use Rattle.cct_host.specs.declared.restart.Crashed.{Crashed}
 use Rattle.cct_host.specs.Attempt.{Attempt, asked, idle, news_of, put, put_of}
 use Rattle.cct_host.specs.Host as hosts
 use Rattle.cct_host.specs.Host.{put_by}
-use Rattle.cct_host.specs.Restarting.{IsLost, LosesNone, Opens, ReadsBad, RefusesCrash, crash_news, due_of, told_by}
+use Rattle.cct_host.specs.Restarting.{HasAll, IsLost, Opens, ReadsBad, RefusesCrash, crash_news, due_of, told_by}
 use Rattle.cct_host.specs.Starting.{StartsOver}
 use Rattle.cct_world.specs.declared.machine.Machine.{Machine}
-use Rattle.cct_world.specs.Machine.{Breaks, IsDue, StandsFor}
+use Rattle.cct_world.specs.Machine.{Breaks, DueAsTold, StandsFor}
 use Rattle.cct_world.specs.Restarts.{AtLosses, AtLossesWith, HasBad, Loses, Restarted, Restarts, RestartsIn, kept_in}
 use Rattle.cct_world.specs.Step.{LastsIn, RoseBy, crashes, crashes_of, unplayed}
 use Rattle.cct_world.proofs.Lasting.{lasts_here, lasts_in, lasts_then}
@@ -101,13 +101,14 @@ module _ {D : Type 0} {g : Ghosts D} where
   -- why no host starts again
   bad_by : (old new : Journal D g) (due : Option Record) (setup : Setup) (index : ℕ) (image : List ℕ)
       → g.seen (journals.disk_of new) ≡ Some image
-      → IsBadAt image index ⊎ (LosesNone old new due × ReadsBad new setup index)
+      → IsBadAt image index
+      ⊎ (HasAll due (journals.used_of new) (journals.used_of old) × ReadsBad new setup index)
       → IsBadAt image index ⊎ HasBad setup (journals.used_of old) due image index
   bad_by old new due setup index image tells (inl bad) = inl bad
-  bad_by old new due setup index image tells (inr (none, (rs, reads, bad))) = inr (
+  bad_by old new due setup index image tells (inr (all, (rs, reads, bad))) = inr (
     rs,
     subst (λ i. images.StandsFor i rs) (same_image reads.image image _ reads.tells tells) reads.stands,
-    record { kept = none.0; kept_is = none.2; count = sym reads.count ∙ none.1 },
+    subst (λ n. HasAll due n (journals.used_of old)) reads.count all,
     bad,
   )
 
@@ -137,17 +138,14 @@ module _ {D : Type 0} {g : Ghosts D} where
       → due_of old.host at ≡ due_in (hosts.setup_of old.host) past at)
       → ((past : List Entry) → StandsFor old past → CrashSuits (hosts.setup_of old.host) past at
       → IsTrusted g.honest g.seen (hosts.disk_of old.host) → ⊥)
-      × ((due : Option Record) × IsDue old at due
-      × Loses (hosts.setup_of old.host) (journals.used_of (hosts.journal_of old.host)) due
-      (g.seen (hosts.disk_of host)) (unplayed why))
+      × DueAsTold old at
+      × Loses (hosts.setup_of old.host) (journals.used_of (hosts.journal_of old.host)) (due_of old.host at)
+      (g.seen (hosts.disk_of host)) (unplayed why)
   crash_loses old host at why other refused never due = (
     λ past stands suits trusted. other (never past stands.host suits trusted),
-    (
-      due_of old.host at,
-      λ past stands. due past stands.host,
-      loses_by (hosts.journal_of old.host) (hosts.journal_of host) (due_of old.host at) (hosts.setup_of old.host) why other
-          refused,
-    ),
+    λ past stands. due past stands.host,
+    loses_by (hosts.journal_of old.host) (hosts.journal_of host) (due_of old.host at) (hosts.setup_of old.host) why other
+        refused,
   )
 
   pub crash_breaks : (old : Machine D g) (host : Host D g) (at : Option CrashAt) (choice : ℕ) (why : CrashNo)
@@ -245,7 +243,7 @@ module _ {D : Type 0} (size : D → ℕ) (honest : D → Bool) (seen : D → Opt
       → crashes news ≡ crashes_of s → used ≡ length (records past) → RestartsIn setup s used many (seen new) news
       → AtLosses (Restarted size honest seen cuts setup given old) past
       → AtLosses (Restarted size honest seen cuts setup given new) (news ++ past)
-  losses_on old new (step.Crash at choice) used many news past lasted lasts before cut told was (due, restarts) losses =
+  losses_on old new (step.Crash at choice) used many news past lasted lasts before cut told was (due, none, restarts) losses =
       let P = Restarted size honest seen cuts setup given new in
       let here : P (1 + crashes past) many = record {
         disk = new;

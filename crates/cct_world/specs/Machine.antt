@@ -17,6 +17,7 @@ use Rattle.cct_journal.specs.Journal as journals
 use Rattle.cct_laws.specs.Restart.{CrashSuits, due_in}
 use Rattle.cct_host.specs.Host as hosts
 use Rattle.cct_host.specs.Host.{PutSuits}
+use Rattle.cct_host.specs.Restarting as restarting
 use Rattle.cct_world.specs.declared.machine.Machine.{Machine}
 use Rattle.cct_world.specs.declared.refusal.WorldNo.{WorldNo}
 use Rattle.cct_world.specs.declared.refusal.WorldNo.TheVariants as world_no
@@ -86,24 +87,29 @@ module _ {D : Type 0} {g : Ghosts D} where
       → LeavesWith g.honest g.seen g.may_leave left (due_in (setup_of old) past at) (reverse (records past))
   FailsIn old left s = ⊥
 
-  -- This record, or none, was due where a loss of power comes, as any past tells that the machine stands for.
-  abbrev pub IsDue : Machine D g → Option CrashAt → Option Record → Type 0
-  IsDue machine at due = (past : List Entry) → StandsFor machine past → due ≡ due_in (setup_of machine) past at
+  -- The record that its host is about to put where a loss of power comes, if it is about to put one.
+  abbrev pub due_of : Machine D g → Option CrashAt → Option Record
+  due_of machine at = restarting.due_of machine.host at
+
+  -- That is the one that any past tells that the machine stands for.
+  abbrev pub DueAsTold : Machine D g → Option CrashAt → Type 0
+  DueAsTold machine at =
+      (past : List Entry) → StandsFor machine past → due_of machine at ≡ due_in (setup_of machine) past at
 
   -- What a loss of power left isn't what stood on the disk, and this is why. That is told of no other step, and never of
   -- a trusted disk.
   abbrev pub LosesIn : Machine D g → D → WorldNo → Step → Type 0
   LosesIn old left why (step.Crash at choice) =
       ((past : List Entry) → StandsFor old past → CrashSuits (setup_of old) past at → HasTrusted old → ⊥)
-      × ((due : Option Record) × IsDue old at due × Loses (setup_of old) (used_of old) due (g.seen left) why)
+      × DueAsTold old at × Loses (setup_of old) (used_of old) (due_of old at) (g.seen left) why
   LosesIn old left why s = ⊥
 
   -- What the disk has behind a step that was played, where that is a loss of power, and what is told of it, newest entry
   -- first. Any other step tells no record as kept.
   abbrev pub RestartsBy : Machine D g → Machine D g → Step → List Entry → Type 0
   RestartsBy old new (step.Crash at choice) news =
-      (due : Option Record) × IsDue old at due
-      × Restarts (setup_of old) due (used_of old) (used_of new) (g.seen (disk_of new)) news
+      DueAsTold old at
+      × Restarts (setup_of old) (due_of old at) (used_of old) (used_of new) (g.seen (disk_of new)) news
   RestartsBy old new s news = kept_in news ≡ []
 
   -- Why a step wasn't played, where this disk is left.

@@ -1,29 +1,23 @@
 -- What a disk has behind a loss of power: a journal over which the host starts again, or why it doesn't.
-use Rattle.std.specs.Prelude.{◌≡◌, ◌⊎◌, ℕ, ◌+◌, Bool, true, List, [], ◌∷◌, length, reverse, Option, Some}
-use Rattle.std.specs.Option.{IfSome}
+use Rattle.std.specs.Prelude.{◌≡◌, ◌⊎◌, ℕ, ◌+◌, Bool, true, List, [], ◌∷◌, ◌++◌, length, reverse, Option, Some, None}
 use Rattle.cct_model.specs.terms.device.Setup.{Setup}
+use Rattle.cct_model.specs.lines.command.CrashAt.{CrashAt}
 use Rattle.cct_model.specs.lines.command.Step.{Step}
 use Rattle.cct_model.specs.lines.command.Step.TheVariants as step
 use Rattle.cct_model.specs.lines.record.Record.{Record}
 use Rattle.cct_model.specs.lines.entry.Entry.{Entry}
 use Rattle.cct_model.specs.lines.entry.Entry.TheVariants as entry
 use Rattle.cct_model.specs.Following.{all_follow}
+use Rattle.cct_model.specs.Legal.{due_at}
 use Rattle.cct_model.specs.Records.{records}
 use Rattle.cct_journal.specs.Image.{IsAlien, IsBadAt, StandsFor}
 use Rattle.cct_journal.specs.Stands.{Outlasts}
-use Rattle.cct_laws.specs.Restart.{due_in}
-use Rattle.cct_host.specs.Host.{put_by}
-use Rattle.cct_host.specs.Restarting.{IsLost, told_by}
+use Rattle.cct_host.specs.Restarting.{HasAll, IsLost, told_by}
 use Rattle.cct_host.specs.Starting.{IsFirstBad}
 use Rattle.cct_world.specs.declared.refusal.WorldNo.{WorldNo}
 use Rattle.cct_world.specs.declared.refusal.WorldNo.TheVariants as world_no
 use Rattle.cct_world.specs.Step.{RoseBy, crashes}
-
--- So many records are there where so many were put: these, or these and the one that was due, which was kept.
-pub record HasAll (due : Option Record) (found put : ℕ) : Type 0 where
-  pub kept : Option Record
-  pub kept_is : IfSome kept (λ r. due ≡ Some r)
-  pub count : found ≡ put + length (put_by kept)
+use Rattle.cct_world.specs.Sure.{losses_in}
 
 -- An image stands for so many records.
 abbrev pub HasRecords : List ℕ → ℕ → Type 0
@@ -46,11 +40,16 @@ Loses setup put due seen (world_no.BadRecord index) =
 Loses setup put due seen (world_no.Lost found many) =
     (many ≡ put) × IsLost due found put × ((image : List ℕ) → seen ≡ Some image → HasRecords image found)
 
--- The step behind a past is a loss of power, and this is why no host starts again behind it. Which record was due, the
--- past tells where it may be relied on.
+-- This record, or none, was due where a loss of power comes behind a past: none where that names no put; and else what
+-- the past tells, where it may be relied on.
+abbrev pub WasDue : Type 0 → Setup → List Entry → Option CrashAt → Option Record → Type 0
+WasDue sure setup past None due = due ≡ None
+WasDue sure setup past (Some at) due = sure → due ≡ due_at setup past at.addr
+
+-- The step behind a past is a loss of power, and this is why no host starts again behind it.
 abbrev pub LosesAt : Type 0 → Setup → List Entry → Option (List ℕ) → WorldNo → Step → Type 0
 LosesAt sure setup past seen why (step.Crash at choice) =
-    (due : Option Record) × (sure → due ≡ due_in setup past at) × Loses setup (length (records past)) due seen why
+    (due : Option Record) × WasDue sure setup past at due × Loses setup (length (records past)) due seen why
 LosesAt sure setup past seen why s = ⊥
 
 -- What a read gives, where that is told, stands for so many records, each of which follows those before it.
@@ -74,11 +73,30 @@ kept_in [] = []
 kept_in (entry.Kept r ∷ past) = r ∷ kept_in past
 kept_in (e ∷ past) = kept_in past
 
--- The same of a step where it is a loss of power. Any other tells no record as kept.
+-- The same of a step where it is a loss of power: none was due where it names no put. Any other tells no record as
+-- kept.
 abbrev pub RestartsIn : Setup → Step → ℕ → ℕ → Option (List ℕ) → List Entry → Type 0
 RestartsIn setup (step.Crash at choice) put many seen news =
-    (due : Option Record) × Restarts setup due put many seen news
+    (due : Option Record) × (at ≡ None → due ≡ None) × Restarts setup due put many seen news
 RestartsIn setup s put many seen news = kept_in news ≡ []
+
+-- What the entries of a step, newest first, tell of losses of power: of the one that it is, with the record that was
+-- kept right behind it, if one was, and none where it names no put. Any other step tells none, and no record as kept.
+abbrev pub StepTells : Step → List Entry → Type 0
+StepTells (step.Crash at choice) news =
+    (many : ℕ) × (kept : Option Record) × (news ≡ told_by many kept) × (at ≡ None → kept ≡ None)
+StepTells s news = (crashes news ≡ 0) × (kept_in news ≡ [])
+
+-- A past, newest entry first, tells so of losses of power over steps, the oldest first.
+pub data StepsTell : List Step → List Entry → Type 0 where
+  no_step : StepsTell [] []
+  one_step_more : (before steps : List Step) (past told news : List Entry) (s : Step) → StepsTell before past
+      → StepTells s news → steps ≡ before ++ s ∷ [] → told ≡ news ++ past → StepsTell steps told
+
+-- A past tells as many losses of power as these steps are, and of each as the step does.
+pub record TellsLosses (steps : List Step) (past : List Entry) : Type 0 where
+  pub many : crashes past ≡ losses_in steps
+  pub each : StepsTell steps past
 
 -- While a disk became another its power had been cut so often, and a read then gave so many records, each of which
 -- follows those before it.

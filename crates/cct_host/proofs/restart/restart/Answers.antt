@@ -39,11 +39,11 @@ returns-in-Some-clause-refused g c image tells =
     let bad = first_bad c.new-recalled.result c.lose.new.replay (setup_of c.args.desks.now) c.in-Some.index reads.0
     c.in-Some.is (c.new-recalled.ensures.setup ∙ c.setup-setup.ensures) (c.in-Ok.ensures.told reads.0 reads.1) in
     inr (
-      (
-        kept,
-        c.in-Ok.ensures.counts,
-        subst (λ d. IfSome kept (λ r. d ≡ Some r)) c.due_for-due.ensures.value c.in-Ok.ensures.kept,
-      ),
+      record {
+        kept = kept;
+        kept_is = subst (λ d. IfSome kept (λ r. d ≡ Some r)) c.due_for-due.ensures.value c.in-Ok.ensures.kept;
+        count = c.in-Ok.ensures.counts;
+      },
       (reads.0, reads.1, bad),
     )
 

@@ -1,7 +1,6 @@
 use Rattle.std.proofs.Common.{subst, sym}
 use Rattle.cct_model.specs.lines.command.Step.TheVariants.{Crash}
 use Rattle.cct_host.specs.Host.{disk_of}
-use Rattle.cct_host.specs.Restarting.{due_of}
 use Rattle.cct_world.specs.Machine.{Breaks}
 use Rattle.cct_world.proofs.Restarts.{crash_breaks, crash_restarts, restarts_count}
 use Rattle.cct_world.proofs.machine.Machine.crash.Goals as goal
@@ -10,7 +9,6 @@ pub returns-in-Ok-clause-restarts : goal.returns-in-Ok-clause-restarts
 returns-in-Ok-clause-restarts g c =
     let machine = c.args.self.now in
     let restart = c.in-Ok.ensures in (
-      due_of machine.host c.args.at,
       λ past stands. c.restart.ensures.due past stands.host,
       crash_restarts machine.host c.restart.new.self c.args.at c.in-Ok.crashed _ c.tell_crash.ensures
           c.restart.ensures.setup restart.found restart.recalls restart.records restart.counts restart.kept,
