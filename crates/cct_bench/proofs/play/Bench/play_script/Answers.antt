@@ -1,17 +1,20 @@
 use Rattle.std.proofs.Common.{ap, sym, subst, ◌∙◌}
 use Rattle.cct_model.specs.Script.{at_steps}
 use Rattle.cct_disk.specs.Disk.{IsTrusted}
+use Rattle.cct_journal.specs.Journal as journals
 use Rattle.cct_journal.specs.Stands.{Outlasts}
 use Rattle.cct_world.specs.Holds.{WorldHolds}
 use Rattle.cct_world.specs.World.{StandsFor, disk_of, setup_of, used_of}
 use Rattle.cct_script.specs.Giving.{standing_of}
-use Rattle.cct_text.specs.Writing.{Wrote, IsNothing}
-use Rattle.cct_bench.specs.Disks.{Always}
+use Rattle.cct_text.specs.Writing.{Broke, Wrote, IsNothing}
+use Rattle.cct_bench.specs.Disks.{Always, disks}
 use Rattle.cct_world.specs.Sure.{Sure}
 use Rattle.cct_bench.specs.Going.{Going}
-use Rattle.cct_text.proofs.Writing.{wrote_nothing}
+use Rattle.cct_bench.specs.Run.{OverCut}
+use Rattle.cct_text.proofs.Writing.{wrote_none, wrote_nothing}
 use Rattle.cct_world.proofs.Holding.{holds_first}
-use Rattle.cct_bench.proofs.Going.{going_by, going_holds, going_setup}
+use Rattle.cct_bench.proofs.Going.{going_by, going_holds, going_setup, played_none}
+use Rattle.cct_bench.proofs.Keeping.{fresh_none}
 use Rattle.cct_world.proofs.Lasting.{lasts_on}
 use Rattle.cct_bench.proofs.play.Bench.play_script.Goals as goal
 
@@ -50,3 +53,18 @@ returns-in-Ok-build-clause-played g c given ready on stands =
     (holds_first disk.size disk.honest disk.seen disk.cuts (setup_of world) given (StandsFor world) (disk_of world)
     (used_of world) (ap disk.cuts same ∙ on.same_cuts) fresh.host.keeps.used (λ sure. fresh)) going
     )
+
+pub returns-in-Err-build-clause-played : goal.returns-in-Err-build-clause-played
+returns-in-Err-build-clause-played g c given ready on stands =
+    let sink = g.K.Sink in
+    let disk = g.D.Disk in
+    let out = c.args.out.now in
+    let last = c.in-Err-build.disk in
+    played_none Always (Sure (IsTrusted disk.honest disk.seen given)) (g.S.Source.left c.args.script.now)
+    (g.S.Source.left c.read_setup.new.script) (standing_of c.read_setup.new.lines).held c.in-Ok.first
+    (at_steps c.read_setup.new.setup) IsNothing (Wrote sink.written sink.puts out out)
+    (Broke sink.written sink.puts out out)
+    (OverCut (disks disk.size disk.honest disk.seen disk.may_leave disk.cuts given last))
+    (fresh_none disk.size disk.honest disk.seen disk.may_leave disk.cuts given last (journals.disk_of c.args.journal)
+    (journals.place_of c.args.journal) on c.in-Err-build.ensures.disk stands)
+    (wrote_none sink.written sink.puts out) c.in-Ok.ensures.opened
