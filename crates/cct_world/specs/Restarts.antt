@@ -73,27 +73,28 @@ kept_in [] = []
 kept_in (entry.Kept r ∷ past) = r ∷ kept_in past
 kept_in (e ∷ past) = kept_in past
 
--- The same of a step where it is a loss of power: none was due where it names no put. Any other tells no record as
--- kept.
+-- Behind a step that is a loss of power a host starts again so, where this record, or none, was due, and none where the
+-- step names no put. Any other step tells no record as kept.
 abbrev pub RestartsIn : Setup → Step → ℕ → ℕ → Option (List ℕ) → List Entry → Type 0
 RestartsIn setup (step.Crash at choice) put many seen news =
     (due : Option Record) × (at ≡ None → due ≡ None) × Restarts setup due put many seen news
 RestartsIn setup s put many seen news = kept_in news ≡ []
 
--- What the entries of a step, newest first, tell of losses of power: of the one that it is, with the record that was
--- kept right behind it, if one was, and none where it names no put. Any other step tells none, and no record as kept.
+-- What the entries of a step, newest first, tell of losses of power: where it is one, that alone, and right behind it the
+-- record that was kept, if one was, and none where the step names no put. Any other step tells none, and no record as
+-- kept.
 abbrev pub StepTells : Step → List Entry → Type 0
 StepTells (step.Crash at choice) news =
     (many : ℕ) × (kept : Option Record) × (news ≡ told_by many kept) × (at ≡ None → kept ≡ None)
 StepTells s news = (crashes news ≡ 0) × (kept_in news ≡ [])
 
--- A past, newest entry first, tells so of losses of power over steps, the oldest first.
+-- What a past, newest entry first, tells of losses of power over these steps, oldest first: of each what its step does.
 pub data StepsTell : List Step → List Entry → Type 0 where
   no_step : StepsTell [] []
   one_step_more : (before steps : List Step) (past told news : List Entry) (s : Step) → StepsTell before past
       → StepTells s news → steps ≡ before ++ s ∷ [] → told ≡ news ++ past → StepsTell steps told
 
--- A past tells as many losses of power as these steps are, and of each as the step does.
+-- A past tells as many losses of power as these steps are, each as its step does.
 pub record TellsLosses (steps : List Step) (past : List Entry) : Type 0 where
   pub many : crashes past ≡ losses_in steps
   pub each : StepsTell steps past
