@@ -17,18 +17,18 @@ use Rattle.cct_model.specs.Transcript.{onto}
 use Rattle.cct_laws.proofs.Coinless.{each_covers, each_in_order}
 use Rattle.cct_laws.proofs.Payments.{legal_paid}
 use Rattle.cct_journal.specs.Image.{IsBlank, capacity_of}
-use Rattle.cct_journal.specs.Stands.{GoesOn}
+use Rattle.cct_journal.specs.Stands.{GoesOn, Outlasts}
 use Rattle.cct_disk.specs.declared.disk.Disk.{Ghosts}
 use Rattle.cct_disk.specs.Disk.{IsTrusted}
 use Rattle.cct_text.specs.Writing.{Broke, Writes, Wrote}
 use Rattle.cct_world.specs.declared.refusal.WorldNo.{WorldNo}
 use Rattle.cct_world.specs.declared.refusal.WorldNo.TheVariants as world_no
 use Rattle.cct_world.specs.declared.world.World.{World}
-use Rattle.cct_world.specs.Restarts.{AtLosses, LosesAt, Restarted, WasDue}
+use Rattle.cct_world.specs.Restarts.{IsDueOver, LosesAt, Restarted, WasDue}
 use Rattle.cct_world.specs.Step.{RoseBy, crashes}
 use Rattle.cct_world.specs.Sure.{First, MayFail, Sure, losses_in}
 use Rattle.cct_world.specs.World.{disk_of}
-use Rattle.cct_world.proofs.Lasting.{lasts_on, lasts_then, trusted_on}
+use Rattle.cct_world.proofs.Lasting.{lasts_on, lasts_then, trusted_back, trusted_on}
 use Rattle.cct_world.proofs.Restarts.{at_losses}
 use Rattle.cct_world.proofs.Sure.{rose_none}
 use Rattle.cct_world.proofs.Told.{tells_first}
@@ -213,16 +213,22 @@ fails_by sure sure1 past more (step.Next addr) fails = λ is. fails (more is)
 fails_by sure sure1 past more (step.Crash at choice) fails = tt
 fails_by sure sure1 past more s fails = absurd fails
 
-due_by : (sure sure1 : Type 0) (setup : Setup) (past : List Entry) (at : Option CrashAt) (due : Option Record)
-    → (sure1 → sure) → WasDue sure setup past at due → WasDue sure1 setup past at due
-due_by sure sure1 setup past None due more was = was
-due_by sure sure1 setup past (Some at) due more was = λ is. was (more is)
+-- as much may be relied on, and as much was found
+module _ (sure sure1 : Type 0) (Found Found1 : ℕ → (List Record → Type 0) → Type 0) (more : sure1 → sure)
+    (less : sure → sure1) (finds : (losses : ℕ) (P : List Record → Type 0) → Found losses P → Found1 losses P)
+    (setup : Setup) (past : List Entry) where
+  due_by : (at : Option CrashAt) (due : Option Record) → WasDue sure Found setup past at due
+      → WasDue sure1 Found1 setup past at due
+  due_by None due was = was
+  due_by (Some at) due was = (
+    λ is. was.0 (more is),
+    λ unsure. finds (crashes past) (IsDueOver setup past at.addr due) (was.1 (λ is. unsure (less is))),
+  )
 
-loses_by : (sure sure1 : Type 0) (setup : Setup) (past : List Entry) (seen : Option (List ℕ)) (why : WorldNo)
-    → (sure1 → sure) → (s : Step) → LosesAt sure setup past seen why s → LosesAt sure1 setup past seen why s
-loses_by sure sure1 setup past seen why more (step.Crash at choice) loses =
-    (loses.0, due_by sure sure1 setup past at loses.0 more loses.1, loses.2)
-loses_by sure sure1 setup past seen why more s loses = absurd loses
+  loses_by : (seen : Option (List ℕ)) (why : WorldNo) (s : Step) → LosesAt sure Found setup past seen why s
+      → LosesAt sure1 Found1 setup past seen why s
+  loses_by seen why (step.Crash at choice) loses = (loses.0, due_by at loses.0 loses.1, loses.2)
+  loses_by seen why s loses = absurd loses
 
 module _ {D : Type 0} {g : Ghosts D} (given left : D) (world : World D g)
     (ready : IsReady (g.size given) (g.seen given)) (on : GoesOn g.size g.honest g.seen g.cuts given (disk_of world))
@@ -233,25 +239,46 @@ module _ {D : Type 0} {g : Ghosts D} (given left : D) (world : World D g)
   abbrev load : Load
   load = record { seed = seed; rounds = rounds }
 
+  lasted : Outlasts g.size g.honest g.seen g.cuts given (disk_of world)
+  lasted = lasts_on g.size g.honest g.seen g.cuts given (disk_of world) on
+
   now_trusted : IsTrusted g.honest g.seen given → IsTrusted g.honest g.seen (disk_of world)
-  now_trusted =
-      trusted_on g.size g.honest g.seen g.cuts given (disk_of world)
-      (lasts_on g.size g.honest g.seen g.cuts given (disk_of world) on)
+  now_trusted = trusted_on g.size g.honest g.seen g.cuts given (disk_of world) lasted
 
   relies : (past : List Entry) → Sure (IsTrusted g.honest g.seen given) past → Relies world past
   relies past (inl trusted) = inl (now_trusted trusted)
   relies past (inr none) = inr none
 
-  -- why no host starts again, where more may be relied on
+  relied : (past : List Entry) → Relies world past → Sure (IsTrusted g.honest g.seen given) past
+  relied past (inl trusted) = inl (trusted_back g.size g.honest g.seen g.cuts given (disk_of world) lasted trusted)
+  relied past (inr none) = inr none
+
+  -- the disk of the world lasted from the one that was given
+  restarted_given : (losses : ℕ) (P : List Record → Type 0)
+      → Restarted g.size g.honest g.seen g.cuts load_setup (disk_of world) left losses P
+      → Restarted g.size g.honest g.seen g.cuts load_setup given left losses P
+  restarted_given losses P restarted = record {
+    disk = restarted.disk;
+    lasted = lasts_then g.size g.honest g.seen g.cuts given (disk_of world) restarted.disk lasted restarted.lasted;
+    lasts = restarted.lasts;
+    cut = subst (λ n. RoseBy losses n (g.cuts restarted.disk)) on.same_cuts restarted.cut;
+    whole = restarted.whole;
+  }
+
+  -- why no host starts again
+  abbrev FoundFrom : D → ℕ → (List Record → Type 0) → Type 0
+  FoundFrom first = Restarted g.size g.honest g.seen g.cuts load_setup first left
+
   lost_by : (why : WorldNo) (unplayed : List Step) (past : List Entry)
       → ((s : Step) → loads.FailsAt world left why past s
-      → LosesAt (Relies world past) load_setup past (g.seen left) why s)
+      → LosesAt (Relies world past) (FoundFrom (disk_of world)) load_setup past (g.seen left) why s)
       → First (loads.FailsAt world left why past) unplayed → EndsLost ds load_setup past unplayed why
   lost_by why unplayed past is first =
+      let sure = Sure (IsTrusted g.honest g.seen given) past in
       first_by (loads.FailsAt world left why past)
-      (LosesAt (Sure (IsTrusted g.honest g.seen given) past) load_setup past (g.seen left) why) unplayed
-      (λ s fails. loses_by (Relies world past) (Sure (IsTrusted g.honest g.seen given) past) load_setup past (g.seen left)
-      why (relies past) s (is s fails)) first
+      (LosesAt sure (FoundFrom given) load_setup past (g.seen left) why) unplayed
+      (λ s fails. loses_by (Relies world past) sure (FoundFrom (disk_of world)) (FoundFrom given) (relies past)
+      (relied past) restarted_given load_setup past (g.seen left) why s (is s fails)) first
 
   -- what was told, by how the playing of it ended
   told_by : (how : LoadEnd) (played unplayed : List Step) (past : List Entry)
@@ -326,21 +353,6 @@ module _ {D : Type 0} {g : Ghosts D} (given left : D) (world : World D g)
   keeps_by (load_end.Unplayed (world_no.Lost found put)) unplayed past book tells =
       none_first unplayed (first_by _ (λ s. ⊥) unplayed (λ s never. never) book)
 
-  -- the disk of the world lasted from the one that was given
-  restarts_given : (past : List Entry)
-      → AtLosses (Restarted g.size g.honest g.seen g.cuts load_setup (disk_of world) left) past
-      → AtLosses (ds.restarted load_setup) past
-  restarts_given past restarts =
-      at_losses (Restarted g.size g.honest g.seen g.cuts load_setup (disk_of world) left)
-      (Restarted g.size g.honest g.seen g.cuts load_setup given left) (λ losses many restarted. record {
-        disk = restarted.disk;
-        lasted = lasts_then g.size g.honest g.seen g.cuts given (disk_of world) restarted.disk
-            (lasts_on g.size g.honest g.seen g.cuts given (disk_of world) on) restarted.lasted;
-        lasts = restarted.lasts;
-        cut = subst (λ n. RoseBy losses n (g.cuts restarted.disk)) on.same_cuts restarted.cut;
-        whole = restarted.whole;
-      }) past restarts
-
   pub load_played : (how : LoadEnd) → PlaysLoad world load how left Written Breaks
       → LoadPlayed seed rounds (load_ending how) Written Breaks ds
   load_played how p =
@@ -358,7 +370,7 @@ module _ {D : Type 0} {g : Ghosts D} (given left : D) (world : World D g)
         stops = told.1;
         book = λ trusted some. book_by how p.unplayed past (p.book (now_trusted trusted));
         keeps = λ trusted tells. keeps_by how p.unplayed past (p.book (now_trusted trusted)) tells;
-        restarts = restarts_given past p.restarts;
+        restarts = at_losses (FoundFrom (disk_of world)) (FoundFrom given) restarted_given past p.restarts;
         cut = subst (λ n. RoseBy (crashes past) n (g.cuts left)) on.same_cuts p.cut;
         uncut = λ none next. p.uncut none next ∙ on.same_cuts;
       }
@@ -392,8 +404,8 @@ load_done seed rounds status.JournalLost Written Breaks disks image told sized b
     absurd (h.keeps trusted (tells_loss (EndsLost disks load_setup (onto [] h.transcript) h.unplayed) h.tail h.ends.0.0))
 load_done seed rounds status.JournalLost Written Breaks disks image told sized blank (inr none) w d h =
     absurd (none_next h.played h.unplayed (ap losses_in (sym h.steps_are) ∙ none)
-    (lost_next (Sure disks.trusted (onto [] h.transcript)) load_setup (onto [] h.transcript) disks.seen_after h.unplayed
-    h.tail h.ends.0.0))
+    (lost_next (Sure disks.trusted (onto [] h.transcript)) (disks.restarted load_setup) load_setup
+    (onto [] h.transcript) disks.seen_after h.unplayed h.tail h.ends.0.0))
 
 -- with a told disk, and a cause for each fault
 pub load_completes : (seed rounds : ℕ) (s : Status) (Written : List Entry → Type 0)

@@ -24,8 +24,8 @@ pub record IsReady (size : ℕ) (seen : Option (List ℕ)) : Type 0 where
 -- told, whether it is honest and tells them, and how often its power was cut. As it comes back: that each image that a
 -- loss of power may leave on it stands for records, the oldest first, or, where one is being put, for these or for
 -- these and that one; which bytes a read then gives, where that is told; and how often its power was cut by then. And
--- that in between, when its power had been cut so often, a read gave so many records, each of which follows those before
--- it on a machine of a setup.
+-- that in between, when its power had been cut so often, a read gave records of which something holds, each of which
+-- follows those before it on a machine of a setup.
 pub record Disks : Type 1 where
   pub size : ℕ
   pub seen : Option (List ℕ)
@@ -34,7 +34,7 @@ pub record Disks : Type 1 where
   pub leaves : Option Record → List Record → Type 0
   pub seen_after : Option (List ℕ)
   pub cuts_after : ℕ
-  pub restarted : Setup → ℕ → ℕ → Type 0
+  pub restarted : Setup → ℕ → (List Record → Type 0) → Type 0
 
 -- of a kind of disk of which is known what each tells
 module _ {D : Type 0} (size : D → ℕ) (honest : D → Bool) (seen : D → Option (List ℕ))

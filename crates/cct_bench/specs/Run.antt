@@ -73,7 +73,7 @@ TellsLoss = TellsOf (λ why. ⊤)
 -- disk then has that comes back.
 abbrev pub EndsLost : Disks → Setup → List Entry → List Step → WorldNo → Type 0
 EndsLost disks setup past unplayed why =
-    First (LosesAt (Sure disks.trusted past) setup past disks.seen_after why) unplayed
+    First (LosesAt (Sure disks.trusted past) (disks.restarted setup) setup past disks.seen_after why) unplayed
 
 -- What a loss of power may leave on the disk behind a past, by the last line, where these steps weren't played: each
 -- image stands for the records of the past; or, where the disk failed in a step with a record that was due, for these

@@ -26,8 +26,9 @@ use Rattle.cct_model.specs.Setup.{IsSoundSetup}
 use Rattle.cct_model.specs.History.{Met}
 use Rattle.cct_model.specs.Line.{Line, put, taken}
 use Rattle.cct_model.specs.Order.{order}
-use Rattle.cct_model.specs.Job.{Job, job, with_line, done, epoch, puts, address_of}
+use Rattle.cct_model.specs.Job.{Job, free, job, with_line, done, epoch, puts, address_of}
 use Rattle.cct_model.specs.Records.{records, hopper_of}
+use Rattle.cct_model.specs.Following.{all_follow}
 use Rattle.cct_model.specs.Legal.{with_end, keeping_crash}
 use Rattle.cct_model.specs.Refusal.{refusal}
 use Rattle.cct_model.specs.Transcript.{met, owner, opened_at, lines_of, sale_lines}
@@ -40,9 +41,10 @@ use Rattle.cct_laws.specs.Recorded.{HasNoJob}
 use Rattle.cct_laws.proofs.Setups.{same_some, found_in}
 use Rattle.cct_laws.proofs.Rows.{RowHolds, IsOwned, row_owned}
 use Rattle.cct_laws.proofs.Brought.{Comes, takes_coin, leaves_coin, leaves_alien, drops_coin, drops_none, jams, jams_none, is_reset, AtWork, row_after, wire_of, wire_end, record_end, poll_wire, poll_end, AtDevice, came, took, halted, idled, made_exchange, made_put, Selling, Brought, of_device, faulted, refused, began_scan, began_sale, nobody, polled, sold, balanced, lost_power, lost_in_put, lost_in_sale}
+use Rattle.cct_laws.proofs.Orders.{belongs_all}
 use Rattle.cct_laws.proofs.Recorded.{order_recorded, restart_frees}
 use Rattle.cct_laws.proofs.Waits.{BeginsNone, device_waits_less, sale_waits_less}
-use Rattle.cct_laws.proofs.Used.{Unused, Grows, same_records, one_more, grows_fresh, grows_owned, more_unused}
+use Rattle.cct_laws.proofs.Used.{Unused, Grows, same_records, one_more, grows_owned, more_unused}
 use Rattle.cct_laws.proofs.Opening.{UsesOwn, row_own}
 use Rattle.cct_laws.proofs.NewIds.{IsNew, payment_new, sale_new}
 
@@ -68,7 +70,6 @@ ids_less setup past later less ids = record {
   owned = λ e o own is.
       grows_owned (records past) (records later) e.addr less.grows
       (λ x was. ids.owned e x own (order_recorded e past ∙ was)) o (sym (order_recorded e later) ∙ is);
-  fresh = grows_fresh (records past) (records later) less.grows ids.fresh;
 }
 
 -- an entry that puts nothing
@@ -120,7 +121,6 @@ ids_paid setup past addr id count far is_new ids = record {
     | inr was ↦ ids.sale_apart e other own was (sale_at other second)
   ];
   owned = λ e o own is. ids.owned e o own (order_recorded e past ∙ sym (order_recorded e later) ∙ is);
-  fresh = ids.fresh;
 }
   where
     later : List Entry
@@ -147,7 +147,6 @@ ids_vended setup past id price sound is_new ids = record {
   sale_apart = λ e other own first second.
       is_new.devices e other own (waits_at e other own first) (same_some id other second);
   owned = λ e o own is. ids.owned e o own (order_recorded e past ∙ sym (order_recorded e later) ∙ is);
-  fresh = ids.fresh;
 }
   where
     later : List Entry
@@ -176,11 +175,11 @@ put_owned setup past d c since r own ids work is =
     opened o owed = let at = ids.owned d o own owed in ap hopper_of at.0 ∙ at.1 ∙ sym work.is_here
 
 -- a record that is put uses a new id, with which no job then waits
-record IsPutNew (setup : Setup) (past : List Entry) (r : Record) : Type 0 where
-  is_new : IsFresh (records past) r
-  devices : (e : DeviceSetup) (other : ℕ) → IsOf setup e →
+pub record IsPutNew (setup : Setup) (past : List Entry) (r : Record) : Type 0 where
+  pub is_new : IsFresh (records past) r
+  pub devices : (e : DeviceSetup) (other : ℕ) → IsOf setup e →
       waiting (job (lines_of e (entry.Put r ∷ past))) ≡ Some other → uses other r ≡ false
-  sale : (other : ℕ) → waiting (job (sale_lines past)) ≡ Some other → uses other r ≡ false
+  pub sale : (other : ℕ) → waiting (job (sale_lines past)) ≡ Some other → uses other r ≡ false
 
 opened_new : (setup : Setup) (past : List Entry) (d : DeviceSetup) (addr id count : ℕ) (since : List Line)
     (opened a n life : ℕ) → IsOf setup d → Ids setup past → AtWork d past (command.Pay addr id count) since →
@@ -220,7 +219,7 @@ put_new setup past d c since (record_of.Sold id price) own ids work here uses_ow
 put_new setup past d c since r own ids work here uses_own =
     record { is_new = tt; devices = λ e other own_too is. refl; sale = λ other is. refl }
 
-row_new : (setup : Setup) (past : List Entry) (d : DeviceSetup) (c : Command) (since : List Line) (r : Record) →
+pub row_new : (setup : Setup) (past : List Entry) (d : DeviceSetup) (c : Command) (since : List Line) (r : Record) →
     IsOf setup d → Ids setup past → AtWork d past c since → row_after d past c since ≡ puts r → IsPutNew setup past r
 row_new setup past d c since r own ids work is =
     put_new setup past d c since r own ids work (put_owned setup past d c since r own ids work is)
@@ -251,7 +250,7 @@ ids_kept setup past r is_new ids = ids_less setup past (keeping_crash past r ++ 
     freed = restart_frees (keeping_crash past r ++ past) tt
 
 -- the id of a sale that is about to put its record
-sale_unused : (setup : Setup) (past : List Entry) (id price : ℕ) (since : List Line) → Ids setup past →
+pub sale_unused : (setup : Setup) (past : List Entry) (id price : ℕ) (since : List Line) → Ids setup past →
     Selling past id price since → Unused id (records past)
 sale_unused setup past id price since ids selling = ids.sale_waits id (ap waiting selling.job_is)
 
@@ -319,15 +318,24 @@ device_ids capacity setup past d s news sound own (made_put c since r work is) i
     ids_ended setup past d.addr (entry.Put r) (record_end d past c since r)
     (ids_put setup past r (row_new setup past d c since r own ids work is) ids)
 
-pub ids_start : (setup : Setup) → Ids setup []
-ids_start setup = record {
-  waits = λ e id own is. refl;
-  sale_waits = λ id is. refl;
-  apart = λ d e id own other first second. absurd cc;
-  sale_apart = λ e id own first second. cc;
-  owned = λ e o own is. absurd cc;
-  fresh = tt;
+-- where no job runs, over records that follow one another
+pub ids_over : (setup : Setup) (past : List Entry) → HasNoJob past → all_follow setup (records past) ≡ true →
+    Ids setup past
+ids_over setup past none follow = record {
+  waits = λ e id own is. none_waits (job (lines_of e past)) id (none.devices e) is;
+  sale_waits = λ id is. none_waits (job (sale_lines past)) id none.sale is;
+  apart = λ d e id own other first second. none_waits (job (lines_of d past)) id (none.devices d) first;
+  sale_apart = λ e id own first second. none_waits (job (lines_of e past)) id (none.devices e) first;
+  owned = λ e o own is.
+      let at = (belongs_all setup (records past) follow).owned e.addr o (sym (order_recorded e past) ∙ is) in
+      (at.named, at.here);
 }
+  where
+    none_waits : {A : Type 0} (j : Job) (id : ℕ) → j ≡ free → waiting j ≡ Some id → A
+    none_waits j id is waits = absurd (none-some id (sym (ap waiting is) ∙ waits))
+
+pub ids_start : (setup : Setup) → Ids setup []
+ids_start setup = ids_over setup [] (record { devices = λ d. refl; scan = refl; sale = refl }) refl
 
 pub ids_step : (capacity : ℕ) (setup : Setup) (past news : List Entry) (s : Step) → IsSoundSetup setup →
     Brought capacity setup past s news → Ids setup past → Ids setup (news ++ past)

@@ -26,9 +26,10 @@ use Rattle.cct_model.specs.Legal.{due_at, LegalFrom, Legal}
 use Rattle.cct_model.specs.Script.{IsInRange}
 use Rattle.cct_model.specs.Transcript.{lines_of, sale_lines, onto}
 use Rattle.cct_laws.specs.Balanced.{IsConserved}
+use Rattle.cct_laws.specs.Ids.{Ids}
 use Rattle.cct_laws.specs.Law.{IsOf}
 use Rattle.cct_laws.proofs.AtWork.{available_both}
-use Rattle.cct_laws.proofs.Books.{due_follows, books_legal}
+use Rattle.cct_laws.proofs.Books.{Books, due_follows, books_legal}
 use Rattle.cct_laws.proofs.Brought.{row_after, Selling, Due, from_job, from_sale, is_due}
 use Rattle.cct_laws.proofs.Freed.{due_frees, allows}
 use Rattle.cct_laws.proofs.Held.{holds_of, holds_put}
@@ -179,24 +180,34 @@ legal_settle capacity setup steps transcript addr stored many need sound in_rang
     settle_has_room capacity setup (onto [] transcript) addr
     (legal_room capacity setup steps transcript sound in_range legal) stored many need is
 
--- of every legal past, whatever the wire does: a record that a job at any address is about to put follows those before
+-- where ids are in order and the books are kept, a record that a job at any address is about to put follows those before
 -- it
+pub kept_due_follows : (limit : ℕ) (setup : Setup) (past : List Entry) (addr : ℕ) (r : Record) → Ids setup past →
+    Books limit setup past → due_at setup past addr ≡ Some r → follows setup (records past) r ≡ true
+kept_due_follows limit setup past addr r ids books due =
+    due_follows limit setup past r ids books (is_due setup past addr r due)
+
+-- and a ledger takes it beside what the other jobs reserve
+pub kept_due_allowed : (limit : ℕ) (setup : Setup) (past : List Entry) (addr : ℕ) (r : Record) → Ids setup past →
+    Books limit setup past → due_at setup past addr ≡ Some r → (freed_by setup r ≤ reserved_at_work setup past)
+    × (is_allowed setup (records past) (reserved_at_work setup past - freed_by setup r) r ≡ true)
+kept_due_allowed limit setup past addr r ids books due =
+    let told = is_due setup past addr r due in
+    let frees = due_frees setup past r told in
+    (frees, allows setup past r (due_follows limit setup past r ids books told) frees books.counts.covered)
+
+-- so in every legal past, whatever the wire does
 pub legal_due_follows : (capacity : ℕ) (setup : Setup) (steps : List Step) (past : List Entry) (addr : ℕ) (r : Record) →
     IsSoundSetup setup → All IsInRange steps → LegalFrom capacity setup [] steps past →
     due_at setup past addr ≡ Some r → follows setup (records past) r ≡ true
-legal_due_follows capacity setup steps past addr r sound in_range legal due =
+legal_due_follows capacity setup steps past addr r sound in_range legal =
     let kept = books_legal capacity setup steps past sound in_range legal in
-    due_follows capacity setup past r kept.0 kept.1 (is_due setup past addr r due)
+    kept_due_follows capacity setup past addr r kept.0 kept.1
 
--- and a ledger takes it beside what the other jobs reserve
 pub legal_due_allowed : (capacity : ℕ) (setup : Setup) (steps : List Step) (past : List Entry) (addr : ℕ) (r : Record) →
     IsSoundSetup setup → All IsInRange steps → LegalFrom capacity setup [] steps past →
     due_at setup past addr ≡ Some r → (freed_by setup r ≤ reserved_at_work setup past)
     × (is_allowed setup (records past) (reserved_at_work setup past - freed_by setup r) r ≡ true)
-legal_due_allowed capacity setup steps past addr r sound in_range legal due =
+legal_due_allowed capacity setup steps past addr r sound in_range legal =
     let kept = books_legal capacity setup steps past sound in_range legal in
-    let told = is_due setup past addr r due in
-    let frees = due_frees setup past r told in (
-      frees,
-      allows setup past r (due_follows capacity setup past r kept.0 kept.1 told) frees kept.1.counts.covered,
-    )
+    kept_due_allowed capacity setup past addr r kept.0 kept.1

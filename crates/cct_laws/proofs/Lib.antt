@@ -22,6 +22,7 @@ pub mod Fitted
 pub mod Follow
 pub mod Freed
 pub mod GivenUp
+pub mod Growing
 pub mod Held
 pub mod HopperReplies
 pub mod Ids

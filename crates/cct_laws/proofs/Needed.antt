@@ -50,7 +50,7 @@ needs_same d one other same needs =
     (subst₂ (λ state owed. Needs d (job other) state owed) (sym same.epochs) (sym same.orders) needs)
 
 -- the job of lines, at hand
-needs_as : (d : DeviceSetup) (lines : List Line) (j : Job) → job lines ≡ j → Needs d j (epoch lines) (order lines) →
+pub needs_as : (d : DeviceSetup) (lines : List Line) (j : Job) → job lines ≡ j → Needs d j (epoch lines) (order lines) →
     NeedsIn d lines
 needs_as d lines j is needs = subst (λ x. Needs d x (epoch lines) (order lines)) (sym is) needs
 

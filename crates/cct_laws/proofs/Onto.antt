@@ -34,7 +34,7 @@ pub transcript_on : (transcript report : List Entry)
 transcript_on transcript report = onto-append [] transcript report ∙ onto_is (onto [] transcript) report
 
 -- a legal past, and one step more
-legal_from : (capacity : ℕ) (setup : Setup) (past : List Entry) (steps : List Step) (end : List Entry) (s : Step)
+pub legal_from : (capacity : ℕ) (setup : Setup) (past : List Entry) (steps : List Step) (end : List Entry) (s : Step)
     (news : List Entry) → LegalFrom capacity setup past steps end → Entries capacity setup end s news
     → LegalFrom capacity setup past (steps ++ s ∷ []) (news ++ end)
 legal_from capacity setup past [] end s news h e =

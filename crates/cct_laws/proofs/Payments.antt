@@ -1,5 +1,5 @@
 -- What holds of each hopper in every legal transcript over an honest wire, and of ids whatever the wire does.
-use Rattle.std.proofs.Common.{◌≡◌, ℕ, List, [], None, All}
+use Rattle.std.proofs.Common.{◌≡◌, ℕ, List, [], ◌++◌, None, All}
 use Rattle.std.specs.Prelude.{⊤}
 use Rattle.cct_model.specs.terms.device.DeviceSetup.{DeviceSetup}
 use Rattle.cct_model.specs.terms.device.Setup.{Setup}
@@ -24,7 +24,9 @@ use Rattle.cct_laws.specs.Law.{IsOf, lines_in}
 use Rattle.cct_laws.proofs.Ids.{ids_start}
 use Rattle.cct_laws.proofs.Paying.{pays_kept, pays_paid, rests_unowed, dispense_fresh}
 use Rattle.cct_laws.proofs.Payouts.{Pays}
-use Rattle.cct_laws.proofs.Seen.{along_from, any_steps}
+use Rattle.cct_laws.proofs.Seen.{along, along_from, any_steps}
+use Rattle.cct_laws.proofs.Growing.{step_grows}
+use Rattle.cct_laws.proofs.Used.{grows_fresh}
 use Rattle.cct_laws.proofs.Whole.{kept_hopper_legal}
 
 -- ids, whatever the wire does
@@ -34,9 +36,14 @@ legal_ids capacity setup steps transcript sound legal =
     (along_from capacity setup (λ s. ⊤) (λ past. ⊤) sound (λ past news s any ids told before. tt) [] steps
     (onto [] transcript) (any_steps steps) (ids_start setup) legal tt).0
 
+-- so no id is used twice
 pub legal_fresh : (capacity : ℕ) (setup : Setup) (steps : List Step) (transcript : List Entry) →
     IsSoundSetup setup → Legal capacity setup steps transcript → AreFresh (records (onto [] transcript))
-legal_fresh capacity setup steps transcript sound legal = (legal_ids capacity setup steps transcript sound legal).fresh
+legal_fresh capacity setup steps transcript sound legal =
+    along capacity setup (λ s. ⊤) (λ past. AreFresh (records past)) sound
+    (λ past news s any ids told fresh.
+    grows_fresh (records past) (records (news ++ past)) (step_grows capacity setup past news s ids told) fresh)
+    steps (onto [] transcript) (any_steps steps) legal tt
 
 -- a hopper, over an honest wire
 legal_pays : (capacity : ℕ) (setup : Setup) (steps : List Step) (transcript : List Entry) (d : DeviceSetup) →

@@ -13,10 +13,11 @@ use Rattle.cct_model.specs.Legal.{bare_crash, keeping_crash, CrashEntries, Entri
 use Rattle.cct_model.specs.Records.{records}
 use Rattle.cct_model.specs.Script.{IsInRange}
 use Rattle.cct_model.specs.Setup.{IsSoundSetup}
+use Rattle.cct_laws.specs.Ids.{Ids}
 use Rattle.cct_laws.specs.Recorded.{HasNoJob}
 use Rattle.cct_laws.specs.Restart.{due_in, calls_in, CrashSuits}
-use Rattle.cct_laws.proofs.Books.{books_legal}
-use Rattle.cct_laws.proofs.Journal.{legal_due_follows}
+use Rattle.cct_laws.proofs.Books.{Books, books_legal}
+use Rattle.cct_laws.proofs.Journal.{kept_due_follows}
 use Rattle.cct_laws.proofs.Recorded.{restart_frees}
 
 -- the entries of a loss of power: nothing was kept, or the record that was due was
@@ -79,14 +80,10 @@ pub crash_follow : (setup : Setup) (past : List Entry) (at : Option CrashAt) (ne
 crash_follow setup past at news suits told =
     follow_left setup past at news suits (crash_leaves setup past at news told)
 
--- every legal past suits a loss of power, whatever the wire does
-pub legal_crash_suits : (capacity : ℕ) (setup : Setup) (steps : List Step) (past : List Entry)
-    (at : Option CrashAt) → IsSoundSetup setup → All IsInRange steps → LegalFrom capacity setup [] steps past →
-    CrashSuits setup past at
-legal_crash_suits capacity setup steps past at sound in_range legal = record {
-  follow = (books_legal capacity setup steps past sound in_range legal).1.counts.follow;
-  due = due_suits at;
-}
+-- a past suits a loss of power where ids are in order and the books are kept
+pub kept_crash_suits : (limit : ℕ) (setup : Setup) (past : List Entry) (at : Option CrashAt) → Ids setup past →
+    Books limit setup past → CrashSuits setup past at
+kept_crash_suits limit setup past at ids books = record { follow = books.counts.follow; due = due_suits at }
   where
     each_suits : (due : Option Record) → ((r : Record) → due ≡ Some r → follows setup (records past) r ≡ true) →
         IfSome due (λ r. follows setup (records past) r ≡ true)
@@ -96,5 +93,12 @@ legal_crash_suits capacity setup steps past at sound in_range legal = record {
     due_suits : (at : Option CrashAt) → IfSome (due_in setup past at) (λ r. follows setup (records past) r ≡ true)
     due_suits None = tt
     due_suits (Some at) =
-        each_suits (due_at setup past at.addr)
-        (λ r. legal_due_follows capacity setup steps past at.addr r sound in_range legal)
+        each_suits (due_at setup past at.addr) (λ r. kept_due_follows limit setup past at.addr r ids books)
+
+-- so every legal past does, whatever the wire does
+pub legal_crash_suits : (capacity : ℕ) (setup : Setup) (steps : List Step) (past : List Entry)
+    (at : Option CrashAt) → IsSoundSetup setup → All IsInRange steps → LegalFrom capacity setup [] steps past →
+    CrashSuits setup past at
+legal_crash_suits capacity setup steps past at sound in_range legal =
+    let kept = books_legal capacity setup steps past sound in_range legal in
+    kept_crash_suits capacity setup past at kept.0 kept.1

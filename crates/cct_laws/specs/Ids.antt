@@ -10,7 +10,7 @@ use Rattle.cct_model.specs.Order.{order}
 use Rattle.cct_model.specs.Job.{Job, works, job, done}
 use Rattle.cct_model.specs.Records.{records, order_named}
 use Rattle.cct_model.specs.Transcript.{lines_of, sale_lines}
-use Rattle.cct_model.specs.Paid.{uses, AreFresh}
+use Rattle.cct_model.specs.Paid.{uses}
 use Rattle.cct_laws.specs.Law.{IsOf}
 
 -- The id that a job is yet to record, of a payment whose order isn't opened or of a sale; none of another job.
@@ -19,8 +19,8 @@ waiting (works (command.Pay addr id count) since) = if nat_le (done since) 2 the
 waiting (works (command.Vend id price) since) = Some id
 waiting j = None
 
--- An id that a job is yet to record is in no record, and no other job waits with it; each open order is the one that was
--- opened last with its id, at its own hopper; and no id is used by two records.
+-- An id that a job is yet to record is in no record, and no other job waits with it; and each open order is the one that
+-- was opened last with its id, at its own hopper.
 pub record Ids (setup : Setup) (past : List Entry) : Type 0 where
   pub waits : (e : DeviceSetup) (id : ℕ) → IsOf setup e → waiting (job (lines_of e past)) ≡ Some id →
       list_any (uses id) (records past) ≡ false
@@ -31,4 +31,3 @@ pub record Ids (setup : Setup) (past : List Entry) : Type 0 where
       waiting (job (sale_lines past)) ≡ Some id → ⊥
   pub owned : (e : DeviceSetup) (o : OpenOrder) → IsOf setup e → order (lines_of e past) ≡ Some o →
       (order_named o.id (records past) ≡ Some o) × (o.addr ≡ e.addr)
-  pub fresh : AreFresh (records past)

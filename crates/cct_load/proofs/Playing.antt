@@ -6,6 +6,7 @@ use Rattle.cct_model.specs.lines.command.Step.TheVariants as step
 use Rattle.cct_model.specs.lines.entry.Entry.{Entry}
 use Rattle.cct_model.specs.Legal.{Entries, Legal, due_at}
 use Rattle.cct_model.specs.Records.{records}
+use Rattle.cct_model.specs.Script.{IsInRange}
 use Rattle.cct_model.specs.Transcript.{onto}
 use Rattle.cct_disk.specs.declared.disk.Disk.{Ghosts}
 use Rattle.cct_disk.specs.Disk.{IsTrusted}
@@ -17,12 +18,13 @@ use Rattle.cct_laws.proofs.Onto.{legal_more, transcript_on}
 use Rattle.cct_world.specs.declared.refusal.WorldNo.{WorldNo}
 use Rattle.cct_world.specs.declared.refusal.WorldNo.TheVariants as world_no
 use Rattle.cct_world.specs.declared.world.World.{World}
+use Rattle.cct_world.specs.Holds.{WorldHolds}
 use Rattle.cct_world.specs.Machine.{FailsIn, LosesIn, StepSuits}
 use Rattle.cct_world.specs.Restarts.{AtLosses, LosesAt, Restarted, TellsLosses}
 use Rattle.cct_world.specs.Step.{LastsIn, RoseBy, crashes, crashes_of}
 use Rattle.cct_world.specs.Sure.{MayFail, due_to}
-use Rattle.cct_world.specs.World.{Breaks, Plays, RestartsBy, StandsFor, capacity_in, disk_of, setup_of, used_of}
-use Rattle.cct_world.proofs.Holding.{holds_first, loses_at, restarts_in, world_on}
+use Rattle.cct_world.specs.World.{Breaks, GoesOver, Plays, RestartsBy, StandsFor, capacity_in, disk_of, setup_of, used_of}
+use Rattle.cct_world.proofs.Holding.{holds_first, loses_at, restarts_in, world_moves, world_on}
 use Rattle.cct_world.proofs.Lasting.{lasts_here, lasts_in, lasts_then, trusted_on, uncut_in}
 use Rattle.cct_world.proofs.Restarts.{losses_last}
 use Rattle.cct_world.proofs.Suiting.{legal_suits}
@@ -30,7 +32,7 @@ use Rattle.cct_world.proofs.Sure.{crashes_none, sure_back, sure_survives}
 use Rattle.cct_world.proofs.Told.{step_tells, tells_first, tells_on}
 use Rattle.cct_gen.specs.Load.{line_at, lines_before, load_setup}
 use Rattle.cct_gen.proofs.LoadSetup.{setup_sound}
-use Rattle.cct_gen.proofs.Lines.{lines_in_range, one_line_more}
+use Rattle.cct_gen.proofs.Lines.{line_in_range, lines_in_range, one_line_more}
 use Rattle.cct_load.specs.declared.sums.LoadSums.{LoadSums}
 use Rattle.cct_load.specs.Sums.{SumsUp}
 use Rattle.cct_load.specs.Played.{Became, FailsAt, HasTrusted, LeftAt, PlayedLines, Relies, Stopped, StoppedWithin}
@@ -101,13 +103,14 @@ module _ {D : Type 0} {g : Ghosts D} (world : World D g) where
       → RoseBy (crashes_of s) (g.cuts (disk_of now)) (g.cuts (disk_of next))
       → used_of next ≡ used_of now + length (records (reverse report))
       → RestartsBy now next s (reverse report)
+      → GoesOver now next s
       → setup_of next ≡ setup_of now
       → LastsIn s g.size g.honest g.seen g.cuts (disk_of now) (disk_of next)
       → g.faults (disk_of now) ≤ g.faults (disk_of next)
       → ((played : List Step) (past : List Entry) (s : Step) → SumsUp sums played past
       → SumsUp sums1 (played ++ s ∷ []) (reverse report ++ past))
       → Goes next sums1 seed (n + 1)
-  goes_on now next sums sums1 seed n s report is goes plays told cut many restarts same lasts later counts =
+  goes_on now next sums sums1 seed n s report is goes plays told cut many restarts goes_over same lasts later counts =
       let t = goes.lines.transcript in
       let past = onto [] t in
       let news = reverse report in
@@ -130,6 +133,8 @@ module _ {D : Type 0} {g : Ghosts D} (world : World D g) where
               (restarts_in now next s news restarts) told)));
           holds = subst (Became world next sums1 seed (n + 1)) (sym on) (record {
             so = world_on (disk_of world) now next s news past goes.lasts lasts told cut many restarts same
+                (world_moves (disk_of world) now next s report
+                (subst IsInRange (sym is) (line_in_range seed n)) goes.lasts plays goes_over)
                 (λ relies. (entries relies).1) before.so;
             counted = subst (λ steps. SumsUp sums1 steps (news ++ past)) (sym more)
                 (counts (lines_before seed n) past s before.counted);
@@ -143,37 +148,38 @@ module _ {D : Type 0} {g : Ghosts D} (world : World D g) where
 
   -- why a step isn't played
   module _ (now : World D g) (left : D) (past : List Entry) (same : setup_of now ≡ load_setup)
-      (stands : Relies world past → StandsFor now past) where
+      (holds : WorldHolds (disk_of world) now past) where
     disk_fails : (s : Step) → FailsIn now.machine.value left s → MayFail (Relies world past) load_setup past s
     disk_fails (step.Next addr) breaks = λ relies.
-        let due = breaks past (stands relies) in
+        let due = breaks past (holds.stands relies) in
         (due.0, subst (λ setup. due_at setup past addr ≡ Some due.0) same due.1.0)
     disk_fails (step.Crash at choice) breaks = tt
     disk_fails s breaks = absurd breaks
 
-    fails_at : (why : WorldNo) (s : Step) → used_of now ≡ length (records past) → Breaks now left why s
-        → FailsAt world left why past s
-    fails_at world_no.Disk s many breaks = disk_fails s breaks
-    fails_at why s many breaks =
-        subst (λ setup. LosesAt (Relies world past) setup past (g.seen left) why s) same
-        (loses_at (Relies world past) now left why past s stands many breaks)
+    fails_at : (why : WorldNo) (s : Step) → LastsIn s g.size g.honest g.seen g.cuts (disk_of now) left
+        → Breaks now left why s → FailsAt world left why past s
+    fails_at world_no.Disk s lasts breaks = disk_fails s breaks
+    fails_at why s lasts breaks =
+        subst (λ setup. LosesAt (Relies world past)
+        (Restarted g.size g.honest g.seen g.cuts setup (disk_of world) left) setup past (g.seen left) why s) same
+        (loses_at (disk_of world) left now why past s holds lasts breaks)
 
     disk_leaves : (s : Step) → HasTrusted world → IsTrusted g.honest g.seen (disk_of now)
         → FailsIn now.machine.value left s
         → LeavesWith g.honest g.seen g.may_leave left (due_to load_setup past s) (reverse (records past))
     disk_leaves (step.Next addr) given trusted breaks =
-        let due = breaks past (stands (inl given)) in
+        let due = breaks past (holds.stands (inl given)) in
         let is : due_at load_setup past addr ≡ Some due.0 =
         subst (λ setup. due_at setup past addr ≡ Some due.0) same due.1.0 in
         subst (λ r. LeavesWith g.honest g.seen g.may_leave left r (reverse (records past))) (sym is) (due.1.1 trusted)
     disk_leaves (step.Crash at choice) given trusted breaks =
         subst (λ setup. LeavesWith g.honest g.seen g.may_leave left (due_in setup past at) (reverse (records past)))
-        same (breaks past (stands (inl given)) trusted)
+        same (breaks past (holds.stands (inl given)) trusted)
     disk_leaves s given trusted breaks = absurd breaks
 
     never_lost : (why : WorldNo) (s : Step) → HasTrusted world → IsTrusted g.honest g.seen (disk_of now)
         → StepSuits (setup_of now) past s → LosesIn now.machine.value left why s → ⊥
-    never_lost why (step.Crash at choice) given trusted here breaks = breaks.0 past (stands (inl given)) here trusted
+    never_lost why (step.Crash at choice) given trusted here breaks = breaks.0 past (holds.stands (inl given)) here trusted
     never_lost why s given trusted here breaks = breaks
 
     left_at : (why : WorldNo) (s : Step) → HasTrusted world → IsTrusted g.honest g.seen (disk_of now)
@@ -197,8 +203,8 @@ module _ {D : Type 0} {g : Ghosts D} (world : World D g) where
           legal = goes.lines.legal;
           losses = goes.lines.losses;
           holds = subst (λ x. Stopped world left why x past) is (record {
-            fails = fails_at now left past goes.setup before.stands why s before.counts breaks;
-            book = λ given. left_at now left past goes.setup before.stands why s given
+            fails = fails_at now left past goes.setup before why s lasts breaks;
+            book = λ given. left_at now left past goes.setup before why s given
                 (trusted_on g.size g.honest g.seen g.cuts (disk_of world) (disk_of now) goes.lasts given)
                 (suits now sums seed n goes (inl given) s) breaks;
             restarts = subst (λ setup. AtLosses (Restarted g.size g.honest g.seen g.cuts setup (disk_of world) left) past)

@@ -63,7 +63,9 @@ module _ {D : Type 0} {g : Ghosts D} (world : World D g) where
   -- record, or in a loss of power; or it isn't the one that it was, which comes in a loss of power alone, and is told.
   abbrev pub FailsAt : D → WorldNo → List Entry → Step → Type 0
   FailsAt left world_no.Disk past s = MayFail (Relies past) load_setup past s
-  FailsAt left why past s = LosesAt (Relies past) load_setup past (g.seen left) why s
+  FailsAt left why past s =
+      LosesAt (Relies past) (Restarted g.size g.honest g.seen g.cuts load_setup (disk_of world) left) load_setup past
+      (g.seen left) why s
 
   -- What a loss of power may leave on this disk, where the step behind a past wasn't played: each image stands for the
   -- records of the past, or, where a record was due, for these or for these and that record. Any reason but that the

@@ -1,52 +1,188 @@
 -- What is so after a past goes on over a step.
-use Rattle.std.proofs.Common.{◌≡◌, ◌+◌, ◌++◌, ℕ, Bool, List, [], Option, Some, None, length, refl, sym, ap, subst}
+use Rattle.std.proofs.Common.{◌≡◌, ◌+◌, ◌++◌, ℕ, zero, suc, Bool, true, List, [], ◌∷◌, Option, Some, None, length, reverse}
+use Rattle.std.proofs.Common.{refl, sym, ap, ◌∙◌, subst, inl, inr, arith, true≢false}
+use Rattle.std.specs.Prelude.{is_some}
+use Rattle.std.proofs.lemmas.List.Elements.{All-nil, All-push}
 use Rattle.cct_model.specs.terms.device.Setup.{Setup}
 use Rattle.cct_model.specs.lines.command.CrashAt.{CrashAt}
 use Rattle.cct_model.specs.lines.command.Step.{Step}
 use Rattle.cct_model.specs.lines.command.Step.TheVariants as step
+use Rattle.cct_model.specs.lines.record.Record.{Record}
 use Rattle.cct_model.specs.lines.entry.Entry.{Entry}
+use Rattle.cct_model.specs.Following.{all_follow}
+use Rattle.cct_model.specs.Legal.{Entries, LegalFrom}
 use Rattle.cct_model.specs.Records.{records}
+use Rattle.cct_model.specs.Script.{IsInRange}
+use Rattle.cct_model.specs.Setup.{IsSoundSetup}
 use Rattle.cct_disk.specs.declared.disk.Disk.{Ghosts}
 use Rattle.cct_disk.specs.Disk.{IsTrusted}
+use Rattle.cct_journal.specs.Image.{capacity_of}
 use Rattle.cct_journal.specs.Stands.{Outlasts}
+use Rattle.cct_laws.proofs.Onto.{legal_from}
+use Rattle.cct_host.specs.Restarting.{told_by}
 use Rattle.cct_world.specs.declared.machine.Machine.{Machine}
 use Rattle.cct_world.specs.declared.refusal.WorldNo.{WorldNo}
 use Rattle.cct_world.specs.declared.world.World.{World}
-use Rattle.cct_world.specs.Holds.{Holds, WorldHolds}
-use Rattle.cct_world.specs.Machine.{DueAsTold, LosesIn, due_of}
-use Rattle.cct_world.specs.Restarts.{Loses, LosesAt, RestartsIn, WasDue}
+use Rattle.cct_world.specs.Holds.{Holds, Relives, WorldHolds}
+use Rattle.cct_world.specs.Machine.{DueAsTold, LosesIn, StepSuits, Survives, due_of}
+use Rattle.cct_world.specs.Relived.{over, relived}
+use Rattle.cct_world.specs.Restarts as over_disks
+use Rattle.cct_world.specs.Restarts.{IsDueOver, Loses, LosesAt, Restarted, RestartsIn, WasDue, kept_in}
 use Rattle.cct_world.specs.Step.{LastsIn, RoseBy, crashes, crashes_of}
 use Rattle.cct_world.specs.Sure.{Sure}
-use Rattle.cct_world.specs.World.{RestartsBy, StandsFor, disk_of, setup_of, used_of}
-use Rattle.cct_world.proofs.Lasting.{uncut_in}
-use Rattle.cct_world.proofs.Restarts.{counts_on, losses_on}
-use Rattle.cct_world.proofs.Sure.{cut_on, rose_none, uncut_on}
+use Rattle.cct_world.specs.World.{GoesOver, Plays, RestartsBy, StandsFor, disk_of, setup_of, used_of}
+use Rattle.cct_world.proofs.Lasting.{lasts_in, trusted_back, uncut_in}
+use Rattle.cct_world.proofs.Reliving.{over_again, over_frees, over_records, relived_on, relived_told}
+use Rattle.cct_world.proofs.Restarts.{counts_on, losses_on, restarted_by, restarted_here, restarted_on}
+use Rattle.cct_world.proofs.Suiting.{lived_suits}
+use Rattle.cct_world.proofs.Sure.{crashes-append, cut_on, quiet_survives, rose_none, sure_on, uncut_on}
+
+-- What a step that was played does to what stands for a past: it goes on by the entries of the step, and behind a loss of
+-- power on a disk that isn't trusted it stands over what a read gives.
+pub record Moves (capacity : ℕ) (setup : Setup) (Before After : List Entry → Type 0) (trusted : Type 0)
+    (seen : Option (List ℕ)) (many : ℕ) (s : Step) (news : List Entry) : Type 0 where
+  pub sound : IsSoundSetup setup
+  pub in_range : IsInRange s
+  pub plays : (past : List Entry) → Before past → StepSuits setup past s → Survives trusted s
+      → Entries capacity setup past s news × After (news ++ past)
+  pub goes_over : over_disks.GoesOver Before After trusted seen many s
+
+-- where a read is told after, it is before
+told_before : (old new : Option (List ℕ)) (image : List ℕ) → is_some new ≡ is_some old → new ≡ Some image
+    → (before : List ℕ) × (old ≡ Some before)
+told_before None new image same tells = absurd (true≢false (sym (ap is_some tells) ∙ same))
+told_before (Some before) new image same tells = (before, refl)
+
+module _ (capacity : ℕ) (setup : Setup) (Before After : List Entry → Type 0) (trusted : Type 0)
+    (seen : Option (List ℕ)) (many : ℕ) (s : Step) (news past : List Entry)
+    (moves : Moves capacity setup Before After trusted seen many s news) where
+  -- a step that is no loss of power, over the records that were found at the last one
+  relives_on : crashes news ≡ 0 → kept_in news ≡ [] → crashes_of s ≡ 0 → (rs : List Record)
+      → all_follow setup (reverse rs) ≡ true → Relives capacity setup Before past rs
+      → Relives capacity setup After (news ++ past) rs
+  relives_on none unkept quiet rs follow before =
+      let lived = relived (reverse rs) past in
+      let is = relived_on (reverse rs) news past none unkept in
+      let follows = subst (λ found. all_follow setup found ≡ true) (sym before.records_are) follow in
+      let goes =
+      moves.plays lived before.stands
+      (lived_suits capacity setup before.start before.steps lived s moves.sound before.in_range before.free follows
+      before.legal)
+      (quiet_survives trusted s quiet) in
+      record {
+        stands = subst After (sym is) goes.1;
+        start = before.start;
+        free = before.free;
+        records_are = before.records_are;
+        steps = before.steps ++ s ∷ [];
+        in_range = All-push IsInRange before.steps s before.in_range moves.in_range;
+        legal = subst (LegalFrom capacity setup before.start (before.steps ++ s ∷ [])) (sym is)
+            (legal_from capacity setup before.start before.steps lived s news before.legal goes.0);
+      }
+
+  -- a loss of power begins anew
+  relives_here : (kept : Option Record) → news ≡ told_by many kept → (rs : List Record) → After (over many (reverse rs) past)
+      → Relives capacity setup After (news ++ past) rs
+  relives_here kept told rs after =
+      let is : relived (reverse rs) (news ++ past) ≡ over many (reverse rs) past =
+      ap (λ es. relived (reverse rs) (es ++ past)) told ∙ relived_told (reverse rs) many kept past in
+      record {
+        stands = subst After (sym is) after;
+        start = over many (reverse rs) past;
+        free = over_frees many (reverse rs) past;
+        records_are = over_records many (reverse rs) past;
+        steps = [];
+        in_range = All-nil IsInRange;
+        legal = is;
+      }
 
 module _ {D : Type 0} (size : D → ℕ) (honest : D → Bool) (seen : D → Option (List ℕ)) (cuts : D → ℕ)
     (setup : Setup) (given : D) where
+  abbrev capacity : ℕ
+  capacity = capacity_of (size given)
+
+  abbrev trusted : Type 0
+  trusted = IsTrusted honest seen given
+
   -- before the first step
   pub holds_first : (Stands : List Entry → Type 0) (now : D) (used : ℕ) → cuts now ≡ cuts given → used ≡ 0
-      → (Sure (IsTrusted honest seen given) [] → Stands []) → (past : List Entry) → past ≡ []
+      → (Sure trusted [] → Stands []) → (past : List Entry) → past ≡ []
       → Holds size honest seen cuts Stands setup given now used past
   holds_first Stands now used same none stands past is =
       subst (Holds size honest seen cuts Stands setup given now used) (sym is) (record {
         stands = stands;
+        relives = λ unsure. absurd (unsure (inr refl));
         counts = none;
         restarts = refl;
         cut = subst (RoseBy 0 (cuts given)) (sym same) (rose_none 0 (cuts given) refl);
         uncut = λ quiet. same;
       })
 
+  -- what stood before a loss of power stands over what a read gives behind it
+  over_image : (Before After : List Entry → Type 0) (old new : D) (used many : ℕ) (past : List Entry)
+      → Holds size honest seen cuts Before setup given old used past → (trusted → ⊥)
+      → is_some (seen new) ≡ is_some (seen old) → (image : List ℕ) → seen new ≡ Some image → (rs : List Record)
+      → ((lived : List Entry) → Before lived → After (over many (reverse rs) lived)) → (losses : ℕ)
+      → crashes past ≡ losses → After (over many (reverse rs) past)
+  over_image Before After old new used many past before untrusted same image tells rs goes zero none =
+      goes past (before.stands (inr none))
+  over_image Before After old new used many past before untrusted same image tells rs goes (suc losses) some =
+      let unsure : Sure trusted past → ⊥ = λ sure. elim sure [ | inl is ↦ untrusted is | inr none ↦ cc (some, none) ] in
+      let found = before.relives unsure in
+      let was = told_before (seen found.disk) (seen new) image (same ∙ found.lasts.same_telling) tells in
+      let lived = found.whole was.0 was.1 in
+      subst After (over_again many (reverse rs) (reverse lived.0) past)
+      (goes (relived (reverse lived.0) past) lived.2.stands)
+
   -- over a step that was played
+  relived_in : (Before After : List Entry → Type 0) (old new : D) (s : Step) (used many : ℕ) (news past : List Entry)
+      → Outlasts size honest seen cuts given old → LastsIn s size honest seen cuts old new
+      → crashes news ≡ crashes_of s → RoseBy (crashes_of s) (cuts old) (cuts new)
+      → RestartsIn setup s used many (seen new) news
+      → Moves capacity setup Before After (IsTrusted honest seen old) (seen new) many s news
+      → Holds size honest seen cuts Before setup given old used past → (Sure trusted (news ++ past) → ⊥)
+      → Restarted size honest seen cuts setup given new (crashes (news ++ past))
+      (Relives capacity setup After (news ++ past))
+  relived_in Before After old new (step.Crash at choice) used many news past lasted lasts told cut (due, none, restarts)
+      moves before unsure =
+      let Q = Relives capacity setup After (news ++ past) in
+      let losses : 1 + crashes past ≡ crashes (news ++ past) = omega (arith, crashes-append news past, told) in
+      let untrusted : trusted → ⊥ = λ is. unsure (inl is) in
+      subst (λ n. Restarted size honest seen cuts setup given new n Q) losses
+      (restarted_here size honest seen cuts setup given old new (crashes past) Q lasted lasts before.cut cut
+      (λ image tells. let found = restarts.whole image tells in (
+        found.0,
+        found.1,
+        relives_here capacity setup Before After (IsTrusted honest seen old) (seen new) many (step.Crash at choice) news
+            past moves restarts.all.kept restarts.news_are found.0
+            (over_image Before After old new used many past before untrusted lasts.same_telling image tells found.0
+            (moves.goes_over image tells found.0 found.1 found.2
+            (λ is. untrusted (trusted_back size honest seen cuts given old lasted is))) (crashes past) refl),
+        found.3,
+      )))
+  relived_in Before After old new s used many news past lasted lasts told cut restarts moves before unsure =
+      let P = Relives capacity setup Before past in
+      let Q = Relives capacity setup After (news ++ past) in
+      let losses : crashes past ≡ crashes (news ++ past) = omega (arith, crashes-append news past, told) in
+      subst (λ n. Restarted size honest seen cuts setup given new n Q) losses
+      (restarted_by size honest seen cuts setup given new (crashes past) P Q
+      (relives_on capacity setup Before After (IsTrusted honest seen old) (seen new) many s news past moves told restarts
+      refl)
+      (restarted_on size honest seen cuts setup given old new (crashes past) P
+      (lasts_in size honest seen cuts s old new lasts)
+      (before.relives (λ sure. unsure (sure_on trusted news past told sure)))))
+
   pub holds_on : (Before After : List Entry → Type 0) (old new : D) (s : Step) (used many : ℕ) (news past : List Entry)
       → Outlasts size honest seen cuts given old → LastsIn s size honest seen cuts old new
       → crashes news ≡ crashes_of s → RoseBy (crashes_of s) (cuts old) (cuts new)
       → many ≡ used + length (records news) → RestartsIn setup s used many (seen new) news
-      → (Sure (IsTrusted honest seen given) (news ++ past) → After (news ++ past))
+      → Moves capacity setup Before After (IsTrusted honest seen old) (seen new) many s news
+      → (Sure trusted (news ++ past) → After (news ++ past))
       → Holds size honest seen cuts Before setup given old used past
       → Holds size honest seen cuts After setup given new many (news ++ past)
-  holds_on Before After old new s used many news past lasted lasts told cut counts restarts after before = record {
+  holds_on Before After old new s used many news past lasted lasts told cut counts restarts moves after before = record {
     stands = after;
+    relives = relived_in Before After old new s used many news past lasted lasts told cut restarts moves before;
     counts = counts_on news past used many before.counts counts;
     restarts = losses_on size honest seen cuts setup given old new s used many news past lasted lasts before.cut cut told
         before.counts restarts before.restarts;
@@ -74,28 +210,65 @@ module _ {D : Type 0} {g : Ghosts D} where
       → crashes news ≡ crashes_of s → RoseBy (crashes_of s) (g.cuts (disk_of now)) (g.cuts (disk_of next))
       → used_of next ≡ used_of now + length (records news) → RestartsBy now next s news
       → setup_of next ≡ setup_of now
+      → Moves (capacity_of (g.size given)) (setup_of now) (StandsFor now) (StandsFor next)
+      (IsTrusted g.honest g.seen (disk_of now)) (g.seen (disk_of next)) (used_of next) s news
       → (Sure (IsTrusted g.honest g.seen given) (news ++ past) → StandsFor next (news ++ past))
       → WorldHolds given now past → WorldHolds given next (news ++ past)
-  world_on given now next s news past lasted lasts told cut counts restarts same stands before =
+  world_on given now next s news past lasted lasts told cut counts restarts same moves stands before =
       subst (λ setup. Holds g.size g.honest g.seen g.cuts (StandsFor next) setup given (disk_of next) (used_of next)
       (news ++ past)) (sym same)
       (holds_on g.size g.honest g.seen g.cuts (setup_of now) given (StandsFor now) (StandsFor next) (disk_of now)
       (disk_of next) s (used_of now) (used_of next) news past lasted lasts told cut counts
-      (restarts_in now next s news restarts) stands before)
+      (restarts_in now next s news restarts) moves stands before)
+
+  -- what a step that was played does to a world
+  pub world_moves : (given : D) (now next : World D g) (s : Step) (report : List Entry) → IsInRange s
+      → Outlasts g.size g.honest g.seen g.cuts given (disk_of now) → Plays now next s report
+      → GoesOver now next s
+      → Moves (capacity_of (g.size given)) (setup_of now) (StandsFor now) (StandsFor next)
+      (IsTrusted g.honest g.seen (disk_of now)) (g.seen (disk_of next)) (used_of next) s (reverse report)
+  world_moves given now next s report in_range lasted plays goes_over = record {
+    sound = now.machine.value.host.desks.sound;
+    in_range = in_range;
+    plays = λ past stands suits survives. let goes = plays past stands suits survives in
+        (subst (λ size. Entries (capacity_of size) (setup_of now) past s (reverse report)) lasted.same_size goes.0, goes.1);
+    goes_over = goes_over;
+  }
 
   -- which record was due
-  was_due : (sure : Type 0) (now : World D g) (past : List Entry) (at : Option CrashAt) → (sure → StandsFor now past)
-      → DueAsTold now.machine.value at → WasDue sure (setup_of now) past at (due_of now.machine.value at)
-  was_due sure now past None stands told = refl
-  was_due sure now past (Some at) stands told = λ is. told past (stands is)
+  due_over : (now : World D g) (past : List Entry) (at : CrashAt) → DueAsTold now.machine.value (Some at)
+      → used_of now ≡ length (records past) → (rs : List Record) → StandsFor now (relived (reverse rs) past)
+      → IsDueOver (setup_of now) past at.addr (due_of now.machine.value (Some at)) rs
+  due_over now past at told many rs stands = record {
+    many = sym stands.host.keeps.used ∙ many;
+    due_is = told (relived (reverse rs) past) stands;
+  }
+
+  was_due : (given left : D) (now : World D g) (past : List Entry) (at : Option CrashAt) → WorldHolds given now past
+      → Outlasts g.size g.honest g.seen g.cuts (disk_of now) left → DueAsTold now.machine.value at
+      → WasDue (Sure (IsTrusted g.honest g.seen given) past)
+      (Restarted g.size g.honest g.seen g.cuts (setup_of now) given left) (setup_of now) past at
+      (due_of now.machine.value at)
+  was_due given left now past None holds lasts told = refl
+  was_due given left now past (Some at) holds lasts told = (
+    λ is. told past (holds.stands is),
+    λ unsure.
+    let Q = IsDueOver (setup_of now) past at.addr (due_of now.machine.value (Some at)) in
+    restarted_on g.size g.honest g.seen g.cuts (setup_of now) given (disk_of now) left (crashes past) Q lasts
+    (restarted_by g.size g.honest g.seen g.cuts (setup_of now) given (disk_of now) (crashes past)
+    (Relives (capacity_of (g.size given)) (setup_of now) (StandsFor now) past) Q
+    (λ rs follow lived. due_over now past at told holds.counts rs lived.stands) (holds.relives unsure)),
+  )
 
   -- why no host starts again
-  pub loses_at : (sure : Type 0) (now : World D g) (left : D) (why : WorldNo) (past : List Entry) (s : Step)
-      → (sure → StandsFor now past) → used_of now ≡ length (records past) → LosesIn now.machine.value left why s
-      → LosesAt sure (setup_of now) past (g.seen left) why s
-  loses_at sure now left why past (step.Crash at choice) stands many loses = (
+  pub loses_at : (given left : D) (now : World D g) (why : WorldNo) (past : List Entry) (s : Step)
+      → WorldHolds given now past → LastsIn s g.size g.honest g.seen g.cuts (disk_of now) left
+      → LosesIn now.machine.value left why s
+      → LosesAt (Sure (IsTrusted g.honest g.seen given) past)
+      (Restarted g.size g.honest g.seen g.cuts (setup_of now) given left) (setup_of now) past (g.seen left) why s
+  loses_at given left now why past (step.Crash at choice) holds lasts loses = (
     due_of now.machine.value at,
-    was_due sure now past at stands loses.1,
-    subst (λ put. Loses (setup_of now) put (due_of now.machine.value at) (g.seen left) why) many loses.2,
+    was_due given left now past at holds lasts loses.1,
+    subst (λ put. Loses (setup_of now) put (due_of now.machine.value at) (g.seen left) why) holds.counts loses.2,
   )
-  loses_at sure now left why past s stands many loses = absurd loses
+  loses_at given left now why past s holds lasts loses = absurd loses

@@ -33,6 +33,9 @@ module _ {D : Type 0} (size : D → ℕ) (honest : D → Bool) (seen : D → Opt
   pub trusted_on : (a b : D) → Outlasts size honest seen cuts a b → IsTrusted honest seen a → IsTrusted honest seen b
   trusted_on a b on trusted = (on.same_honest ∙ trusted.0, on.same_telling ∙ trusted.1)
 
+  pub trusted_back : (a b : D) → Outlasts size honest seen cuts a b → IsTrusted honest seen b → IsTrusted honest seen a
+  trusted_back a b on trusted = (sym on.same_honest ∙ trusted.0, sym on.same_telling ∙ trusted.1)
+
   -- a step
   pub lasts_in : (s : Step) (a b : D) → LastsIn s size honest seen cuts a b → Outlasts size honest seen cuts a b
   lasts_in (step.Crash at choice) a b lasts = lasts

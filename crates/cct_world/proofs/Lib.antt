@@ -1,5 +1,6 @@
 pub mod Holding
 pub mod Lasting
+pub mod Reliving
 pub mod Restarts
 pub mod Suiting
 pub mod Sure

@@ -12,6 +12,7 @@ use Rattle.cct_model.specs.lines.entry.Entry.{Entry}
 use Rattle.cct_model.specs.lines.entry.Entry.TheVariants as entry
 use Rattle.cct_model.specs.Following.{all_follow}
 use Rattle.cct_model.specs.Records.{records}
+use Rattle.cct_bus.specs.Bus as wires
 use Rattle.cct_disk.specs.declared.disk.Disk.{Ghosts}
 use Rattle.cct_disk.specs.Disk.{IsTrusted}
 use Rattle.cct_journal.specs.declared.journal.Journal.{Journal}
@@ -30,11 +31,15 @@ use Rattle.cct_host.specs.Host as hosts
 use Rattle.cct_host.specs.Host.{put_by}
 use Rattle.cct_host.specs.Restarting.{HasAll, IsLost, Opens, ReadsBad, RefusesCrash, crash_news, due_of, told_by}
 use Rattle.cct_host.specs.Starting.{StartsOver}
+use Rattle.cct_host.proofs.Starting.{started_stands}
 use Rattle.cct_world.specs.declared.machine.Machine.{Machine}
-use Rattle.cct_world.specs.Machine.{Breaks, DueAsTold, StandsFor}
-use Rattle.cct_world.specs.Restarts.{AtLosses, AtLossesWith, HasBad, Loses, Restarted, Restarts, RestartsIn, kept_in}
+use Rattle.cct_world.specs.Machine.{Breaks, DueAsTold, GoesOver, StandsFor, disk_of, used_of}
+use Rattle.cct_world.specs.Restarts.{AreMany, AtLosses, AtLossesWith, HasBad, IsWhole, Loses, Restarted, Restarts}
+use Rattle.cct_world.specs.Restarts.{RestartsIn, kept_in}
 use Rattle.cct_world.specs.Step.{LastsIn, RoseBy, crashes, crashes_of, unplayed}
-use Rattle.cct_world.proofs.Lasting.{lasts_here, lasts_in, lasts_then}
+use Rattle.cct_world.specs.Relived.{over}
+use Rattle.cct_world.proofs.Lasting.{lasts_here, lasts_in, lasts_then, trusted_back}
+use Rattle.cct_world.proofs.Reliving.{over_frees, over_records, over_wire}
 use Rattle.cct_world.proofs.Sure.{rose_on}
 
 -- records behind others
@@ -189,39 +194,67 @@ module _ {D : Type 0} {g : Ghosts D} where
     );
   }
 
+  -- and goes over what a read gives, where its disk isn't trusted
+  pub crash_goes_over : (old new : Machine D g) (at : Option CrashAt) (choice : ℕ) → new.bus ≡ old.bus
+      → ((rs : List Record) → Reads g.seen (disk_of new) (journals.place_of (hosts.journal_of new.host)) rs
+      → StartsOver new.host (reverse rs))
+      → Outlasts g.size g.honest g.seen g.cuts (disk_of old) (disk_of new)
+      → GoesOver old new (step.Crash at choice)
+  crash_goes_over old new at choice same recalls lasts image tells rs image_is many untrusted past stands =
+      let used = used_of new in
+      let starts = recalls rs (record { image = image; tells = tells; stands = image_is; count = sym many }) in
+      record {
+        host = started_stands new.host (over used (reverse rs) past) (reverse rs) (over_frees used (reverse rs) past)
+            (over_records used (reverse rs) past) starts
+            (λ trusted. absurd (untrusted (trusted_back g.size g.honest g.seen g.cuts (disk_of old) (disk_of new) lasts
+            trusted)));
+        bus = over_wire new.bus used (reverse rs) past (subst (λ bus. wires.StandsFor bus past) (sym same) stands.bus);
+      }
+
 -- a fact at each loss of power
 
-at_losses_with : (P Q : ℕ → ℕ → Type 0) → ((losses many : ℕ) → P losses many → Q losses many) → (kept : ℕ)
+at_losses_with : (P Q : ℕ → (List Record → Type 0) → Type 0)
+    → ((losses : ℕ) (Of : List Record → Type 0) → P losses Of → Q losses Of) → (kept : ℕ)
     (past : List Entry) → AtLossesWith P kept past → AtLossesWith Q kept past
 at_losses_with P Q goes kept [] at = at
 at_losses_with P Q goes kept (entry.Crash many ∷ past) at =
-    (goes (1 + crashes past) many at.0, at.1, at_losses_with P Q goes 0 past at.2)
+    (goes (1 + crashes past) (AreMany many) at.0, at.1, at_losses_with P Q goes 0 past at.2)
 at_losses_with P Q goes kept (entry.Kept r ∷ past) at = (at.0, at_losses_with P Q goes 1 past at.1)
 at_losses_with P Q goes kept (e ∷ past) at = (at.0, at_losses_with P Q goes 0 past at.1)
 
-pub at_losses : (P Q : ℕ → ℕ → Type 0) → ((losses many : ℕ) → P losses many → Q losses many) → (past : List Entry)
+pub at_losses : (P Q : ℕ → (List Record → Type 0) → Type 0)
+    → ((losses : ℕ) (Of : List Record → Type 0) → P losses Of → Q losses Of) → (past : List Entry)
     → AtLosses P past → AtLosses Q past
 at_losses P Q goes past at = at_losses_with P Q goes 0 past at
 
-at_quiet : (P : ℕ → ℕ → Type 0) (news past : List Entry) → crashes news ≡ 0 → kept_in news ≡ [] → AtLosses P past
-    → AtLosses P (news ++ past)
+at_quiet : (P : ℕ → (List Record → Type 0) → Type 0) (news past : List Entry) → crashes news ≡ 0 → kept_in news ≡ []
+    → AtLosses P past → AtLosses P (news ++ past)
 at_quiet P [] past none unkept at = at
 at_quiet P (entry.Crash many ∷ news) past none unkept at = absurd (omega (arith, none))
 at_quiet P (entry.Kept r ∷ news) past none unkept at = absurd cc
 at_quiet P (e ∷ news) past none unkept at = (refl, at_quiet P news past (omega (arith, none)) unkept at)
 
-at_told : (P : ℕ → ℕ → Type 0) (many : ℕ) (kept : Option Record) (past : List Entry) → P (1 + crashes past) many
-    → many ≡ length (records past) + length (put_by kept) → AtLosses P past → AtLosses P (told_by many kept ++ past)
+at_told : (P : ℕ → (List Record → Type 0) → Type 0) (many : ℕ) (kept : Option Record) (past : List Entry)
+    → P (1 + crashes past) (AreMany many) → many ≡ length (records past) + length (put_by kept) → AtLosses P past
+    → AtLosses P (told_by many kept ++ past)
 at_told P many None past here count at = (here, omega (arith, count), at)
 at_told P many (Some r) past here count at = (refl, (here, omega (arith, count), at))
+
+-- what is so of records that follow one another is so of them
+whole_by : (setup : Setup) (seen : Option (List ℕ)) (P Q : List Record → Type 0)
+    → ((rs : List Record) → all_follow setup (reverse rs) ≡ true → P rs → Q rs) → IsWhole setup seen P
+    → IsWhole setup seen Q
+whole_by setup seen P Q goes whole image tells =
+    let found = whole image tells in
+    (found.0, found.1, goes found.0 found.3 found.2, found.3)
 
 module _ {D : Type 0} (size : D → ℕ) (honest : D → Bool) (seen : D → Option (List ℕ)) (cuts : D → ℕ)
     (setup : Setup) (given : D) where
   -- behind a disk that lasts
-  pub restarted_on : (old new : D) (losses many : ℕ) → Outlasts size honest seen cuts old new
-      → Restarted size honest seen cuts setup given old losses many
-      → Restarted size honest seen cuts setup given new losses many
-  restarted_on old new losses many lasts restarted = record {
+  pub restarted_on : (old new : D) (losses : ℕ) (P : List Record → Type 0) → Outlasts size honest seen cuts old new
+      → Restarted size honest seen cuts setup given old losses P
+      → Restarted size honest seen cuts setup given new losses P
+  restarted_on old new losses P lasts restarted = record {
     disk = restarted.disk;
     lasted = restarted.lasted;
     lasts = lasts_then size honest seen cuts restarted.disk old new restarted.lasts lasts;
@@ -229,12 +262,37 @@ module _ {D : Type 0} (size : D → ℕ) (honest : D → Bool) (seen : D → Opt
     whole = restarted.whole;
   }
 
+  -- and where more is known of the records
+  pub restarted_by : (now : D) (losses : ℕ) (P Q : List Record → Type 0)
+      → ((rs : List Record) → all_follow setup (reverse rs) ≡ true → P rs → Q rs)
+      → Restarted size honest seen cuts setup given now losses P
+      → Restarted size honest seen cuts setup given now losses Q
+  restarted_by now losses P Q goes restarted = record {
+    disk = restarted.disk;
+    lasted = restarted.lasted;
+    lasts = restarted.lasts;
+    cut = restarted.cut;
+    whole = whole_by setup (seen restarted.disk) P Q goes restarted.whole;
+  }
+
   pub losses_last : (old new : D) (past : List Entry) → Outlasts size honest seen cuts old new
       → AtLosses (Restarted size honest seen cuts setup given old) past
       → AtLosses (Restarted size honest seen cuts setup given new) past
   losses_last old new past lasts at =
       at_losses (Restarted size honest seen cuts setup given old) (Restarted size honest seen cuts setup given new)
-      (λ losses many restarted. restarted_on old new losses many lasts restarted) past at
+      (λ losses Of restarted. restarted_on old new losses Of lasts restarted) past at
+
+  -- a loss of power that was survived just now
+  pub restarted_here : (old new : D) (losses : ℕ) (P : List Record → Type 0) → Outlasts size honest seen cuts given old
+      → Outlasts size honest seen cuts old new → RoseBy losses (cuts given) (cuts old) → RoseBy 1 (cuts old) (cuts new)
+      → IsWhole setup (seen new) P → Restarted size honest seen cuts setup given new (1 + losses) P
+  restarted_here old new losses P lasted lasts before cut whole = record {
+    disk = new;
+    lasted = lasts_then size honest seen cuts given old new lasted lasts;
+    lasts = lasts_here size honest seen cuts new;
+    cut = rose_on losses 1 (cuts given) (cuts old) (cuts new) before cut;
+    whole = whole;
+  }
 
   -- behind a step that was played
   pub losses_on : (old new : D) (s : Step) (used many : ℕ) (news past : List Entry)
@@ -245,16 +303,10 @@ module _ {D : Type 0} (size : D → ℕ) (honest : D → Bool) (seen : D → Opt
       → AtLosses (Restarted size honest seen cuts setup given new) (news ++ past)
   losses_on old new (step.Crash at choice) used many news past lasted lasts before cut told was (due, none, restarts) losses =
       let P = Restarted size honest seen cuts setup given new in
-      let here : P (1 + crashes past) many = record {
-        disk = new;
-        lasted = lasts_then size honest seen cuts given old new lasted lasts;
-        lasts = lasts_here size honest seen cuts new;
-        cut = rose_on (crashes past) 1 (cuts given) (cuts old) (cuts new) before cut;
-        whole = restarts.whole;
-      } in
       subst (λ es. AtLosses P (es ++ past)) (sym restarts.news_are)
-      (at_told P many restarts.all.kept past here (omega (arith, restarts.all.count, was))
-      (losses_last old new past lasts losses))
+      (at_told P many restarts.all.kept past
+      (restarted_here old new (crashes past) (AreMany many) lasted lasts before cut restarts.whole)
+      (omega (arith, restarts.all.count, was)) (losses_last old new past lasts losses))
   losses_on old new s used many news past lasted lasts before cut told was restarts losses =
       at_quiet (Restarted size honest seen cuts setup given new) news past told restarts
       (losses_last old new past (lasts_in size honest seen cuts s old new lasts) losses)

@@ -1,23 +1,47 @@
 -- What is so of a machine after a past, where a run was given a disk.
-use Rattle.std.specs.Prelude.{◌≡◌, ℕ, Bool, List, Option, length}
+use Rattle.std.specs.Prelude.{◌≡◌, ℕ, Bool, List, Option, length, reverse}
+use Rattle.std.specs.List.{All}
 use Rattle.cct_model.specs.terms.device.Setup.{Setup}
+use Rattle.cct_model.specs.lines.command.Step.{Step}
+use Rattle.cct_model.specs.lines.record.Record.{Record}
 use Rattle.cct_model.specs.lines.entry.Entry.{Entry}
+use Rattle.cct_model.specs.Legal.{LegalFrom}
 use Rattle.cct_model.specs.Records.{records}
+use Rattle.cct_model.specs.Script.{IsInRange}
 use Rattle.cct_disk.specs.declared.disk.Disk.{Ghosts}
 use Rattle.cct_disk.specs.Disk.{IsTrusted}
+use Rattle.cct_journal.specs.Image.{capacity_of}
+use Rattle.cct_laws.specs.Recorded.{HasNoJob}
 use Rattle.cct_world.specs.declared.world.World.{World}
+use Rattle.cct_world.specs.Relived.{relived}
 use Rattle.cct_world.specs.Restarts.{AtLosses, Restarted}
 use Rattle.cct_world.specs.Step.{RoseBy, crashes}
 use Rattle.cct_world.specs.Sure.{Sure}
 use Rattle.cct_world.specs.World.{StandsFor, disk_of, setup_of, used_of}
 
+-- What stands for a past does so with these records in place of all that it tells up to its last loss of power; and then
+-- its entries behind that loss are those of steps.
+pub record Relives (capacity : ℕ) (setup : Setup) (Stands : List Entry → Type 0) (past : List Entry) (rs : List Record)
+    : Type 0 where
+  pub stands : Stands (relived (reverse rs) past)
+  pub start : List Entry
+  pub free : HasNoJob start
+  pub records_are : records start ≡ reverse rs
+  pub steps : List Step
+  pub in_range : All IsInRange steps
+  pub legal : LegalFrom capacity setup start steps (relived (reverse rs) past)
+
 -- What is so after a past, where one disk was given and became another: what stands for the past does so where that may
--- be relied on; so many records are counted as the past has; behind each loss of power that it tells, the disk had a
--- journal of as many records as are told; and the power of the disk was cut as often as the past tells, and never where
--- that tells no loss of power.
+-- be relied on, and where it may not, it does with the records that were found at its last loss of power; so many
+-- records are counted as the past has; behind each loss of power that it tells, the disk had a journal of as many
+-- records as are told; and the power of the disk was cut as often as the past tells, and never where that tells no loss
+-- of power.
 pub record Holds {D : Type 0} (size : D → ℕ) (honest : D → Bool) (seen : D → Option (List ℕ)) (cuts : D → ℕ)
     (Stands : List Entry → Type 0) (setup : Setup) (given now : D) (used : ℕ) (past : List Entry) : Type 0 where
   pub stands : Sure (IsTrusted honest seen given) past → Stands past
+  pub relives : (Sure (IsTrusted honest seen given) past → ⊥)
+      → Restarted size honest seen cuts setup given now (crashes past)
+      (Relives (capacity_of (size given)) setup Stands past)
   pub counts : used ≡ length (records past)
   pub restarts : AtLosses (Restarted size honest seen cuts setup given now) past
   pub cut : RoseBy (crashes past) (cuts given) (cuts now)

@@ -1,4 +1,5 @@
 pub mod Step
+pub mod Relived
 pub mod Restarts
 pub mod Machine
 pub mod Sure

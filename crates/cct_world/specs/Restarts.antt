@@ -1,5 +1,5 @@
 -- What a disk has behind a loss of power: a journal over which the host starts again, or why it doesn't.
-use Rattle.std.specs.Prelude.{◌≡◌, ◌⊎◌, ℕ, ◌+◌, Bool, true, List, [], ◌∷◌, ◌++◌, length, reverse, Option, Some, None}
+use Rattle.std.specs.Prelude.{◌≡◌, ◌⊎◌, ℕ, ◌+◌, Bool, true, List, [], ◌∷◌, ◌++◌, length, reverse, Option, Some, None, ⊤}
 use Rattle.cct_model.specs.terms.device.Setup.{Setup}
 use Rattle.cct_model.specs.lines.command.CrashAt.{CrashAt}
 use Rattle.cct_model.specs.lines.command.Step.{Step}
@@ -16,6 +16,7 @@ use Rattle.cct_host.specs.Restarting.{HasAll, IsLost, told_by}
 use Rattle.cct_host.specs.Starting.{IsFirstBad}
 use Rattle.cct_world.specs.declared.refusal.WorldNo.{WorldNo}
 use Rattle.cct_world.specs.declared.refusal.WorldNo.TheVariants as world_no
+use Rattle.cct_world.specs.Relived.{over, relived}
 use Rattle.cct_world.specs.Step.{RoseBy, crashes}
 use Rattle.cct_world.specs.Sure.{losses_in}
 
@@ -40,23 +41,16 @@ Loses setup put due seen (world_no.BadRecord index) =
 Loses setup put due seen (world_no.Lost found many) =
     (many ≡ put) × IsLost due found put × ((image : List ℕ) → seen ≡ Some image → HasRecords image found)
 
--- This record, or none, was due where a loss of power comes behind a past: none where that names no put; and else what
--- the past tells, where it may be relied on.
-abbrev pub WasDue : Type 0 → Setup → List Entry → Option CrashAt → Option Record → Type 0
-WasDue sure setup past None due = due ≡ None
-WasDue sure setup past (Some at) due = sure → due ≡ due_at setup past at.addr
-
--- The step behind a past is a loss of power, and this is why no host starts again behind it.
-abbrev pub LosesAt : Type 0 → Setup → List Entry → Option (List ℕ) → WorldNo → Step → Type 0
-LosesAt sure setup past seen why (step.Crash at choice) =
-    (due : Option Record) × WasDue sure setup past at due × Loses setup (length (records past)) due seen why
-LosesAt sure setup past seen why s = ⊥
-
--- What a read gives, where that is told, stands for so many records, each of which follows those before it.
-abbrev pub IsWhole : Setup → Option (List ℕ) → ℕ → Type 0
-IsWhole setup seen many =
+-- What a read gives, where that is told, stands for records, each of which follows those before it, and this holds of
+-- them.
+abbrev pub IsWhole : Setup → Option (List ℕ) → (List Record → Type 0) → Type 0
+IsWhole setup seen P =
     (image : List ℕ) → seen ≡ Some image
-    → (rs : List Record) × StandsFor image rs × (length rs ≡ many) × (all_follow setup (reverse rs) ≡ true)
+    → (rs : List Record) × StandsFor image rs × P rs × (all_follow setup (reverse rs) ≡ true)
+
+-- Records are so many.
+abbrev pub AreMany : ℕ → List Record → Type 0
+AreMany many rs = length rs ≡ many
 
 -- A host starts again behind a loss of power, where so many records were put and this one was due, if one was: these are
 -- its entries, newest first; none of the records is missing; so many does its journal then count; and a read of the
@@ -65,7 +59,7 @@ pub record Restarts (setup : Setup) (due : Option Record) (put many : ℕ) (seen
     : Type 0 where
   pub all : HasAll due many put
   pub news_are : news ≡ told_by many all.kept
-  pub whole : IsWhole setup seen many
+  pub whole : IsWhole setup seen (AreMany many)
 
 -- The records that entries tell as kept.
 abbrev pub kept_in : List Entry → List Record
@@ -99,26 +93,57 @@ pub record TellsLosses (steps : List Step) (past : List Entry) : Type 0 where
   pub many : crashes past ≡ losses_in steps
   pub each : StepsTell steps past
 
--- While a disk became another its power had been cut so often, and a read then gave so many records, each of which
--- follows those before it.
+-- Behind a step that is a loss of power, where the disk isn't trusted: what stood for a past before it now stands for the
+-- past over the records that a read gives, which are so many.
+abbrev pub GoesOver : (List Entry → Type 0) → (List Entry → Type 0) → Type 0 → Option (List ℕ) → ℕ → Step → Type 0
+GoesOver Before After trusted seen many (step.Crash at choice) =
+    (image : List ℕ) → seen ≡ Some image → (rs : List Record) → StandsFor image rs → AreMany many rs → (trusted → ⊥)
+    → (past : List Entry) → Before past → After (over many (reverse rs) past)
+GoesOver Before After trusted seen many s = ⊤
+
+-- While a disk became another its power had been cut so often, and a read then gave records, each of which follows those
+-- before it, of which this holds.
 pub record Restarted {D : Type 0} (size : D → ℕ) (honest : D → Bool) (seen : D → Option (List ℕ)) (cuts : D → ℕ)
-    (setup : Setup) (given now : D) (losses many : ℕ) : Type 0 where
+    (setup : Setup) (given now : D) (losses : ℕ) (P : List Record → Type 0) : Type 0 where
   pub disk : D
   pub lasted : Outlasts size honest seen cuts given disk
   pub lasts : Outlasts size honest seen cuts disk now
   pub cut : RoseBy losses (cuts given) (cuts disk)
-  pub whole : IsWhole setup (seen disk) many
+  pub whole : IsWhole setup (seen disk) P
 
--- At each loss of power that a past tells, this holds of how many it tells by then and of the number of records that it
--- tells. That is the number of the records before it, with the one that is told as kept right behind it, if one is; and
--- no record is told so elsewhere. So many, none or one, are told as kept right behind the whole past.
-abbrev pub AtLossesWith : (ℕ → ℕ → Type 0) → ℕ → List Entry → Type 0
-AtLossesWith P kept [] = kept ≡ 0
-AtLossesWith P kept (entry.Crash many ∷ past) =
-    P (1 + crashes past) many × (many ≡ length (records past) + kept) × AtLossesWith P 0 past
-AtLossesWith P kept (entry.Kept r ∷ past) = (kept ≡ 0) × AtLossesWith P 1 past
-AtLossesWith P kept (e ∷ past) = (kept ≡ 0) × AtLossesWith P 0 past
+-- At each loss of power that a past tells, as many records were found as it tells there, as told of how many losses it
+-- tells by then. That is the number of the records before it, with the one that is told as kept right behind it, if one
+-- is; and no record is told so elsewhere. So many, none or one, are told as kept right behind the whole past.
+abbrev pub AtLossesWith : (ℕ → (List Record → Type 0) → Type 0) → ℕ → List Entry → Type 0
+AtLossesWith Found kept [] = kept ≡ 0
+AtLossesWith Found kept (entry.Crash many ∷ past) =
+    Found (1 + crashes past) (AreMany many) × (many ≡ length (records past) + kept) × AtLossesWith Found 0 past
+AtLossesWith Found kept (entry.Kept r ∷ past) = (kept ≡ 0) × AtLossesWith Found 1 past
+AtLossesWith Found kept (e ∷ past) = (kept ≡ 0) × AtLossesWith Found 0 past
 
 -- The same of a past behind which none is told as kept.
-abbrev pub AtLosses : (ℕ → ℕ → Type 0) → List Entry → Type 0
-AtLosses P past = AtLossesWith P 0 past
+abbrev pub AtLosses : (ℕ → (List Record → Type 0) → Type 0) → List Entry → Type 0
+AtLosses Found past = AtLossesWith Found 0 past
+
+-- This record, or none, is due at an address behind a past with these records in place of all up to its last loss of
+-- power, which makes as many as the past tells.
+pub record IsDueOver (setup : Setup) (past : List Entry) (addr : ℕ) (due : Option Record) (rs : List Record) : Type 0 where
+  pub many : length (records (relived (reverse rs) past)) ≡ length (records past)
+  pub due_is : due ≡ due_at setup (relived (reverse rs) past) addr
+
+-- This record, or none, was due where a loss of power comes behind a past: none where that names no put; and else what
+-- the past tells, where it may be relied on, and where it may not, what it tells with the records that were found at its
+-- last loss of power.
+abbrev pub WasDue : Type 0 → (ℕ → (List Record → Type 0) → Type 0) → Setup → List Entry → Option CrashAt → Option Record
+    → Type 0
+WasDue sure Found setup past None due = due ≡ None
+WasDue sure Found setup past (Some at) due =
+    (sure → due ≡ due_at setup past at.addr)
+    × ((sure → ⊥) → Found (crashes past) (IsDueOver setup past at.addr due))
+
+-- The step behind a past is a loss of power, and this is why no host starts again behind it.
+abbrev pub LosesAt : Type 0 → (ℕ → (List Record → Type 0) → Type 0) → Setup → List Entry → Option (List ℕ) → WorldNo → Step
+    → Type 0
+LosesAt sure Found setup past seen why (step.Crash at choice) =
+    (due : Option Record) × WasDue sure Found setup past at due × Loses setup (length (records past)) due seen why
+LosesAt sure Found setup past seen why s = ⊥

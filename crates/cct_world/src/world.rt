@@ -33,7 +33,7 @@ pub struct World<'s, D: Disk> {
 }
 
 impl<'s, D: Disk> World<'s, D> {
-    ghost use Rattle.cct_world.specs.World.{Breaks, Plays, RestartsBy, StandsFor, disk_of, setup_of, used_of};
+    ghost use Rattle.cct_world.specs.World.{Breaks, GoesOver, Plays, RestartsBy, StandsFor, disk_of, setup_of, used_of};
 
     /// A machine with the devices of a setup, on which nothing has happened, over a journal without records. This takes
     /// all memory that the machine ever has.
@@ -96,6 +96,7 @@ impl<'s, D: Disk> World<'s, D> {
             used_of world ≡ used_of self.entry + length (records (reverse report.new.items))) }
         ensures restarts { IfOk result (λ world.
             RestartsBy self.entry world step.now (reverse report.new.items)) }
+        ensures goes_over { IfOk result (λ world. GoesOver self.entry world step.now) }
         ensures cut { IfOk result (λ world.
             RoseBy (crashes_of step.now) (D.cuts (disk_of self.entry)) (D.cuts (disk_of world))) }
         ensures breaks { IfErr result (λ e. Breaks self.entry e.0 e.1 step.now) }
