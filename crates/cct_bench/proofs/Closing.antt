@@ -7,6 +7,7 @@ use Rattle.cct_edge.specs.declared.fault.Failed.{Failed}
 use Rattle.cct_model.specs.terms.device.Setup.{Setup}
 use Rattle.cct_model.specs.lines.command.Step.{Step}
 use Rattle.cct_model.specs.lines.command.Step.TheVariants as step
+use Rattle.cct_model.specs.lines.record.Record.{Record}
 use Rattle.cct_model.specs.lines.entry.Entry.{Entry}
 use Rattle.cct_model.specs.Legal.{Legal}
 use Rattle.cct_model.specs.lines.entry.Entry.TheVariants as entry
@@ -334,21 +335,21 @@ told_so P Q (entry.JournalLost found put ∷ []) so tells = so (world_no.Lost fo
 told_so P Q tail so tells = absurd tells
 
 -- a step behind which no host starts again is a loss of power
-module _ (sure : Type 0) (Found : ℕ → (List Record → Type 0) → Type 0) (setup : Setup) (past : List Entry)
+module _ (sure : Type 0) (Cut : ℕ → (Option (List ℕ) → Type 0) → Type 0) (setup : Setup) (past : List Entry)
     (seen : Option (List ℕ)) where
-  is_crash : (why : WorldNo) (s : Step) → LosesAt sure Found setup past seen why s → IsCrash s
+  is_crash : (why : WorldNo) (s : Step) → LosesAt sure Cut setup past seen why s → IsCrash s
   is_crash why (step.Crash at choice) loses = tt
   is_crash why s loses = absurd loses
 
-  first_crash : (why : WorldNo) (steps : List Step) → First (LosesAt sure Found setup past seen why) steps
+  first_crash : (why : WorldNo) (steps : List Step) → First (LosesAt sure Cut setup past seen why) steps
       → First IsCrash steps
   first_crash why [] first = first
   first_crash why (s ∷ steps) first = is_crash why s first
 
   pub lost_next : (unplayed : List Step) (tail : List Entry)
-      → TellsOf (λ why. First (LosesAt sure Found setup past seen why) unplayed) tail → First IsCrash unplayed
+      → TellsOf (λ why. First (LosesAt sure Cut setup past seen why) unplayed) tail → First IsCrash unplayed
   lost_next unplayed tail tells =
-      told_so (λ why. First (LosesAt sure Found setup past seen why) unplayed) (First IsCrash unplayed) tail
+      told_so (λ why. First (LosesAt sure Cut setup past seen why) unplayed) (First IsCrash unplayed) tail
       (λ why first. first_crash why unplayed first) tells
 
 -- with no fault on a blank disk a run's status is as the script says, where the disk is trusted or no step is a loss of
@@ -378,7 +379,7 @@ ran_completes bytes status.JournalLost left Written Breaks disks image told size
     h.ends.0.0))
 ran_completes bytes status.JournalLost left Written Breaks disks image told sized blank (inr none) r w d h =
     absurd (none_next h.played h.unplayed (ap losses_in (sym h.steps_are) ∙ none)
-    (lost_next (Sure disks.trusted (onto [] h.transcript)) (disks.restarted (script bytes).setup) (script bytes).setup (onto [] h.transcript) disks.seen_after
+    (lost_next (Sure disks.trusted (onto [] h.transcript)) disks.cut_at (script bytes).setup (onto [] h.transcript) disks.seen_after
     h.unplayed h.tail h.ends.0.0))
 
 -- an honest disk that tells is trusted

@@ -1,5 +1,5 @@
 -- What a disk keeps over a run, and what is left on it where the steps come to their end.
-use Rattle.std.proofs.Common.{◌≡◌, ◌⊎◌, ◌++◌, ℕ, Bool, List, [], ◌∷◌, reverse, Option, refl, sym, ap, ◌∙◌}
+use Rattle.std.proofs.Common.{◌≡◌, ◌≢◌, ◌⊎◌, ◌++◌, ℕ, Bool, List, [], ◌∷◌, reverse, Option, refl, sym, ap, ◌∙◌}
 use Rattle.std.proofs.Common.{arith, inl, inr, subst, Result, Err}
 use Rattle.std.specs.Prelude.{IfSome, is_some}
 use Rattle.std.proofs.Math.Nat.{le_trans}
@@ -20,22 +20,22 @@ use Rattle.cct_journal.specs.Image.{capacity_of}
 use Rattle.cct_journal.specs.declared.refusal.CreateNo.{CreateNo}
 use Rattle.cct_journal.specs.declared.refusal.CreateNo.TheVariants as create_no
 use Rattle.cct_journal.specs.Losing.{LeavesWith}
-use Rattle.cct_journal.specs.Stands.{GoesOn, Leaves, Outlasts, Stands}
+use Rattle.cct_journal.specs.Stands.{CutOnce, GoesOn, Leaves, Outlasts, Stands}
 use Rattle.cct_journal.specs.declared.place.Place.{Place}
 use Rattle.cct_world.specs.declared.refusal.WorldNo.{WorldNo}
 use Rattle.cct_world.specs.declared.refusal.WorldNo.TheVariants as world_no
 use Rattle.cct_world.specs.declared.world.World.{World}
 use Rattle.cct_world.specs.Holds.{Holds, WorldHolds}
 use Rattle.cct_world.specs.Machine.{LosesIn, StepSuits}
-use Rattle.cct_world.specs.Restarts.{AtLosses, GoesOver, Restarted}
-use Rattle.cct_world.specs.Step.{LastsIn, RoseBy, crashes}
+use Rattle.cct_world.specs.Restarts.{AtLosses, CutAt, GoesOver}
+use Rattle.cct_world.specs.Step.{CutsIn, LastsIn, RoseBy, count_after, crashes}
 use Rattle.cct_world.specs.World as worlds
 use Rattle.cct_world.specs.World.{Breaks, StandsFor, disk_of, setup_of, used_of}
 use Rattle.cct_world.specs.Sure.{Sure}
 use Rattle.cct_world.proofs.Holding.{Moves, holds_on, loses_at}
 use Rattle.cct_world.proofs.Lasting.{lasts_in, lasts_on, lasts_then, trusted_back, trusted_on, uncut_in}
 use Rattle.cct_world.proofs.Restarts.{losses_last}
-use Rattle.cct_world.proofs.Sure.{crashes_none, rose_none, sure_back, sure_survives}
+use Rattle.cct_world.proofs.Sure.{crashes_none, rose_just, rose_none, sure_back, sure_survives}
 use Rattle.cct_world.proofs.Told.{step_tells}
 use Rattle.cct_bench.specs.declared.play.Ending.{Ending}
 use Rattle.cct_bench.specs.declared.play.Ending.TheVariants as ending
@@ -61,15 +61,15 @@ stands_leaves honest seen may_leave disk place rs stands = record {
 
 -- the script or its source brought the end, and the disk has the records of the past
 module _ {D : Type 0} (size : D → ℕ) (honest : D → Bool) (seen : D → Option (List ℕ))
-    (may_leave : D → List ℕ → Type 0) (cuts : D → ℕ) where
+    (may_leave : D → List ℕ → Type 0) (cuts : D → ℕ) (cut_to : D → D → Type 0) where
   pub ends_over : (given last : D) (stage : Stage) (Before : List Entry → Type 0) → IsReady (size given) (seen given)
       → ((past : List Entry) → Before past → IsTrusted honest seen given
       → Leaves honest seen may_leave last (reverse (records past)))
       → ((setup : Setup) (past : List Entry) → IsSetupIn stage setup → Before past
-      → AtLosses (Restarted size honest seen cuts setup given last) past)
+      → AtLosses setup (CutAt size honest seen cuts cut_to given last) past)
       → ((past : List Entry) → Before past → RoseBy (crashes past) (cuts given) (cuts last))
       → ((past : List Entry) → Before past → crashes past ≡ 0 → cuts last ≡ cuts given)
-      → EndsBeside stage Before (OverCut (disks size honest seen may_leave cuts given last))
+      → EndsBeside stage Before (OverCut (disks size honest seen may_leave cuts cut_to given last))
   ends_over given last stage Before ready books restarts cut uncut ending.Done setup taken played unplayed past is there
       before = record {
         over = (ready, books past before);
@@ -106,18 +106,18 @@ module _ {D : Type 0} {g : Ghosts D} where
       → ((setup : Setup) → IsSetupIn stage setup → setup ≡ setup_of world) → IsReady (g.size given) (g.seen given)
       → Outlasts g.size g.honest g.seen g.cuts given (disk_of world) → last ≡ disk_of world
       → EndsBeside stage (WorldHolds given world)
-      (OverCut (disks g.size g.honest g.seen g.may_leave g.cuts given last))
+      (OverCut (disks g.size g.honest g.seen g.may_leave g.cuts g.cut_to given last))
   world_ends given last world stage same ready on is =
-      ends_over g.size g.honest g.seen g.may_leave g.cuts given last stage (WorldHolds given world) ready
+      ends_over g.size g.honest g.seen g.may_leave g.cuts g.cut_to given last stage (WorldHolds given world) ready
       (λ past holds trusted. subst (λ disk. Leaves g.honest g.seen g.may_leave disk (reverse (records past))) (sym is)
       (world_books world past (holds.stands (inl trusted))
       (trusted_on g.size g.honest g.seen g.cuts given (disk_of world) on trusted)))
       (λ setup past there holds.
-      subst (λ by. AtLosses (Restarted g.size g.honest g.seen g.cuts by given last) past) (sym (same setup there))
-      (subst (λ disk. AtLosses (Restarted g.size g.honest g.seen g.cuts (setup_of world) given disk) past) (sym is)
+      subst (λ by. AtLosses by (CutAt g.size g.honest g.seen g.cuts g.cut_to given last) past) (sym (same setup there))
+      (subst (λ disk. AtLosses (setup_of world) (CutAt g.size g.honest g.seen g.cuts g.cut_to given disk) past) (sym is)
       holds.restarts))
-      (λ past holds. subst (λ disk. RoseBy (crashes past) (g.cuts given) (g.cuts disk)) (sym is) holds.cut)
-      (λ past holds none. ap g.cuts is ∙ holds.uncut none)
+      (λ past holds. rose_just (crashes past) (g.cuts given) (g.cuts last) (ap g.cuts is ∙ holds.cut))
+      (λ past holds none. ap g.cuts is ∙ holds.cut ∙ ap (λ n. count_after n (g.cuts given)) none)
 
   -- what holds of a machine does so behind a step that was played
   pub world_carried : (given last : D) (world : World D g) (After : List Entry → Type 0) (setup : Setup) (many : ℕ)
@@ -126,9 +126,10 @@ module _ {D : Type 0} {g : Ghosts D} where
       → Outlasts g.size g.honest g.seen g.cuts given (disk_of world)
       → LastsIn s g.size g.honest g.seen g.cuts (disk_of world) last
       → PlaysOn (IsTrusted g.honest g.seen (disk_of world)) (StandsFor world) After (setup_of world) s
-      (g.cuts (disk_of world)) (g.cuts last) (used_of world) many (g.seen last) WritesThem
+      (CutsIn s g.size g.honest g.seen g.cuts g.cut_to (disk_of world) last) (used_of world) many (g.seen last)
+      WritesThem
       → Carries (Sure (IsTrusted g.honest g.seen given)) (WorldHolds given world)
-      (Holds g.size g.honest g.seen g.cuts After setup given last many) (setup_of world) s WritesThem
+      (Holds g.size g.honest g.seen g.cuts g.cut_to After setup given last many) (setup_of world) s WritesThem
   world_carried given last world After setup many s WritesThem sized in_range same on lasts p =
       let trusted = IsTrusted g.honest g.seen given in
       let now = IsTrusted g.honest g.seen (disk_of world) in
@@ -151,8 +152,8 @@ module _ {D : Type 0} {g : Ghosts D} where
             (sure_survives trusted now (trusted_on g.size g.honest g.seen g.cuts given (disk_of world) on) news past s
             p.told sure) in (
               λ sure. (goes sure).0,
-              subst (λ by. Holds g.size g.honest g.seen g.cuts After by given last many (news ++ past)) (sym same)
-                  (holds_on g.size g.honest g.seen g.cuts (setup_of world) given (StandsFor world) After (disk_of world)
+              subst (λ by. Holds g.size g.honest g.seen g.cuts g.cut_to After by given last many (news ++ past)) (sym same)
+                  (holds_on g.size g.honest g.seen g.cuts g.cut_to (setup_of world) given (StandsFor world) After (disk_of world)
                   last s (used_of world) many news past on lasts p.told p.cut p.counts p.restarts moves
                   (λ sure. (goes sure).1) before),
             );
@@ -188,7 +189,7 @@ module _ {D : Type 0} {g : Ghosts D} where
       → (IsTrusted g.honest g.seen given → IsTrusted g.honest g.seen (disk_of world))
       → Breaks world left world_no.Disk s
       → (taken : List ℕ) (played unplayed : List Step) (past : List Entry) → WorldHolds given world past
-      → Over (disks g.size g.honest g.seen g.may_leave g.cuts given left) ending.DiskFailed (setup_of world) taken
+      → Over (disks g.size g.honest g.seen g.may_leave g.cuts g.cut_to given left) ending.DiskFailed (setup_of world) taken
       played (s ∷ unplayed) past
   torn_over given left world (step.Next addr) ready on breaks taken played unplayed past holds = (
     ready.sized,
@@ -212,56 +213,66 @@ module _ {D : Type 0} {g : Ghosts D} where
 
   -- a loss of power left something else than what stood on the disk
   lost_over : (given left : D) (world : World D g) (why : WorldNo) (s : Step) → IsReady (g.size given) (g.seen given)
-      → (IsTrusted g.honest g.seen given → IsTrusted g.honest g.seen (disk_of world))
-      → LastsIn s g.size g.honest g.seen g.cuts (disk_of world) left → LosesIn world.machine.value left why s → (unplayed : List Step) (past : List Entry) → WorldHolds given world past
+      → Outlasts g.size g.honest g.seen g.cuts given (disk_of world)
+      → LastsIn s g.size g.honest g.seen g.cuts (disk_of world) left
+      → CutOnce g.size g.honest g.seen g.cuts g.cut_to (disk_of world) left
+      → LosesIn world.machine.value left why s → (unplayed : List Step) (past : List Entry) → WorldHolds given world past
       → (Sure (IsTrusted g.honest g.seen given) past → StepSuits (setup_of world) past s)
-      → OverLost (disks g.size g.honest g.seen g.may_leave g.cuts given left) (setup_of world) past (s ∷ unplayed) why
-  lost_over given left world why (step.Crash at choice) ready on lasts loses unplayed past holds suits = (
+      → OverLost (disks g.size g.honest g.seen g.may_leave g.cuts g.cut_to given left) (setup_of world) past (s ∷ unplayed) why
+  lost_over given left world why (step.Crash at choice) ready lasted lasts cut loses unplayed past holds suits = (
     ready,
-    loses_at given left world why past (step.Crash at choice) holds lasts loses,
-    λ trusted. loses.0 past (holds.stands (inl trusted)) (suits (inl trusted)) (on trusted),
+    loses_at given left world past holds why (step.Crash at choice) lasted lasts cut loses,
+    λ trusted. loses.0 past (holds.stands (inl trusted)) (suits (inl trusted))
+        (trusted_on g.size g.honest g.seen g.cuts given (disk_of world) lasted trusted),
   )
-  lost_over given left world why s ready on lasts loses unplayed past holds suits = absurd loses
+  lost_over given left world why s ready lasted lasts cut loses unplayed past holds suits = absurd loses
 
   unplayed_over : (given left : D) (world : World D g) (why : WorldNo) (s : Step)
-      → IsReady (g.size given) (g.seen given)
-      → (IsTrusted g.honest g.seen given → IsTrusted g.honest g.seen (disk_of world))
-      → LastsIn s g.size g.honest g.seen g.cuts (disk_of world) left → Breaks world left why s
-      → (taken : List ℕ) (played unplayed : List Step) (past : List Entry) → WorldHolds given world past
+      → IsReady (g.size given) (g.seen given) → Outlasts g.size g.honest g.seen g.cuts given (disk_of world)
+      → LastsIn s g.size g.honest g.seen g.cuts (disk_of world) left
+      → (why ≢ world_no.Disk → CutOnce g.size g.honest g.seen g.cuts g.cut_to (disk_of world) left)
+      → Breaks world left why s → (taken : List ℕ) (played unplayed : List Step) (past : List Entry)
+      → WorldHolds given world past
       → (Sure (IsTrusted g.honest g.seen given) past → StepSuits (setup_of world) past s)
-      → Over (disks g.size g.honest g.seen g.may_leave g.cuts given left) (unplayed_by why) (setup_of world) taken
+      → Over (disks g.size g.honest g.seen g.may_leave g.cuts g.cut_to given left) (unplayed_by why) (setup_of world) taken
       played (s ∷ unplayed) past
-  unplayed_over given left world world_no.Disk s ready on lasts breaks taken played unplayed past holds suits =
-      torn_over given left world s ready on breaks taken played unplayed past holds
-  unplayed_over given left world world_no.Alien s ready on lasts breaks taken played unplayed past holds suits =
-      lost_over given left world world_no.Alien s ready on lasts breaks unplayed past holds suits
-  unplayed_over given left world (world_no.BadRecord index) s ready on lasts breaks taken played unplayed past holds suits =
-      lost_over given left world (world_no.BadRecord index) s ready on lasts breaks unplayed past holds suits
-  unplayed_over given left world (world_no.Lost found put) s ready on lasts breaks taken played unplayed past holds suits =
-      lost_over given left world (world_no.Lost found put) s ready on lasts breaks unplayed past holds suits
+  unplayed_over given left world world_no.Disk s ready on lasts lost breaks taken played unplayed past holds suits =
+      torn_over given left world s ready (trusted_on g.size g.honest g.seen g.cuts given (disk_of world) on) breaks taken
+      played unplayed past holds
+  unplayed_over given left world world_no.Alien s ready on lasts lost breaks taken played unplayed past holds suits =
+      lost_over given left world world_no.Alien s ready on lasts (lost (λ is. cc is)) breaks unplayed past holds suits
+  unplayed_over given left world (world_no.BadRecord index) s ready on lasts lost breaks taken played unplayed past holds
+      suits =
+      lost_over given left world (world_no.BadRecord index) s ready on lasts (lost (λ is. cc is)) breaks unplayed past
+      holds suits
+  unplayed_over given left world (world_no.Lost found put) s ready on lasts lost breaks taken played unplayed past holds
+      suits =
+      lost_over given left world (world_no.Lost found put) s ready on lasts (lost (λ is. cc is)) breaks unplayed past
+      holds suits
 
   -- a step that wasn't played
   pub unplayed_cut : (given left : D) (world : World D g) (why : WorldNo) (s : Step)
       → IsReady (g.size given) (g.seen given) → Outlasts g.size g.honest g.seen g.cuts given (disk_of world)
-      → LastsIn s g.size g.honest g.seen g.cuts (disk_of world) left → Breaks world left why s
+      → LastsIn s g.size g.honest g.seen g.cuts (disk_of world) left
+      → (why ≢ world_no.Disk → CutOnce g.size g.honest g.seen g.cuts g.cut_to (disk_of world) left)
+      → Breaks world left why s
       → (taken : List ℕ) (played unplayed : List Step) (past : List Entry) → WorldHolds given world past
       → (Sure (IsTrusted g.honest g.seen given) past → StepSuits (setup_of world) past s)
-      → OverCut (disks g.size g.honest g.seen g.may_leave g.cuts given left) (unplayed_by why) (setup_of world) taken
+      → OverCut (disks g.size g.honest g.seen g.may_leave g.cuts g.cut_to given left) (unplayed_by why) (setup_of world) taken
       played (s ∷ unplayed) past
-  unplayed_cut given left world why s ready on lasts breaks taken played unplayed past holds suits = record {
-    over = unplayed_over given left world why s ready
-        (trusted_on g.size g.honest g.seen g.cuts given (disk_of world) on) lasts breaks taken played unplayed past
-        holds suits;
-    restarts = losses_last g.size g.honest g.seen g.cuts (setup_of world) given (disk_of world) left past
+  unplayed_cut given left world why s ready on lasts lost breaks taken played unplayed past holds suits = record {
+    over = unplayed_over given left world why s ready on lasts lost breaks taken played unplayed past holds suits;
+    restarts = losses_last g.size g.honest g.seen g.cuts g.cut_to given (setup_of world) (disk_of world) left past
         (lasts_in g.size g.honest g.seen g.cuts s (disk_of world) left lasts) holds.restarts;
-    cut = le_trans holds.cut (lasts_in g.size g.honest g.seen g.cuts s (disk_of world) left lasts).later_cuts;
+    cut = le_trans (rose_just (crashes past) (g.cuts given) (g.cuts (disk_of world)) holds.cut)
+        (lasts_in g.size g.honest g.seen g.cuts s (disk_of world) left lasts).later_cuts;
     uncut = λ none next. uncut_in g.size g.honest g.seen g.cuts s (disk_of world) left lasts (crashes_none s next)
-        ∙ holds.uncut none;
+        ∙ holds.cut ∙ ap (λ n. count_after n (g.cuts given)) none;
   }
 
 -- a journal without records was created
 module _ {D : Type 0} (size : D → ℕ) (honest : D → Bool) (seen : D → Option (List ℕ))
-    (may_leave : D → List ℕ → Type 0) (cuts : D → ℕ) where
+    (may_leave : D → List ℕ → Type 0) (cuts : D → ℕ) (cut_to : D → D → Type 0) where
   -- then nothing else is on the disk that comes back
   fresh_leaves : (last disk : D) (place : Place) (past : List Entry) → last ≡ disk → past ≡ []
       → Stands honest seen may_leave disk place [] → Leaves honest seen may_leave last (reverse (records past))
@@ -274,22 +285,22 @@ module _ {D : Type 0} (size : D → ℕ) (honest : D → Bool) (seen : D → Opt
   pub fresh_ends : (given last disk : D) (place : Place) → IsReady (size given) (seen given)
       → GoesOn size honest seen cuts given disk → last ≡ disk
       → (IsTrusted honest seen disk → Stands honest seen may_leave disk place [])
-      → EndsBeside (at_setup no_devices) IsNothing (OverCut (disks size honest seen may_leave cuts given last))
+      → EndsBeside (at_setup no_devices) IsNothing (OverCut (disks size honest seen may_leave cuts cut_to given last))
   fresh_ends given last disk place ready on is stands =
       let same : cuts last ≡ cuts given = ap cuts is ∙ on.same_cuts in
-      ends_over size honest seen may_leave cuts given last (at_setup no_devices) IsNothing ready
+      ends_over size honest seen may_leave cuts cut_to given last (at_setup no_devices) IsNothing ready
       (λ past none trusted. fresh_leaves last disk place past is none
       (stands (trusted_on size honest seen cuts given disk (lasts_on size honest seen cuts given disk on) trusted)))
       (λ setup past there none.
-      subst (AtLosses (Restarted size honest seen cuts setup given last)) (sym none) refl)
+      subst (AtLosses setup (CutAt size honest seen cuts cut_to given last)) (sym none) refl)
       (λ past none. subst (RoseBy (crashes past) (cuts given)) (sym same)
       (rose_none (crashes past) (cuts given) (ap crashes none)))
       (λ past none quiet. same)
 
   -- a run that ended before its first step
   uncut_over : (given last : D) (how : Ending) (setup : Setup) (taken : List ℕ) (unplayed : List Step)
-      → cuts last ≡ cuts given → Over (disks size honest seen may_leave cuts given last) how setup taken [] unplayed []
-      → OverCut (disks size honest seen may_leave cuts given last) how setup taken [] unplayed []
+      → cuts last ≡ cuts given → Over (disks size honest seen may_leave cuts cut_to given last) how setup taken [] unplayed []
+      → OverCut (disks size honest seen may_leave cuts cut_to given last) how setup taken [] unplayed []
   uncut_over given last how setup taken unplayed same over = record {
     over = over;
     restarts = refl;
@@ -301,7 +312,7 @@ module _ {D : Type 0} (size : D → ℕ) (honest : D → Bool) (seen : D → Opt
   pub fresh_none : (given last disk : D) (place : Place) → GoesOn size honest seen cuts given disk → last ≡ disk
       → (IsTrusted honest seen disk → Stands honest seen may_leave disk place [])
       → (setup : Setup) (taken : List ℕ) (unplayed : List Step)
-      → OverCut (disks size honest seen may_leave cuts given last) ending.NoMemory setup taken [] unplayed []
+      → OverCut (disks size honest seen may_leave cuts cut_to given last) ending.NoMemory setup taken [] unplayed []
   fresh_none given last disk place on is stands setup taken unplayed =
       uncut_over given last ending.NoMemory setup taken unplayed (ap cuts is ∙ on.same_cuts)
       (λ trusted. fresh_leaves last disk place [] is refl
@@ -309,7 +320,7 @@ module _ {D : Type 0} (size : D → ℕ) (honest : D → Bool) (seen : D → Opt
 
   -- no journal was created
   unopened_is : (given last : D) (how : Ending) → IsUnopened (size given) (seen given) how → (setup : Setup)
-      (unplayed : List Step) → Over (disks size honest seen may_leave cuts given last) how setup [] [] unplayed []
+      (unplayed : List Step) → Over (disks size honest seen may_leave cuts cut_to given last) how setup [] [] unplayed []
   unopened_is given last ending.DiskFailed sized setup unplayed = (sized, inl (refl, refl))
   unopened_is given last (ending.NotBlank at) h setup unplayed = (h.0, (refl, refl), h.1)
   unopened_is given last (ending.OtherSize len) h setup unplayed = (h.0, (refl, refl), h.1)
@@ -317,7 +328,7 @@ module _ {D : Type 0} (size : D → ℕ) (honest : D → Bool) (seen : D → Opt
 
   pub unopened_over : (given last : D) (how : Ending) → GoesOn size honest seen cuts given last
       → IsUnopened (size given) (seen given) how → (setup : Setup) (unplayed : List Step)
-      → OverCut (disks size honest seen may_leave cuts given last) how setup [] [] unplayed []
+      → OverCut (disks size honest seen may_leave cuts cut_to given last) how setup [] [] unplayed []
   unopened_over given last how on h setup unplayed =
       uncut_over given last how setup [] unplayed on.same_cuts (unopened_is given last how h setup unplayed)
 
@@ -330,17 +341,17 @@ uncreated_is size seen (create_no.NotBlank at) sized refused = (sized, refused.1
 
 -- a put to the sink failed, and the disk has the records of the past
 module _ {D : Type 0} (size : D → ℕ) (honest : D → Bool) (seen : D → Option (List ℕ))
-    (may_leave : D → List ℕ → Type 0) (cuts : D → ℕ) where
+    (may_leave : D → List ℕ → Type 0) (cuts : D → ℕ) (cut_to : D → D → Type 0) where
   pub broke_over : (given last : D) (setup : Setup) (many : ℕ) → IsReady (size given) (seen given)
       → Outlasts size honest seen cuts given last
       → (taken : List ℕ) (played unplayed : List Step) (past : List Entry)
-      → Holds size honest seen cuts (Books honest seen may_leave last) setup given last many past
-      → OverCut (disks size honest seen may_leave cuts given last) ending.Unwritten setup taken played unplayed past
+      → Holds size honest seen cuts cut_to (Books honest seen may_leave last) setup given last many past
+      → OverCut (disks size honest seen may_leave cuts cut_to given last) ending.Unwritten setup taken played unplayed past
   broke_over given last setup many ready on taken played unplayed past holds = record {
     over = (ready, λ trusted. holds.stands (inl trusted) (trusted_on size honest seen cuts given last on trusted));
     restarts = holds.restarts;
-    cut = holds.cut;
-    uncut = λ none next. holds.uncut none;
+    cut = rose_just (crashes past) (cuts given) (cuts last) holds.cut;
+    uncut = λ none next. holds.cut ∙ ap (λ n. count_after n (cuts given)) none;
   }
 
 -- a step ended the run: the sink failed within its entries, or it wasn't played
@@ -350,9 +361,10 @@ module _ {K D : Type 0} {g : Ghosts D} (written : K → Option (List ℕ))
   StepEnds out out1 world s how last =
       ((how ≡ ending.Unwritten) × (failed : Failed) × (many : ℕ)
       × PlaysOn (IsTrusted g.honest g.seen (disk_of world)) (StandsFor world)
-      (Books g.honest g.seen g.may_leave last) (setup_of world) s (g.cuts (disk_of world)) (g.cuts last) (used_of world)
-      many (g.seen last) (λ report. Writes written puts out report (Err failed) out1))
-      ⊎ ((why : WorldNo) × (how ≡ unplayed_by why) × Breaks world last why s × (out1 ≡ out))
+      (Books g.honest g.seen g.may_leave last) (setup_of world) s
+      (CutsIn s g.size g.honest g.seen g.cuts g.cut_to (disk_of world) last) (used_of world) many (g.seen last) (λ report. Writes written puts out report (Err failed) out1))
+      ⊎ ((why : WorldNo) × (how ≡ unplayed_by why) × Breaks world last why s
+      × (why ≢ world_no.Disk → CutOnce g.size g.honest g.seen g.cuts g.cut_to (disk_of world) last) × (out1 ≡ out))
 
   pub step_ends : (out out1 out2 : K) (left0 left left1 : Option (List ℕ)) (held rest : List ℕ) (number : ℕ)
       (stage : Stage) (how : Ending) (s : Step) (given last : D) (world : World D g)
@@ -364,32 +376,32 @@ module _ {K D : Type 0} {g : Ghosts D} (written : K → Option (List ℕ))
       → StepEnds out1 out2 world s how last
       → IfSome left0 (λ bytes. Played (Sure (IsTrusted g.honest g.seen given)) bytes how left1
       (Wrote written puts out out2) (Broke written puts out out2)
-      (OverCut (disks g.size g.honest g.seen g.may_leave g.cuts given last)))
+      (OverCut (disks g.size g.honest g.seen g.may_leave g.cuts g.cut_to given last)))
   step_ends out out1 out2 left0 left left1 held rest number stage how s given last world ready in_range on lasts done going reads
       (inl (is, failed, many, played)) =
       let trusted = IsTrusted g.honest g.seen given in
       let B = Broke written puts out out2 in
-      let O = OverCut (disks g.size g.honest g.seen g.may_leave g.cuts given last) in
+      let O = OverCut (disks g.size g.honest g.seen g.may_leave g.cuts g.cut_to given last) in
       let WritesThem : List Entry → Type 0 = λ report. Writes written puts out1 report (Err failed) out2 in
       let books = Books g.honest g.seen g.may_leave last in
       subst (λ how. IfSome left0 (λ bytes. Played (Sure trusted) bytes how left1 (Wrote written puts out out2) B O))
       (sym is)
       (played_broke (Sure trusted) left0 left left1 held rest number stage stage (setup_of world)
-      (WorldHolds given world) (Holds g.size g.honest g.seen g.cuts books (setup_of world) given last many) s
+      (WorldHolds given world) (Holds g.size g.honest g.seen g.cuts g.cut_to books (setup_of world) given last many) s
       (Wrote written puts out out1) WritesThem (Wrote written puts out out2) B O (sure_back trusted)
-      (broke_over g.size g.honest g.seen g.may_leave g.cuts given last (setup_of world) many ready
+      (broke_over g.size g.honest g.seen g.may_leave g.cuts g.cut_to given last (setup_of world) many ready
       (lasts_then g.size g.honest g.seen g.cuts given (disk_of world) last on
       (lasts_in g.size g.honest g.seen g.cuts s (disk_of world) last lasts))) done
       (λ xs ys whole broken. (out1, failed, whole, broken)) going reads
       (world_carried given last world books (setup_of world) many s WritesThem ready.sized in_range refl on lasts played))
   step_ends out out1 out2 left0 left left1 held rest number stage how s given last world ready in_range on lasts done going reads
-      (inr (why, is, breaks, same)) =
+      (inr (why, is, breaks, lost, same)) =
       let trusted = IsTrusted g.honest g.seen given in
       let B = Broke written puts out out2 in
-      let O = OverCut (disks g.size g.honest g.seen g.may_leave g.cuts given last) in
+      let O = OverCut (disks g.size g.honest g.seen g.may_leave g.cuts g.cut_to given last) in
       subst (λ how. IfSome left0 (λ bytes. Played (Sure trusted) bytes how left1 (Wrote written puts out out2) B O))
       (sym is)
       (played_torn (Sure trusted) left0 left left1 held rest number stage stage (setup_of world)
       (WorldHolds given world) s why (Wrote written puts out out1) (Wrote written puts out out2) B O
-      (unplayed_cut given last world why s ready on lasts breaks) done
+      (unplayed_cut given last world why s ready on lasts lost breaks) done
       (λ xs wrote. subst (λ k. Wrote written puts out k xs) (sym same) wrote) going reads)

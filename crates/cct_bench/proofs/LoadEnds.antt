@@ -1,5 +1,5 @@
 -- What a load leaves, by how its steps came to their end, and its last line.
-use Rattle.std.proofs.Common.{◌≡◌, ◌≢◌, ◌⊎◌, ℕ, true, List, [], ◌∷◌, ◌++◌, Option, None, Some, Result, Ok, Err, All}
+use Rattle.std.proofs.Common.{◌≡◌, ◌≢◌, ◌⊎◌, ℕ, suc, length, true, List, [], ◌∷◌, ◌++◌, Option, None, Some, Result, Ok, Err, All}
 use Rattle.std.proofs.Common.{refl, sym, ap, subst, ◌∙◌, inl, inr}
 use Rattle.std.specs.Prelude.{IfSome, is_some}
 use Rattle.std.proofs.lemmas.List.{append-nil}
@@ -12,6 +12,7 @@ use Rattle.cct_model.specs.lines.command.Step.TheVariants as step
 use Rattle.cct_model.specs.lines.record.Record.{Record}
 use Rattle.cct_model.specs.lines.entry.Entry.{Entry}
 use Rattle.cct_model.specs.Legal.{Legal}
+use Rattle.cct_model.specs.Records.{records}
 use Rattle.cct_model.specs.Script.{IsInRange}
 use Rattle.cct_model.specs.Transcript.{onto}
 use Rattle.cct_laws.proofs.Coinless.{each_covers, each_in_order}
@@ -24,8 +25,8 @@ use Rattle.cct_text.specs.Writing.{Broke, Writes, Wrote}
 use Rattle.cct_world.specs.declared.refusal.WorldNo.{WorldNo}
 use Rattle.cct_world.specs.declared.refusal.WorldNo.TheVariants as world_no
 use Rattle.cct_world.specs.declared.world.World.{World}
-use Rattle.cct_world.specs.Restarts.{IsDueOver, LosesAt, Restarted, WasDue}
-use Rattle.cct_world.specs.Step.{RoseBy, crashes}
+use Rattle.cct_world.specs.Restarts.{CutAt, IsDueOver, IsWhole, Loses, LosesAt, WasDue}
+use Rattle.cct_world.specs.Step.{RoseBy, count_after, crashes}
 use Rattle.cct_world.specs.Sure.{First, MayFail, Sure, losses_in}
 use Rattle.cct_world.specs.World.{disk_of}
 use Rattle.cct_world.proofs.Lasting.{lasts_on, lasts_then, trusted_back, trusted_on}
@@ -213,28 +214,34 @@ fails_by sure sure1 past more (step.Next addr) fails = λ is. fails (more is)
 fails_by sure sure1 past more (step.Crash at choice) fails = tt
 fails_by sure sure1 past more s fails = absurd fails
 
--- as much may be relied on, and as much was found
-module _ (sure sure1 : Type 0) (Found Found1 : ℕ → (List Record → Type 0) → Type 0) (more : sure1 → sure)
-    (less : sure → sure1) (finds : (losses : ℕ) (P : List Record → Type 0) → Found losses P → Found1 losses P)
+-- as much may be relied on, and as much is known of each cut
+module _ (sure sure1 : Type 0) (Found Found1 : ℕ → (Option (List ℕ) → Type 0) → Type 0) (more : sure1 → sure)
+    (less : sure → sure1) (finds : (times : ℕ) (P : Option (List ℕ) → Type 0) → Found times P → Found1 times P)
     (setup : Setup) (past : List Entry) where
   due_by : (at : Option CrashAt) (due : Option Record) → WasDue sure Found setup past at due
       → WasDue sure1 Found1 setup past at due
   due_by None due was = was
   due_by (Some at) due was = (
     λ is. was.0 (more is),
-    λ unsure. finds (crashes past) (IsDueOver setup past at.addr due) (was.1 (λ is. unsure (less is))),
+    λ unsure. finds (crashes past) (λ behind. IsWhole setup behind (IsDueOver setup past at.addr due))
+        (was.1 (λ is. unsure (less is))),
   )
 
   loses_by : (seen : Option (List ℕ)) (why : WorldNo) (s : Step) → LosesAt sure Found setup past seen why s
       → LosesAt sure1 Found1 setup past seen why s
-  loses_by seen why (step.Crash at choice) loses = (loses.0, due_by at loses.0 loses.1, loses.2)
+  loses_by seen why (step.Crash at choice) loses = (
+    loses.0,
+    due_by at loses.0 loses.1,
+    finds (suc (crashes past))
+        (λ behind. (seen ≡ behind) × Loses setup (length (records past)) loses.0 behind why) loses.2,
+  )
   loses_by seen why s loses = absurd loses
 
 module _ {D : Type 0} {g : Ghosts D} (given left : D) (world : World D g)
     (ready : IsReady (g.size given) (g.seen given)) (on : GoesOn g.size g.honest g.seen g.cuts given (disk_of world))
     (seed rounds : ℕ) (Written : List Entry → Type 0) (Breaks : List Entry → List Entry → Type 0) where
   abbrev ds : Disks
-  ds = disks g.size g.honest g.seen g.may_leave g.cuts given left
+  ds = disks g.size g.honest g.seen g.may_leave g.cuts g.cut_to given left
 
   abbrev load : Load
   load = record { seed = seed; rounds = rounds }
@@ -253,32 +260,32 @@ module _ {D : Type 0} {g : Ghosts D} (given left : D) (world : World D g)
   relied past (inl trusted) = inl (trusted_back g.size g.honest g.seen g.cuts given (disk_of world) lasted trusted)
   relied past (inr none) = inr none
 
+  abbrev Cut : D → ℕ → (Option (List ℕ) → Type 0) → Type 0
+  Cut first = CutAt g.size g.honest g.seen g.cuts g.cut_to first left
+
   -- the disk of the world lasted from the one that was given
-  restarted_given : (losses : ℕ) (P : List Record → Type 0)
-      → Restarted g.size g.honest g.seen g.cuts load_setup (disk_of world) left losses P
-      → Restarted g.size g.honest g.seen g.cuts load_setup given left losses P
-  restarted_given losses P restarted = record {
-    disk = restarted.disk;
-    lasted = lasts_then g.size g.honest g.seen g.cuts given (disk_of world) restarted.disk lasted restarted.lasted;
-    lasts = restarted.lasts;
-    cut = subst (λ n. RoseBy losses n (g.cuts restarted.disk)) on.same_cuts restarted.cut;
-    whole = restarted.whole;
+  cut_given : (times : ℕ) (P : Option (List ℕ) → Type 0) → Cut (disk_of world) times P → Cut given times P
+  cut_given times P cut = record {
+    before = cut.before;
+    behind = cut.behind;
+    lasted = lasts_then g.size g.honest g.seen g.cuts given (disk_of world) cut.before lasted cut.lasted;
+    is_cut = cut.is_cut;
+    lasts = cut.lasts;
+    count = cut.count ∙ ap (count_after times) on.same_cuts;
+    holds = cut.holds;
   }
 
   -- why no host starts again
-  abbrev FoundFrom : D → ℕ → (List Record → Type 0) → Type 0
-  FoundFrom first = Restarted g.size g.honest g.seen g.cuts load_setup first left
-
   lost_by : (why : WorldNo) (unplayed : List Step) (past : List Entry)
       → ((s : Step) → loads.FailsAt world left why past s
-      → LosesAt (Relies world past) (FoundFrom (disk_of world)) load_setup past (g.seen left) why s)
+      → LosesAt (Relies world past) (Cut (disk_of world)) load_setup past (g.seen left) why s)
       → First (loads.FailsAt world left why past) unplayed → EndsLost ds load_setup past unplayed why
   lost_by why unplayed past is first =
       let sure = Sure (IsTrusted g.honest g.seen given) past in
       first_by (loads.FailsAt world left why past)
-      (LosesAt sure (FoundFrom given) load_setup past (g.seen left) why) unplayed
-      (λ s fails. loses_by (Relies world past) sure (FoundFrom (disk_of world)) (FoundFrom given) (relies past)
-      (relied past) restarted_given load_setup past (g.seen left) why s (is s fails)) first
+      (LosesAt sure (Cut given) load_setup past (g.seen left) why) unplayed
+      (λ s fails. loses_by (Relies world past) sure (Cut (disk_of world)) (Cut given) (relies past)
+      (relied past) cut_given load_setup past (g.seen left) why s (is s fails)) first
 
   -- what was told, by how the playing of it ended
   told_by : (how : LoadEnd) (played unplayed : List Step) (past : List Entry)
@@ -370,7 +377,7 @@ module _ {D : Type 0} {g : Ghosts D} (given left : D) (world : World D g)
         stops = told.1;
         book = λ trusted some. book_by how p.unplayed past (p.book (now_trusted trusted));
         keeps = λ trusted tells. keeps_by how p.unplayed past (p.book (now_trusted trusted)) tells;
-        restarts = at_losses (FoundFrom (disk_of world)) (FoundFrom given) restarted_given past p.restarts;
+        restarts = at_losses load_setup (Cut (disk_of world)) (Cut given) cut_given past p.restarts;
         cut = subst (λ n. RoseBy (crashes past) n (g.cuts left)) on.same_cuts p.cut;
         uncut = λ none next. p.uncut none next ∙ on.same_cuts;
       }
@@ -404,7 +411,7 @@ load_done seed rounds status.JournalLost Written Breaks disks image told sized b
     absurd (h.keeps trusted (tells_loss (EndsLost disks load_setup (onto [] h.transcript) h.unplayed) h.tail h.ends.0.0))
 load_done seed rounds status.JournalLost Written Breaks disks image told sized blank (inr none) w d h =
     absurd (none_next h.played h.unplayed (ap losses_in (sym h.steps_are) ∙ none)
-    (lost_next (Sure disks.trusted (onto [] h.transcript)) (disks.restarted load_setup) load_setup
+    (lost_next (Sure disks.trusted (onto [] h.transcript)) disks.cut_at load_setup
     (onto [] h.transcript) disks.seen_after h.unplayed h.tail h.ends.0.0))
 
 -- with a told disk, and a cause for each fault

@@ -1,6 +1,5 @@
 -- The disk that a run is given, and what it leaves on it.
 use Rattle.std.specs.Prelude.{◌≡◌, ℕ, Bool, Option, Some, List, reverse, ⊤}
-use Rattle.cct_model.specs.terms.device.Setup.{Setup}
 use Rattle.cct_model.specs.lines.record.Record.{Record}
 use Rattle.cct_model.specs.lines.entry.Entry.{Entry}
 use Rattle.cct_model.specs.Records.{records}
@@ -8,7 +7,7 @@ use Rattle.cct_disk.specs.Disk.{IsTrusted}
 use Rattle.cct_journal.specs.Image.{IsBlank}
 use Rattle.cct_journal.specs.Losing.{LeavesWith}
 use Rattle.cct_journal.specs.Stands.{Leaves}
-use Rattle.cct_world.specs.Restarts.{Restarted}
+use Rattle.cct_world.specs.Restarts.{CutAt}
 use Rattle.cct_bench.specs.declared.play.TheConstants.{JOURNAL_BYTES}
 
 -- How many records a journal on a disk of that size takes.
@@ -24,8 +23,7 @@ pub record IsReady (size : ℕ) (seen : Option (List ℕ)) : Type 0 where
 -- told, whether it is honest and tells them, and how often its power was cut. As it comes back: that each image that a
 -- loss of power may leave on it stands for records, the oldest first, or, where one is being put, for these or for
 -- these and that one; which bytes a read then gives, where that is told; and how often its power was cut by then. And
--- that in between, when its power had been cut so often, a read gave records of which something holds, each of which
--- follows those before it on a machine of a setup.
+-- that in between its power was cut for this time, and something holds of what a read gave right behind the cut.
 pub record Disks : Type 1 where
   pub size : ℕ
   pub seen : Option (List ℕ)
@@ -34,11 +32,11 @@ pub record Disks : Type 1 where
   pub leaves : Option Record → List Record → Type 0
   pub seen_after : Option (List ℕ)
   pub cuts_after : ℕ
-  pub restarted : Setup → ℕ → (List Record → Type 0) → Type 0
+  pub cut_at : ℕ → (Option (List ℕ) → Type 0) → Type 0
 
 -- of a kind of disk of which is known what each tells
 module _ {D : Type 0} (size : D → ℕ) (honest : D → Bool) (seen : D → Option (List ℕ))
-    (may_leave : D → List ℕ → Type 0) (cuts : D → ℕ) where
+    (may_leave : D → List ℕ → Type 0) (cuts : D → ℕ) (cut_to : D → D → Type 0) where
   -- A run was given one disk, and gave back another.
   abbrev pub disks : D → D → Disks
   disks given back = record {
@@ -49,7 +47,7 @@ module _ {D : Type 0} (size : D → ℕ) (honest : D → Bool) (seen : D → Opt
     leaves = LeavesWith honest seen may_leave back;
     seen_after = seen back;
     cuts_after = cuts back;
-    restarted = λ setup. Restarted size honest seen cuts setup given back;
+    cut_at = CutAt size honest seen cuts cut_to given back;
   }
 
 -- Where a disk is trusted, each image that a loss of power may leave on it stands for the records of the past.

@@ -115,7 +115,7 @@ pub record Loaded (seed rounds : ℕ) (s : Status) (Written : List Entry → Typ
   pub ends : LoadEnds disks seed rounds played unplayed (onto [] transcript) s told tail Written Breaks
   pub book : disks.trusted → told ≢ [] → Book disks load_setup unplayed (onto [] transcript) tail
   pub keeps : disks.trusted → TellsLoss tail → ⊥
-  pub restarts : AtLosses (disks.restarted load_setup) (onto [] transcript)
+  pub restarts : AtLosses load_setup disks.cut_at (onto [] transcript)
   pub cut : RoseBy (crashes (onto [] transcript)) disks.cuts disks.cuts_after
   pub uncut : crashes (onto [] transcript) ≡ 0 → (First IsCrash unplayed → ⊥) → disks.cuts_after ≡ disks.cuts
 
@@ -133,7 +133,7 @@ pub record LoadPlayed (seed rounds : ℕ) (how : Ending) (Written : List Entry �
   pub book : disks.trusted → told ≢ []
       → Book disks load_setup unplayed (onto [] transcript) (listed (last_entry how))
   pub keeps : disks.trusted → TellsLoss (listed (last_entry how)) → ⊥
-  pub restarts : AtLosses (disks.restarted load_setup) (onto [] transcript)
+  pub restarts : AtLosses load_setup disks.cut_at (onto [] transcript)
   pub cut : RoseBy (crashes (onto [] transcript)) disks.cuts disks.cuts_after
   pub uncut : crashes (onto [] transcript) ≡ 0 → (First IsCrash unplayed → ⊥) → disks.cuts_after ≡ disks.cuts
 

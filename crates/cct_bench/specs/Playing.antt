@@ -9,7 +9,7 @@ use Rattle.cct_model.specs.Records.{records}
 use Rattle.cct_model.specs.Script.{Read, at_steps, at_end, opens, plays, is_known, IsInRange}
 use Rattle.cct_world.specs.Machine.{StepSuits, Survives}
 use Rattle.cct_world.specs.Restarts.{GoesOver, RestartsIn}
-use Rattle.cct_world.specs.Step.{RoseBy, crashes, crashes_of}
+use Rattle.cct_world.specs.Step.{crashes, crashes_of}
 use Rattle.cct_bench.specs.Disks.{most_records}
 
 -- The step is `end`.
@@ -36,17 +36,15 @@ Plays trusted Before After setup s report =
     (past : List Entry) → Before past → StepSuits setup past s → Survives trusted s
     → Entries most_records setup past s (reverse report) × After (reverse report ++ past)
 
--- A step was played, with the power of the disk cut so often before it and so often after it: just a loss of power
--- tells one, and cuts it. So many records were counted before it, and so many after it, just those more that it tells;
+-- A step was played, and just a loss of power tells one; this holds of the cuts of the disk. So many records were counted before it, and so many after it, just those more that it tells;
 -- behind a loss of power a read gives these bytes, and where the disk isn't trusted, what stood before stands for the past
 -- over the records that they are. Its entries were written so, which holds by the answer.
-pub record PlaysOn (trusted : Type 0) (Before After : List Entry → Type 0) (setup : Setup) (s : Step) (old new : ℕ)
+pub record PlaysOn (trusted : Type 0) (Before After : List Entry → Type 0) (setup : Setup) (s : Step) (Cut : Type 0)
     (used many : ℕ) (seen : Option (List ℕ)) (WritesThem : List Entry → Type 0) : Type 0 where
   pub report : List Entry
   pub plays : Plays trusted Before After setup s report
   pub told : crashes (reverse report) ≡ crashes_of s
-  pub cut : RoseBy (crashes_of s) old new
-  pub uncut : crashes_of s ≡ 0 → new ≡ old
+  pub cut : Cut
   pub counts : many ≡ used + length (records (reverse report))
   pub restarts : RestartsIn setup s used many seen (reverse report)
   pub goes_over : GoesOver Before After trusted seen many s

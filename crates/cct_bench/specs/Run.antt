@@ -73,7 +73,7 @@ TellsLoss = TellsOf (λ why. ⊤)
 -- disk then has that comes back.
 abbrev pub EndsLost : Disks → Setup → List Entry → List Step → WorldNo → Type 0
 EndsLost disks setup past unplayed why =
-    First (LosesAt (Sure disks.trusted past) (disks.restarted setup) setup past disks.seen_after why) unplayed
+    First (LosesAt (Sure disks.trusted past) disks.cut_at setup past disks.seen_after why) unplayed
 
 -- What a loss of power may leave on the disk behind a past, by the last line, where these steps weren't played: each
 -- image stands for the records of the past; or, where the disk failed in a step with a record that was due, for these
@@ -155,7 +155,7 @@ pub record Ran (bytes : List ℕ) (s : Status) (left : Option (List ℕ)) (Writt
   pub ends : Ends disks bytes taken played unplayed transcript s tail Written Breaks
   pub book : disks.trusted → taken ≢ [] → Book disks (script bytes).setup unplayed (onto [] transcript) tail
   pub keeps : disks.trusted → TellsLoss tail → ⊥
-  pub restarts : AtLosses (disks.restarted (script bytes).setup) (onto [] transcript)
+  pub restarts : AtLosses (script bytes).setup disks.cut_at (onto [] transcript)
   pub cut : RoseBy (crashes (onto [] transcript)) disks.cuts disks.cuts_after
   pub uncut : crashes (onto [] transcript) ≡ 0 → (First IsCrash unplayed → ⊥) → disks.cuts_after ≡ disks.cuts
 
@@ -239,7 +239,7 @@ Over disks how setup taken played unplayed past =
 pub record OverCut (disks : Disks) (how : Ending) (setup : Setup) (taken : List ℕ) (played unplayed : List Step)
     (past : List Entry) : Type 0 where
   pub over : Over disks how setup taken played unplayed past
-  pub restarts : AtLosses (disks.restarted setup) past
+  pub restarts : AtLosses setup disks.cut_at past
   pub cut : RoseBy (crashes past) disks.cuts disks.cuts_after
   pub uncut : crashes past ≡ 0 → (First IsCrash unplayed → ⊥) → disks.cuts_after ≡ disks.cuts
 

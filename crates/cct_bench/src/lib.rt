@@ -65,7 +65,7 @@ pub fn bench<S: Source, K: Sink, D: Disk>(
     ensures ran { said_in words.now ≡ Some Words.Run → IfSome (S.left script.old) (λ bytes.
         Ran bytes result.0 (S.left script.new)
         (Wrote K.written K.puts out.old out.new) (Broke K.written K.puts out.old out.new)
-        (disks D.size D.honest D.seen D.may_leave D.cuts disk result.1)) }
+        (disks D.size D.honest D.seen D.may_leave D.cuts D.cut_to disk result.1)) }
 
     // With the word `report`: what was written, by the image of the disk where that is told, by any records that this
     // stands for, and of any disk; that the disk was only read, and no byte of the script was taken.
@@ -86,7 +86,7 @@ pub fn bench<S: Source, K: Sink, D: Disk>(
     // byte of the script was taken.
     ensures loaded { (seed rounds : ℕ) → said_in words.now ≡ Some (Words.Load seed rounds)
         → Loaded seed rounds result.0 (Wrote K.written K.puts out.old out.new) (Broke K.written K.puts out.old out.new)
-        (disks D.size D.honest D.seen D.may_leave D.cuts disk result.1) }
+        (disks D.size D.honest D.seen D.may_leave D.cuts D.cut_to disk result.1) }
     ensures load_script { (seed rounds : ℕ) → said_in words.now ≡ Some (Words.Load seed rounds)
         → script.new ≡ script.old }
 

@@ -28,7 +28,7 @@ pub fn run_load<K: Sink, D: Disk>(alloc: Global, load: Load, out: &mut K, disk: 
     requires rounds { load.rounds ≤ MOST_ROUNDS }
     // what was played and written, and what is left on the disk
     ensures loaded { Loaded load.seed load.rounds result.0 (Wrote K.written K.puts out.old out.new)
-        (Broke K.written K.puts out.old out.new) (disks D.size D.honest D.seen D.may_leave D.cuts disk result.1) }
+        (Broke K.written K.puts out.old out.new) (disks D.size D.honest D.seen D.may_leave D.cuts D.cut_to disk result.1) }
 
     // causes
     ensures write_cause { result.0 ≡ Status.WriteFault → Rose (K.faults out.old) (K.faults out.new) }
@@ -68,7 +68,7 @@ fn play_over<K: Sink, D: Disk>(
     ensures played { (given : D) → IsReady (D.size given) (D.seen given)
         → GoesOn D.size D.honest D.seen D.cuts given (journals.disk_of journal)
         → LoadPlayed load.seed load.rounds result.0 (Wrote K.written K.puts out.old out.new)
-        (Broke K.written K.puts out.old out.new) (disks D.size D.honest D.seen D.may_leave D.cuts given result.1) }
+        (Broke K.written K.puts out.old out.new) (disks D.size D.honest D.seen D.may_leave D.cuts D.cut_to given result.1) }
     ensures unwritten { result.0 ≡ Ending.Unwritten → Rose (K.faults out.old) (K.faults out.new) }
     ensures disk { result.0 ≡ Ending.DiskFailed → Rose (D.faults (journals.disk_of journal)) (D.faults result.1) }
     ensures lost { status_of result.0 ≡ Status.JournalLost

@@ -12,10 +12,10 @@ ghost use Rattle.cct_model.specs.Text.{line_of};
 ghost use Rattle.cct_script.specs.Giving.{none_given, standing_of};
 ghost use Rattle.cct_disk.specs.Disk.{IsTrusted};
 ghost use Rattle.cct_journal.specs.Journal as journals;
-ghost use Rattle.cct_journal.specs.Stands.{GoesOn, Outlasts, Stands};
+ghost use Rattle.cct_journal.specs.Stands.{CutOnce, GoesOn, Outlasts, Stands};
 ghost use Rattle.cct_world.specs.declared.refusal.WorldNo.{WorldNo};
 ghost use Rattle.cct_world.specs.Holds.{WorldHolds};
-ghost use Rattle.cct_world.specs.Step.{LastsIn};
+ghost use Rattle.cct_world.specs.Step.{CutsIn, LastsIn};
 ghost use Rattle.cct_world.specs.World.{Breaks, StandsFor, disk_of, setup_of, used_of};
 ghost use Rattle.cct_bench.specs.Lines.{Came, EndsAt, IsNext};
 ghost use Rattle.cct_bench.specs.Disks.{Always, Books, IsReady, disks};
@@ -181,17 +181,21 @@ impl Page {
         requires can { CanPlay (setup_of world) step.now }
         requires size { D.size (disk_of world) ≡ JOURNAL_BYTES }
         ensures plays { IfOk result (λ next. PlaysOn (IsTrusted D.honest D.seen (disk_of world.entry))
-            (StandsFor world.entry) (StandsFor next) (setup_of world.entry) step.now (D.cuts (disk_of world.entry))
-            (D.cuts (disk_of next)) (used_of world.entry) (used_of next) (D.seen (disk_of next))
+            (StandsFor world.entry) (StandsFor next) (setup_of world.entry) step.now
+            (CutsIn step.now D.size D.honest D.seen D.cuts D.cut_to (disk_of world.entry) (disk_of next))
+            (used_of world.entry) (used_of next) (D.seen (disk_of next))
             (λ report. Writes K.written K.puts out.old report (Ok tt) out.new)) }
         ensures setup { IfOk result (λ next. setup_of next ≡ setup_of world.entry) }
 
         // how the run ends
         ensures ended { IfErr result (λ e. ((e.0 ≡ Ending.Unwritten) × (failed : Failed) × (many : ℕ)
             × PlaysOn (IsTrusted D.honest D.seen (disk_of world.entry)) (StandsFor world.entry)
-            (Books D.honest D.seen D.may_leave e.1) (setup_of world.entry) step.now (D.cuts (disk_of world.entry))
-            (D.cuts e.1) (used_of world.entry) many (D.seen e.1) (λ report. Writes K.written K.puts out.old report (Err failed) out.new))
-            ⊎ ((why : WorldNo) × (e.0 ≡ unplayed_by why) × Breaks world.entry e.1 why step.now × (out.new ≡ out.old))) }
+            (Books D.honest D.seen D.may_leave e.1) (setup_of world.entry) step.now
+            (CutsIn step.now D.size D.honest D.seen D.cuts D.cut_to (disk_of world.entry) e.1) (used_of world.entry)
+            many (D.seen e.1) (λ report. Writes K.written K.puts out.old report (Err failed) out.new))
+            ⊎ ((why : WorldNo) × (e.0 ≡ unplayed_by why) × Breaks world.entry e.1 why step.now
+            × (why ≢ WorldNo.Disk
+            → CutOnce D.size D.honest D.seen D.cuts D.cut_to (disk_of world.entry) e.1) × (out.new ≡ out.old))) }
         ensures memory { IfErr result (λ e. e.0 ≢ Ending.NoMemory) }
         ensures unread { IfErr result (λ e. e.0 ≢ Ending.Unread) }
         ensures write_cause { IfErr result (λ e. e.0 ≡ Ending.Unwritten → Rose (K.faults out.old) (K.faults out.new)) }
@@ -248,7 +252,7 @@ impl ScriptDesk {
             (Wrote K.written K.puts out.old out.old)
             → IfSome left0 (λ bytes. Played (Sure (IsTrusted D.honest D.seen given)) bytes result.0 (S.left script.new)
             (Wrote K.written K.puts out.old out.new) (Broke K.written K.puts out.old out.new)
-            (OverCut (disks D.size D.honest D.seen D.may_leave D.cuts given result.1))) }
+            (OverCut (disks D.size D.honest D.seen D.may_leave D.cuts D.cut_to given result.1))) }
         ensures unread { result.0 ≡ Ending.Unread → Rose (S.faults script.old) (S.faults script.new) }
         ensures unwritten { result.0 ≡ Ending.Unwritten → Rose (K.faults out.old) (K.faults out.new) }
         ensures disk { result.0 ≡ Ending.DiskFailed → Rose (D.faults (disk_of world.entry)) (D.faults result.1) }
@@ -343,7 +347,7 @@ impl Bench {
             → Stands D.honest D.seen D.may_leave (journals.disk_of journal) (journals.place_of journal) [])
             → IfSome (S.left script.old) (λ bytes. Played (Sure (IsTrusted D.honest D.seen given)) bytes result.0
             (S.left script.new) (Wrote K.written K.puts out.old out.new) (Broke K.written K.puts out.old out.new)
-            (OverCut (disks D.size D.honest D.seen D.may_leave D.cuts given result.1))) }
+            (OverCut (disks D.size D.honest D.seen D.may_leave D.cuts D.cut_to given result.1))) }
         ensures unread { result.0 ≡ Ending.Unread → Rose (S.faults script.old) (S.faults script.new) }
         ensures unwritten { result.0 ≡ Ending.Unwritten → Rose (K.faults out.old) (K.faults out.new) }
         ensures disk { result.0 ≡ Ending.DiskFailed → Rose (D.faults (journals.disk_of journal)) (D.faults result.1) }
@@ -381,7 +385,7 @@ impl Bench {
         ensures played { IfSome (S.left script.old) (λ bytes. Played (Sure (IsTrusted D.honest D.seen disk)) bytes
             result.0 (S.left script.new) (Wrote K.written K.puts out.old out.new)
             (Broke K.written K.puts out.old out.new)
-            (OverCut (disks D.size D.honest D.seen D.may_leave D.cuts disk result.1))) }
+            (OverCut (disks D.size D.honest D.seen D.may_leave D.cuts D.cut_to disk result.1))) }
         ensures unread { result.0 ≡ Ending.Unread → Rose (S.faults script.old) (S.faults script.new) }
         ensures unwritten { result.0 ≡ Ending.Unwritten → Rose (K.faults out.old) (K.faults out.new) }
         ensures disk { result.0 ≡ Ending.DiskFailed → Rose (D.faults disk) (D.faults result.1) }
@@ -413,7 +417,7 @@ impl Bench {
         requires setup { self.old.setup ≡ no_devices }
         ensures ran { IfSome (S.left script.old) (λ bytes. Ran bytes result.0 (S.left script.new)
             (Wrote K.written K.puts out.old out.new) (Broke K.written K.puts out.old out.new)
-            (disks D.size D.honest D.seen D.may_leave D.cuts disk result.1)) }
+            (disks D.size D.honest D.seen D.may_leave D.cuts D.cut_to disk result.1)) }
         ensures read_cause { result.0 ≡ Status.ReadFault → Rose (S.faults script.old) (S.faults script.new) }
         ensures write_cause { result.0 ≡ Status.WriteFault → Rose (K.faults out.old) (K.faults out.new) }
         ensures disk_cause { result.0 ≡ Status.DiskFault → Rose (D.faults disk) (D.faults result.1) }

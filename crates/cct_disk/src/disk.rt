@@ -2,7 +2,7 @@
 ghost use Rattle.std.specs.Prelude.{◌≡◌, ℕ, ◌+◌, ◌≤◌, Bool, true, Option, Some, is_some, List, OnOk, OnErr};
 ghost use Rattle.std.specs.Prelude.{length, take, drop};
 ghost use Rattle.cct_disk.specs.Disk.{put_at, SameOutside, Follows, IsWithin, Only, Elapses};
-ghost use Rattle.cct_edge.specs.Faults.{HasCause, Rose};
+ghost use Rattle.cct_edge.specs.Faults.{HasCause, next_count};
 
 use cct_edge::Failed;
 
@@ -33,8 +33,11 @@ pub trait Disk {
     /// How often a call has failed: a count that never falls, and may stand still at 2^64 - 1.
     ghost faults: { Self → ℕ };
 
-    /// How often the power was cut: a count that never falls, and may stand still at 2^64 - 1.
+    /// How often the power was cut: a count that each cut raises by one, and that stands still at 2^64 - 1.
     ghost cuts: { Self → ℕ };
+
+    /// What one loss of power does to the object, before and after it: so a caller can tell that it came from just one.
+    ghost cut_to: { Self → Self → Type 0 };
 
     /// How many bytes it has.
     fn len(&self) -> u64
@@ -100,7 +103,8 @@ pub trait Disk {
         ensures tells { is_some (seen self.new) ≡ is_some (seen self.old) }
         ensures size { size self.new ≡ size self.old }
         ensures honest { honest self.new ≡ honest self.old }
-        ensures cut { OnOk result (Rose (cuts self.old) (cuts self.new)) }
+        ensures one { OnOk result (cut_to self.old self.new) }
+        ensures cut { OnOk result (cuts self.new ≡ next_count (cuts self.old)) }
         ensures not_cut { OnErr result (cuts self.new ≡ cuts self.old) }
         ensures cuts { cuts self.old ≤ cuts self.new }
         ensures time { Elapses (moment self.old) (moment self.new) (left_since self.old) (left_since self.new)

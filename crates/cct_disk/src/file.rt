@@ -107,6 +107,8 @@ impl<R: Files> Disk for FileDisk<R> {
 
     ghost cuts = { file_cuts };
 
+    ghost cut_to = { λ before now. file_cuts now ≡ next_count (file_cuts before) };
+
     ghost fits = { λ s bytes is. untold_fits (file_len s) bytes is };
 
     ghost is_image = { λ _ _ _ _. tt };

@@ -119,6 +119,8 @@ impl Disk for MemDisk {
 
     ghost cuts = { λ s. s.cuts };
 
+    ghost cut_to = { λ before now. (choice : ℕ) × IsAfterCut choice before now };
+
     ghost fits = { λ s bytes is. fits_bytes s.content bytes is };
 
     ghost is_image = { λ s bytes _ is. bytes_are_image s.content bytes is };

@@ -13,7 +13,7 @@ ghost use Rattle.cct_disk.specs.Disk.{IsTrusted, OnlyReads};
 ghost use Rattle.cct_journal.specs.Image.{capacity_of};
 ghost use Rattle.cct_journal.specs.Journal as journals;
 ghost use Rattle.cct_journal.specs.Losing.{LeavesWith};
-ghost use Rattle.cct_journal.specs.Stands.{GoesOn, Outlasts, Reads, Stands};
+ghost use Rattle.cct_journal.specs.Stands.{CutOnce, GoesOn, Outlasts, Reads, Stands};
 ghost use Rattle.cct_laws.specs.Restart.{CrashSuits, due_in};
 ghost use Rattle.cct_ledger.specs.Ledger as ledgers;
 ghost use Rattle.cct_host.specs.Desks as all_desks;
@@ -249,7 +249,8 @@ impl<'s, D: Disk> Host<'s, D> {
         ensures cause { result ≡ Err CrashNo.Disk → Rose (D.faults (disk_of self.old)) (D.faults (disk_of self.new)) }
 
         // the disk
-        ensures cut { result ≢ Err CrashNo.Disk → Rose (D.cuts (disk_of self.old)) (D.cuts (disk_of self.new)) }
+        ensures cut { result ≢ Err CrashNo.Disk
+            → CutOnce D.size D.honest D.seen D.cuts D.cut_to (disk_of self.old) (disk_of self.new) }
         ensures outlasts { Outlasts D.size D.honest D.seen D.cuts (disk_of self.old) (disk_of self.new) }
         ensures later { D.faults (disk_of self.old) ≤ D.faults (disk_of self.new) }
     {
@@ -297,7 +298,10 @@ impl<'s, D: Disk> Host<'s, D> {
             → Rose (D.faults (disk_of self.entry)) (D.faults e.0)) }
 
         // the disk
-        ensures cut { IfOk result (λ again. Rose (D.cuts (disk_of self.entry)) (D.cuts (disk_of again.0))) }
+        ensures cut { MatchResult result
+            (λ again. CutOnce D.size D.honest D.seen D.cuts D.cut_to (disk_of self.entry) (disk_of again.0))
+            (λ e. e.1 ≢ CrashNo.Disk
+            → CutOnce D.size D.honest D.seen D.cuts D.cut_to (disk_of self.entry) e.0) }
         ensures outlasts { MatchResult result
             (λ again. Outlasts D.size D.honest D.seen D.cuts (disk_of self.entry) (disk_of again.0))
             (λ e. Outlasts D.size D.honest D.seen D.cuts (disk_of self.entry) e.0) }

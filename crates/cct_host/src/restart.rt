@@ -10,7 +10,7 @@ ghost use Rattle.cct_record.specs.Body.{Encodable};
 ghost use Rattle.cct_journal.specs.Image.{capacity_of};
 ghost use Rattle.cct_journal.specs.Journal as journals;
 ghost use Rattle.cct_journal.specs.Losing.{LeavesWith};
-ghost use Rattle.cct_journal.specs.Stands.{Outlasts, Reads, Stands};
+ghost use Rattle.cct_journal.specs.Stands.{CutOnce, Outlasts, Reads, Stands};
 ghost use Rattle.cct_ledger.specs.Ledger as ledgers;
 ghost use Rattle.cct_laws.specs.Restart.{calls_in, due_in};
 ghost use Rattle.cct_host.specs.Desks as all_desks;
@@ -89,8 +89,8 @@ pub(crate) fn restart<'s, D: Disk>(
         (D.faults (journals.disk_of journal.new)) }
 
     // the disk
-    ensures cut { result ≢ Err CrashNo.Disk
-        → Rose (D.cuts (journals.disk_of journal.old)) (D.cuts (journals.disk_of journal.new)) }
+    ensures cut { result ≢ Err CrashNo.Disk → CutOnce D.size D.honest D.seen D.cuts D.cut_to
+        (journals.disk_of journal.old) (journals.disk_of journal.new) }
     ensures outlasts { Outlasts D.size D.honest D.seen D.cuts (journals.disk_of journal.old)
         (journals.disk_of journal.new) }
     ensures later { D.faults (journals.disk_of journal.old) ≤ D.faults (journals.disk_of journal.new) }
@@ -187,8 +187,8 @@ fn lose<D: Disk, R: Replay>(
         (D.faults (journals.disk_of journal.new)) }
 
     // the disk
-    ensures cut { result ≢ Err CrashNo.Disk
-        → Rose (D.cuts (journals.disk_of journal.old)) (D.cuts (journals.disk_of journal.new)) }
+    ensures cut { result ≢ Err CrashNo.Disk → CutOnce D.size D.honest D.seen D.cuts D.cut_to
+        (journals.disk_of journal.old) (journals.disk_of journal.new) }
     ensures outlasts { Outlasts D.size D.honest D.seen D.cuts (journals.disk_of journal.old)
         (journals.disk_of journal.new) }
     ensures later { D.faults (journals.disk_of journal.old) ≤ D.faults (journals.disk_of journal.new) }

@@ -1,12 +1,13 @@
--- What is left of the records where the power is lost.
-use Rattle.std.proofs.Common.{◌≡◌, inl, inr, ⊎_elim, ℕ, ◌≤◌, Bool, Option, Some, List, [], ◌∷◌, ◌++◌, refl, arith}
+-- What is left of the records where the power is lost, and of the disk.
+use Rattle.std.proofs.Common.{◌≡◌, inl, inr, ⊎_elim, ℕ, ◌≤◌, Bool, Option, Some, List, [], ◌∷◌, ◌++◌, refl, ap, ◌∙◌, is_some, arith}
 use Rattle.std.proofs.lemmas.Bool.{cases_lt}
+use Rattle.cct_edge.specs.Faults.{next_count}
 use Rattle.cct_lines.specs.declared.record.Record.{Record}
 use Rattle.cct_disk.specs.Disk.{OnlyReads}
 use Rattle.cct_journal.specs.declared.place.Place.{Place}
 use Rattle.cct_journal.specs.Image.{StandsFor}
 use Rattle.cct_journal.specs.Losing.{LeavesBy}
-use Rattle.cct_journal.specs.Stands.{Leaves, LeavesOneOf, Reads, Settled, Stands}
+use Rattle.cct_journal.specs.Stands.{CutOnce, GoesOn, Leaves, LeavesOneOf, Reads, Settled, Stands}
 use Rattle.cct_journal.proofs.Moments.{reads_hold}
 
 -- What a loss of power may leave behind so many calls of a put.
@@ -41,4 +42,38 @@ found_stands records run every settled = record {
   held = reads_hold run settled.image settled.held;
   keeps = settled.keeps;
   count = (every settled.image records settled.held.tells settled.keeps.stands).count;
+}
+
+-- The power of a disk was cut, and then it was only read.
+pub cut_here : {D : Type 0} (size : D → ℕ) (honest : D → Bool) (seen : D → Option (List ℕ)) (cuts : D → ℕ)
+    (cut_to : D → D → Type 0) (old before behind : D) → GoesOn size honest seen cuts old before → cut_to before behind
+    → cuts behind ≡ next_count (cuts before) → CutOnce size honest seen cuts cut_to old behind
+cut_here size honest seen cuts cut_to old before behind on is_cut count = record {
+  before = before;
+  behind = behind;
+  goes_on = on;
+  is_cut = is_cut;
+  lasts = record { same_size = refl; same_honest = refl; same_telling = refl; same_cuts = refl };
+  same_seen = refl;
+  count = count ∙ ap next_count on.same_cuts;
+}
+
+pub cut_read : {D : Type 0} (size : D → ℕ) (honest : D → Bool) (seen : D → Option (List ℕ))
+    (may_leave : D → List ℕ → Type 0) (moment : D → ℕ) (left_since : D → ℕ → List ℕ → Type 0) (cuts : D → ℕ)
+    (cut_to : D → D → Type 0) (old mid new : D) → CutOnce size honest seen cuts cut_to old mid
+    → OnlyReads size honest seen may_leave moment left_since cuts mid new
+    → CutOnce size honest seen cuts cut_to old new
+cut_read size honest seen may_leave moment left_since cuts cut_to old mid new cut reads = record {
+  before = cut.before;
+  behind = cut.behind;
+  goes_on = cut.goes_on;
+  is_cut = cut.is_cut;
+  lasts = record {
+    same_size = reads.same_size ∙ cut.lasts.same_size;
+    same_honest = reads.same_honest ∙ cut.lasts.same_honest;
+    same_telling = ap is_some reads.same_seen ∙ cut.lasts.same_telling;
+    same_cuts = reads.same_cuts ∙ cut.lasts.same_cuts;
+  };
+  same_seen = reads.same_seen ∙ cut.same_seen;
+  count = reads.same_cuts ∙ cut.count;
 }

@@ -1,5 +1,6 @@
 -- What a disk and the place on it are for a journal.
 use Rattle.std.specs.Prelude.{◌≡◌, ℕ, ◌≤◌, Bool, true, Option, Some, is_some, List, length}
+use Rattle.cct_edge.specs.Faults.{next_count}
 use Rattle.cct_lines.specs.declared.record.Record.{Record}
 use Rattle.cct_disk.specs.Disk.{Holds}
 use Rattle.cct_journal.specs.Image.{Keeps, KeepsOneOf, StandsFor, body_at, capacity_of, least_size}
@@ -68,3 +69,14 @@ pub record Outlasts {D : Type 0} (size : D → ℕ) (honest : D → Bool) (seen 
   pub same_honest : honest new ≡ honest old
   pub same_telling : is_some (seen new) ≡ is_some (seen old)
   pub later_cuts : cuts old ≤ cuts new
+
+-- The power of a disk was cut just once: it went on up to the cut, and was only read behind it.
+pub record CutOnce {D : Type 0} (size : D → ℕ) (honest : D → Bool) (seen : D → Option (List ℕ)) (cuts : D → ℕ)
+    (cut_to : D → D → Type 0) (old new : D) : Type 0 where
+  pub before : D
+  pub behind : D
+  pub goes_on : GoesOn size honest seen cuts old before
+  pub is_cut : cut_to before behind
+  pub lasts : GoesOn size honest seen cuts behind new
+  pub same_seen : seen new ≡ seen behind
+  pub count : cuts new ≡ next_count (cuts old)

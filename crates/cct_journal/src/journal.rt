@@ -2,7 +2,7 @@
 ghost use Rattle.std.specs.Prelude.{◌≡◌, ◌≢◌, ◌⊎◌, ◌↔◌, ◌<◌, ◌≤◌, ◌+◌, ℕ, true, false, Err, Some, is_some, List, []};
 ghost use Rattle.std.specs.Prelude.{◌∷◌, ◌++◌, length, reverse};
 ghost use Rattle.std.specs.Prelude.{IfErr, IfOk, IfSome, IsErrAnd, MatchResult, OnErr, OnOk, slice_get};
-ghost use Rattle.cct_edge.specs.Faults.{Rose};
+ghost use Rattle.cct_edge.specs.Faults.{Rose, next_count};
 ghost use Rattle.cct_lines.specs.declared.record.Record.{Record};
 ghost use Rattle.cct_record.specs.Body.{Encodable, Spells};
 ghost use Rattle.cct_disk.specs.Disk.{Holds, IsWithin, LeavesOnly, Only, OnlyReads};
@@ -10,7 +10,7 @@ ghost use Rattle.cct_journal.specs.Image.{IsBlank, Keeps, KeepsOneOf, StandsFor,
 ghost use Rattle.cct_journal.specs.Creating.{IsCreated, RefusesCreate};
 ghost use Rattle.cct_journal.specs.Losing.{KeepsWith, LeavesWith, LeftBy};
 ghost use Rattle.cct_journal.specs.Opening.{RefusesOpen, RefusesRead};
-ghost use Rattle.cct_journal.specs.Stands.{GoesOn, IsPlaced, Leaves, LeavesOneOf, Reads, Settled, Stands, body_in};
+ghost use Rattle.cct_journal.specs.Stands.{CutOnce, GoesOn, IsPlaced, Leaves, LeavesOneOf, Reads, Settled, Stands, body_in};
 
 use crate::creating::lay_header;
 use crate::losing::lose;
@@ -290,7 +290,8 @@ impl<D: Disk> Journal<D> {
             → LeavesOneOf D.honest D.seen D.may_leave (disk_of self) records entry
             → Settled D.honest D.seen D.may_leave (disk_back result) records
             ⊎ Settled D.honest D.seen D.may_leave (disk_back result) (records ++ entry ∷ [])) }
-        ensures cut { OnOk result (Rose (D.cuts (disk_of self)) (D.cuts (disk_back result))) }
+        ensures one { OnOk result (D.cut_to (disk_of self) (disk_back result)) }
+        ensures cut { OnOk result (D.cuts (disk_back result) ≡ next_count (D.cuts (disk_of self))) }
         ensures left { OnOk result (D.honest (disk_of self) ≡ true → (s : List ℕ)
             → D.seen (disk_back result) ≡ Some s → D.may_leave (disk_of self) s) }
         ensures kept { OnOk result (D.honest (disk_of self) ≡ true → (s : List ℕ)
@@ -384,8 +385,8 @@ impl<D: Disk> Journal<D> {
             → Rose (D.faults (disk_of self.old)) (D.faults (disk_of self.new)) }
 
         // the disk
-        ensures cut { MatchResult result (λ _. Rose (D.cuts (disk_of self.old)) (D.cuts (disk_of self.new)))
-            (λ why. why ≢ OpenNo.Disk → Rose (D.cuts (disk_of self.old)) (D.cuts (disk_of self.new))) }
+        ensures cut { result ≢ Err OpenNo.Disk
+            → CutOnce D.size D.honest D.seen D.cuts D.cut_to (disk_of self.old) (disk_of self.new) }
         ensures cuts { D.cuts (disk_of self.old) ≤ D.cuts (disk_of self.new) }
         ensures tells { is_some (D.seen (disk_of self.new)) ≡ is_some (D.seen (disk_of self.old)) }
         ensures size { D.size (disk_of self.new) ≡ D.size (disk_of self.old) }

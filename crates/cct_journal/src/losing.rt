@@ -1,12 +1,12 @@
 //! The power is lost, in the midst of a put or in none.
 ghost use Rattle.std.specs.Prelude.{◌≡◌, ◌<◌, ◌≤◌, List, IfSome, OnErr, OnOk, is_some};
-ghost use Rattle.cct_edge.specs.Faults.{HasCause, Rose};
+ghost use Rattle.cct_edge.specs.Faults.{HasCause};
 ghost use Rattle.cct_lines.specs.declared.record.Record.{Record};
 ghost use Rattle.cct_record.specs.Body.{Encodable};
 ghost use Rattle.cct_disk.specs.Disk.{LeavesOnly};
 ghost use Rattle.cct_journal.specs.Image.{capacity_of};
 ghost use Rattle.cct_journal.specs.Losing.{KeepsWith, LeavesBy, LeftBy};
-ghost use Rattle.cct_journal.specs.Stands.{GoesOn, Settled, Stands};
+ghost use Rattle.cct_journal.specs.Stands.{CutOnce, GoesOn, Settled, Stands};
 
 use crate::place::Place;
 use crate::range::GATED_CALLS;
@@ -55,7 +55,7 @@ pub(crate) fn lose<D: Disk>(
     ensures left { OnOk result ((records : List Record) → Stands D.honest D.seen D.may_leave disk.old place records
         → (left : List Record) × LeftBy calls put.now records left
         × Settled D.honest D.seen D.may_leave disk.new left) }
-    ensures cut { OnOk result (Rose (D.cuts disk.old) (D.cuts disk.new)) }
+    ensures cut { OnOk result (CutOnce D.size D.honest D.seen D.cuts D.cut_to disk.old disk.new) }
     ensures cuts { D.cuts disk.old ≤ D.cuts disk.new }
     ensures size { D.size disk.new ≡ D.size disk.old }
     ensures honest { D.honest disk.new ≡ D.honest disk.old }

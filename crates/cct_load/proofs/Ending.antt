@@ -14,11 +14,11 @@ use Rattle.cct_journal.specs.Stands.{Leaves, Outlasts}
 use Rattle.cct_journal.proofs.Calls.{settled_leaves, stands_settled}
 use Rattle.cct_world.specs.declared.refusal.WorldNo.{WorldNo}
 use Rattle.cct_world.specs.declared.world.World.{World}
-use Rattle.cct_world.specs.Restarts.{AtLosses, Restarted}
-use Rattle.cct_world.specs.Step.{RoseBy, crashes}
+use Rattle.cct_world.specs.Restarts.{AtLosses}
+use Rattle.cct_world.specs.Step.{RoseBy, count_after, crashes}
 use Rattle.cct_world.specs.World.{StandsFor, disk_of, setup_of}
 use Rattle.cct_world.proofs.Lasting.{trusted_on}
-use Rattle.cct_world.proofs.Sure.{rose_none}
+use Rattle.cct_world.proofs.Sure.{rose_just, rose_none}
 use Rattle.cct_world.proofs.Told.{tells_first}
 use Rattle.cct_gen.specs.Load.{line_at, lines_before, load_setup, load_steps}
 use Rattle.cct_load.specs.declared.load.Load.{Load}
@@ -26,7 +26,7 @@ use Rattle.cct_load.specs.declared.load.LoadEnd.{LoadEnd}
 use Rattle.cct_load.specs.declared.load.LoadEnd.TheVariants as load_end
 use Rattle.cct_load.specs.declared.sums.LoadSums.{LoadSums}
 use Rattle.cct_load.specs.Sums.{sums_of}
-use Rattle.cct_load.specs.Played.{Became, Book, Ends, HasTrusted, PlayedLines, PlaysLoad, RestartsAt, StoppedWithin, Told}
+use Rattle.cct_load.specs.Played.{Became, Book, CutFor, Ends, HasTrusted, PlayedLines, PlaysLoad, RestartsAt, StoppedWithin, Told}
 use Rattle.cct_load.specs.Played.{first_line}
 use Rattle.cct_load.proofs.Lines.{lines_behind}
 
@@ -104,10 +104,10 @@ module _ {D : Type 0} {g : Ghosts D} (world : World D g) (load : Load) (left : D
       ends = ends;
       book = book;
       restarts = subst (λ disk. RestartsAt world disk past) (sym is)
-          (subst (λ setup. AtLosses (Restarted g.size g.honest g.seen g.cuts setup (disk_of world) (disk_of next)) past)
-          same lines.holds.so.restarts);
-      cut = subst (λ disk. RoseBy (crashes past) (g.cuts (disk_of world)) (g.cuts disk)) (sym is) lines.holds.so.cut;
-      uncut = λ none quiet. ap g.cuts is ∙ lines.holds.so.uncut none;
+          (subst (λ setup. AtLosses setup (CutFor world (disk_of next)) past) same lines.holds.so.restarts);
+      cut = rose_just (crashes past) (g.cuts (disk_of world)) (g.cuts left) (ap g.cuts is ∙ lines.holds.so.cut);
+      uncut = λ none quiet. ap g.cuts is ∙ lines.holds.so.cut
+          ∙ ap (λ n. count_after n (g.cuts (disk_of world))) none;
     }
 
     leaves_all : HasTrusted world → Leaves g.honest g.seen g.may_leave left (reverse (records past))

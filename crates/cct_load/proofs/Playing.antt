@@ -1,5 +1,5 @@
 -- What the playing of a load keeps from line to line, and what it leaves where it stops.
-use Rattle.std.proofs.Common.{◌≡◌, ◌≤◌, ◌<◌, ◌+◌, ℕ, List, [], ◌∷◌, ◌++◌, length, reverse, Some, refl, sym, ◌∙◌, subst}
+use Rattle.std.proofs.Common.{◌≡◌, ◌≢◌, ◌≤◌, ◌<◌, ◌+◌, ℕ, List, [], ◌∷◌, ◌++◌, length, reverse, Some, refl, sym, ap, ◌∙◌, subst}
 use Rattle.std.proofs.Common.{inl, arith, add-one}
 use Rattle.cct_model.specs.lines.command.Step.{Step}
 use Rattle.cct_model.specs.lines.command.Step.TheVariants as step
@@ -12,7 +12,7 @@ use Rattle.cct_disk.specs.declared.disk.Disk.{Ghosts}
 use Rattle.cct_disk.specs.Disk.{IsTrusted}
 use Rattle.cct_journal.specs.Image.{capacity_of}
 use Rattle.cct_journal.specs.Losing.{LeavesWith}
-use Rattle.cct_journal.specs.Stands.{Outlasts}
+use Rattle.cct_journal.specs.Stands.{CutOnce, Outlasts}
 use Rattle.cct_laws.specs.Restart.{due_in}
 use Rattle.cct_laws.proofs.Onto.{legal_more, transcript_on}
 use Rattle.cct_world.specs.declared.refusal.WorldNo.{WorldNo}
@@ -20,8 +20,8 @@ use Rattle.cct_world.specs.declared.refusal.WorldNo.TheVariants as world_no
 use Rattle.cct_world.specs.declared.world.World.{World}
 use Rattle.cct_world.specs.Holds.{WorldHolds}
 use Rattle.cct_world.specs.Machine.{FailsIn, LosesIn, StepSuits}
-use Rattle.cct_world.specs.Restarts.{AtLosses, LosesAt, Restarted, TellsLosses}
-use Rattle.cct_world.specs.Step.{LastsIn, RoseBy, crashes, crashes_of}
+use Rattle.cct_world.specs.Restarts.{AtLosses, LosesAt, TellsLosses}
+use Rattle.cct_world.specs.Step.{CutsIn, LastsIn, RoseBy, count_after, crashes, crashes_of}
 use Rattle.cct_world.specs.Sure.{MayFail, due_to}
 use Rattle.cct_world.specs.World.{Breaks, GoesOver, Plays, RestartsBy, StandsFor, capacity_in, disk_of, setup_of, used_of}
 use Rattle.cct_world.proofs.Holding.{holds_first, loses_at, restarts_in, world_moves, world_on}
@@ -35,11 +35,11 @@ use Rattle.cct_gen.proofs.LoadSetup.{setup_sound}
 use Rattle.cct_gen.proofs.Lines.{line_in_range, lines_in_range, one_line_more}
 use Rattle.cct_load.specs.declared.sums.LoadSums.{LoadSums}
 use Rattle.cct_load.specs.Sums.{SumsUp}
-use Rattle.cct_load.specs.Played.{Became, FailsAt, HasTrusted, LeftAt, PlayedLines, Relies, Stopped, StoppedWithin}
+use Rattle.cct_load.specs.Played.{Became, CutFor, FailsAt, HasTrusted, LeftAt, PlayedLines, Relies, Stopped, StoppedWithin}
 
--- a count that rose by so many doesn't fall
-rose_later : (many first now last : ℕ) → RoseBy many first now → now ≤ last → RoseBy many first last
-rose_later many first now last rose later = omega (arith, rose, later)
+-- a count that went up by so many doesn't fall
+rose_later : (many first now last : ℕ) → now ≡ count_after many first → now ≤ last → RoseBy many first last
+rose_later many first now last is later = subst (λ n. n ≤ last) is later
 
 module _ {D : Type 0} {g : Ghosts D} (world : World D g) where
   -- What the loop over the lines of a load keeps: so many of them were played, the world became this one, and its disk
@@ -59,7 +59,7 @@ module _ {D : Type 0} {g : Ghosts D} (world : World D g) where
       legal = λ relies. refl;
       losses = tells_first;
       holds = record {
-        so = holds_first g.size g.honest g.seen g.cuts (setup_of world) (disk_of world) (StandsFor world)
+        so = holds_first g.size g.honest g.seen g.cuts g.cut_to (setup_of world) (disk_of world) (StandsFor world)
             (disk_of world) (used_of world) refl fresh.host.keeps.used (λ sure. fresh) [] refl;
         counted = counted;
       };
@@ -100,7 +100,7 @@ module _ {D : Type 0} {g : Ghosts D} (world : World D g) where
   pub goes_on : (now next : World D g) (sums sums1 : LoadSums) (seed n : ℕ) (s : Step) (report : List Entry)
       → s ≡ line_at seed n → Goes now sums seed n → Plays now next s report
       → crashes (reverse report) ≡ crashes_of s
-      → RoseBy (crashes_of s) (g.cuts (disk_of now)) (g.cuts (disk_of next))
+      → CutsIn s g.size g.honest g.seen g.cuts g.cut_to (disk_of now) (disk_of next)
       → used_of next ≡ used_of now + length (records (reverse report))
       → RestartsBy now next s (reverse report)
       → GoesOver now next s
@@ -156,13 +156,24 @@ module _ {D : Type 0} {g : Ghosts D} (world : World D g) where
     disk_fails (step.Crash at choice) breaks = tt
     disk_fails s breaks = absurd breaks
 
-    fails_at : (why : WorldNo) (s : Step) → LastsIn s g.size g.honest g.seen g.cuts (disk_of now) left
-        → Breaks now left why s → FailsAt world left why past s
-    fails_at world_no.Disk s lasts breaks = disk_fails s breaks
-    fails_at why s lasts breaks =
-        subst (λ setup. LosesAt (Relies world past)
-        (Restarted g.size g.honest g.seen g.cuts setup (disk_of world) left) setup past (g.seen left) why s) same
-        (loses_at (disk_of world) left now why past s holds lasts breaks)
+    module _ (s : Step) (lasted : Outlasts g.size g.honest g.seen g.cuts (disk_of world) (disk_of now))
+        (lasts : LastsIn s g.size g.honest g.seen g.cuts (disk_of now) left) where
+      lost_at : (why : WorldNo) → CutOnce g.size g.honest g.seen g.cuts g.cut_to (disk_of now) left
+          → LosesIn now.machine.value left why s
+          → LosesAt (Relies world past) (CutFor world left) load_setup past (g.seen left) why s
+      lost_at why cut breaks =
+          subst (λ setup. LosesAt (Relies world past) (CutFor world left) setup past (g.seen left) why s) same
+          (loses_at (disk_of world) left now past holds why s lasted lasts cut breaks)
+
+      fails_at : (why : WorldNo) → Breaks now left why s
+          → (why ≢ world_no.Disk → CutOnce g.size g.honest g.seen g.cuts g.cut_to (disk_of now) left)
+          → FailsAt world left why past s
+      fails_at world_no.Disk breaks lost = disk_fails s breaks
+      fails_at world_no.Alien breaks lost = lost_at world_no.Alien (lost (λ is. cc is)) breaks
+      fails_at (world_no.BadRecord index) breaks lost =
+          lost_at (world_no.BadRecord index) (lost (λ is. cc is)) breaks
+      fails_at (world_no.Lost found many) breaks lost =
+          lost_at (world_no.Lost found many) (lost (λ is. cc is)) breaks
 
     disk_leaves : (s : Step) → HasTrusted world → IsTrusted g.honest g.seen (disk_of now)
         → FailsIn now.machine.value left s
@@ -191,8 +202,9 @@ module _ {D : Type 0} {g : Ghosts D} (world : World D g) where
   pub goes_stops : (now : World D g) (left : D) (why : WorldNo) (sums : LoadSums) (seed n lines : ℕ) (s : Step)
       → n < lines → s ≡ line_at seed n → Goes now sums seed n → Breaks now left why s
       → LastsIn s g.size g.honest g.seen g.cuts (disk_of now) left
+      → (why ≢ world_no.Disk → CutOnce g.size g.honest g.seen g.cuts g.cut_to (disk_of now) left)
       → StoppedWithin world seed lines left why
-  goes_stops now left why sums seed n lines s within is goes breaks lasts =
+  goes_stops now left why sums seed n lines s within is goes breaks lasts lost =
       let past = onto [] goes.lines.transcript in
       let before = goes.lines.holds.so in
       let outlasts = lasts_in g.size g.honest g.seen g.cuts s (disk_of now) left lasts in (
@@ -203,19 +215,18 @@ module _ {D : Type 0} {g : Ghosts D} (world : World D g) where
           legal = goes.lines.legal;
           losses = goes.lines.losses;
           holds = subst (λ x. Stopped world left why x past) is (record {
-            fails = fails_at now left past goes.setup before why s lasts breaks;
+            fails = fails_at now left past goes.setup before s goes.lasts lasts why breaks lost;
             book = λ given. left_at now left past goes.setup before why s given
                 (trusted_on g.size g.honest g.seen g.cuts (disk_of world) (disk_of now) goes.lasts given)
                 (suits now sums seed n goes (inl given) s) breaks;
-            restarts = subst (λ setup. AtLosses (Restarted g.size g.honest g.seen g.cuts setup (disk_of world) left) past)
-                goes.setup
-                (losses_last g.size g.honest g.seen g.cuts (setup_of now) (disk_of world) (disk_of now) left past
+            restarts = subst (λ setup. AtLosses setup (CutFor world left) past) goes.setup
+                (losses_last g.size g.honest g.seen g.cuts g.cut_to (disk_of world) (setup_of now) (disk_of now) left past
                 outlasts before.restarts);
             cut = rose_later (crashes past) (g.cuts (disk_of world)) (g.cuts (disk_of now)) (g.cuts left) before.cut
                 outlasts.later_cuts;
             uncut = λ none quiet.
                 uncut_in g.size g.honest g.seen g.cuts s (disk_of now) left lasts (crashes_none s quiet)
-                ∙ before.uncut none;
+                ∙ before.cut ∙ ap (λ n. count_after n (g.cuts (disk_of world))) none;
           });
         },
       )

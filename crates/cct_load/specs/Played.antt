@@ -1,5 +1,5 @@
 -- What the playing of a load leaves: what was played and written, and what is on the disk, by how it came to its end.
-use Rattle.std.specs.Prelude.{◌≡◌, ◌⊎◌, ℕ, ◌<◌, List, [], ◌∷◌, ◌++◌, None, reverse}
+use Rattle.std.specs.Prelude.{◌≡◌, ◌⊎◌, ℕ, ◌<◌, List, [], ◌∷◌, ◌++◌, None, reverse, Option}
 use Rattle.cct_model.specs.lines.command.Step.{Step}
 use Rattle.cct_model.specs.lines.entry.Entry.{Entry}
 use Rattle.cct_model.specs.lines.entry.Entry.TheVariants as entry
@@ -15,7 +15,7 @@ use Rattle.cct_world.specs.declared.refusal.WorldNo.{WorldNo}
 use Rattle.cct_world.specs.declared.refusal.WorldNo.TheVariants as world_no
 use Rattle.cct_world.specs.declared.world.World.{World}
 use Rattle.cct_world.specs.Holds.{WorldHolds}
-use Rattle.cct_world.specs.Restarts.{AtLosses, LosesAt, Restarted, TellsLosses}
+use Rattle.cct_world.specs.Restarts.{AtLosses, CutAt, LosesAt, TellsLosses}
 use Rattle.cct_world.specs.Step.{RoseBy, crashes}
 use Rattle.cct_world.specs.Sure.{First, IsCrash, MayFail, Sure, due_to}
 use Rattle.cct_world.specs.World.{capacity_in, disk_of}
@@ -54,18 +54,21 @@ module _ {D : Type 0} {g : Ghosts D} (world : World D g) where
     pub so : WorldHolds (disk_of world) next past
     pub counted : SumsUp sums (lines_before seed n) past
 
+  -- Until the disk became this one its power was cut for this time, and this holds of what a read gave right behind it.
+  abbrev pub CutFor : D → ℕ → (Option (List ℕ) → Type 0) → Type 0
+  CutFor left = CutAt g.size g.honest g.seen g.cuts g.cut_to (disk_of world) left
+
   -- Behind each loss of power that a past tells, the disk had a journal of as many records as are told, until it became
   -- this one.
   abbrev pub RestartsAt : D → List Entry → Type 0
-  RestartsAt left = AtLosses (Restarted g.size g.honest g.seen g.cuts load_setup (disk_of world) left)
+  RestartsAt left = AtLosses load_setup (CutFor left)
 
   -- Why the step behind a past wasn't played, where this disk is left: it failed in a `next` that was about to put a
   -- record, or in a loss of power; or it isn't the one that it was, which comes in a loss of power alone, and is told.
   abbrev pub FailsAt : D → WorldNo → List Entry → Step → Type 0
   FailsAt left world_no.Disk past s = MayFail (Relies past) load_setup past s
   FailsAt left why past s =
-      LosesAt (Relies past) (Restarted g.size g.honest g.seen g.cuts load_setup (disk_of world) left) load_setup past
-      (g.seen left) why s
+      LosesAt (Relies past) (CutFor left) load_setup past (g.seen left) why s
 
   -- What a loss of power may leave on this disk, where the step behind a past wasn't played: each image stands for the
   -- records of the past, or, where a record was due, for these or for these and that record. Any reason but that the

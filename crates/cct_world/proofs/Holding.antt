@@ -17,7 +17,7 @@ use Rattle.cct_model.specs.Setup.{IsSoundSetup}
 use Rattle.cct_disk.specs.declared.disk.Disk.{Ghosts}
 use Rattle.cct_disk.specs.Disk.{IsTrusted}
 use Rattle.cct_journal.specs.Image.{capacity_of}
-use Rattle.cct_journal.specs.Stands.{Outlasts}
+use Rattle.cct_journal.specs.Stands.{CutOnce, Outlasts}
 use Rattle.cct_laws.proofs.Onto.{legal_from}
 use Rattle.cct_host.specs.Restarting.{told_by}
 use Rattle.cct_world.specs.declared.machine.Machine.{Machine}
@@ -27,15 +27,15 @@ use Rattle.cct_world.specs.Holds.{Holds, Relives, WorldHolds}
 use Rattle.cct_world.specs.Machine.{DueAsTold, LosesIn, StepSuits, Survives, due_of}
 use Rattle.cct_world.specs.Relived.{over, relived}
 use Rattle.cct_world.specs.Restarts as over_disks
-use Rattle.cct_world.specs.Restarts.{IsDueOver, Loses, LosesAt, Restarted, RestartsIn, WasDue, kept_in}
-use Rattle.cct_world.specs.Step.{LastsIn, RoseBy, crashes, crashes_of}
+use Rattle.cct_world.specs.Restarts.{CutAt, IsDueOver, IsWhole, Loses, LosesAt, RestartsIn, WasDue, kept_in}
+use Rattle.cct_world.specs.Step.{CutsIn, LastsIn, crashes, crashes_of}
 use Rattle.cct_world.specs.Sure.{Sure}
 use Rattle.cct_world.specs.World.{GoesOver, Plays, RestartsBy, StandsFor, disk_of, setup_of, used_of}
-use Rattle.cct_world.proofs.Lasting.{lasts_in, trusted_back, uncut_in}
+use Rattle.cct_world.proofs.Lasting.{lasts_in, trusted_back}
 use Rattle.cct_world.proofs.Reliving.{over_again, over_frees, over_records, relived_on, relived_told}
-use Rattle.cct_world.proofs.Restarts.{counts_on, losses_on, restarted_by, restarted_here, restarted_on}
+use Rattle.cct_world.proofs.Restarts.{behind_by, behind_now, behind_on, counts_on, losses_on, whole_by}
 use Rattle.cct_world.proofs.Suiting.{lived_suits}
-use Rattle.cct_world.proofs.Sure.{crashes-append, cut_on, quiet_survives, rose_none, sure_on, uncut_on}
+use Rattle.cct_world.proofs.Sure.{crashes-append, cut_on, quiet_survives, sure_on}
 
 -- What a step that was played does to what stands for a past: it goes on by the entries of the step, and behind a loss of
 -- power on a disk that isn't trusted it stands over what a read gives.
@@ -97,7 +97,7 @@ module _ (capacity : ℕ) (setup : Setup) (Before After : List Entry → Type 0)
       }
 
 module _ {D : Type 0} (size : D → ℕ) (honest : D → Bool) (seen : D → Option (List ℕ)) (cuts : D → ℕ)
-    (setup : Setup) (given : D) where
+    (cut_to : D → D → Type 0) (setup : Setup) (given : D) where
   abbrev capacity : ℕ
   capacity = capacity_of (size given)
 
@@ -107,20 +107,19 @@ module _ {D : Type 0} (size : D → ℕ) (honest : D → Bool) (seen : D → Opt
   -- before the first step
   pub holds_first : (Stands : List Entry → Type 0) (now : D) (used : ℕ) → cuts now ≡ cuts given → used ≡ 0
       → (Sure trusted [] → Stands []) → (past : List Entry) → past ≡ []
-      → Holds size honest seen cuts Stands setup given now used past
+      → Holds size honest seen cuts cut_to Stands setup given now used past
   holds_first Stands now used same none stands past is =
-      subst (Holds size honest seen cuts Stands setup given now used) (sym is) (record {
+      subst (Holds size honest seen cuts cut_to Stands setup given now used) (sym is) (record {
         stands = stands;
         relives = λ unsure. absurd (unsure (inr refl));
         counts = none;
         restarts = refl;
-        cut = subst (RoseBy 0 (cuts given)) (sym same) (rose_none 0 (cuts given) refl);
-        uncut = λ quiet. same;
+        cut = same;
       })
 
   -- what stood before a loss of power stands over what a read gives behind it
   over_image : (Before After : List Entry → Type 0) (old new : D) (used many : ℕ) (past : List Entry)
-      → Holds size honest seen cuts Before setup given old used past → (trusted → ⊥)
+      → Holds size honest seen cuts cut_to Before setup given old used past → (trusted → ⊥)
       → is_some (seen new) ≡ is_some (seen old) → (image : List ℕ) → seen new ≡ Some image → (rs : List Record)
       → ((lived : List Entry) → Before lived → After (over many (reverse rs) lived)) → (losses : ℕ)
       → crashes past ≡ losses → After (over many (reverse rs) past)
@@ -129,27 +128,27 @@ module _ {D : Type 0} (size : D → ℕ) (honest : D → Bool) (seen : D → Opt
   over_image Before After old new used many past before untrusted same image tells rs goes (suc losses) some =
       let unsure : Sure trusted past → ⊥ = λ sure. elim sure [ | inl is ↦ untrusted is | inr none ↦ cc (some, none) ] in
       let found = before.relives unsure in
-      let was = told_before (seen found.disk) (seen new) image (same ∙ found.lasts.same_telling) tells in
-      let lived = found.whole was.0 was.1 in
+      let was = told_before (seen found.behind) (seen new) image (same ∙ found.lasts.same_telling) tells in
+      let lived = found.holds was.0 was.1 in
       subst After (over_again many (reverse rs) (reverse lived.0) past)
       (goes (relived (reverse lived.0) past) lived.2.stands)
 
   -- over a step that was played
   relived_in : (Before After : List Entry → Type 0) (old new : D) (s : Step) (used many : ℕ) (news past : List Entry)
       → Outlasts size honest seen cuts given old → LastsIn s size honest seen cuts old new
-      → crashes news ≡ crashes_of s → RoseBy (crashes_of s) (cuts old) (cuts new)
+      → crashes news ≡ crashes_of s → CutsIn s size honest seen cuts cut_to old new
       → RestartsIn setup s used many (seen new) news
       → Moves capacity setup Before After (IsTrusted honest seen old) (seen new) many s news
-      → Holds size honest seen cuts Before setup given old used past → (Sure trusted (news ++ past) → ⊥)
-      → Restarted size honest seen cuts setup given new (crashes (news ++ past))
-      (Relives capacity setup After (news ++ past))
+      → Holds size honest seen cuts cut_to Before setup given old used past → (Sure trusted (news ++ past) → ⊥)
+      → CutAt size honest seen cuts cut_to given new (crashes (news ++ past))
+      (λ behind. IsWhole setup behind (Relives capacity setup After (news ++ past)))
   relived_in Before After old new (step.Crash at choice) used many news past lasted lasts told cut (due, none, restarts)
       moves before unsure =
-      let Q = Relives capacity setup After (news ++ past) in
-      let losses : 1 + crashes past ≡ crashes (news ++ past) = omega (arith, crashes-append news past, told) in
+      let Q : Option (List ℕ) → Type 0 = λ behind. IsWhole setup behind (Relives capacity setup After (news ++ past)) in
+      let losses : suc (crashes past) ≡ crashes (news ++ past) = omega (arith, crashes-append news past, told) in
       let untrusted : trusted → ⊥ = λ is. unsure (inl is) in
-      subst (λ n. Restarted size honest seen cuts setup given new n Q) losses
-      (restarted_here size honest seen cuts setup given old new (crashes past) Q lasted lasts before.cut cut
+      subst (λ n. CutAt size honest seen cuts cut_to given new n Q) losses
+      (behind_now size honest seen cuts cut_to given old new (crashes past) Q lasted before.cut cut
       (λ image tells. let found = restarts.whole image tells in (
         found.0,
         found.1,
@@ -163,32 +162,31 @@ module _ {D : Type 0} (size : D → ℕ) (honest : D → Bool) (seen : D → Opt
   relived_in Before After old new s used many news past lasted lasts told cut restarts moves before unsure =
       let P = Relives capacity setup Before past in
       let Q = Relives capacity setup After (news ++ past) in
+      let Whole : (List Record → Type 0) → Option (List ℕ) → Type 0 = λ Of behind. IsWhole setup behind Of in
       let losses : crashes past ≡ crashes (news ++ past) = omega (arith, crashes-append news past, told) in
-      subst (λ n. Restarted size honest seen cuts setup given new n Q) losses
-      (restarted_by size honest seen cuts setup given new (crashes past) P Q
+      subst (λ n. CutAt size honest seen cuts cut_to given new n (Whole Q)) losses
+      (behind_by size honest seen cuts cut_to given new (crashes past) (Whole P) (Whole Q)
+      (whole_by setup P Q
       (relives_on capacity setup Before After (IsTrusted honest seen old) (seen new) many s news past moves told restarts
-      refl)
-      (restarted_on size honest seen cuts setup given old new (crashes past) P
-      (lasts_in size honest seen cuts s old new lasts)
-      (before.relives (λ sure. unsure (sure_on trusted news past told sure)))))
+      refl))
+      (behind_on size honest seen cuts cut_to given old new (lasts_in size honest seen cuts s old new lasts)
+      (crashes past) (Whole P) (before.relives (λ sure. unsure (sure_on trusted news past told sure)))))
 
   pub holds_on : (Before After : List Entry → Type 0) (old new : D) (s : Step) (used many : ℕ) (news past : List Entry)
       → Outlasts size honest seen cuts given old → LastsIn s size honest seen cuts old new
-      → crashes news ≡ crashes_of s → RoseBy (crashes_of s) (cuts old) (cuts new)
+      → crashes news ≡ crashes_of s → CutsIn s size honest seen cuts cut_to old new
       → many ≡ used + length (records news) → RestartsIn setup s used many (seen new) news
       → Moves capacity setup Before After (IsTrusted honest seen old) (seen new) many s news
       → (Sure trusted (news ++ past) → After (news ++ past))
-      → Holds size honest seen cuts Before setup given old used past
-      → Holds size honest seen cuts After setup given new many (news ++ past)
+      → Holds size honest seen cuts cut_to Before setup given old used past
+      → Holds size honest seen cuts cut_to After setup given new many (news ++ past)
   holds_on Before After old new s used many news past lasted lasts told cut counts restarts moves after before = record {
     stands = after;
     relives = relived_in Before After old new s used many news past lasted lasts told cut restarts moves before;
     counts = counts_on news past used many before.counts counts;
-    restarts = losses_on size honest seen cuts setup given old new s used many news past lasted lasts before.cut cut told
-        before.counts restarts before.restarts;
-    cut = cut_on news past (cuts given) (cuts old) (cuts new) (crashes_of s) before.cut told cut;
-    uncut = uncut_on news past (cuts given) (cuts old) (cuts new) (crashes_of s) before.uncut told
-        (uncut_in size honest seen cuts s old new lasts);
+    restarts = losses_on size honest seen cuts cut_to given setup old new s used many news past lasted lasts before.cut
+        cut told before.counts restarts before.restarts;
+    cut = cut_on size honest seen cuts cut_to old new s news past (cuts given) before.cut told cut;
   }
 
 module _ {D : Type 0} {g : Ghosts D} where
@@ -207,7 +205,8 @@ module _ {D : Type 0} {g : Ghosts D} where
   pub world_on : (given : D) (now next : World D g) (s : Step) (news past : List Entry)
       → Outlasts g.size g.honest g.seen g.cuts given (disk_of now)
       → LastsIn s g.size g.honest g.seen g.cuts (disk_of now) (disk_of next)
-      → crashes news ≡ crashes_of s → RoseBy (crashes_of s) (g.cuts (disk_of now)) (g.cuts (disk_of next))
+      → crashes news ≡ crashes_of s
+      → CutsIn s g.size g.honest g.seen g.cuts g.cut_to (disk_of now) (disk_of next)
       → used_of next ≡ used_of now + length (records news) → RestartsBy now next s news
       → setup_of next ≡ setup_of now
       → Moves (capacity_of (g.size given)) (setup_of now) (StandsFor now) (StandsFor next)
@@ -215,9 +214,9 @@ module _ {D : Type 0} {g : Ghosts D} where
       → (Sure (IsTrusted g.honest g.seen given) (news ++ past) → StandsFor next (news ++ past))
       → WorldHolds given now past → WorldHolds given next (news ++ past)
   world_on given now next s news past lasted lasts told cut counts restarts same moves stands before =
-      subst (λ setup. Holds g.size g.honest g.seen g.cuts (StandsFor next) setup given (disk_of next) (used_of next)
-      (news ++ past)) (sym same)
-      (holds_on g.size g.honest g.seen g.cuts (setup_of now) given (StandsFor now) (StandsFor next) (disk_of now)
+      subst (λ setup. Holds g.size g.honest g.seen g.cuts g.cut_to (StandsFor next) setup given (disk_of next)
+      (used_of next) (news ++ past)) (sym same)
+      (holds_on g.size g.honest g.seen g.cuts g.cut_to (setup_of now) given (StandsFor now) (StandsFor next) (disk_of now)
       (disk_of next) s (used_of now) (used_of next) news past lasted lasts told cut counts
       (restarts_in now next s news restarts) moves stands before)
 
@@ -244,31 +243,42 @@ module _ {D : Type 0} {g : Ghosts D} where
     due_is = told (relived (reverse rs) past) stands;
   }
 
-  was_due : (given left : D) (now : World D g) (past : List Entry) (at : Option CrashAt) → WorldHolds given now past
-      → Outlasts g.size g.honest g.seen g.cuts (disk_of now) left → DueAsTold now.machine.value at
-      → WasDue (Sure (IsTrusted g.honest g.seen given) past)
-      (Restarted g.size g.honest g.seen g.cuts (setup_of now) given left) (setup_of now) past at
-      (due_of now.machine.value at)
-  was_due given left now past None holds lasts told = refl
-  was_due given left now past (Some at) holds lasts told = (
-    λ is. told past (holds.stands is),
-    λ unsure.
-    let Q = IsDueOver (setup_of now) past at.addr (due_of now.machine.value (Some at)) in
-    restarted_on g.size g.honest g.seen g.cuts (setup_of now) given (disk_of now) left (crashes past) Q lasts
-    (restarted_by g.size g.honest g.seen g.cuts (setup_of now) given (disk_of now) (crashes past)
-    (Relives (capacity_of (g.size given)) (setup_of now) (StandsFor now) past) Q
-    (λ rs follow lived. due_over now past at told holds.counts rs lived.stands) (holds.relives unsure)),
-  )
+  module _ (given left : D) (now : World D g) (past : List Entry) (holds : WorldHolds given now past) where
+    abbrev sure : Type 0
+    sure = Sure (IsTrusted g.honest g.seen given) past
 
-  -- why no host starts again
-  pub loses_at : (given left : D) (now : World D g) (why : WorldNo) (past : List Entry) (s : Step)
-      → WorldHolds given now past → LastsIn s g.size g.honest g.seen g.cuts (disk_of now) left
-      → LosesIn now.machine.value left why s
-      → LosesAt (Sure (IsTrusted g.honest g.seen given) past)
-      (Restarted g.size g.honest g.seen g.cuts (setup_of now) given left) (setup_of now) past (g.seen left) why s
-  loses_at given left now why past (step.Crash at choice) holds lasts loses = (
-    due_of now.machine.value at,
-    was_due given left now past at holds lasts loses.1,
-    subst (λ put. Loses (setup_of now) put (due_of now.machine.value at) (g.seen left) why) holds.counts loses.2,
-  )
-  loses_at given left now why past s holds lasts loses = absurd loses
+    abbrev Cut : ℕ → (Option (List ℕ) → Type 0) → Type 0
+    Cut = CutAt g.size g.honest g.seen g.cuts g.cut_to given left
+
+    abbrev due_now : Option CrashAt → Option Record
+    due_now at = due_of now.machine.value at
+
+    was_due : (at : Option CrashAt) → Outlasts g.size g.honest g.seen g.cuts (disk_of now) left
+        → DueAsTold now.machine.value at → WasDue sure Cut (setup_of now) past at (due_now at)
+    was_due None lasts told = refl
+    was_due (Some at) lasts told = (
+      λ is. told past (holds.stands is),
+      λ unsure.
+      let P = Relives (capacity_of (g.size given)) (setup_of now) (StandsFor now) past in
+      let Q = IsDueOver (setup_of now) past at.addr (due_now (Some at)) in
+      let Whole : (List Record → Type 0) → Option (List ℕ) → Type 0 = λ Of behind. IsWhole (setup_of now) behind Of in
+      behind_on g.size g.honest g.seen g.cuts g.cut_to given (disk_of now) left lasts (crashes past) (Whole Q)
+      (behind_by g.size g.honest g.seen g.cuts g.cut_to given (disk_of now) (crashes past) (Whole P) (Whole Q)
+      (whole_by (setup_of now) P Q
+      (λ rs follow lived. due_over now past at told holds.counts rs lived.stands)) (holds.relives unsure)),
+    )
+
+    -- why no host starts again
+    pub loses_at : (why : WorldNo) (s : Step) → Outlasts g.size g.honest g.seen g.cuts given (disk_of now)
+        → LastsIn s g.size g.honest g.seen g.cuts (disk_of now) left
+        → CutOnce g.size g.honest g.seen g.cuts g.cut_to (disk_of now) left → LosesIn now.machine.value left why s
+        → LosesAt sure Cut (setup_of now) past (g.seen left) why s
+    loses_at why (step.Crash at choice) lasted lasts cut loses = (
+      due_now at,
+      was_due at lasts loses.1,
+      behind_now g.size g.honest g.seen g.cuts g.cut_to given (disk_of now) left (crashes past)
+          (λ behind. (g.seen left ≡ behind) × Loses (setup_of now) (length (records past)) (due_now at) behind why) lasted
+          holds.cut cut
+          (refl, subst (λ put. Loses (setup_of now) put (due_now at) (g.seen left) why) holds.counts loses.2),
+    )
+    loses_at why s lasted lasts cut loses = absurd loses

@@ -1,5 +1,5 @@
 -- What the disk of a machine has behind a loss of power, and behind the steps that follow it.
-use Rattle.std.proofs.Common.{◌≡◌, ◌⊎◌, ◌+◌, ◌++◌, ℕ, Bool, true, List, [], ◌∷◌, length, reverse, refl, sym, ap, ◌∙◌}
+use Rattle.std.proofs.Common.{◌≡◌, ◌⊎◌, ◌+◌, ◌++◌, ℕ, suc, Bool, true, List, [], ◌∷◌, length, reverse, refl, sym, ap, ◌∙◌}
 use Rattle.std.proofs.Common.{inl, inr, subst, arith, Option, Some, None}
 use Rattle.std.specs.Option.{IfSome}
 use Rattle.std.proofs.lemmas.List.{reverse-reverse}
@@ -13,6 +13,7 @@ use Rattle.cct_model.specs.lines.entry.Entry.TheVariants as entry
 use Rattle.cct_model.specs.Following.{all_follow}
 use Rattle.cct_model.specs.Records.{records}
 use Rattle.cct_bus.specs.Bus as wires
+use Rattle.cct_edge.specs.Faults.{next_count}
 use Rattle.cct_disk.specs.declared.disk.Disk.{Ghosts}
 use Rattle.cct_disk.specs.Disk.{IsTrusted}
 use Rattle.cct_journal.specs.declared.journal.Journal.{Journal}
@@ -20,7 +21,7 @@ use Rattle.cct_journal.specs.Image as images
 use Rattle.cct_journal.specs.Image.{IsBadAt}
 use Rattle.cct_journal.specs.Journal as journals
 use Rattle.cct_journal.specs.Losing.{LeavesWith}
-use Rattle.cct_journal.specs.Stands.{Outlasts, Reads}
+use Rattle.cct_journal.specs.Stands.{CutOnce, Outlasts, Reads}
 use Rattle.cct_laws.specs.Restart.{CrashSuits, due_in}
 use Rattle.cct_host.specs.declared.host.Host.{Host}
 use Rattle.cct_host.specs.declared.refusal.CrashNo.{CrashNo}
@@ -34,13 +35,12 @@ use Rattle.cct_host.specs.Starting.{StartsOver}
 use Rattle.cct_host.proofs.Starting.{started_stands}
 use Rattle.cct_world.specs.declared.machine.Machine.{Machine}
 use Rattle.cct_world.specs.Machine.{Breaks, DueAsTold, GoesOver, StandsFor, disk_of, used_of}
-use Rattle.cct_world.specs.Restarts.{AreMany, AtLosses, AtLossesWith, HasBad, IsWhole, Loses, Restarted, Restarts}
+use Rattle.cct_world.specs.Restarts.{AreMany, AtLosses, AtLossesWith, CutAt, HasBad, IsWhole, Loses, Restarts}
 use Rattle.cct_world.specs.Restarts.{RestartsIn, kept_in}
-use Rattle.cct_world.specs.Step.{LastsIn, RoseBy, crashes, crashes_of, unplayed}
+use Rattle.cct_world.specs.Step.{CutsIn, LastsIn, count_after, crashes, crashes_of, unplayed}
 use Rattle.cct_world.specs.Relived.{over}
-use Rattle.cct_world.proofs.Lasting.{lasts_here, lasts_in, lasts_then, trusted_back}
+use Rattle.cct_world.proofs.Lasting.{lasts_in, lasts_on, lasts_then, trusted_back}
 use Rattle.cct_world.proofs.Reliving.{over_frees, over_records, over_wire}
-use Rattle.cct_world.proofs.Sure.{rose_on}
 
 -- records behind others
 pub records_counted : (news past : List Entry)
@@ -212,101 +212,105 @@ module _ {D : Type 0} {g : Ghosts D} where
       }
 
 -- a fact at each loss of power
+module _ (setup : Setup) (P Q : ℕ → (Option (List ℕ) → Type 0) → Type 0)
+    (goes : (times : ℕ) (Of : Option (List ℕ) → Type 0) → P times Of → Q times Of) where
+  at_losses_with : (kept : ℕ) (past : List Entry) → AtLossesWith setup P kept past → AtLossesWith setup Q kept past
+  at_losses_with kept [] at = at
+  at_losses_with kept (entry.Crash many ∷ past) at =
+      (goes (suc (crashes past)) (λ behind. IsWhole setup behind (AreMany many)) at.0, at.1, at_losses_with 0 past at.2)
+  at_losses_with kept (entry.Kept r ∷ past) at = (at.0, at_losses_with 1 past at.1)
+  at_losses_with kept (e ∷ past) at = (at.0, at_losses_with 0 past at.1)
 
-at_losses_with : (P Q : ℕ → (List Record → Type 0) → Type 0)
-    → ((losses : ℕ) (Of : List Record → Type 0) → P losses Of → Q losses Of) → (kept : ℕ)
-    (past : List Entry) → AtLossesWith P kept past → AtLossesWith Q kept past
-at_losses_with P Q goes kept [] at = at
-at_losses_with P Q goes kept (entry.Crash many ∷ past) at =
-    (goes (1 + crashes past) (AreMany many) at.0, at.1, at_losses_with P Q goes 0 past at.2)
-at_losses_with P Q goes kept (entry.Kept r ∷ past) at = (at.0, at_losses_with P Q goes 1 past at.1)
-at_losses_with P Q goes kept (e ∷ past) at = (at.0, at_losses_with P Q goes 0 past at.1)
+  pub at_losses : (past : List Entry) → AtLosses setup P past → AtLosses setup Q past
+  at_losses past at = at_losses_with 0 past at
 
-pub at_losses : (P Q : ℕ → (List Record → Type 0) → Type 0)
-    → ((losses : ℕ) (Of : List Record → Type 0) → P losses Of → Q losses Of) → (past : List Entry)
-    → AtLosses P past → AtLosses Q past
-at_losses P Q goes past at = at_losses_with P Q goes 0 past at
+module _ (setup : Setup) (P : ℕ → (Option (List ℕ) → Type 0) → Type 0) where
+  at_quiet : (news past : List Entry) → crashes news ≡ 0 → kept_in news ≡ [] → AtLosses setup P past
+      → AtLosses setup P (news ++ past)
+  at_quiet [] past none unkept at = at
+  at_quiet (entry.Crash many ∷ news) past none unkept at = absurd (omega (arith, none))
+  at_quiet (entry.Kept r ∷ news) past none unkept at = absurd cc
+  at_quiet (e ∷ news) past none unkept at = (refl, at_quiet news past (omega (arith, none)) unkept at)
 
-at_quiet : (P : ℕ → (List Record → Type 0) → Type 0) (news past : List Entry) → crashes news ≡ 0 → kept_in news ≡ []
-    → AtLosses P past → AtLosses P (news ++ past)
-at_quiet P [] past none unkept at = at
-at_quiet P (entry.Crash many ∷ news) past none unkept at = absurd (omega (arith, none))
-at_quiet P (entry.Kept r ∷ news) past none unkept at = absurd cc
-at_quiet P (e ∷ news) past none unkept at = (refl, at_quiet P news past (omega (arith, none)) unkept at)
-
-at_told : (P : ℕ → (List Record → Type 0) → Type 0) (many : ℕ) (kept : Option Record) (past : List Entry)
-    → P (1 + crashes past) (AreMany many) → many ≡ length (records past) + length (put_by kept) → AtLosses P past
-    → AtLosses P (told_by many kept ++ past)
-at_told P many None past here count at = (here, omega (arith, count), at)
-at_told P many (Some r) past here count at = (refl, (here, omega (arith, count), at))
+  at_told : (many : ℕ) (kept : Option Record) (past : List Entry)
+      → P (suc (crashes past)) (λ behind. IsWhole setup behind (AreMany many))
+      → many ≡ length (records past) + length (put_by kept) → AtLosses setup P past
+      → AtLosses setup P (told_by many kept ++ past)
+  at_told many None past here count at = (here, omega (arith, count), at)
+  at_told many (Some r) past here count at = (refl, (here, omega (arith, count), at))
 
 -- what is so of records that follow one another is so of them
-whole_by : (setup : Setup) (seen : Option (List ℕ)) (P Q : List Record → Type 0)
-    → ((rs : List Record) → all_follow setup (reverse rs) ≡ true → P rs → Q rs) → IsWhole setup seen P
-    → IsWhole setup seen Q
-whole_by setup seen P Q goes whole image tells =
+pub whole_by : (setup : Setup) (P Q : List Record → Type 0)
+    → ((rs : List Record) → all_follow setup (reverse rs) ≡ true → P rs → Q rs) → (seen : Option (List ℕ))
+    → IsWhole setup seen P → IsWhole setup seen Q
+whole_by setup P Q goes seen whole image tells =
     let found = whole image tells in
     (found.0, found.1, goes found.0 found.3 found.2, found.3)
 
 module _ {D : Type 0} (size : D → ℕ) (honest : D → Bool) (seen : D → Option (List ℕ)) (cuts : D → ℕ)
-    (setup : Setup) (given : D) where
-  -- behind a disk that lasts
-  pub restarted_on : (old new : D) (losses : ℕ) (P : List Record → Type 0) → Outlasts size honest seen cuts old new
-      → Restarted size honest seen cuts setup given old losses P
-      → Restarted size honest seen cuts setup given new losses P
-  restarted_on old new losses P lasts restarted = record {
-    disk = restarted.disk;
-    lasted = restarted.lasted;
-    lasts = lasts_then size honest seen cuts restarted.disk old new restarted.lasts lasts;
-    cut = restarted.cut;
-    whole = restarted.whole;
+    (cut_to : D → D → Type 0) (given : D) where
+  -- what is so behind a cut, where the disk lasts
+  pub behind_on : (old new : D) → Outlasts size honest seen cuts old new → (times : ℕ) (P : Option (List ℕ) → Type 0)
+      → CutAt size honest seen cuts cut_to given old times P → CutAt size honest seen cuts cut_to given new times P
+  behind_on old new lasts times P cut = record {
+    before = cut.before;
+    behind = cut.behind;
+    lasted = cut.lasted;
+    is_cut = cut.is_cut;
+    lasts = lasts_then size honest seen cuts cut.behind old new cut.lasts lasts;
+    count = cut.count;
+    holds = cut.holds;
   }
 
-  -- and where more is known of the records
-  pub restarted_by : (now : D) (losses : ℕ) (P Q : List Record → Type 0)
-      → ((rs : List Record) → all_follow setup (reverse rs) ≡ true → P rs → Q rs)
-      → Restarted size honest seen cuts setup given now losses P
-      → Restarted size honest seen cuts setup given now losses Q
-  restarted_by now losses P Q goes restarted = record {
-    disk = restarted.disk;
-    lasted = restarted.lasted;
-    lasts = restarted.lasts;
-    cut = restarted.cut;
-    whole = whole_by setup (seen restarted.disk) P Q goes restarted.whole;
+  -- where more is known of what a read gave
+  pub behind_by : (now : D) (times : ℕ) (P Q : Option (List ℕ) → Type 0) → ((behind : Option (List ℕ)) → P behind → Q behind)
+      → CutAt size honest seen cuts cut_to given now times P → CutAt size honest seen cuts cut_to given now times Q
+  behind_by now times P Q goes cut = record {
+    before = cut.before;
+    behind = cut.behind;
+    lasted = cut.lasted;
+    is_cut = cut.is_cut;
+    lasts = cut.lasts;
+    count = cut.count;
+    holds = goes (seen cut.behind) cut.holds;
   }
 
-  pub losses_last : (old new : D) (past : List Entry) → Outlasts size honest seen cuts old new
-      → AtLosses (Restarted size honest seen cuts setup given old) past
-      → AtLosses (Restarted size honest seen cuts setup given new) past
-  losses_last old new past lasts at =
-      at_losses (Restarted size honest seen cuts setup given old) (Restarted size honest seen cuts setup given new)
-      (λ losses Of restarted. restarted_on old new losses Of lasts restarted) past at
-
-  -- a loss of power that was survived just now
-  pub restarted_here : (old new : D) (losses : ℕ) (P : List Record → Type 0) → Outlasts size honest seen cuts given old
-      → Outlasts size honest seen cuts old new → RoseBy losses (cuts given) (cuts old) → RoseBy 1 (cuts old) (cuts new)
-      → IsWhole setup (seen new) P → Restarted size honest seen cuts setup given new (1 + losses) P
-  restarted_here old new losses P lasted lasts before cut whole = record {
-    disk = new;
-    lasted = lasts_then size honest seen cuts given old new lasted lasts;
-    lasts = lasts_here size honest seen cuts new;
-    cut = rose_on losses 1 (cuts given) (cuts old) (cuts new) before cut;
-    whole = whole;
+  -- and behind a cut that was made just now
+  pub behind_now : (old new : D) (times : ℕ) (P : Option (List ℕ) → Type 0) → Outlasts size honest seen cuts given old
+      → cuts old ≡ count_after times (cuts given) → CutOnce size honest seen cuts cut_to old new → P (seen new)
+      → CutAt size honest seen cuts cut_to given new (suc times) P
+  behind_now old new times P lasted before cut here = record {
+    before = cut.before;
+    behind = cut.behind;
+    lasted = lasts_then size honest seen cuts given old cut.before lasted
+        (lasts_on size honest seen cuts old cut.before cut.goes_on);
+    is_cut = cut.is_cut;
+    lasts = lasts_on size honest seen cuts cut.behind new cut.lasts;
+    count = sym cut.lasts.same_cuts ∙ cut.count ∙ ap next_count before;
+    holds = subst P cut.same_seen here;
   }
+
+  pub losses_last : (setup : Setup) (old new : D) (past : List Entry) → Outlasts size honest seen cuts old new
+      → AtLosses setup (CutAt size honest seen cuts cut_to given old) past
+      → AtLosses setup (CutAt size honest seen cuts cut_to given new) past
+  losses_last setup old new past lasts at =
+      at_losses setup (CutAt size honest seen cuts cut_to given old) (CutAt size honest seen cuts cut_to given new)
+      (behind_on old new lasts) past at
 
   -- behind a step that was played
-  pub losses_on : (old new : D) (s : Step) (used many : ℕ) (news past : List Entry)
+  pub losses_on : (setup : Setup) (old new : D) (s : Step) (used many : ℕ) (news past : List Entry)
       → Outlasts size honest seen cuts given old → LastsIn s size honest seen cuts old new
-      → RoseBy (crashes past) (cuts given) (cuts old) → RoseBy (crashes_of s) (cuts old) (cuts new)
+      → cuts old ≡ count_after (crashes past) (cuts given) → CutsIn s size honest seen cuts cut_to old new
       → crashes news ≡ crashes_of s → used ≡ length (records past) → RestartsIn setup s used many (seen new) news
-      → AtLosses (Restarted size honest seen cuts setup given old) past
-      → AtLosses (Restarted size honest seen cuts setup given new) (news ++ past)
-  losses_on old new (step.Crash at choice) used many news past lasted lasts before cut told was (due, none, restarts) losses =
-      let P = Restarted size honest seen cuts setup given new in
-      subst (λ es. AtLosses P (es ++ past)) (sym restarts.news_are)
-      (at_told P many restarts.all.kept past
-      (restarted_here old new (crashes past) (AreMany many) lasted lasts before cut restarts.whole)
-      (omega (arith, restarts.all.count, was)) (losses_last old new past lasts losses))
-  losses_on old new s used many news past lasted lasts before cut told was restarts losses =
-      at_quiet (Restarted size honest seen cuts setup given new) news past told restarts
-      (losses_last old new past (lasts_in size honest seen cuts s old new lasts) losses)
+      → AtLosses setup (CutAt size honest seen cuts cut_to given old) past
+      → AtLosses setup (CutAt size honest seen cuts cut_to given new) (news ++ past)
+  losses_on setup old new (step.Crash at choice) used many news past lasted lasts before cut told was
+      (due, none, restarts) losses =
+      let P = CutAt size honest seen cuts cut_to given new in
+      subst (λ es. AtLosses setup P (es ++ past)) (sym restarts.news_are)
+      (at_told setup P many restarts.all.kept past
+      (behind_now old new (crashes past) (λ behind. IsWhole setup behind (AreMany many)) lasted before cut restarts.whole)
+      (omega (arith, restarts.all.count, was)) (losses_last setup old new past lasts losses))
+  losses_on setup old new s used many news past lasted lasts before cut told was restarts losses =
+      at_quiet setup (CutAt size honest seen cuts cut_to given new) news past told restarts
+      (losses_last setup old new past (lasts_in size honest seen cuts s old new lasts) losses)

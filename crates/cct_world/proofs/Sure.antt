@@ -1,15 +1,13 @@
 -- What may be relied on before a step and behind it, and how often the power of a disk was cut.
-use Rattle.std.proofs.Common.{◌≡◌, ◌+◌, ◌++◌, ◌≤◌, ℕ, List, [], ◌∷◌, refl, sym, ap, ◌∙◌, inl, inr, subst, arith}
+use Rattle.std.proofs.Common.{◌≡◌, ◌+◌, ◌++◌, ◌≤◌, ℕ, suc, Bool, List, [], ◌∷◌, Option, refl, sym, ap, ◌∙◌, inl, inr, subst, arith, le_of_eq}
 use Rattle.std.proofs.Common.{zero-add}
-use Rattle.std.specs.Prelude.{min}
-use Rattle.std.proofs.Math.Nat.{add_assoc, min-le_left}
-use Rattle.std.proofs.lemmas.Bool.Decides.{nat_tests}
+use Rattle.std.proofs.Math.Nat.{add_assoc, le_refl}
 use Rattle.cct_model.specs.lines.command.Step.{Step}
 use Rattle.cct_model.specs.lines.command.Step.TheVariants as step
 use Rattle.cct_model.specs.lines.entry.Entry.{Entry}
-use Rattle.cct_edge.specs.Faults.{last_count}
+use Rattle.cct_edge.specs.Faults.{next_count}
 use Rattle.cct_world.specs.Machine.{Survives}
-use Rattle.cct_world.specs.Step.{RoseBy, crashes, crashes_of, crashes_told}
+use Rattle.cct_world.specs.Step.{CutsIn, RoseBy, count_after, crashes, crashes_of, crashes_told}
 use Rattle.cct_world.specs.Sure.{IsCrash, Sure, losses_in}
 
 -- losses of power that entries tell behind others, and steps behind others
@@ -58,27 +56,21 @@ sure_survives given trusted on news past (step.Crash at choice) told (inr none) 
     absurd (omega (arith, none, told, crashes-append news past))
 sure_survives given trusted on news past s told sure = tt
 
--- a count that stays
+-- a count that stays, or went up by just so many
 pub rose_none : (many count : ℕ) → many ≡ 0 → RoseBy many count count
-rose_none many count none =
-    let same : count ≡ count + many = omega (arith, none) in
-    subst (λ n. min n last_count ≤ count) same (min-le_left count last_count)
+rose_none many count none = subst (λ n. count_after n count ≤ count) (sym none) (le_refl count)
 
--- a count that rose by so many, and then by more
-min_on : (a b c m n top : ℕ) → min (a + m) top ≤ b → min (b + n) top ≤ c → min (a + (n + m)) top ≤ c
-min_on a b c m n top first second = grind (arith, nat_tests, first, second)
+pub rose_just : (many before now : ℕ) → now ≡ count_after many before → RoseBy many before now
+rose_just many before now is = le_of_eq (sym is)
 
-pub rose_on : (m n first old new : ℕ) → RoseBy m first old → RoseBy n old new → RoseBy (n + m) first new
-rose_on m n first old new before cut = min_on first old new m n last_count before cut
-
-pub cut_on : (news past : List Entry) (first old new many : ℕ) → RoseBy (crashes past) first old
-    → crashes news ≡ many → RoseBy many old new → RoseBy (crashes (news ++ past)) first new
-cut_on news past first old new many before told cut =
-    let both : many + crashes past ≡ crashes (news ++ past) = omega (arith, crashes-append news past, told) in
-    subst (λ n. RoseBy n first new) both (rose_on (crashes past) many first old new before cut)
-
-pub uncut_on : (news past : List Entry) (first old new many : ℕ) → (crashes past ≡ 0 → old ≡ first)
-    → crashes news ≡ many → (many ≡ 0 → new ≡ old) → crashes (news ++ past) ≡ 0 → new ≡ first
-uncut_on news past first old new many before told uncut none =
-    let sum = crashes-append news past in
-    uncut (omega (arith, sum, told, none)) ∙ before (omega (arith, sum, none))
+-- how often the power of a disk was cut, one step more
+pub cut_on : {D : Type 0} (size : D → ℕ) (honest : D → Bool) (seen : D → Option (List ℕ)) (cuts : D → ℕ)
+    (cut_to : D → D → Type 0) (old new : D) (s : Step) (news past : List Entry) (first : ℕ)
+    → cuts old ≡ count_after (crashes past) first → crashes news ≡ crashes_of s
+    → CutsIn s size honest seen cuts cut_to old new → cuts new ≡ count_after (crashes (news ++ past)) first
+cut_on size honest seen cuts cut_to old new (step.Crash at choice) news past first before told cut =
+    let more : suc (crashes past) ≡ crashes (news ++ past) = omega (arith, crashes-append news past, told) in
+    cut.count ∙ ap next_count before ∙ ap (λ n. count_after n first) more
+cut_on size honest seen cuts cut_to old new s news past first before told same =
+    let none : crashes past ≡ crashes (news ++ past) = omega (arith, crashes-append news past, told) in
+    same ∙ before ∙ ap (λ n. count_after n first) none

@@ -14,8 +14,8 @@ use Rattle.cct_journal.specs.Image.{capacity_of}
 use Rattle.cct_laws.specs.Recorded.{HasNoJob}
 use Rattle.cct_world.specs.declared.world.World.{World}
 use Rattle.cct_world.specs.Relived.{relived}
-use Rattle.cct_world.specs.Restarts.{AtLosses, Restarted}
-use Rattle.cct_world.specs.Step.{RoseBy, crashes}
+use Rattle.cct_world.specs.Restarts.{AtLosses, CutAt, IsWhole}
+use Rattle.cct_world.specs.Step.{count_after, crashes}
 use Rattle.cct_world.specs.Sure.{Sure}
 use Rattle.cct_world.specs.World.{StandsFor, disk_of, setup_of, used_of}
 
@@ -34,21 +34,21 @@ pub record Relives (capacity : ℕ) (setup : Setup) (Stands : List Entry → Typ
 -- What is so after a past, where one disk was given and became another: what stands for the past does so where that may
 -- be relied on, and where it may not, it does with the records that were found at its last loss of power; so many
 -- records are counted as the past has; behind each loss of power that it tells, the disk had a journal of as many
--- records as are told; and the power of the disk was cut as often as the past tells, and never where that tells no loss
--- of power.
+-- records as are told; and the power of the disk was cut just as often as the past tells.
 pub record Holds {D : Type 0} (size : D → ℕ) (honest : D → Bool) (seen : D → Option (List ℕ)) (cuts : D → ℕ)
-    (Stands : List Entry → Type 0) (setup : Setup) (given now : D) (used : ℕ) (past : List Entry) : Type 0 where
+    (cut_to : D → D → Type 0) (Stands : List Entry → Type 0) (setup : Setup) (given now : D) (used : ℕ)
+    (past : List Entry) : Type 0 where
   pub stands : Sure (IsTrusted honest seen given) past → Stands past
   pub relives : (Sure (IsTrusted honest seen given) past → ⊥)
-      → Restarted size honest seen cuts setup given now (crashes past)
-      (Relives (capacity_of (size given)) setup Stands past)
+      → CutAt size honest seen cuts cut_to given now (crashes past)
+      (λ behind. IsWhole setup behind (Relives (capacity_of (size given)) setup Stands past))
   pub counts : used ≡ length (records past)
-  pub restarts : AtLosses (Restarted size honest seen cuts setup given now) past
-  pub cut : RoseBy (crashes past) (cuts given) (cuts now)
-  pub uncut : crashes past ≡ 0 → cuts now ≡ cuts given
+  pub restarts : AtLosses setup (CutAt size honest seen cuts cut_to given now) past
+  pub cut : cuts now ≡ count_after (crashes past) (cuts given)
 
 module _ {D : Type 0} {g : Ghosts D} where
   -- That is so of a world, which stands for the past.
   abbrev pub WorldHolds : D → World D g → List Entry → Type 0
   WorldHolds given world =
-      Holds g.size g.honest g.seen g.cuts (StandsFor world) (setup_of world) given (disk_of world) (used_of world)
+      Holds g.size g.honest g.seen g.cuts g.cut_to (StandsFor world) (setup_of world) given (disk_of world)
+      (used_of world)

@@ -1,5 +1,5 @@
 -- What a disk has behind a loss of power: a journal over which the host starts again, or why it doesn't.
-use Rattle.std.specs.Prelude.{◌≡◌, ◌⊎◌, ℕ, ◌+◌, Bool, true, List, [], ◌∷◌, ◌++◌, length, reverse, Option, Some, None, ⊤}
+use Rattle.std.specs.Prelude.{◌≡◌, ◌⊎◌, ℕ, suc, ◌+◌, Bool, true, List, [], ◌∷◌, ◌++◌, length, reverse, Option, Some, None, ⊤}
 use Rattle.cct_model.specs.terms.device.Setup.{Setup}
 use Rattle.cct_model.specs.lines.command.CrashAt.{CrashAt}
 use Rattle.cct_model.specs.lines.command.Step.{Step}
@@ -17,7 +17,7 @@ use Rattle.cct_host.specs.Starting.{IsFirstBad}
 use Rattle.cct_world.specs.declared.refusal.WorldNo.{WorldNo}
 use Rattle.cct_world.specs.declared.refusal.WorldNo.TheVariants as world_no
 use Rattle.cct_world.specs.Relived.{over, relived}
-use Rattle.cct_world.specs.Step.{RoseBy, crashes}
+use Rattle.cct_world.specs.Step.{count_after, crashes}
 use Rattle.cct_world.specs.Sure.{losses_in}
 
 -- An image stands for so many records.
@@ -101,49 +101,54 @@ GoesOver Before After trusted seen many (step.Crash at choice) =
     → (past : List Entry) → Before past → After (over many (reverse rs) past)
 GoesOver Before After trusted seen many s = ⊤
 
--- While a disk became another its power had been cut so often, and a read then gave records, each of which follows those
--- before it, of which this holds.
-pub record Restarted {D : Type 0} (size : D → ℕ) (honest : D → Bool) (seen : D → Option (List ℕ)) (cuts : D → ℕ)
-    (setup : Setup) (given now : D) (losses : ℕ) (P : List Record → Type 0) : Type 0 where
-  pub disk : D
-  pub lasted : Outlasts size honest seen cuts given disk
-  pub lasts : Outlasts size honest seen cuts disk now
-  pub cut : RoseBy losses (cuts given) (cuts disk)
-  pub whole : IsWhole setup (seen disk) P
+-- While a disk became another its power was cut for this time, and this holds of what a read gave right behind the cut.
+pub record CutAt {D : Type 0} (size : D → ℕ) (honest : D → Bool) (seen : D → Option (List ℕ)) (cuts : D → ℕ)
+    (cut_to : D → D → Type 0) (given now : D) (times : ℕ) (P : Option (List ℕ) → Type 0) : Type 0 where
+  pub before : D
+  pub behind : D
+  pub lasted : Outlasts size honest seen cuts given before
+  pub is_cut : cut_to before behind
+  pub lasts : Outlasts size honest seen cuts behind now
+  pub count : cuts behind ≡ count_after times (cuts given)
+  pub holds : P (seen behind)
 
--- At each loss of power that a past tells, as many records were found as it tells there, as told of how many losses it
--- tells by then. That is the number of the records before it, with the one that is told as kept right behind it, if one
--- is; and no record is told so elsewhere. So many, none or one, are told as kept right behind the whole past.
-abbrev pub AtLossesWith : (ℕ → (List Record → Type 0) → Type 0) → ℕ → List Entry → Type 0
-AtLossesWith Found kept [] = kept ≡ 0
-AtLossesWith Found kept (entry.Crash many ∷ past) =
-    Found (1 + crashes past) (AreMany many) × (many ≡ length (records past) + kept) × AtLossesWith Found 0 past
-AtLossesWith Found kept (entry.Kept r ∷ past) = (kept ≡ 0) × AtLossesWith Found 1 past
-AtLossesWith Found kept (e ∷ past) = (kept ≡ 0) × AtLossesWith Found 0 past
+-- At each loss of power that a past tells, a read gave as many records as it tells there, right behind the cut of that
+-- time, each of which follows those before it. That is the number of the records before it, with the one that is told as
+-- kept right behind it, if one is; and no record is told so elsewhere. So many, none or one, are told as kept right
+-- behind the whole past.
+abbrev pub AtLossesWith : Setup → (ℕ → (Option (List ℕ) → Type 0) → Type 0) → ℕ → List Entry → Type 0
+AtLossesWith setup Cut kept [] = kept ≡ 0
+AtLossesWith setup Cut kept (entry.Crash many ∷ past) =
+    Cut (suc (crashes past)) (λ behind. IsWhole setup behind (AreMany many)) × (many ≡ length (records past) + kept)
+    × AtLossesWith setup Cut 0 past
+AtLossesWith setup Cut kept (entry.Kept r ∷ past) = (kept ≡ 0) × AtLossesWith setup Cut 1 past
+AtLossesWith setup Cut kept (e ∷ past) = (kept ≡ 0) × AtLossesWith setup Cut 0 past
 
 -- The same of a past behind which none is told as kept.
-abbrev pub AtLosses : (ℕ → (List Record → Type 0) → Type 0) → List Entry → Type 0
-AtLosses Found past = AtLossesWith Found 0 past
+abbrev pub AtLosses : Setup → (ℕ → (Option (List ℕ) → Type 0) → Type 0) → List Entry → Type 0
+AtLosses setup Cut past = AtLossesWith setup Cut 0 past
 
 -- This record, or none, is due at an address behind a past with these records in place of all up to its last loss of
--- power, which makes as many as the past tells.
+-- power; with those behind it they are as many as the past tells.
 pub record IsDueOver (setup : Setup) (past : List Entry) (addr : ℕ) (due : Option Record) (rs : List Record) : Type 0 where
   pub many : length (records (relived (reverse rs) past)) ≡ length (records past)
   pub due_is : due ≡ due_at setup (relived (reverse rs) past) addr
 
 -- This record, or none, was due where a loss of power comes behind a past: none where that names no put; and else what
--- the past tells, where it may be relied on, and where it may not, what it tells with the records that were found at its
--- last loss of power.
-abbrev pub WasDue : Type 0 → (ℕ → (List Record → Type 0) → Type 0) → Setup → List Entry → Option CrashAt → Option Record
-    → Type 0
-WasDue sure Found setup past None due = due ≡ None
-WasDue sure Found setup past (Some at) due =
+-- the past tells, where it may be relied on, and where it may not, what it tells with the records that were found right
+-- behind its last cut.
+abbrev pub WasDue : Type 0 → (ℕ → (Option (List ℕ) → Type 0) → Type 0) → Setup → List Entry → Option CrashAt
+    → Option Record → Type 0
+WasDue sure Cut setup past None due = due ≡ None
+WasDue sure Cut setup past (Some at) due =
     (sure → due ≡ due_at setup past at.addr)
-    × ((sure → ⊥) → Found (crashes past) (IsDueOver setup past at.addr due))
+    × ((sure → ⊥) → Cut (crashes past) (λ behind. IsWhole setup behind (IsDueOver setup past at.addr due)))
 
--- The step behind a past is a loss of power, and this is why no host starts again behind it.
-abbrev pub LosesAt : Type 0 → (ℕ → (List Record → Type 0) → Type 0) → Setup → List Entry → Option (List ℕ) → WorldNo → Step
-    → Type 0
-LosesAt sure Found setup past seen why (step.Crash at choice) =
-    (due : Option Record) × WasDue sure Found setup past at due × Loses setup (length (records past)) due seen why
-LosesAt sure Found setup past seen why s = ⊥
+-- The step behind a past is a loss of power, and this is why no host starts again behind it, by what a read gave right
+-- behind the cut, as it then still does.
+abbrev pub LosesAt : Type 0 → (ℕ → (Option (List ℕ) → Type 0) → Type 0) → Setup → List Entry → Option (List ℕ) → WorldNo
+    → Step → Type 0
+LosesAt sure Cut setup past seen why (step.Crash at choice) =
+    (due : Option Record) × WasDue sure Cut setup past at due
+    × Cut (suc (crashes past)) (λ behind. (seen ≡ behind) × Loses setup (length (records past)) due behind why)
+LosesAt sure Cut setup past seen why s = ⊥

@@ -1,13 +1,13 @@
 -- Steps, the entries of coins, and losses of power.
-use Rattle.std.specs.Prelude.{ℕ, ◌+◌, ◌≤◌, Bool, true, false, List, [], ◌∷◌, Option, if◌then◌else◌, min}
+use Rattle.std.specs.Prelude.{◌≡◌, ℕ, zero, suc, ◌+◌, ◌≤◌, Bool, true, false, List, [], ◌∷◌, Option, if◌then◌else◌}
 use Rattle.cct_model.specs.lines.command.Step.{Step}
 use Rattle.cct_model.specs.lines.command.Step.TheVariants as step
 use Rattle.cct_model.specs.lines.entry.Entry.{Entry}
 use Rattle.cct_model.specs.lines.entry.Entry.TheVariants as entry
 use Rattle.cct_acceptor.specs.declared.acceptor.Inserted.{Inserted}
 use Rattle.cct_acceptor.specs.declared.acceptor.Inserted.TheVariants as inserted
-use Rattle.cct_edge.specs.Faults.{last_count}
-use Rattle.cct_journal.specs.Stands.{GoesOn, Outlasts}
+use Rattle.cct_edge.specs.Faults.{next_count}
+use Rattle.cct_journal.specs.Stands.{CutOnce, GoesOn, Outlasts}
 use Rattle.cct_host.specs.declared.refusal.CrashNo.{CrashNo}
 use Rattle.cct_host.specs.declared.refusal.CrashNo.TheVariants as crash_no
 use Rattle.cct_world.specs.declared.refusal.WorldNo.{WorldNo}
@@ -53,11 +53,22 @@ abbrev pub crashes_of : Step → ℕ
 crashes_of (step.Crash at choice) = 1
 crashes_of s = 0
 
--- A count rose by so many, or it stands at its last value.
+-- A count after so many more: each raises it by one, until it stands at its last value.
+abbrev pub count_after : ℕ → ℕ → ℕ
+count_after zero count = count
+count_after (suc many) count = next_count (count_after many count)
+
+-- A count rose by so many at least, or stands at its last value.
 abbrev pub RoseBy : ℕ → ℕ → ℕ → Type 0
-RoseBy many before now = min (before + many) last_count ≤ now
+RoseBy many before now = count_after many before ≤ now
 
 -- A disk goes on in a step as it was; in a loss of power its power may be cut, and in no other step.
 abbrev pub LastsIn : {D : Type 0} → Step → (D → ℕ) → (D → Bool) → (D → Option (List ℕ)) → (D → ℕ) → D → D → Type 0
 LastsIn (step.Crash at choice) size honest seen cuts old new = Outlasts size honest seen cuts old new
 LastsIn s size honest seen cuts old new = GoesOn size honest seen cuts old new
+
+-- The power of a disk is cut just once in a loss of power, and in no other step.
+abbrev pub CutsIn : {D : Type 0} → Step → (D → ℕ) → (D → Bool) → (D → Option (List ℕ)) → (D → ℕ) → (D → D → Type 0) → D → D
+    → Type 0
+CutsIn (step.Crash at choice) size honest seen cuts cut_to old new = CutOnce size honest seen cuts cut_to old new
+CutsIn s size honest seen cuts cut_to old new = cuts new ≡ cuts old

@@ -9,11 +9,11 @@ ghost use Rattle.cct_model.specs.Records.{records};
 ghost use Rattle.cct_model.specs.Script.{IsCrash, IsFault, IsInRange, is_known};
 ghost use Rattle.cct_bus.specs.Bus as wires;
 ghost use Rattle.cct_edge.specs.Faults.{Rose};
-ghost use Rattle.cct_journal.specs.Stands.{GoesOn, Outlasts};
+ghost use Rattle.cct_journal.specs.Stands.{CutOnce, GoesOn, Outlasts};
 ghost use Rattle.cct_host.specs.Host as hosts;
 ghost use Rattle.cct_host.specs.Restarting.{crash_news};
 ghost use Rattle.cct_world.specs.Restarts.{kept_in};
-ghost use Rattle.cct_world.specs.Step.{LastsIn, RoseBy, crashes, crashes_of, entry_of, fall_told, is_next, jam_told, unplayed};
+ghost use Rattle.cct_world.specs.Step.{CutsIn, LastsIn, crashes, crashes_of, entry_of, fall_told, is_next, jam_told, unplayed};
 
 use crate::refusal::WorldNo;
 use arrayvec::ArrayVec;
@@ -67,13 +67,13 @@ impl<D: Disk> Machine<'_, D> {
             (used_of self.new ≡ used_of self.old + length (records (reverse report.new.items))) }
         ensures restarts { OnOk result (RestartsBy self.old self.new step.now (reverse report.new.items)) }
         ensures goes_over { OnOk result (GoesOver self.old self.new step.now) }
-        ensures cut { OnOk result
-            (RoseBy (crashes_of step.now) (D.cuts (disk_of self.old)) (D.cuts (disk_of self.new))) }
+        ensures cut { OnOk result (CutsIn step.now D.size D.honest D.seen D.cuts D.cut_to (disk_of self.old)
+            (disk_of self.new)) }
         ensures breaks { IfErr result (λ why. Breaks self.old (disk_of self.new) why step.now) }
         ensures cause { IfErr result
             (λ why. why ≡ WorldNo.Disk → Rose (D.faults (disk_of self.old)) (D.faults (disk_of self.new))) }
-        ensures lost { IfErr result
-            (λ why. why ≢ WorldNo.Disk → Rose (D.cuts (disk_of self.old)) (D.cuts (disk_of self.new))) }
+        ensures lost { IfErr result (λ why. why ≢ WorldNo.Disk
+            → CutOnce D.size D.honest D.seen D.cuts D.cut_to (disk_of self.old) (disk_of self.new)) }
         ensures lasts { LastsIn step.now D.size D.honest D.seen D.cuts (disk_of self.old) (disk_of self.new) }
         ensures later { D.faults (disk_of self.old) ≤ D.faults (disk_of self.new) }
     {
@@ -143,12 +143,13 @@ impl<D: Disk> Machine<'_, D> {
         ensures restarts { OnOk result
             (RestartsBy self.old self.new (step.Crash at choice) (reverse report.new.items)) }
         ensures goes_over { OnOk result (GoesOver self.old self.new (step.Crash at choice)) }
-        ensures cut { OnOk result (RoseBy 1 (D.cuts (disk_of self.old)) (D.cuts (disk_of self.new))) }
+        ensures cut { OnOk result
+            (CutOnce D.size D.honest D.seen D.cuts D.cut_to (disk_of self.old) (disk_of self.new)) }
         ensures breaks { IfErr result (λ why. Breaks self.old (disk_of self.new) why (step.Crash at choice)) }
         ensures cause { IfErr result
             (λ why. why ≡ WorldNo.Disk → Rose (D.faults (disk_of self.old)) (D.faults (disk_of self.new))) }
-        ensures lost { IfErr result
-            (λ why. why ≢ WorldNo.Disk → Rose (D.cuts (disk_of self.old)) (D.cuts (disk_of self.new))) }
+        ensures lost { IfErr result (λ why. why ≢ WorldNo.Disk
+            → CutOnce D.size D.honest D.seen D.cuts D.cut_to (disk_of self.old) (disk_of self.new)) }
         ensures lasts { Outlasts D.size D.honest D.seen D.cuts (disk_of self.old) (disk_of self.new) }
         ensures later { D.faults (disk_of self.old) ≤ D.faults (disk_of self.new) }
     {

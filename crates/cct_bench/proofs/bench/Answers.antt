@@ -32,7 +32,7 @@ returns-in-Ok-clause-complete g c is_run =
     let last = c.run.result.1 in
     let W = Wrote sink.written sink.puts out0 out1 in
     let B = Broke sink.written sink.puts out0 out1 in
-    let ds = disks disk.size disk.honest disk.seen disk.may_leave disk.cuts c.args.disk last in
+    let ds = disks disk.size disk.honest disk.seen disk.may_leave disk.cuts disk.cut_to c.args.disk last in
     let Read = Rose (source.faults script0) (source.faults script1) in
     let Write = Rose (sink.faults out0) (sink.faults out1) in
     let Failed = Rose (disk.faults c.args.disk) (disk.faults last) in
@@ -52,7 +52,7 @@ returns-in-Err-clause-ran g c is_run =
     let out = c.args.out.now in
     no_memory (g.S.Source.left c.args.script.now) (Wrote sink.written sink.puts out out)
     (Broke sink.written sink.puts out out)
-    (disks disk.size disk.honest disk.seen disk.may_leave disk.cuts c.args.disk c.args.disk) refl
+    (disks disk.size disk.honest disk.seen disk.may_leave disk.cuts disk.cut_to c.args.disk c.args.disk) refl
     (wrote_none sink.written sink.puts out)
 
 pub returns-in-Err-Memory-clause-ran : goal.returns-in-Err-Memory-clause-ran
@@ -62,7 +62,7 @@ returns-in-Err-Memory-clause-ran g c is_run =
     let out = c.args.out.now in
     no_memory (g.S.Source.left c.args.script.now) (Wrote sink.written sink.puts out out)
     (Broke sink.written sink.puts out out)
-    (disks disk.size disk.honest disk.seen disk.may_leave disk.cuts c.args.disk c.args.disk) refl
+    (disks disk.size disk.honest disk.seen disk.may_leave disk.cuts disk.cut_to c.args.disk c.args.disk) refl
     (wrote_none sink.written sink.puts out)
 
 pub run_load-requires : goal.run_load-requires
@@ -79,7 +79,7 @@ returns-in-Ok-Load-clause-loaded g c =
     let out = c.args.out.now in
     let W = Wrote sink.written sink.puts out c.run_load.new.out in
     let B = Broke sink.written sink.puts out c.run_load.new.out in
-    let ds = disks disk.size disk.honest disk.seen disk.may_leave disk.cuts c.args.disk c.run_load.result.1 in
+    let ds = disks disk.size disk.honest disk.seen disk.may_leave disk.cuts disk.cut_to c.args.disk c.run_load.result.1 in
     load_said (said_in c.args.words.now) c.in-Ok-Load.seed c.in-Ok-Load.rounds
     (λ seed rounds. Loaded seed rounds c.run_load.result.0 W B ds)
     (c.in-Ok-Load.ensures.said ∙ ap Some c.in-Ok-Load.field-0-is) c.run_load.ensures.loaded
@@ -94,7 +94,7 @@ returns-in-Ok-Load-clause-load_complete g c =
     let last = c.run_load.result.1 in
     let W = Wrote sink.written sink.puts out0 out1 in
     let B = Broke sink.written sink.puts out0 out1 in
-    let ds = disks disk.size disk.honest disk.seen disk.may_leave disk.cuts c.args.disk last in
+    let ds = disks disk.size disk.honest disk.seen disk.may_leave disk.cuts disk.cut_to c.args.disk last in
     let Write = Rose (sink.faults out0) (sink.faults out1) in
     let Failed = Rose (disk.faults c.args.disk) (disk.faults last) in
     let Honest = disk.honest c.args.disk ≡ true in
@@ -112,5 +112,5 @@ returns-in-Err-Memory-clause-loaded g c seed rounds is =
     let disk = g.D.Disk in
     let out = c.args.out.now in
     load_at_once seed rounds (Wrote sink.written sink.puts out out) (Broke sink.written sink.puts out out)
-    (disks disk.size disk.honest disk.seen disk.may_leave disk.cuts c.args.disk c.args.disk) refl
+    (disks disk.size disk.honest disk.seen disk.may_leave disk.cuts disk.cut_to c.args.disk c.args.disk) refl
     (wrote_none sink.written sink.puts out)

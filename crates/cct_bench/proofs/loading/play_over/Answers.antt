@@ -18,7 +18,7 @@ returns-in-Ok-clause-played g c given ready on =
     let W = Wrote sink.written sink.puts out out1 in
     let B = Broke sink.written sink.puts out out1 in
     subst (λ how. LoadPlayed load.seed load.rounds how W B
-    (disks disk.size disk.honest disk.seen disk.may_leave disk.cuts given last)) (sym c.load_ending.ensures)
+    (disks disk.size disk.honest disk.seen disk.may_leave disk.cuts disk.cut_to given last)) (sym c.load_ending.ensures)
     (
     load_played given last c.in-Ok.world ready
     (subst (GoesOn disk.size disk.honest disk.seen disk.cuts given) (sym c.in-Ok.ensures.disk) on) load.seed load.rounds
@@ -32,5 +32,5 @@ returns-in-Err-clause-played g c given ready on =
     let out = c.args.out.now in
     load_no_memory c.args.load.seed c.args.load.rounds (Wrote sink.written sink.puts out out)
     (Broke sink.written sink.puts out out)
-    (disks disk.size disk.honest disk.seen disk.may_leave disk.cuts given c.in-Err.disk)
+    (disks disk.size disk.honest disk.seen disk.may_leave disk.cuts disk.cut_to given c.in-Err.disk)
     (ap disk.cuts c.in-Err.ensures.disk ∙ on.same_cuts) (wrote_none sink.written sink.puts out)

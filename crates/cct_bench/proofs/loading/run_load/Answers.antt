@@ -18,32 +18,32 @@ returns-clause-loaded g c =
     let closed = c.finish_run.ensures.writes in
     let played : LoadPlayed load.seed load.rounds how.0 (Wrote sink.written sink.puts out out1)
     (Broke sink.written sink.puts out out1)
-    (disks disk.size disk.honest disk.seen disk.may_leave disk.cuts c.args.disk how.1) =
+    (disks disk.size disk.honest disk.seen disk.may_leave disk.cuts disk.cut_to c.args.disk how.1) =
     elim c.match-opened.branch [
       | in-Ok w ↦
           subst (λ k. LoadPlayed load.seed load.rounds how.0 (Wrote sink.written sink.puts out k)
           (Broke sink.written sink.puts out k)
-          (disks disk.size disk.honest disk.seen disk.may_leave disk.cuts c.args.disk how.1)) (sym w.out-is)
+          (disks disk.size disk.honest disk.seen disk.may_leave disk.cuts disk.cut_to c.args.disk how.1)) (sym w.out-is)
           (
           subst (λ e. LoadPlayed load.seed load.rounds e.0 (Wrote sink.written sink.puts out w.play_over.new.out)
           (Broke sink.written sink.puts out w.play_over.new.out)
-          (disks disk.size disk.honest disk.seen disk.may_leave disk.cuts c.args.disk e.1)) (sym w.how-is)
+          (disks disk.size disk.honest disk.seen disk.may_leave disk.cuts disk.cut_to c.args.disk e.1)) (sym w.how-is)
           (w.play_over.ensures.played c.args.disk w.in-Ok.ensures.ready w.in-Ok.ensures.goes_on)
           )
       | in-Err w ↦
           subst (λ k. LoadPlayed load.seed load.rounds how.0 (Wrote sink.written sink.puts out k)
           (Broke sink.written sink.puts out k)
-          (disks disk.size disk.honest disk.seen disk.may_leave disk.cuts c.args.disk how.1)) (sym w.out-is)
+          (disks disk.size disk.honest disk.seen disk.may_leave disk.cuts disk.cut_to c.args.disk how.1)) (sym w.out-is)
           (
           subst (λ e. LoadPlayed load.seed load.rounds e.0 (Wrote sink.written sink.puts out out)
           (Broke sink.written sink.puts out out)
-          (disks disk.size disk.honest disk.seen disk.may_leave disk.cuts c.args.disk e.1)) (sym w.how-is)
+          (disks disk.size disk.honest disk.seen disk.may_leave disk.cuts disk.cut_to c.args.disk e.1)) (sym w.how-is)
           (load_unopened load.seed load.rounds (Wrote sink.written sink.puts out out)
           (Broke sink.written sink.puts out out)
-          (disks disk.size disk.honest disk.seen disk.may_leave disk.cuts c.args.disk w.in-Err.ended.1)
+          (disks disk.size disk.honest disk.seen disk.may_leave disk.cuts disk.cut_to c.args.disk w.in-Err.ended.1)
           w.in-Err.ensures.goes_on.same_cuts w.in-Err.ended.0 w.in-Err.ensures.refused
           (wrote_none sink.written sink.puts out))
           )
     ] in
     load_written sink.written sink.puts out out1 c.finish_run.new.out load.seed load.rounds how.0 c.finish_run.result
-    closed.0 (disks disk.size disk.honest disk.seen disk.may_leave disk.cuts c.args.disk how.1) closed.1 closed.2 played
+    closed.0 (disks disk.size disk.honest disk.seen disk.may_leave disk.cuts disk.cut_to c.args.disk how.1) closed.1 closed.2 played

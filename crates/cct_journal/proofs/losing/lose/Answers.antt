@@ -1,6 +1,7 @@
 use Rattle.std.proofs.Common.{◌∙◌}
 use Rattle.cct_journal.specs.Losing.{KeepsWith}
 use Rattle.cct_journal.proofs.Calls.{cut_by}
+use Rattle.cct_journal.proofs.Losses.{cut_here}
 use Rattle.cct_journal.proofs.Moments.{then_elapses}
 use Rattle.cct_journal.proofs.losing.lose.Goals as goal
 
@@ -29,3 +30,9 @@ returns-clause-left g c records stands =
     cut_by g.D.Disk.honest g.D.Disk.seen g.D.Disk.may_leave c.begin_put.new.disk c.power_cut.new.self
     c.power_cut.ensures.honest c.power_cut.ensures.tells c.in_ok-power_cut.ensures.left c.in_ok-power_cut.ensures.kept
     c.args.calls c.args.put.now records (c.in_ok-begin_put.ensures.left records stands)
+
+pub returns-clause-cut : goal.returns-clause-cut
+returns-clause-cut g c =
+    let disk = g.D.Disk in
+    cut_here disk.size disk.honest disk.seen disk.cuts disk.cut_to c.args.disk.now c.begin_put.new.disk
+    c.power_cut.new.self c.begin_put.ensures.goes_on c.in_ok-power_cut.ensures.one c.in_ok-power_cut.ensures.cut

@@ -22,6 +22,6 @@ returns-in-Err-clause-played g c =
     played_before (Sure (IsTrusted disk.honest disk.seen c.args.disk)) (g.S.Source.left c.args.script.now)
     (disk.size c.args.disk) (disk.seen c.args.disk) how (Wrote sink.written sink.puts out out)
     (Broke sink.written sink.puts out out)
-    (OverCut (disks disk.size disk.honest disk.seen disk.may_leave disk.cuts c.args.disk last)) c.in-Err.ensures.refused
-    (unopened_over disk.size disk.honest disk.seen disk.may_leave disk.cuts c.args.disk last how
+    (OverCut (disks disk.size disk.honest disk.seen disk.may_leave disk.cuts disk.cut_to c.args.disk last)) c.in-Err.ensures.refused
+    (unopened_over disk.size disk.honest disk.seen disk.may_leave disk.cuts disk.cut_to c.args.disk last how
     c.in-Err.ensures.goes_on c.in-Err.ensures.refused) (wrote_none sink.written sink.puts out)

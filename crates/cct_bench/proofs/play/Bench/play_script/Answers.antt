@@ -50,7 +50,7 @@ returns-in-Ok-build-clause-played g c given ready on stands =
     (
     going_holds Always R left0 left lines first (at_steps (setup_of world)) IsNothing (WorldHolds given world) W
     (λ past relies. tt)
-    (holds_first disk.size disk.honest disk.seen disk.cuts (setup_of world) given (StandsFor world) (disk_of world)
+    (holds_first disk.size disk.honest disk.seen disk.cuts disk.cut_to (setup_of world) given (StandsFor world) (disk_of world)
     (used_of world) (ap disk.cuts same ∙ on.same_cuts) fresh.host.keeps.used (λ sure. fresh)) going
     )
 
@@ -64,7 +64,7 @@ returns-in-Err-build-clause-played g c given ready on stands =
     (g.S.Source.left c.read_setup.new.script) (standing_of c.read_setup.new.lines).held c.in-Ok.first
     (at_steps c.read_setup.new.setup) IsNothing (Wrote sink.written sink.puts out out)
     (Broke sink.written sink.puts out out)
-    (OverCut (disks disk.size disk.honest disk.seen disk.may_leave disk.cuts given last))
-    (fresh_none disk.size disk.honest disk.seen disk.may_leave disk.cuts given last (journals.disk_of c.args.journal)
+    (OverCut (disks disk.size disk.honest disk.seen disk.may_leave disk.cuts disk.cut_to given last))
+    (fresh_none disk.size disk.honest disk.seen disk.may_leave disk.cuts disk.cut_to given last (journals.disk_of c.args.journal)
     (journals.place_of c.args.journal) on c.in-Err-build.ensures.disk stands)
     (wrote_none sink.written sink.puts out) c.in-Ok.ensures.opened

@@ -1,10 +1,9 @@
 use Rattle.std.proofs.Common.{Err, refl, inl, reverse, sym, ap, subst, ◌∙◌}
-use Rattle.cct_world.specs.Step.{RoseBy, crashes_of}
+use Rattle.cct_world.specs.Step.{CutsIn}
 use Rattle.cct_world.specs.Restarts.{RestartsIn}
 use Rattle.cct_world.specs.World.{disk_of, setup_of, used_of}
 use Rattle.cct_text.specs.Writing.{Writes}
 use Rattle.cct_world.proofs.Holding.{restarts_in}
-use Rattle.cct_world.proofs.Lasting.{uncut_in}
 use Rattle.cct_bench.proofs.Keeping.{books_over, books_play}
 use Rattle.cct_bench.proofs.play.Page.play.Goals as goal
 
@@ -27,9 +26,8 @@ returns-in-Err-write_entries-clause-ended g c =
         report = c.step.new.report.items;
         plays = books_play world next last s c.step.new.report.items c.requires.size played.plays is;
         told = played.told;
-        cut = subst (λ d. RoseBy (crashes_of s) (disk.cuts (disk_of world)) (disk.cuts d)) (sym is) played.cut;
-        uncut = λ none. ap disk.cuts is
-            ∙ uncut_in disk.size disk.honest disk.seen disk.cuts s (disk_of world) (disk_of next) played.lasts none;
+        cut = subst (CutsIn s disk.size disk.honest disk.seen disk.cuts disk.cut_to (disk_of world)) (sym is)
+            played.cut;
         counts = played.counts;
         restarts = subst (λ d. RestartsIn (setup_of world) s (used_of world) (used_of next) (disk.seen d)
             (reverse c.step.new.report.items)) (sym is)

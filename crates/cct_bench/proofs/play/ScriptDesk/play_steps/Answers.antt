@@ -43,7 +43,7 @@ returns-in-Err-clause-played g c left0 given ready on start =
     let R = Sure (IsTrusted disk.honest disk.seen given) in
     let W = Wrote sink.written sink.puts c.args.out.now c.loop-why.out in
     let B = Broke sink.written sink.puts c.args.out.now c.loop-why.out in
-    let O = OverCut (disks disk.size disk.honest disk.seen disk.may_leave disk.cuts given last) in
+    let O = OverCut (disks disk.size disk.honest disk.seen disk.may_leave disk.cuts disk.cut_to given last) in
     let runs = c.loop-why.invariant in
     let now = lasts_then disk.size disk.honest disk.seen disk.cuts given (disk_of c.args.world) (disk_of world) on
     runs.disk in
@@ -68,7 +68,7 @@ returns-then-is_end-clause-played g c left0 given ready on start =
     let R = Sure (IsTrusted disk.honest disk.seen given) in
     let W = Wrote sink.written sink.puts c.args.out.now c.loop-why.out in
     let B = Broke sink.written sink.puts c.args.out.now c.loop-why.out in
-    let O = OverCut (disks disk.size disk.honest disk.seen disk.may_leave disk.cuts given last) in
+    let O = OverCut (disks disk.size disk.honest disk.seen disk.may_leave disk.cuts disk.cut_to given last) in
     let runs = c.loop-why.invariant in
     let now = lasts_then disk.size disk.honest disk.seen disk.cuts given (disk_of c.args.world) (disk_of world) on
     runs.disk in

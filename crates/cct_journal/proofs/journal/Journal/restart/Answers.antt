@@ -1,7 +1,7 @@
 use Rattle.std.proofs.Common.{◌∙◌, ap, is_some}
 use Rattle.cct_journal.specs.Losing.{KeepsWith}
 use Rattle.cct_journal.proofs.Calls.{leaves_with}
-use Rattle.cct_journal.proofs.Losses.{found_stands}
+use Rattle.cct_journal.proofs.Losses.{cut_read, found_stands}
 use Rattle.cct_journal.proofs.Moments.{then_reads}
 use Rattle.cct_journal.proofs.Opens.{never_refused}
 use Rattle.cct_journal.proofs.journal.Journal.restart.Goals as goal
@@ -44,3 +44,15 @@ returns-in-Err-clause-left g c records stands =
     (then_reads (KeepsWith c.args.put.now records) (g.met.D.Disk.counts_now c.lose.new.disk)
     (c.lose.ensures.honest ∙ stands.held.keeps_synced) (c.lose.ensures.moments records stands)
     c.find_place.ensures.reads)
+
+pub returns-in-Ok-find_place-clause-cut : goal.returns-in-Ok-find_place-clause-cut
+returns-in-Ok-find_place-clause-cut g c other =
+    let disk = g.D.Disk in
+    cut_read disk.size disk.honest disk.seen disk.may_leave disk.moment disk.left_since disk.cuts disk.cut_to
+    c.args.self.now.disk c.lose.new.disk c.find_place.new.disk c.in-Ok.ensures.cut c.find_place.ensures.reads
+
+pub returns-in-Err-clause-cut : goal.returns-in-Err-clause-cut
+returns-in-Err-clause-cut g c other =
+    let disk = g.D.Disk in
+    cut_read disk.size disk.honest disk.seen disk.may_leave disk.moment disk.left_since disk.cuts disk.cut_to
+    c.args.self.now.disk c.lose.new.disk c.find_place.new.disk c.in-Ok.ensures.cut c.find_place.ensures.reads
