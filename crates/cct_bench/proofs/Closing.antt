@@ -22,15 +22,14 @@ use Rattle.cct_bench.specs.declared.play.Ending.TheVariants as ending
 use Rattle.cct_bench.specs.declared.play.TheConstants.{JOURNAL_BYTES}
 use Rattle.cct_world.specs.declared.refusal.WorldNo.{WorldNo}
 use Rattle.cct_world.specs.declared.refusal.WorldNo.TheVariants as world_no
-use Rattle.cct_world.specs.Restarts.{LosesAt}
+use Rattle.cct_world.specs.Restarts.{LosesAt, no_step}
 use Rattle.cct_world.specs.Step.{RoseBy}
 use Rattle.cct_world.specs.Sure.{First, IsCrash, Sure, losses_in}
 use Rattle.cct_bench.specs.Disks.{Disks, most_records}
 use Rattle.cct_text.specs.Writing.{Writes, Wrote, Broke}
 use Rattle.cct_bench.specs.Run.{Book, BreaksOff, Closes, Completes, Ends, EndsLost, IsOfScript, Over, OverCut}
 use Rattle.cct_bench.specs.Run.{OverLost, Played, Ran, TellsLoss, TellsOf, last_entry, listed, status_by, status_of}
-use Rattle.cct_world.proofs.Sure.{rose_none}
-use Rattle.cct_world.proofs.Told.{tells_first}
+use Rattle.cct_world.proofs.Sure.{rose_just}
 use Rattle.cct_text.proofs.Writing.{writes_then}
 
 -- what holds where an object tells, also holds by a weaker fact
@@ -57,7 +56,6 @@ ran_by bytes how s tail left disks Before Written Broken Breaks keeps p ends boo
   took = p.took;
   left_is = p.left_is;
   steps_are = p.steps_are;
-  losses = p.losses;
   legal = p.legal;
   in_order = λ sure d own honest.
       played_in_order most_records bytes p.played p.unplayed p.transcript d p.steps_are (p.legal sure) honest own;
@@ -68,9 +66,9 @@ ran_by bytes how s tail left disks Before Written Broken Breaks keeps p ends boo
   ends = ends;
   book = book;
   keeps = keeps;
-  restarts = p.beside.restarts;
+  survives = p.beside.survives;
   cut = p.beside.cut;
-  uncut = p.beside.uncut;
+  just = p.beside.just;
 }
 
 -- a last line was written whole, or broke off
@@ -276,7 +274,6 @@ at_once bytes Written Breaks disks uncut wrote =
       took = refl;
       left_is = refl;
       steps_are = refl;
-      losses = tells_first;
       legal = λ sure. legal;
       in_order = λ sure d own honest.
           played_in_order most_records bytes [] (script bytes).steps [] d refl legal honest own;
@@ -286,9 +283,9 @@ at_once bytes Written Breaks disks uncut wrote =
       ends = (refl, refl, wrote);
       book = λ trusted some. absurd (some refl);
       keeps = λ trusted tells. tells;
-      restarts = refl;
-      cut = subst (RoseBy 0 disks.cuts) (sym uncut) (rose_none 0 disks.cuts refl);
-      uncut = λ none next. uncut;
+      survives = no_step;
+      cut = rose_just 0 disks.cuts disks.cuts_after uncut;
+      just = λ next. uncut;
     }
 
 pub no_memory : (left : Option (List ℕ)) (Written : List Entry → Type 0) (Breaks : List Entry → List Entry → Type 0)

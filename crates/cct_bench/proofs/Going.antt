@@ -23,15 +23,13 @@ use Rattle.cct_script.specs.Giving.{Standing}
 use Rattle.cct_world.specs.Machine.{StepSuits}
 use Rattle.cct_world.specs.declared.refusal.WorldNo.{WorldNo}
 use Rattle.cct_world.specs.declared.refusal.WorldNo.TheVariants as world_no
-use Rattle.cct_world.specs.Restarts.{StepTells, TellsLosses}
 use Rattle.cct_world.proofs.Suiting.{legal_suits}
-use Rattle.cct_world.proofs.Told.{tells_first, tells_on}
 use Rattle.cct_bench.specs.declared.lines.ScriptStop.{ScriptStop}
 use Rattle.cct_bench.specs.declared.lines.ScriptStop.TheVariants as stop
 use Rattle.cct_bench.specs.declared.play.Ending.TheVariants as ending
 use Rattle.cct_bench.specs.Lines.{said_from, IsNext, ScriptGoesOn, IsClosed, StopsAt, EndsAt, Came}
 use Rattle.cct_bench.specs.Disks.{Always, most_records}
-use Rattle.cct_bench.specs.Going.{AlsoSays, Going}
+use Rattle.cct_bench.specs.Going.{AlsoSays, Going, IsUnbegun}
 use Rattle.cct_bench.specs.SetupLines.{TookOpening}
 use Rattle.cct_text.specs.Writing.{IsNothing}
 use Rattle.cct_bench.specs.declared.play.Ending.{Ending}
@@ -39,7 +37,7 @@ use Rattle.cct_bench.specs.Run.{BeforeSteps, IsOfScript, IsUnopened, Played, Sto
 use Rattle.cct_bench.proofs.Continuing.{ended}
 use Rattle.cct_bench.proofs.Staying.{IsDone, setup_stays}
 
-pub going_begin : (left : Option (List ℕ)) → Going Always left left [] 1 (at_setup no_devices) IsNothing IsNothing
+pub going_begin : (left : Option (List ℕ)) → Going Always left left [] 1 (at_setup no_devices) IsUnbegun IsNothing
 unfolding script
 going_begin left = record {
   taken = [];
@@ -48,15 +46,14 @@ going_begin left = record {
   consumed = Consumes-nil left;
   says = λ more. record { setup = refl; steps = refl; refused = refl };
   legal = λ relies more. refl;
-  losses = tells_first;
-  holds = refl;
+  holds = (refl, refl);
   wrote = refl;
 }
 
 -- what holds of the past takes the place of something else that does, and it is relied on no more than before
 pub going_holds : (Relies Relies1 : List Entry → Type 0) (left0 left : Option (List ℕ)) (held : List ℕ) (number : ℕ)
-    (stage : Stage) (Before After Written : List Entry → Type 0) → ((past : List Entry) → Relies1 past → Relies past)
-    → ((past : List Entry) → Before past → After past) → Going Relies left0 left held number stage Before Written
+    (stage : Stage) (Before After : List Step → List Entry → Type 0) (Written : List Entry → Type 0) → ((past : List Entry) → Relies1 past → Relies past)
+    → ((played : List Step) (past : List Entry) → Before played past → After played past) → Going Relies left0 left held number stage Before Written
     → Going Relies1 left0 left held number stage After Written
 going_holds Relies Relies1 left0 left held number stage Before After Written less goes g = record {
   taken = g.taken;
@@ -65,14 +62,13 @@ going_holds Relies Relies1 left0 left held number stage Before After Written les
   consumed = g.consumed;
   says = g.says;
   legal = λ relies. g.legal (less (onto [] g.transcript) relies);
-  losses = g.losses;
-  holds = goes (onto [] g.transcript) g.holds;
+  holds = goes g.played (onto [] g.transcript) g.holds;
   wrote = g.wrote;
 }
 
 -- so does another way to tell what was written
 pub going_by : (Relies : List Entry → Type 0) (left0 left : Option (List ℕ)) (held : List ℕ) (number : ℕ)
-    (stage : Stage) (Stands Written Written1 : List Entry → Type 0) →
+    (stage : Stage) (Stands : List Step → List Entry → Type 0) (Written Written1 : List Entry → Type 0) →
     ((xs : List Entry) → Written xs → Written1 xs) → Going Relies left0 left held number stage Stands Written
     → Going Relies left0 left held number stage Stands Written1
 going_by Relies left0 left held number stage Stands Written Written1 goes g = record {
@@ -82,7 +78,6 @@ going_by Relies left0 left held number stage Stands Written Written1 goes g = re
   consumed = g.consumed;
   says = g.says;
   legal = g.legal;
-  losses = g.losses;
   holds = g.holds;
   wrote = goes g.transcript g.wrote;
 }
@@ -106,7 +101,7 @@ legal_came taken came more played transcript h =
     subst (λ bytes. Legal most_records (script bytes).setup played transcript) (sym (append_assoc taken came more)) h
 
 pub going_opens : (Relies : List Entry → Type 0) (left0 left left1 : Option (List ℕ)) (held rest : List ℕ)
-    (number : ℕ) (stage next : Stage) (Stands Written : List Entry → Type 0) →
+    (number : ℕ) (stage next : Stage) (Stands : List Step → List Entry → Type 0) (Written : List Entry → Type 0) →
     Going Relies left0 left held number stage Stands Written
     → Came held left left1 (λ bytes. ScriptGoesOn number stage bytes (opens next) rest) →
     Going Relies left0 left1 rest (number + 1) next Stands Written
@@ -117,7 +112,6 @@ going_opens Relies left0 left left1 held rest number stage next Stands Written g
   consumed = Consumes-trans left0 left left1 g.taken r.0 g.consumed r.1;
   says = λ more. also_goes g.taken r.0 held more number stage g.played _ (g.says (r.0 ++ more)) (r.2 more);
   legal = λ relies more. legal_came g.taken r.0 more g.played g.transcript (g.legal relies (r.0 ++ more));
-  losses = g.losses;
   holds = g.holds;
   wrote = g.wrote;
 }
@@ -159,18 +153,17 @@ GoesBack Relies = (news past : List Entry) → Relies (news ++ past) → Relies 
 
 -- A step goes on from what holds of any past to what holds behind its entries, oldest first: they are those of the step
 -- where the past with them may be relied on, and what the step takes for granted is so where it could be before.
-pub record Carries (Relies Before After : List Entry → Type 0) (setup : Setup) (s : Step)
+pub record Carries (Relies : List Entry → Type 0) (Before After : List Step → List Entry → Type 0) (setup : Setup) (s : Step)
     (WritesThem : List Entry → Type 0) : Type 0 where
   pub report : List Entry
-  pub goes : (past : List Entry) → Before past → (Relies past → StepSuits setup past s)
+  pub goes : (played : List Step) (past : List Entry) → Before played past → (Relies past → StepSuits setup past s)
       → (Relies (reverse report ++ past) → Entries most_records setup past s (reverse report))
-      × After (reverse report ++ past)
-  pub tells : StepTells s (reverse report)
+      × After (played ++ s ∷ []) (reverse report ++ past)
   pub wrote : WritesThem report
 
 -- what a step takes for granted of the past is so after what was played before it
 pub going_suits : (Relies : List Entry → Type 0) (left0 left left1 : Option (List ℕ)) (held rest : List ℕ)
-    (number : ℕ) (stage next : Stage) (setup : Setup) (Before Written : List Entry → Type 0) (s : Step)
+    (number : ℕ) (stage next : Stage) (setup : Setup) (Before : List Step → List Entry → Type 0) (Written : List Entry → Type 0) (s : Step)
     → IsDone setup next → (g : Going Relies left0 left held number stage Before Written)
     → Came held left left1 (λ bytes. ScriptGoesOn number stage bytes (plays s next) rest)
     → Relies (onto [] g.transcript) → StepSuits setup (onto [] g.transcript) s
@@ -188,7 +181,7 @@ going_suits Relies left0 left left1 held rest number stage next setup Before Wri
     (legal_came g.taken r.0 [] g.played g.transcript (g.legal relies (r.0 ++ []))))
 
 pub going_plays : (Relies : List Entry → Type 0) (left0 left left1 : Option (List ℕ)) (held rest : List ℕ)
-    (number : ℕ) (stage next : Stage) (setup : Setup) (Before After : List Entry → Type 0) (s : Step)
+    (number : ℕ) (stage next : Stage) (setup : Setup) (Before After : List Step → List Entry → Type 0) (s : Step)
     (Written WritesThem Written1 : List Entry → Type 0) → GoesBack Relies → IsDone setup next
     → ((xs ys : List Entry) → Written xs → WritesThem ys → Written1 (xs ++ ys))
     → Going Relies left0 left held number stage Before Written
@@ -199,7 +192,7 @@ going_plays Relies left0 left left1 held rest number stage next setup Before Aft
     done more g r p =
     let past = onto [] g.transcript in
     let on = transcript_on g.transcript p.report in
-    let goes = p.goes past g.holds
+    let goes = p.goes g.played past g.holds
     (going_suits Relies left0 left left1 held rest number stage next setup Before Written s done g r) in
     record {
       taken = g.taken ++ r.0;
@@ -210,9 +203,7 @@ going_plays Relies left0 left left1 held rest number stage next setup Before Aft
       legal = λ relies more. let here = subst Relies on relies in
           step_legal g.taken r.0 held more rest number stage next setup g.played g.transcript p.report s
           (g.says (r.0 ++ more)) r.2 done (g.legal (back (reverse p.report) past here) (r.0 ++ more)) (goes.0 here);
-      losses = subst (TellsLosses (g.played ++ s ∷ [])) (sym on)
-          (tells_on g.played (reverse p.report) past s g.losses p.tells);
-      holds = subst After (sym on) goes.1;
+      holds = subst (After (g.played ++ s ∷ [])) (sym on) goes.1;
       wrote = more g.transcript p.report g.wrote p.wrote;
     }
 
@@ -267,14 +258,14 @@ said_in number (at_end before) bytes setup is =
     is ∙ setup_stays number before (at_end before) (slice_split is_line_feed bytes) refl
 
 -- what is said beside of an end that the script or its source brought at a stage, where this stands for the past
-abbrev pub EndsBeside : Stage → (List Entry → Type 0)
+abbrev pub EndsBeside : Stage → (List Step → List Entry → Type 0)
     → (Ending → Setup → List ℕ → List Step → List Step → List Entry → Type 0) → Type 0
 EndsBeside stage Stands Beside =
     (how : Ending) (setup : Setup) (taken : List ℕ) (played unplayed : List Step) (past : List Entry) → IsOfScript how
-    → IsSetupIn stage setup → Stands past → Beside how setup taken played unplayed past
+    → IsSetupIn stage setup → Stands played past → Beside how setup taken played unplayed past
 
 played_done : (Relies : List Entry → Type 0) (left0 left left1 : Option (List ℕ)) (held : List ℕ) (number : ℕ)
-    (setup : Setup) (Stands Written : List Entry → Type 0) (Breaks : List Entry → List Entry → Type 0)
+    (setup : Setup) (Stands : List Step → List Entry → Type 0) (Written : List Entry → Type 0) (Breaks : List Entry → List Entry → Type 0)
     (Beside : Ending → Setup → List ℕ → List Step → List Step → List Entry → Type 0)
     → EndsBeside (at_end setup) Stands Beside → Going Relies left0 left held number (at_end setup) Stands Written
     → Came held left left1 (IsClosed number (at_end setup) None left1)
@@ -294,7 +285,6 @@ played_done Relies (Some bytes) left left1 held number setup Stands Written Brea
       took = t.2;
       left_is = t.1;
       steps_are = says.steps;
-      losses = g.losses;
       legal = λ relies. legal_of bytes g.taken r.0 t.0 g.played g.transcript t.2 (g.legal relies (r.0 ++ t.0));
       stops = (refl, says.refused, g.wrote);
       beside = beside ending.Done (script bytes).setup (g.taken ++ r.0) g.played [] (onto [] g.transcript) tt
@@ -302,7 +292,7 @@ played_done Relies (Some bytes) left left1 held number setup Stands Written Brea
     }
 
 played_refused : (Relies : List Entry → Type 0) (left0 left left1 : Option (List ℕ)) (held : List ℕ) (number : ℕ)
-    (why : LineKind) (stage : Stage) (Stands Written : List Entry → Type 0) (Breaks : List Entry → List Entry → Type 0)
+    (why : LineKind) (stage : Stage) (Stands : List Step → List Entry → Type 0) (Written : List Entry → Type 0) (Breaks : List Entry → List Entry → Type 0)
     (Beside : Ending → Setup → List ℕ → List Step → List Step → List Entry → Type 0)
     → EndsBeside stage Stands Beside → Going Relies left0 left held number stage Stands Written
     → Came held left left1 (IsClosed number stage (Some why) left1)
@@ -322,7 +312,6 @@ played_refused Relies (Some bytes) left left1 held number why stage Stands Writt
       took = t.2;
       left_is = t.1;
       steps_are = says.steps;
-      losses = g.losses;
       legal = λ relies. legal_of bytes g.taken r.0 t.0 g.played g.transcript t.2 (g.legal relies (r.0 ++ t.0));
       stops = (refl, says.refused, g.wrote);
       beside = beside (ending.Refused number why) (script bytes).setup (g.taken ++ r.0) g.played []
@@ -341,7 +330,7 @@ unread_steps taken came held number stage played h none =
     ap (λ bytes. (script bytes).steps) (sym (append-nil (taken ++ came))) ∙ (says.steps ∙ append-nil played)
 
 played_unread : (Relies : List Entry → Type 0) (left0 left left1 : Option (List ℕ)) (held : List ℕ) (number : ℕ)
-    (stage : Stage) (Stands Written : List Entry → Type 0) (Breaks : List Entry → List Entry → Type 0)
+    (stage : Stage) (Stands : List Step → List Entry → Type 0) (Written : List Entry → Type 0) (Breaks : List Entry → List Entry → Type 0)
     (Beside : Ending → Setup → List ℕ → List Step → List Step → List Entry → Type 0)
     → EndsBeside stage Stands Beside → Going Relies left0 left held number stage Stands Written
     → Came held left left1 (λ bytes. position is_line_feed bytes ≡ None)
@@ -362,7 +351,6 @@ played_unread Relies (Some bytes) left left1 held number stage Stands Written Br
       took = t.2;
       left_is = t.1;
       steps_are = says.steps;
-      losses = g.losses;
       legal = λ relies. legal_of bytes g.taken r.0 t.0 g.played g.transcript t.2 (g.legal relies (r.0 ++ t.0));
       stops = (unread_steps g.taken r.0 held number stage g.played (g.says (r.0 ++ [])) r.2, g.wrote);
       beside = beside ending.Unread (script bytes).setup (g.taken ++ r.0) g.played after.steps (onto [] g.transcript)
@@ -371,7 +359,7 @@ played_unread Relies (Some bytes) left left1 held number stage Stands Written Br
 
 -- a script that is read no further
 stopped : (Relies : List Entry → Type 0) (left0 left left1 : Option (List ℕ)) (held : List ℕ) (number : ℕ)
-    (stage : Stage) (why : ScriptStop) (Stands Written : List Entry → Type 0)
+    (stage : Stage) (why : ScriptStop) (Stands : List Step → List Entry → Type 0) (Written : List Entry → Type 0)
     (Breaks : List Entry → List Entry → Type 0)
     (Beside : Ending → Setup → List ℕ → List Step → List Step → List Entry → Type 0)
     → EndsBeside stage Stands Beside → Going Relies left0 left held number stage Stands Written
@@ -383,7 +371,7 @@ stopped Relies left0 left left1 held number stage (stop.Refused why) Stands Writ
     played_refused Relies left0 left left1 held number why stage Stands Written Breaks Beside beside g r
 
 pub played_stopped : (Relies : List Entry → Type 0) (left0 left left1 : Option (List ℕ)) (held : List ℕ) (number : ℕ)
-    (stage : Stage) (why : ScriptStop) (how : Ending) (Stands Written : List Entry → Type 0)
+    (stage : Stage) (why : ScriptStop) (how : Ending) (Stands : List Step → List Entry → Type 0) (Written : List Entry → Type 0)
     (Breaks : List Entry → List Entry → Type 0)
     (Beside : Ending → Setup → List ℕ → List Step → List Step → List Entry → Type 0) → how ≡ ending_at number why
     → EndsBeside stage Stands Beside → Going Relies left0 left held number stage Stands Written
@@ -395,7 +383,7 @@ played_stopped Relies left0 left left1 held number stage why how Stands Written 
 
 -- a script that ended
 pub played_ended : (Relies : List Entry → Type 0) (left0 left left1 : Option (List ℕ)) (held : List ℕ) (number : ℕ)
-    (setup : Setup) (how : Ending) (Stands Written : List Entry → Type 0) (Breaks : List Entry → List Entry → Type 0)
+    (setup : Setup) (how : Ending) (Stands : List Step → List Entry → Type 0) (Written : List Entry → Type 0) (Breaks : List Entry → List Entry → Type 0)
     (Beside : Ending → Setup → List ℕ → List Step → List Step → List Entry → Type 0)
     → EndsBeside (at_end setup) Stands Beside → Going Relies left0 left held number (at_end setup) Stands Written
     → Came held left left1 (EndsAt number setup how left1)
@@ -414,10 +402,10 @@ played_ended Relies left0 left left1 held number setup how Stands Written Breaks
 
 -- the sink failed within the entries of a step
 pub played_broke : (Relies : List Entry → Type 0) (left0 left left1 : Option (List ℕ)) (held rest : List ℕ)
-    (number : ℕ) (stage next : Stage) (setup : Setup) (Before After : List Entry → Type 0) (s : Step)
+    (number : ℕ) (stage next : Stage) (setup : Setup) (Before After : List Step → List Entry → Type 0) (s : Step)
     (Written WritesThem Written1 : List Entry → Type 0) (Breaks : List Entry → List Entry → Type 0)
     (Beside : Ending → Setup → List ℕ → List Step → List Step → List Entry → Type 0) → GoesBack Relies →
-    ((taken : List ℕ) (played unplayed : List Step) (past : List Entry) → After past
+    ((taken : List ℕ) (played unplayed : List Step) (past : List Entry) → After played past
     → Beside ending.Unwritten setup taken played unplayed past) →
     IsDone setup next → ((xs ys : List Entry) → Written xs → WritesThem ys → Breaks xs ys)
     → Going Relies left0 left held number stage Before Written →
@@ -436,7 +424,7 @@ played_broke Relies (Some bytes) left left1 held rest number stage next setup Be
     let past = onto [] g.transcript in
     let news = reverse p.report in
     let told = transcript_on g.transcript p.report in
-    let goes = p.goes past g.holds
+    let goes = p.goes g.played past g.holds
     (going_suits Relies (Some bytes) left left1 held rest number stage next setup Before Written s done g r) in
     let same : setup ≡ (script bytes).setup =
     sym (says.setup ∙ setup_stays (number + 1) setup next (slice_split is_line_feed (rest ++ t.0)) done) in
@@ -453,8 +441,6 @@ played_broke Relies (Some bytes) left left1 held rest number stage next setup Be
       took = t.2;
       left_is = t.1;
       steps_are = says.steps;
-      losses = subst (TellsLosses (g.played ++ s ∷ [])) (sym told)
-          (tells_on g.played news past s g.losses p.tells);
       legal = λ relies. let here = subst Relies told relies in
           legal_more most_records (script bytes).setup g.played g.transcript p.report s (legal (back news past here))
           (entries here);
@@ -475,7 +461,7 @@ played_broke Relies (Some bytes) left left1 held rest number stage next setup Be
           (λ by. Beside ending.Unwritten by (g.taken ++ r.0) (g.played ++ s ∷ []) on.steps
           (onto [] (g.transcript ++ p.report))) same
           (beside (g.taken ++ r.0) (g.played ++ s ∷ []) on.steps (onto [] (g.transcript ++ p.report))
-          (subst After (sym told) goes.1));
+          (subst (After (g.played ++ s ∷ [])) (sym told) goes.1));
     }
 
 -- a step that isn't played leaves the transcript whole
@@ -489,10 +475,10 @@ unplayed_stops Relies (world_no.Lost found put) bytes taken played unplayed tran
 
 -- a step wasn't played
 pub played_torn : (Relies : List Entry → Type 0) (left0 left left1 : Option (List ℕ)) (held rest : List ℕ) (number : ℕ)
-    (stage next : Stage) (setup : Setup) (Before : List Entry → Type 0) (s : Step) (why : WorldNo)
+    (stage next : Stage) (setup : Setup) (Before : List Step → List Entry → Type 0) (s : Step) (why : WorldNo)
     (Written Written1 : List Entry → Type 0) (Breaks : List Entry → List Entry → Type 0)
     (Beside : Ending → Setup → List ℕ → List Step → List Step → List Entry → Type 0) →
-    ((taken : List ℕ) (played unplayed : List Step) (past : List Entry) → Before past
+    ((taken : List ℕ) (played unplayed : List Step) (past : List Entry) → Before played past
     → (Relies past → StepSuits setup past s) → Beside (unplayed_by why) setup taken played (s ∷ unplayed) past) →
     IsDone setup next → ((xs : List Entry) → Written xs → Written1 xs)
     → Going Relies left0 left held number stage Before Written →
@@ -518,7 +504,6 @@ played_torn Relies (Some bytes) left left1 held rest number stage next setup Bef
       took = t.2;
       left_is = t.1;
       steps_are = says.steps ∙ append_assoc g.played (s ∷ []) on.steps;
-      losses = g.losses;
       legal = λ relies. legal_of bytes g.taken r.0 t.0 g.played g.transcript t.2 (g.legal relies (r.0 ++ t.0));
       stops = unplayed_stops Relies why bytes (g.taken ++ r.0) g.played (s ∷ on.steps) g.transcript Written1 Breaks
           (wrote g.transcript g.wrote);
@@ -530,7 +515,7 @@ played_torn Relies (Some bytes) left left1 held rest number stage next setup Bef
 
 -- the setup that was read is sound
 pub going_setup : (Relies : List Entry → Type 0) (left0 left : Option (List ℕ)) (held : List ℕ) (number : ℕ)
-    (setup : Setup) (Stands Written : List Entry → Type 0) →
+    (setup : Setup) (Stands : List Step → List Entry → Type 0) (Written : List Entry → Type 0) →
     Going Relies left0 left held number (at_steps setup) Stands Written → IsSoundSetup setup
 going_setup Relies left0 left held number setup Stands Written g =
     subst IsSoundSetup ((g.says []).setup
@@ -539,7 +524,7 @@ going_setup Relies left0 left held number setup Stands Written g =
 
 -- there was no memory before the first step
 pub played_none : (Relies Relies1 : List Entry → Type 0) (left0 left : Option (List ℕ)) (held : List ℕ) (number : ℕ)
-    (stage : Stage) (Stands Written : List Entry → Type 0) (Breaks : List Entry → List Entry → Type 0)
+    (stage : Stage) (Stands : List Step → List Entry → Type 0) (Written : List Entry → Type 0) (Breaks : List Entry → List Entry → Type 0)
     (Beside : Ending → Setup → List ℕ → List Step → List Step → List Entry → Type 0) →
     ((setup : Setup) (taken : List ℕ) (unplayed : List Step) → Beside ending.NoMemory setup taken [] unplayed []) →
     Written [] → Going Relies left0 left held number stage Stands IsNothing
@@ -556,7 +541,6 @@ played_none Relies Relies1 (Some bytes) left held number stage Stands Written Br
       took = t.2;
       left_is = t.1;
       steps_are = refl;
-      losses = tells_first;
       legal = λ relies. refl;
       stops = (refl, wrote);
       beside = beside (script bytes).setup g.taken (script bytes).steps;
@@ -586,7 +570,6 @@ played_before Relies (Some bytes) size seen how Written Breaks Beside is beside 
   took = refl;
   left_is = refl;
   steps_are = refl;
-  losses = tells_first;
   legal = λ relies. refl;
   stops = before_stops Relies bytes size seen how (script bytes).steps Written Breaks is wrote;
   beside = beside (script bytes).setup (script bytes).steps;
@@ -613,7 +596,7 @@ pub played_by : (Relies Relies1 : List Entry → Type 0) (left0 left : Option (L
     (Written Written1 : List Entry → Type 0) (Breaks Breaks1 : List Entry → List Entry → Type 0)
     (Beside : Ending → Setup → List ℕ → List Step → List Step → List Entry → Type 0) →
     ((past : List Entry) → Relies1 past → Relies past) → ((xs : List Entry) → Written xs → Written1 xs)
-    → EndsBeside (at_setup no_devices) IsNothing Beside
+    → EndsBeside (at_setup no_devices) IsUnbegun Beside
     → IfSome left0 (λ bytes. Played Relies bytes how left Written Breaks BeforeSteps)
     → IfSome left0 (λ bytes. Played Relies1 bytes how left Written1 Breaks1 Beside)
 played_by Relies Relies1 None left how Written Written1 Breaks Breaks1 Beside less w beside p = tt
@@ -626,7 +609,6 @@ played_by Relies Relies1 (Some bytes) left how Written Written1 Breaks Breaks1 B
   took = p.took;
   left_is = p.left_is;
   steps_are = p.steps_are;
-  losses = p.losses;
   legal = λ relies. p.legal (less (onto [] p.transcript) relies);
   stops = stops_by Relies Relies1 bytes p.taken p.played p.unplayed p.transcript how Written Written1 Breaks Breaks1
       p.beside.0 w p.stops;
@@ -636,7 +618,7 @@ played_by Relies Relies1 (Some bytes) left how Written Written1 Breaks Breaks1 B
 -- what the loop over the setup lines keeps
 module _ {S : Type 0} (takes : S → ℕ → Result ℕ Failed → S → Type 0) (left : S → Option (List ℕ)) (faults : S → ℕ) where
   pub record Opens (source0 source : S) (standing : Standing) (number : ℕ) (setup : Setup) : Type 0 where
-    pub going : Going Always (left source0) (left source) standing.held number (at_setup setup) IsNothing IsNothing
+    pub going : Going Always (left source0) (left source) standing.held number (at_setup setup) IsUnbegun IsNothing
     pub opening : TookOpening takes left source0 source standing.held number (at_setup setup)
     pub tells : TellsAsBefore (left source0) (left source)
     pub later : faults source0 ≤ faults source

@@ -1,6 +1,6 @@
 -- What a disk keeps over a run, and what is left on it where the steps come to their end.
 use Rattle.std.proofs.Common.{◌≡◌, ◌≢◌, ◌⊎◌, ◌++◌, ℕ, Bool, List, [], ◌∷◌, reverse, Option, refl, sym, ap, ◌∙◌}
-use Rattle.std.proofs.Common.{arith, inl, inr, subst, Result, Err}
+use Rattle.std.proofs.Common.{arith, inl, inr, subst, subst₂, Result, Err}
 use Rattle.std.specs.Prelude.{IfSome, is_some}
 use Rattle.std.proofs.Math.Nat.{le_trans}
 use Rattle.cct_model.specs.terms.device.Setup.{Setup}
@@ -27,21 +27,21 @@ use Rattle.cct_world.specs.declared.refusal.WorldNo.TheVariants as world_no
 use Rattle.cct_world.specs.declared.world.World.{World}
 use Rattle.cct_world.specs.Holds.{Holds, WorldHolds}
 use Rattle.cct_world.specs.Machine.{LosesIn, StepSuits}
-use Rattle.cct_world.specs.Restarts.{AtLosses, CutAt, GoesOver}
-use Rattle.cct_world.specs.Step.{CutsIn, LastsIn, RoseBy, count_after, crashes}
+use Rattle.cct_world.specs.Restarts.{CutAt, GoesOver, Survives, no_step}
+use Rattle.cct_world.specs.Step.{CutsIn, LastsIn, count_after, crashes}
 use Rattle.cct_world.specs.World as worlds
 use Rattle.cct_world.specs.World.{Breaks, StandsFor, disk_of, setup_of, used_of}
 use Rattle.cct_world.specs.Sure.{Sure}
 use Rattle.cct_world.proofs.Holding.{Moves, holds_on, loses_at}
 use Rattle.cct_world.proofs.Lasting.{lasts_in, lasts_on, lasts_then, trusted_back, trusted_on, uncut_in}
-use Rattle.cct_world.proofs.Restarts.{losses_last}
-use Rattle.cct_world.proofs.Sure.{crashes_none, rose_just, rose_none, sure_back, sure_survives}
-use Rattle.cct_world.proofs.Told.{step_tells}
+use Rattle.cct_world.proofs.Restarts.{behind_on}
+use Rattle.cct_world.proofs.Sure.{crashes_none, rose_just, sure_back, sure_survives}
+use Rattle.cct_world.proofs.Surviving.{survives_by}
 use Rattle.cct_bench.specs.declared.play.Ending.{Ending}
 use Rattle.cct_bench.specs.declared.play.Ending.TheVariants as ending
 use Rattle.cct_bench.specs.Disks.{Books, IsReady, disks, most_records}
 use Rattle.cct_bench.specs.declared.play.TheConstants.{JOURNAL_BYTES}
-use Rattle.cct_bench.specs.Going.{Going}
+use Rattle.cct_bench.specs.Going.{Going, IsUnbegun}
 use Rattle.cct_bench.specs.Lines.{Came, ScriptGoesOn}
 use Rattle.cct_bench.specs.Playing.{Plays, PlaysOn}
 use Rattle.cct_bench.specs.Run.{IsUnopened, Over, OverCut, OverLost, Played, uncreated, unplayed_by}
@@ -62,36 +62,35 @@ stands_leaves honest seen may_leave disk place rs stands = record {
 -- the script or its source brought the end, and the disk has the records of the past
 module _ {D : Type 0} (size : D → ℕ) (honest : D → Bool) (seen : D → Option (List ℕ))
     (may_leave : D → List ℕ → Type 0) (cuts : D → ℕ) (cut_to : D → D → Type 0) where
-  pub ends_over : (given last : D) (stage : Stage) (Before : List Entry → Type 0) → IsReady (size given) (seen given)
-      → ((past : List Entry) → Before past → IsTrusted honest seen given
+  pub ends_over : (given last : D) (stage : Stage) (Before : List Step → List Entry → Type 0) → IsReady (size given) (seen given)
+      → ((played : List Step) (past : List Entry) → Before played past → IsTrusted honest seen given
       → Leaves honest seen may_leave last (reverse (records past)))
-      → ((setup : Setup) (past : List Entry) → IsSetupIn stage setup → Before past
-      → AtLosses setup (CutAt size honest seen cuts cut_to given last) past)
-      → ((past : List Entry) → Before past → RoseBy (crashes past) (cuts given) (cuts last))
-      → ((past : List Entry) → Before past → crashes past ≡ 0 → cuts last ≡ cuts given)
+      → ((setup : Setup) (played : List Step) (past : List Entry) → IsSetupIn stage setup → Before played past
+      → Survives (Sure (IsTrusted honest seen given)) (CutAt size honest seen cuts cut_to given last) setup played past)
+      → ((played : List Step) (past : List Entry) → Before played past → cuts last ≡ count_after (crashes past) (cuts given))
       → EndsBeside stage Before (OverCut (disks size honest seen may_leave cuts cut_to given last))
-  ends_over given last stage Before ready books restarts cut uncut ending.Done setup taken played unplayed past is there
-      before = record {
-        over = (ready, books past before);
-        restarts = restarts setup past there before;
-        cut = cut past before;
-        uncut = λ none next. uncut past before none;
+  ends_over given last stage Before ready books survives cut ending.Done setup taken played unplayed past is there before =
+      record {
+        over = (ready, books played past before);
+        survives = survives setup played past there before;
+        cut = rose_just (crashes past) (cuts given) (cuts last) (cut played past before);
+        just = λ next. cut played past before;
       }
-  ends_over given last stage Before ready books restarts cut uncut (ending.Refused number why) setup taken played
-      unplayed past is there before = record {
-        over = (ready, books past before);
-        restarts = restarts setup past there before;
-        cut = cut past before;
-        uncut = λ none next. uncut past before none;
+  ends_over given last stage Before ready books survives cut (ending.Refused number why) setup taken played unplayed past is there before =
+      record {
+        over = (ready, books played past before);
+        survives = survives setup played past there before;
+        cut = rose_just (crashes past) (cuts given) (cuts last) (cut played past before);
+        just = λ next. cut played past before;
       }
-  ends_over given last stage Before ready books restarts cut uncut ending.Unread setup taken played unplayed past is
-      there before = record {
-        over = (ready, books past before);
-        restarts = restarts setup past there before;
-        cut = cut past before;
-        uncut = λ none next. uncut past before none;
+  ends_over given last stage Before ready books survives cut ending.Unread setup taken played unplayed past is there before =
+      record {
+        over = (ready, books played past before);
+        survives = survives setup played past there before;
+        cut = rose_just (crashes past) (cuts given) (cuts last) (cut played past before);
+        just = λ next. cut played past before;
       }
-  ends_over given last stage Before ready books restarts cut uncut how setup taken played unplayed past is there before =
+  ends_over given last stage Before ready books survives cut how setup taken played unplayed past is there before =
       absurd is
 
 module _ {D : Type 0} {g : Ghosts D} where
@@ -109,15 +108,15 @@ module _ {D : Type 0} {g : Ghosts D} where
       (OverCut (disks g.size g.honest g.seen g.may_leave g.cuts g.cut_to given last))
   world_ends given last world stage same ready on is =
       ends_over g.size g.honest g.seen g.may_leave g.cuts g.cut_to given last stage (WorldHolds given world) ready
-      (λ past holds trusted. subst (λ disk. Leaves g.honest g.seen g.may_leave disk (reverse (records past))) (sym is)
+      (λ played past holds trusted. subst (λ disk. Leaves g.honest g.seen g.may_leave disk (reverse (records past))) (sym is)
       (world_books world past (holds.stands (inl trusted))
       (trusted_on g.size g.honest g.seen g.cuts given (disk_of world) on trusted)))
-      (λ setup past there holds.
-      subst (λ by. AtLosses by (CutAt g.size g.honest g.seen g.cuts g.cut_to given last) past) (sym (same setup there))
-      (subst (λ disk. AtLosses (setup_of world) (CutAt g.size g.honest g.seen g.cuts g.cut_to given disk) past) (sym is)
-      holds.restarts))
-      (λ past holds. rose_just (crashes past) (g.cuts given) (g.cuts last) (ap g.cuts is ∙ holds.cut))
-      (λ past holds none. ap g.cuts is ∙ holds.cut ∙ ap (λ n. count_after n (g.cuts given)) none)
+      (λ setup played past there holds.
+      let relies = Sure (IsTrusted g.honest g.seen given) in
+      let Cut = CutAt g.size g.honest g.seen g.cuts g.cut_to given in
+      subst (λ by. Survives relies (Cut last) by played past) (sym (same setup there))
+      (subst (λ disk. Survives relies (Cut disk) (setup_of world) played past) (sym is) holds.survives))
+      (λ played past holds. ap g.cuts is ∙ holds.cut)
 
   -- what holds of a machine does so behind a step that was played
   pub world_carried : (given last : D) (world : World D g) (After : List Entry → Type 0) (setup : Setup) (many : ℕ)
@@ -144,7 +143,7 @@ module _ {D : Type 0} {g : Ghosts D} where
       } in
       record {
         report = p.report;
-        goes = λ past before suits.
+        goes = λ played past before suits.
             let goes : Sure trusted (news ++ past)
             → Entries most_records (setup_of world) past s news × After (news ++ past) =
             λ sure. let here = sure_back trusted news past sure in
@@ -152,12 +151,12 @@ module _ {D : Type 0} {g : Ghosts D} where
             (sure_survives trusted now (trusted_on g.size g.honest g.seen g.cuts given (disk_of world) on) news past s
             p.told sure) in (
               λ sure. (goes sure).0,
-              subst (λ by. Holds g.size g.honest g.seen g.cuts g.cut_to After by given last many (news ++ past)) (sym same)
-                  (holds_on g.size g.honest g.seen g.cuts g.cut_to (setup_of world) given (StandsFor world) After (disk_of world)
-                  last s (used_of world) many news past on lasts p.told p.cut p.counts p.restarts moves
-                  (λ sure. (goes sure).1) before),
+              subst (λ by. Holds g.size g.honest g.seen g.cuts g.cut_to After by given last many (played ++ s ∷ [])
+                  (news ++ past)) (sym same)
+                  (holds_on g.size g.honest g.seen g.cuts g.cut_to (setup_of world) given (StandsFor world) After
+                  (disk_of world) last s (used_of world) many news played past on lasts p.told p.cut p.counts p.restarts
+                  moves (λ sure. (goes sure).1) before),
             );
-        tells = step_tells (setup_of world) s (used_of world) many (g.seen last) news p.restarts p.told;
         wrote = p.wrote;
       }
 
@@ -188,7 +187,7 @@ module _ {D : Type 0} {g : Ghosts D} where
   torn_over : (given left : D) (world : World D g) (s : Step) → IsReady (g.size given) (g.seen given)
       → (IsTrusted g.honest g.seen given → IsTrusted g.honest g.seen (disk_of world))
       → Breaks world left world_no.Disk s
-      → (taken : List ℕ) (played unplayed : List Step) (past : List Entry) → WorldHolds given world past
+      → (taken : List ℕ) (played unplayed : List Step) (past : List Entry) → WorldHolds given world played past
       → Over (disks g.size g.honest g.seen g.may_leave g.cuts g.cut_to given left) ending.DiskFailed (setup_of world) taken
       played (s ∷ unplayed) past
   torn_over given left world (step.Next addr) ready on breaks taken played unplayed past holds = (
@@ -216,23 +215,24 @@ module _ {D : Type 0} {g : Ghosts D} where
       → Outlasts g.size g.honest g.seen g.cuts given (disk_of world)
       → LastsIn s g.size g.honest g.seen g.cuts (disk_of world) left
       → CutOnce g.size g.honest g.seen g.cuts g.cut_to (disk_of world) left
-      → LosesIn world.machine.value left why s → (unplayed : List Step) (past : List Entry) → WorldHolds given world past
+      → LosesIn world.machine.value left why s → (played unplayed : List Step) (past : List Entry)
+      → WorldHolds given world played past
       → (Sure (IsTrusted g.honest g.seen given) past → StepSuits (setup_of world) past s)
       → OverLost (disks g.size g.honest g.seen g.may_leave g.cuts g.cut_to given left) (setup_of world) past (s ∷ unplayed) why
-  lost_over given left world why (step.Crash at choice) ready lasted lasts cut loses unplayed past holds suits = (
+  lost_over given left world why (step.Crash at choice) ready lasted lasts cut loses played unplayed past holds suits = (
     ready,
-    loses_at given left world past holds why (step.Crash at choice) lasted lasts cut loses,
+    loses_at given left world played past holds why (step.Crash at choice) lasted lasts cut loses,
     λ trusted. loses.0 past (holds.stands (inl trusted)) (suits (inl trusted))
         (trusted_on g.size g.honest g.seen g.cuts given (disk_of world) lasted trusted),
   )
-  lost_over given left world why s ready lasted lasts cut loses unplayed past holds suits = absurd loses
+  lost_over given left world why s ready lasted lasts cut loses played unplayed past holds suits = absurd loses
 
   unplayed_over : (given left : D) (world : World D g) (why : WorldNo) (s : Step)
       → IsReady (g.size given) (g.seen given) → Outlasts g.size g.honest g.seen g.cuts given (disk_of world)
       → LastsIn s g.size g.honest g.seen g.cuts (disk_of world) left
       → (why ≢ world_no.Disk → CutOnce g.size g.honest g.seen g.cuts g.cut_to (disk_of world) left)
       → Breaks world left why s → (taken : List ℕ) (played unplayed : List Step) (past : List Entry)
-      → WorldHolds given world past
+      → WorldHolds given world played past
       → (Sure (IsTrusted g.honest g.seen given) past → StepSuits (setup_of world) past s)
       → Over (disks g.size g.honest g.seen g.may_leave g.cuts g.cut_to given left) (unplayed_by why) (setup_of world) taken
       played (s ∷ unplayed) past
@@ -240,14 +240,14 @@ module _ {D : Type 0} {g : Ghosts D} where
       torn_over given left world s ready (trusted_on g.size g.honest g.seen g.cuts given (disk_of world) on) breaks taken
       played unplayed past holds
   unplayed_over given left world world_no.Alien s ready on lasts lost breaks taken played unplayed past holds suits =
-      lost_over given left world world_no.Alien s ready on lasts (lost (λ is. cc is)) breaks unplayed past holds suits
+      lost_over given left world world_no.Alien s ready on lasts (lost (λ is. cc is)) breaks played unplayed past holds suits
   unplayed_over given left world (world_no.BadRecord index) s ready on lasts lost breaks taken played unplayed past holds
       suits =
-      lost_over given left world (world_no.BadRecord index) s ready on lasts (lost (λ is. cc is)) breaks unplayed past
+      lost_over given left world (world_no.BadRecord index) s ready on lasts (lost (λ is. cc is)) breaks played unplayed past
       holds suits
   unplayed_over given left world (world_no.Lost found put) s ready on lasts lost breaks taken played unplayed past holds
       suits =
-      lost_over given left world (world_no.Lost found put) s ready on lasts (lost (λ is. cc is)) breaks unplayed past
+      lost_over given left world (world_no.Lost found put) s ready on lasts (lost (λ is. cc is)) breaks played unplayed past
       holds suits
 
   -- a step that wasn't played
@@ -256,18 +256,21 @@ module _ {D : Type 0} {g : Ghosts D} where
       → LastsIn s g.size g.honest g.seen g.cuts (disk_of world) left
       → (why ≢ world_no.Disk → CutOnce g.size g.honest g.seen g.cuts g.cut_to (disk_of world) left)
       → Breaks world left why s
-      → (taken : List ℕ) (played unplayed : List Step) (past : List Entry) → WorldHolds given world past
+      → (taken : List ℕ) (played unplayed : List Step) (past : List Entry) → WorldHolds given world played past
       → (Sure (IsTrusted g.honest g.seen given) past → StepSuits (setup_of world) past s)
       → OverCut (disks g.size g.honest g.seen g.may_leave g.cuts g.cut_to given left) (unplayed_by why) (setup_of world) taken
       played (s ∷ unplayed) past
   unplayed_cut given left world why s ready on lasts lost breaks taken played unplayed past holds suits = record {
     over = unplayed_over given left world why s ready on lasts lost breaks taken played unplayed past holds suits;
-    restarts = losses_last g.size g.honest g.seen g.cuts g.cut_to given (setup_of world) (disk_of world) left past
-        (lasts_in g.size g.honest g.seen g.cuts s (disk_of world) left lasts) holds.restarts;
+    survives = survives_by (Sure (IsTrusted g.honest g.seen given)) (Sure (IsTrusted g.honest g.seen given))
+        (CutAt g.size g.honest g.seen g.cuts g.cut_to given (disk_of world))
+        (CutAt g.size g.honest g.seen g.cuts g.cut_to given left) (λ es sure. sure) (λ es sure. sure)
+        (behind_on g.size g.honest g.seen g.cuts g.cut_to given (disk_of world) left
+        (lasts_in g.size g.honest g.seen g.cuts s (disk_of world) left lasts)) (setup_of world) played past
+        holds.survives;
     cut = le_trans (rose_just (crashes past) (g.cuts given) (g.cuts (disk_of world)) holds.cut)
         (lasts_in g.size g.honest g.seen g.cuts s (disk_of world) left lasts).later_cuts;
-    uncut = λ none next. uncut_in g.size g.honest g.seen g.cuts s (disk_of world) left lasts (crashes_none s next)
-        ∙ holds.cut ∙ ap (λ n. count_after n (g.cuts given)) none;
+    just = λ next. uncut_in g.size g.honest g.seen g.cuts s (disk_of world) left lasts (crashes_none s next) ∙ holds.cut;
   }
 
 -- a journal without records was created
@@ -285,17 +288,16 @@ module _ {D : Type 0} (size : D → ℕ) (honest : D → Bool) (seen : D → Opt
   pub fresh_ends : (given last disk : D) (place : Place) → IsReady (size given) (seen given)
       → GoesOn size honest seen cuts given disk → last ≡ disk
       → (IsTrusted honest seen disk → Stands honest seen may_leave disk place [])
-      → EndsBeside (at_setup no_devices) IsNothing (OverCut (disks size honest seen may_leave cuts cut_to given last))
+      → EndsBeside (at_setup no_devices) IsUnbegun (OverCut (disks size honest seen may_leave cuts cut_to given last))
   fresh_ends given last disk place ready on is stands =
       let same : cuts last ≡ cuts given = ap cuts is ∙ on.same_cuts in
-      ends_over size honest seen may_leave cuts cut_to given last (at_setup no_devices) IsNothing ready
-      (λ past none trusted. fresh_leaves last disk place past is none
+      ends_over size honest seen may_leave cuts cut_to given last (at_setup no_devices) IsUnbegun ready
+      (λ played past none trusted. fresh_leaves last disk place past is none.1
       (stands (trusted_on size honest seen cuts given disk (lasts_on size honest seen cuts given disk on) trusted)))
-      (λ setup past there none.
-      subst (AtLosses setup (CutAt size honest seen cuts cut_to given last)) (sym none) refl)
-      (λ past none. subst (RoseBy (crashes past) (cuts given)) (sym same)
-      (rose_none (crashes past) (cuts given) (ap crashes none)))
-      (λ past none quiet. same)
+      (λ setup played past there none.
+      subst₂ (Survives (Sure (IsTrusted honest seen given)) (CutAt size honest seen cuts cut_to given last) setup)
+      (sym none.0) (sym none.1) no_step)
+      (λ played past none. same ∙ ap (λ es. count_after (crashes es) (cuts given)) (sym none.1))
 
   -- a run that ended before its first step
   uncut_over : (given last : D) (how : Ending) (setup : Setup) (taken : List ℕ) (unplayed : List Step)
@@ -303,9 +305,9 @@ module _ {D : Type 0} (size : D → ℕ) (honest : D → Bool) (seen : D → Opt
       → OverCut (disks size honest seen may_leave cuts cut_to given last) how setup taken [] unplayed []
   uncut_over given last how setup taken unplayed same over = record {
     over = over;
-    restarts = refl;
-    cut = subst (RoseBy 0 (cuts given)) (sym same) (rose_none 0 (cuts given) refl);
-    uncut = λ none next. same;
+    survives = no_step;
+    cut = rose_just 0 (cuts given) (cuts last) same;
+    just = λ next. same;
   }
 
   -- and where there was no memory
@@ -345,13 +347,13 @@ module _ {D : Type 0} (size : D → ℕ) (honest : D → Bool) (seen : D → Opt
   pub broke_over : (given last : D) (setup : Setup) (many : ℕ) → IsReady (size given) (seen given)
       → Outlasts size honest seen cuts given last
       → (taken : List ℕ) (played unplayed : List Step) (past : List Entry)
-      → Holds size honest seen cuts cut_to (Books honest seen may_leave last) setup given last many past
+      → Holds size honest seen cuts cut_to (Books honest seen may_leave last) setup given last many played past
       → OverCut (disks size honest seen may_leave cuts cut_to given last) ending.Unwritten setup taken played unplayed past
   broke_over given last setup many ready on taken played unplayed past holds = record {
     over = (ready, λ trusted. holds.stands (inl trusted) (trusted_on size honest seen cuts given last on trusted));
-    restarts = holds.restarts;
+    survives = holds.survives;
     cut = rose_just (crashes past) (cuts given) (cuts last) holds.cut;
-    uncut = λ none next. holds.cut ∙ ap (λ n. count_after n (cuts given)) none;
+    just = λ next. holds.cut;
   }
 
 -- a step ended the run: the sink failed within its entries, or it wasn't played

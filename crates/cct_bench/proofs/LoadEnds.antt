@@ -25,14 +25,13 @@ use Rattle.cct_text.specs.Writing.{Broke, Writes, Wrote}
 use Rattle.cct_world.specs.declared.refusal.WorldNo.{WorldNo}
 use Rattle.cct_world.specs.declared.refusal.WorldNo.TheVariants as world_no
 use Rattle.cct_world.specs.declared.world.World.{World}
-use Rattle.cct_world.specs.Restarts.{CutAt, IsDueOver, IsWhole, Loses, LosesAt, WasDue}
+use Rattle.cct_world.specs.Restarts.{CutAt, LosesAt, no_step}
 use Rattle.cct_world.specs.Step.{RoseBy, count_after, crashes}
 use Rattle.cct_world.specs.Sure.{First, MayFail, Sure, losses_in}
 use Rattle.cct_world.specs.World.{disk_of}
 use Rattle.cct_world.proofs.Lasting.{lasts_on, lasts_then, trusted_back, trusted_on}
-use Rattle.cct_world.proofs.Restarts.{at_losses}
-use Rattle.cct_world.proofs.Sure.{rose_none}
-use Rattle.cct_world.proofs.Told.{tells_first}
+use Rattle.cct_world.proofs.Sure.{rose_just}
+use Rattle.cct_world.proofs.Surviving.{loses_by, survives_by}
 use Rattle.cct_gen.specs.Load.{load_setup, load_steps}
 use Rattle.cct_gen.proofs.LoadSetup.{setup_sound}
 use Rattle.cct_gen.proofs.Lines.{lines_in_range}
@@ -80,7 +79,6 @@ loaded_by seed rounds how s tail disks Before Written Broken Breaks is p ends =
       told = p.told;
       tail = tail;
       steps_are = p.steps_are;
-      losses = p.losses;
       legal = p.legal;
       in_order = λ sure d own honest.
           each_in_order most_records load_setup p.played p.transcript d setup_sound own in_range (p.legal sure) honest;
@@ -93,9 +91,9 @@ loaded_by seed rounds how s tail disks Before Written Broken Breaks is p ends =
       book = λ trusted some. subst (Book disks load_setup p.unplayed (onto [] p.transcript)) (sym is)
           (p.book trusted some);
       keeps = λ trusted tells. p.keeps trusted (subst TellsLoss is tells);
-      restarts = p.restarts;
+      survives = p.survives;
       cut = p.cut;
-      uncut = p.uncut;
+      just = p.just;
     }
 
 -- ---- the last line
@@ -165,14 +163,13 @@ module _ (seed rounds : ℕ) (Written : List Entry → Type 0) (Breaks : List En
     transcript = [];
     told = [];
     steps_are = refl;
-    losses = tells_first;
     legal = λ sure. refl;
     stops = stops;
     book = λ trusted some. absurd (some refl);
     keeps = keeps;
-    restarts = refl;
-    cut = subst (RoseBy 0 disks.cuts) (sym same) (rose_none 0 disks.cuts refl);
-    uncut = λ none next. same;
+    survives = no_step;
+    cut = rose_just 0 disks.cuts disks.cuts_after same;
+    just = λ next. same;
   }
 
   pub load_unopened : (how : Ending) → IsUnopened disks.size disks.seen how → Written []
@@ -213,29 +210,6 @@ fails_by : (sure sure1 : Type 0) (past : List Entry) → (sure1 → sure) → (s
 fails_by sure sure1 past more (step.Next addr) fails = λ is. fails (more is)
 fails_by sure sure1 past more (step.Crash at choice) fails = tt
 fails_by sure sure1 past more s fails = absurd fails
-
--- as much may be relied on, and as much is known of each cut
-module _ (sure sure1 : Type 0) (Found Found1 : ℕ → (Option (List ℕ) → Type 0) → Type 0) (more : sure1 → sure)
-    (less : sure → sure1) (finds : (times : ℕ) (P : Option (List ℕ) → Type 0) → Found times P → Found1 times P)
-    (setup : Setup) (past : List Entry) where
-  due_by : (at : Option CrashAt) (due : Option Record) → WasDue sure Found setup past at due
-      → WasDue sure1 Found1 setup past at due
-  due_by None due was = was
-  due_by (Some at) due was = (
-    λ is. was.0 (more is),
-    λ unsure. finds (crashes past) (λ behind. IsWhole setup behind (IsDueOver setup past at.addr due))
-        (was.1 (λ is. unsure (less is))),
-  )
-
-  loses_by : (seen : Option (List ℕ)) (why : WorldNo) (s : Step) → LosesAt sure Found setup past seen why s
-      → LosesAt sure1 Found1 setup past seen why s
-  loses_by seen why (step.Crash at choice) loses = (
-    loses.0,
-    due_by at loses.0 loses.1,
-    finds (suc (crashes past))
-        (λ behind. (seen ≡ behind) × Loses setup (length (records past)) loses.0 behind why) loses.2,
-  )
-  loses_by seen why s loses = absurd loses
 
 module _ {D : Type 0} {g : Ghosts D} (given left : D) (world : World D g)
     (ready : IsReady (g.size given) (g.seen given)) (on : GoesOn g.size g.honest g.seen g.cuts given (disk_of world))
@@ -371,15 +345,15 @@ module _ {D : Type 0} {g : Ghosts D} (given left : D) (world : World D g)
         transcript = p.transcript;
         told = told.0;
         steps_are = p.steps_are;
-        losses = p.losses;
-        legal = λ sure. subst (λ size. Legal (capacity_of size) load_setup p.played p.transcript)
+          legal = λ sure. subst (λ size. Legal (capacity_of size) load_setup p.played p.transcript)
             (on.same_size ∙ ready.sized) (p.legal (relies past sure));
         stops = told.1;
         book = λ trusted some. book_by how p.unplayed past (p.book (now_trusted trusted));
         keeps = λ trusted tells. keeps_by how p.unplayed past (p.book (now_trusted trusted)) tells;
-        restarts = at_losses load_setup (Cut (disk_of world)) (Cut given) cut_given past p.restarts;
+        survives = survives_by (Relies world) (Sure (IsTrusted g.honest g.seen given)) (Cut (disk_of world)) (Cut given)
+            relies relied cut_given load_setup p.played past p.survives;
         cut = subst (λ n. RoseBy (crashes past) n (g.cuts left)) on.same_cuts p.cut;
-        uncut = λ none next. p.uncut none next ∙ on.same_cuts;
+        just = λ next. p.just next ∙ ap (count_after (crashes past)) on.same_cuts;
       }
 
 -- ---- with no fault

@@ -14,8 +14,8 @@ use Rattle.cct_model.specs.Paid.{Paid}
 use Rattle.cct_model.specs.Transcript.{onto}
 use Rattle.cct_laws.specs.Law.{IsOf, lines_in}
 use Rattle.cct_journal.specs.Image.{IsFirstByteFrom}
-use Rattle.cct_world.specs.Restarts.{AtLosses, TellsLosses}
-use Rattle.cct_world.specs.Step.{RoseBy, crashes}
+use Rattle.cct_world.specs.Restarts.{Survives}
+use Rattle.cct_world.specs.Step.{RoseBy, count_after, crashes}
 use Rattle.cct_world.specs.Sure.{First, IsCrash, MayFail, Sure}
 use Rattle.cct_gen.specs.Load.{load_setup, load_steps}
 use Rattle.cct_load.specs.Sums.{sums_of}
@@ -104,7 +104,6 @@ pub record Loaded (seed rounds : ℕ) (s : Status) (Written : List Entry → Typ
   pub told : List Entry
   pub tail : List Entry
   pub steps_are : load_steps seed rounds ≡ played ++ unplayed
-  pub losses : TellsLosses played (onto [] transcript)
   pub legal : Sure disks.trusted (onto [] transcript) → Legal most_records load_setup played transcript
   pub in_order : Sure disks.trusted (onto [] transcript) → (d : DeviceSetup) → IsOf load_setup d
       → Honest transcript → InOrder (lines_in d transcript)
@@ -115,9 +114,9 @@ pub record Loaded (seed rounds : ℕ) (s : Status) (Written : List Entry → Typ
   pub ends : LoadEnds disks seed rounds played unplayed (onto [] transcript) s told tail Written Breaks
   pub book : disks.trusted → told ≢ [] → Book disks load_setup unplayed (onto [] transcript) tail
   pub keeps : disks.trusted → TellsLoss tail → ⊥
-  pub restarts : AtLosses load_setup disks.cut_at (onto [] transcript)
+  pub survives : Survives (Sure disks.trusted) disks.cut_at load_setup played (onto [] transcript)
   pub cut : RoseBy (crashes (onto [] transcript)) disks.cuts disks.cuts_after
-  pub uncut : crashes (onto [] transcript) ≡ 0 → (First IsCrash unplayed → ⊥) → disks.cuts_after ≡ disks.cuts
+  pub just : (First IsCrash unplayed → ⊥) → disks.cuts_after ≡ count_after (crashes (onto [] transcript)) disks.cuts
 
 -- A load came to this end, before its last line is put: what is told of a load that ended, but for the laws.
 pub record LoadPlayed (seed rounds : ℕ) (how : Ending) (Written : List Entry → Type 0)
@@ -127,15 +126,14 @@ pub record LoadPlayed (seed rounds : ℕ) (how : Ending) (Written : List Entry �
   pub transcript : List Entry
   pub told : List Entry
   pub steps_are : load_steps seed rounds ≡ played ++ unplayed
-  pub losses : TellsLosses played (onto [] transcript)
   pub legal : Sure disks.trusted (onto [] transcript) → Legal most_records load_setup played transcript
   pub stops : LoadStops disks seed rounds played unplayed (onto [] transcript) how told Written Breaks
   pub book : disks.trusted → told ≢ []
       → Book disks load_setup unplayed (onto [] transcript) (listed (last_entry how))
   pub keeps : disks.trusted → TellsLoss (listed (last_entry how)) → ⊥
-  pub restarts : AtLosses load_setup disks.cut_at (onto [] transcript)
+  pub survives : Survives (Sure disks.trusted) disks.cut_at load_setup played (onto [] transcript)
   pub cut : RoseBy (crashes (onto [] transcript)) disks.cuts disks.cuts_after
-  pub uncut : crashes (onto [] transcript) ≡ 0 → (First IsCrash unplayed → ⊥) → disks.cuts_after ≡ disks.cuts
+  pub just : (First IsCrash unplayed → ⊥) → disks.cuts_after ≡ count_after (crashes (onto [] transcript)) disks.cuts
 
 -- How a load ends, by how the playing of it did.
 abbrev pub load_ending : LoadEnd → Ending

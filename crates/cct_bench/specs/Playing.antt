@@ -46,6 +46,6 @@ pub record PlaysOn (trusted : Type 0) (Before After : List Entry → Type 0) (se
   pub told : crashes (reverse report) ≡ crashes_of s
   pub cut : Cut
   pub counts : many ≡ used + length (records (reverse report))
-  pub restarts : RestartsIn setup s used many seen (reverse report)
+  pub restarts : RestartsIn Before setup s used many seen (reverse report)
   pub goes_over : GoesOver Before After trusted seen many s
   pub wrote : WritesThem report

@@ -29,12 +29,13 @@ use Rattle.cct_bench.specs.declared.lines.ScriptStop.TheVariants as stop
 use Rattle.cct_bench.specs.declared.play.Ending.{Ending}
 use Rattle.cct_bench.specs.declared.play.Ending.TheVariants as ending
 use Rattle.cct_bench.specs.declared.play.TheConstants.{JOURNAL_BYTES}
-use Rattle.cct_world.specs.Restarts.{AtLosses, LosesAt, TellsLosses}
-use Rattle.cct_world.specs.Step.{RoseBy, crashes}
+use Rattle.cct_world.specs.Restarts.{LosesAt, Survives}
+use Rattle.cct_world.specs.Step.{RoseBy, count_after, crashes}
 use Rattle.cct_world.specs.Sure.{First, IsCrash, MayFail, Sure, due_to}
 use Rattle.cct_world.specs.declared.refusal.WorldNo.{WorldNo}
 use Rattle.cct_world.specs.declared.refusal.WorldNo.TheVariants as world_no
 use Rattle.cct_bench.specs.Disks.{Disks, IsReady, most_records}
+use Rattle.cct_bench.specs.Going.{IsUnbegun}
 
 -- Writing broke off in the lines of the last step played or in the last line, and all lines before were written whole:
 -- they are a front of the transcript, and the entries of the other steps, where their past may be relied on.
@@ -144,7 +145,6 @@ pub record Ran (bytes : List ℕ) (s : Status) (left : Option (List ℕ)) (Writt
   pub took : bytes ≡ taken ++ rest
   pub left_is : left ≡ Some rest
   pub steps_are : (script bytes).steps ≡ played ++ unplayed
-  pub losses : TellsLosses played (onto [] transcript)
   pub legal : Sure disks.trusted (onto [] transcript) → Legal most_records (script bytes).setup played transcript
   pub in_order : Sure disks.trusted (onto [] transcript) → (d : DeviceSetup) → IsOf (script bytes).setup d
       → Honest transcript → InOrder (lines_in d transcript)
@@ -155,9 +155,9 @@ pub record Ran (bytes : List ℕ) (s : Status) (left : Option (List ℕ)) (Writt
   pub ends : Ends disks bytes taken played unplayed transcript s tail Written Breaks
   pub book : disks.trusted → taken ≢ [] → Book disks (script bytes).setup unplayed (onto [] transcript) tail
   pub keeps : disks.trusted → TellsLoss tail → ⊥
-  pub restarts : AtLosses (script bytes).setup disks.cut_at (onto [] transcript)
+  pub survives : Survives (Sure disks.trusted) disks.cut_at (script bytes).setup played (onto [] transcript)
   pub cut : RoseBy (crashes (onto [] transcript)) disks.cuts disks.cuts_after
-  pub uncut : crashes (onto [] transcript) ≡ 0 → (First IsCrash unplayed → ⊥) → disks.cuts_after ≡ disks.cuts
+  pub just : (First IsCrash unplayed → ⊥) → disks.cuts_after ≡ count_after (crashes (onto [] transcript)) disks.cuts
 
 -- How a run ends where a script is read no further.
 abbrev pub ending_at : ℕ → ScriptStop → Ending
@@ -239,13 +239,13 @@ Over disks how setup taken played unplayed past =
 pub record OverCut (disks : Disks) (how : Ending) (setup : Setup) (taken : List ℕ) (played unplayed : List Step)
     (past : List Entry) : Type 0 where
   pub over : Over disks how setup taken played unplayed past
-  pub restarts : AtLosses setup disks.cut_at past
+  pub survives : Survives (Sure disks.trusted) disks.cut_at setup played past
   pub cut : RoseBy (crashes past) disks.cuts disks.cuts_after
-  pub uncut : crashes past ≡ 0 → (First IsCrash unplayed → ⊥) → disks.cuts_after ≡ disks.cuts
+  pub just : (First IsCrash unplayed → ⊥) → disks.cuts_after ≡ count_after (crashes past) disks.cuts
 
 -- The script or its source brought the end before a step was played.
 abbrev pub BeforeSteps : Ending → Setup → List ℕ → List Step → List Step → List Entry → Type 0
-BeforeSteps how setup taken played unplayed past = IsOfScript how × (past ≡ [])
+BeforeSteps how setup taken played unplayed past = IsOfScript how × IsUnbegun played past
 
 -- The steps of a script of these bytes were played up to this end. `Beside` is what else is said of that, and `Relies`
 -- tells where the past may be relied on.
@@ -260,7 +260,6 @@ pub record Played (Relies : List Entry → Type 0) (bytes : List ℕ) (how : End
   pub took : bytes ≡ taken ++ rest
   pub left_is : left ≡ Some rest
   pub steps_are : (script bytes).steps ≡ played ++ unplayed
-  pub losses : TellsLosses played (onto [] transcript)
   pub legal : Relies (onto [] transcript) → Legal most_records (script bytes).setup played transcript
   pub stops : Stops Relies how bytes taken played unplayed transcript Written Breaks
   pub beside : Beside how (script bytes).setup taken played unplayed (onto [] transcript)

@@ -20,7 +20,7 @@ ghost use Rattle.cct_world.specs.World.{Breaks, StandsFor, disk_of, setup_of, us
 ghost use Rattle.cct_bench.specs.Lines.{Came, EndsAt, IsNext};
 ghost use Rattle.cct_bench.specs.Disks.{Always, Books, IsReady, disks};
 ghost use Rattle.cct_world.specs.Sure.{Sure};
-ghost use Rattle.cct_bench.specs.Going.{Going};
+ghost use Rattle.cct_bench.specs.Going.{Going, IsUnbegun};
 ghost use Rattle.cct_bench.specs.SetupLines.{TookOpening, TookSetup};
 ghost use Rattle.cct_text.specs.Writing.{Writes, Wrote, Broke, IsNothing, NeverBroke};
 ghost use Rattle.cct_bench.specs.Playing.{CanPlay, PlaysOn};
@@ -140,7 +140,7 @@ fn read_setup<S: Source>(
     requires setup { setup.old ≡ no_devices }
     ensures opened { IfOk result (λ number.
         Going Always (S.left script.old) (S.left script.new) (standing_of lines.new).held number (at_steps setup.new)
-        IsNothing IsNothing) }
+        IsUnbegun IsNothing) }
     ensures took { IfOk result (λ number.
         TookOpening S.takes S.left script.old script.new (standing_of lines.new).held number (at_steps setup.new)) }
     ensures next { IfOk result (λ number. IsNext number (standing_of lines.new)) }

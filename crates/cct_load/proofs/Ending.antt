@@ -14,19 +14,18 @@ use Rattle.cct_journal.specs.Stands.{Leaves, Outlasts}
 use Rattle.cct_journal.proofs.Calls.{settled_leaves, stands_settled}
 use Rattle.cct_world.specs.declared.refusal.WorldNo.{WorldNo}
 use Rattle.cct_world.specs.declared.world.World.{World}
-use Rattle.cct_world.specs.Restarts.{AtLosses}
-use Rattle.cct_world.specs.Step.{RoseBy, count_after, crashes}
+use Rattle.cct_world.specs.Restarts.{Survives, no_step}
+use Rattle.cct_world.specs.Step.{crashes}
 use Rattle.cct_world.specs.World.{StandsFor, disk_of, setup_of}
 use Rattle.cct_world.proofs.Lasting.{trusted_on}
-use Rattle.cct_world.proofs.Sure.{rose_just, rose_none}
-use Rattle.cct_world.proofs.Told.{tells_first}
+use Rattle.cct_world.proofs.Sure.{rose_just}
 use Rattle.cct_gen.specs.Load.{line_at, lines_before, load_setup, load_steps}
 use Rattle.cct_load.specs.declared.load.Load.{Load}
 use Rattle.cct_load.specs.declared.load.LoadEnd.{LoadEnd}
 use Rattle.cct_load.specs.declared.load.LoadEnd.TheVariants as load_end
 use Rattle.cct_load.specs.declared.sums.LoadSums.{LoadSums}
 use Rattle.cct_load.specs.Sums.{sums_of}
-use Rattle.cct_load.specs.Played.{Became, Book, CutFor, Ends, HasTrusted, PlayedLines, PlaysLoad, RestartsAt, StoppedWithin, Told}
+use Rattle.cct_load.specs.Played.{Became, Book, CutFor, Ends, HasTrusted, PlayedLines, PlaysLoad, Relies, StoppedWithin, SurvivesOn, Told}
 use Rattle.cct_load.specs.Played.{first_line}
 use Rattle.cct_load.proofs.Lines.{lines_behind}
 
@@ -50,13 +49,11 @@ module _ {D : Type 0} {g : Ghosts D} (world : World D g) (load : Load) (left : D
     transcript = [];
     steps_are = refl;
     legal = λ relies. refl;
-    losses = tells_first;
     ends = inl (refl, breaks);
     book = λ trusted. world_leaves world left [] is fresh trusted;
-    restarts = refl;
-    cut = subst (λ disk. RoseBy 0 (g.cuts (disk_of world)) (g.cuts disk)) (sym is)
-        (rose_none 0 (g.cuts (disk_of world)) refl);
-    uncut = λ none quiet. ap g.cuts is;
+    survives = no_step;
+    cut = rose_just 0 (g.cuts (disk_of world)) (g.cuts left) (ap g.cuts is);
+    just = λ quiet. ap g.cuts is;
   }
 
   -- a step wasn't played
@@ -72,12 +69,11 @@ module _ {D : Type 0} {g : Ghosts D} (world : World D g) (load : Load) (left : D
         transcript = lines.transcript;
         steps_are = behind.1;
         legal = lines.legal;
-        losses = lines.losses;
         ends = (lines.holds.fails, wrote);
         book = lines.holds.book;
-        restarts = lines.holds.restarts;
+        survives = lines.holds.survives;
         cut = lines.holds.cut;
-        uncut = lines.holds.uncut;
+        just = lines.holds.just;
       }
 
   -- all steps were played
@@ -100,14 +96,13 @@ module _ {D : Type 0} {g : Ghosts D} (world : World D g) (load : Load) (left : D
       transcript = lines.transcript;
       steps_are = sym (append-nil steps);
       legal = lines.legal;
-      losses = lines.losses;
       ends = ends;
       book = book;
-      restarts = subst (λ disk. RestartsAt world disk past) (sym is)
-          (subst (λ setup. AtLosses setup (CutFor world (disk_of next)) past) same lines.holds.so.restarts);
+      survives = subst (λ disk. SurvivesOn world disk steps past) (sym is)
+          (subst (λ setup. Survives (Relies world) (CutFor world (disk_of next)) setup steps past) same
+          lines.holds.so.survives);
       cut = rose_just (crashes past) (g.cuts (disk_of world)) (g.cuts left) (ap g.cuts is ∙ lines.holds.so.cut);
-      uncut = λ none quiet. ap g.cuts is ∙ lines.holds.so.cut
-          ∙ ap (λ n. count_after n (g.cuts (disk_of world))) none;
+      just = λ quiet. ap g.cuts is ∙ lines.holds.so.cut;
     }
 
     leaves_all : HasTrusted world → Leaves g.honest g.seen g.may_leave left (reverse (records past))

@@ -20,16 +20,16 @@ use Rattle.cct_world.specs.declared.refusal.WorldNo.TheVariants as world_no
 use Rattle.cct_world.specs.declared.world.World.{World}
 use Rattle.cct_world.specs.Holds.{WorldHolds}
 use Rattle.cct_world.specs.Machine.{FailsIn, LosesIn, StepSuits}
-use Rattle.cct_world.specs.Restarts.{AtLosses, LosesAt, TellsLosses}
+use Rattle.cct_world.specs.Restarts.{LosesAt, Survives}
 use Rattle.cct_world.specs.Step.{CutsIn, LastsIn, RoseBy, count_after, crashes, crashes_of}
 use Rattle.cct_world.specs.Sure.{MayFail, due_to}
 use Rattle.cct_world.specs.World.{Breaks, GoesOver, Plays, RestartsBy, StandsFor, capacity_in, disk_of, setup_of, used_of}
-use Rattle.cct_world.proofs.Holding.{holds_first, loses_at, restarts_in, world_moves, world_on}
+use Rattle.cct_world.proofs.Holding.{holds_first, loses_at, world_moves, world_on}
 use Rattle.cct_world.proofs.Lasting.{lasts_here, lasts_in, lasts_then, trusted_on, uncut_in}
-use Rattle.cct_world.proofs.Restarts.{losses_last}
+use Rattle.cct_world.proofs.Restarts.{behind_on}
 use Rattle.cct_world.proofs.Suiting.{legal_suits}
 use Rattle.cct_world.proofs.Sure.{crashes_none, sure_back, sure_survives}
-use Rattle.cct_world.proofs.Told.{step_tells, tells_first, tells_on}
+use Rattle.cct_world.proofs.Surviving.{survives_by}
 use Rattle.cct_gen.specs.Load.{line_at, lines_before, load_setup}
 use Rattle.cct_gen.proofs.LoadSetup.{setup_sound}
 use Rattle.cct_gen.proofs.Lines.{line_in_range, lines_in_range, one_line_more}
@@ -57,10 +57,9 @@ module _ {D : Type 0} {g : Ghosts D} (world : World D g) where
     lines = record {
       transcript = [];
       legal = λ relies. refl;
-      losses = tells_first;
       holds = record {
         so = holds_first g.size g.honest g.seen g.cuts g.cut_to (setup_of world) (disk_of world) (StandsFor world)
-            (disk_of world) (used_of world) refl fresh.host.keeps.used (λ sure. fresh) [] refl;
+            (disk_of world) (used_of world) refl fresh.host.keeps.used (λ sure. fresh) [] [] refl refl;
         counted = counted;
       };
     };
@@ -126,16 +125,13 @@ module _ {D : Type 0} {g : Ghosts D} (world : World D g) where
               subst (λ steps. Legal (capacity_in world) load_setup steps (t ++ report)) (sym more)
               (legal_more (capacity_in world) load_setup (lines_before seed n) t report s
               (goes.lines.legal (sure_back (HasTrusted world) news past here)) (entries here).0);
-          losses = subst (λ steps. TellsLosses steps (onto [] (t ++ report))) (sym more)
-              (subst (TellsLosses (lines_before seed n ++ s ∷ [])) (sym on)
-              (tells_on (lines_before seed n) news past s goes.lines.losses
-              (step_tells (setup_of now) s (used_of now) (used_of next) (g.seen (disk_of next)) news
-              (restarts_in now next s news restarts) told)));
           holds = subst (Became world next sums1 seed (n + 1)) (sym on) (record {
-            so = world_on (disk_of world) now next s news past goes.lasts lasts told cut many restarts same
+            so = subst (λ steps. WorldHolds (disk_of world) next steps (news ++ past)) (sym more)
+                (world_on (disk_of world) now next s news (lines_before seed n) past goes.lasts lasts told cut many
+                restarts same
                 (world_moves (disk_of world) now next s report
                 (subst IsInRange (sym is) (line_in_range seed n)) goes.lasts plays goes_over)
-                (λ relies. (entries relies).1) before.so;
+                (λ relies. (entries relies).1) before.so);
             counted = subst (λ steps. SumsUp sums1 steps (news ++ past)) (sym more)
                 (counts (lines_before seed n) past s before.counted);
           });
@@ -147,8 +143,8 @@ module _ {D : Type 0} {g : Ghosts D} (world : World D g) where
       }
 
   -- why a step isn't played
-  module _ (now : World D g) (left : D) (past : List Entry) (same : setup_of now ≡ load_setup)
-      (holds : WorldHolds (disk_of world) now past) where
+  module _ (now : World D g) (left : D) (played : List Step) (past : List Entry) (same : setup_of now ≡ load_setup)
+      (holds : WorldHolds (disk_of world) now played past) where
     disk_fails : (s : Step) → FailsIn now.machine.value left s → MayFail (Relies world past) load_setup past s
     disk_fails (step.Next addr) breaks = λ relies.
         let due = breaks past (holds.stands relies) in
@@ -163,7 +159,7 @@ module _ {D : Type 0} {g : Ghosts D} (world : World D g) where
           → LosesAt (Relies world past) (CutFor world left) load_setup past (g.seen left) why s
       lost_at why cut breaks =
           subst (λ setup. LosesAt (Relies world past) (CutFor world left) setup past (g.seen left) why s) same
-          (loses_at (disk_of world) left now past holds why s lasted lasts cut breaks)
+          (loses_at (disk_of world) left now played past holds why s lasted lasts cut breaks)
 
       fails_at : (why : WorldNo) → Breaks now left why s
           → (why ≢ world_no.Disk → CutOnce g.size g.honest g.seen g.cuts g.cut_to (disk_of now) left)
@@ -213,20 +209,21 @@ module _ {D : Type 0} {g : Ghosts D} (world : World D g) where
         record {
           transcript = goes.lines.transcript;
           legal = goes.lines.legal;
-          losses = goes.lines.losses;
-          holds = subst (λ x. Stopped world left why x past) is (record {
-            fails = fails_at now left past goes.setup before s goes.lasts lasts why breaks lost;
-            book = λ given. left_at now left past goes.setup before why s given
+          holds = subst (λ x. Stopped world left why x (lines_before seed n) past) is (record {
+            fails = fails_at now left (lines_before seed n) past goes.setup before s goes.lasts lasts why breaks lost;
+            book = λ given. left_at now left (lines_before seed n) past goes.setup before why s given
                 (trusted_on g.size g.honest g.seen g.cuts (disk_of world) (disk_of now) goes.lasts given)
                 (suits now sums seed n goes (inl given) s) breaks;
-            restarts = subst (λ setup. AtLosses setup (CutFor world left) past) goes.setup
-                (losses_last g.size g.honest g.seen g.cuts g.cut_to (disk_of world) (setup_of now) (disk_of now) left past
-                outlasts before.restarts);
+            survives = subst (λ setup. Survives (Relies world) (CutFor world left) setup (lines_before seed n) past)
+                goes.setup
+                (survives_by (Relies world) (Relies world) (CutFor world (disk_of now)) (CutFor world left)
+                (λ es relies. relies) (λ es relies. relies)
+                (behind_on g.size g.honest g.seen g.cuts g.cut_to (disk_of world) (disk_of now) left outlasts)
+                (setup_of now) (lines_before seed n) past before.survives);
             cut = rose_later (crashes past) (g.cuts (disk_of world)) (g.cuts (disk_of now)) (g.cuts left) before.cut
                 outlasts.later_cuts;
-            uncut = λ none quiet.
-                uncut_in g.size g.honest g.seen g.cuts s (disk_of now) left lasts (crashes_none s quiet)
-                ∙ before.cut ∙ ap (λ n. count_after n (g.cuts (disk_of world))) none;
+            just = λ quiet. uncut_in g.size g.honest g.seen g.cuts s (disk_of now) left lasts (crashes_none s quiet)
+                ∙ before.cut;
           });
         },
       )

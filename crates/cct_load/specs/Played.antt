@@ -15,8 +15,8 @@ use Rattle.cct_world.specs.declared.refusal.WorldNo.{WorldNo}
 use Rattle.cct_world.specs.declared.refusal.WorldNo.TheVariants as world_no
 use Rattle.cct_world.specs.declared.world.World.{World}
 use Rattle.cct_world.specs.Holds.{WorldHolds}
-use Rattle.cct_world.specs.Restarts.{AtLosses, CutAt, LosesAt, TellsLosses}
-use Rattle.cct_world.specs.Step.{RoseBy, crashes}
+use Rattle.cct_world.specs.Restarts.{CutAt, LosesAt, Survives}
+use Rattle.cct_world.specs.Step.{RoseBy, count_after, crashes}
 use Rattle.cct_world.specs.Sure.{First, IsCrash, MayFail, Sure, due_to}
 use Rattle.cct_world.specs.World.{capacity_in, disk_of}
 use Rattle.cct_gen.specs.Load.{line_at, lines_before, load_setup, load_steps}
@@ -40,28 +40,25 @@ module _ {D : Type 0} {g : Ghosts D} (world : World D g) where
   Relies past = Sure HasTrusted past
 
   -- So many lines of a load were played on the world, from the first on: the entries of the transcript are those of the
-  -- steps, where its past may be relied on; it tells as many losses of power as the steps are; and this holds of its
-  -- past.
+  -- steps, where its past may be relied on; and this holds of its past.
   pub record PlayedLines (seed n : ℕ) (Holds : List Entry → Type 0) : Type 0 where
     pub transcript : List Entry
     pub legal : Relies (onto [] transcript) → Legal (capacity_in world) load_setup (lines_before seed n) transcript
-    pub losses : TellsLosses (lines_before seed n) (onto [] transcript)
     pub holds : Holds (onto [] transcript)
 
   -- What is so after a past, where so many lines of a load were played and the world became another: what holds of a
   -- world behind a run; and the sums are those of the steps and of the past.
   pub record Became (next : World D g) (sums : LoadSums) (seed n : ℕ) (past : List Entry) : Type 0 where
-    pub so : WorldHolds (disk_of world) next past
+    pub so : WorldHolds (disk_of world) next (lines_before seed n) past
     pub counted : SumsUp sums (lines_before seed n) past
 
   -- Until the disk became this one its power was cut for this time, and this holds of what a read gave right behind it.
   abbrev pub CutFor : D → ℕ → (Option (List ℕ) → Type 0) → Type 0
   CutFor left = CutAt g.size g.honest g.seen g.cuts g.cut_to (disk_of world) left
 
-  -- Behind each loss of power that a past tells, the disk had a journal of as many records as are told, until it became
-  -- this one.
-  abbrev pub RestartsAt : D → List Entry → Type 0
-  RestartsAt left = AtLosses load_setup (CutFor left)
+  -- Behind each loss of power among these steps a host started again, until the disk became this one.
+  abbrev pub SurvivesOn : D → List Step → List Entry → Type 0
+  SurvivesOn left = Survives Relies (CutFor left) load_setup
 
   -- Why the step behind a past wasn't played, where this disk is left: it failed in a `next` that was about to put a
   -- record, or in a loss of power; or it isn't the one that it was, which comes in a loss of power alone, and is told.
@@ -79,17 +76,17 @@ module _ {D : Type 0} {g : Ghosts D} (world : World D g) where
   LeftAt left why past s = ⊥
 
   -- The step behind a past wasn't played, for this reason, and this disk is left.
-  pub record Stopped (left : D) (why : WorldNo) (s : Step) (past : List Entry) : Type 0 where
+  pub record Stopped (left : D) (why : WorldNo) (s : Step) (played : List Step) (past : List Entry) : Type 0 where
     pub fails : FailsAt left why past s
     pub book : HasTrusted → LeftAt left why past s
-    pub restarts : RestartsAt left past
+    pub survives : SurvivesOn left played past
     pub cut : RoseBy (crashes past) (g.cuts (disk_of world)) (g.cuts left)
-    pub uncut : crashes past ≡ 0 → (IsCrash s → ⊥) → g.cuts left ≡ g.cuts (disk_of world)
+    pub just : (IsCrash s → ⊥) → g.cuts left ≡ count_after (crashes past) (g.cuts (disk_of world))
 
   -- One of so many lines of a load wasn't played, for this reason, and all lines before were; this disk is left.
   abbrev pub StoppedWithin : ℕ → ℕ → D → WorldNo → Type 0
   StoppedWithin seed lines left why =
-      (n : ℕ) × (n < lines) × PlayedLines seed n (Stopped left why (line_at seed n))
+      (n : ℕ) × (n < lines) × PlayedLines seed n (Stopped left why (line_at seed n) (lines_before seed n))
 
   -- This holds of what is written behind the steps: their sums, and what is told that the operator has, which is so
   -- where the past may be relied on.
@@ -129,10 +126,9 @@ module _ {D : Type 0} {g : Ghosts D} (world : World D g) where
     pub transcript : List Entry
     pub steps_are : load_steps load.seed load.rounds ≡ played ++ unplayed
     pub legal : Relies (onto [] transcript) → Legal (capacity_in world) load_setup played transcript
-    pub losses : TellsLosses played (onto [] transcript)
     pub ends : Ends left load how played unplayed (onto [] transcript) Written Breaks
     pub book : HasTrusted → Book left how unplayed (onto [] transcript)
-    pub restarts : RestartsAt left (onto [] transcript)
+    pub survives : SurvivesOn left played (onto [] transcript)
     pub cut : RoseBy (crashes (onto [] transcript)) (g.cuts (disk_of world)) (g.cuts left)
-    pub uncut : crashes (onto [] transcript) ≡ 0 → (First IsCrash unplayed → ⊥)
-        → g.cuts left ≡ g.cuts (disk_of world)
+    pub just : (First IsCrash unplayed → ⊥)
+        → g.cuts left ≡ count_after (crashes (onto [] transcript)) (g.cuts (disk_of world))

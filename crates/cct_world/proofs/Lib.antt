@@ -6,5 +6,5 @@ pub mod Suiting
 pub mod Sure
 pub mod Steps
 pub mod Suited
-pub mod Told
+pub mod Surviving
 pub mod Wires

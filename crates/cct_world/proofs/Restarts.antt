@@ -35,11 +35,10 @@ use Rattle.cct_host.specs.Starting.{StartsOver}
 use Rattle.cct_host.proofs.Starting.{started_stands}
 use Rattle.cct_world.specs.declared.machine.Machine.{Machine}
 use Rattle.cct_world.specs.Machine.{Breaks, DueAsTold, GoesOver, StandsFor, disk_of, used_of}
-use Rattle.cct_world.specs.Restarts.{AreMany, AtLosses, AtLossesWith, CutAt, HasBad, IsWhole, Loses, Restarts}
-use Rattle.cct_world.specs.Restarts.{RestartsIn, kept_in}
-use Rattle.cct_world.specs.Step.{CutsIn, LastsIn, count_after, crashes, crashes_of, unplayed}
+use Rattle.cct_world.specs.Restarts.{CutAt, HasBad, IsWhole, Loses, Restarts, kept_in}
+use Rattle.cct_world.specs.Step.{count_after, unplayed}
 use Rattle.cct_world.specs.Relived.{over}
-use Rattle.cct_world.proofs.Lasting.{lasts_in, lasts_on, lasts_then, trusted_back}
+use Rattle.cct_world.proofs.Lasting.{lasts_on, lasts_then, trusted_back}
 use Rattle.cct_world.proofs.Reliving.{over_frees, over_records, over_wire}
 
 -- records behind others
@@ -211,34 +210,6 @@ module _ {D : Type 0} {g : Ghosts D} where
         bus = over_wire new.bus used (reverse rs) past (subst (λ bus. wires.StandsFor bus past) (sym same) stands.bus);
       }
 
--- a fact at each loss of power
-module _ (setup : Setup) (P Q : ℕ → (Option (List ℕ) → Type 0) → Type 0)
-    (goes : (times : ℕ) (Of : Option (List ℕ) → Type 0) → P times Of → Q times Of) where
-  at_losses_with : (kept : ℕ) (past : List Entry) → AtLossesWith setup P kept past → AtLossesWith setup Q kept past
-  at_losses_with kept [] at = at
-  at_losses_with kept (entry.Crash many ∷ past) at =
-      (goes (suc (crashes past)) (λ behind. IsWhole setup behind (AreMany many)) at.0, at.1, at_losses_with 0 past at.2)
-  at_losses_with kept (entry.Kept r ∷ past) at = (at.0, at_losses_with 1 past at.1)
-  at_losses_with kept (e ∷ past) at = (at.0, at_losses_with 0 past at.1)
-
-  pub at_losses : (past : List Entry) → AtLosses setup P past → AtLosses setup Q past
-  at_losses past at = at_losses_with 0 past at
-
-module _ (setup : Setup) (P : ℕ → (Option (List ℕ) → Type 0) → Type 0) where
-  at_quiet : (news past : List Entry) → crashes news ≡ 0 → kept_in news ≡ [] → AtLosses setup P past
-      → AtLosses setup P (news ++ past)
-  at_quiet [] past none unkept at = at
-  at_quiet (entry.Crash many ∷ news) past none unkept at = absurd (omega (arith, none))
-  at_quiet (entry.Kept r ∷ news) past none unkept at = absurd cc
-  at_quiet (e ∷ news) past none unkept at = (refl, at_quiet news past (omega (arith, none)) unkept at)
-
-  at_told : (many : ℕ) (kept : Option Record) (past : List Entry)
-      → P (suc (crashes past)) (λ behind. IsWhole setup behind (AreMany many))
-      → many ≡ length (records past) + length (put_by kept) → AtLosses setup P past
-      → AtLosses setup P (told_by many kept ++ past)
-  at_told many None past here count at = (here, omega (arith, count), at)
-  at_told many (Some r) past here count at = (refl, (here, omega (arith, count), at))
-
 -- what is so of records that follow one another is so of them
 pub whole_by : (setup : Setup) (P Q : List Record → Type 0)
     → ((rs : List Record) → all_follow setup (reverse rs) ≡ true → P rs → Q rs) → (seen : Option (List ℕ))
@@ -289,28 +260,3 @@ module _ {D : Type 0} (size : D → ℕ) (honest : D → Bool) (seen : D → Opt
     count = sym cut.lasts.same_cuts ∙ cut.count ∙ ap next_count before;
     holds = subst P cut.same_seen here;
   }
-
-  pub losses_last : (setup : Setup) (old new : D) (past : List Entry) → Outlasts size honest seen cuts old new
-      → AtLosses setup (CutAt size honest seen cuts cut_to given old) past
-      → AtLosses setup (CutAt size honest seen cuts cut_to given new) past
-  losses_last setup old new past lasts at =
-      at_losses setup (CutAt size honest seen cuts cut_to given old) (CutAt size honest seen cuts cut_to given new)
-      (behind_on old new lasts) past at
-
-  -- behind a step that was played
-  pub losses_on : (setup : Setup) (old new : D) (s : Step) (used many : ℕ) (news past : List Entry)
-      → Outlasts size honest seen cuts given old → LastsIn s size honest seen cuts old new
-      → cuts old ≡ count_after (crashes past) (cuts given) → CutsIn s size honest seen cuts cut_to old new
-      → crashes news ≡ crashes_of s → used ≡ length (records past) → RestartsIn setup s used many (seen new) news
-      → AtLosses setup (CutAt size honest seen cuts cut_to given old) past
-      → AtLosses setup (CutAt size honest seen cuts cut_to given new) (news ++ past)
-  losses_on setup old new (step.Crash at choice) used many news past lasted lasts before cut told was
-      (due, none, restarts) losses =
-      let P = CutAt size honest seen cuts cut_to given new in
-      subst (λ es. AtLosses setup P (es ++ past)) (sym restarts.news_are)
-      (at_told setup P many restarts.all.kept past
-      (behind_now old new (crashes past) (λ behind. IsWhole setup behind (AreMany many)) lasted before cut restarts.whole)
-      (omega (arith, restarts.all.count, was)) (losses_last setup old new past lasts losses))
-  losses_on setup old new s used many news past lasted lasts before cut told was restarts losses =
-      at_quiet setup (CutAt size honest seen cuts cut_to given new) news past told restarts
-      (losses_last setup old new past (lasts_in size honest seen cuts s old new lasts) losses)

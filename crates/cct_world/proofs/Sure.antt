@@ -56,10 +56,7 @@ sure_survives given trusted on news past (step.Crash at choice) told (inr none) 
     absurd (omega (arith, none, told, crashes-append news past))
 sure_survives given trusted on news past s told sure = tt
 
--- a count that stays, or went up by just so many
-pub rose_none : (many count : ℕ) → many ≡ 0 → RoseBy many count count
-rose_none many count none = subst (λ n. count_after n count ≤ count) (sym none) (le_refl count)
-
+-- a count that went up by just so many
 pub rose_just : (many before now : ℕ) → now ≡ count_after many before → RoseBy many before now
 rose_just many before now is = le_of_eq (sym is)
 

@@ -12,13 +12,13 @@ use Rattle.cct_model.specs.Legal.{due_at}
 use Rattle.cct_model.specs.Records.{records}
 use Rattle.cct_journal.specs.Image.{IsAlien, IsBadAt, StandsFor}
 use Rattle.cct_journal.specs.Stands.{Outlasts}
+use Rattle.cct_laws.specs.Restart.{due_in}
 use Rattle.cct_host.specs.Restarting.{HasAll, IsLost, told_by}
 use Rattle.cct_host.specs.Starting.{IsFirstBad}
 use Rattle.cct_world.specs.declared.refusal.WorldNo.{WorldNo}
 use Rattle.cct_world.specs.declared.refusal.WorldNo.TheVariants as world_no
 use Rattle.cct_world.specs.Relived.{over, relived}
 use Rattle.cct_world.specs.Step.{count_after, crashes}
-use Rattle.cct_world.specs.Sure.{losses_in}
 
 -- An image stands for so many records.
 abbrev pub HasRecords : List ℕ → ℕ → Type 0
@@ -67,31 +67,13 @@ kept_in [] = []
 kept_in (entry.Kept r ∷ past) = r ∷ kept_in past
 kept_in (e ∷ past) = kept_in past
 
--- Behind a step that is a loss of power a host starts again so, where this record, or none, was due, and none where the
--- step names no put. Any other step tells no record as kept.
-abbrev pub RestartsIn : Setup → Step → ℕ → ℕ → Option (List ℕ) → List Entry → Type 0
-RestartsIn setup (step.Crash at choice) put many seen news =
-    (due : Option Record) × (at ≡ None → due ≡ None) × Restarts setup due put many seen news
-RestartsIn setup s put many seen news = kept_in news ≡ []
-
--- What the entries of a step, newest first, tell of losses of power: where it is one, that alone, and right behind it the
--- record that was kept, if one was, and none where the step names no put. Any other step tells none, and no record as
--- kept.
-abbrev pub StepTells : Step → List Entry → Type 0
-StepTells (step.Crash at choice) news =
-    (many : ℕ) × (kept : Option Record) × (news ≡ told_by many kept) × (at ≡ None → kept ≡ None)
-StepTells s news = (crashes news ≡ 0) × (kept_in news ≡ [])
-
--- What a past, newest entry first, tells of losses of power over these steps, oldest first: of each what its step does.
-pub data StepsTell : List Step → List Entry → Type 0 where
-  no_step : StepsTell [] []
-  one_step_more : (before steps : List Step) (past told news : List Entry) (s : Step) → StepsTell before past
-      → StepTells s news → steps ≡ before ++ s ∷ [] → told ≡ news ++ past → StepsTell steps told
-
--- A past tells as many losses of power as these steps are, each as its step does.
-pub record TellsLosses (steps : List Step) (past : List Entry) : Type 0 where
-  pub many : crashes past ≡ losses_in steps
-  pub each : StepsTell steps past
+-- Behind a step that is a loss of power a host starts again so, where this record, or none, was due: none where the step
+-- names no put, and what any past tells for which this stood before. Any other step tells no record as kept.
+abbrev pub RestartsIn : (List Entry → Type 0) → Setup → Step → ℕ → ℕ → Option (List ℕ) → List Entry → Type 0
+RestartsIn Before setup (step.Crash at choice) put many seen news =
+    (due : Option Record) × (at ≡ None → due ≡ None)
+    × ((past : List Entry) → Before past → due ≡ due_in setup past at) × Restarts setup due put many seen news
+RestartsIn Before setup s put many seen news = kept_in news ≡ []
 
 -- Behind a step that is a loss of power, where the disk isn't trusted: what stood for a past before it now stands for the
 -- past over the records that a read gives, which are so many.
@@ -111,22 +93,6 @@ pub record CutAt {D : Type 0} (size : D → ℕ) (honest : D → Bool) (seen : D
   pub lasts : Outlasts size honest seen cuts behind now
   pub count : cuts behind ≡ count_after times (cuts given)
   pub holds : P (seen behind)
-
--- At each loss of power that a past tells, a read gave as many records as it tells there, right behind the cut of that
--- time, each of which follows those before it. That is the number of the records before it, with the one that is told as
--- kept right behind it, if one is; and no record is told so elsewhere. So many, none or one, are told as kept right
--- behind the whole past.
-abbrev pub AtLossesWith : Setup → (ℕ → (Option (List ℕ) → Type 0) → Type 0) → ℕ → List Entry → Type 0
-AtLossesWith setup Cut kept [] = kept ≡ 0
-AtLossesWith setup Cut kept (entry.Crash many ∷ past) =
-    Cut (suc (crashes past)) (λ behind. IsWhole setup behind (AreMany many)) × (many ≡ length (records past) + kept)
-    × AtLossesWith setup Cut 0 past
-AtLossesWith setup Cut kept (entry.Kept r ∷ past) = (kept ≡ 0) × AtLossesWith setup Cut 1 past
-AtLossesWith setup Cut kept (e ∷ past) = (kept ≡ 0) × AtLossesWith setup Cut 0 past
-
--- The same of a past behind which none is told as kept.
-abbrev pub AtLosses : Setup → (ℕ → (Option (List ℕ) → Type 0) → Type 0) → List Entry → Type 0
-AtLosses setup Cut past = AtLossesWith setup Cut 0 past
 
 -- This record, or none, is due at an address behind a past with these records in place of all up to its last loss of
 -- power; with those behind it they are as many as the past tells.
@@ -152,3 +118,26 @@ LosesAt sure Cut setup past seen why (step.Crash at choice) =
     (due : Option Record) × WasDue sure Cut setup past at due
     × Cut (suc (crashes past)) (λ behind. (seen ≡ behind) × Loses setup (length (records past)) due behind why)
 LosesAt sure Cut setup past seen why s = ⊥
+
+-- These are the entries, newest first, of a step that was played behind a past: where it is a loss of power, of one
+-- behind which a host started again, by what a read gave right behind the cut; and any other step tells none, and no
+-- record as kept.
+abbrev pub RestartsAt : Type 0 → (ℕ → (Option (List ℕ) → Type 0) → Type 0) → Setup → List Entry → Step → List Entry → Type 0
+RestartsAt sure Cut setup past (step.Crash at choice) news =
+    (due : Option Record) × (many : ℕ) × WasDue sure Cut setup past at due
+    × (all : HasAll due many (length (records past))) × (news ≡ told_by many all.kept)
+    × Cut (suc (crashes past)) (λ behind. IsWhole setup behind (AreMany many))
+RestartsAt sure Cut setup past s news = (crashes news ≡ 0) × (kept_in news ≡ [])
+
+-- A past, newest entry first, is that of these steps, oldest first; and this holds of each, with the past before it and
+-- its entries, newest first.
+pub data EachStep (P : List Entry → Step → List Entry → Type 0) : List Step → List Entry → Type 0 where
+  no_step : EachStep P [] []
+  one_step_more : (before steps : List Step) (past told news : List Entry) (s : Step) → EachStep P before past
+      → P past s news → steps ≡ before ++ s ∷ [] → told ≡ news ++ past → EachStep P steps told
+
+-- Behind each loss of power among these steps a host started again.
+abbrev pub Survives : (List Entry → Type 0) → (ℕ → (Option (List ℕ) → Type 0) → Type 0) → Setup → List Step → List Entry
+    → Type 0
+Survives Relies Cut setup steps past =
+    EachStep (λ before s news. RestartsAt (Relies before) Cut setup before s news) steps past

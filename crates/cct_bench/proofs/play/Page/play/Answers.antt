@@ -1,7 +1,7 @@
 use Rattle.std.proofs.Common.{Err, refl, inl, reverse, sym, ap, subst, ◌∙◌}
 use Rattle.cct_world.specs.Step.{CutsIn}
 use Rattle.cct_world.specs.Restarts.{RestartsIn}
-use Rattle.cct_world.specs.World.{disk_of, setup_of, used_of}
+use Rattle.cct_world.specs.World.{StandsFor, disk_of, setup_of, used_of}
 use Rattle.cct_text.specs.Writing.{Writes}
 use Rattle.cct_world.proofs.Holding.{restarts_in}
 use Rattle.cct_bench.proofs.Keeping.{books_over, books_play}
@@ -29,7 +29,7 @@ returns-in-Err-write_entries-clause-ended g c =
         cut = subst (CutsIn s disk.size disk.honest disk.seen disk.cuts disk.cut_to (disk_of world)) (sym is)
             played.cut;
         counts = played.counts;
-        restarts = subst (λ d. RestartsIn (setup_of world) s (used_of world) (used_of next) (disk.seen d)
+        restarts = subst (λ d. RestartsIn (StandsFor world) (setup_of world) s (used_of world) (used_of next) (disk.seen d)
             (reverse c.step.new.report.items)) (sym is)
             (restarts_in world next s (reverse c.step.new.report.items) played.restarts);
         goes_over = books_over world next last s played.lasts is;

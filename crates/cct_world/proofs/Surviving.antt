@@ -1,0 +1,87 @@
+-- What is so at each of the steps of a past, and what a past tells of the losses of power among them.
+use Rattle.std.proofs.Common.{◌≡◌, ◌++◌, ◌∙◌, ℕ, suc, List, [], ◌∷◌, Option, Some, None, length, refl, ap, sym, subst₂}
+use Rattle.cct_model.specs.terms.device.Setup.{Setup}
+use Rattle.cct_model.specs.lines.command.CrashAt.{CrashAt}
+use Rattle.cct_model.specs.lines.command.Step.{Step}
+use Rattle.cct_model.specs.lines.command.Step.TheVariants as step
+use Rattle.cct_model.specs.lines.record.Record.{Record}
+use Rattle.cct_model.specs.lines.entry.Entry.{Entry}
+use Rattle.cct_model.specs.Records.{records}
+use Rattle.cct_host.specs.Restarting.{told_by}
+use Rattle.cct_world.specs.declared.refusal.WorldNo.{WorldNo}
+use Rattle.cct_world.specs.Restarts.{AreMany, EachStep, IsDueOver, IsWhole, Loses, LosesAt, RestartsAt, Survives, WasDue}
+use Rattle.cct_world.specs.Restarts.{no_step, one_step_more}
+use Rattle.cct_world.specs.Step.{crashes, crashes_of}
+use Rattle.cct_world.specs.Sure.{losses_in}
+use Rattle.cct_world.proofs.Sure.{losses_more}
+
+-- what is so at each step
+pub each_on : (P : List Entry → Step → List Entry → Type 0) (steps : List Step) (news past : List Entry) (s : Step)
+    → EachStep P steps past → P past s news → EachStep P (steps ++ s ∷ []) (news ++ past)
+each_on P steps news past s before here =
+    one_step_more steps (steps ++ s ∷ []) past (news ++ past) news s before here refl refl
+
+pub each_by : (P Q : List Entry → Step → List Entry → Type 0)
+    → ((past : List Entry) (s : Step) (news : List Entry) → P past s news → Q past s news) → (steps : List Step)
+    (past : List Entry) → EachStep P steps past → EachStep Q steps past
+each_by P Q goes _ _ no_step = no_step
+each_by P Q goes steps told (one_step_more before _ past _ news s earlier here steps_are told_is) =
+    one_step_more before steps past told news s (each_by P Q goes before past earlier) (goes past s news here) steps_are
+    told_is
+
+-- a loss of power is told once, and by no other step
+one_loss : (many : ℕ) (kept : Option Record) → crashes (told_by many kept) ≡ 1
+one_loss many None = refl
+one_loss many (Some r) = refl
+
+step_crashes : (sure : Type 0) (Cut : ℕ → (Option (List ℕ) → Type 0) → Type 0) (setup : Setup) (past : List Entry)
+    (s : Step) (news : List Entry) → RestartsAt sure Cut setup past s news → crashes news ≡ crashes_of s
+step_crashes sure Cut setup past (step.Crash at choice) news (due, many, was, all, told, cut) =
+    ap crashes told ∙ one_loss many all.kept
+step_crashes sure Cut setup past s news told = told.0
+
+pub survives_crashes : (Relies : List Entry → Type 0) (Cut : ℕ → (Option (List ℕ) → Type 0) → Type 0) (setup : Setup)
+    (steps : List Step) (past : List Entry) → Survives Relies Cut setup steps past → crashes past ≡ losses_in steps
+survives_crashes Relies Cut setup _ _ no_step = refl
+survives_crashes Relies Cut setup steps told (one_step_more before _ past _ news s earlier here steps_are told_is) =
+    subst₂ (λ es ss. crashes es ≡ losses_in ss) (sym told_is) (sym steps_are)
+    (losses_more before news past s (survives_crashes Relies Cut setup before past earlier)
+    (step_crashes (Relies past) Cut setup past s news here))
+
+-- as much may be relied on, and as much is known of each cut
+module _ (sure sure1 : Type 0) (Cut Cut1 : ℕ → (Option (List ℕ) → Type 0) → Type 0) (more : sure1 → sure)
+    (less : sure → sure1) (goes : (times : ℕ) (P : Option (List ℕ) → Type 0) → Cut times P → Cut1 times P)
+    (setup : Setup) (past : List Entry) where
+  pub due_by : (at : Option CrashAt) (due : Option Record) → WasDue sure Cut setup past at due
+      → WasDue sure1 Cut1 setup past at due
+  due_by None due was = was
+  due_by (Some at) due was = (
+    λ is. was.0 (more is),
+    λ unsure. goes (crashes past) (λ behind. IsWhole setup behind (IsDueOver setup past at.addr due))
+        (was.1 (λ is. unsure (less is))),
+  )
+
+  pub loses_by : (seen : Option (List ℕ)) (why : WorldNo) (s : Step) → LosesAt sure Cut setup past seen why s
+      → LosesAt sure1 Cut1 setup past seen why s
+  loses_by seen why (step.Crash at choice) (due, was, cut) = (
+    due,
+    due_by at due was,
+    goes (suc (crashes past)) (λ behind. (seen ≡ behind) × Loses setup (length (records past)) due behind why) cut,
+  )
+  loses_by seen why s loses = absurd loses
+
+  pub restarts_by : (s : Step) (news : List Entry) → RestartsAt sure Cut setup past s news
+      → RestartsAt sure1 Cut1 setup past s news
+  restarts_by (step.Crash at choice) news (due, many, was, all, told, cut) =
+      (due, many, due_by at due was, all, told, goes (suc (crashes past)) (λ behind. IsWhole setup behind (AreMany many)) cut)
+  restarts_by s news told = told
+
+pub survives_by : (Relies Relies1 : List Entry → Type 0) (Cut Cut1 : ℕ → (Option (List ℕ) → Type 0) → Type 0)
+    → ((past : List Entry) → Relies1 past → Relies past) → ((past : List Entry) → Relies past → Relies1 past)
+    → ((times : ℕ) (P : Option (List ℕ) → Type 0) → Cut times P → Cut1 times P) → (setup : Setup) (steps : List Step)
+    (past : List Entry) → Survives Relies Cut setup steps past → Survives Relies1 Cut1 setup steps past
+survives_by Relies Relies1 Cut Cut1 more less goes setup steps past survives =
+    each_by (λ before s news. RestartsAt (Relies before) Cut setup before s news)
+    (λ before s news. RestartsAt (Relies1 before) Cut1 setup before s news)
+    (λ before s news. restarts_by (Relies before) (Relies1 before) Cut Cut1 (more before) (less before) goes setup before s
+    news) steps past survives
