@@ -7,7 +7,6 @@ use Rattle.cct_edge.specs.declared.fault.Failed.{Failed}
 use Rattle.cct_model.specs.terms.device.Setup.{Setup}
 use Rattle.cct_model.specs.lines.command.Step.{Step}
 use Rattle.cct_model.specs.lines.command.Step.TheVariants as step
-use Rattle.cct_model.specs.lines.record.Record.{Record}
 use Rattle.cct_model.specs.lines.entry.Entry.{Entry}
 use Rattle.cct_model.specs.Legal.{Legal}
 use Rattle.cct_model.specs.lines.entry.Entry.TheVariants as entry
@@ -23,7 +22,6 @@ use Rattle.cct_bench.specs.declared.play.TheConstants.{JOURNAL_BYTES}
 use Rattle.cct_world.specs.declared.refusal.WorldNo.{WorldNo}
 use Rattle.cct_world.specs.declared.refusal.WorldNo.TheVariants as world_no
 use Rattle.cct_world.specs.Restarts.{LosesAt, no_step}
-use Rattle.cct_world.specs.Step.{RoseBy}
 use Rattle.cct_world.specs.Sure.{First, IsCrash, Sure, losses_in}
 use Rattle.cct_bench.specs.Disks.{Disks, most_records}
 use Rattle.cct_text.specs.Writing.{Writes, Wrote, Broke}
@@ -66,7 +64,7 @@ ran_by bytes how s tail left disks Before Written Broken Breaks keeps p ends boo
   ends = ends;
   book = book;
   keeps = keeps;
-  survives = p.beside.survives;
+  survived = p.beside.survived;
   cut = p.beside.cut;
   just = p.beside.just;
 }
@@ -283,7 +281,7 @@ at_once bytes Written Breaks disks uncut wrote =
       ends = (refl, refl, wrote);
       book = λ trusted some. absurd (some refl);
       keeps = λ trusted tells. tells;
-      survives = no_step;
+      survived = no_step;
       cut = rose_just 0 disks.cuts disks.cuts_after uncut;
       just = λ next. uncut;
     }

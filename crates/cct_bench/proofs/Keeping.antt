@@ -27,7 +27,7 @@ use Rattle.cct_world.specs.declared.refusal.WorldNo.TheVariants as world_no
 use Rattle.cct_world.specs.declared.world.World.{World}
 use Rattle.cct_world.specs.Holds.{Holds, WorldHolds}
 use Rattle.cct_world.specs.Machine.{LosesIn, StepSuits}
-use Rattle.cct_world.specs.Restarts.{CutAt, GoesOver, Survives, no_step}
+use Rattle.cct_world.specs.Restarts.{CutAt, GoesOver, Survived, no_step}
 use Rattle.cct_world.specs.Step.{CutsIn, LastsIn, count_after, crashes}
 use Rattle.cct_world.specs.World as worlds
 use Rattle.cct_world.specs.World.{Breaks, StandsFor, disk_of, setup_of, used_of}
@@ -36,7 +36,7 @@ use Rattle.cct_world.proofs.Holding.{Moves, holds_on, loses_at}
 use Rattle.cct_world.proofs.Lasting.{lasts_in, lasts_on, lasts_then, trusted_back, trusted_on, uncut_in}
 use Rattle.cct_world.proofs.Restarts.{behind_on}
 use Rattle.cct_world.proofs.Sure.{crashes_none, rose_just, sure_back, sure_survives}
-use Rattle.cct_world.proofs.Surviving.{survives_by}
+use Rattle.cct_world.proofs.Surviving.{survived_by}
 use Rattle.cct_bench.specs.declared.play.Ending.{Ending}
 use Rattle.cct_bench.specs.declared.play.Ending.TheVariants as ending
 use Rattle.cct_bench.specs.Disks.{Books, IsReady, disks, most_records}
@@ -45,7 +45,7 @@ use Rattle.cct_bench.specs.Going.{Going, IsUnbegun}
 use Rattle.cct_bench.specs.Lines.{Came, ScriptGoesOn}
 use Rattle.cct_bench.specs.Playing.{Plays, PlaysOn}
 use Rattle.cct_bench.specs.Run.{IsUnopened, Over, OverCut, OverLost, Played, uncreated, unplayed_by}
-use Rattle.cct_text.specs.Writing.{Broke, IsNothing, Writes, Wrote}
+use Rattle.cct_text.specs.Writing.{Broke, Writes, Wrote}
 use Rattle.cct_bench.proofs.Going.{Carries, EndsBeside, IsSetupIn, played_broke, played_torn}
 use Rattle.cct_bench.proofs.Staying.{IsDone}
 
@@ -62,31 +62,36 @@ stands_leaves honest seen may_leave disk place rs stands = record {
 -- the script or its source brought the end, and the disk has the records of the past
 module _ {D : Type 0} (size : D → ℕ) (honest : D → Bool) (seen : D → Option (List ℕ))
     (may_leave : D → List ℕ → Type 0) (cuts : D → ℕ) (cut_to : D → D → Type 0) where
-  pub ends_over : (given last : D) (stage : Stage) (Before : List Step → List Entry → Type 0) → IsReady (size given) (seen given)
+  pub ends_over : (given last : D) (stage : Stage) (Before : List Step → List Entry → Type 0)
+      → IsReady (size given) (seen given)
       → ((played : List Step) (past : List Entry) → Before played past → IsTrusted honest seen given
       → Leaves honest seen may_leave last (reverse (records past)))
       → ((setup : Setup) (played : List Step) (past : List Entry) → IsSetupIn stage setup → Before played past
-      → Survives (Sure (IsTrusted honest seen given)) (CutAt size honest seen cuts cut_to given last) setup played past)
-      → ((played : List Step) (past : List Entry) → Before played past → cuts last ≡ count_after (crashes past) (cuts given))
+      → Survived (Sure (IsTrusted honest seen given)) (CutAt size honest seen cuts cut_to given last) setup played past)
+      → ((played : List Step) (past : List Entry) → Before played past
+      → cuts last ≡ count_after (crashes past) (cuts given))
       → EndsBeside stage Before (OverCut (disks size honest seen may_leave cuts cut_to given last))
-  ends_over given last stage Before ready books survives cut ending.Done setup taken played unplayed past is there before =
+  ends_over given last stage Before ready books survives cut ending.Done setup taken played unplayed past is there
+      before =
       record {
         over = (ready, books played past before);
-        survives = survives setup played past there before;
+        survived = survives setup played past there before;
         cut = rose_just (crashes past) (cuts given) (cuts last) (cut played past before);
         just = λ next. cut played past before;
       }
-  ends_over given last stage Before ready books survives cut (ending.Refused number why) setup taken played unplayed past is there before =
+  ends_over given last stage Before ready books survives cut (ending.Refused number why) setup taken played unplayed past
+      is there before =
       record {
         over = (ready, books played past before);
-        survives = survives setup played past there before;
+        survived = survives setup played past there before;
         cut = rose_just (crashes past) (cuts given) (cuts last) (cut played past before);
         just = λ next. cut played past before;
       }
-  ends_over given last stage Before ready books survives cut ending.Unread setup taken played unplayed past is there before =
+  ends_over given last stage Before ready books survives cut ending.Unread setup taken played unplayed past is there
+      before =
       record {
         over = (ready, books played past before);
-        survives = survives setup played past there before;
+        survived = survives setup played past there before;
         cut = rose_just (crashes past) (cuts given) (cuts last) (cut played past before);
         just = λ next. cut played past before;
       }
@@ -114,8 +119,8 @@ module _ {D : Type 0} {g : Ghosts D} where
       (λ setup played past there holds.
       let relies = Sure (IsTrusted g.honest g.seen given) in
       let Cut = CutAt g.size g.honest g.seen g.cuts g.cut_to given in
-      subst (λ by. Survives relies (Cut last) by played past) (sym (same setup there))
-      (subst (λ disk. Survives relies (Cut disk) (setup_of world) played past) (sym is) holds.survives))
+      subst (λ by. Survived relies (Cut last) by played past) (sym (same setup there))
+      (subst (λ disk. Survived relies (Cut disk) (setup_of world) played past) (sym is) holds.survived))
       (λ played past holds. ap g.cuts is ∙ holds.cut)
 
   -- what holds of a machine does so behind a step that was played
@@ -133,7 +138,8 @@ module _ {D : Type 0} {g : Ghosts D} where
       let trusted = IsTrusted g.honest g.seen given in
       let now = IsTrusted g.honest g.seen (disk_of world) in
       let news = reverse p.report in
-      let moves : Moves (capacity_of (g.size given)) (setup_of world) (StandsFor world) After now (g.seen last) many s news =
+      let moves
+      : Moves (capacity_of (g.size given)) (setup_of world) (StandsFor world) After now (g.seen last) many s news =
       record {
         sound = world.machine.value.host.desks.sound;
         in_range = in_range;
@@ -262,12 +268,12 @@ module _ {D : Type 0} {g : Ghosts D} where
       played (s ∷ unplayed) past
   unplayed_cut given left world why s ready on lasts lost breaks taken played unplayed past holds suits = record {
     over = unplayed_over given left world why s ready on lasts lost breaks taken played unplayed past holds suits;
-    survives = survives_by (Sure (IsTrusted g.honest g.seen given)) (Sure (IsTrusted g.honest g.seen given))
+    survived = survived_by (Sure (IsTrusted g.honest g.seen given)) (Sure (IsTrusted g.honest g.seen given))
         (CutAt g.size g.honest g.seen g.cuts g.cut_to given (disk_of world))
         (CutAt g.size g.honest g.seen g.cuts g.cut_to given left) (λ es sure. sure) (λ es sure. sure)
         (behind_on g.size g.honest g.seen g.cuts g.cut_to given (disk_of world) left
         (lasts_in g.size g.honest g.seen g.cuts s (disk_of world) left lasts)) (setup_of world) played past
-        holds.survives;
+        holds.survived;
     cut = le_trans (rose_just (crashes past) (g.cuts given) (g.cuts (disk_of world)) holds.cut)
         (lasts_in g.size g.honest g.seen g.cuts s (disk_of world) left lasts).later_cuts;
     just = λ next. uncut_in g.size g.honest g.seen g.cuts s (disk_of world) left lasts (crashes_none s next) ∙ holds.cut;
@@ -295,7 +301,7 @@ module _ {D : Type 0} (size : D → ℕ) (honest : D → Bool) (seen : D → Opt
       (λ played past none trusted. fresh_leaves last disk place past is none.1
       (stands (trusted_on size honest seen cuts given disk (lasts_on size honest seen cuts given disk on) trusted)))
       (λ setup played past there none.
-      subst₂ (Survives (Sure (IsTrusted honest seen given)) (CutAt size honest seen cuts cut_to given last) setup)
+      subst₂ (Survived (Sure (IsTrusted honest seen given)) (CutAt size honest seen cuts cut_to given last) setup)
       (sym none.0) (sym none.1) no_step)
       (λ played past none. same ∙ ap (λ es. count_after (crashes es) (cuts given)) (sym none.1))
 
@@ -305,7 +311,7 @@ module _ {D : Type 0} (size : D → ℕ) (honest : D → Bool) (seen : D → Opt
       → OverCut (disks size honest seen may_leave cuts cut_to given last) how setup taken [] unplayed []
   uncut_over given last how setup taken unplayed same over = record {
     over = over;
-    survives = no_step;
+    survived = no_step;
     cut = rose_just 0 (cuts given) (cuts last) same;
     just = λ next. same;
   }
@@ -351,7 +357,7 @@ module _ {D : Type 0} (size : D → ℕ) (honest : D → Bool) (seen : D → Opt
       → OverCut (disks size honest seen may_leave cuts cut_to given last) ending.Unwritten setup taken played unplayed past
   broke_over given last setup many ready on taken played unplayed past holds = record {
     over = (ready, λ trusted. holds.stands (inl trusted) (trusted_on size honest seen cuts given last on trusted));
-    survives = holds.survives;
+    survived = holds.survived;
     cut = rose_just (crashes past) (cuts given) (cuts last) holds.cut;
     just = λ next. holds.cut;
   }

@@ -1,18 +1,14 @@
 -- What a load leaves, by how its steps came to their end, and its last line.
-use Rattle.std.proofs.Common.{◌≡◌, ◌≢◌, ◌⊎◌, ℕ, suc, length, true, List, [], ◌∷◌, ◌++◌, Option, None, Some, Result, Ok, Err, All}
+use Rattle.std.proofs.Common.{◌≡◌, ◌≢◌, ◌⊎◌, ℕ, true, List, [], ◌∷◌, ◌++◌, Option, None, Some, Result, Ok, Err, All}
 use Rattle.std.proofs.Common.{refl, sym, ap, subst, ◌∙◌, inl, inr}
 use Rattle.std.specs.Prelude.{IfSome, is_some}
 use Rattle.std.proofs.lemmas.List.{append-nil}
 use Rattle.std.proofs.lemmas.List.Elements.{All-cons, All-head, All-nil, All-tail}
 use Rattle.cct_edge.specs.declared.fault.Failed.{Failed}
-use Rattle.cct_model.specs.terms.device.Setup.{Setup}
-use Rattle.cct_model.specs.lines.command.CrashAt.{CrashAt}
 use Rattle.cct_model.specs.lines.command.Step.{Step}
 use Rattle.cct_model.specs.lines.command.Step.TheVariants as step
-use Rattle.cct_model.specs.lines.record.Record.{Record}
 use Rattle.cct_model.specs.lines.entry.Entry.{Entry}
 use Rattle.cct_model.specs.Legal.{Legal}
-use Rattle.cct_model.specs.Records.{records}
 use Rattle.cct_model.specs.Script.{IsInRange}
 use Rattle.cct_model.specs.Transcript.{onto}
 use Rattle.cct_laws.proofs.Coinless.{each_covers, each_in_order}
@@ -31,7 +27,7 @@ use Rattle.cct_world.specs.Sure.{First, MayFail, Sure, losses_in}
 use Rattle.cct_world.specs.World.{disk_of}
 use Rattle.cct_world.proofs.Lasting.{lasts_on, lasts_then, trusted_back, trusted_on}
 use Rattle.cct_world.proofs.Sure.{rose_just}
-use Rattle.cct_world.proofs.Surviving.{loses_by, survives_by}
+use Rattle.cct_world.proofs.Surviving.{loses_by, survived_by}
 use Rattle.cct_gen.specs.Load.{load_setup, load_steps}
 use Rattle.cct_gen.proofs.LoadSetup.{setup_sound}
 use Rattle.cct_gen.proofs.Lines.{lines_in_range}
@@ -91,7 +87,7 @@ loaded_by seed rounds how s tail disks Before Written Broken Breaks is p ends =
       book = λ trusted some. subst (Book disks load_setup p.unplayed (onto [] p.transcript)) (sym is)
           (p.book trusted some);
       keeps = λ trusted tells. p.keeps trusted (subst TellsLoss is tells);
-      survives = p.survives;
+      survived = p.survived;
       cut = p.cut;
       just = p.just;
     }
@@ -167,7 +163,7 @@ module _ (seed rounds : ℕ) (Written : List Entry → Type 0) (Breaks : List En
     stops = stops;
     book = λ trusted some. absurd (some refl);
     keeps = keeps;
-    survives = no_step;
+    survived = no_step;
     cut = rose_just 0 disks.cuts disks.cuts_after same;
     just = λ next. same;
   }
@@ -350,8 +346,8 @@ module _ {D : Type 0} {g : Ghosts D} (given left : D) (world : World D g)
         stops = told.1;
         book = λ trusted some. book_by how p.unplayed past (p.book (now_trusted trusted));
         keeps = λ trusted tells. keeps_by how p.unplayed past (p.book (now_trusted trusted)) tells;
-        survives = survives_by (Relies world) (Sure (IsTrusted g.honest g.seen given)) (Cut (disk_of world)) (Cut given)
-            relies relied cut_given load_setup p.played past p.survives;
+        survived = survived_by (Relies world) (Sure (IsTrusted g.honest g.seen given)) (Cut (disk_of world)) (Cut given)
+            relies relied cut_given load_setup p.played past p.survived;
         cut = subst (λ n. RoseBy (crashes past) n (g.cuts left)) on.same_cuts p.cut;
         just = λ next. p.just next ∙ ap (count_after (crashes past)) on.same_cuts;
       }

@@ -14,7 +14,7 @@ use Rattle.cct_model.specs.Paid.{Paid}
 use Rattle.cct_model.specs.Transcript.{onto}
 use Rattle.cct_laws.specs.Law.{IsOf, lines_in}
 use Rattle.cct_journal.specs.Image.{IsFirstByteFrom}
-use Rattle.cct_world.specs.Restarts.{Survives}
+use Rattle.cct_world.specs.Restarts.{Survived}
 use Rattle.cct_world.specs.Step.{RoseBy, count_after, crashes}
 use Rattle.cct_world.specs.Sure.{First, IsCrash, MayFail, Sure}
 use Rattle.cct_gen.specs.Load.{load_setup, load_steps}
@@ -90,12 +90,7 @@ module _ (disks : Disks) (seed rounds : ℕ) (played unplayed : List Step) (past
 -- A load of so many rounds that a seed gives: the steps that it played and those that it didn't, and the transcript of
 -- those played; its own lines, none where it ended before the first, and its last line; what it wrote, where `Written`
 -- holds of entries that were written whole, and `Breaks` where a put failed in the second list; and what it left on its
--- disk, once its first line was to be written. The transcript tells as many losses of power as the steps are, and at
--- least so often the power of the disk was cut; and never where no step is one. Where the disk was trusted, or no loss
--- of power is told, the entries are those of the steps; and where the wire was honest besides, the posts of each device
--- are its accepted coins in order, none twice; at each device that kept the pace, none is lost in silence; and at each
--- hopper, each order is paid at most once, and closed with exactly the coins that fell. On a trusted disk no loss of
--- power leaves another journal than was there; and on any that tells its bytes, none is played that does.
+-- disk, once its first line was to be written. The rest is as of a run.
 pub record Loaded (seed rounds : ℕ) (s : Status) (Written : List Entry → Type 0)
     (Breaks : List Entry → List Entry → Type 0) (disks : Disks) : Type 0 where
   pub played : List Step
@@ -114,7 +109,7 @@ pub record Loaded (seed rounds : ℕ) (s : Status) (Written : List Entry → Typ
   pub ends : LoadEnds disks seed rounds played unplayed (onto [] transcript) s told tail Written Breaks
   pub book : disks.trusted → told ≢ [] → Book disks load_setup unplayed (onto [] transcript) tail
   pub keeps : disks.trusted → TellsLoss tail → ⊥
-  pub survives : Survives (Sure disks.trusted) disks.cut_at load_setup played (onto [] transcript)
+  pub survived : Survived (Sure disks.trusted) disks.cut_at load_setup played (onto [] transcript)
   pub cut : RoseBy (crashes (onto [] transcript)) disks.cuts disks.cuts_after
   pub just : (First IsCrash unplayed → ⊥) → disks.cuts_after ≡ count_after (crashes (onto [] transcript)) disks.cuts
 
@@ -131,7 +126,7 @@ pub record LoadPlayed (seed rounds : ℕ) (how : Ending) (Written : List Entry �
   pub book : disks.trusted → told ≢ []
       → Book disks load_setup unplayed (onto [] transcript) (listed (last_entry how))
   pub keeps : disks.trusted → TellsLoss (listed (last_entry how)) → ⊥
-  pub survives : Survives (Sure disks.trusted) disks.cut_at load_setup played (onto [] transcript)
+  pub survived : Survived (Sure disks.trusted) disks.cut_at load_setup played (onto [] transcript)
   pub cut : RoseBy (crashes (onto [] transcript)) disks.cuts disks.cuts_after
   pub just : (First IsCrash unplayed → ⊥) → disks.cuts_after ≡ count_after (crashes (onto [] transcript)) disks.cuts
 

@@ -36,9 +36,10 @@ Plays trusted Before After setup s report =
     (past : List Entry) → Before past → StepSuits setup past s → Survives trusted s
     → Entries most_records setup past s (reverse report) × After (reverse report ++ past)
 
--- A step was played, and just a loss of power tells one; this holds of the cuts of the disk. So many records were counted before it, and so many after it, just those more that it tells;
--- behind a loss of power a read gives these bytes, and where the disk isn't trusted, what stood before stands for the past
--- over the records that they are. Its entries were written so, which holds by the answer.
+-- A step was played, and just a loss of power tells one; this holds of the cuts of the disk. So many records were
+-- counted before it, and so many after it, just those more that it tells; behind a loss of power a read gives these bytes,
+-- and where the disk isn't trusted, what stood before stands for the past over the records that they are. Its entries
+-- were written so, which holds by the answer.
 pub record PlaysOn (trusted : Type 0) (Before After : List Entry → Type 0) (setup : Setup) (s : Step) (Cut : Type 0)
     (used many : ℕ) (seen : Option (List ℕ)) (WritesThem : List Entry → Type 0) : Type 0 where
   pub report : List Entry

@@ -29,7 +29,7 @@ use Rattle.cct_bench.specs.declared.lines.ScriptStop.TheVariants as stop
 use Rattle.cct_bench.specs.declared.play.Ending.{Ending}
 use Rattle.cct_bench.specs.declared.play.Ending.TheVariants as ending
 use Rattle.cct_bench.specs.declared.play.TheConstants.{JOURNAL_BYTES}
-use Rattle.cct_world.specs.Restarts.{LosesAt, Survives}
+use Rattle.cct_world.specs.Restarts.{LosesAt, Survived}
 use Rattle.cct_world.specs.Step.{RoseBy, count_after, crashes}
 use Rattle.cct_world.specs.Sure.{First, IsCrash, MayFail, Sure, due_to}
 use Rattle.cct_world.specs.declared.refusal.WorldNo.{WorldNo}
@@ -126,14 +126,14 @@ module _ (disks : Disks) (bytes taken : List ℕ) (played unplayed : List Step) 
 
 -- A run over a script of these bytes: what it took of them, the steps that it played, and their transcript; its last
 -- line; what it wrote, where `Written` holds of entries that were written whole, and `Breaks` where a put failed in the
--- second list; and what it left on its disk, once a byte of the script was taken. The transcript tells as many losses
--- of power as the steps are, and at least so often the power of the disk was cut; and never where no step is one.
+-- second list; and what it left on its disk, once a byte of the script was taken.
 -- Where the disk was trusted, or no loss of power is told, the entries are those of the steps; and where the wire was
 -- honest besides, the posts of each device are its accepted coins in order, none twice; at each device that kept the
--- pace, none is lost in silence; and at each hopper, each order is paid at most once, and closed with exactly the
--- coins that fell. On a trusted disk no loss of power leaves another journal than was there; and on any that tells its
--- bytes, none is played that does: behind each that is told, the disk had a journal of as many records as are told, each
--- of which follows those before it.
+-- pace, none is lost in silence; and at each hopper, each order is paid at most once, and closed with exactly the coins
+-- that fell.
+-- Over any disk each step that is a loss of power is told, and no other is, and behind each of them a host started again
+-- rightly, by what the disk told right behind that cut; on a trusted disk no loss of power leaves another journal than
+-- was there. The power was cut at least as often as is told, and just so often where the step that comes next is none.
 pub record Ran (bytes : List ℕ) (s : Status) (left : Option (List ℕ)) (Written : List Entry → Type 0)
     (Breaks : List Entry → List Entry → Type 0) (disks : Disks) : Type 0 where
   pub taken : List ℕ
@@ -155,7 +155,7 @@ pub record Ran (bytes : List ℕ) (s : Status) (left : Option (List ℕ)) (Writt
   pub ends : Ends disks bytes taken played unplayed transcript s tail Written Breaks
   pub book : disks.trusted → taken ≢ [] → Book disks (script bytes).setup unplayed (onto [] transcript) tail
   pub keeps : disks.trusted → TellsLoss tail → ⊥
-  pub survives : Survives (Sure disks.trusted) disks.cut_at (script bytes).setup played (onto [] transcript)
+  pub survived : Survived (Sure disks.trusted) disks.cut_at (script bytes).setup played (onto [] transcript)
   pub cut : RoseBy (crashes (onto [] transcript)) disks.cuts disks.cuts_after
   pub just : (First IsCrash unplayed → ⊥) → disks.cuts_after ≡ count_after (crashes (onto [] transcript)) disks.cuts
 
@@ -234,12 +234,12 @@ Over disks (ending.RecordsLost found put) setup taken played unplayed past =
 Over disks how setup taken played unplayed past =
     IsReady disks.size disks.seen × (disks.trusted → disks.leaves None (reverse (records past)))
 
--- Beside that, the disk had a journal behind each loss of power that the past tells; and its power was cut at least as
--- often as the past tells, and never where that tells no loss of power, and none is the step that comes next.
+-- Beside that, behind each loss of power a host started again; and the power of the disk was cut at least as often as the
+-- past tells, and just so often where no loss of power is the step that comes next.
 pub record OverCut (disks : Disks) (how : Ending) (setup : Setup) (taken : List ℕ) (played unplayed : List Step)
     (past : List Entry) : Type 0 where
   pub over : Over disks how setup taken played unplayed past
-  pub survives : Survives (Sure disks.trusted) disks.cut_at setup played past
+  pub survived : Survived (Sure disks.trusted) disks.cut_at setup played past
   pub cut : RoseBy (crashes past) disks.cuts disks.cuts_after
   pub just : (First IsCrash unplayed → ⊥) → disks.cuts_after ≡ count_after (crashes past) disks.cuts
 

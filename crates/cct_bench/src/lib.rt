@@ -61,7 +61,8 @@ pub fn bench<S: Source, K: Sink, D: Disk>(
 ) -> (Status, D)
     // With the word `run`: what was taken, played and written; that over an honest wire the posts of each device are in
     // order and cover its coins, and each order of a hopper is paid at most once, where the disk was trusted or no
-    // loss of power is told; and what is left on the disk.
+    // loss of power is told; over any disk, that behind each loss of power a host started again rightly, or why none
+    // did; and what is left on the disk.
     ensures ran { said_in words.now ≡ Some Words.Run → IfSome (S.left script.old) (λ bytes.
         Ran bytes result.0 (S.left script.new)
         (Wrote K.written K.puts out.old out.new) (Broke K.written K.puts out.old out.new)

@@ -1,6 +1,6 @@
 -- The sums of the books: each record follows those before it, what is posted covers what is spoken for, and the records
 -- and those that are held are no more than a limit. And how these change where one job changes.
-use Rattle.std.proofs.Common.{◌≡◌, ◌≢◌, ℕ, ◌+◌, ◌≤◌, true, List, [], length, refl, ap, sym, ◌∙◌, arith, le_of_eq}
+use Rattle.std.proofs.Common.{◌≡◌, ◌≢◌, ℕ, ◌+◌, ◌≤◌, true, List, length, ap, sym, ◌∙◌, arith, le_of_eq}
 use Rattle.cct_model.specs.terms.device.DeviceSetup.{DeviceSetup}
 use Rattle.cct_model.specs.terms.device.Setup.{Setup}
 use Rattle.cct_model.specs.lines.entry.Entry.{Entry}

@@ -14,7 +14,7 @@ use Rattle.cct_journal.specs.Stands.{Leaves, Outlasts}
 use Rattle.cct_journal.proofs.Calls.{settled_leaves, stands_settled}
 use Rattle.cct_world.specs.declared.refusal.WorldNo.{WorldNo}
 use Rattle.cct_world.specs.declared.world.World.{World}
-use Rattle.cct_world.specs.Restarts.{Survives, no_step}
+use Rattle.cct_world.specs.Restarts.{Survived, no_step}
 use Rattle.cct_world.specs.Step.{crashes}
 use Rattle.cct_world.specs.World.{StandsFor, disk_of, setup_of}
 use Rattle.cct_world.proofs.Lasting.{trusted_on}
@@ -25,7 +25,7 @@ use Rattle.cct_load.specs.declared.load.LoadEnd.{LoadEnd}
 use Rattle.cct_load.specs.declared.load.LoadEnd.TheVariants as load_end
 use Rattle.cct_load.specs.declared.sums.LoadSums.{LoadSums}
 use Rattle.cct_load.specs.Sums.{sums_of}
-use Rattle.cct_load.specs.Played.{Became, Book, CutFor, Ends, HasTrusted, PlayedLines, PlaysLoad, Relies, StoppedWithin, SurvivesOn, Told}
+use Rattle.cct_load.specs.Played.{Became, Book, CutFor, Ends, HasTrusted, PlayedLines, PlaysLoad, Relies, StoppedWithin, SurvivedOn, Told}
 use Rattle.cct_load.specs.Played.{first_line}
 use Rattle.cct_load.proofs.Lines.{lines_behind}
 
@@ -51,7 +51,7 @@ module _ {D : Type 0} {g : Ghosts D} (world : World D g) (load : Load) (left : D
     legal = λ relies. refl;
     ends = inl (refl, breaks);
     book = λ trusted. world_leaves world left [] is fresh trusted;
-    survives = no_step;
+    survived = no_step;
     cut = rose_just 0 (g.cuts (disk_of world)) (g.cuts left) (ap g.cuts is);
     just = λ quiet. ap g.cuts is;
   }
@@ -71,7 +71,7 @@ module _ {D : Type 0} {g : Ghosts D} (world : World D g) (load : Load) (left : D
         legal = lines.legal;
         ends = (lines.holds.fails, wrote);
         book = lines.holds.book;
-        survives = lines.holds.survives;
+        survived = lines.holds.survived;
         cut = lines.holds.cut;
         just = lines.holds.just;
       }
@@ -98,9 +98,9 @@ module _ {D : Type 0} {g : Ghosts D} (world : World D g) (load : Load) (left : D
       legal = lines.legal;
       ends = ends;
       book = book;
-      survives = subst (λ disk. SurvivesOn world disk steps past) (sym is)
-          (subst (λ setup. Survives (Relies world) (CutFor world (disk_of next)) setup steps past) same
-          lines.holds.so.survives);
+      survived = subst (λ disk. SurvivedOn world disk steps past) (sym is)
+          (subst (λ setup. Survived (Relies world) (CutFor world (disk_of next)) setup steps past) same
+          lines.holds.so.survived);
       cut = rose_just (crashes past) (g.cuts (disk_of world)) (g.cuts left) (ap g.cuts is ∙ lines.holds.so.cut);
       just = λ quiet. ap g.cuts is ∙ lines.holds.so.cut;
     }

@@ -1,5 +1,5 @@
 -- What the playing of a load keeps from line to line, and what it leaves where it stops.
-use Rattle.std.proofs.Common.{◌≡◌, ◌≢◌, ◌≤◌, ◌<◌, ◌+◌, ℕ, List, [], ◌∷◌, ◌++◌, length, reverse, Some, refl, sym, ap, ◌∙◌, subst}
+use Rattle.std.proofs.Common.{◌≡◌, ◌≢◌, ◌≤◌, ◌<◌, ◌+◌, ℕ, List, [], ◌∷◌, ◌++◌, length, reverse, Some, refl, sym, ◌∙◌, subst}
 use Rattle.std.proofs.Common.{inl, arith, add-one}
 use Rattle.cct_model.specs.lines.command.Step.{Step}
 use Rattle.cct_model.specs.lines.command.Step.TheVariants as step
@@ -20,7 +20,7 @@ use Rattle.cct_world.specs.declared.refusal.WorldNo.TheVariants as world_no
 use Rattle.cct_world.specs.declared.world.World.{World}
 use Rattle.cct_world.specs.Holds.{WorldHolds}
 use Rattle.cct_world.specs.Machine.{FailsIn, LosesIn, StepSuits}
-use Rattle.cct_world.specs.Restarts.{LosesAt, Survives}
+use Rattle.cct_world.specs.Restarts.{LosesAt, Survived}
 use Rattle.cct_world.specs.Step.{CutsIn, LastsIn, RoseBy, count_after, crashes, crashes_of}
 use Rattle.cct_world.specs.Sure.{MayFail, due_to}
 use Rattle.cct_world.specs.World.{Breaks, GoesOver, Plays, RestartsBy, StandsFor, capacity_in, disk_of, setup_of, used_of}
@@ -29,7 +29,7 @@ use Rattle.cct_world.proofs.Lasting.{lasts_here, lasts_in, lasts_then, trusted_o
 use Rattle.cct_world.proofs.Restarts.{behind_on}
 use Rattle.cct_world.proofs.Suiting.{legal_suits}
 use Rattle.cct_world.proofs.Sure.{crashes_none, sure_back, sure_survives}
-use Rattle.cct_world.proofs.Surviving.{survives_by}
+use Rattle.cct_world.proofs.Surviving.{survived_by}
 use Rattle.cct_gen.specs.Load.{line_at, lines_before, load_setup}
 use Rattle.cct_gen.proofs.LoadSetup.{setup_sound}
 use Rattle.cct_gen.proofs.Lines.{line_in_range, lines_in_range, one_line_more}
@@ -214,12 +214,12 @@ module _ {D : Type 0} {g : Ghosts D} (world : World D g) where
             book = λ given. left_at now left (lines_before seed n) past goes.setup before why s given
                 (trusted_on g.size g.honest g.seen g.cuts (disk_of world) (disk_of now) goes.lasts given)
                 (suits now sums seed n goes (inl given) s) breaks;
-            survives = subst (λ setup. Survives (Relies world) (CutFor world left) setup (lines_before seed n) past)
+            survived = subst (λ setup. Survived (Relies world) (CutFor world left) setup (lines_before seed n) past)
                 goes.setup
-                (survives_by (Relies world) (Relies world) (CutFor world (disk_of now)) (CutFor world left)
+                (survived_by (Relies world) (Relies world) (CutFor world (disk_of now)) (CutFor world left)
                 (λ es relies. relies) (λ es relies. relies)
                 (behind_on g.size g.honest g.seen g.cuts g.cut_to (disk_of world) (disk_of now) left outlasts)
-                (setup_of now) (lines_before seed n) past before.survives);
+                (setup_of now) (lines_before seed n) past before.survived);
             cut = rose_later (crashes past) (g.cuts (disk_of world)) (g.cuts (disk_of now)) (g.cuts left) before.cut
                 outlasts.later_cuts;
             just = λ quiet. uncut_in g.size g.honest g.seen g.cuts s (disk_of now) left lasts (crashes_none s quiet)

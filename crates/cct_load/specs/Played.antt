@@ -15,7 +15,7 @@ use Rattle.cct_world.specs.declared.refusal.WorldNo.{WorldNo}
 use Rattle.cct_world.specs.declared.refusal.WorldNo.TheVariants as world_no
 use Rattle.cct_world.specs.declared.world.World.{World}
 use Rattle.cct_world.specs.Holds.{WorldHolds}
-use Rattle.cct_world.specs.Restarts.{CutAt, LosesAt, Survives}
+use Rattle.cct_world.specs.Restarts.{CutAt, LosesAt, Survived}
 use Rattle.cct_world.specs.Step.{RoseBy, count_after, crashes}
 use Rattle.cct_world.specs.Sure.{First, IsCrash, MayFail, Sure, due_to}
 use Rattle.cct_world.specs.World.{capacity_in, disk_of}
@@ -57,8 +57,8 @@ module _ {D : Type 0} {g : Ghosts D} (world : World D g) where
   CutFor left = CutAt g.size g.honest g.seen g.cuts g.cut_to (disk_of world) left
 
   -- Behind each loss of power among these steps a host started again, until the disk became this one.
-  abbrev pub SurvivesOn : D → List Step → List Entry → Type 0
-  SurvivesOn left = Survives Relies (CutFor left) load_setup
+  abbrev pub SurvivedOn : D → List Step → List Entry → Type 0
+  SurvivedOn left = Survived Relies (CutFor left) load_setup
 
   -- Why the step behind a past wasn't played, where this disk is left: it failed in a `next` that was about to put a
   -- record, or in a loss of power; or it isn't the one that it was, which comes in a loss of power alone, and is told.
@@ -79,7 +79,7 @@ module _ {D : Type 0} {g : Ghosts D} (world : World D g) where
   pub record Stopped (left : D) (why : WorldNo) (s : Step) (played : List Step) (past : List Entry) : Type 0 where
     pub fails : FailsAt left why past s
     pub book : HasTrusted → LeftAt left why past s
-    pub survives : SurvivesOn left played past
+    pub survived : SurvivedOn left played past
     pub cut : RoseBy (crashes past) (g.cuts (disk_of world)) (g.cuts left)
     pub just : (IsCrash s → ⊥) → g.cuts left ≡ count_after (crashes past) (g.cuts (disk_of world))
 
@@ -116,9 +116,9 @@ module _ {D : Type 0} {g : Ghosts D} (world : World D g) where
   -- A load was played on the world, ended so, and left this disk: the steps that were played and those that weren't;
   -- the transcript, whose entries are those of the steps, where its past may be relied on; what was written, where
   -- `Written` holds of entries that were written whole, and `Breaks` where a put failed in the second list; and what
-  -- the disk keeps where it was trusted. Behind each loss of power that the transcript tells, the disk had a journal of
-  -- as many records as are told; its power was cut as often as the transcript tells, and never where that tells no loss
-  -- of power and the first step that wasn't played is none.
+  -- the disk keeps where it was trusted. Behind each loss of power among the steps a host started again; and the power of
+  -- the disk was cut at least as often as the transcript tells, and just so often where the step that comes next is no
+  -- loss of power.
   pub record PlaysLoad (load : Load) (how : LoadEnd) (left : D) (Written : List Entry → Type 0)
       (Breaks : List Entry → List Entry → Type 0) : Type 0 where
     pub played : List Step
@@ -128,7 +128,7 @@ module _ {D : Type 0} {g : Ghosts D} (world : World D g) where
     pub legal : Relies (onto [] transcript) → Legal (capacity_in world) load_setup played transcript
     pub ends : Ends left load how played unplayed (onto [] transcript) Written Breaks
     pub book : HasTrusted → Book left how unplayed (onto [] transcript)
-    pub survives : SurvivesOn left played (onto [] transcript)
+    pub survived : SurvivedOn left played (onto [] transcript)
     pub cut : RoseBy (crashes (onto [] transcript)) (g.cuts (disk_of world)) (g.cuts left)
     pub just : (First IsCrash unplayed → ⊥)
         → g.cuts left ≡ count_after (crashes (onto [] transcript)) (g.cuts (disk_of world))

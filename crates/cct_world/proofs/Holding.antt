@@ -27,7 +27,7 @@ use Rattle.cct_world.specs.declared.machine.Machine.{Machine}
 use Rattle.cct_world.specs.declared.refusal.WorldNo.{WorldNo}
 use Rattle.cct_world.specs.declared.world.World.{World}
 use Rattle.cct_world.specs.Holds.{Holds, Relives, WorldHolds}
-use Rattle.cct_world.specs.Machine.{DueAsTold, LosesIn, StepSuits, Survives, due_of}
+use Rattle.cct_world.specs.Machine.{LosesIn, StepSuits, Survives, due_of}
 use Rattle.cct_world.specs.Relived.{over, relived}
 use Rattle.cct_world.specs.Restarts as over_disks
 use Rattle.cct_world.specs.Restarts.{AreMany, CutAt, IsDueOver, IsWhole, Loses, LosesAt, RestartsAt, RestartsIn, WasDue, kept_in, no_step}
@@ -38,7 +38,7 @@ use Rattle.cct_world.proofs.Lasting.{lasts_in, trusted_back}
 use Rattle.cct_world.proofs.Reliving.{over_again, over_frees, over_records, relived_on, relived_told}
 use Rattle.cct_world.proofs.Restarts.{behind_by, behind_now, behind_on, counts_on, records_counted, whole_by}
 use Rattle.cct_world.proofs.Suiting.{lived_suits}
-use Rattle.cct_world.proofs.Surviving.{due_by, each_on, survives_by}
+use Rattle.cct_world.proofs.Surviving.{due_by, each_on, survived_by}
 use Rattle.cct_world.proofs.Sure.{crashes-append, cut_on, quiet_survives, sure_on}
 
 -- What a step that was played does to what stands for a past: it goes on by the entries of the step, and behind a loss of
@@ -127,7 +127,7 @@ module _ {D : Type 0} (size : D → ℕ) (honest : D → Bool) (seen : D → Opt
         stands = stands;
         relives = λ unsure. absurd (unsure (inr refl));
         counts = none;
-        survives = no_step;
+        survived = no_step;
         cut = same;
       })
 
@@ -140,7 +140,7 @@ module _ {D : Type 0} (size : D → ℕ) (honest : D → Bool) (seen : D → Opt
   over_image Before After old new used played past many before untrusted same image tells rs goes zero none =
       goes past (before.stands (inr none))
   over_image Before After old new used played past many before untrusted same image tells rs goes (suc losses) some =
-      let unsure : Sure trusted past → ⊥ = λ sure. elim sure [ | inl is ↦ untrusted is | inr none ↦ cc (some, none) ] in
+      let unsure : Sure trusted past → ⊥ = λ sure. elim sure [ inl is ↦ untrusted is | inr none ↦ cc (some, none) ] in
       let found = before.relives unsure in
       let was = told_before (seen found.behind) (seen new) image (same ∙ found.lasts.same_telling) tells in
       let lived = found.holds was.0 was.1 in
@@ -156,13 +156,13 @@ module _ {D : Type 0} (size : D → ℕ) (honest : D → Bool) (seen : D → Opt
   due_at_last Before now used played past (Some at) due holds none told = (
     λ is. told past (holds.stands is),
     λ unsure.
-    let P = Relives capacity setup Before past in
-    let Q = IsDueOver setup past at.addr due in
-    let Whole : (List Record → Type 0) → Option (List ℕ) → Type 0 = λ Of behind. IsWhole setup behind Of in
-    behind_by size honest seen cuts cut_to given now (crashes past) (Whole P) (Whole Q)
-    (whole_by setup P Q
-    (λ rs follow lived. record { many = lived.many; due_is = told (relived (reverse rs) past) lived.stands }))
-    (holds.relives unsure),
+        let P = Relives capacity setup Before past in
+        let Q = IsDueOver setup past at.addr due in
+        let Whole : (List Record → Type 0) → Option (List ℕ) → Type 0 = λ Of behind. IsWhole setup behind Of in
+        behind_by size honest seen cuts cut_to given now (crashes past) (Whole P) (Whole Q)
+        (whole_by setup P Q
+        (λ rs follow lived. record { many = lived.many; due_is = told (relived (reverse rs) past) lived.stands }))
+        (holds.relives unsure),
   )
 
   -- over a step that was played
@@ -252,10 +252,10 @@ module _ {D : Type 0} (size : D → ℕ) (honest : D → Bool) (seen : D → Opt
           stands = after;
           relives = relived_in s used many news played past lasted lasts told cut counts restarts moves before;
           counts = counts;
-          survives = each_on (λ es x ns. RestartsAt (Sure trusted es) After_cut setup es x ns) played news past s
-              (survives_by (Sure trusted) (Sure trusted) Before_cut After_cut (λ es is. is) (λ es is. is)
+          survived = each_on (λ es x ns. RestartsAt (Sure trusted es) After_cut setup es x ns) played news past s
+              (survived_by (Sure trusted) (Sure trusted) Before_cut After_cut (λ es is. is) (λ es is. is)
               (behind_on size honest seen cuts cut_to given old new (lasts_in size honest seen cuts s old new lasts)) setup
-              played past before.survives)
+              played past before.survived)
               (told_in s used many news played past lasted lasts told cut restarts before);
           cut = cut_on size honest seen cuts cut_to old new s news past (cuts given) before.cut told cut;
         }

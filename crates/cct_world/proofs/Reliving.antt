@@ -1,5 +1,5 @@
 -- Pasts with other records in place of their own, and what stands for them behind a loss of power.
-use Rattle.std.proofs.Common.{◌≡◌, ◌≢◌, ◌++◌, ℕ, List, [], ◌∷◌, length, map, Option, Some, None, refl, sym, ap, ap₂, ◌∙◌, subst, arith}
+use Rattle.std.proofs.Common.{◌≡◌, ◌++◌, ℕ, List, [], ◌∷◌, map, Option, Some, None, refl, sym, ap, ap₂, ◌∙◌, subst, arith}
 use Rattle.std.specs.List.{All}
 use Rattle.std.proofs.lemmas.List.{append-nil}
 use Rattle.std.proofs.lemmas.List.Elements.{All-cons, All-head, All-nil, All-tail}
@@ -8,7 +8,7 @@ use Rattle.cct_model.specs.lines.record.Record.{Record}
 use Rattle.cct_model.specs.lines.entry.Entry.{Entry}
 use Rattle.cct_model.specs.lines.entry.Entry.TheVariants as entry
 use Rattle.cct_model.specs.Exchange.{asks_of}
-use Rattle.cct_model.specs.History.{Met, heard}
+use Rattle.cct_model.specs.History.{heard}
 use Rattle.cct_model.specs.Records.{records}
 use Rattle.cct_model.specs.Transcript.{heard_by_devices, meets, met, pending}
 use Rattle.cct_bus.specs.declared.bus.Bus.{Bus}

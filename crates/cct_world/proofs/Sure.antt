@@ -1,31 +1,20 @@
 -- What may be relied on before a step and behind it, and how often the power of a disk was cut.
-use Rattle.std.proofs.Common.{◌≡◌, ◌+◌, ◌++◌, ◌≤◌, ℕ, suc, Bool, List, [], ◌∷◌, Option, refl, sym, ap, ◌∙◌, inl, inr, subst, arith, le_of_eq}
+use Rattle.std.proofs.Common.{◌≡◌, ◌+◌, ◌++◌, ℕ, suc, Bool, List, [], ◌∷◌, Option, refl, sym, ap, ◌∙◌, inl, inr, arith, le_of_eq}
 use Rattle.std.proofs.Common.{zero-add}
-use Rattle.std.proofs.Math.Nat.{add_assoc, le_refl}
+use Rattle.std.proofs.Math.Nat.{add_assoc}
 use Rattle.cct_model.specs.lines.command.Step.{Step}
 use Rattle.cct_model.specs.lines.command.Step.TheVariants as step
 use Rattle.cct_model.specs.lines.entry.Entry.{Entry}
 use Rattle.cct_edge.specs.Faults.{next_count}
 use Rattle.cct_world.specs.Machine.{Survives}
 use Rattle.cct_world.specs.Step.{CutsIn, RoseBy, count_after, crashes, crashes_of, crashes_told}
-use Rattle.cct_world.specs.Sure.{IsCrash, Sure, losses_in}
+use Rattle.cct_world.specs.Sure.{IsCrash, Sure}
 
--- losses of power that entries tell behind others, and steps behind others
+-- losses of power that entries tell behind others
 pub crashes-append : (xs ys : List Entry) → crashes (xs ++ ys) ≡ crashes xs + crashes ys
 crashes-append [] ys = sym (zero-add (crashes ys))
 crashes-append (x ∷ xs) ys =
     ap (λ n. crashes_told x + n) (crashes-append xs ys) ∙ sym (add_assoc (crashes_told x) (crashes xs) (crashes ys))
-
-losses-append : (xs ys : List Step) → losses_in (xs ++ ys) ≡ losses_in xs + losses_in ys
-losses-append [] ys = sym (zero-add (losses_in ys))
-losses-append (x ∷ xs) ys =
-    ap (λ n. crashes_of x + n) (losses-append xs ys) ∙ sym (add_assoc (crashes_of x) (losses_in xs) (losses_in ys))
-
--- the entries of a step tell as many as it is, and so do those before it
-pub losses_more : (played : List Step) (news past : List Entry) (s : Step) → crashes past ≡ losses_in played
-    → crashes news ≡ crashes_of s → crashes (news ++ past) ≡ losses_in (played ++ s ∷ [])
-losses_more played news past s before told =
-    omega (arith, crashes-append news past, losses-append played (s ∷ []), before, told)
 
 -- a step that is no loss of power
 pub crashes_none : (s : Step) → (IsCrash s → ⊥) → crashes_of s ≡ 0

@@ -1,5 +1,5 @@
--- What is so at each of the steps of a past, and what a past tells of the losses of power among them.
-use Rattle.std.proofs.Common.{◌≡◌, ◌++◌, ◌∙◌, ℕ, suc, List, [], ◌∷◌, Option, Some, None, length, refl, ap, sym, subst₂}
+-- What is so at each of the steps of a past, and at the losses of power among them.
+use Rattle.std.proofs.Common.{◌≡◌, ◌++◌, ℕ, suc, List, [], ◌∷◌, Option, Some, None, length, refl}
 use Rattle.cct_model.specs.terms.device.Setup.{Setup}
 use Rattle.cct_model.specs.lines.command.CrashAt.{CrashAt}
 use Rattle.cct_model.specs.lines.command.Step.{Step}
@@ -7,13 +7,10 @@ use Rattle.cct_model.specs.lines.command.Step.TheVariants as step
 use Rattle.cct_model.specs.lines.record.Record.{Record}
 use Rattle.cct_model.specs.lines.entry.Entry.{Entry}
 use Rattle.cct_model.specs.Records.{records}
-use Rattle.cct_host.specs.Restarting.{told_by}
 use Rattle.cct_world.specs.declared.refusal.WorldNo.{WorldNo}
-use Rattle.cct_world.specs.Restarts.{AreMany, EachStep, IsDueOver, IsWhole, Loses, LosesAt, RestartsAt, Survives, WasDue}
+use Rattle.cct_world.specs.Restarts.{AreMany, EachStep, IsDueOver, IsWhole, Loses, LosesAt, RestartsAt, Survived, WasDue}
 use Rattle.cct_world.specs.Restarts.{no_step, one_step_more}
-use Rattle.cct_world.specs.Step.{crashes, crashes_of}
-use Rattle.cct_world.specs.Sure.{losses_in}
-use Rattle.cct_world.proofs.Sure.{losses_more}
+use Rattle.cct_world.specs.Step.{crashes}
 
 -- what is so at each step
 pub each_on : (P : List Entry → Step → List Entry → Type 0) (steps : List Step) (news past : List Entry) (s : Step)
@@ -28,25 +25,6 @@ each_by P Q goes _ _ no_step = no_step
 each_by P Q goes steps told (one_step_more before _ past _ news s earlier here steps_are told_is) =
     one_step_more before steps past told news s (each_by P Q goes before past earlier) (goes past s news here) steps_are
     told_is
-
--- a loss of power is told once, and by no other step
-one_loss : (many : ℕ) (kept : Option Record) → crashes (told_by many kept) ≡ 1
-one_loss many None = refl
-one_loss many (Some r) = refl
-
-step_crashes : (sure : Type 0) (Cut : ℕ → (Option (List ℕ) → Type 0) → Type 0) (setup : Setup) (past : List Entry)
-    (s : Step) (news : List Entry) → RestartsAt sure Cut setup past s news → crashes news ≡ crashes_of s
-step_crashes sure Cut setup past (step.Crash at choice) news (due, many, was, all, told, cut) =
-    ap crashes told ∙ one_loss many all.kept
-step_crashes sure Cut setup past s news told = told.0
-
-pub survives_crashes : (Relies : List Entry → Type 0) (Cut : ℕ → (Option (List ℕ) → Type 0) → Type 0) (setup : Setup)
-    (steps : List Step) (past : List Entry) → Survives Relies Cut setup steps past → crashes past ≡ losses_in steps
-survives_crashes Relies Cut setup _ _ no_step = refl
-survives_crashes Relies Cut setup steps told (one_step_more before _ past _ news s earlier here steps_are told_is) =
-    subst₂ (λ es ss. crashes es ≡ losses_in ss) (sym told_is) (sym steps_are)
-    (losses_more before news past s (survives_crashes Relies Cut setup before past earlier)
-    (step_crashes (Relies past) Cut setup past s news here))
 
 -- as much may be relied on, and as much is known of each cut
 module _ (sure sure1 : Type 0) (Cut Cut1 : ℕ → (Option (List ℕ) → Type 0) → Type 0) (more : sure1 → sure)
@@ -76,11 +54,11 @@ module _ (sure sure1 : Type 0) (Cut Cut1 : ℕ → (Option (List ℕ) → Type 0
       (due, many, due_by at due was, all, told, goes (suc (crashes past)) (λ behind. IsWhole setup behind (AreMany many)) cut)
   restarts_by s news told = told
 
-pub survives_by : (Relies Relies1 : List Entry → Type 0) (Cut Cut1 : ℕ → (Option (List ℕ) → Type 0) → Type 0)
+pub survived_by : (Relies Relies1 : List Entry → Type 0) (Cut Cut1 : ℕ → (Option (List ℕ) → Type 0) → Type 0)
     → ((past : List Entry) → Relies1 past → Relies past) → ((past : List Entry) → Relies past → Relies1 past)
     → ((times : ℕ) (P : Option (List ℕ) → Type 0) → Cut times P → Cut1 times P) → (setup : Setup) (steps : List Step)
-    (past : List Entry) → Survives Relies Cut setup steps past → Survives Relies1 Cut1 setup steps past
-survives_by Relies Relies1 Cut Cut1 more less goes setup steps past survives =
+    (past : List Entry) → Survived Relies Cut setup steps past → Survived Relies1 Cut1 setup steps past
+survived_by Relies Relies1 Cut Cut1 more less goes setup steps past survives =
     each_by (λ before s news. RestartsAt (Relies before) Cut setup before s news)
     (λ before s news. RestartsAt (Relies1 before) Cut1 setup before s news)
     (λ before s news. restarts_by (Relies before) (Relies1 before) Cut Cut1 (more before) (less before) goes setup before s

@@ -14,7 +14,7 @@ use Rattle.cct_journal.specs.Image.{capacity_of}
 use Rattle.cct_laws.specs.Recorded.{HasNoJob}
 use Rattle.cct_world.specs.declared.world.World.{World}
 use Rattle.cct_world.specs.Relived.{relived}
-use Rattle.cct_world.specs.Restarts.{CutAt, IsWhole, Survives}
+use Rattle.cct_world.specs.Restarts.{CutAt, IsWhole, Survived}
 use Rattle.cct_world.specs.Step.{count_after, crashes}
 use Rattle.cct_world.specs.Sure.{Sure}
 use Rattle.cct_world.specs.World.{StandsFor, disk_of, setup_of, used_of}
@@ -32,10 +32,10 @@ pub record Relives (capacity : ℕ) (setup : Setup) (Stands : List Entry → Typ
   pub in_range : All IsInRange steps
   pub legal : LegalFrom capacity setup start steps (relived (reverse rs) past)
 
--- What is so after these steps and their past, where one disk was given and became another: what stands for the past does so where that may
--- be relied on, and where it may not, it does with the records that were found at its last loss of power; so many
--- records are counted as the past has; it is that of these steps, and behind each loss of power among them a host started
--- again; and the power of the disk was cut just as often as the past tells.
+-- What is so after these steps and their past, where one disk was given and became another: what stands for the past does
+-- so where that may be relied on, and where it may not, it does with the records that were found at its last loss of
+-- power; so many records are counted as the past has; behind each loss of power among the steps a host started again; and
+-- the power of the disk was cut just as often as the past tells.
 pub record Holds {D : Type 0} (size : D → ℕ) (honest : D → Bool) (seen : D → Option (List ℕ)) (cuts : D → ℕ)
     (cut_to : D → D → Type 0) (Stands : List Entry → Type 0) (setup : Setup) (given now : D) (used : ℕ)
     (played : List Step) (past : List Entry) : Type 0 where
@@ -44,7 +44,7 @@ pub record Holds {D : Type 0} (size : D → ℕ) (honest : D → Bool) (seen : D
       → CutAt size honest seen cuts cut_to given now (crashes past)
       (λ behind. IsWhole setup behind (Relives (capacity_of (size given)) setup Stands past))
   pub counts : used ≡ length (records past)
-  pub survives : Survives (Sure (IsTrusted honest seen given)) (CutAt size honest seen cuts cut_to given now) setup played
+  pub survived : Survived (Sure (IsTrusted honest seen given)) (CutAt size honest seen cuts cut_to given now) setup played
       past
   pub cut : cuts now ≡ count_after (crashes past) (cuts given)
 

@@ -1,5 +1,5 @@
 -- What a disk has behind a loss of power: a journal over which the host starts again, or why it doesn't.
-use Rattle.std.specs.Prelude.{◌≡◌, ◌⊎◌, ℕ, suc, ◌+◌, Bool, true, List, [], ◌∷◌, ◌++◌, length, reverse, Option, Some, None, ⊤}
+use Rattle.std.specs.Prelude.{◌≡◌, ◌⊎◌, ℕ, suc, Bool, true, List, [], ◌∷◌, ◌++◌, length, reverse, Option, Some, None, ⊤}
 use Rattle.cct_model.specs.terms.device.Setup.{Setup}
 use Rattle.cct_model.specs.lines.command.CrashAt.{CrashAt}
 use Rattle.cct_model.specs.lines.command.Step.{Step}
@@ -137,7 +137,7 @@ pub data EachStep (P : List Entry → Step → List Entry → Type 0) : List Ste
       → P past s news → steps ≡ before ++ s ∷ [] → told ≡ news ++ past → EachStep P steps told
 
 -- Behind each loss of power among these steps a host started again.
-abbrev pub Survives : (List Entry → Type 0) → (ℕ → (Option (List ℕ) → Type 0) → Type 0) → Setup → List Step → List Entry
+abbrev pub Survived : (List Entry → Type 0) → (ℕ → (Option (List ℕ) → Type 0) → Type 0) → Setup → List Step → List Entry
     → Type 0
-Survives Relies Cut setup steps past =
+Survived Relies Cut setup steps past =
     EachStep (λ before s news. RestartsAt (Relies before) Cut setup before s news) steps past

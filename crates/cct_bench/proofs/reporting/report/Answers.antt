@@ -1,8 +1,6 @@
-use Rattle.std.proofs.Common.{◌≡◌, List, [], Result, sym, ◌∙◌, subst}
-use Rattle.cct_edge.specs.declared.fault.Failed.{Failed}
+use Rattle.std.proofs.Common.{◌≡◌, [], sym, ◌∙◌, subst}
 use Rattle.cct_edge.specs.Faults.{Rose}
 use Rattle.cct_edge.proofs.Chains.{Rose-earlier, Rose-later}
-use Rattle.cct_model.specs.lines.entry.Entry.{Entry}
 use Rattle.cct_text.specs.Writing.{Writes, Wrote}
 use Rattle.cct_text.proofs.Writing.{wrote_none}
 use Rattle.cct_bench.specs.Report.{image_known, records_known, size_known}

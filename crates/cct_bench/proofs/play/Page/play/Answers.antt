@@ -1,4 +1,4 @@
-use Rattle.std.proofs.Common.{Err, refl, inl, reverse, sym, ap, subst, ◌∙◌}
+use Rattle.std.proofs.Common.{Err, refl, inl, reverse, sym, subst}
 use Rattle.cct_world.specs.Step.{CutsIn}
 use Rattle.cct_world.specs.Restarts.{RestartsIn}
 use Rattle.cct_world.specs.World.{StandsFor, disk_of, setup_of, used_of}

@@ -111,7 +111,8 @@ returns-in-Err-play-clause-played g c left0 given ready on start =
     (λ bytes. ScriptGoesOn number stage bytes (if b then opens (at_end setup) else plays s (at_steps setup)) rest))
     (sym c.is_end.ensures ∙ c.if-is_end.false) c.in-Ok.ensures.reads in
     step_ends sink.written sink.puts out out1 out2 left0 left left1 held rest number stage c.in-Err-play.ended.0 s given
-    c.in-Err-play.ended.1 world ready (c.in-Ok.ensures.can (sym c.is_end.ensures ∙ c.if-is_end.false)).in_range now played.lasts refl (runs.going left0 given on start) reads played.ended
+    c.in-Err-play.ended.1 world ready (c.in-Ok.ensures.can (sym c.is_end.ensures ∙ c.if-is_end.false)).in_range now
+    played.lasts refl (runs.going left0 given on start) reads played.ended
 
 pub returns-in-Err-play-clause-lasts : goal.returns-in-Err-play-clause-lasts
 returns-in-Err-play-clause-lasts g c =
