@@ -10,11 +10,13 @@
 //! `kept_legal`, `kept_since_legal` and `kept_hopper_legal` of `proofs/Whole.antt`, by which any fact of a device holds
 //! that each thing that can come keeps; `along` of `proofs/Seen.antt`, by which one of all entries does; `setup_sound`,
 //! `steps_of_today` and `front_of_today` of `proofs/Scripts.antt`, and there `played_in_order`, `played_covers` and
-//! `played_paid`, which say three laws of the front of a script; `legal_written` of `proofs/Texts.antt`; and
-//! `legal_due_follows` and `legal_due_allowed` of `proofs/Journal.antt`, which say of every legal past that what a job
-//! is about to put follows its records, and that a ledger takes it. For a host that starts again over its records there
-//! are `proofs/Restarts.antt`, by which every legal past suits a loss of power (`legal_crash_suits`) and which say what
-//! entries that leaves, and `proofs/Recalling.antt`, which says what each record more tells.
+//! `played_paid`, which say three laws of the front of a script; and `legal_written` of `proofs/Texts.antt`. For a host
+//! that starts again over its records there are `proofs/Recalling.antt`, which says what each record more tells, and
+//! `proofs/Restarts.antt`, which says what entries a loss of power leaves. `books_legal` and `books_behind` of
+//! `proofs/Books.antt` say of every legal past, and of every one that goes on by legal steps behind a past without a job
+//! whose records follow one another, that ids are in order and the books are kept; and `kept_due_allowed` of
+//! `proofs/Journal.antt` and `kept_crash_suits` of `proofs/Restarts.antt`, that a ledger then takes what a job is about
+//! to put, and that a loss of power is survived.
 #![tactic(auto)]
 
 ghost use Rattle.std.specs.Prelude.{ℕ, ◌≡◌, ◌<◌, ◌≤◌, ◌⊎◌, false, List, [], ◌++◌, None, true, Option, Some, ◌≢◌, ◌+◌, ◌-◌, length};
