@@ -330,7 +330,7 @@ told_so P Q (entry.JournalLost found put ∷ []) so tells = so (world_no.Lost fo
 told_so P Q tail so tells = absurd tells
 
 -- a step behind which no host starts again is a loss of power
-module _ (sure : Type 0) (Cut : ℕ → (Option (List ℕ) → Type 0) → Type 0) (setup : Setup) (past : List Entry)
+module _ (sure : Type 0) (Cut : ℕ → (ℕ → Option (List ℕ) → Type 0) → Type 0) (setup : Setup) (past : List Entry)
     (seen : Option (List ℕ)) where
   is_crash : (why : WorldNo) (s : Step) → LosesAt sure Cut setup past seen why s → IsCrash s
   is_crash why (step.Crash at choice) loses = tt

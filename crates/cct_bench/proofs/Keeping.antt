@@ -20,7 +20,7 @@ use Rattle.cct_journal.specs.Image.{capacity_of}
 use Rattle.cct_journal.specs.declared.refusal.CreateNo.{CreateNo}
 use Rattle.cct_journal.specs.declared.refusal.CreateNo.TheVariants as create_no
 use Rattle.cct_journal.specs.Losing.{LeavesWith}
-use Rattle.cct_journal.specs.Stands.{CutOnce, GoesOn, Leaves, Outlasts, Stands}
+use Rattle.cct_journal.specs.Stands.{GoesOn, Leaves, Outlasts, Stands}
 use Rattle.cct_journal.specs.declared.place.Place.{Place}
 use Rattle.cct_world.specs.declared.refusal.WorldNo.{WorldNo}
 use Rattle.cct_world.specs.declared.refusal.WorldNo.TheVariants as world_no
@@ -61,7 +61,7 @@ stands_leaves honest seen may_leave disk place rs stands = record {
 
 -- the script or its source brought the end, and the disk has the records of the past
 module _ {D : Type 0} (size : D → ℕ) (honest : D → Bool) (seen : D → Option (List ℕ))
-    (may_leave : D → List ℕ → Type 0) (cuts : D → ℕ) (cut_to : D → D → Type 0) where
+    (may_leave : D → List ℕ → Type 0) (cuts : D → ℕ) (cut_to : D → ℕ → D → Type 0) where
   pub ends_over : (given last : D) (stage : Stage) (Before : List Step → List Entry → Type 0)
       → IsReady (size given) (seen given)
       → ((played : List Step) (past : List Entry) → Before played past → IsTrusted honest seen given
@@ -220,7 +220,7 @@ module _ {D : Type 0} {g : Ghosts D} where
   lost_over : (given left : D) (world : World D g) (why : WorldNo) (s : Step) → IsReady (g.size given) (g.seen given)
       → Outlasts g.size g.honest g.seen g.cuts given (disk_of world)
       → LastsIn s g.size g.honest g.seen g.cuts (disk_of world) left
-      → CutOnce g.size g.honest g.seen g.cuts g.cut_to (disk_of world) left
+      → CutsIn s g.size g.honest g.seen g.cuts g.cut_to (disk_of world) left
       → LosesIn world.machine.value left why s → (played unplayed : List Step) (past : List Entry)
       → WorldHolds given world played past
       → (Sure (IsTrusted g.honest g.seen given) past → StepSuits (setup_of world) past s)
@@ -236,7 +236,7 @@ module _ {D : Type 0} {g : Ghosts D} where
   unplayed_over : (given left : D) (world : World D g) (why : WorldNo) (s : Step)
       → IsReady (g.size given) (g.seen given) → Outlasts g.size g.honest g.seen g.cuts given (disk_of world)
       → LastsIn s g.size g.honest g.seen g.cuts (disk_of world) left
-      → (why ≢ world_no.Disk → CutOnce g.size g.honest g.seen g.cuts g.cut_to (disk_of world) left)
+      → (why ≢ world_no.Disk → CutsIn s g.size g.honest g.seen g.cuts g.cut_to (disk_of world) left)
       → Breaks world left why s → (taken : List ℕ) (played unplayed : List Step) (past : List Entry)
       → WorldHolds given world played past
       → (Sure (IsTrusted g.honest g.seen given) past → StepSuits (setup_of world) past s)
@@ -260,7 +260,7 @@ module _ {D : Type 0} {g : Ghosts D} where
   pub unplayed_cut : (given left : D) (world : World D g) (why : WorldNo) (s : Step)
       → IsReady (g.size given) (g.seen given) → Outlasts g.size g.honest g.seen g.cuts given (disk_of world)
       → LastsIn s g.size g.honest g.seen g.cuts (disk_of world) left
-      → (why ≢ world_no.Disk → CutOnce g.size g.honest g.seen g.cuts g.cut_to (disk_of world) left)
+      → (why ≢ world_no.Disk → CutsIn s g.size g.honest g.seen g.cuts g.cut_to (disk_of world) left)
       → Breaks world left why s
       → (taken : List ℕ) (played unplayed : List Step) (past : List Entry) → WorldHolds given world played past
       → (Sure (IsTrusted g.honest g.seen given) past → StepSuits (setup_of world) past s)
@@ -281,7 +281,7 @@ module _ {D : Type 0} {g : Ghosts D} where
 
 -- a journal without records was created
 module _ {D : Type 0} (size : D → ℕ) (honest : D → Bool) (seen : D → Option (List ℕ))
-    (may_leave : D → List ℕ → Type 0) (cuts : D → ℕ) (cut_to : D → D → Type 0) where
+    (may_leave : D → List ℕ → Type 0) (cuts : D → ℕ) (cut_to : D → ℕ → D → Type 0) where
   -- then nothing else is on the disk that comes back
   fresh_leaves : (last disk : D) (place : Place) (past : List Entry) → last ≡ disk → past ≡ []
       → Stands honest seen may_leave disk place [] → Leaves honest seen may_leave last (reverse (records past))
@@ -349,7 +349,7 @@ uncreated_is size seen (create_no.NotBlank at) sized refused = (sized, refused.1
 
 -- a put to the sink failed, and the disk has the records of the past
 module _ {D : Type 0} (size : D → ℕ) (honest : D → Bool) (seen : D → Option (List ℕ))
-    (may_leave : D → List ℕ → Type 0) (cuts : D → ℕ) (cut_to : D → D → Type 0) where
+    (may_leave : D → List ℕ → Type 0) (cuts : D → ℕ) (cut_to : D → ℕ → D → Type 0) where
   pub broke_over : (given last : D) (setup : Setup) (many : ℕ) → IsReady (size given) (seen given)
       → Outlasts size honest seen cuts given last
       → (taken : List ℕ) (played unplayed : List Step) (past : List Entry)
@@ -372,7 +372,7 @@ module _ {K D : Type 0} {g : Ghosts D} (written : K → Option (List ℕ))
       (Books g.honest g.seen g.may_leave last) (setup_of world) s
       (CutsIn s g.size g.honest g.seen g.cuts g.cut_to (disk_of world) last) (used_of world) many (g.seen last) (λ report. Writes written puts out report (Err failed) out1))
       ⊎ ((why : WorldNo) × (how ≡ unplayed_by why) × Breaks world last why s
-      × (why ≢ world_no.Disk → CutOnce g.size g.honest g.seen g.cuts g.cut_to (disk_of world) last) × (out1 ≡ out))
+      × (why ≢ world_no.Disk → CutsIn s g.size g.honest g.seen g.cuts g.cut_to (disk_of world) last) × (out1 ≡ out))
 
   pub step_ends : (out out1 out2 : K) (left0 left left1 : Option (List ℕ)) (held rest : List ℕ) (number : ℕ)
       (stage : Stage) (how : Ending) (s : Step) (given last : D) (world : World D g)

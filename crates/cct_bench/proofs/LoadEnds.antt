@@ -230,13 +230,14 @@ module _ {D : Type 0} {g : Ghosts D} (given left : D) (world : World D g)
   relied past (inl trusted) = inl (trusted_back g.size g.honest g.seen g.cuts given (disk_of world) lasted trusted)
   relied past (inr none) = inr none
 
-  abbrev Cut : D → ℕ → (Option (List ℕ) → Type 0) → Type 0
+  abbrev Cut : D → ℕ → (ℕ → Option (List ℕ) → Type 0) → Type 0
   Cut first = CutAt g.size g.honest g.seen g.cuts g.cut_to first left
 
   -- the disk of the world lasted from the one that was given
-  cut_given : (times : ℕ) (P : Option (List ℕ) → Type 0) → Cut (disk_of world) times P → Cut given times P
+  cut_given : (times : ℕ) (P : ℕ → Option (List ℕ) → Type 0) → Cut (disk_of world) times P → Cut given times P
   cut_given times P cut = record {
     before = cut.before;
+    choice = cut.choice;
     behind = cut.behind;
     lasted = lasts_then g.size g.honest g.seen g.cuts given (disk_of world) cut.before lasted cut.lasted;
     is_cut = cut.is_cut;

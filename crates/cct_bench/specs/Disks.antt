@@ -23,7 +23,8 @@ pub record IsReady (size : ℕ) (seen : Option (List ℕ)) : Type 0 where
 -- told, whether it is honest and tells them, and how often its power was cut. As it comes back: that each image that a
 -- loss of power may leave on it stands for records, the oldest first, or, where one is being put, for these or for
 -- these and that one; which bytes a read then gives, where that is told; and how often its power was cut by then. And
--- that in between its power was cut for this time, and something holds of what a read gave right behind the cut.
+-- that in between its power was cut for this time, and something holds of the choice of the cut and of what a read gave
+-- right behind it.
 pub record Disks : Type 1 where
   pub size : ℕ
   pub seen : Option (List ℕ)
@@ -32,11 +33,11 @@ pub record Disks : Type 1 where
   pub leaves : Option Record → List Record → Type 0
   pub seen_after : Option (List ℕ)
   pub cuts_after : ℕ
-  pub cut_at : ℕ → (Option (List ℕ) → Type 0) → Type 0
+  pub cut_at : ℕ → (ℕ → Option (List ℕ) → Type 0) → Type 0
 
 -- of a kind of disk of which is known what each tells
 module _ {D : Type 0} (size : D → ℕ) (honest : D → Bool) (seen : D → Option (List ℕ))
-    (may_leave : D → List ℕ → Type 0) (cuts : D → ℕ) (cut_to : D → D → Type 0) where
+    (may_leave : D → List ℕ → Type 0) (cuts : D → ℕ) (cut_to : D → ℕ → D → Type 0) where
   -- A run was given one disk, and gave back another.
   abbrev pub disks : D → D → Disks
   disks given back = record {

@@ -12,7 +12,7 @@ ghost use Rattle.cct_model.specs.Text.{line_of};
 ghost use Rattle.cct_script.specs.Giving.{none_given, standing_of};
 ghost use Rattle.cct_disk.specs.Disk.{IsTrusted};
 ghost use Rattle.cct_journal.specs.Journal as journals;
-ghost use Rattle.cct_journal.specs.Stands.{CutOnce, GoesOn, Outlasts, Stands};
+ghost use Rattle.cct_journal.specs.Stands.{GoesOn, Outlasts, Stands};
 ghost use Rattle.cct_world.specs.declared.refusal.WorldNo.{WorldNo};
 ghost use Rattle.cct_world.specs.Holds.{WorldHolds};
 ghost use Rattle.cct_world.specs.Step.{CutsIn, LastsIn};
@@ -195,7 +195,8 @@ impl Page {
             many (D.seen e.1) (λ report. Writes K.written K.puts out.old report (Err failed) out.new))
             ⊎ ((why : WorldNo) × (e.0 ≡ unplayed_by why) × Breaks world.entry e.1 why step.now
             × (why ≢ WorldNo.Disk
-            → CutOnce D.size D.honest D.seen D.cuts D.cut_to (disk_of world.entry) e.1) × (out.new ≡ out.old))) }
+            → CutsIn step.now D.size D.honest D.seen D.cuts D.cut_to (disk_of world.entry) e.1)
+            × (out.new ≡ out.old))) }
         ensures memory { IfErr result (λ e. e.0 ≢ Ending.NoMemory) }
         ensures unread { IfErr result (λ e. e.0 ≢ Ending.Unread) }
         ensures write_cause { IfErr result (λ e. e.0 ≡ Ending.Unwritten → Rose (K.faults out.old) (K.faults out.new)) }

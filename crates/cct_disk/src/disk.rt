@@ -36,8 +36,9 @@ pub trait Disk {
     /// How often the power was cut: a count that each cut raises by one, and that stands still at 2^64 - 1.
     ghost cuts: { Self → ℕ };
 
-    /// What one loss of power does to the object, before and after it: so a caller can tell that it came from just one.
-    ghost cut_to: { Self → Self → Type 0 };
+    /// What one loss of power does by its choice to the object, before and after it: so a caller can tell that it came
+    /// from just one, and by which choice.
+    ghost cut_to: { Self → ℕ → Self → Type 0 };
 
     /// How many bytes it has.
     fn len(&self) -> u64
@@ -103,7 +104,7 @@ pub trait Disk {
         ensures tells { is_some (seen self.new) ≡ is_some (seen self.old) }
         ensures size { size self.new ≡ size self.old }
         ensures honest { honest self.new ≡ honest self.old }
-        ensures one { OnOk result (cut_to self.old self.new) }
+        ensures one { OnOk result (cut_to self.old choice self.new) }
         ensures cut { OnOk result (cuts self.new ≡ next_count (cuts self.old)) }
         ensures not_cut { OnErr result (cuts self.new ≡ cuts self.old) }
         ensures cuts { cuts self.old ≤ cuts self.new }

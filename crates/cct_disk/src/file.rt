@@ -107,7 +107,7 @@ impl<R: Files> Disk for FileDisk<R> {
 
     ghost cuts = { file_cuts };
 
-    ghost cut_to = { λ before now. file_cuts now ≡ next_count (file_cuts before) };
+    ghost cut_to = { λ before _ now. file_cuts now ≡ next_count (file_cuts before) };
 
     ghost fits = { λ s bytes is. untold_fits (file_len s) bytes is };
 

@@ -119,7 +119,7 @@ impl Disk for MemDisk {
 
     ghost cuts = { λ s. s.cuts };
 
-    ghost cut_to = { λ before now. (choice : ℕ) × IsAfterCut choice before now };
+    ghost cut_to = { λ before choice now. IsAfterCut choice before now };
 
     ghost fits = { λ s bytes is. fits_bytes s.content bytes is };
 

@@ -250,7 +250,7 @@ impl<'s, D: Disk> Host<'s, D> {
 
         // the disk
         ensures cut { result ≢ Err CrashNo.Disk
-            → CutOnce D.size D.honest D.seen D.cuts D.cut_to (disk_of self.old) (disk_of self.new) }
+            → CutOnce D.size D.honest D.seen D.cuts D.cut_to choice (disk_of self.old) (disk_of self.new) }
         ensures outlasts { Outlasts D.size D.honest D.seen D.cuts (disk_of self.old) (disk_of self.new) }
         ensures later { D.faults (disk_of self.old) ≤ D.faults (disk_of self.new) }
     {
@@ -299,9 +299,9 @@ impl<'s, D: Disk> Host<'s, D> {
 
         // the disk
         ensures cut { MatchResult result
-            (λ again. CutOnce D.size D.honest D.seen D.cuts D.cut_to (disk_of self.entry) (disk_of again.0))
+            (λ again. CutOnce D.size D.honest D.seen D.cuts D.cut_to choice (disk_of self.entry) (disk_of again.0))
             (λ e. e.1 ≢ CrashNo.Disk
-            → CutOnce D.size D.honest D.seen D.cuts D.cut_to (disk_of self.entry) e.0) }
+            → CutOnce D.size D.honest D.seen D.cuts D.cut_to choice (disk_of self.entry) e.0) }
         ensures outlasts { MatchResult result
             (λ again. Outlasts D.size D.honest D.seen D.cuts (disk_of self.entry) (disk_of again.0))
             (λ e. Outlasts D.size D.honest D.seen D.cuts (disk_of self.entry) e.0) }

@@ -89,7 +89,7 @@ pub(crate) fn restart<'s, D: Disk>(
         (D.faults (journals.disk_of journal.new)) }
 
     // the disk
-    ensures cut { result ≢ Err CrashNo.Disk → CutOnce D.size D.honest D.seen D.cuts D.cut_to
+    ensures cut { result ≢ Err CrashNo.Disk → CutOnce D.size D.honest D.seen D.cuts D.cut_to choice
         (journals.disk_of journal.old) (journals.disk_of journal.new) }
     ensures outlasts { Outlasts D.size D.honest D.seen D.cuts (journals.disk_of journal.old)
         (journals.disk_of journal.new) }
@@ -187,7 +187,7 @@ fn lose<D: Disk, R: Replay>(
         (D.faults (journals.disk_of journal.new)) }
 
     // the disk
-    ensures cut { result ≢ Err CrashNo.Disk → CutOnce D.size D.honest D.seen D.cuts D.cut_to
+    ensures cut { result ≢ Err CrashNo.Disk → CutOnce D.size D.honest D.seen D.cuts D.cut_to choice
         (journals.disk_of journal.old) (journals.disk_of journal.new) }
     ensures outlasts { Outlasts D.size D.honest D.seen D.cuts (journals.disk_of journal.old)
         (journals.disk_of journal.new) }

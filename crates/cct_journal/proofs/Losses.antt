@@ -46,9 +46,10 @@ found_stands records run every settled = record {
 
 -- The power of a disk was cut, and then it was only read.
 pub cut_here : {D : Type 0} (size : D → ℕ) (honest : D → Bool) (seen : D → Option (List ℕ)) (cuts : D → ℕ)
-    (cut_to : D → D → Type 0) (old before behind : D) → GoesOn size honest seen cuts old before → cut_to before behind
-    → cuts behind ≡ next_count (cuts before) → CutOnce size honest seen cuts cut_to old behind
-cut_here size honest seen cuts cut_to old before behind on is_cut count = record {
+    (cut_to : D → ℕ → D → Type 0) (choice : ℕ) (old before behind : D) → GoesOn size honest seen cuts old before
+    → cut_to before choice behind → cuts behind ≡ next_count (cuts before)
+    → CutOnce size honest seen cuts cut_to choice old behind
+cut_here size honest seen cuts cut_to choice old before behind on is_cut count = record {
   before = before;
   behind = behind;
   goes_on = on;
@@ -60,10 +61,10 @@ cut_here size honest seen cuts cut_to old before behind on is_cut count = record
 
 pub cut_read : {D : Type 0} (size : D → ℕ) (honest : D → Bool) (seen : D → Option (List ℕ))
     (may_leave : D → List ℕ → Type 0) (moment : D → ℕ) (left_since : D → ℕ → List ℕ → Type 0) (cuts : D → ℕ)
-    (cut_to : D → D → Type 0) (old mid new : D) → CutOnce size honest seen cuts cut_to old mid
+    (cut_to : D → ℕ → D → Type 0) (choice : ℕ) (old mid new : D) → CutOnce size honest seen cuts cut_to choice old mid
     → OnlyReads size honest seen may_leave moment left_since cuts mid new
-    → CutOnce size honest seen cuts cut_to old new
-cut_read size honest seen may_leave moment left_since cuts cut_to old mid new cut reads = record {
+    → CutOnce size honest seen cuts cut_to choice old new
+cut_read size honest seen may_leave moment left_since cuts cut_to choice old mid new cut reads = record {
   before = cut.before;
   behind = cut.behind;
   goes_on = cut.goes_on;

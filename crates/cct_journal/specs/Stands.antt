@@ -70,13 +70,13 @@ pub record Outlasts {D : Type 0} (size : D → ℕ) (honest : D → Bool) (seen 
   pub same_telling : is_some (seen new) ≡ is_some (seen old)
   pub later_cuts : cuts old ≤ cuts new
 
--- The power of a disk was cut just once: it went on up to the cut, and was only read behind it.
+-- The power of a disk was cut just once, by this choice: it went on up to the cut, and was only read behind it.
 pub record CutOnce {D : Type 0} (size : D → ℕ) (honest : D → Bool) (seen : D → Option (List ℕ)) (cuts : D → ℕ)
-    (cut_to : D → D → Type 0) (old new : D) : Type 0 where
+    (cut_to : D → ℕ → D → Type 0) (choice : ℕ) (old new : D) : Type 0 where
   pub before : D
   pub behind : D
   pub goes_on : GoesOn size honest seen cuts old before
-  pub is_cut : cut_to before behind
+  pub is_cut : cut_to before choice behind
   pub lasts : GoesOn size honest seen cuts behind new
   pub same_seen : seen new ≡ seen behind
   pub count : cuts new ≡ next_count (cuts old)

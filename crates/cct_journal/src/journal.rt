@@ -290,7 +290,7 @@ impl<D: Disk> Journal<D> {
             → LeavesOneOf D.honest D.seen D.may_leave (disk_of self) records entry
             → Settled D.honest D.seen D.may_leave (disk_back result) records
             ⊎ Settled D.honest D.seen D.may_leave (disk_back result) (records ++ entry ∷ [])) }
-        ensures one { OnOk result (D.cut_to (disk_of self) (disk_back result)) }
+        ensures one { OnOk result (D.cut_to (disk_of self) choice (disk_back result)) }
         ensures cut { OnOk result (D.cuts (disk_back result) ≡ next_count (D.cuts (disk_of self))) }
         ensures left { OnOk result (D.honest (disk_of self) ≡ true → (s : List ℕ)
             → D.seen (disk_back result) ≡ Some s → D.may_leave (disk_of self) s) }
@@ -386,7 +386,7 @@ impl<D: Disk> Journal<D> {
 
         // the disk
         ensures cut { result ≢ Err OpenNo.Disk
-            → CutOnce D.size D.honest D.seen D.cuts D.cut_to (disk_of self.old) (disk_of self.new) }
+            → CutOnce D.size D.honest D.seen D.cuts D.cut_to choice (disk_of self.old) (disk_of self.new) }
         ensures cuts { D.cuts (disk_of self.old) ≤ D.cuts (disk_of self.new) }
         ensures tells { is_some (D.seen (disk_of self.new)) ≡ is_some (D.seen (disk_of self.old)) }
         ensures size { D.size (disk_of self.new) ≡ D.size (disk_of self.old) }

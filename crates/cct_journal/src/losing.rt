@@ -55,7 +55,7 @@ pub(crate) fn lose<D: Disk>(
     ensures left { OnOk result ((records : List Record) → Stands D.honest D.seen D.may_leave disk.old place records
         → (left : List Record) × LeftBy calls put.now records left
         × Settled D.honest D.seen D.may_leave disk.new left) }
-    ensures cut { OnOk result (CutOnce D.size D.honest D.seen D.cuts D.cut_to disk.old disk.new) }
+    ensures cut { OnOk result (CutOnce D.size D.honest D.seen D.cuts D.cut_to choice disk.old disk.new) }
     ensures cuts { D.cuts disk.old ≤ D.cuts disk.new }
     ensures size { D.size disk.new ≡ D.size disk.old }
     ensures honest { D.honest disk.new ≡ D.honest disk.old }

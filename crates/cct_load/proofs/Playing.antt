@@ -12,7 +12,7 @@ use Rattle.cct_disk.specs.declared.disk.Disk.{Ghosts}
 use Rattle.cct_disk.specs.Disk.{IsTrusted}
 use Rattle.cct_journal.specs.Image.{capacity_of}
 use Rattle.cct_journal.specs.Losing.{LeavesWith}
-use Rattle.cct_journal.specs.Stands.{CutOnce, Outlasts}
+use Rattle.cct_journal.specs.Stands.{Outlasts}
 use Rattle.cct_laws.specs.Restart.{due_in}
 use Rattle.cct_laws.proofs.Onto.{legal_more, transcript_on}
 use Rattle.cct_world.specs.declared.refusal.WorldNo.{WorldNo}
@@ -154,7 +154,7 @@ module _ {D : Type 0} {g : Ghosts D} (world : World D g) where
 
     module _ (s : Step) (lasted : Outlasts g.size g.honest g.seen g.cuts (disk_of world) (disk_of now))
         (lasts : LastsIn s g.size g.honest g.seen g.cuts (disk_of now) left) where
-      lost_at : (why : WorldNo) → CutOnce g.size g.honest g.seen g.cuts g.cut_to (disk_of now) left
+      lost_at : (why : WorldNo) → CutsIn s g.size g.honest g.seen g.cuts g.cut_to (disk_of now) left
           → LosesIn now.machine.value left why s
           → LosesAt (Relies world past) (CutFor world left) load_setup past (g.seen left) why s
       lost_at why cut breaks =
@@ -162,7 +162,7 @@ module _ {D : Type 0} {g : Ghosts D} (world : World D g) where
           (loses_at (disk_of world) left now played past holds why s lasted lasts cut breaks)
 
       fails_at : (why : WorldNo) → Breaks now left why s
-          → (why ≢ world_no.Disk → CutOnce g.size g.honest g.seen g.cuts g.cut_to (disk_of now) left)
+          → (why ≢ world_no.Disk → CutsIn s g.size g.honest g.seen g.cuts g.cut_to (disk_of now) left)
           → FailsAt world left why past s
       fails_at world_no.Disk breaks lost = disk_fails s breaks
       fails_at world_no.Alien breaks lost = lost_at world_no.Alien (lost (λ is. cc is)) breaks
@@ -198,7 +198,7 @@ module _ {D : Type 0} {g : Ghosts D} (world : World D g) where
   pub goes_stops : (now : World D g) (left : D) (why : WorldNo) (sums : LoadSums) (seed n lines : ℕ) (s : Step)
       → n < lines → s ≡ line_at seed n → Goes now sums seed n → Breaks now left why s
       → LastsIn s g.size g.honest g.seen g.cuts (disk_of now) left
-      → (why ≢ world_no.Disk → CutOnce g.size g.honest g.seen g.cuts g.cut_to (disk_of now) left)
+      → (why ≢ world_no.Disk → CutsIn s g.size g.honest g.seen g.cuts g.cut_to (disk_of now) left)
       → StoppedWithin world seed lines left why
   goes_stops now left why sums seed n lines s within is goes breaks lasts lost =
       let past = onto [] goes.lines.transcript in

@@ -52,8 +52,9 @@ module _ {D : Type 0} {g : Ghosts D} (world : World D g) where
     pub so : WorldHolds (disk_of world) next (lines_before seed n) past
     pub counted : SumsUp sums (lines_before seed n) past
 
-  -- Until the disk became this one its power was cut for this time, and this holds of what a read gave right behind it.
-  abbrev pub CutFor : D → ℕ → (Option (List ℕ) → Type 0) → Type 0
+  -- Until the disk became this one its power was cut for this time, and this holds of the choice of the cut and of what a
+  -- read gave right behind it.
+  abbrev pub CutFor : D → ℕ → (ℕ → Option (List ℕ) → Type 0) → Type 0
   CutFor left = CutAt g.size g.honest g.seen g.cuts g.cut_to (disk_of world) left
 
   -- Behind each loss of power among these steps a host started again, until the disk became this one.

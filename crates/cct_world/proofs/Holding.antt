@@ -18,7 +18,7 @@ use Rattle.cct_model.specs.Setup.{IsSoundSetup}
 use Rattle.cct_disk.specs.declared.disk.Disk.{Ghosts}
 use Rattle.cct_disk.specs.Disk.{IsTrusted}
 use Rattle.cct_journal.specs.Image.{capacity_of}
-use Rattle.cct_journal.specs.Stands.{CutOnce, Outlasts}
+use Rattle.cct_journal.specs.Stands.{Outlasts}
 use Rattle.cct_laws.proofs.Onto.{legal_from}
 use Rattle.cct_laws.specs.Restart.{due_in}
 use Rattle.cct_host.specs.Host.{put_by}
@@ -111,7 +111,7 @@ module _ (capacity : ℕ) (setup : Setup) (Before After : List Entry → Type 0)
       }
 
 module _ {D : Type 0} (size : D → ℕ) (honest : D → Bool) (seen : D → Option (List ℕ)) (cuts : D → ℕ)
-    (cut_to : D → D → Type 0) (setup : Setup) (given : D) where
+    (cut_to : D → ℕ → D → Type 0) (setup : Setup) (given : D) where
   abbrev capacity : ℕ
   capacity = capacity_of (size given)
 
@@ -158,18 +158,15 @@ module _ {D : Type 0} (size : D → ℕ) (honest : D → Bool) (seen : D → Opt
     λ unsure.
         let P = Relives capacity setup Before past in
         let Q = IsDueOver setup past at.addr due in
-        let Whole : (List Record → Type 0) → Option (List ℕ) → Type 0 = λ Of behind. IsWhole setup behind Of in
+        let Whole : (List Record → Type 0) → ℕ → Option (List ℕ) → Type 0 = λ Of chosen behind. IsWhole setup behind Of in
         behind_by size honest seen cuts cut_to given now (crashes past) (Whole P) (Whole Q)
-        (whole_by setup P Q
+        (λ chosen. whole_by setup P Q
         (λ rs follow lived. record { many = lived.many; due_is = told (relived (reverse rs) past) lived.stands }))
         (holds.relives unsure),
   )
 
   -- over a step that was played
   module _ (Before After : List Entry → Type 0) (old new : D) where
-    abbrev Found : Option (List ℕ) → (List Record → Type 0) → Type 0
-    Found behind Of = IsWhole setup behind Of
-
     -- what is so at the last cut
     relived_in : (s : Step) (used many : ℕ) (news : List Entry) (played : List Step) (past : List Entry)
         → Outlasts size honest seen cuts given old → LastsIn s size honest seen cuts old new
@@ -179,14 +176,15 @@ module _ {D : Type 0} (size : D → ℕ) (honest : D → Bool) (seen : D → Opt
         → Holds size honest seen cuts cut_to Before setup given old used played past
         → (Sure trusted (news ++ past) → ⊥)
         → CutAt size honest seen cuts cut_to given new (crashes (news ++ past))
-        (λ behind. IsWhole setup behind (Relives capacity setup After (news ++ past)))
+        (λ chosen behind. IsWhole setup behind (Relives capacity setup After (news ++ past)))
     relived_in (step.Crash at choice) used many news played past lasted lasts told cut counts (due, none, was, restarts)
         moves before unsure =
-        let Q : Option (List ℕ) → Type 0 = λ behind. Found behind (Relives capacity setup After (news ++ past)) in
+        let Q : ℕ → Option (List ℕ) → Type 0
+        = λ chosen behind. IsWhole setup behind (Relives capacity setup After (news ++ past)) in
         let losses : suc (crashes past) ≡ crashes (news ++ past) = omega (arith, crashes-append news past, told) in
         let untrusted : trusted → ⊥ = λ is. unsure (inl is) in
         subst (λ n. CutAt size honest seen cuts cut_to given new n Q) losses
-        (behind_now size honest seen cuts cut_to given old new (crashes past) Q lasted before.cut cut
+        (behind_now size honest seen cuts cut_to given choice old new (crashes past) Q lasted before.cut cut
         (λ image tells. let found = restarts.whole image tells in (
           found.0,
           found.1,
@@ -201,11 +199,11 @@ module _ {D : Type 0} (size : D → ℕ) (honest : D → Bool) (seen : D → Opt
     relived_in s used many news played past lasted lasts told cut counts restarts moves before unsure =
         let P = Relives capacity setup Before past in
         let Q = Relives capacity setup After (news ++ past) in
-        let Whole : (List Record → Type 0) → Option (List ℕ) → Type 0 = λ Of behind. Found behind Of in
+        let Whole : (List Record → Type 0) → ℕ → Option (List ℕ) → Type 0 = λ Of chosen behind. IsWhole setup behind Of in
         let losses : crashes past ≡ crashes (news ++ past) = omega (arith, crashes-append news past, told) in
         subst (λ n. CutAt size honest seen cuts cut_to given new n (Whole Q)) losses
         (behind_by size honest seen cuts cut_to given new (crashes past) (Whole P) (Whole Q)
-        (whole_by setup P Q
+        (λ chosen. whole_by setup P Q
         (relives_on capacity setup Before After (IsTrusted honest seen old) (seen new) many s news past moves told
         restarts refl))
         (behind_on size honest seen cuts cut_to given old new (lasts_in size honest seen cuts s old new lasts)
@@ -231,8 +229,9 @@ module _ {D : Type 0} (size : D → ℕ) (honest : D → Bool) (seen : D → Opt
         count = restarts.all.count ∙ ap (λ put. put + length (put_by restarts.all.kept)) before.counts;
       },
       restarts.news_are,
-      behind_now size honest seen cuts cut_to given old new (crashes past) (λ behind. Found behind (AreMany many)) lasted
-          before.cut cut restarts.whole,
+      behind_now size honest seen cuts cut_to given choice old new (crashes past)
+          (λ chosen behind. (chosen ≡ choice) × IsWhole setup behind (AreMany many)) lasted before.cut cut
+          (refl, restarts.whole),
     )
     told_in s used many news played past lasted lasts told cut unkept before = (told, unkept)
 
@@ -310,7 +309,7 @@ module _ {D : Type 0} {g : Ghosts D} where
       → WorldHolds given now played past → (why : WorldNo) (s : Step)
       → Outlasts g.size g.honest g.seen g.cuts given (disk_of now)
       → LastsIn s g.size g.honest g.seen g.cuts (disk_of now) left
-      → CutOnce g.size g.honest g.seen g.cuts g.cut_to (disk_of now) left → LosesIn now.machine.value left why s
+      → CutsIn s g.size g.honest g.seen g.cuts g.cut_to (disk_of now) left → LosesIn now.machine.value left why s
       → LosesAt (Sure (IsTrusted g.honest g.seen given) past)
       (CutAt g.size g.honest g.seen g.cuts g.cut_to given left) (setup_of now) past (g.seen left) why s
   loses_at given left now played past holds why (step.Crash at choice) lasted lasts cut loses =
@@ -322,9 +321,9 @@ module _ {D : Type 0} {g : Ghosts D} where
             (behind_on g.size g.honest g.seen g.cuts g.cut_to given (disk_of now) left lasts) (setup_of now) past at due
             (due_at_last g.size g.honest g.seen g.cuts g.cut_to (setup_of now) given (StandsFor now) (disk_of now)
             (used_of now) played past at due holds (due_none now.machine.value at) loses.1),
-        behind_now g.size g.honest g.seen g.cuts g.cut_to given (disk_of now) left (crashes past)
-            (λ behind. (g.seen left ≡ behind) × Loses (setup_of now) (length (records past)) due behind why) lasted
-            holds.cut cut
-            (refl, subst (λ put. Loses (setup_of now) put due (g.seen left) why) holds.counts loses.2),
+        behind_now g.size g.honest g.seen g.cuts g.cut_to given choice (disk_of now) left (crashes past)
+            (λ chosen behind. (chosen ≡ choice) × (g.seen left ≡ behind)
+            × Loses (setup_of now) (length (records past)) due behind why) lasted holds.cut cut
+            (refl, refl, subst (λ put. Loses (setup_of now) put due (g.seen left) why) holds.counts loses.2),
       )
   loses_at given left now played past holds why s lasted lasts cut loses = absurd loses

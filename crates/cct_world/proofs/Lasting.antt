@@ -38,8 +38,9 @@ module _ {D : Type 0} (size : D → ℕ) (honest : D → Bool) (seen : D → Opt
   trusted_back a b on trusted = (sym on.same_honest ∙ trusted.0, sym on.same_telling ∙ trusted.1)
 
   -- a count of cuts rose where the power was cut
-  pub cut_rose : (cut_to : D → D → Type 0) (a b : D) → CutOnce size honest seen cuts cut_to a b → Rose (cuts a) (cuts b)
-  cut_rose cut_to a b cut = le_of_eq (sym cut.count)
+  pub cut_rose : (cut_to : D → ℕ → D → Type 0) (choice : ℕ) (a b : D) → CutOnce size honest seen cuts cut_to choice a b
+      → Rose (cuts a) (cuts b)
+  cut_rose cut_to choice a b cut = le_of_eq (sym cut.count)
 
   -- a step
   pub lasts_in : (s : Step) (a b : D) → LastsIn s size honest seen cuts a b → Outlasts size honest seen cuts a b

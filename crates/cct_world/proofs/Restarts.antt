@@ -218,12 +218,13 @@ whole_by setup P Q goes seen whole image tells =
     (found.0, found.1, goes found.0 found.3 found.2, found.3)
 
 module _ {D : Type 0} (size : D → ℕ) (honest : D → Bool) (seen : D → Option (List ℕ)) (cuts : D → ℕ)
-    (cut_to : D → D → Type 0) (given : D) where
+    (cut_to : D → ℕ → D → Type 0) (given : D) where
   -- what is so behind a cut, where the disk lasts
-  pub behind_on : (old new : D) → Outlasts size honest seen cuts old new → (times : ℕ) (P : Option (List ℕ) → Type 0)
+  pub behind_on : (old new : D) → Outlasts size honest seen cuts old new → (times : ℕ) (P : ℕ → Option (List ℕ) → Type 0)
       → CutAt size honest seen cuts cut_to given old times P → CutAt size honest seen cuts cut_to given new times P
   behind_on old new lasts times P cut = record {
     before = cut.before;
+    choice = cut.choice;
     behind = cut.behind;
     lasted = cut.lasted;
     is_cut = cut.is_cut;
@@ -233,29 +234,32 @@ module _ {D : Type 0} (size : D → ℕ) (honest : D → Bool) (seen : D → Opt
   }
 
   -- where more is known of what a read gave
-  pub behind_by : (now : D) (times : ℕ) (P Q : Option (List ℕ) → Type 0) → ((behind : Option (List ℕ)) → P behind → Q behind)
+  pub behind_by : (now : D) (times : ℕ) (P Q : ℕ → Option (List ℕ) → Type 0) → ((chosen : ℕ) (behind : Option (List ℕ)) → P chosen behind → Q chosen behind)
       → CutAt size honest seen cuts cut_to given now times P → CutAt size honest seen cuts cut_to given now times Q
   behind_by now times P Q goes cut = record {
     before = cut.before;
+    choice = cut.choice;
     behind = cut.behind;
     lasted = cut.lasted;
     is_cut = cut.is_cut;
     lasts = cut.lasts;
     count = cut.count;
-    holds = goes (seen cut.behind) cut.holds;
+    holds = goes cut.choice (seen cut.behind) cut.holds;
   }
 
   -- and behind a cut that was made just now
-  pub behind_now : (old new : D) (times : ℕ) (P : Option (List ℕ) → Type 0) → Outlasts size honest seen cuts given old
-      → cuts old ≡ count_after times (cuts given) → CutOnce size honest seen cuts cut_to old new → P (seen new)
+  pub behind_now : (choice : ℕ) (old new : D) (times : ℕ) (P : ℕ → Option (List ℕ) → Type 0)
+      → Outlasts size honest seen cuts given old → cuts old ≡ count_after times (cuts given)
+      → CutOnce size honest seen cuts cut_to choice old new → P choice (seen new)
       → CutAt size honest seen cuts cut_to given new (suc times) P
-  behind_now old new times P lasted before cut here = record {
+  behind_now choice old new times P lasted before cut here = record {
     before = cut.before;
+    choice = choice;
     behind = cut.behind;
     lasted = lasts_then size honest seen cuts given old cut.before lasted
         (lasts_on size honest seen cuts old cut.before cut.goes_on);
     is_cut = cut.is_cut;
     lasts = lasts_on size honest seen cuts cut.behind new cut.lasts;
     count = sym cut.lasts.same_cuts ∙ cut.count ∙ ap next_count before;
-    holds = subst P cut.same_seen here;
+    holds = subst (P choice) cut.same_seen here;
   }

@@ -51,7 +51,7 @@ rose_just many before now is = le_of_eq (sym is)
 
 -- how often the power of a disk was cut, one step more
 pub cut_on : {D : Type 0} (size : D → ℕ) (honest : D → Bool) (seen : D → Option (List ℕ)) (cuts : D → ℕ)
-    (cut_to : D → D → Type 0) (old new : D) (s : Step) (news past : List Entry) (first : ℕ)
+    (cut_to : D → ℕ → D → Type 0) (old new : D) (s : Step) (news past : List Entry) (first : ℕ)
     → cuts old ≡ count_after (crashes past) first → crashes news ≡ crashes_of s
     → CutsIn s size honest seen cuts cut_to old new → cuts new ≡ count_after (crashes (news ++ past)) first
 cut_on size honest seen cuts cut_to old new (step.Crash at choice) news past first before told cut =

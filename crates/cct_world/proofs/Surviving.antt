@@ -27,15 +27,15 @@ each_by P Q goes steps told (one_step_more before _ past _ news s earlier here s
     told_is
 
 -- as much may be relied on, and as much is known of each cut
-module _ (sure sure1 : Type 0) (Cut Cut1 : ℕ → (Option (List ℕ) → Type 0) → Type 0) (more : sure1 → sure)
-    (less : sure → sure1) (goes : (times : ℕ) (P : Option (List ℕ) → Type 0) → Cut times P → Cut1 times P)
+module _ (sure sure1 : Type 0) (Cut Cut1 : ℕ → (ℕ → Option (List ℕ) → Type 0) → Type 0) (more : sure1 → sure)
+    (less : sure → sure1) (goes : (times : ℕ) (P : ℕ → Option (List ℕ) → Type 0) → Cut times P → Cut1 times P)
     (setup : Setup) (past : List Entry) where
   pub due_by : (at : Option CrashAt) (due : Option Record) → WasDue sure Cut setup past at due
       → WasDue sure1 Cut1 setup past at due
   due_by None due was = was
   due_by (Some at) due was = (
     λ is. was.0 (more is),
-    λ unsure. goes (crashes past) (λ behind. IsWhole setup behind (IsDueOver setup past at.addr due))
+    λ unsure. goes (crashes past) (λ chosen behind. IsWhole setup behind (IsDueOver setup past at.addr due))
         (was.1 (λ is. unsure (less is))),
   )
 
@@ -44,19 +44,21 @@ module _ (sure sure1 : Type 0) (Cut Cut1 : ℕ → (Option (List ℕ) → Type 0
   loses_by seen why (step.Crash at choice) (due, was, cut) = (
     due,
     due_by at due was,
-    goes (suc (crashes past)) (λ behind. (seen ≡ behind) × Loses setup (length (records past)) due behind why) cut,
+    goes (suc (crashes past))
+        (λ chosen behind. (chosen ≡ choice) × (seen ≡ behind) × Loses setup (length (records past)) due behind why) cut,
   )
   loses_by seen why s loses = absurd loses
 
   pub restarts_by : (s : Step) (news : List Entry) → RestartsAt sure Cut setup past s news
       → RestartsAt sure1 Cut1 setup past s news
   restarts_by (step.Crash at choice) news (due, many, was, all, told, cut) =
-      (due, many, due_by at due was, all, told, goes (suc (crashes past)) (λ behind. IsWhole setup behind (AreMany many)) cut)
+      (due, many, due_by at due was, all, told, goes (suc (crashes past))
+      (λ chosen behind. (chosen ≡ choice) × IsWhole setup behind (AreMany many)) cut)
   restarts_by s news told = told
 
-pub survived_by : (Relies Relies1 : List Entry → Type 0) (Cut Cut1 : ℕ → (Option (List ℕ) → Type 0) → Type 0)
+pub survived_by : (Relies Relies1 : List Entry → Type 0) (Cut Cut1 : ℕ → (ℕ → Option (List ℕ) → Type 0) → Type 0)
     → ((past : List Entry) → Relies1 past → Relies past) → ((past : List Entry) → Relies past → Relies1 past)
-    → ((times : ℕ) (P : Option (List ℕ) → Type 0) → Cut times P → Cut1 times P) → (setup : Setup) (steps : List Step)
+    → ((times : ℕ) (P : ℕ → Option (List ℕ) → Type 0) → Cut times P → Cut1 times P) → (setup : Setup) (steps : List Step)
     (past : List Entry) → Survived Relies Cut setup steps past → Survived Relies1 Cut1 setup steps past
 survived_by Relies Relies1 Cut Cut1 more less goes setup steps past survives =
     each_by (λ before s news. RestartsAt (Relies before) Cut setup before s news)

@@ -37,12 +37,12 @@ pub record Relives (capacity : ℕ) (setup : Setup) (Stands : List Entry → Typ
 -- power; so many records are counted as the past has; behind each loss of power among the steps a host started again; and
 -- the power of the disk was cut just as often as the past tells.
 pub record Holds {D : Type 0} (size : D → ℕ) (honest : D → Bool) (seen : D → Option (List ℕ)) (cuts : D → ℕ)
-    (cut_to : D → D → Type 0) (Stands : List Entry → Type 0) (setup : Setup) (given now : D) (used : ℕ)
+    (cut_to : D → ℕ → D → Type 0) (Stands : List Entry → Type 0) (setup : Setup) (given now : D) (used : ℕ)
     (played : List Step) (past : List Entry) : Type 0 where
   pub stands : Sure (IsTrusted honest seen given) past → Stands past
   pub relives : (Sure (IsTrusted honest seen given) past → ⊥)
       → CutAt size honest seen cuts cut_to given now (crashes past)
-      (λ behind. IsWhole setup behind (Relives (capacity_of (size given)) setup Stands past))
+      (λ chosen behind. IsWhole setup behind (Relives (capacity_of (size given)) setup Stands past))
   pub counts : used ≡ length (records past)
   pub survived : Survived (Sure (IsTrusted honest seen given)) (CutAt size honest seen cuts cut_to given now) setup played
       past

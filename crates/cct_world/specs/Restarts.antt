@@ -83,16 +83,18 @@ GoesOver Before After trusted seen many (step.Crash at choice) =
     → (past : List Entry) → Before past → After (over many (reverse rs) past)
 GoesOver Before After trusted seen many s = ⊤
 
--- While a disk became another its power was cut for this time, and this holds of what a read gave right behind the cut.
+-- While a disk became another its power was cut for this time, and this holds of the choice of the cut and of what a read
+-- gave right behind it.
 pub record CutAt {D : Type 0} (size : D → ℕ) (honest : D → Bool) (seen : D → Option (List ℕ)) (cuts : D → ℕ)
-    (cut_to : D → D → Type 0) (given now : D) (times : ℕ) (P : Option (List ℕ) → Type 0) : Type 0 where
+    (cut_to : D → ℕ → D → Type 0) (given now : D) (times : ℕ) (P : ℕ → Option (List ℕ) → Type 0) : Type 0 where
   pub before : D
+  pub choice : ℕ
   pub behind : D
   pub lasted : Outlasts size honest seen cuts given before
-  pub is_cut : cut_to before behind
+  pub is_cut : cut_to before choice behind
   pub lasts : Outlasts size honest seen cuts behind now
   pub count : cuts behind ≡ count_after times (cuts given)
-  pub holds : P (seen behind)
+  pub holds : P choice (seen behind)
 
 -- This record, or none, is due at an address behind a past with these records in place of all up to its last loss of
 -- power; with those behind it they are as many as the past tells.
@@ -103,30 +105,31 @@ pub record IsDueOver (setup : Setup) (past : List Entry) (addr : ℕ) (due : Opt
 -- This record, or none, was due where a loss of power comes behind a past: none where that names no put; and else what
 -- the past tells, where it may be relied on, and where it may not, what it tells with the records that were found right
 -- behind its last cut.
-abbrev pub WasDue : Type 0 → (ℕ → (Option (List ℕ) → Type 0) → Type 0) → Setup → List Entry → Option CrashAt
+abbrev pub WasDue : Type 0 → (ℕ → (ℕ → Option (List ℕ) → Type 0) → Type 0) → Setup → List Entry → Option CrashAt
     → Option Record → Type 0
 WasDue sure Cut setup past None due = due ≡ None
 WasDue sure Cut setup past (Some at) due =
     (sure → due ≡ due_at setup past at.addr)
-    × ((sure → ⊥) → Cut (crashes past) (λ behind. IsWhole setup behind (IsDueOver setup past at.addr due)))
+    × ((sure → ⊥) → Cut (crashes past) (λ chosen behind. IsWhole setup behind (IsDueOver setup past at.addr due)))
 
 -- The step behind a past is a loss of power, and this is why no host starts again behind it, by what a read gave right
--- behind the cut, as it then still does.
-abbrev pub LosesAt : Type 0 → (ℕ → (Option (List ℕ) → Type 0) → Type 0) → Setup → List Entry → Option (List ℕ) → WorldNo
+-- behind the cut, as it then still does; the cut was by the choice of the step.
+abbrev pub LosesAt : Type 0 → (ℕ → (ℕ → Option (List ℕ) → Type 0) → Type 0) → Setup → List Entry → Option (List ℕ) → WorldNo
     → Step → Type 0
 LosesAt sure Cut setup past seen why (step.Crash at choice) =
     (due : Option Record) × WasDue sure Cut setup past at due
-    × Cut (suc (crashes past)) (λ behind. (seen ≡ behind) × Loses setup (length (records past)) due behind why)
+    × Cut (suc (crashes past))
+    (λ chosen behind. (chosen ≡ choice) × (seen ≡ behind) × Loses setup (length (records past)) due behind why)
 LosesAt sure Cut setup past seen why s = ⊥
 
 -- These are the entries, newest first, of a step that was played behind a past: where it is a loss of power, of one
--- behind which a host started again, by what a read gave right behind the cut; and any other step tells none, and no
--- record as kept.
-abbrev pub RestartsAt : Type 0 → (ℕ → (Option (List ℕ) → Type 0) → Type 0) → Setup → List Entry → Step → List Entry → Type 0
+-- behind which a host started again, by what a read gave right behind the cut, which was by its choice; and any other
+-- step tells none, and no record as kept.
+abbrev pub RestartsAt : Type 0 → (ℕ → (ℕ → Option (List ℕ) → Type 0) → Type 0) → Setup → List Entry → Step → List Entry → Type 0
 RestartsAt sure Cut setup past (step.Crash at choice) news =
     (due : Option Record) × (many : ℕ) × WasDue sure Cut setup past at due
     × (all : HasAll due many (length (records past))) × (news ≡ told_by many all.kept)
-    × Cut (suc (crashes past)) (λ behind. IsWhole setup behind (AreMany many))
+    × Cut (suc (crashes past)) (λ chosen behind. (chosen ≡ choice) × IsWhole setup behind (AreMany many))
 RestartsAt sure Cut setup past s news = (crashes news ≡ 0) × (kept_in news ≡ [])
 
 -- A past, newest entry first, is that of these steps, oldest first; and this holds of each, with the past before it and
@@ -137,7 +140,7 @@ pub data EachStep (P : List Entry → Step → List Entry → Type 0) : List Ste
       → P past s news → steps ≡ before ++ s ∷ [] → told ≡ news ++ past → EachStep P steps told
 
 -- Behind each loss of power among these steps a host started again.
-abbrev pub Survived : (List Entry → Type 0) → (ℕ → (Option (List ℕ) → Type 0) → Type 0) → Setup → List Step → List Entry
+abbrev pub Survived : (List Entry → Type 0) → (ℕ → (ℕ → Option (List ℕ) → Type 0) → Type 0) → Setup → List Step → List Entry
     → Type 0
 Survived Relies Cut setup steps past =
     EachStep (λ before s news. RestartsAt (Relies before) Cut setup before s news) steps past

@@ -67,8 +67,9 @@ abbrev pub LastsIn : {D : Type 0} → Step → (D → ℕ) → (D → Bool) → 
 LastsIn (step.Crash at choice) size honest seen cuts old new = Outlasts size honest seen cuts old new
 LastsIn s size honest seen cuts old new = GoesOn size honest seen cuts old new
 
--- The power of a disk is cut just once in a loss of power, and in no other step.
-abbrev pub CutsIn : {D : Type 0} → Step → (D → ℕ) → (D → Bool) → (D → Option (List ℕ)) → (D → ℕ) → (D → D → Type 0) → D → D
+-- The power of a disk is cut just once in a loss of power, by its choice, and in no other step.
+abbrev pub CutsIn : {D : Type 0} → Step → (D → ℕ) → (D → Bool) → (D → Option (List ℕ)) → (D → ℕ) → (D → ℕ → D → Type 0) → D → D
     → Type 0
-CutsIn (step.Crash at choice) size honest seen cuts cut_to old new = CutOnce size honest seen cuts cut_to old new
+CutsIn (step.Crash at choice) size honest seen cuts cut_to old new =
+    CutOnce size honest seen cuts cut_to choice old new
 CutsIn s size honest seen cuts cut_to old new = cuts new ≡ cuts old

@@ -72,8 +72,10 @@ impl<D: Disk> Machine<'_, D> {
         ensures breaks { IfErr result (λ why. Breaks self.old (disk_of self.new) why step.now) }
         ensures cause { IfErr result
             (λ why. why ≡ WorldNo.Disk → Rose (D.faults (disk_of self.old)) (D.faults (disk_of self.new))) }
-        ensures lost { IfErr result (λ why. why ≢ WorldNo.Disk
-            → CutOnce D.size D.honest D.seen D.cuts D.cut_to (disk_of self.old) (disk_of self.new)) }
+        ensures cut_lost { IfErr result (λ why. why ≢ WorldNo.Disk
+            → CutsIn step.now D.size D.honest D.seen D.cuts D.cut_to (disk_of self.old) (disk_of self.new)) }
+        ensures lost { IfErr result
+            (λ why. why ≢ WorldNo.Disk → Rose (D.cuts (disk_of self.old)) (D.cuts (disk_of self.new))) }
         ensures lasts { LastsIn step.now D.size D.honest D.seen D.cuts (disk_of self.old) (disk_of self.new) }
         ensures later { D.faults (disk_of self.old) ≤ D.faults (disk_of self.new) }
     {
@@ -144,12 +146,12 @@ impl<D: Disk> Machine<'_, D> {
             (RestartsBy self.old self.new (step.Crash at choice) (reverse report.new.items)) }
         ensures goes_over { OnOk result (GoesOver self.old self.new (step.Crash at choice)) }
         ensures cut { OnOk result
-            (CutOnce D.size D.honest D.seen D.cuts D.cut_to (disk_of self.old) (disk_of self.new)) }
+            (CutOnce D.size D.honest D.seen D.cuts D.cut_to choice (disk_of self.old) (disk_of self.new)) }
         ensures breaks { IfErr result (λ why. Breaks self.old (disk_of self.new) why (step.Crash at choice)) }
         ensures cause { IfErr result
             (λ why. why ≡ WorldNo.Disk → Rose (D.faults (disk_of self.old)) (D.faults (disk_of self.new))) }
         ensures lost { IfErr result (λ why. why ≢ WorldNo.Disk
-            → CutOnce D.size D.honest D.seen D.cuts D.cut_to (disk_of self.old) (disk_of self.new)) }
+            → CutOnce D.size D.honest D.seen D.cuts D.cut_to choice (disk_of self.old) (disk_of self.new)) }
         ensures lasts { Outlasts D.size D.honest D.seen D.cuts (disk_of self.old) (disk_of self.new) }
         ensures later { D.faults (disk_of self.old) ≤ D.faults (disk_of self.new) }
     {

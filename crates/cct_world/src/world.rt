@@ -10,7 +10,7 @@ ghost use Rattle.cct_model.specs.Records.{records};
 ghost use Rattle.cct_disk.specs.Disk.{IsTrusted};
 ghost use Rattle.cct_edge.specs.Faults.{Rose};
 ghost use Rattle.cct_journal.specs.Journal as journals;
-ghost use Rattle.cct_journal.specs.Stands.{CutOnce, Stands};
+ghost use Rattle.cct_journal.specs.Stands.{Stands};
 ghost use Rattle.cct_world.specs.Machine as machines;
 ghost use Rattle.cct_world.specs.Step.{CutsIn, LastsIn, crashes, crashes_of};
 
@@ -97,12 +97,12 @@ impl<'s, D: Disk> World<'s, D> {
         ensures restarts { IfOk result (λ world.
             RestartsBy self.entry world step.now (reverse report.new.items)) }
         ensures goes_over { IfOk result (λ world. GoesOver self.entry world step.now) }
-        ensures cut { IfOk result (λ world. CutsIn step.now D.size D.honest D.seen D.cuts D.cut_to
-            (disk_of self.entry) (disk_of world)) }
+        ensures cut { MatchResult result (λ world. CutsIn step.now D.size D.honest D.seen D.cuts D.cut_to
+            (disk_of self.entry) (disk_of world)) (λ e. e.1 ≢ WorldNo.Disk
+            → CutsIn step.now D.size D.honest D.seen D.cuts D.cut_to (disk_of self.entry) e.0) }
         ensures breaks { IfErr result (λ e. Breaks self.entry e.0 e.1 step.now) }
         ensures cause { IfErr result (λ e. e.1 ≡ WorldNo.Disk → Rose (D.faults (disk_of self.entry)) (D.faults e.0)) }
-        ensures lost { IfErr result (λ e. e.1 ≢ WorldNo.Disk
-            → CutOnce D.size D.honest D.seen D.cuts D.cut_to (disk_of self.entry) e.0) }
+        ensures lost { IfErr result (λ e. e.1 ≢ WorldNo.Disk → Rose (D.cuts (disk_of self.entry)) (D.cuts e.0)) }
         ensures lasts { MatchResult result
             (λ world. LastsIn step.now D.size D.honest D.seen D.cuts (disk_of self.entry) (disk_of world))
             (λ e. LastsIn step.now D.size D.honest D.seen D.cuts (disk_of self.entry) e.0) }

@@ -34,5 +34,5 @@ returns-clause-left g c records stands =
 pub returns-clause-cut : goal.returns-clause-cut
 returns-clause-cut g c =
     let disk = g.D.Disk in
-    cut_here disk.size disk.honest disk.seen disk.cuts disk.cut_to c.args.disk.now c.begin_put.new.disk
+    cut_here disk.size disk.honest disk.seen disk.cuts disk.cut_to c.args.choice c.args.disk.now c.begin_put.new.disk
     c.power_cut.new.self c.begin_put.ensures.goes_on c.in_ok-power_cut.ensures.one c.in_ok-power_cut.ensures.cut

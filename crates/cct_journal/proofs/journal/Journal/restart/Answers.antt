@@ -49,10 +49,10 @@ pub returns-in-Ok-find_place-clause-cut : goal.returns-in-Ok-find_place-clause-c
 returns-in-Ok-find_place-clause-cut g c other =
     let disk = g.D.Disk in
     cut_read disk.size disk.honest disk.seen disk.may_leave disk.moment disk.left_since disk.cuts disk.cut_to
-    c.args.self.now.disk c.lose.new.disk c.find_place.new.disk c.in-Ok.ensures.cut c.find_place.ensures.reads
+    c.args.choice c.args.self.now.disk c.lose.new.disk c.find_place.new.disk c.in-Ok.ensures.cut c.find_place.ensures.reads
 
 pub returns-in-Err-clause-cut : goal.returns-in-Err-clause-cut
 returns-in-Err-clause-cut g c other =
     let disk = g.D.Disk in
     cut_read disk.size disk.honest disk.seen disk.may_leave disk.moment disk.left_since disk.cuts disk.cut_to
-    c.args.self.now.disk c.lose.new.disk c.find_place.new.disk c.in-Ok.ensures.cut c.find_place.ensures.reads
+    c.args.choice c.args.self.now.disk c.lose.new.disk c.find_place.new.disk c.in-Ok.ensures.cut c.find_place.ensures.reads

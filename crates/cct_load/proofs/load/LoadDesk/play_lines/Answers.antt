@@ -22,7 +22,7 @@ returns-in-Err-clause-stopped g c =
     goes_stops c.args.world c.loop-line.world c.in-Err.stopped.0 c.in-Err.stopped.1 c.loop-line.self.sums
     c.args.load.seed c.loop-line.line (5 + 18 * c.args.load.rounds) c.nth_line-step.result c.loop-line-test.true
     c.nth_line-step.ensures.value c.loop-line.invariant c.in-Err.ensures.breaks c.in-Err.ensures.lasts
-    c.in-Err.ensures.lost
+    c.in-Err.ensures.cut
 
 pub add_step-requires-clause-steps : goal.add_step-requires-clause-steps
 add_step-requires-clause-steps g c =
