@@ -342,7 +342,7 @@ module _ {D : Type 0} {g : Ghosts D} (given left : D) (world : World D g)
         transcript = p.transcript;
         told = told.0;
         steps_are = p.steps_are;
-          legal = λ sure. subst (λ size. Legal (capacity_of size) load_setup p.played p.transcript)
+        legal = λ sure. subst (λ size. Legal (capacity_of size) load_setup p.played p.transcript)
             (on.same_size ∙ ready.sized) (p.legal (relies past sure));
         stops = told.1;
         book = λ trusted some. book_by how p.unplayed past (p.book (now_trusted trusted));

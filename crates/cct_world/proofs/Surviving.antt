@@ -51,9 +51,15 @@ module _ (sure sure1 : Type 0) (Cut Cut1 : ℕ → (ℕ → Option (List ℕ) �
 
   pub restarts_by : (s : Step) (news : List Entry) → RestartsAt sure Cut setup past s news
       → RestartsAt sure1 Cut1 setup past s news
-  restarts_by (step.Crash at choice) news (due, many, was, all, told, cut) =
-      (due, many, due_by at due was, all, told, goes (suc (crashes past))
-      (λ chosen behind. (chosen ≡ choice) × IsWhole setup behind (AreMany many)) cut)
+  restarts_by (step.Crash at choice) news (due, many, was, all, told, cut) = (
+    due,
+    many,
+    due_by at due was,
+    all,
+    told,
+    goes (suc (crashes past))
+        (λ chosen behind. (chosen ≡ choice) × IsWhole setup behind (AreMany many)) cut,
+  )
   restarts_by s news told = told
 
 pub survived_by : (Relies Relies1 : List Entry → Type 0) (Cut Cut1 : ℕ → (ℕ → Option (List ℕ) → Type 0) → Type 0)
