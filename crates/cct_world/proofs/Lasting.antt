@@ -1,11 +1,10 @@
 -- How a disk outlasts the steps that are played over it.
-use Rattle.std.proofs.Common.{◌≡◌, ◌≤◌, ℕ, Bool, List, Option, refl, sym, ◌∙◌, subst, le_of_eq}
+use Rattle.std.proofs.Common.{◌≡◌, ◌≤◌, ℕ, Bool, List, Option, refl, sym, ◌∙◌, subst}
 use Rattle.std.proofs.Math.Nat.{le_refl, le_trans}
 use Rattle.cct_model.specs.lines.command.Step.{Step}
 use Rattle.cct_model.specs.lines.command.Step.TheVariants as step
 use Rattle.cct_disk.specs.Disk.{IsTrusted}
-use Rattle.cct_edge.specs.Faults.{Rose}
-use Rattle.cct_journal.specs.Stands.{CutOnce, GoesOn, Outlasts}
+use Rattle.cct_journal.specs.Stands.{GoesOn, Outlasts}
 use Rattle.cct_world.specs.Step.{LastsIn, crashes_of}
 
 -- of a kind of disk of which is known what each tells
@@ -36,11 +35,6 @@ module _ {D : Type 0} (size : D → ℕ) (honest : D → Bool) (seen : D → Opt
 
   pub trusted_back : (a b : D) → Outlasts size honest seen cuts a b → IsTrusted honest seen b → IsTrusted honest seen a
   trusted_back a b on trusted = (sym on.same_honest ∙ trusted.0, sym on.same_telling ∙ trusted.1)
-
-  -- a count of cuts rose where the power was cut
-  pub cut_rose : (cut_to : D → ℕ → D → Type 0) (choice : ℕ) (a b : D) → CutOnce size honest seen cuts cut_to choice a b
-      → Rose (cuts a) (cuts b)
-  cut_rose cut_to choice a b cut = le_of_eq (sym cut.count)
 
   -- a step
   pub lasts_in : (s : Step) (a b : D) → LastsIn s size honest seen cuts a b → Outlasts size honest seen cuts a b
