@@ -4,6 +4,7 @@ pub mod Reliving
 pub mod Restarts
 pub mod Suiting
 pub mod Sure
+pub mod Early
 pub mod Steps
 pub mod Suited
 pub mod Surviving

@@ -3,5 +3,6 @@ pub mod Relived
 pub mod Restarts
 pub mod Machine
 pub mod Sure
+pub mod Early
 pub mod World
 pub mod Holds
