@@ -9,14 +9,14 @@
 //! A crate above cites the lemmas behind them, each of which is named in its function's `Answers.antt`; and beside them
 //! `kept_legal`, `kept_since_legal` and `kept_hopper_legal` of `proofs/Whole.antt`, by which any fact of a device holds
 //! that each thing that can come keeps; `along` of `proofs/Seen.antt`, by which one of all entries does; `setup_sound`,
-//! `steps_of_today` and `front_of_today` of `proofs/Scripts.antt`, and there `played_in_order`, `played_covers` and
-//! `played_paid`, which say three laws of the front of a script; and `legal_written` of `proofs/Texts.antt`. For a host
-//! that starts again over its records there are `proofs/Recalling.antt`, which says what each record more tells, and
-//! `proofs/Restarts.antt`, which says what entries a loss of power leaves. `books_legal` and `books_behind` of
-//! `proofs/Books.antt` say of every legal past, and of every one that goes on by legal steps behind a past without a job
-//! whose records follow one another, that ids are in order and the books are kept; and `kept_due_allowed` of
-//! `proofs/Journal.antt` and `kept_crash_suits` of `proofs/Restarts.antt`, that a ledger then takes what a job is about
-//! to put, and that a loss of power is survived.
+//! `steps_of_today` and `front_of_today` of `proofs/Scripts.antt`, and there `played_in_order`, `played_covers`,
+//! `played_paid` and `played_fresh`, which say four laws of the front of a script; and `legal_written` of
+//! `proofs/Texts.antt`. For a host that starts again over its records there are `proofs/Recalling.antt`, which says
+//! what each record more tells, and `proofs/Restarts.antt`, which says what entries a loss of power leaves.
+//! `books_legal` and `books_behind` of `proofs/Books.antt` say of every legal past, and of every one that goes on by
+//! legal steps behind a past without a job whose records follow one another, that ids are in order and the books are
+//! kept; and `kept_due_allowed` of `proofs/Journal.antt` and `kept_crash_suits` of `proofs/Restarts.antt`, that a
+//! ledger then takes what a job is about to put, and that a loss of power is survived.
 #![tactic(auto)]
 
 ghost use Rattle.std.specs.Prelude.{ℕ, ◌≡◌, ◌<◌, ◌≤◌, ◌⊎◌, false, List, [], ◌++◌, None, true, Option, Some, ◌≢◌, ◌+◌, ◌-◌, length};
@@ -214,7 +214,8 @@ pub fn scripts_are_in_range()
 
 /// A script that was played up to any of its steps, over an honest wire, posts in order at each device of its setup,
 /// where a hopper posts nothing; at each device that keeps the pace it loses no coin in silence; and at each hopper it
-/// pays each order at most once, and closes it with exactly the coins that fell.
+/// pays each order at most once, and closes it with exactly the coins that fell. Whatever the wire does, no id stands in
+/// two of its records.
 pub fn played_scripts_keep_the_laws()
     ensures in_order { (capacity : ℕ) (bytes : List ℕ) (played rest : List Step) (transcript : List Entry)
         (d : DeviceSetup)
@@ -229,6 +230,9 @@ pub fn played_scripts_keep_the_laws()
         (d : DeviceSetup)
         → (script bytes).steps ≡ played ++ rest → Legal capacity (script bytes).setup played transcript
         → Honest transcript → IsOf (script bytes).setup d → IsHopper d.body → Paid (lines_in d transcript) }
+    ensures fresh { (capacity : ℕ) (bytes : List ℕ) (played rest : List Step) (transcript : List Entry)
+        → (script bytes).steps ≡ played ++ rest → Legal capacity (script bytes).setup played transcript
+        → AreFresh (records (onto [] transcript)) }
 {}
 
 /// A text tells its legal transcript: two legal transcripts of one setup with the same text are the same. The setup is
