@@ -32,6 +32,7 @@ ghost use Rattle.cct_model.specs.lines.command.Command.{Command};
 ghost use Rattle.cct_model.specs.lines.command.Command.TheVariants.{Round, Settle};
 ghost use Rattle.cct_model.specs.lines.command.CrashAt.{CrashAt};
 ghost use Rattle.cct_model.specs.lines.command.Step.{Step};
+ghost use Rattle.cct_model.specs.lines.command.WireFault.{WireFault};
 ghost use Rattle.cct_model.specs.lines.command.WireFault.TheVariants.{Clear};
 ghost use Rattle.cct_model.specs.lines.entry.Entry.{Entry};
 ghost use Rattle.cct_model.specs.terms.wire.TheConstants.{BROADCAST};
@@ -57,6 +58,7 @@ ghost use Rattle.cct_model.specs.Money.{posted_in, reserved_at_work, freed_by, s
 ghost use Rattle.cct_model.specs.Refusal.{held, last_id, refusal};
 ghost use Rattle.cct_model.specs.Following.{all_follow, follows, is_allowed};
 ghost use Rattle.cct_model.specs.Paid.{Paid, OfOrder, AreFresh, dispenses, fallen};
+ghost use Rattle.cct_laws.specs.Honesty.{DamagesHonestly};
 ghost use Rattle.cct_laws.specs.Kept.{IsRefused, suits};
 ghost use Rattle.cct_laws.specs.Balanced.{IsBalanced, IsConserved};
 ghost use Rattle.cct_laws.specs.Coins.{all_fallen, all_paid};
@@ -81,6 +83,13 @@ pub fn an_undisturbed_exchange_is_answered()
         → IsSoundSetup setup → IsOf setup d → suits d.body command ≡ true → IsCommand command
         → pending past ≡ Clear → row_at d command rows judged payment ≡ sends q
         → IsAnswered setup d past q ⊎ (IsRefused d (met d past) q × IsUnanswered setup d past q) }
+{}
+
+/// The test of an honest fault says exactly what honest damage is: the piece that the devices hear is no message; and
+/// where no address poll is sent, the piece that the host hears is none, nor is what follows the host's own echo in it.
+pub fn an_honest_fault_does_honest_damage()
+    ensures means { (f : WireFault) (sent : List ℕ) → IsHonestFault f sent → DamagesHonestly f sent }
+    ensures tested { (f : WireFault) (sent : List ℕ) → DamagesHonestly f sent → IsHonestFault f sent }
 {}
 
 /// Where an honest fault is set for the next exchange, such a job gets the device's own reply to what it asks, or
