@@ -77,7 +77,10 @@ fn write_reading<W: fmt::Write>(
     match lost {
         0 => f.write_str("; the event counter tells none overrun"),
         1 => f.write_str("; the event counter tells 1 more, overrun before it could be read"),
-        _ => write!(f, "; the event counter tells {lost} more, overrun before they could be read"),
+        _ => write!(
+            f,
+            "; the event counter tells {lost} more, overrun before they could be read"
+        ),
     }
 }
 
