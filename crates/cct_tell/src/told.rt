@@ -108,7 +108,7 @@ fn write_sums<W: fmt::Write>(entry: &Entry, f: &mut fmt::Formatter<W>) -> fmt::R
             let paid = Count(*paid, "coin");
             write!(
                 f,
-                "    {posted} posted, {lost} overrun, {paid} paid, {unpaid} unpaid, {sold} sold\n"
+                "    {posted} posted, {lost} told as overrun, {paid} paid, {unpaid} unpaid, {sold} sold\n"
             )
         }
         _ => Ok(()),
