@@ -1,10 +1,9 @@
 -- What a load leaves, by how its steps came to their end, and its last line.
 use Rattle.std.proofs.Common.{◌≡◌, ◌≢◌, ◌⊎◌, ℕ, true, List, [], ◌∷◌, ◌++◌, Option, None, Some, Result, Ok, Err, All}
-use Rattle.std.proofs.Common.{refl, sym, ap, subst, ◌∙◌, ◌≤◌, inl, inr, append_assoc, arith}
+use Rattle.std.proofs.Common.{refl, sym, ap, subst, ◌∙◌, inl, inr, append_assoc}
 use Rattle.std.specs.Prelude.{IfSome, is_some}
 use Rattle.std.proofs.lemmas.List.{append-nil}
 use Rattle.std.proofs.lemmas.List.Elements.{All-cons, All-head, All-nil, All-tail}
-use Rattle.cct_edge.specs.Faults.{Rose}
 use Rattle.cct_edge.specs.declared.fault.Failed.{Failed}
 use Rattle.cct_model.specs.lines.command.Step.{Step}
 use Rattle.cct_model.specs.lines.command.Step.TheVariants as step
@@ -107,10 +106,6 @@ loaded_by seed rounds how s tail disks Before Written Broken Breaks disk_failed 
   cut = p.cut;
   just = p.just;
 }
-
--- a count that rose since a later value rose since an earlier one
-pub rose_from : (first before now : ℕ) → first ≤ before → Rose before now → Rose first now
-rose_from first before now later rose = omega (arith, later, rose)
 
 -- ---- the last line
 
