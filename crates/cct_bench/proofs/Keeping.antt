@@ -10,7 +10,7 @@ use Rattle.cct_model.specs.lines.record.Record.{Record}
 use Rattle.cct_model.specs.lines.entry.Entry.{Entry}
 use Rattle.cct_model.specs.Legal.{Entries}
 use Rattle.cct_model.specs.Records.{records}
-use Rattle.cct_model.specs.Script.{IsInRange, Stage, at_setup, no_devices, plays}
+use Rattle.cct_model.specs.Script.{Stage, at_setup, no_devices, plays}
 use Rattle.cct_disk.specs.declared.disk.Disk.{Ghosts}
 use Rattle.cct_disk.specs.Disk.{IsTrusted}
 use Rattle.cct_edge.specs.declared.fault.Failed.{Failed}
@@ -27,13 +27,13 @@ use Rattle.cct_world.specs.declared.refusal.WorldNo.TheVariants as world_no
 use Rattle.cct_world.specs.declared.world.World.{World}
 use Rattle.cct_world.specs.Holds.{Holds, WorldHolds}
 use Rattle.cct_world.specs.Machine.{LosesIn, StepSuits}
-use Rattle.cct_world.specs.Restarts.{CutAt, GoesOver, Survived, no_step}
+use Rattle.cct_world.specs.Restarts.{CutAt, Survived, no_step}
 use Rattle.cct_world.specs.Step.{CutsIn, LastsIn, count_after, crashes}
 use Rattle.cct_world.specs.World as worlds
 use Rattle.cct_world.specs.World.{Breaks, StandsFor, disk_of, setup_of, used_of}
 use Rattle.cct_world.specs.Sure.{Sure}
-use Rattle.cct_world.proofs.Holding.{Moves, holds_on, loses_at}
-use Rattle.cct_world.proofs.Lasting.{lasts_in, lasts_on, lasts_then, trusted_back, trusted_on, uncut_in}
+use Rattle.cct_world.proofs.Holding.{holds_on, loses_at}
+use Rattle.cct_world.proofs.Lasting.{lasts_in, lasts_on, lasts_then, trusted_on, uncut_in}
 use Rattle.cct_world.proofs.Restarts.{behind_on}
 use Rattle.cct_world.proofs.Sure.{crashes_none, rose_just, sure_back, sure_survives}
 use Rattle.cct_world.proofs.Surviving.{survived_by}
@@ -126,8 +126,7 @@ module _ {D : Type 0} {g : Ghosts D} where
 
   -- what holds of a machine does so behind a step that was played
   pub world_carried : (given last : D) (world : World D g) (After : List Entry → Type 0) (setup : Setup) (many : ℕ)
-      (s : Step) (WritesThem : List Entry → Type 0) → g.size given ≡ JOURNAL_BYTES → IsInRange s
-      → setup ≡ setup_of world
+      (s : Step) (WritesThem : List Entry → Type 0) → setup ≡ setup_of world
       → Outlasts g.size g.honest g.seen g.cuts given (disk_of world)
       → LastsIn s g.size g.honest g.seen g.cuts (disk_of world) last
       → PlaysOn (IsTrusted g.honest g.seen (disk_of world)) (StandsFor world) After (setup_of world) s
@@ -135,19 +134,10 @@ module _ {D : Type 0} {g : Ghosts D} where
       WritesThem
       → Carries (Sure (IsTrusted g.honest g.seen given)) (WorldHolds given world)
       (Holds g.size g.honest g.seen g.cuts g.cut_to After setup given last many) (setup_of world) s WritesThem
-  world_carried given last world After setup many s WritesThem sized in_range same on lasts p =
+  world_carried given last world After setup many s WritesThem same on lasts p =
       let trusted = IsTrusted g.honest g.seen given in
       let now = IsTrusted g.honest g.seen (disk_of world) in
       let news = reverse p.report in
-      let moves
-      : Moves (capacity_of (g.size given)) (setup_of world) (StandsFor world) After now (g.seen last) many s news =
-      record {
-        sound = world.machine.value.host.desks.sound;
-        in_range = in_range;
-        plays = λ past stands suits survives. let goes = p.plays past stands suits survives in
-            (subst (λ size. Entries (capacity_of size) (setup_of world) past s news) (sym sized) goes.0, goes.1);
-        goes_over = p.goes_over;
-      } in
       record {
         report = p.report;
         goes = λ played past before suits.
@@ -162,7 +152,7 @@ module _ {D : Type 0} {g : Ghosts D} where
                   (news ++ past)) (sym same)
                   (holds_on g.size g.honest g.seen g.cuts g.cut_to (setup_of world) given (StandsFor world) After
                   (disk_of world) last s (used_of world) many news played past on lasts p.told p.cut p.counts p.restarts
-                  moves (λ sure. (goes sure).1) before),
+                  (λ sure. (goes sure).1) before),
             );
         told = p.told;
         wrote = p.wrote;
@@ -180,16 +170,6 @@ module _ {D : Type 0} {g : Ghosts D} where
         subst (λ disk. Books g.honest g.seen g.may_leave disk (news ++ past)) (sym is)
             (world_books next (news ++ past) goes.1),
       )
-
-  -- and where that isn't trusted, nothing is said of it
-  pub books_over : (world next : World D g) (last : D) (s : Step)
-      → LastsIn s g.size g.honest g.seen g.cuts (disk_of world) (disk_of next) → last ≡ disk_of next
-      → GoesOver (StandsFor world) (Books g.honest g.seen g.may_leave last)
-      (IsTrusted g.honest g.seen (disk_of world)) (g.seen last) (used_of next) s
-  books_over world next last (step.Crash at choice) lasts is = λ image tells rs found many untrusted past stands trusted.
-      let now = subst (Outlasts g.size g.honest g.seen g.cuts (disk_of world)) (sym is) lasts in
-      absurd (untrusted (trusted_back g.size g.honest g.seen g.cuts (disk_of world) last now trusted))
-  books_over world next last s lasts is = tt
 
   -- the disk failed in a step
   torn_over : (given left : D) (world : World D g) (s : Step) → IsReady (g.size given) (g.seen given)
@@ -272,7 +252,7 @@ module _ {D : Type 0} {g : Ghosts D} where
     over = unplayed_over given left world why s ready on lasts lost breaks taken played unplayed past holds suits;
     survived = survived_by (Sure (IsTrusted g.honest g.seen given)) (Sure (IsTrusted g.honest g.seen given))
         (CutAt g.size g.honest g.seen g.cuts g.cut_to given (disk_of world))
-        (CutAt g.size g.honest g.seen g.cuts g.cut_to given left) (λ es sure. sure) (λ es sure. sure)
+        (CutAt g.size g.honest g.seen g.cuts g.cut_to given left) (λ es sure. sure)
         (behind_on g.size g.honest g.seen g.cuts g.cut_to given (disk_of world) left
         (lasts_in g.size g.honest g.seen g.cuts s (disk_of world) left lasts)) (setup_of world) played past
         holds.survived;
@@ -378,7 +358,7 @@ module _ {K D : Type 0} {g : Ghosts D} (written : K → Option (List ℕ))
 
   pub step_ends : (out out1 out2 : K) (left0 left left1 : Option (List ℕ)) (held rest : List ℕ) (number : ℕ)
       (stage : Stage) (how : Ending) (s : Step) (given last : D) (world : World D g)
-      → IsReady (g.size given) (g.seen given) → IsInRange s → Outlasts g.size g.honest g.seen g.cuts given (disk_of world)
+      → IsReady (g.size given) (g.seen given) → Outlasts g.size g.honest g.seen g.cuts given (disk_of world)
       → LastsIn s g.size g.honest g.seen g.cuts (disk_of world) last → IsDone (setup_of world) stage
       → Going (Sure (IsTrusted g.honest g.seen given)) left0 left held number stage (WorldHolds given world)
       (Wrote written puts out out1)
@@ -387,7 +367,7 @@ module _ {K D : Type 0} {g : Ghosts D} (written : K → Option (List ℕ))
       → OfBytes left0 (λ bytes. Played (Sure (IsTrusted g.honest g.seen given)) bytes how left1
       (Wrote written puts out out2) (Broke written puts out out2)
       (OverCut (disks g.size g.honest g.seen g.may_leave g.cuts g.cut_to given last)))
-  step_ends out out1 out2 left0 left left1 held rest number stage how s given last world ready in_range on lasts done going reads
+  step_ends out out1 out2 left0 left left1 held rest number stage how s given last world ready on lasts done going reads
       (inl (is, failed, many, played)) =
       let trusted = IsTrusted g.honest g.seen given in
       let B = Broke written puts out out2 in
@@ -404,8 +384,8 @@ module _ {K D : Type 0} {g : Ghosts D} (written : K → Option (List ℕ))
       (lasts_then g.size g.honest g.seen g.cuts given (disk_of world) last on
       (lasts_in g.size g.honest g.seen g.cuts s (disk_of world) last lasts))) done
       (λ xs ys whole broken. (out1, failed, whole, broken)) going reads
-      (world_carried given last world books (setup_of world) many s WritesThem ready.sized in_range refl on lasts played))
-  step_ends out out1 out2 left0 left left1 held rest number stage how s given last world ready in_range on lasts done going reads
+      (world_carried given last world books (setup_of world) many s WritesThem refl on lasts played))
+  step_ends out out1 out2 left0 left left1 held rest number stage how s given last world ready on lasts done going reads
       (inr (why, is, breaks, lost, same)) =
       let trusted = IsTrusted g.honest g.seen given in
       let B = Broke written puts out out2 in

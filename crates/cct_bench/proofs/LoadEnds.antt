@@ -26,7 +26,7 @@ use Rattle.cct_world.specs.Restarts.{CutAt, LosesAt, no_step}
 use Rattle.cct_world.specs.Step.{RoseBy, count_after, crashes}
 use Rattle.cct_world.specs.Sure.{First, MayFail, Sure, losses_in}
 use Rattle.cct_world.specs.World.{disk_of}
-use Rattle.cct_world.proofs.Lasting.{lasts_on, lasts_then, trusted_back, trusted_on}
+use Rattle.cct_world.proofs.Lasting.{lasts_on, lasts_then, trusted_on}
 use Rattle.cct_world.proofs.Early.{early_none}
 use Rattle.cct_world.proofs.Sure.{rose_just}
 use Rattle.cct_world.proofs.Surviving.{loses_by, survived_by}
@@ -244,10 +244,6 @@ module _ {D : Type 0} {g : Ghosts D} (given left : D) (world : World D g)
   relies past (inl trusted) = inl (now_trusted trusted)
   relies past (inr none) = inr none
 
-  relied : (past : List Entry) → Relies world past → Sure (IsTrusted g.honest g.seen given) past
-  relied past (inl trusted) = inl (trusted_back g.size g.honest g.seen g.cuts given (disk_of world) lasted trusted)
-  relied past (inr none) = inr none
-
   abbrev Cut : D → ℕ → (ℕ → Option (List ℕ) → Type 0) → Type 0
   Cut first = CutAt g.size g.honest g.seen g.cuts g.cut_to first left
 
@@ -274,7 +270,7 @@ module _ {D : Type 0} {g : Ghosts D} (given left : D) (world : World D g)
       first_by (loads.FailsAt world left why past)
       (LosesAt sure (Cut given) load_setup past (g.seen left) why) unplayed
       (λ s fails. loses_by (Relies world past) sure (Cut (disk_of world)) (Cut given) (relies past)
-      (relied past) cut_given load_setup past (g.seen left) why s (is s fails)) first
+      cut_given load_setup past (g.seen left) why s (is s fails)) first
 
   -- what was told, by how the playing of it ended
   told_by : (how : LoadEnd) (played unplayed : List Step) (past : List Entry)
@@ -368,7 +364,7 @@ module _ {D : Type 0} {g : Ghosts D} (given left : D) (world : World D g)
         book = λ trusted some. book_by how p.unplayed past (p.book (now_trusted trusted));
         keeps = λ trusted tells. keeps_by how p.unplayed past (p.book (now_trusted trusted)) tells;
         survived = survived_by (Relies world) (Sure (IsTrusted g.honest g.seen given)) (Cut (disk_of world)) (Cut given)
-            relies relied cut_given load_setup p.played past p.survived;
+            relies cut_given load_setup p.played past p.survived;
         cut = subst (λ n. RoseBy (crashes past) n (g.cuts left)) on.same_cuts p.cut;
         just = λ next. p.just next ∙ ap (count_after (crashes past)) on.same_cuts;
       }

@@ -8,7 +8,7 @@ use Rattle.cct_model.specs.Legal.{Entries, is_played}
 use Rattle.cct_model.specs.Records.{records}
 use Rattle.cct_model.specs.Script.{Read, at_steps, at_end, opens, plays, is_known, IsInRange}
 use Rattle.cct_world.specs.Machine.{StepSuits, Survives}
-use Rattle.cct_world.specs.Restarts.{GoesOver, RestartsIn}
+use Rattle.cct_world.specs.Restarts.{RestartsIn}
 use Rattle.cct_world.specs.Step.{crashes, crashes_of}
 use Rattle.cct_bench.specs.Disks.{most_records}
 
@@ -37,9 +37,8 @@ Plays trusted Before After setup s report =
     → Entries most_records setup past s (reverse report) × After (reverse report ++ past)
 
 -- A step was played, and just a loss of power tells one; this holds of the cuts of the disk. So many records were
--- counted before it, and so many after it, just those more that it tells; behind a loss of power a read gives these bytes,
--- and where the disk isn't trusted, what stood before stands for the past over the records that they are. Its entries
--- were written so, which holds by the answer.
+-- counted before it, and so many after it, just those more that it tells; behind a loss of power a read gives these
+-- bytes. Its entries were written so, which holds by the answer.
 pub record PlaysOn (trusted : Type 0) (Before After : List Entry → Type 0) (setup : Setup) (s : Step) (Cut : Type 0)
     (used many : ℕ) (seen : Option (List ℕ)) (WritesThem : List Entry → Type 0) : Type 0 where
   pub report : List Entry
@@ -48,5 +47,4 @@ pub record PlaysOn (trusted : Type 0) (Before After : List Entry → Type 0) (se
   pub cut : Cut
   pub counts : many ≡ used + length (records (reverse report))
   pub restarts : RestartsIn Before setup s used many seen (reverse report)
-  pub goes_over : GoesOver Before After trusted seen many s
   pub wrote : WritesThem report

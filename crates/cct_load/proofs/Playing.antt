@@ -6,7 +6,6 @@ use Rattle.cct_model.specs.lines.command.Step.TheVariants as step
 use Rattle.cct_model.specs.lines.entry.Entry.{Entry}
 use Rattle.cct_model.specs.Legal.{Entries, Legal, due_at}
 use Rattle.cct_model.specs.Records.{records}
-use Rattle.cct_model.specs.Script.{IsInRange}
 use Rattle.cct_model.specs.Transcript.{onto}
 use Rattle.cct_disk.specs.declared.disk.Disk.{Ghosts}
 use Rattle.cct_disk.specs.Disk.{IsTrusted}
@@ -24,9 +23,9 @@ use Rattle.cct_world.specs.Machine.{FailsIn, LosesIn, StepSuits}
 use Rattle.cct_world.specs.Restarts.{LosesAt, Survived}
 use Rattle.cct_world.specs.Step.{CutsIn, LastsIn, RoseBy, count_after, crashes, crashes_of}
 use Rattle.cct_world.specs.Sure.{MayFail, due_to}
-use Rattle.cct_world.specs.World.{Breaks, GoesOver, Plays, RestartsBy, StandsFor, capacity_in, disk_of, setup_of, used_of}
+use Rattle.cct_world.specs.World.{Breaks, Plays, RestartsBy, StandsFor, capacity_in, disk_of, setup_of, used_of}
 use Rattle.cct_world.proofs.Early.{early_more, early_none}
-use Rattle.cct_world.proofs.Holding.{holds_first, loses_at, world_moves, world_on}
+use Rattle.cct_world.proofs.Holding.{holds_first, loses_at, world_on}
 use Rattle.cct_world.proofs.Lasting.{lasts_here, lasts_in, lasts_then, trusted_on, uncut_in}
 use Rattle.cct_world.proofs.Restarts.{behind_on}
 use Rattle.cct_world.proofs.Suiting.{legal_suits}
@@ -34,7 +33,7 @@ use Rattle.cct_world.proofs.Sure.{crashes_none, sure_back, sure_survives}
 use Rattle.cct_world.proofs.Surviving.{survived_by}
 use Rattle.cct_gen.specs.Load.{line_at, lines_before, load_setup}
 use Rattle.cct_gen.proofs.LoadSetup.{setup_sound}
-use Rattle.cct_gen.proofs.Lines.{line_in_range, lines_in_range, one_line_more}
+use Rattle.cct_gen.proofs.Lines.{lines_in_range, one_line_more}
 use Rattle.cct_load.specs.declared.sums.LoadSums.{LoadSums}
 use Rattle.cct_load.specs.Sums.{SumsUp}
 use Rattle.cct_load.specs.Played.{Became, CutFor, FailsAt, HasTrusted, LeftAt, PlayedLines, Relies, Stopped, StoppedWithin}
@@ -105,14 +104,13 @@ module _ {D : Type 0} {g : Ghosts D} (world : World D g) where
       → CutsIn s g.size g.honest g.seen g.cuts g.cut_to (disk_of now) (disk_of next)
       → used_of next ≡ used_of now + length (records (reverse report))
       → RestartsBy now next s (reverse report)
-      → GoesOver now next s
       → setup_of next ≡ setup_of now
       → LastsIn s g.size g.honest g.seen g.cuts (disk_of now) (disk_of next)
       → g.faults (disk_of now) ≤ g.faults (disk_of next)
       → ((played : List Step) (past : List Entry) (s : Step) → SumsUp sums played past
       → SumsUp sums1 (played ++ s ∷ []) (reverse report ++ past))
       → Goes next sums1 seed (n + 1)
-  goes_on now next sums sums1 seed n s report is goes plays told cut many restarts goes_over same lasts later counts =
+  goes_on now next sums sums1 seed n s report is goes plays told cut many restarts same lasts later counts =
       let t = goes.lines.transcript in
       let past = onto [] t in
       let news = reverse report in
@@ -134,10 +132,7 @@ module _ {D : Type 0} {g : Ghosts D} (world : World D g) where
           holds = subst (Became world next sums1 seed (n + 1)) (sym on) (record {
             so = subst (λ steps. WorldHolds (disk_of world) next steps (news ++ past)) (sym more)
                 (world_on (disk_of world) now next s news (lines_before seed n) past goes.lasts lasts told cut many
-                restarts same
-                (world_moves (disk_of world) now next s report
-                (subst IsInRange (sym is) (line_in_range seed n)) goes.lasts plays goes_over)
-                (λ relies. (entries relies).1) before.so);
+                restarts same (λ relies. (entries relies).1) before.so);
             counted = subst (λ steps. SumsUp sums1 steps (news ++ past)) (sym more)
                 (counts (lines_before seed n) past s before.counted);
           });
@@ -224,7 +219,7 @@ module _ {D : Type 0} {g : Ghosts D} (world : World D g) where
             survived = subst (λ setup. Survived (Relies world) (CutFor world left) setup (lines_before seed n) past)
                 goes.setup
                 (survived_by (Relies world) (Relies world) (CutFor world (disk_of now)) (CutFor world left)
-                (λ es relies. relies) (λ es relies. relies)
+                (λ es relies. relies)
                 (behind_on g.size g.honest g.seen g.cuts g.cut_to (disk_of world) (disk_of now) left outlasts)
                 (setup_of now) (lines_before seed n) past before.survived);
             cut = rose_later (crashes past) (g.cuts (disk_of world)) (g.cuts (disk_of now)) (g.cuts left) before.cut

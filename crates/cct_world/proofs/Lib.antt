@@ -1,6 +1,5 @@
 pub mod Holding
 pub mod Lasting
-pub mod Reliving
 pub mod Restarts
 pub mod Suiting
 pub mod Sure

@@ -11,7 +11,6 @@ use Rattle.cct_model.specs.lines.entry.Entry.{Entry}
 use Rattle.cct_model.specs.lines.entry.Entry.TheVariants as entry
 use Rattle.cct_model.specs.Following.{all_follow}
 use Rattle.cct_model.specs.Records.{records}
-use Rattle.cct_bus.specs.Bus as wires
 use Rattle.cct_edge.specs.Faults.{next_count}
 use Rattle.cct_disk.specs.declared.disk.Disk.{Ghosts}
 use Rattle.cct_disk.specs.Disk.{IsTrusted}
@@ -31,14 +30,11 @@ use Rattle.cct_host.specs.Host as hosts
 use Rattle.cct_host.specs.Host.{put_by}
 use Rattle.cct_host.specs.Restarting.{HasAll, IsLost, Opens, ReadsBad, RefusesCrash, crash_news, due_of, told_by}
 use Rattle.cct_host.specs.Starting.{StartsOver}
-use Rattle.cct_host.proofs.Starting.{started_stands}
 use Rattle.cct_world.specs.declared.machine.Machine.{Machine}
-use Rattle.cct_world.specs.Machine.{Breaks, DueAsTold, GoesOver, StandsFor, disk_of, used_of}
-use Rattle.cct_world.specs.Restarts.{CutAt, HasBad, IsWhole, Loses, Restarts, kept_in}
+use Rattle.cct_world.specs.Machine.{Breaks, DueAsTold, StandsFor}
+use Rattle.cct_world.specs.Restarts.{CutAt, HasBad, Loses, Restarts, kept_in}
 use Rattle.cct_world.specs.Step.{count_after, unplayed}
-use Rattle.cct_world.specs.Relived.{over}
-use Rattle.cct_world.proofs.Lasting.{lasts_on, lasts_then, trusted_back}
-use Rattle.cct_world.proofs.Reliving.{over_frees, over_records, over_wire}
+use Rattle.cct_world.proofs.Lasting.{lasts_on, lasts_then}
 
 -- records behind others
 pub records_counted : (news past : List Entry)
@@ -192,31 +188,6 @@ module _ {D : Type 0} {g : Ghosts D} where
     );
   }
 
-  -- and goes over what a read gives, where its disk isn't trusted
-  pub crash_goes_over : (old new : Machine D g) (at : Option CrashAt) (choice : ℕ) → new.bus ≡ old.bus
-      → ((rs : List Record) → Reads g.seen (disk_of new) (journals.place_of (hosts.journal_of new.host)) rs
-      → StartsOver new.host (reverse rs))
-      → Outlasts g.size g.honest g.seen g.cuts (disk_of old) (disk_of new)
-      → GoesOver old new (step.Crash at choice)
-  crash_goes_over old new at choice same recalls lasts image tells rs image_is many untrusted past stands =
-      let used = used_of new in
-      let starts = recalls rs (record { image = image; tells = tells; stands = image_is; count = sym many }) in
-      record {
-        host = started_stands new.host (over used (reverse rs) past) (reverse rs) (over_frees used (reverse rs) past)
-            (over_records used (reverse rs) past) starts
-            (λ trusted. absurd (untrusted (trusted_back g.size g.honest g.seen g.cuts (disk_of old) (disk_of new) lasts
-            trusted)));
-        bus = over_wire new.bus used (reverse rs) past (subst (λ bus. wires.StandsFor bus past) (sym same) stands.bus);
-      }
-
--- what is so of records that follow one another is so of them
-pub whole_by : (setup : Setup) (P Q : List Record → Type 0)
-    → ((rs : List Record) → all_follow setup (reverse rs) ≡ true → P rs → Q rs) → (seen : Option (List ℕ))
-    → IsWhole setup seen P → IsWhole setup seen Q
-whole_by setup P Q goes seen whole image tells =
-    let found = whole image tells in
-    (found.0, found.1, goes found.0 found.3 found.2, found.3)
-
 module _ {D : Type 0} (size : D → ℕ) (honest : D → Bool) (seen : D → Option (List ℕ)) (cuts : D → ℕ)
     (cut_to : D → ℕ → D → Type 0) (given : D) where
   -- what is so behind a cut, where the disk lasts
@@ -231,20 +202,6 @@ module _ {D : Type 0} (size : D → ℕ) (honest : D → Bool) (seen : D → Opt
     lasts = lasts_then size honest seen cuts cut.behind old new cut.lasts lasts;
     count = cut.count;
     holds = cut.holds;
-  }
-
-  -- where more is known of what a read gave
-  pub behind_by : (now : D) (times : ℕ) (P Q : ℕ → Option (List ℕ) → Type 0) → ((chosen : ℕ) (behind : Option (List ℕ)) → P chosen behind → Q chosen behind)
-      → CutAt size honest seen cuts cut_to given now times P → CutAt size honest seen cuts cut_to given now times Q
-  behind_by now times P Q goes cut = record {
-    before = cut.before;
-    choice = cut.choice;
-    behind = cut.behind;
-    lasted = cut.lasted;
-    is_cut = cut.is_cut;
-    lasts = cut.lasts;
-    count = cut.count;
-    holds = goes cut.choice (seen cut.behind) cut.holds;
   }
 
   -- and behind a cut that was made just now

@@ -26,17 +26,6 @@ pub sure_back : (trusted : Type 0) (news past : List Entry) → Sure trusted (ne
 sure_back trusted news past (inl is) = inl is
 sure_back trusted news past (inr none) = inr (omega (arith, none, crashes-append news past))
 
--- and behind entries that tell no loss of power it may still be
-pub sure_on : (trusted : Type 0) (news past : List Entry) → crashes news ≡ 0 → Sure trusted past
-    → Sure trusted (news ++ past)
-sure_on trusted news past quiet (inl is) = inl is
-sure_on trusted news past quiet (inr none) = inr (omega (arith, none, quiet, crashes-append news past))
-
--- a step that is no loss of power takes nothing for granted of the disk
-pub quiet_survives : (trusted : Type 0) (s : Step) → crashes_of s ≡ 0 → Survives trusted s
-quiet_survives trusted (step.Crash at choice) quiet = cc quiet
-quiet_survives trusted s quiet = tt
-
 -- what a step takes for granted of the disk is so where the past with its entries may be relied on
 pub sure_survives : (given trusted : Type 0) → (given → trusted) → (news past : List Entry) (s : Step)
     → crashes news ≡ crashes_of s → Sure given (news ++ past) → Survives trusted s

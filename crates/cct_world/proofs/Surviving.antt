@@ -1,5 +1,5 @@
 -- What is so at each of the steps of a past, and at the losses of power among them.
-use Rattle.std.proofs.Common.{◌≡◌, ◌++◌, ℕ, suc, List, [], ◌∷◌, Option, Some, None, length, refl}
+use Rattle.std.proofs.Common.{◌≡◌, ◌++◌, ℕ, suc, List, [], ◌∷◌, Option, length, refl}
 use Rattle.cct_model.specs.terms.device.Setup.{Setup}
 use Rattle.cct_model.specs.lines.command.CrashAt.{CrashAt}
 use Rattle.cct_model.specs.lines.command.Step.{Step}
@@ -8,7 +8,7 @@ use Rattle.cct_model.specs.lines.record.Record.{Record}
 use Rattle.cct_model.specs.lines.entry.Entry.{Entry}
 use Rattle.cct_model.specs.Records.{records}
 use Rattle.cct_world.specs.declared.refusal.WorldNo.{WorldNo}
-use Rattle.cct_world.specs.Restarts.{AreMany, EachStep, IsDueOver, IsWhole, Loses, LosesAt, RestartsAt, Survived, WasDue}
+use Rattle.cct_world.specs.Restarts.{EachStep, IsWhole, Loses, LosesAt, RestartsAt, Survived, WasDue}
 use Rattle.cct_world.specs.Restarts.{no_step, one_step_more}
 use Rattle.cct_world.specs.Step.{crashes}
 
@@ -26,18 +26,12 @@ each_by P Q goes steps told (one_step_more before _ past _ news s earlier here s
     one_step_more before steps past told news s (each_by P Q goes before past earlier) (goes past s news here) steps_are
     told_is
 
--- as much may be relied on, and as much is known of each cut
+-- no more may be relied on, and as much is known of each cut
 module _ (sure sure1 : Type 0) (Cut Cut1 : ℕ → (ℕ → Option (List ℕ) → Type 0) → Type 0) (more : sure1 → sure)
-    (less : sure → sure1) (goes : (times : ℕ) (P : ℕ → Option (List ℕ) → Type 0) → Cut times P → Cut1 times P)
+    (goes : (times : ℕ) (P : ℕ → Option (List ℕ) → Type 0) → Cut times P → Cut1 times P)
     (setup : Setup) (past : List Entry) where
-  pub due_by : (at : Option CrashAt) (due : Option Record) → WasDue sure Cut setup past at due
-      → WasDue sure1 Cut1 setup past at due
-  due_by None due was = was
-  due_by (Some at) due was = (
-    λ is. was.0 (more is),
-    λ unsure. goes (crashes past) (λ chosen behind. IsWhole setup behind (IsDueOver setup past at.addr due))
-        (was.1 (λ is. unsure (less is))),
-  )
+  due_by : (at : Option CrashAt) (due : Option Record) → WasDue sure setup past at due → WasDue sure1 setup past at due
+  due_by at due was = record { none = was.none; told = λ is. was.told (more is) }
 
   pub loses_by : (seen : Option (List ℕ)) (why : WorldNo) (s : Step) → LosesAt sure Cut setup past seen why s
       → LosesAt sure1 Cut1 setup past seen why s
@@ -58,16 +52,16 @@ module _ (sure sure1 : Type 0) (Cut Cut1 : ℕ → (ℕ → Option (List ℕ) �
     all,
     told,
     goes (suc (crashes past))
-        (λ chosen behind. (chosen ≡ choice) × IsWhole setup behind (AreMany many)) cut,
+        (λ chosen behind. (chosen ≡ choice) × IsWhole setup behind many) cut,
   )
   restarts_by s news told = told
 
 pub survived_by : (Relies Relies1 : List Entry → Type 0) (Cut Cut1 : ℕ → (ℕ → Option (List ℕ) → Type 0) → Type 0)
-    → ((past : List Entry) → Relies1 past → Relies past) → ((past : List Entry) → Relies past → Relies1 past)
+    → ((past : List Entry) → Relies1 past → Relies past)
     → ((times : ℕ) (P : ℕ → Option (List ℕ) → Type 0) → Cut times P → Cut1 times P) → (setup : Setup) (steps : List Step)
     (past : List Entry) → Survived Relies Cut setup steps past → Survived Relies1 Cut1 setup steps past
-survived_by Relies Relies1 Cut Cut1 more less goes setup steps past survives =
+survived_by Relies Relies1 Cut Cut1 more goes setup steps past survives =
     each_by (λ before s news. RestartsAt (Relies before) Cut setup before s news)
     (λ before s news. RestartsAt (Relies1 before) Cut1 setup before s news)
-    (λ before s news. restarts_by (Relies before) (Relies1 before) Cut Cut1 (more before) (less before) goes setup before s
+    (λ before s news. restarts_by (Relies before) (Relies1 before) Cut Cut1 (more before) goes setup before s
     news) steps past survives

@@ -1,5 +1,4 @@
 pub mod Step
-pub mod Relived
 pub mod Restarts
 pub mod Machine
 pub mod Sure

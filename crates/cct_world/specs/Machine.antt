@@ -21,7 +21,6 @@ use Rattle.cct_host.specs.Restarting as restarting
 use Rattle.cct_world.specs.declared.machine.Machine.{Machine}
 use Rattle.cct_world.specs.declared.refusal.WorldNo.{WorldNo}
 use Rattle.cct_world.specs.declared.refusal.WorldNo.TheVariants as world_no
-use Rattle.cct_world.specs.Restarts as restarts
 use Rattle.cct_world.specs.Restarts.{Loses, Restarts, kept_in}
 
 -- What a step takes for granted of the past: of a `next`, that the record that it puts, if it puts one, suits the
@@ -112,11 +111,6 @@ module _ {D : Type 0} {g : Ghosts D} where
       DueAsTold old at
       × Restarts (setup_of old) (due_of old at) (used_of old) (used_of new) (g.seen (disk_of new)) news
   RestartsBy old new s news = kept_in news ≡ []
-
-  -- Where its disk isn't trusted, a machine stands behind a loss of power for the past over the records that a read gives.
-  abbrev pub GoesOver : Machine D g → Machine D g → Step → Type 0
-  GoesOver old new s =
-      restarts.GoesOver (StandsFor old) (StandsFor new) (HasTrusted old) (g.seen (disk_of new)) (used_of new) s
 
   -- Why a step wasn't played, where this disk is left.
   abbrev pub Breaks : Machine D g → D → WorldNo → Step → Type 0

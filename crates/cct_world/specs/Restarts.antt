@@ -1,5 +1,5 @@
 -- What a disk has behind a loss of power: a journal over which the host starts again, or why it doesn't.
-use Rattle.std.specs.Prelude.{◌≡◌, ◌⊎◌, ℕ, suc, Bool, true, List, [], ◌∷◌, ◌++◌, length, reverse, Option, Some, None, ⊤}
+use Rattle.std.specs.Prelude.{◌≡◌, ◌⊎◌, ℕ, suc, Bool, true, List, [], ◌∷◌, ◌++◌, length, reverse, Option, Some, None}
 use Rattle.cct_model.specs.terms.device.Setup.{Setup}
 use Rattle.cct_model.specs.lines.command.CrashAt.{CrashAt}
 use Rattle.cct_model.specs.lines.command.Step.{Step}
@@ -8,7 +8,6 @@ use Rattle.cct_model.specs.lines.record.Record.{Record}
 use Rattle.cct_model.specs.lines.entry.Entry.{Entry}
 use Rattle.cct_model.specs.lines.entry.Entry.TheVariants as entry
 use Rattle.cct_model.specs.Following.{all_follow}
-use Rattle.cct_model.specs.Legal.{due_at}
 use Rattle.cct_model.specs.Records.{records}
 use Rattle.cct_journal.specs.Image.{IsAlien, IsBadAt, StandsFor}
 use Rattle.cct_journal.specs.Stands.{Outlasts}
@@ -17,7 +16,6 @@ use Rattle.cct_host.specs.Restarting.{HasAll, IsLost, told_by}
 use Rattle.cct_host.specs.Starting.{IsFirstBad}
 use Rattle.cct_world.specs.declared.refusal.WorldNo.{WorldNo}
 use Rattle.cct_world.specs.declared.refusal.WorldNo.TheVariants as world_no
-use Rattle.cct_world.specs.Relived.{over, relived}
 use Rattle.cct_world.specs.Step.{count_after, crashes}
 
 -- An image stands for so many records.
@@ -41,16 +39,11 @@ Loses setup put due seen (world_no.BadRecord index) =
 Loses setup put due seen (world_no.Lost found many) =
     (many ≡ put) × IsLost due found put × ((image : List ℕ) → seen ≡ Some image → HasRecords image found)
 
--- What a read gives, where that is told, stands for records, each of which follows those before it, and this holds of
--- them.
-abbrev pub IsWhole : Setup → Option (List ℕ) → (List Record → Type 0) → Type 0
-IsWhole setup seen P =
+-- What a read gives, where that is told, stands for so many records, each of which follows those before it.
+abbrev pub IsWhole : Setup → Option (List ℕ) → ℕ → Type 0
+IsWhole setup seen many =
     (image : List ℕ) → seen ≡ Some image
-    → (rs : List Record) × StandsFor image rs × P rs × (all_follow setup (reverse rs) ≡ true)
-
--- Records are so many.
-abbrev pub AreMany : ℕ → List Record → Type 0
-AreMany many rs = length rs ≡ many
+    → (rs : List Record) × StandsFor image rs × (length rs ≡ many) × (all_follow setup (reverse rs) ≡ true)
 
 -- A host starts again behind a loss of power, where so many records were put and this one was due, if one was: these are
 -- its entries, newest first; none of the records is missing; so many does its journal then count; and a read of the
@@ -59,7 +52,7 @@ pub record Restarts (setup : Setup) (due : Option Record) (put many : ℕ) (seen
     : Type 0 where
   pub all : HasAll due many put
   pub news_are : news ≡ told_by many all.kept
-  pub whole : IsWhole setup seen (AreMany many)
+  pub whole : IsWhole setup seen many
 
 -- The records that entries tell as kept.
 abbrev pub kept_in : List Entry → List Record
@@ -75,14 +68,6 @@ RestartsIn Before setup (step.Crash at choice) put many seen news =
     × ((past : List Entry) → Before past → due ≡ due_in setup past at) × Restarts setup due put many seen news
 RestartsIn Before setup s put many seen news = kept_in news ≡ []
 
--- Behind a step that is a loss of power, where the disk isn't trusted: what stood for a past before it now stands for the
--- past over the records that a read gives, which are so many.
-abbrev pub GoesOver : (List Entry → Type 0) → (List Entry → Type 0) → Type 0 → Option (List ℕ) → ℕ → Step → Type 0
-GoesOver Before After trusted seen many (step.Crash at choice) =
-    (image : List ℕ) → seen ≡ Some image → (rs : List Record) → StandsFor image rs → AreMany many rs → (trusted → ⊥)
-    → (past : List Entry) → Before past → After (over many (reverse rs) past)
-GoesOver Before After trusted seen many s = ⊤
-
 -- While a disk became another its power was cut for this time, and this holds of the choice of the cut and of what a read
 -- gave right behind it.
 pub record CutAt {D : Type 0} (size : D → ℕ) (honest : D → Bool) (seen : D → Option (List ℕ)) (cuts : D → ℕ)
@@ -96,28 +81,19 @@ pub record CutAt {D : Type 0} (size : D → ℕ) (honest : D → Bool) (seen : D
   pub count : cuts behind ≡ count_after times (cuts given)
   pub holds : P choice (seen behind)
 
--- This record, or none, is due at an address behind a past with these records in place of all up to its last loss of
--- power; with those behind it they are as many as the past tells.
-pub record IsDueOver (setup : Setup) (past : List Entry) (addr : ℕ) (due : Option Record) (rs : List Record) : Type 0 where
-  pub many : length (records (relived (reverse rs) past)) ≡ length (records past)
-  pub due_is : due ≡ due_at setup (relived (reverse rs) past) addr
-
--- This record, or none, was due where a loss of power comes behind a past: none where that names no put; and else what
--- the past tells, where it may be relied on, and where it may not, what it tells with the records that were found right
--- behind its last cut.
-abbrev pub WasDue : Type 0 → (ℕ → (ℕ → Option (List ℕ) → Type 0) → Type 0) → Setup → List Entry → Option CrashAt
-    → Option Record → Type 0
-WasDue sure Cut setup past None due = due ≡ None
-WasDue sure Cut setup past (Some at) due =
-    (sure → due ≡ due_at setup past at.addr)
-    × ((sure → ⊥) → Cut (crashes past) (λ chosen behind. IsWhole setup behind (IsDueOver setup past at.addr due)))
+-- This record, or none, was due where a loss of power comes behind a past: none where that names no put; and the one that
+-- the past tells, where it may be relied on.
+pub record WasDue (sure : Type 0) (setup : Setup) (past : List Entry) (at : Option CrashAt) (due : Option Record)
+    : Type 0 where
+  pub none : at ≡ None → due ≡ None
+  pub told : sure → due ≡ due_in setup past at
 
 -- The step behind a past is a loss of power, and this is why no host starts again behind it, by what a read gave right
 -- behind the cut, as it then still does; the cut was by the choice of the step.
 abbrev pub LosesAt : Type 0 → (ℕ → (ℕ → Option (List ℕ) → Type 0) → Type 0) → Setup → List Entry → Option (List ℕ) → WorldNo
     → Step → Type 0
 LosesAt sure Cut setup past seen why (step.Crash at choice) =
-    (due : Option Record) × WasDue sure Cut setup past at due
+    (due : Option Record) × WasDue sure setup past at due
     × Cut (suc (crashes past))
     (λ chosen behind. (chosen ≡ choice) × (seen ≡ behind) × Loses setup (length (records past)) due behind why)
 LosesAt sure Cut setup past seen why s = ⊥
@@ -127,9 +103,9 @@ LosesAt sure Cut setup past seen why s = ⊥
 -- step tells none, and no record as kept.
 abbrev pub RestartsAt : Type 0 → (ℕ → (ℕ → Option (List ℕ) → Type 0) → Type 0) → Setup → List Entry → Step → List Entry → Type 0
 RestartsAt sure Cut setup past (step.Crash at choice) news =
-    (due : Option Record) × (many : ℕ) × WasDue sure Cut setup past at due
+    (due : Option Record) × (many : ℕ) × WasDue sure setup past at due
     × (all : HasAll due many (length (records past))) × (news ≡ told_by many all.kept)
-    × Cut (suc (crashes past)) (λ chosen behind. (chosen ≡ choice) × IsWhole setup behind (AreMany many))
+    × Cut (suc (crashes past)) (λ chosen behind. (chosen ≡ choice) × IsWhole setup behind many)
 RestartsAt sure Cut setup past s news = (crashes news ≡ 0) × (kept_in news ≡ [])
 
 -- A past, newest entry first, is that of these steps, oldest first; and this holds of each, with the past before it and

@@ -39,10 +39,6 @@ module _ {D : Type 0} {g : Ghosts D} where
   abbrev pub RestartsBy : World D g → World D g → Step → List Entry → Type 0
   RestartsBy old new s news = machines.RestartsBy old.machine.value new.machine.value s news
 
-  -- Where its disk isn't trusted, a world stands behind a loss of power for the past over the records that a read gives.
-  abbrev pub GoesOver : World D g → World D g → Step → Type 0
-  GoesOver old new s = machines.GoesOver old.machine.value new.machine.value s
-
   -- Why a step wasn't played, where this disk is left.
   abbrev pub Breaks : World D g → D → WorldNo → Step → Type 0
   Breaks old left why s = machines.Breaks old.machine.value left why s

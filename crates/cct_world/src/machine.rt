@@ -33,7 +33,7 @@ pub(crate) struct Machine<'s, D: Disk> {
 }
 
 impl<D: Disk> Machine<'_, D> {
-    ghost use Rattle.cct_world.specs.Machine.{Breaks, FailsIn, GoesOver, Plays, RestartsBy, StandsFor, disk_of, has_failed, setup_of, used_of};
+    ghost use Rattle.cct_world.specs.Machine.{Breaks, FailsIn, Plays, RestartsBy, StandsFor, disk_of, has_failed, setup_of, used_of};
 
     pub fn knows(&self, step: &Step) -> bool
         ensures { result ≡ is_known (setup_of self.now) step.now }
@@ -66,7 +66,6 @@ impl<D: Disk> Machine<'_, D> {
         ensures counts { OnOk result
             (used_of self.new ≡ used_of self.old + length (records (reverse report.new.items))) }
         ensures restarts { OnOk result (RestartsBy self.old self.new step.now (reverse report.new.items)) }
-        ensures goes_over { OnOk result (GoesOver self.old self.new step.now) }
         ensures cut { OnOk result (CutsIn step.now D.size D.honest D.seen D.cuts D.cut_to (disk_of self.old)
             (disk_of self.new)) }
         ensures breaks { IfErr result (λ why. Breaks self.old (disk_of self.new) why step.now) }
@@ -107,7 +106,6 @@ impl<D: Disk> Machine<'_, D> {
         ensures told { crashes (reverse report.new.items) ≡ 0 }
         ensures recorded { records (reverse report.new.items) ≡ [] }
         ensures restarts { RestartsBy self.old self.new step.now (reverse report.new.items) }
-        ensures goes_over { GoesOver self.old self.new step.now }
     {
         match step {
             Step::Coin { addr, place } => self.coin(*addr, *place, report),
@@ -144,7 +142,6 @@ impl<D: Disk> Machine<'_, D> {
             (used_of self.new ≡ used_of self.old + length (records (reverse report.new.items))) }
         ensures restarts { OnOk result
             (RestartsBy self.old self.new (step.Crash at choice) (reverse report.new.items)) }
-        ensures goes_over { OnOk result (GoesOver self.old self.new (step.Crash at choice)) }
         ensures cut { OnOk result
             (CutOnce D.size D.honest D.seen D.cuts D.cut_to choice (disk_of self.old) (disk_of self.new)) }
         ensures breaks { IfErr result (λ why. Breaks self.old (disk_of self.new) why (step.Crash at choice)) }

@@ -33,7 +33,7 @@ pub struct World<'s, D: Disk> {
 }
 
 impl<'s, D: Disk> World<'s, D> {
-    ghost use Rattle.cct_world.specs.World.{Breaks, GoesOver, Plays, RestartsBy, StandsFor, disk_of, setup_of, used_of};
+    ghost use Rattle.cct_world.specs.World.{Breaks, Plays, RestartsBy, StandsFor, disk_of, setup_of, used_of};
 
     /// A machine with the devices of a setup, on which nothing has happened, over a journal without records. This takes
     /// all memory that the machine ever has.
@@ -96,7 +96,6 @@ impl<'s, D: Disk> World<'s, D> {
             used_of world ≡ used_of self.entry + length (records (reverse report.new.items))) }
         ensures restarts { IfOk result (λ world.
             RestartsBy self.entry world step.now (reverse report.new.items)) }
-        ensures goes_over { IfOk result (λ world. GoesOver self.entry world step.now) }
         ensures cut { MatchResult result (λ world. CutsIn step.now D.size D.honest D.seen D.cuts D.cut_to
             (disk_of self.entry) (disk_of world)) (λ e. e.1 ≢ WorldNo.Disk
             → CutsIn step.now D.size D.honest D.seen D.cuts D.cut_to (disk_of self.entry) e.0) }

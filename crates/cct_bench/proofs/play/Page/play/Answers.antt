@@ -4,7 +4,7 @@ use Rattle.cct_world.specs.Restarts.{RestartsIn}
 use Rattle.cct_world.specs.World.{StandsFor, disk_of, setup_of, used_of}
 use Rattle.cct_text.specs.Writing.{Writes}
 use Rattle.cct_world.proofs.Holding.{restarts_in}
-use Rattle.cct_bench.proofs.Keeping.{books_over, books_play}
+use Rattle.cct_bench.proofs.Keeping.{books_play}
 use Rattle.cct_bench.proofs.play.Page.play.Goals as goal
 
 pub returns-in-Err-write_entries-clause-ended : goal.returns-in-Err-write_entries-clause-ended
@@ -32,7 +32,6 @@ returns-in-Err-write_entries-clause-ended g c =
         restarts = subst (λ d. RestartsIn (StandsFor world) (setup_of world) s (used_of world) (used_of next) (disk.seen d)
             (reverse c.step.new.report.items)) (sym is)
             (restarts_in world next s (reverse c.step.new.report.items) played.restarts);
-        goes_over = books_over world next last s played.lasts is;
         wrote = subst
             (λ report. Writes sink.written sink.puts c.args.out.now report (Err failed) c.write_entries.new.out)
             c.as_slice.ensures.value c.in-Err-write_entries.ensures.writes;

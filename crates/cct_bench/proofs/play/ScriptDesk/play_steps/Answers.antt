@@ -111,8 +111,7 @@ returns-in-Err-play-clause-played g c left0 given ready on start =
     (λ bytes. ScriptGoesOn number stage bytes (if b then opens (at_end setup) else plays s (at_steps setup)) rest))
     (sym c.is_end.ensures ∙ c.if-is_end.false) c.in-Ok.ensures.reads in
     step_ends sink.written sink.puts out out1 out2 left0 left left1 held rest number stage c.in-Err-play.ended.0 s given
-    c.in-Err-play.ended.1 world ready (c.in-Ok.ensures.can (sym c.is_end.ensures ∙ c.if-is_end.false)).in_range now
-    played.lasts refl (runs.going left0 given on start) reads played.ended
+    c.in-Err-play.ended.1 world ready now played.lasts refl (runs.going left0 given on start) reads played.ended
 
 pub returns-in-Err-play-clause-lasts : goal.returns-in-Err-play-clause-lasts
 returns-in-Err-play-clause-lasts g c =
@@ -163,9 +162,7 @@ loop-why-preserved g c =
           (λ xs ys before here. writes_then sink.written sink.puts out out1 out2 xs ys (Ok tt) before here)
           (runs.going left0 given on start) reads
           (world_carried given (disk_of world1) world (StandsFor world1) (setup_of world1) (used_of world1) s
-          (λ report. Writes sink.written sink.puts out1 report (Ok tt) out2) (sym on.same_size ∙ c.requires.size)
-          (c.in-Ok.ensures.can (sym c.is_end.ensures ∙ c.if-is_end.false)).in_range played.setup now played.lasts
-          played.plays)
+          (λ report. Writes sink.written sink.puts out1 report (Ok tt) out2) played.setup now played.lasts played.plays)
           );
       source = c.in-Ok.ensures.tells ∙ runs.source;
       sink = played.tells ∙ runs.sink;

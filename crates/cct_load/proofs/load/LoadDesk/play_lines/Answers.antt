@@ -33,7 +33,7 @@ loop-line-preserved g c =
     let made = c.in-Ok.ensures in
     goes_on c.args.world c.loop-line.world c.in-Ok.world c.loop-line.self.sums c.add_step.new.self c.args.load.seed
     c.loop-line.line c.nth_line-step.result c.step.new.report.items c.nth_line-step.ensures.value c.loop-line.invariant
-    made.plays made.told made.cut made.counts made.restarts made.goes_over made.setup made.lasts made.later
+    made.plays made.told made.cut made.counts made.restarts made.setup made.lasts made.later
     (subst (λ report. (played : List Step) (past : List Entry) (s : Step) → SumsUp c.loop-line.self.sums played past
     → SumsUp c.add_step.new.self (played ++ s ∷ []) (reverse report ++ past)) c.as_slice.ensures.value
     c.add_step.ensures)

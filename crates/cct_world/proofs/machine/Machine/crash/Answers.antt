@@ -1,8 +1,8 @@
-use Rattle.std.proofs.Common.{refl, subst, sym}
+use Rattle.std.proofs.Common.{subst, sym}
 use Rattle.cct_model.specs.lines.command.Step.TheVariants.{Crash}
 use Rattle.cct_host.specs.Host.{disk_of}
 use Rattle.cct_world.specs.Machine.{Breaks}
-use Rattle.cct_world.proofs.Restarts.{crash_breaks, crash_goes_over, crash_restarts, restarts_count}
+use Rattle.cct_world.proofs.Restarts.{crash_breaks, crash_restarts, restarts_count}
 use Rattle.cct_world.proofs.machine.Machine.crash.Goals as goal
 
 pub returns-in-Ok-clause-restarts : goal.returns-in-Ok-clause-restarts
@@ -30,8 +30,3 @@ returns-in-Err-clause-breaks g c =
     subst (λ why. Breaks machine (disk_of host) why (Crash c.args.at c.args.choice)) (sym c.unplayed.ensures)
     (crash_breaks machine host c.args.at c.args.choice c.in-Err.why restart.refused restart.never restart.left
     c.restart.ensures.due)
-
-pub returns-in-Ok-clause-goes_over : goal.returns-in-Ok-clause-goes_over
-returns-in-Ok-clause-goes_over g c =
-    let restart = c.in-Ok.ensures in
-    crash_goes_over c.args.self.now _ c.args.at c.args.choice refl restart.recalls c.restart.ensures.outlasts

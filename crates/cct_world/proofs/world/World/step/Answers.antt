@@ -6,8 +6,3 @@ pub returns-in-Ok-clause-plays : goal.returns-in-Ok-clause-plays
 returns-in-Ok-clause-plays g c =
     subst (λ machine. machines.Plays machine c.step.new.self c.args.step.now c.step.new.report.items)
     c.deref_mut.ensures.value c.in-Ok.ensures.plays
-
-pub returns-in-Ok-clause-goes_over : goal.returns-in-Ok-clause-goes_over
-returns-in-Ok-clause-goes_over g c =
-    subst (λ machine. machines.GoesOver machine c.step.new.self c.args.step.now) c.deref_mut.ensures.value
-    c.in-Ok.ensures.goes_over
