@@ -21,14 +21,13 @@ ghost use Rattle.cct_gen.specs.Load.{load_steps};
 ghost use Rattle.cct_bench.specs.Load.{Loaded};
 ghost use Rattle.cct_bench.specs.Report.{IsDecided, IsOrMemory, Reported, image_known, records_known, size_known};
 ghost use Rattle.cct_bench.specs.Run.{Ran, status_by, Completes};
-ghost use Rattle.cct_bench.specs.Words.{AreRefused, said_in};
+ghost use Rattle.cct_bench.specs.CommandLine.{AreRefused, said_in};
 
 use cct_disk::Disk;
 use cct_edge::{Sink, Source};
 use cct_load::Load;
 use cct_model::Entry;
 use cct_text::TextLine;
-use cct_words::{Words, WordsNo, read_words};
 use loading::run_load;
 use play::{Bench, close};
 use reporting::report;
@@ -42,6 +41,7 @@ mod play;
 mod reporting;
 mod steps;
 
+pub use cct_words::{Words, WordsNo, read_words};
 pub use outcome::Status;
 
 /// Runs the program: by the words of the command line, without its name, plays a script and writes the transcript

@@ -10,12 +10,12 @@ use Rattle.cct_bench.specs.declared.outcome.Status.TheVariants as status
 use Rattle.cct_bench.specs.Disks.{disks}
 use Rattle.cct_bench.specs.Load.{Loaded}
 use Rattle.cct_bench.specs.Report.{IsOrMemory}
-use Rattle.cct_bench.specs.Words.{said_in}
+use Rattle.cct_bench.specs.CommandLine.{said_in}
 use Rattle.cct_text.specs.Writing.{Wrote, Broke}
 use Rattle.cct_bench.specs.Run.{Completes, Ran}
 use Rattle.cct_bench.proofs.Closing.{no_memory, bytes_weaker, told_completes}
 use Rattle.cct_bench.proofs.LoadEnds.{load_at_once, load_completes}
-use Rattle.cct_bench.proofs.Words.{load_said, words_most}
+use Rattle.cct_bench.proofs.CommandLine.{load_said, words_most}
 use Rattle.cct_text.proofs.Writing.{wrote_none}
 use Rattle.cct_bench.proofs.bench.Goals as goal
 
