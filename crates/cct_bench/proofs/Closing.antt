@@ -1,6 +1,6 @@
 -- The last line of a run, and what its status says.
 use Rattle.std.proofs.Common.{◌≡◌, ◌≢◌, ℕ, List, [], ◌∷◌, ◌++◌, Option, None, Some, Result, Ok, Err, refl}
-use Rattle.std.proofs.Common.{sym, ap, subst, inl, inr, arith, ◌∙◌, ◌⊎◌}
+use Rattle.std.proofs.Common.{sym, ap, subst, inl, inr, append_assoc, arith, ◌∙◌, ◌⊎◌}
 use Rattle.std.specs.Prelude.{IfSome, is_some, true}
 use Rattle.std.proofs.lemmas.List.{append-nil}
 use Rattle.cct_edge.specs.declared.fault.Failed.{Failed}
@@ -12,7 +12,7 @@ use Rattle.cct_model.specs.Legal.{Legal}
 use Rattle.cct_model.specs.lines.entry.Entry.TheVariants as entry
 use Rattle.cct_model.specs.Script.{script, Refusal}
 use Rattle.cct_model.specs.Transcript.{onto}
-use Rattle.cct_laws.proofs.Scripts.{played_in_order, played_covers, played_paid}
+use Rattle.cct_laws.proofs.Scripts.{played_in_order, played_covers, played_fresh, played_paid}
 use Rattle.cct_journal.specs.Image.{IsBlank, IsFirstByteFrom}
 use Rattle.cct_bench.specs.declared.outcome.Status.{Status}
 use Rattle.cct_bench.specs.declared.outcome.Status.TheVariants as status
@@ -21,53 +21,116 @@ use Rattle.cct_bench.specs.declared.play.Ending.TheVariants as ending
 use Rattle.cct_bench.specs.declared.play.TheConstants.{JOURNAL_BYTES}
 use Rattle.cct_world.specs.declared.refusal.WorldNo.{WorldNo}
 use Rattle.cct_world.specs.declared.refusal.WorldNo.TheVariants as world_no
+use Rattle.cct_world.specs.Early.{LegalBeforeLoss}
 use Rattle.cct_world.specs.Restarts.{LosesAt, no_step}
 use Rattle.cct_world.specs.Sure.{First, IsCrash, Sure, losses_in}
 use Rattle.cct_bench.specs.Disks.{Disks, most_records}
+use Rattle.cct_bench.specs.Money.{IsRight, RightBeforeLoss}
+use Rattle.cct_bench.specs.Source.{AreTold, OfBytes, to_come}
 use Rattle.cct_text.specs.Writing.{Writes, Wrote, Broke}
 use Rattle.cct_bench.specs.Run.{Book, BreaksOff, Closes, Completes, Ends, EndsLost, IsOfScript, Over, OverCut}
 use Rattle.cct_bench.specs.Run.{OverLost, Played, Ran, TellsLoss, TellsOf, last_entry, listed, status_by, status_of}
+use Rattle.cct_world.proofs.Early.{early_none}
 use Rattle.cct_world.proofs.Sure.{rose_just}
 use Rattle.cct_text.proofs.Writing.{writes_then}
 
--- what holds where an object tells, also holds by a weaker fact
-pub some_weaker : (P Q : List ℕ → Type 0) (known : Option (List ℕ)) → ((bytes : List ℕ) → P bytes → Q bytes)
-    → IfSome known P → IfSome known Q
-some_weaker P Q None f h = tt
-some_weaker P Q (Some bytes) f h = f bytes h
+-- what holds of the bytes that an object tells, or of some where it tells none, also holds by a weaker fact
+pub bytes_weaker : (P Q : List ℕ → Type 0) (known : Option (List ℕ)) → ((bytes : List ℕ) → P bytes → Q bytes)
+    → OfBytes known P → OfBytes known Q
+bytes_weaker P Q known f h = (h.0, h.1, f h.0 h.2)
+
+-- the money of steps that a script says
+script_right : (bytes : List ℕ) (played rest : List Step) (transcript : List Entry)
+    → (script bytes).steps ≡ played ++ rest → Legal most_records (script bytes).setup played transcript
+    → IsRight (script bytes).setup transcript
+script_right bytes played rest transcript fronts legal = record {
+  fresh = played_fresh most_records bytes played rest transcript fronts legal;
+  in_order = λ d own honest. played_in_order most_records bytes played rest transcript d fronts legal honest own;
+  covers = λ d own honest. played_covers most_records bytes played rest transcript d fronts legal honest own;
+  paid = λ d own paying honest. played_paid most_records bytes played rest transcript d fronts legal honest own paying;
+}
+
+-- what is so before the first loss of power, by what is so of the first of the steps
+pub early_right : (setup : Setup) (played : List Step) (transcript : List Entry)
+    → ((first later : List Step) (told : List Entry) → played ≡ first ++ later
+    → Legal most_records setup first told → IsRight setup told)
+    → LegalBeforeLoss most_records setup played transcript → RightBeforeLoss setup played transcript
+early_right setup played transcript rights e = record {
+  first = e.first;
+  later = e.later;
+  told = e.told;
+  rest = e.rest;
+  steps_are = e.steps_are;
+  transcript_is = e.transcript_is;
+  none = e.none;
+  ends = e.ends;
+  so = (e.so.1, rights e.first e.later e.told e.steps_are e.so.1);
+}
+
+-- a last line tells a fault of the source, or of the disk, only where the steps came to their end by one
+unread_tail : (how : Ending) → listed (last_entry how) ≡ entry.ReadFault ∷ [] → how ≡ ending.Unread
+unread_tail ending.Done is = cc is
+unread_tail (ending.Refused number why) is = cc is
+unread_tail ending.Unread is = refl
+unread_tail ending.Unwritten is = cc is
+unread_tail ending.NoMemory is = cc is
+unread_tail ending.DiskFailed is = cc is
+unread_tail (ending.NotBlank at) is = cc is
+unread_tail (ending.OtherSize len) is = cc is
+unread_tail ending.JournalAlien is = cc is
+unread_tail (ending.JournalBad index) is = cc is
+unread_tail (ending.RecordsLost found put) is = cc is
+
+pub failed_tail : (how : Ending) → listed (last_entry how) ≡ entry.DiskFault ∷ [] → how ≡ ending.DiskFailed
+failed_tail ending.Done is = cc is
+failed_tail (ending.Refused number why) is = cc is
+failed_tail ending.Unread is = cc is
+failed_tail ending.Unwritten is = cc is
+failed_tail ending.NoMemory is = cc is
+failed_tail ending.DiskFailed is = refl
+failed_tail (ending.NotBlank at) is = cc is
+failed_tail (ending.OtherSize len) is = cc is
+failed_tail ending.JournalAlien is = cc is
+failed_tail (ending.JournalBad index) is = cc is
+failed_tail (ending.RecordsLost found put) is = cc is
+
+-- the steps came to their end by a fault only where there was one
+pub record Caused (how : Ending) (source_failed disk_failed : Type 0) : Type 0 where
+  pub unread : how ≡ ending.Unread → source_failed
+  pub failed : how ≡ ending.DiskFailed → disk_failed
 
 -- a run by its status, from what was played
 ran_by : (bytes : List ℕ) (how : Ending) (s : Status) (tail : List Entry) (left : Option (List ℕ)) (disks : Disks)
     (Before Written : List Entry → Type 0) (Broken Breaks : List Entry → List Entry → Type 0)
+    (source_failed disk_failed : Type 0) → tail ≡ listed (last_entry how) → Caused how source_failed disk_failed
     → (disks.trusted → TellsLoss tail → ⊥)
     → (p : Played (Sure disks.trusted) bytes how left Before Broken (OverCut disks))
     → Ends disks bytes p.taken p.played p.unplayed p.transcript s tail Written Breaks
     → (disks.trusted → p.taken ≢ [] → Book disks (script bytes).setup p.unplayed (onto [] p.transcript) tail)
-    → Ran bytes s left Written Breaks disks
-ran_by bytes how s tail left disks Before Written Broken Breaks keeps p ends book = record {
-  taken = p.taken;
-  rest = p.rest;
-  played = p.played;
-  unplayed = p.unplayed;
-  transcript = p.transcript;
-  tail = tail;
-  took = p.took;
-  left_is = p.left_is;
-  steps_are = p.steps_are;
-  legal = p.legal;
-  in_order = λ sure d own honest.
-      played_in_order most_records bytes p.played p.unplayed p.transcript d p.steps_are (p.legal sure) honest own;
-  covers = λ sure d own honest.
-      played_covers most_records bytes p.played p.unplayed p.transcript d p.steps_are (p.legal sure) honest own;
-  paid = λ sure d own paying honest.
-      played_paid most_records bytes p.played p.unplayed p.transcript d p.steps_are (p.legal sure) honest own paying;
-  ends = ends;
-  book = book;
-  keeps = keeps;
-  survived = p.beside.survived;
-  cut = p.beside.cut;
-  just = p.beside.just;
-}
+    → Ran bytes s left Written Breaks disks source_failed disk_failed
+ran_by bytes how s tail left disks Before Written Broken Breaks source_failed disk_failed is caused keeps p ends book =
+    record {
+      taken = p.taken;
+      played = p.played;
+      unplayed = p.unplayed;
+      transcript = p.transcript;
+      tail = tail;
+      took = p.took;
+      steps_are = p.steps_are;
+      legal = p.legal;
+      money = λ sure. script_right bytes p.played p.unplayed p.transcript p.steps_are (p.legal sure);
+      early = early_right (script bytes).setup p.played p.transcript
+          (λ first later told fronts legal. script_right bytes first (later ++ p.unplayed) told
+          (p.steps_are ∙ ap (λ xs. xs ++ p.unplayed) fronts ∙ append_assoc first later p.unplayed) legal) p.early;
+      ends = ends;
+      book = book;
+      keeps = keeps;
+      source_cause = λ tells. caused.unread (unread_tail how (sym is ∙ tells));
+      disk_cause = λ tells. caused.failed (failed_tail how (sym is ∙ tells));
+      survived = p.beside.survived;
+      cut = p.beside.cut;
+      just = p.beside.just;
+    }
 
 -- a last line was written whole, or broke off
 abbrev pub LastLine : (List Entry → Type 0) → (List Entry → Type 0) → (List Entry → List Entry → Type 0) → List Entry
@@ -108,25 +171,37 @@ module _ (disks : Disks) (bytes taken : List ℕ) (played unplayed : List Step) 
   ends_whole status.OutOfMemory tail has closes wrote = absurd has
   ends_whole s tail has closes wrote = (closes, wrote)
 
--- a run whose last line was put
-ran_last : (bytes : List ℕ) (how : Ending) (s : Status) (tail : List Entry) (answer : Result (Unit {0}) Failed)
-    (left : Option (List ℕ)) (disks : Disks) (Before Written : List Entry → Type 0)
-    (Broken Breaks : List Entry → List Entry → Type 0) → HasLine s → (disks.trusted → TellsLoss tail → ⊥)
-    → LastLine Before Written Breaks tail answer
-    → (p : Played (Sure disks.trusted) bytes how left Before Broken (OverCut disks)) → Before p.transcript
-    → Closes disks bytes p.taken p.played p.unplayed p.transcript s tail
-    → (disks.trusted → p.taken ≢ [] → Book disks (script bytes).setup p.unplayed (onto [] p.transcript) tail)
-    → Ran bytes (status_by answer s) left Written Breaks disks
-ran_last bytes how s tail (Ok done) left disks Before Written Broken Breaks has keeps line p wrote closes book =
-    ran_by bytes how s tail left disks Before Written Broken Breaks keeps p
-    (ends_whole disks bytes p.taken p.played p.unplayed p.transcript Written Breaks s tail has closes
-    (line p.transcript wrote)) book
-ran_last bytes how s tail (Err failed) left disks Before Written Broken Breaks has keeps line p wrote closes book =
-    ran_by bytes how status.WriteFault tail left disks Before Written Broken Breaks keeps p (
-      inr (s, closes),
-      breaks_last (Sure disks.trusted) (script bytes).setup p.played p.transcript tail Breaks p.legal
-          (line p.transcript wrote),
-    ) book
+module _ (bytes : List ℕ) (how : Ending) (left : Option (List ℕ)) (disks : Disks) (Before Written : List Entry → Type 0)
+    (Broken Breaks : List Entry → List Entry → Type 0) (source_failed disk_failed : Type 0)
+    (caused : Caused how source_failed disk_failed)
+    (p : Played (Sure disks.trusted) bytes how left Before Broken (OverCut disks)) where
+  -- a run whose last line was put
+  ran_last : (answer : Result (Unit {0}) Failed) (s : Status) (tail : List Entry) → tail ≡ listed (last_entry how)
+      → HasLine s → (disks.trusted → TellsLoss tail → ⊥) → LastLine Before Written Breaks tail answer
+      → Before p.transcript → Closes disks bytes p.taken p.played p.unplayed p.transcript s tail
+      → (disks.trusted → p.taken ≢ [] → Book disks (script bytes).setup p.unplayed (onto [] p.transcript) tail)
+      → Ran bytes (status_by answer s) left Written Breaks disks source_failed disk_failed
+  ran_last (Ok done) s tail is has keeps line wrote closes book =
+      ran_by bytes how s tail left disks Before Written Broken Breaks source_failed disk_failed is caused keeps p
+      (ends_whole disks bytes p.taken p.played p.unplayed p.transcript Written Breaks s tail has closes
+      (line p.transcript wrote)) book
+  ran_last (Err failed) s tail is has keeps line wrote closes book =
+      ran_by bytes how status.WriteFault tail left disks Before Written Broken Breaks source_failed disk_failed is caused
+      keeps p (
+        inr (s, closes),
+        breaks_last (Sure disks.trusted) (script bytes).setup p.played p.transcript tail Breaks p.legal
+            (line p.transcript wrote),
+      ) book
+
+  -- what a loss of power left is told
+  ran_lost : (answer : Result (Unit {0}) Failed) (why : WorldNo) (tail : List Entry) → tail ≡ listed (last_entry how)
+      → ((P : WorldNo → Type 0) → P why → TellsOf P tail) → LastLine Before Written Breaks tail answer
+      → Before p.transcript → OverLost disks (script bytes).setup (onto [] p.transcript) p.unplayed why
+      → Ran bytes (status_by answer status.JournalLost) left Written Breaks disks source_failed disk_failed
+  ran_lost answer why tail is tells line wrote over =
+      ran_last answer status.JournalLost tail is tt (λ trusted told. over.2 trusted) line wrote
+      (tells (EndsLost disks (script bytes).setup (onto [] p.transcript) p.unplayed) over.1, over.0)
+      (λ trusted some. absurd (over.2 trusted))
 
 -- what was due in the step in which the disk failed
 torn_book : (disks : Disks) (bytes taken : List ℕ) (played unplayed : List Step) (transcript : List Entry)
@@ -158,77 +233,82 @@ breaks_by Relies setup played transcript tail Broken Breaks b h = record {
   breaks = b h.whole (h.cut ++ tail) h.breaks;
 }
 
-module _ (bytes : List ℕ) (answer : Result (Unit {0}) Failed) (left : Option (List ℕ)) (disks : Disks)
-    (Before Written : List Entry → Type 0) (Broken Breaks : List Entry → List Entry → Type 0) where
-  -- what a loss of power left is told
-  ran_lost : (how : Ending) (why : WorldNo) (tail : List Entry)
-      → ((P : WorldNo → Type 0) → P why → TellsOf P tail) → LastLine Before Written Breaks tail answer
-      → (p : Played (Sure disks.trusted) bytes how left Before Broken (OverCut disks)) → Before p.transcript
-      → OverLost disks (script bytes).setup (onto [] p.transcript) p.unplayed why
-      → Ran bytes (status_by answer status.JournalLost) left Written Breaks disks
-  ran_lost how why tail tells line p wrote over =
-      ran_last bytes how status.JournalLost tail answer left disks Before Written Broken Breaks tt
-      (λ trusted told. over.2 trusted) line p wrote
-      (tells (EndsLost disks (script bytes).setup (onto [] p.transcript) p.unplayed) over.1, over.0)
-      (λ trusted some. absurd (over.2 trusted))
-
 -- a run by how its steps came to their end, where its last line is put in this way
 ran_ends : (bytes : List ℕ) (how : Ending) (answer : Result (Unit {0}) Failed) (left : Option (List ℕ)) (disks : Disks)
     (Before Written : List Entry → Type 0) (Broken Breaks : List Entry → List Entry → Type 0)
+    (source_failed disk_failed : Type 0) → Caused how source_failed disk_failed
     → LastLine Before Written Breaks (listed (last_entry how)) answer
     → ((xs ys : List Entry) → last_entry how ≡ None → Broken xs ys → Breaks xs ys)
     → ((failed : Failed) → answer ≡ Err failed → last_entry how ≡ None → ⊥)
     → Played (Sure disks.trusted) bytes how left Before Broken (OverCut disks)
-    → Ran bytes (status_by answer (status_of how)) left Written Breaks disks
-ran_ends bytes ending.Done answer left disks Before Written Broken Breaks line broke fails p =
-    ran_last bytes ending.Done status.Done [] answer left disks Before Written Broken Breaks tt (λ trusted tells. tells)
-    line p p.stops.2 (p.stops.0, p.stops.1, refl, p.beside.over.0) (λ trusted some. p.beside.over.1 trusted)
-ran_ends bytes (ending.Refused number why) answer left disks Before Written Broken Breaks line broke fails p =
-    ran_last bytes (ending.Refused number why) status.ScriptRefused (entry.Line number why ∷ []) answer left disks
-    Before Written Broken Breaks tt (λ trusted tells. tells) line p p.stops.2
+    → Ran bytes (status_by answer (status_of how)) left Written Breaks disks source_failed disk_failed
+ran_ends bytes ending.Done answer left disks Before Written Broken Breaks source_failed disk_failed caused line broke
+    fails p =
+    ran_last bytes ending.Done left disks Before Written Broken Breaks source_failed disk_failed caused p answer status.Done
+    [] refl tt (λ trusted tells. tells) line p.stops.2
+    (p.stops.0, p.stops.1, refl, p.beside.over.0)
+    (λ trusted some. p.beside.over.1 trusted)
+ran_ends bytes (ending.Refused number why) answer left disks Before Written Broken Breaks source_failed disk_failed caused line broke
+    fails p =
+    ran_last bytes (ending.Refused number why) left disks Before Written Broken Breaks source_failed disk_failed caused p answer status.ScriptRefused
+    (entry.Line number why ∷ []) refl tt (λ trusted tells. tells) line p.stops.2
     (record { number = number; why = why }, p.stops.0, p.stops.1, refl, p.beside.over.0)
     (λ trusted some. p.beside.over.1 trusted)
-ran_ends bytes ending.Unread answer left disks Before Written Broken Breaks line broke fails p =
-    ran_last bytes ending.Unread status.ReadFault (entry.ReadFault ∷ []) answer left disks Before Written Broken Breaks
-    tt (λ trusted tells. tells) line p p.stops.1 (p.stops.0, refl, p.beside.over.0)
+ran_ends bytes ending.Unread answer left disks Before Written Broken Breaks source_failed disk_failed caused line broke
+    fails p =
+    ran_last bytes ending.Unread left disks Before Written Broken Breaks source_failed disk_failed caused p answer status.ReadFault
+    (entry.ReadFault ∷ []) refl tt (λ trusted tells. tells) line p.stops.1
+    (p.stops.0, refl, p.beside.over.0)
     (λ trusted some. p.beside.over.1 trusted)
-ran_ends bytes ending.Unwritten (Ok done) left disks Before Written Broken Breaks line broke fails p =
-    ran_by bytes ending.Unwritten status.WriteFault [] left disks Before Written Broken Breaks (λ trusted tells. tells)
-    p (
+ran_ends bytes ending.Unwritten (Ok done) left disks Before Written Broken Breaks source_failed disk_failed caused line broke
+    fails p =
+    ran_by bytes ending.Unwritten status.WriteFault [] left disks Before Written Broken Breaks source_failed disk_failed
+    refl caused (λ trusted tells. tells) p (
       inl (refl, p.beside.over.0),
       breaks_by (Sure disks.trusted) (script bytes).setup p.played p.transcript [] Broken Breaks
           (λ xs ys b. broke xs ys refl b) p.stops,
     ) (λ trusted some. p.beside.over.1 trusted)
-ran_ends bytes ending.Unwritten (Err failed) left disks Before Written Broken Breaks line broke fails p =
+ran_ends bytes ending.Unwritten (Err failed) left disks Before Written Broken Breaks source_failed disk_failed caused line broke
+    fails p =
     absurd (fails failed refl refl)
-ran_ends bytes ending.NoMemory (Ok done) left disks Before Written Broken Breaks line broke fails p =
-    ran_by bytes ending.NoMemory status.OutOfMemory [] left disks Before Written Broken Breaks (λ trusted tells. tells)
-    p (p.stops.0, refl, line [] p.stops.1) (λ trusted some. p.beside.over trusted)
-ran_ends bytes ending.NoMemory (Err failed) left disks Before Written Broken Breaks line broke fails p =
+ran_ends bytes ending.NoMemory (Ok done) left disks Before Written Broken Breaks source_failed disk_failed caused line broke
+    fails p =
+    ran_by bytes ending.NoMemory status.OutOfMemory [] left disks Before Written Broken Breaks source_failed disk_failed
+    refl caused (λ trusted tells. tells) p (p.stops.0, refl, line [] p.stops.1)
+    (λ trusted some. p.beside.over trusted)
+ran_ends bytes ending.NoMemory (Err failed) left disks Before Written Broken Breaks source_failed disk_failed caused line broke
+    fails p =
     absurd (fails failed refl refl)
-ran_ends bytes ending.DiskFailed answer left disks Before Written Broken Breaks line broke fails p =
-    ran_last bytes ending.DiskFailed status.DiskFault (entry.DiskFault ∷ []) answer left disks Before Written Broken
-    Breaks tt (λ trusted tells. tells) line p p.stops
+ran_ends bytes ending.DiskFailed answer left disks Before Written Broken Breaks source_failed disk_failed caused line broke
+    fails p =
+    ran_last bytes ending.DiskFailed left disks Before Written Broken Breaks source_failed disk_failed caused p answer status.DiskFault
+    (entry.DiskFault ∷ []) refl tt (λ trusted tells. tells) line p.stops
     (torn_closes disks bytes p.taken p.played p.unplayed p.transcript p.beside.over)
     (torn_book disks bytes p.taken p.played p.unplayed p.transcript p.beside.over)
-ran_ends bytes (ending.NotBlank at) answer left disks Before Written Broken Breaks line broke fails p =
-    ran_last bytes (ending.NotBlank at) status.NotBlank (entry.NotBlank at ∷ []) answer left disks Before Written Broken
-    Breaks tt (λ trusted tells. tells) line p p.stops
-    (at, p.beside.over.0, refl, p.beside.over.1, p.beside.over.2) (λ trusted some. absurd (some p.beside.over.1.0))
-ran_ends bytes (ending.OtherSize len) answer left disks Before Written Broken Breaks line broke fails p =
-    ran_last bytes (ending.OtherSize len) status.DiskSize (entry.DiskSize len ∷ []) answer left disks Before Written
-    Broken Breaks tt (λ trusted tells. tells) line p p.stops
+ran_ends bytes (ending.NotBlank at) answer left disks Before Written Broken Breaks source_failed disk_failed caused line broke
+    fails p =
+    ran_last bytes (ending.NotBlank at) left disks Before Written Broken Breaks source_failed disk_failed caused p answer status.NotBlank
+    (entry.NotBlank at ∷ []) refl tt (λ trusted tells. tells) line p.stops
+    (at, p.beside.over.0, refl, p.beside.over.1, p.beside.over.2)
+    (λ trusted some. absurd (some p.beside.over.1.0))
+ran_ends bytes (ending.OtherSize len) answer left disks Before Written Broken Breaks source_failed disk_failed caused line broke
+    fails p =
+    ran_last bytes (ending.OtherSize len) left disks Before Written Broken Breaks source_failed disk_failed caused p answer status.DiskSize
+    (entry.DiskSize len ∷ []) refl tt (λ trusted tells. tells) line p.stops
     (p.beside.over.0, ap (λ n. entry.DiskSize n ∷ []) p.beside.over.2, p.beside.over.1)
     (λ trusted some. absurd (some p.beside.over.1.0))
-ran_ends bytes ending.JournalAlien answer left disks Before Written Broken Breaks line broke fails p =
-    ran_lost bytes answer left disks Before Written Broken Breaks ending.JournalAlien world_no.Alien
-    (entry.JournalAlien ∷ []) (λ P is. is) line p p.stops p.beside.over
-ran_ends bytes (ending.JournalBad index) answer left disks Before Written Broken Breaks line broke fails p =
-    ran_lost bytes answer left disks Before Written Broken Breaks (ending.JournalBad index)
-    (world_no.BadRecord index) (entry.JournalBad index ∷ []) (λ P is. is) line p p.stops p.beside.over
-ran_ends bytes (ending.RecordsLost found put) answer left disks Before Written Broken Breaks line broke fails p =
-    ran_lost bytes answer left disks Before Written Broken Breaks (ending.RecordsLost found put)
-    (world_no.Lost found put) (entry.JournalLost found put ∷ []) (λ P is. is) line p p.stops p.beside.over
+ran_ends bytes ending.JournalAlien answer left disks Before Written Broken Breaks source_failed disk_failed caused line broke
+    fails p =
+    ran_lost bytes ending.JournalAlien left disks Before Written Broken Breaks source_failed disk_failed caused p answer
+    world_no.Alien (entry.JournalAlien ∷ []) refl (λ P is. is) line p.stops p.beside.over
+ran_ends bytes (ending.JournalBad index) answer left disks Before Written Broken Breaks source_failed disk_failed caused line broke
+    fails p =
+    ran_lost bytes (ending.JournalBad index) left disks Before Written Broken Breaks source_failed disk_failed caused p answer
+    (world_no.BadRecord index) (entry.JournalBad index ∷ []) refl (λ P is. is) line p.stops p.beside.over
+ran_ends bytes (ending.RecordsLost found put) answer left disks Before Written Broken Breaks source_failed disk_failed caused line broke
+    fails p =
+    ran_lost bytes (ending.RecordsLost found put) left disks Before Written Broken Breaks source_failed disk_failed caused p answer
+    (world_no.Lost found put) (entry.JournalLost found put ∷ []) refl (λ P is. is) line p.stops p.beside.over
 
 -- what was written before, and then the last line
 module _ {K : Type 0} (written : K → Option (List ℕ)) (puts : K → List ℕ → Result (Unit {0}) Failed → K → Type 0) where
@@ -245,52 +325,58 @@ module _ {K : Type 0} (written : K → Option (List ℕ)) (puts : K → List ℕ
   no_line b c (Some e) answer is h = cc is
 
   pub ran_written : (a b c : K) (bytes : List ℕ) (how : Ending) (s : Status) (answer : Result (Unit {0}) Failed)
-      (left : Option (List ℕ)) (disks : Disks)
-      → Writes written puts b (listed (last_entry how)) answer c → s ≡ status_by answer (status_of how)
+      (left : Option (List ℕ)) (disks : Disks) (source_failed disk_failed : Type 0)
+      → Caused how source_failed disk_failed → Writes written puts b (listed (last_entry how)) answer c
+      → s ≡ status_by answer (status_of how)
       → Played (Sure disks.trusted) bytes how left (Wrote written puts a b) (Broke written puts a b) (OverCut disks)
-      → Ran bytes s left (Wrote written puts a c) (Broke written puts a c) disks
-  ran_written a b c bytes how s answer left disks h is p =
-      subst (λ s. Ran bytes s left (Wrote written puts a c) (Broke written puts a c) disks) (sym is)
+      → Ran bytes s left (Wrote written puts a c) (Broke written puts a c) disks source_failed disk_failed
+  ran_written a b c bytes how s answer left disks source_failed disk_failed caused h is p =
+      subst (λ s. Ran bytes s left (Wrote written puts a c) (Broke written puts a c) disks source_failed disk_failed)
+      (sym is)
       (ran_ends bytes how answer left disks (Wrote written puts a b) (Wrote written puts a c) (Broke written puts a b)
-      (Broke written puts a c) (last_line a b c (listed (last_entry how)) answer h)
+      (Broke written puts a c) source_failed disk_failed caused (last_line a b c (listed (last_entry how)) answer h)
       (λ xs ys none broke. subst (λ k. Broke written puts a k xs ys)
       (sym (no_line b c (last_entry how) answer none h).1) broke)
       (λ failed err none. cc (err, (no_line b c (last_entry how) answer none h).0)) p)
 
--- a run that had no memory for its buffers
-at_once : (bytes : List ℕ) (Written : List Entry → Type 0) (Breaks : List Entry → List Entry → Type 0) (disks : Disks)
-    → disks.cuts_after ≡ disks.cuts → Written [] → Ran bytes status.OutOfMemory (Some bytes) Written Breaks disks
-at_once bytes Written Breaks disks uncut wrote =
-    let legal : Legal most_records (script bytes).setup [] [] = refl in
-    record {
-      taken = [];
-      rest = bytes;
-      played = [];
-      unplayed = (script bytes).steps;
-      transcript = [];
-      tail = [];
-      took = refl;
-      left_is = refl;
-      steps_are = refl;
-      legal = λ sure. legal;
-      in_order = λ sure d own honest.
-          played_in_order most_records bytes [] (script bytes).steps [] d refl legal honest own;
-      covers = λ sure d own honest. played_covers most_records bytes [] (script bytes).steps [] d refl legal honest own;
-      paid = λ sure d own paying honest.
-          played_paid most_records bytes [] (script bytes).steps [] d refl legal honest own paying;
-      ends = (refl, refl, wrote);
-      book = λ trusted some. absurd (some refl);
-      keeps = λ trusted tells. tells;
-      survived = no_step;
-      cut = rose_just 0 disks.cuts disks.cuts_after uncut;
-      just = λ next. uncut;
-    }
+-- what is still to come is what is told
+all_told : (left : Option (List ℕ)) → AreTold left (to_come left)
+all_told None = tt
+all_told (Some bytes) = refl
 
+-- a run that had no memory for its buffers
 pub no_memory : (left : Option (List ℕ)) (Written : List Entry → Type 0) (Breaks : List Entry → List Entry → Type 0)
-    (disks : Disks) → disks.cuts_after ≡ disks.cuts → Written []
-    → IfSome left (λ bytes. Ran bytes status.OutOfMemory left Written Breaks disks)
-no_memory None Written Breaks disks uncut wrote = tt
-no_memory (Some bytes) Written Breaks disks uncut wrote = at_once bytes Written Breaks disks uncut wrote
+    (disks : Disks) (source_failed disk_failed : Type 0) → disks.cuts_after ≡ disks.cuts → Written []
+    → OfBytes left (λ bytes. Ran bytes status.OutOfMemory left Written Breaks disks source_failed disk_failed)
+no_memory left Written Breaks disks source_failed disk_failed uncut wrote =
+    let bytes = to_come left in
+    let legal : Legal most_records (script bytes).setup [] [] = refl in (
+      bytes,
+      all_told left,
+      record {
+        taken = [];
+        played = [];
+        unplayed = (script bytes).steps;
+        transcript = [];
+        tail = [];
+        took = refl;
+        steps_are = refl;
+        legal = λ sure. legal;
+        money = λ sure. script_right bytes [] (script bytes).steps [] refl legal;
+        early = early_right (script bytes).setup [] []
+            (λ first later told fronts legal. script_right bytes first (later ++ (script bytes).steps) told
+            (ap (λ xs. xs ++ (script bytes).steps) fronts ∙ append_assoc first later (script bytes).steps) legal)
+            (early_none most_records (script bytes).setup);
+        ends = (refl, refl, wrote);
+        book = λ trusted some. absurd (some refl);
+        keeps = λ trusted tells. tells;
+        source_cause = λ tells. cc tells;
+        disk_cause = λ tells. cc tells;
+        survived = no_step;
+        cut = rose_just 0 disks.cuts disks.cuts_after uncut;
+        just = λ next. uncut;
+      },
+    )
 
 completes_none : (refused : Option Refusal) → refused ≡ None → Completes refused status.Done
 completes_none None e = inl refl
@@ -350,29 +436,30 @@ module _ (sure : Type 0) (Cut : ℕ → (ℕ → Option (List ℕ) → Type 0) �
 -- with no fault on a blank disk a run's status is as the script says, where the disk is trusted or no step is a loss of
 -- power
 pub ran_completes : (bytes : List ℕ) (s : Status) (left : Option (List ℕ)) (Written : List Entry → Type 0)
-    (Breaks : List Entry → List Entry → Type 0) (disks : Disks) (image : List ℕ) → disks.seen ≡ Some image
-    → disks.size ≡ JOURNAL_BYTES → IsBlank image → disks.trusted ⊎ (losses_in (script bytes).steps ≡ 0)
-    → (s ≡ status.ReadFault → ⊥) → (s ≡ status.WriteFault → ⊥) → (s ≡ status.DiskFault → ⊥)
-    → Ran bytes s left Written Breaks disks → Completes (script bytes).refused s
-ran_completes bytes status.Done left Written Breaks disks image told sized blank kept r w d h =
+    (Breaks : List Entry → List Entry → Type 0) (disks : Disks) (image : List ℕ) (source_failed disk_failed : Type 0)
+    → disks.seen ≡ Some image → disks.size ≡ JOURNAL_BYTES → IsBlank image
+    → disks.trusted ⊎ (losses_in (script bytes).steps ≡ 0) → (s ≡ status.ReadFault → ⊥)
+    → (s ≡ status.WriteFault → ⊥) → (s ≡ status.DiskFault → ⊥)
+    → Ran bytes s left Written Breaks disks source_failed disk_failed → Completes (script bytes).refused s
+ran_completes bytes status.Done left Written Breaks disks image source_failed disk_failed told sized blank kept r w d h =
     completes_none (script bytes).refused h.ends.0.1
-ran_completes bytes status.ScriptRefused left Written Breaks disks image told sized blank kept r w d h =
+ran_completes bytes status.ScriptRefused left Written Breaks disks image source_failed disk_failed told sized blank kept r w d h =
     completes_some (script bytes).refused h.ends.0.0 h.ends.0.2
-ran_completes bytes status.WordsRefused left Written Breaks disks image told sized blank kept r w d h =
+ran_completes bytes status.WordsRefused left Written Breaks disks image source_failed disk_failed told sized blank kept r w d h =
     absurd h.ends.0
-ran_completes bytes status.ReadFault left Written Breaks disks image told sized blank kept r w d h = absurd (r refl)
-ran_completes bytes status.WriteFault left Written Breaks disks image told sized blank kept r w d h = absurd (w refl)
-ran_completes bytes status.DiskFault left Written Breaks disks image told sized blank kept r w d h = absurd (d refl)
-ran_completes bytes status.NotBlank left Written Breaks disks image told sized blank kept r w d h =
+ran_completes bytes status.ReadFault left Written Breaks disks image source_failed disk_failed told sized blank kept r w d h = absurd (r refl)
+ran_completes bytes status.WriteFault left Written Breaks disks image source_failed disk_failed told sized blank kept r w d h = absurd (w refl)
+ran_completes bytes status.DiskFault left Written Breaks disks image source_failed disk_failed told sized blank kept r w d h = absurd (d refl)
+ran_completes bytes status.NotBlank left Written Breaks disks image source_failed disk_failed told sized blank kept r w d h =
     absurd (blank_first image h.ends.0.0 blank (h.ends.0.4 image told))
-ran_completes bytes status.DiskSize left Written Breaks disks image told sized blank kept r w d h =
+ran_completes bytes status.DiskSize left Written Breaks disks image source_failed disk_failed told sized blank kept r w d h =
     absurd (h.ends.0.0 sized)
-ran_completes bytes status.OutOfMemory left Written Breaks disks image told sized blank kept r w d h =
+ran_completes bytes status.OutOfMemory left Written Breaks disks image source_failed disk_failed told sized blank kept r w d h =
     completes_memory (script bytes).refused
-ran_completes bytes status.JournalLost left Written Breaks disks image told sized blank (inl trusted) r w d h =
+ran_completes bytes status.JournalLost left Written Breaks disks image source_failed disk_failed told sized blank (inl trusted) r w d h =
     absurd (h.keeps trusted (tells_loss (EndsLost disks (script bytes).setup (onto [] h.transcript) h.unplayed) h.tail
     h.ends.0.0))
-ran_completes bytes status.JournalLost left Written Breaks disks image told sized blank (inr none) r w d h =
+ran_completes bytes status.JournalLost left Written Breaks disks image source_failed disk_failed told sized blank (inr none) r w d h =
     absurd (none_next h.played h.unplayed (ap losses_in (sym h.steps_are) ∙ none)
     (lost_next (Sure disks.trusted (onto [] h.transcript)) disks.cut_at (script bytes).setup (onto [] h.transcript) disks.seen_after
     h.unplayed h.tail h.ends.0.0))
@@ -387,13 +474,13 @@ pub told_completes : (bytes : List ℕ) (s : Status) (left : Option (List ℕ)) 
     (Breaks : List Entry → List Entry → Type 0) (disks : Disks) (Read Write Disk Honest : Type 0)
     (seen : Option (List ℕ)) → disks.seen ≡ seen → (Honest → is_some seen ≡ true → disks.trusted)
     → (s ≡ status.ReadFault → Read) → (s ≡ status.WriteFault → Write) → (s ≡ status.DiskFault → Disk)
-    → Ran bytes s left Written Breaks disks
+    → Ran bytes s left Written Breaks disks Read Disk
     → IfSome seen (λ image. disks.size ≡ JOURNAL_BYTES → IsBlank image
     → Honest ⊎ (losses_in (script bytes).steps ≡ 0) → (Read → ⊥) → (Write → ⊥) → (Disk → ⊥)
     → Completes (script bytes).refused s)
 told_completes bytes s left Written Breaks disks Read Write Disk Honest None told trusts read write disk ran = tt
 told_completes bytes s left Written Breaks disks Read Write Disk Honest (Some image) told trusts read write disk ran =
-    λ sized blank kept r w d. ran_completes bytes s left Written Breaks disks image told sized blank
+    λ sized blank kept r w d. ran_completes bytes s left Written Breaks disks image Read Disk told sized blank
     (kept_by Honest disks.trusted (losses_in (script bytes).steps ≡ 0) (λ honest. trusts honest refl) kept)
     (λ is. r (read is)) (λ is. w (write is)) (λ is. d (disk is)) ran
 

@@ -1,7 +1,7 @@
 -- How a script goes on by what the reader of lines answers.
 use Rattle.std.proofs.Common.{◌≡◌, ℕ, ◌+◌, ◌<◌, ◌≤◌, Bool, true, false, ltb, List, [], ◌∷◌, ◌++◌, length, take, drop}
 use Rattle.std.proofs.Common.{Option, None, Some, Result, Ok, Err, refl, ap, sym, ◌∙◌, subst, append_assoc, arith, lit<}
-use Rattle.std.specs.Prelude.{IfSome, IfErr, IsErr, IsErrAnd, if◌then◌else◌, ◌&&◌}
+use Rattle.std.specs.Prelude.{IfErr, IsErr, IsErrAnd, if◌then◌else◌, ◌&&◌}
 use Rattle.cct_text.proofs.Writing.{passes_up}
 use Rattle.std.specs.List.{slice_split, position}
 use Rattle.std.specs.Io.KnownBytes.{IsAtEnd}
@@ -24,6 +24,7 @@ use Rattle.cct_bench.specs.declared.lines.ScriptStop.TheVariants as stop
 use Rattle.cct_bench.specs.SetupLines.{OpensLine}
 use Rattle.cct_bench.specs.Lines.{said_from, IsNext, before_end, behind_end, ScriptGoesOn, IsClosed, StopsAt, EndsAt}
 use Rattle.cct_bench.specs.Lines.{Came}
+use Rattle.cct_bench.specs.Source.{to_come}
 use Rattle.cct_bench.specs.Run.{ending_at}
 
 -- a whole line, and more lines behind it
@@ -61,11 +62,6 @@ line_goes number stage line rest read going few short alone read_is more =
     )
     )
 
--- what holds of whatever follows holds of what follows
-whatever : (P : List ℕ → Type 0) (left : Option (List ℕ)) → ((more : List ℕ) → P more) → IfSome left P
-whatever P None h = tt
-whatever P (Some more) h = h more
-
 -- the first part, refused whether it is a whole line or the last bytes
 first_refused : (number : ℕ) (stage : Stage) (why : LineKind) (part : List ℕ) (parts : List (List ℕ))
     → read_line number stage part ≡ refuses why →
@@ -91,15 +87,14 @@ byte_closes : (number : ℕ) (stage : Stage) (why : LineKind) (held : List ℕ) 
     ((rest : List ℕ) → 1 ≤ length rest → unfinished number stage rest ≡ Some why)
     → IsClosed number stage (Some why) left held
 byte_closes number stage why held left some lines rests =
-    whatever (λ more. said_from number stage (held ++ more) ≡ closed_script number (setup_at stage) (Some why)) left
-    (λ more.
+    let more = to_come left in
     let all = held ++ more in
     let first = split_some is_line_feed all in
     ap (script_from number stage) first.2
     ∙ first_refused number stage why first.0 first.1 (lines first.0)
     (λ none.
     let same = alone_by all first.0 _ refl (first.2 ∙ ap (λ parts. first.0 ∷ parts) none) in
-    rests first.0 (subst (λ xs. 1 ≤ length xs) (sym same) (omega (arith, length-append held more)))))
+    rests first.0 (subst (λ xs. 1 ≤ length xs) (sym same) (omega (arith, length-append held more))))
 
 -- a line too many
 many_line : (number : ℕ) (stage : Stage) (line : List ℕ) → is_over stage ≡ false → 1048576 < number
@@ -150,27 +145,27 @@ long_closes : (number : ℕ) (stage : Stage) (held : List ℕ) (left : Option (L
     → number ≤ 1048576 → position is_line_feed held ≡ None → length held ≡ 1201 →
     IsClosed number stage (Some kind.Long) left held
 long_closes number stage held left going few none full =
-    whatever (λ more. said_from number stage (held ++ more) ≡ closed_script number (setup_at stage) (Some kind.Long))
-    left
-    (λ more.
-    let first = split_front_none is_line_feed held more none in
+    let first = split_front_none is_line_feed held (to_come left) none in
     let long : 1200 < length (held ++ first.0) = omega (arith, length-append held first.0) in
     ap (script_from number stage) first.2
     ∙ first_refused number stage kind.Long (held ++ first.0) first.1
     (long_line number stage (held ++ first.0) going few long)
-    (λ alone. long_rest number stage (held ++ first.0) going few long))
+    (λ alone. long_rest number stage (held ++ first.0) going few long)
 
 -- the input ends here
 pub ended : (number : ℕ) (stage : Stage) (held : List ℕ) → position is_line_feed held ≡ None
     → said_from number stage held ≡ closed_script number (setup_at stage) (unfinished number stage held)
 ended number stage held none = ap (script_from number stage) (split_none is_line_feed held none)
 
+none_to_come : (left : Option (List ℕ)) → IsAtEnd left → to_come left ≡ []
+none_to_come None end = refl
+none_to_come (Some more) end = end
+
 closed_at_end : (number : ℕ) (stage : Stage) (why : Option LineKind) (held : List ℕ) (left : Option (List ℕ))
     → position is_line_feed held ≡ None → IsAtEnd left →
     unfinished number stage held ≡ why → IsClosed number stage why left held
-closed_at_end number stage why held None none end is = tt
-closed_at_end number stage why held (Some more) none end is =
-    ap (λ xs. said_from number stage (held ++ xs)) end
+closed_at_end number stage why held left none end is =
+    ap (λ xs. said_from number stage (held ++ xs)) (none_to_come left end)
     ∙ (ap (said_from number stage) (append-nil held)
     ∙ (ended number stage held none ∙ ap (closed_script number (setup_at stage)) is))
 
@@ -310,8 +305,7 @@ given_closes old new left_before left number stage line why going reads read_is 
     let came = given_goes old new left_before left number stage line (refuses why) going reads read_is in (
       came.0,
       came.1,
-      whatever (λ more. said_from number stage ((old.held ++ came.0) ++ more) ≡ closed_script number
-          (setup_at stage) (Some why)) left came.2,
+      came.2 (to_come left),
     )
 
 -- what an answer tells behind the line `end`: nothing follows, or the script stops

@@ -1,7 +1,6 @@
 -- What a run keeps from line to line, and what it leaves where it stops.
 use Rattle.std.proofs.Common.{◌≡◌, ℕ, ◌+◌, ◌≤◌, List, [], ◌∷◌, ◌++◌, reverse, Option, None, Some, Result, refl, inr, ap}
 use Rattle.std.proofs.Common.{sym, ◌∙◌, subst, append_assoc, arith}
-use Rattle.std.specs.Prelude.{IfSome}
 use Rattle.std.specs.List.{slice_split, position}
 use Rattle.std.specs.Io.KnownBytes.{Consumes}
 use Rattle.std.proofs.lemmas.List.{append-nil}
@@ -20,9 +19,12 @@ use Rattle.cct_model.specs.Transcript.{onto}
 use Rattle.cct_laws.proofs.Onto.{legal_more, transcript_on}
 use Rattle.cct_laws.proofs.Scripts.{setup_sound, front_of_today}
 use Rattle.cct_script.specs.Giving.{Standing}
+use Rattle.cct_world.specs.Early.{LegalBeforeLoss}
 use Rattle.cct_world.specs.Machine.{StepSuits}
+use Rattle.cct_world.specs.Step.{crashes, crashes_of}
 use Rattle.cct_world.specs.declared.refusal.WorldNo.{WorldNo}
 use Rattle.cct_world.specs.declared.refusal.WorldNo.TheVariants as world_no
+use Rattle.cct_world.proofs.Early.{early_more, early_none}
 use Rattle.cct_world.proofs.Suiting.{legal_suits}
 use Rattle.cct_bench.specs.declared.lines.ScriptStop.{ScriptStop}
 use Rattle.cct_bench.specs.declared.lines.ScriptStop.TheVariants as stop
@@ -31,6 +33,7 @@ use Rattle.cct_bench.specs.Lines.{said_from, IsNext, ScriptGoesOn, IsClosed, Sto
 use Rattle.cct_bench.specs.Disks.{Always, most_records}
 use Rattle.cct_bench.specs.Going.{AlsoSays, Going, IsUnbegun}
 use Rattle.cct_bench.specs.SetupLines.{TookOpening}
+use Rattle.cct_bench.specs.Source.{AreTold, OfBytes, to_come}
 use Rattle.cct_text.specs.Writing.{IsNothing}
 use Rattle.cct_bench.specs.declared.play.Ending.{Ending}
 use Rattle.cct_bench.specs.Run.{BeforeSteps, IsOfScript, IsUnopened, Played, Stops, ending_at, unplayed_by}
@@ -46,6 +49,7 @@ going_begin left = record {
   consumed = Consumes-nil left;
   says = λ more. record { setup = refl; steps = refl; refused = refl };
   legal = λ relies more. refl;
+  early = λ more. early_none most_records (script more).setup;
   holds = (refl, refl);
   wrote = refl;
 }
@@ -62,6 +66,7 @@ going_holds Relies Relies1 left0 left held number stage Before After Written les
   consumed = g.consumed;
   says = g.says;
   legal = λ relies. g.legal (less (onto [] g.transcript) relies);
+  early = g.early;
   holds = goes g.played (onto [] g.transcript) g.holds;
   wrote = g.wrote;
 }
@@ -78,6 +83,7 @@ going_by Relies left0 left held number stage Stands Written Written1 goes g = re
   consumed = g.consumed;
   says = g.says;
   legal = g.legal;
+  early = g.early;
   holds = g.holds;
   wrote = goes g.transcript g.wrote;
 }
@@ -94,11 +100,22 @@ also_goes taken came held more number stage played next h e =
     h
     )
 
+-- what is so of the setup of a script is so where more bytes came
+so_came : (P : Setup → Type 0) (taken came more : List ℕ) → P (script (taken ++ (came ++ more))).setup
+    → P (script ((taken ++ came) ++ more)).setup
+so_came P taken came more h = subst (λ bytes. P (script bytes).setup) (sym (append_assoc taken came more)) h
+
 legal_came : (taken came more : List ℕ) (played : List Step) (transcript : List Entry)
     → Legal most_records (script (taken ++ (came ++ more))).setup played transcript →
     Legal most_records (script ((taken ++ came) ++ more)).setup played transcript
 legal_came taken came more played transcript h =
-    subst (λ bytes. Legal most_records (script bytes).setup played transcript) (sym (append_assoc taken came more)) h
+    so_came (λ setup. Legal most_records setup played transcript) taken came more h
+
+early_came : (taken came more : List ℕ) (played : List Step) (transcript : List Entry)
+    → LegalBeforeLoss most_records (script (taken ++ (came ++ more))).setup played transcript
+    → LegalBeforeLoss most_records (script ((taken ++ came) ++ more)).setup played transcript
+early_came taken came more played transcript h =
+    so_came (λ setup. LegalBeforeLoss most_records setup played transcript) taken came more h
 
 pub going_opens : (Relies : List Entry → Type 0) (left0 left left1 : Option (List ℕ)) (held rest : List ℕ)
     (number : ℕ) (stage next : Stage) (Stands : List Step → List Entry → Type 0) (Written : List Entry → Type 0) →
@@ -112,6 +129,7 @@ going_opens Relies left0 left left1 held rest number stage next Stands Written g
   consumed = Consumes-trans left0 left left1 g.taken r.0 g.consumed r.1;
   says = λ more. also_goes g.taken r.0 held more number stage g.played _ (g.says (r.0 ++ more)) (r.2 more);
   legal = λ relies more. legal_came g.taken r.0 more g.played g.transcript (g.legal relies (r.0 ++ more));
+  early = λ more. early_came g.taken r.0 more g.played g.transcript (g.early (r.0 ++ more));
   holds = g.holds;
   wrote = g.wrote;
 }
@@ -131,7 +149,16 @@ step_says taken came held more rest number stage next played s h r =
     also_plays _ (said_from (number + 1) next (rest ++ more)) played s
     (also_goes taken came held more number stage played _ h (r more))
 
--- the script has the setup of its steps, and goes on by legal entries
+-- the script has the setup of its steps
+step_setup : (taken came held more rest : List ℕ) (number : ℕ) (stage next : Stage) (setup : Setup) (played : List Step)
+    (s : Step) → AlsoSays (script (taken ++ (came ++ more))) played (said_from number stage (held ++ (came ++ more)))
+    → ScriptGoesOn number stage (held ++ came) (plays s next) rest → IsDone setup next
+    → setup ≡ (script ((taken ++ came) ++ more)).setup
+step_setup taken came held more rest number stage next setup played s h r done =
+    sym ((step_says taken came held more rest number stage next played s h r).setup
+    ∙ setup_stays (number + 1) setup next (slice_split is_line_feed (rest ++ more)) done)
+
+-- it goes on by legal entries
 step_legal : (taken came held more rest : List ℕ) (number : ℕ) (stage next : Stage) (setup : Setup) (played : List Step)
     (transcript report : List Entry) (s : Step) →
     AlsoSays (script (taken ++ (came ++ more))) played (said_from number stage (held ++ (came ++ more)))
@@ -140,12 +167,14 @@ step_legal : (taken came held more rest : List ℕ) (number : ℕ) (stage next :
     → Entries most_records setup (onto [] transcript) s (reverse report) →
     Legal most_records (script ((taken ++ came) ++ more)).setup (played ++ s ∷ []) (transcript ++ report)
 step_legal taken came held more rest number stage next setup played transcript report s h r done legal entries =
-    let says = step_says taken came held more rest number stage next played s h r in
-    let same : setup ≡ (script ((taken ++ came) ++ more)).setup =
-    sym (says.setup ∙ setup_stays (number + 1) setup next (slice_split is_line_feed (rest ++ more)) done) in
+    let same = step_setup taken came held more rest number stage next setup played s h r done in
     legal_more most_records (script ((taken ++ came) ++ more)).setup played transcript report s
     (legal_came taken came more played transcript legal)
     (subst (λ by. Entries most_records by (onto [] transcript) s (reverse report)) same entries)
+
+-- a past that tells no loss of power may be relied on
+abbrev pub Trusts : (List Entry → Type 0) → Type 0
+Trusts Relies = (past : List Entry) → crashes past ≡ 0 → Relies past
 
 -- what may be relied on behind some entries may be before them
 abbrev pub GoesBack : (List Entry → Type 0) → Type 0
@@ -159,6 +188,7 @@ pub record Carries (Relies : List Entry → Type 0) (Before After : List Step �
   pub goes : (played : List Step) (past : List Entry) → Before played past → (Relies past → StepSuits setup past s)
       → (Relies (reverse report ++ past) → Entries most_records setup past s (reverse report))
       × After (played ++ s ∷ []) (reverse report ++ past)
+  pub told : crashes (reverse report) ≡ crashes_of s
   pub wrote : WritesThem report
 
 -- what a step takes for granted of the past is so after what was played before it
@@ -182,14 +212,14 @@ going_suits Relies left0 left left1 held rest number stage next setup Before Wri
 
 pub going_plays : (Relies : List Entry → Type 0) (left0 left left1 : Option (List ℕ)) (held rest : List ℕ)
     (number : ℕ) (stage next : Stage) (setup : Setup) (Before After : List Step → List Entry → Type 0) (s : Step)
-    (Written WritesThem Written1 : List Entry → Type 0) → GoesBack Relies → IsDone setup next
+    (Written WritesThem Written1 : List Entry → Type 0) → GoesBack Relies → Trusts Relies → IsDone setup next
     → ((xs ys : List Entry) → Written xs → WritesThem ys → Written1 (xs ++ ys))
     → Going Relies left0 left held number stage Before Written
     → Came held left left1 (λ bytes. ScriptGoesOn number stage bytes (plays s next) rest)
     → Carries Relies Before After setup s WritesThem
     → Going Relies left0 left1 rest (number + 1) next After Written1
 going_plays Relies left0 left left1 held rest number stage next setup Before After s Written WritesThem Written1 back
-    done more g r p =
+    trusts done more g r p =
     let past = onto [] g.transcript in
     let on = transcript_on g.transcript p.report in
     let goes = p.goes g.played past g.holds
@@ -203,40 +233,21 @@ going_plays Relies left0 left left1 held rest number stage next setup Before Aft
       legal = λ relies more. let here = subst Relies on relies in
           step_legal g.taken r.0 held more rest number stage next setup g.played g.transcript p.report s
           (g.says (r.0 ++ more)) r.2 done (g.legal (back (reverse p.report) past here) (r.0 ++ more)) (goes.0 here);
+      early = λ more. let same = step_setup g.taken r.0 held more rest number stage next setup g.played s
+          (g.says (r.0 ++ more)) r.2 done in
+          early_more Relies most_records (script ((g.taken ++ r.0) ++ more)).setup g.played g.transcript p.report s
+          trusts p.told (λ relies. subst (λ by. Entries most_records by past s (reverse p.report)) same (goes.0 relies))
+          (early_came g.taken r.0 more g.played g.transcript (g.early (r.0 ++ more)));
       holds = subst (After (g.played ++ s ∷ [])) (sym on) goes.1;
       wrote = more g.transcript p.report g.wrote p.wrote;
     }
 
--- what was told of the bytes of a script
-told_by : (bytes : List ℕ) (left : Option (List ℕ)) (taken : List ℕ) → Consumes (Some bytes) left taken
-    → (rest : List ℕ) × (left ≡ Some rest) × (bytes ≡ taken ++ rest)
-told_by bytes None taken h = absurd h
-told_by bytes (Some rest) taken h = (rest, refl, h)
-
-of_some : (P : List ℕ → Type 0) (left : Option (List ℕ)) (rest : List ℕ) → left ≡ Some rest → IfSome left P → P rest
-of_some P left rest e h = subst (λ known. IfSome known P) e h
-
--- a script that says no more
-closed_says : (bytes taken came held rest : List ℕ) (number : ℕ) (stage : Stage) (why : Option LineKind)
-    (left : Option (List ℕ)) (played : List Step) →
-    left ≡ Some rest → bytes ≡ (taken ++ came) ++ rest
-    → AlsoSays (script (taken ++ (came ++ rest))) played (said_from number stage (held ++ (came ++ rest))) →
-    IsClosed number stage why left (held ++ came)
-    → AlsoSays (script bytes) played (closed_script number (setup_at stage) why)
-closed_says bytes taken came held rest number stage why left played left_is took h closed =
-    let closes =
-    of_some (λ more. said_from number stage ((held ++ came) ++ more) ≡ closed_script number (setup_at stage) why)
-    left rest left_is closed in
-    subst (λ b. AlsoSays (script b) played (closed_script number (setup_at stage) why)) (sym took)
-    (also_goes taken came held rest number stage played _ h closes)
-
-legal_of : (bytes taken came rest : List ℕ) (played : List Step) (transcript : List Entry)
-    → bytes ≡ (taken ++ came) ++ rest →
-    Legal most_records (script (taken ++ (came ++ rest))).setup played transcript
-    → Legal most_records (script bytes).setup played transcript
-legal_of bytes taken came rest played transcript took h =
-    subst (λ b. Legal most_records (script b).setup played transcript) (sym took)
-    (legal_came taken came rest played transcript h)
+-- what was taken and what is still to come are the bytes that a source told, where it tells any
+told_by : (left0 left : Option (List ℕ)) (taken : List ℕ) → Consumes left0 left taken
+    → AreTold left0 (taken ++ to_come left)
+told_by None left taken h = tt
+told_by (Some bytes) None taken h = absurd h
+told_by (Some bytes) (Some rest) taken h = sym h
 
 -- once its steps begin, a script has the setup of its stage
 abbrev pub IsSetupIn : Stage → Setup → Type 0
@@ -264,59 +275,56 @@ EndsBeside stage Stands Beside =
     (how : Ending) (setup : Setup) (taken : List ℕ) (played unplayed : List Step) (past : List Entry) → IsOfScript how
     → IsSetupIn stage setup → Stands played past → Beside how setup taken played unplayed past
 
+-- the script says no more
+played_closed : (Relies : List Entry → Type 0) (left0 left left1 : Option (List ℕ)) (held : List ℕ) (number : ℕ)
+    (why : Option LineKind) (how : Ending) (stage : Stage) (Stands : List Step → List Entry → Type 0)
+    (Written : List Entry → Type 0) (Breaks : List Entry → List Entry → Type 0)
+    (Beside : Ending → Setup → List ℕ → List Step → List Step → List Entry → Type 0) → IsOfScript how
+    → EndsBeside stage Stands Beside → (g : Going Relies left0 left held number stage Stands Written)
+    → ((bytes taken : List ℕ) → (script bytes).refused ≡ (closed_script number (setup_at stage) why).refused
+    → Stops Relies how bytes taken g.played [] g.transcript Written Breaks)
+    → Came held left left1 (IsClosed number stage why left1)
+    → OfBytes left0 (λ bytes. Played Relies bytes how left1 Written Breaks Beside)
+played_closed Relies left0 left left1 held number why how stage Stands Written Breaks Beside is beside g stops r =
+    let more = to_come left1 in
+    let bytes = (g.taken ++ r.0) ++ more in
+    let says = also_goes g.taken r.0 held more number stage g.played _ (g.says (r.0 ++ more)) r.2 in (
+      bytes,
+      told_by left0 left1 (g.taken ++ r.0) (Consumes-trans left0 left left1 g.taken r.0 g.consumed r.1),
+      record {
+        taken = g.taken ++ r.0;
+        played = g.played;
+        unplayed = [];
+        transcript = g.transcript;
+        took = refl;
+        steps_are = says.steps;
+        legal = λ relies. legal_came g.taken r.0 more g.played g.transcript (g.legal relies (r.0 ++ more));
+        early = early_came g.taken r.0 more g.played g.transcript (g.early (r.0 ++ more));
+        stops = stops bytes (g.taken ++ r.0) says.refused;
+        beside = beside how (script bytes).setup (g.taken ++ r.0) g.played [] (onto [] g.transcript) is
+            (closed_in stage (script bytes).setup says.setup) g.holds;
+      },
+    )
+
 played_done : (Relies : List Entry → Type 0) (left0 left left1 : Option (List ℕ)) (held : List ℕ) (number : ℕ)
     (setup : Setup) (Stands : List Step → List Entry → Type 0) (Written : List Entry → Type 0) (Breaks : List Entry → List Entry → Type 0)
     (Beside : Ending → Setup → List ℕ → List Step → List Step → List Entry → Type 0)
     → EndsBeside (at_end setup) Stands Beside → Going Relies left0 left held number (at_end setup) Stands Written
     → Came held left left1 (IsClosed number (at_end setup) None left1)
-    → IfSome left0 (λ bytes. Played Relies bytes ending.Done left1 Written Breaks Beside)
-played_done Relies None left left1 held number setup Stands Written Breaks Beside beside g r = tt
-played_done Relies (Some bytes) left left1 held number setup Stands Written Breaks Beside beside g r =
-    let t = told_by bytes left1 (g.taken ++ r.0) (Consumes-trans (Some bytes) left left1 g.taken r.0 g.consumed r.1) in
-    let says =
-    closed_says bytes g.taken r.0 held t.0 number (at_end setup) None left1 g.played t.1 t.2 (g.says (r.0 ++ t.0))
-    r.2 in
-    record {
-      taken = g.taken ++ r.0;
-      rest = t.0;
-      played = g.played;
-      unplayed = [];
-      transcript = g.transcript;
-      took = t.2;
-      left_is = t.1;
-      steps_are = says.steps;
-      legal = λ relies. legal_of bytes g.taken r.0 t.0 g.played g.transcript t.2 (g.legal relies (r.0 ++ t.0));
-      stops = (refl, says.refused, g.wrote);
-      beside = beside ending.Done (script bytes).setup (g.taken ++ r.0) g.played [] (onto [] g.transcript) tt
-          (closed_in (at_end setup) (script bytes).setup says.setup) g.holds;
-    }
+    → OfBytes left0 (λ bytes. Played Relies bytes ending.Done left1 Written Breaks Beside)
+played_done Relies left0 left left1 held number setup Stands Written Breaks Beside beside g r =
+    played_closed Relies left0 left left1 held number None ending.Done (at_end setup) Stands Written Breaks Beside tt
+    beside g (λ bytes taken refused. (refl, refused, g.wrote)) r
 
 played_refused : (Relies : List Entry → Type 0) (left0 left left1 : Option (List ℕ)) (held : List ℕ) (number : ℕ)
     (why : LineKind) (stage : Stage) (Stands : List Step → List Entry → Type 0) (Written : List Entry → Type 0) (Breaks : List Entry → List Entry → Type 0)
     (Beside : Ending → Setup → List ℕ → List Step → List Step → List Entry → Type 0)
     → EndsBeside stage Stands Beside → Going Relies left0 left held number stage Stands Written
     → Came held left left1 (IsClosed number stage (Some why) left1)
-    → IfSome left0 (λ bytes. Played Relies bytes (ending.Refused number why) left1 Written Breaks Beside)
-played_refused Relies None left left1 held number why stage Stands Written Breaks Beside beside g r = tt
-played_refused Relies (Some bytes) left left1 held number why stage Stands Written Breaks Beside beside g r =
-    let t = told_by bytes left1 (g.taken ++ r.0) (Consumes-trans (Some bytes) left left1 g.taken r.0 g.consumed r.1) in
-    let says =
-    closed_says bytes g.taken r.0 held t.0 number stage (Some why) left1 g.played t.1 t.2 (g.says (r.0 ++ t.0)) r.2
-    in
-    record {
-      taken = g.taken ++ r.0;
-      rest = t.0;
-      played = g.played;
-      unplayed = [];
-      transcript = g.transcript;
-      took = t.2;
-      left_is = t.1;
-      steps_are = says.steps;
-      legal = λ relies. legal_of bytes g.taken r.0 t.0 g.played g.transcript t.2 (g.legal relies (r.0 ++ t.0));
-      stops = (refl, says.refused, g.wrote);
-      beside = beside (ending.Refused number why) (script bytes).setup (g.taken ++ r.0) g.played []
-          (onto [] g.transcript) tt (closed_in stage (script bytes).setup says.setup) g.holds;
-    }
+    → OfBytes left0 (λ bytes. Played Relies bytes (ending.Refused number why) left1 Written Breaks Beside)
+played_refused Relies left0 left left1 held number why stage Stands Written Breaks Beside beside g r =
+    played_closed Relies left0 left left1 held number (Some why) (ending.Refused number why) stage Stands Written Breaks
+    Beside tt beside g (λ bytes taken refused. (refl, refused, g.wrote)) r
 
 -- a line without its end plays no step
 unread_steps : (taken came held : List ℕ) (number : ℕ) (stage : Stage) (played : List Step) →
@@ -334,28 +342,29 @@ played_unread : (Relies : List Entry → Type 0) (left0 left left1 : Option (Lis
     (Beside : Ending → Setup → List ℕ → List Step → List Step → List Entry → Type 0)
     → EndsBeside stage Stands Beside → Going Relies left0 left held number stage Stands Written
     → Came held left left1 (λ bytes. position is_line_feed bytes ≡ None)
-    → IfSome left0 (λ bytes. Played Relies bytes ending.Unread left1 Written Breaks Beside)
-played_unread Relies None left left1 held number stage Stands Written Breaks Beside beside g r = tt
-played_unread Relies (Some bytes) left left1 held number stage Stands Written Breaks Beside beside g r =
-    let t = told_by bytes left1 (g.taken ++ r.0) (Consumes-trans (Some bytes) left left1 g.taken r.0 g.consumed r.1) in
-    let after = said_from number stage ((held ++ r.0) ++ t.0) in
-    let says : AlsoSays (script bytes) g.played after =
-    subst (λ b. AlsoSays (script b) g.played after) (sym t.2)
-    (also_goes g.taken r.0 held t.0 number stage g.played after (g.says (r.0 ++ t.0)) refl) in
-    record {
-      taken = g.taken ++ r.0;
-      rest = t.0;
-      played = g.played;
-      unplayed = after.steps;
-      transcript = g.transcript;
-      took = t.2;
-      left_is = t.1;
-      steps_are = says.steps;
-      legal = λ relies. legal_of bytes g.taken r.0 t.0 g.played g.transcript t.2 (g.legal relies (r.0 ++ t.0));
-      stops = (unread_steps g.taken r.0 held number stage g.played (g.says (r.0 ++ [])) r.2, g.wrote);
-      beside = beside ending.Unread (script bytes).setup (g.taken ++ r.0) g.played after.steps (onto [] g.transcript)
-          tt (said_in number stage ((held ++ r.0) ++ t.0) (script bytes).setup says.setup) g.holds;
-    }
+    → OfBytes left0 (λ bytes. Played Relies bytes ending.Unread left1 Written Breaks Beside)
+played_unread Relies left0 left left1 held number stage Stands Written Breaks Beside beside g r =
+    let more = to_come left1 in
+    let bytes = (g.taken ++ r.0) ++ more in
+    let after = said_from number stage ((held ++ r.0) ++ more) in
+    let says = also_goes g.taken r.0 held more number stage g.played after (g.says (r.0 ++ more)) refl in (
+      bytes,
+      told_by left0 left1 (g.taken ++ r.0) (Consumes-trans left0 left left1 g.taken r.0 g.consumed r.1),
+      record {
+        taken = g.taken ++ r.0;
+        played = g.played;
+        unplayed = after.steps;
+        transcript = g.transcript;
+        took = refl;
+        steps_are = says.steps;
+        legal = λ relies. legal_came g.taken r.0 more g.played g.transcript (g.legal relies (r.0 ++ more));
+        early = early_came g.taken r.0 more g.played g.transcript (g.early (r.0 ++ more));
+        stops = (unread_steps g.taken r.0 held number stage g.played (g.says (r.0 ++ [])) r.2, g.wrote);
+        beside = beside ending.Unread (script bytes).setup (g.taken ++ r.0) g.played after.steps
+            (onto [] g.transcript) tt
+            (said_in number stage ((held ++ r.0) ++ more) (script bytes).setup says.setup) g.holds;
+      },
+    )
 
 -- a script that is read no further
 stopped : (Relies : List Entry → Type 0) (left0 left left1 : Option (List ℕ)) (held : List ℕ) (number : ℕ)
@@ -364,7 +373,7 @@ stopped : (Relies : List Entry → Type 0) (left0 left left1 : Option (List ℕ)
     (Beside : Ending → Setup → List ℕ → List Step → List Step → List Entry → Type 0)
     → EndsBeside stage Stands Beside → Going Relies left0 left held number stage Stands Written
     → Came held left left1 (StopsAt number stage why left1)
-    → IfSome left0 (λ bytes. Played Relies bytes (ending_at number why) left1 Written Breaks Beside)
+    → OfBytes left0 (λ bytes. Played Relies bytes (ending_at number why) left1 Written Breaks Beside)
 stopped Relies left0 left left1 held number stage stop.Unread Stands Written Breaks Beside beside g r =
     played_unread Relies left0 left left1 held number stage Stands Written Breaks Beside beside g r
 stopped Relies left0 left left1 held number stage (stop.Refused why) Stands Written Breaks Beside beside g r =
@@ -376,9 +385,9 @@ pub played_stopped : (Relies : List Entry → Type 0) (left0 left left1 : Option
     (Beside : Ending → Setup → List ℕ → List Step → List Step → List Entry → Type 0) → how ≡ ending_at number why
     → EndsBeside stage Stands Beside → Going Relies left0 left held number stage Stands Written
     → Came held left left1 (StopsAt number stage why left1)
-    → IfSome left0 (λ bytes. Played Relies bytes how left1 Written Breaks Beside)
+    → OfBytes left0 (λ bytes. Played Relies bytes how left1 Written Breaks Beside)
 played_stopped Relies left0 left left1 held number stage why how Stands Written Breaks Beside is beside g r =
-    subst (λ how. IfSome left0 (λ bytes. Played Relies bytes how left1 Written Breaks Beside)) (sym is)
+    subst (λ how. OfBytes left0 (λ bytes. Played Relies bytes how left1 Written Breaks Beside)) (sym is)
     (stopped Relies left0 left left1 held number stage why Stands Written Breaks Beside beside g r)
 
 -- a script that ended
@@ -387,12 +396,12 @@ pub played_ended : (Relies : List Entry → Type 0) (left0 left left1 : Option (
     (Beside : Ending → Setup → List ℕ → List Step → List Step → List Entry → Type 0)
     → EndsBeside (at_end setup) Stands Beside → Going Relies left0 left held number (at_end setup) Stands Written
     → Came held left left1 (EndsAt number setup how left1)
-    → IfSome left0 (λ bytes. Played Relies bytes how left1 Written Breaks Beside)
+    → OfBytes left0 (λ bytes. Played Relies bytes how left1 Written Breaks Beside)
 played_ended Relies left0 left left1 held number setup ending.Done Stands Written Breaks Beside beside g r =
     played_done Relies left0 left left1 held number setup Stands Written Breaks Beside beside g r
 played_ended Relies left0 left left1 held number setup (ending.Refused line why) Stands Written Breaks Beside beside g
     r =
-    subst (λ n. IfSome left0 (λ bytes. Played Relies bytes (ending.Refused n why) left1 Written Breaks Beside))
+    subst (λ n. OfBytes left0 (λ bytes. Played Relies bytes (ending.Refused n why) left1 Written Breaks Beside))
     (sym r.2.0)
     (played_refused Relies left0 left left1 held number why (at_end setup) Stands Written Breaks Beside beside g
     (r.0, r.1, r.2.1))
@@ -405,64 +414,65 @@ pub played_broke : (Relies : List Entry → Type 0) (left0 left left1 : Option (
     (number : ℕ) (stage next : Stage) (setup : Setup) (Before After : List Step → List Entry → Type 0) (s : Step)
     (Written WritesThem Written1 : List Entry → Type 0) (Breaks : List Entry → List Entry → Type 0)
     (Beside : Ending → Setup → List ℕ → List Step → List Step → List Entry → Type 0) → GoesBack Relies →
-    ((taken : List ℕ) (played unplayed : List Step) (past : List Entry) → After played past
+    Trusts Relies → ((taken : List ℕ) (played unplayed : List Step) (past : List Entry) → After played past
     → Beside ending.Unwritten setup taken played unplayed past) →
     IsDone setup next → ((xs ys : List Entry) → Written xs → WritesThem ys → Breaks xs ys)
     → Going Relies left0 left held number stage Before Written →
     Came held left left1 (λ bytes. ScriptGoesOn number stage bytes (plays s next) rest)
     → Carries Relies Before After setup s WritesThem →
-    IfSome left0 (λ bytes. Played Relies bytes ending.Unwritten left1 Written1 Breaks Beside)
-played_broke Relies None left left1 held rest number stage next setup Before After s Written WritesThem Written1 Breaks
-    Beside back beside done broke g r p = tt
-played_broke Relies (Some bytes) left left1 held rest number stage next setup Before After s Written WritesThem Written1
-    Breaks Beside back beside done broke g r p =
-    let t = told_by bytes left1 (g.taken ++ r.0) (Consumes-trans (Some bytes) left left1 g.taken r.0 g.consumed r.1) in
-    let on = said_from (number + 1) next (rest ++ t.0) in
-    let says : AlsoSays (script bytes) (g.played ++ s ∷ []) on =
-    subst (λ b. AlsoSays (script b) (g.played ++ s ∷ []) on) (sym t.2)
-    (step_says g.taken r.0 held t.0 rest number stage next g.played s (g.says (r.0 ++ t.0)) r.2) in
+    OfBytes left0 (λ bytes. Played Relies bytes ending.Unwritten left1 Written1 Breaks Beside)
+played_broke Relies left0 left left1 held rest number stage next setup Before After s Written WritesThem Written1 Breaks
+    Beside back trusts beside done broke g r p =
+    let more = to_come left1 in
+    let bytes = (g.taken ++ r.0) ++ more in
+    let on = said_from (number + 1) next (rest ++ more) in
+    let says = step_says g.taken r.0 held more rest number stage next g.played s (g.says (r.0 ++ more)) r.2 in
     let past = onto [] g.transcript in
     let news = reverse p.report in
     let told = transcript_on g.transcript p.report in
     let goes = p.goes g.played past g.holds
-    (going_suits Relies (Some bytes) left left1 held rest number stage next setup Before Written s done g r) in
-    let same : setup ≡ (script bytes).setup =
-    sym (says.setup ∙ setup_stays (number + 1) setup next (slice_split is_line_feed (rest ++ t.0)) done) in
+    (going_suits Relies left0 left left1 held rest number stage next setup Before Written s done g r) in
+    let same = step_setup g.taken r.0 held more rest number stage next setup g.played s (g.says (r.0 ++ more)) r.2 done
+    in
     let entries : Relies (news ++ past) → Entries most_records (script bytes).setup past s news =
     λ relies. subst (λ by. Entries most_records by past s news) same (goes.0 relies) in
     let legal : Relies past → Legal most_records (script bytes).setup g.played g.transcript =
-    λ relies. legal_of bytes g.taken r.0 t.0 g.played g.transcript t.2 (g.legal relies (r.0 ++ t.0)) in
-    record {
-      taken = g.taken ++ r.0;
-      rest = t.0;
-      played = g.played ++ s ∷ [];
-      unplayed = on.steps;
-      transcript = g.transcript ++ p.report;
-      took = t.2;
-      left_is = t.1;
-      steps_are = says.steps;
-      legal = λ relies. let here = subst Relies told relies in
-          legal_more most_records (script bytes).setup g.played g.transcript p.report s (legal (back news past here))
-          (entries here);
-      stops = record {
-        before = g.played;
-        last = s ∷ [];
-        whole = g.transcript;
-        cut = p.report;
-        steps_are = refl;
-        one_step = omega arith;
-        transcript_is = refl;
-        legal = legal;
-        goes_on = λ relies. (news, entries (subst Relies told relies), told);
-        in_one = inr refl;
-        breaks = subst (Breaks g.transcript) (sym (append-nil p.report)) (broke g.transcript p.report g.wrote p.wrote);
-      };
-      beside = subst
-          (λ by. Beside ending.Unwritten by (g.taken ++ r.0) (g.played ++ s ∷ []) on.steps
-          (onto [] (g.transcript ++ p.report))) same
-          (beside (g.taken ++ r.0) (g.played ++ s ∷ []) on.steps (onto [] (g.transcript ++ p.report))
-          (subst (After (g.played ++ s ∷ [])) (sym told) goes.1));
-    }
+    λ relies. legal_came g.taken r.0 more g.played g.transcript (g.legal relies (r.0 ++ more)) in (
+      bytes,
+      told_by left0 left1 (g.taken ++ r.0) (Consumes-trans left0 left left1 g.taken r.0 g.consumed r.1),
+      record {
+        taken = g.taken ++ r.0;
+        played = g.played ++ s ∷ [];
+        unplayed = on.steps;
+        transcript = g.transcript ++ p.report;
+        took = refl;
+        steps_are = says.steps;
+        legal = λ relies. let here = subst Relies told relies in
+            legal_more most_records (script bytes).setup g.played g.transcript p.report s (legal (back news past here))
+            (entries here);
+        early = early_more Relies most_records (script bytes).setup g.played g.transcript p.report s trusts p.told entries
+            (early_came g.taken r.0 more g.played g.transcript (g.early (r.0 ++ more)));
+        stops = record {
+          before = g.played;
+          last = s ∷ [];
+          whole = g.transcript;
+          cut = p.report;
+          steps_are = refl;
+          one_step = omega arith;
+          transcript_is = refl;
+          legal = legal;
+          goes_on = λ relies. (news, entries (subst Relies told relies), told);
+          in_one = inr refl;
+          breaks = subst (Breaks g.transcript) (sym (append-nil p.report))
+              (broke g.transcript p.report g.wrote p.wrote);
+        };
+        beside = subst
+            (λ by. Beside ending.Unwritten by (g.taken ++ r.0) (g.played ++ s ∷ []) on.steps
+            (onto [] (g.transcript ++ p.report))) same
+            (beside (g.taken ++ r.0) (g.played ++ s ∷ []) on.steps (onto [] (g.transcript ++ p.report))
+            (subst (After (g.played ++ s ∷ [])) (sym told) goes.1));
+      },
+    )
 
 -- a step that isn't played leaves the transcript whole
 unplayed_stops : (Relies : List Entry → Type 0) (why : WorldNo) (bytes taken : List ℕ) (played unplayed : List Step)
@@ -483,35 +493,34 @@ pub played_torn : (Relies : List Entry → Type 0) (left0 left left1 : Option (L
     IsDone setup next → ((xs : List Entry) → Written xs → Written1 xs)
     → Going Relies left0 left held number stage Before Written →
     Came held left left1 (λ bytes. ScriptGoesOn number stage bytes (plays s next) rest) →
-    IfSome left0 (λ bytes. Played Relies bytes (unplayed_by why) left1 Written1 Breaks Beside)
-played_torn Relies None left left1 held rest number stage next setup Before s why Written Written1 Breaks Beside beside
-    done wrote g r = tt
-played_torn Relies (Some bytes) left left1 held rest number stage next setup Before s why Written Written1 Breaks Beside
-    beside done wrote g r =
-    let t = told_by bytes left1 (g.taken ++ r.0) (Consumes-trans (Some bytes) left left1 g.taken r.0 g.consumed r.1) in
-    let on = said_from (number + 1) next (rest ++ t.0) in
-    let says : AlsoSays (script bytes) (g.played ++ s ∷ []) on =
-    subst (λ b. AlsoSays (script b) (g.played ++ s ∷ []) on) (sym t.2)
-    (step_says g.taken r.0 held t.0 rest number stage next g.played s (g.says (r.0 ++ t.0)) r.2) in
-    let same : setup ≡ (script bytes).setup =
-    sym (says.setup ∙ setup_stays (number + 1) setup next (slice_split is_line_feed (rest ++ t.0)) done) in
-    record {
-      taken = g.taken ++ r.0;
-      rest = t.0;
-      played = g.played;
-      unplayed = s ∷ on.steps;
-      transcript = g.transcript;
-      took = t.2;
-      left_is = t.1;
-      steps_are = says.steps ∙ append_assoc g.played (s ∷ []) on.steps;
-      legal = λ relies. legal_of bytes g.taken r.0 t.0 g.played g.transcript t.2 (g.legal relies (r.0 ++ t.0));
-      stops = unplayed_stops Relies why bytes (g.taken ++ r.0) g.played (s ∷ on.steps) g.transcript Written1 Breaks
-          (wrote g.transcript g.wrote);
-      beside = subst
-          (λ by. Beside (unplayed_by why) by (g.taken ++ r.0) g.played (s ∷ on.steps) (onto [] g.transcript)) same
-          (beside (g.taken ++ r.0) g.played on.steps (onto [] g.transcript) g.holds
-          (going_suits Relies (Some bytes) left left1 held rest number stage next setup Before Written s done g r));
-    }
+    OfBytes left0 (λ bytes. Played Relies bytes (unplayed_by why) left1 Written1 Breaks Beside)
+played_torn Relies left0 left left1 held rest number stage next setup Before s why Written Written1 Breaks Beside beside
+    done wrote g r =
+    let more = to_come left1 in
+    let bytes = (g.taken ++ r.0) ++ more in
+    let on = said_from (number + 1) next (rest ++ more) in
+    let says = step_says g.taken r.0 held more rest number stage next g.played s (g.says (r.0 ++ more)) r.2 in
+    let same = step_setup g.taken r.0 held more rest number stage next setup g.played s (g.says (r.0 ++ more)) r.2 done
+    in (
+      bytes,
+      told_by left0 left1 (g.taken ++ r.0) (Consumes-trans left0 left left1 g.taken r.0 g.consumed r.1),
+      record {
+        taken = g.taken ++ r.0;
+        played = g.played;
+        unplayed = s ∷ on.steps;
+        transcript = g.transcript;
+        took = refl;
+        steps_are = says.steps ∙ append_assoc g.played (s ∷ []) on.steps;
+        legal = λ relies. legal_came g.taken r.0 more g.played g.transcript (g.legal relies (r.0 ++ more));
+        early = early_came g.taken r.0 more g.played g.transcript (g.early (r.0 ++ more));
+        stops = unplayed_stops Relies why bytes (g.taken ++ r.0) g.played (s ∷ on.steps) g.transcript Written1 Breaks
+            (wrote g.transcript g.wrote);
+        beside = subst
+            (λ by. Beside (unplayed_by why) by (g.taken ++ r.0) g.played (s ∷ on.steps) (onto [] g.transcript)) same
+            (beside (g.taken ++ r.0) g.played on.steps (onto [] g.transcript) g.holds
+            (going_suits Relies left0 left left1 held rest number stage next setup Before Written s done g r));
+      },
+    )
 
 -- the setup that was read is sound
 pub going_setup : (Relies : List Entry → Type 0) (left0 left : Option (List ℕ)) (held : List ℕ) (number : ℕ)
@@ -528,23 +537,24 @@ pub played_none : (Relies Relies1 : List Entry → Type 0) (left0 left : Option 
     (Beside : Ending → Setup → List ℕ → List Step → List Step → List Entry → Type 0) →
     ((setup : Setup) (taken : List ℕ) (unplayed : List Step) → Beside ending.NoMemory setup taken [] unplayed []) →
     Written [] → Going Relies left0 left held number stage Stands IsNothing
-    → IfSome left0 (λ bytes. Played Relies1 bytes ending.NoMemory left Written Breaks Beside)
-played_none Relies Relies1 None left held number stage Stands Written Breaks Beside beside wrote g = tt
-played_none Relies Relies1 (Some bytes) left held number stage Stands Written Breaks Beside beside wrote g =
-    let t = told_by bytes left g.taken g.consumed in
-    record {
-      taken = g.taken;
-      rest = t.0;
-      played = [];
-      unplayed = (script bytes).steps;
-      transcript = [];
-      took = t.2;
-      left_is = t.1;
-      steps_are = refl;
-      legal = λ relies. refl;
-      stops = (refl, wrote);
-      beside = beside (script bytes).setup g.taken (script bytes).steps;
-    }
+    → OfBytes left0 (λ bytes. Played Relies1 bytes ending.NoMemory left Written Breaks Beside)
+played_none Relies Relies1 left0 left held number stage Stands Written Breaks Beside beside wrote g =
+    let bytes = g.taken ++ to_come left in (
+      bytes,
+      told_by left0 left g.taken g.consumed,
+      record {
+        taken = g.taken;
+        played = [];
+        unplayed = (script bytes).steps;
+        transcript = [];
+        took = refl;
+        steps_are = refl;
+        legal = λ relies. refl;
+        early = early_none most_records (script bytes).setup;
+        stops = (refl, wrote);
+        beside = beside (script bytes).setup g.taken (script bytes).steps;
+      },
+    )
 
 -- no journal was created, and nothing was taken of the script
 before_stops : (Relies : List Entry → Type 0) (bytes : List ℕ) (size : ℕ) (seen : Option (List ℕ)) (how : Ending)
@@ -559,21 +569,24 @@ pub played_before : (Relies : List Entry → Type 0) (left : Option (List ℕ)) 
     (how : Ending) (Written : List Entry → Type 0) (Breaks : List Entry → List Entry → Type 0)
     (Beside : Ending → Setup → List ℕ → List Step → List Step → List Entry → Type 0) → IsUnopened size seen how →
     ((setup : Setup) (unplayed : List Step) → Beside how setup [] [] unplayed []) → Written []
-    → IfSome left (λ bytes. Played Relies bytes how left Written Breaks Beside)
-played_before Relies None size seen how Written Breaks Beside is beside wrote = tt
-played_before Relies (Some bytes) size seen how Written Breaks Beside is beside wrote = record {
-  taken = [];
-  rest = bytes;
-  played = [];
-  unplayed = (script bytes).steps;
-  transcript = [];
-  took = refl;
-  left_is = refl;
-  steps_are = refl;
-  legal = λ relies. refl;
-  stops = before_stops Relies bytes size seen how (script bytes).steps Written Breaks is wrote;
-  beside = beside (script bytes).setup (script bytes).steps;
-}
+    → OfBytes left (λ bytes. Played Relies bytes how left Written Breaks Beside)
+played_before Relies left size seen how Written Breaks Beside is beside wrote =
+    let bytes = to_come left in (
+      bytes,
+      told_by left left [] (Consumes-nil left),
+      record {
+        taken = [];
+        played = [];
+        unplayed = (script bytes).steps;
+        transcript = [];
+        took = refl;
+        steps_are = refl;
+        legal = λ relies. refl;
+        early = early_none most_records (script bytes).setup;
+        stops = before_stops Relies bytes size seen how (script bytes).steps Written Breaks is wrote;
+        beside = beside (script bytes).setup (script bytes).steps;
+      },
+    )
 
 -- what is told of the writing in another way, where the script or its source brought the end
 stops_by : (Relies Relies1 : List Entry → Type 0) (bytes taken : List ℕ) (played unplayed : List Step)
@@ -597,23 +610,26 @@ pub played_by : (Relies Relies1 : List Entry → Type 0) (left0 left : Option (L
     (Beside : Ending → Setup → List ℕ → List Step → List Step → List Entry → Type 0) →
     ((past : List Entry) → Relies1 past → Relies past) → ((xs : List Entry) → Written xs → Written1 xs)
     → EndsBeside (at_setup no_devices) IsUnbegun Beside
-    → IfSome left0 (λ bytes. Played Relies bytes how left Written Breaks BeforeSteps)
-    → IfSome left0 (λ bytes. Played Relies1 bytes how left Written1 Breaks1 Beside)
-played_by Relies Relies1 None left how Written Written1 Breaks Breaks1 Beside less w beside p = tt
-played_by Relies Relies1 (Some bytes) left how Written Written1 Breaks Breaks1 Beside less w beside p = record {
-  taken = p.taken;
-  rest = p.rest;
-  played = p.played;
-  unplayed = p.unplayed;
-  transcript = p.transcript;
-  took = p.took;
-  left_is = p.left_is;
-  steps_are = p.steps_are;
-  legal = λ relies. p.legal (less (onto [] p.transcript) relies);
-  stops = stops_by Relies Relies1 bytes p.taken p.played p.unplayed p.transcript how Written Written1 Breaks Breaks1
-      p.beside.0 w p.stops;
-  beside = beside how (script bytes).setup p.taken p.played p.unplayed (onto [] p.transcript) p.beside.0 tt p.beside.1;
-}
+    → OfBytes left0 (λ bytes. Played Relies bytes how left Written Breaks BeforeSteps)
+    → OfBytes left0 (λ bytes. Played Relies1 bytes how left Written1 Breaks1 Beside)
+played_by Relies Relies1 left0 left how Written Written1 Breaks Breaks1 Beside less w beside (bytes, told, p) = (
+  bytes,
+  told,
+  record {
+    taken = p.taken;
+    played = p.played;
+    unplayed = p.unplayed;
+    transcript = p.transcript;
+    took = p.took;
+    steps_are = p.steps_are;
+    legal = λ relies. p.legal (less (onto [] p.transcript) relies);
+    early = p.early;
+    stops = stops_by Relies Relies1 bytes p.taken p.played p.unplayed p.transcript how Written Written1 Breaks Breaks1
+        p.beside.0 w p.stops;
+    beside = beside how (script bytes).setup p.taken p.played p.unplayed (onto [] p.transcript) p.beside.0 tt
+        p.beside.1;
+  },
+)
 
 -- what the loop over the setup lines keeps
 module _ {S : Type 0} (takes : S → ℕ → Result ℕ Failed → S → Type 0) (left : S → Option (List ℕ)) (faults : S → ℕ) where

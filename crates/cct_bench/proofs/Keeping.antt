@@ -1,7 +1,7 @@
 -- What a disk keeps over a run, and what is left on it where the steps come to their end.
 use Rattle.std.proofs.Common.{◌≡◌, ◌≢◌, ◌⊎◌, ◌++◌, ℕ, Bool, List, [], ◌∷◌, reverse, Option, refl, sym, ap, ◌∙◌}
 use Rattle.std.proofs.Common.{arith, inl, inr, subst, subst₂, Result, Err}
-use Rattle.std.specs.Prelude.{IfSome, is_some}
+use Rattle.std.specs.Prelude.{is_some}
 use Rattle.std.proofs.Math.Nat.{le_trans}
 use Rattle.cct_model.specs.terms.device.Setup.{Setup}
 use Rattle.cct_model.specs.lines.command.Step.{Step}
@@ -44,6 +44,7 @@ use Rattle.cct_bench.specs.declared.play.TheConstants.{JOURNAL_BYTES}
 use Rattle.cct_bench.specs.Going.{Going, IsUnbegun}
 use Rattle.cct_bench.specs.Lines.{Came, ScriptGoesOn}
 use Rattle.cct_bench.specs.Playing.{Plays, PlaysOn}
+use Rattle.cct_bench.specs.Source.{OfBytes}
 use Rattle.cct_bench.specs.Run.{IsUnopened, Over, OverCut, OverLost, Played, uncreated, unplayed_by}
 use Rattle.cct_text.specs.Writing.{Broke, Writes, Wrote}
 use Rattle.cct_bench.proofs.Going.{Carries, EndsBeside, IsSetupIn, played_broke, played_torn}
@@ -153,6 +154,7 @@ module _ {D : Type 0} {g : Ghosts D} where
                   (disk_of world) last s (used_of world) many news played past on lasts p.told p.cut p.counts p.restarts
                   (λ sure. (goes sure).1) before),
             );
+        told = p.told;
         wrote = p.wrote;
       }
 
@@ -362,7 +364,7 @@ module _ {K D : Type 0} {g : Ghosts D} (written : K → Option (List ℕ))
       (Wrote written puts out out1)
       → Came held left left1 (λ bytes. ScriptGoesOn number stage bytes (plays s stage) rest)
       → StepEnds out1 out2 world s how last
-      → IfSome left0 (λ bytes. Played (Sure (IsTrusted g.honest g.seen given)) bytes how left1
+      → OfBytes left0 (λ bytes. Played (Sure (IsTrusted g.honest g.seen given)) bytes how left1
       (Wrote written puts out out2) (Broke written puts out out2)
       (OverCut (disks g.size g.honest g.seen g.may_leave g.cuts g.cut_to given last)))
   step_ends out out1 out2 left0 left left1 held rest number stage how s given last world ready on lasts done going reads
@@ -372,11 +374,12 @@ module _ {K D : Type 0} {g : Ghosts D} (written : K → Option (List ℕ))
       let O = OverCut (disks g.size g.honest g.seen g.may_leave g.cuts g.cut_to given last) in
       let WritesThem : List Entry → Type 0 = λ report. Writes written puts out1 report (Err failed) out2 in
       let books = Books g.honest g.seen g.may_leave last in
-      subst (λ how. IfSome left0 (λ bytes. Played (Sure trusted) bytes how left1 (Wrote written puts out out2) B O))
+      subst (λ how. OfBytes left0 (λ bytes. Played (Sure trusted) bytes how left1 (Wrote written puts out out2) B O))
       (sym is)
       (played_broke (Sure trusted) left0 left left1 held rest number stage stage (setup_of world)
       (WorldHolds given world) (Holds g.size g.honest g.seen g.cuts g.cut_to books (setup_of world) given last many) s
       (Wrote written puts out out1) WritesThem (Wrote written puts out out2) B O (sure_back trusted)
+      (λ past none. inr none)
       (broke_over g.size g.honest g.seen g.may_leave g.cuts g.cut_to given last (setup_of world) many ready
       (lasts_then g.size g.honest g.seen g.cuts given (disk_of world) last on
       (lasts_in g.size g.honest g.seen g.cuts s (disk_of world) last lasts))) done
@@ -387,7 +390,7 @@ module _ {K D : Type 0} {g : Ghosts D} (written : K → Option (List ℕ))
       let trusted = IsTrusted g.honest g.seen given in
       let B = Broke written puts out out2 in
       let O = OverCut (disks g.size g.honest g.seen g.may_leave g.cuts g.cut_to given last) in
-      subst (λ how. IfSome left0 (λ bytes. Played (Sure trusted) bytes how left1 (Wrote written puts out out2) B O))
+      subst (λ how. OfBytes left0 (λ bytes. Played (Sure trusted) bytes how left1 (Wrote written puts out out2) B O))
       (sym is)
       (played_torn (Sure trusted) left0 left left1 held rest number stage stage (setup_of world)
       (WorldHolds given world) s why (Wrote written puts out out1) (Wrote written puts out out2) B O

@@ -1,6 +1,6 @@
 -- What a load leaves, by how its steps came to their end, and its last line.
 use Rattle.std.proofs.Common.{◌≡◌, ◌≢◌, ◌⊎◌, ℕ, true, List, [], ◌∷◌, ◌++◌, Option, None, Some, Result, Ok, Err, All}
-use Rattle.std.proofs.Common.{refl, sym, ap, subst, ◌∙◌, inl, inr}
+use Rattle.std.proofs.Common.{refl, sym, ap, subst, ◌∙◌, inl, inr, append_assoc}
 use Rattle.std.specs.Prelude.{IfSome, is_some}
 use Rattle.std.proofs.lemmas.List.{append-nil}
 use Rattle.std.proofs.lemmas.List.Elements.{All-cons, All-head, All-nil, All-tail}
@@ -12,7 +12,7 @@ use Rattle.cct_model.specs.Legal.{Legal}
 use Rattle.cct_model.specs.Script.{IsInRange}
 use Rattle.cct_model.specs.Transcript.{onto}
 use Rattle.cct_laws.proofs.Coinless.{each_covers, each_in_order}
-use Rattle.cct_laws.proofs.Payments.{legal_paid}
+use Rattle.cct_laws.proofs.Payments.{legal_fresh, legal_paid}
 use Rattle.cct_journal.specs.Image.{IsBlank, capacity_of}
 use Rattle.cct_journal.specs.Stands.{GoesOn, Outlasts}
 use Rattle.cct_disk.specs.declared.disk.Disk.{Ghosts}
@@ -21,11 +21,13 @@ use Rattle.cct_text.specs.Writing.{Broke, Writes, Wrote}
 use Rattle.cct_world.specs.declared.refusal.WorldNo.{WorldNo}
 use Rattle.cct_world.specs.declared.refusal.WorldNo.TheVariants as world_no
 use Rattle.cct_world.specs.declared.world.World.{World}
+use Rattle.cct_world.specs.Early.{LegalBeforeLoss}
 use Rattle.cct_world.specs.Restarts.{CutAt, LosesAt, no_step}
 use Rattle.cct_world.specs.Step.{RoseBy, count_after, crashes}
 use Rattle.cct_world.specs.Sure.{First, MayFail, Sure, losses_in}
 use Rattle.cct_world.specs.World.{disk_of}
 use Rattle.cct_world.proofs.Lasting.{lasts_on, lasts_then, trusted_on}
+use Rattle.cct_world.proofs.Early.{early_none}
 use Rattle.cct_world.proofs.Sure.{rose_just}
 use Rattle.cct_world.proofs.Surviving.{loses_by, survived_by}
 use Rattle.cct_gen.specs.Load.{load_setup, load_steps}
@@ -45,7 +47,8 @@ use Rattle.cct_bench.specs.Disks.{Disks, IsReady, disks, most_records}
 use Rattle.cct_bench.specs.Load.{LoadCloses, LoadEnds, LoadPlayed, LoadStops, Loaded, load_ending}
 use Rattle.cct_bench.specs.Report.{IsOrMemory}
 use Rattle.cct_bench.specs.Run.{Book, EndsLost, IsUnopened, TellsLoss, last_entry, listed, status_by, status_of}
-use Rattle.cct_bench.proofs.Closing.{LastLine, blank_first, kept_by, last_line, lost_next, no_line, none_next, tells_loss}
+use Rattle.cct_bench.specs.Money.{IsRight}
+use Rattle.cct_bench.proofs.Closing.{LastLine, blank_first, early_right, failed_tail, kept_by, last_line, lost_next, no_line, none_next, tells_loss}
 
 -- ---- what the laws say of a load
 
@@ -60,37 +63,49 @@ played_in_range : (seed rounds : ℕ) (played unplayed : List Step) → load_ste
 played_in_range seed rounds played unplayed steps_are =
     all_front IsInRange played unplayed (subst (All IsInRange) steps_are (lines_in_range seed _))
 
+-- the money of steps of a load
+load_right : (seed rounds : ℕ) (played rest : List Step) (transcript : List Entry) → load_steps seed rounds ≡ played ++ rest
+    → Legal most_records load_setup played transcript → IsRight load_setup transcript
+load_right seed rounds played rest transcript fronts legal =
+    let in_range = played_in_range seed rounds played rest fronts in
+    record {
+      fresh = legal_fresh most_records load_setup played transcript setup_sound legal;
+      in_order = λ d own honest.
+          each_in_order most_records load_setup played transcript d setup_sound own in_range legal honest;
+      covers = λ d own honest.
+          each_covers most_records load_setup played transcript d setup_sound own in_range legal honest;
+      paid = λ d own paying honest.
+          legal_paid most_records load_setup played transcript d setup_sound own paying in_range legal honest;
+    }
+
 -- a load by its status, from how it came to its end
 loaded_by : (seed rounds : ℕ) (how : Ending) (s : Status) (tail : List Entry) (disks : Disks)
-    (Before Written : List Entry → Type 0) (Broken Breaks : List Entry → List Entry → Type 0)
-    → tail ≡ listed (last_entry how) → (p : LoadPlayed seed rounds how Before Broken disks)
+    (Before Written : List Entry → Type 0) (Broken Breaks : List Entry → List Entry → Type 0) (disk_failed : Type 0)
+    → tail ≡ listed (last_entry how) → (how ≡ ending.DiskFailed → disk_failed)
+    → (p : LoadPlayed seed rounds how Before Broken disks)
     → LoadEnds disks seed rounds p.played p.unplayed (onto [] p.transcript) s p.told tail Written Breaks
-    → Loaded seed rounds s Written Breaks disks
-loaded_by seed rounds how s tail disks Before Written Broken Breaks is p ends =
-    let in_range = played_in_range seed rounds p.played p.unplayed p.steps_are in
-    record {
-      played = p.played;
-      unplayed = p.unplayed;
-      transcript = p.transcript;
-      told = p.told;
-      tail = tail;
-      steps_are = p.steps_are;
-      legal = p.legal;
-      in_order = λ sure d own honest.
-          each_in_order most_records load_setup p.played p.transcript d setup_sound own in_range (p.legal sure) honest;
-      covers = λ sure d own honest.
-          each_covers most_records load_setup p.played p.transcript d setup_sound own in_range (p.legal sure) honest;
-      paid = λ sure d own paying honest.
-          legal_paid most_records load_setup p.played p.transcript d setup_sound own paying in_range (p.legal sure)
-          honest;
-      ends = ends;
-      book = λ trusted some. subst (Book disks load_setup p.unplayed (onto [] p.transcript)) (sym is)
-          (p.book trusted some);
-      keeps = λ trusted tells. p.keeps trusted (subst TellsLoss is tells);
-      survived = p.survived;
-      cut = p.cut;
-      just = p.just;
-    }
+    → Loaded seed rounds s Written Breaks disks disk_failed
+loaded_by seed rounds how s tail disks Before Written Broken Breaks disk_failed is caused p ends = record {
+  played = p.played;
+  unplayed = p.unplayed;
+  transcript = p.transcript;
+  told = p.told;
+  tail = tail;
+  steps_are = p.steps_are;
+  legal = p.legal;
+  money = λ sure. load_right seed rounds p.played p.unplayed p.transcript p.steps_are (p.legal sure);
+  early = early_right load_setup p.played p.transcript
+      (λ first later told fronts legal. load_right seed rounds first (later ++ p.unplayed) told
+      (p.steps_are ∙ ap (λ xs. xs ++ p.unplayed) fronts ∙ append_assoc first later p.unplayed) legal) p.early;
+  ends = ends;
+  book = λ trusted some. subst (Book disks load_setup p.unplayed (onto [] p.transcript)) (sym is)
+      (p.book trusted some);
+  keeps = λ trusted tells. p.keeps trusted (subst TellsLoss is tells);
+  disk_cause = λ tells. caused (failed_tail how (sym is ∙ tells));
+  survived = p.survived;
+  cut = p.cut;
+  just = p.just;
+}
 
 -- ---- the last line
 
@@ -130,14 +145,15 @@ module _ (disks : Disks) (seed rounds : ℕ) (played unplayed : List Step) (past
 -- what was written before, and then the last line
 module _ {K : Type 0} (written : K → Option (List ℕ)) (puts : K → List ℕ → Result (Unit {0}) Failed → K → Type 0) where
   pub load_written : (a b c : K) (seed rounds : ℕ) (how : Ending) (s : Status) (answer : Result (Unit {0}) Failed)
-      (disks : Disks) → Writes written puts b (listed (last_entry how)) answer c → s ≡ status_by answer (status_of how)
+      (disks : Disks) (disk_failed : Type 0) → (how ≡ ending.DiskFailed → disk_failed)
+      → Writes written puts b (listed (last_entry how)) answer c → s ≡ status_by answer (status_of how)
       → LoadPlayed seed rounds how (Wrote written puts a b) (Broke written puts a b) disks
-      → Loaded seed rounds s (Wrote written puts a c) (Broke written puts a c) disks
-  load_written a b c seed rounds how s answer disks h is p =
+      → Loaded seed rounds s (Wrote written puts a c) (Broke written puts a c) disks disk_failed
+  load_written a b c seed rounds how s answer disks disk_failed caused h is p =
       let tail = listed (last_entry how) in
-      subst (λ s. Loaded seed rounds s (Wrote written puts a c) (Broke written puts a c) disks) (sym is)
+      subst (λ s. Loaded seed rounds s (Wrote written puts a c) (Broke written puts a c) disks disk_failed) (sym is)
       (loaded_by seed rounds how (status_by answer (status_of how)) tail disks (Wrote written puts a b)
-      (Wrote written puts a c) (Broke written puts a b) (Broke written puts a c) refl p
+      (Wrote written puts a c) (Broke written puts a b) (Broke written puts a c) disk_failed refl caused p
       (load_ends disks seed rounds p.played p.unplayed (onto [] p.transcript) p.told (Wrote written puts a b)
       (Wrote written puts a c) (Broke written puts a b) (Broke written puts a c) how answer
       (last_line written puts a b c tail answer h)
@@ -160,6 +176,7 @@ module _ (seed rounds : ℕ) (Written : List Entry → Type 0) (Breaks : List En
     told = [];
     steps_are = refl;
     legal = λ sure. refl;
+    early = early_none most_records load_setup;
     stops = stops;
     book = λ trusted some. absurd (some refl);
     keeps = keeps;
@@ -183,11 +200,12 @@ module _ (seed rounds : ℕ) (Written : List Entry → Type 0) (Breaks : List En
   load_no_memory wrote = unbegun ending.NoMemory (λ trusted tells. tells) (refl, refl, wrote)
 
   -- with no memory to read the words
-  pub load_at_once : Written [] → Loaded seed rounds status.OutOfMemory Written Breaks disks
-  load_at_once wrote =
+  pub load_at_once : (disk_failed : Type 0) → Written []
+      → Loaded seed rounds status.OutOfMemory Written Breaks disks disk_failed
+  load_at_once disk_failed wrote =
       let p = load_no_memory wrote in
-      loaded_by seed rounds ending.NoMemory status.OutOfMemory [] disks Written Written Breaks Breaks refl p
-      (p.stops.0, p.stops.1, refl, p.stops.2)
+      loaded_by seed rounds ending.NoMemory status.OutOfMemory [] disks Written Written Breaks Breaks disk_failed refl
+      (λ is. cc is) p (p.stops.0, p.stops.1, refl, p.stops.2)
 
 -- ---- over a machine
 
@@ -340,6 +358,8 @@ module _ {D : Type 0} {g : Ghosts D} (given left : D) (world : World D g)
         steps_are = p.steps_are;
         legal = λ sure. subst (λ size. Legal (capacity_of size) load_setup p.played p.transcript)
             (on.same_size ∙ ready.sized) (p.legal (relies past sure));
+        early = subst (λ size. LegalBeforeLoss (capacity_of size) load_setup p.played p.transcript)
+            (on.same_size ∙ ready.sized) p.early;
         stops = told.1;
         book = λ trusted some. book_by how p.unplayed past (p.book (now_trusted trusted));
         keeps = λ trusted tells. keeps_by how p.unplayed past (p.book (now_trusted trusted)) tells;
@@ -353,30 +373,30 @@ module _ {D : Type 0} {g : Ghosts D} (given left : D) (world : World D g)
 
 -- a load has a status of its own
 pub load_statuses : (seed rounds : ℕ) (s : Status) (Written : List Entry → Type 0)
-    (Breaks : List Entry → List Entry → Type 0) (disks : Disks) → Loaded seed rounds s Written Breaks disks
-    → (s ≢ status.ReadFault) × (s ≢ status.WordsRefused)
-load_statuses seed rounds status.ReadFault Written Breaks disks h = absurd h.ends.0
-load_statuses seed rounds status.WordsRefused Written Breaks disks h = absurd h.ends.0
-load_statuses seed rounds s Written Breaks disks h = (λ is. cc is, λ is. cc is)
+    (Breaks : List Entry → List Entry → Type 0) (disks : Disks) (disk_failed : Type 0)
+    → Loaded seed rounds s Written Breaks disks disk_failed → (s ≢ status.ReadFault) × (s ≢ status.WordsRefused)
+load_statuses seed rounds status.ReadFault Written Breaks disks disk_failed h = absurd h.ends.0
+load_statuses seed rounds status.WordsRefused Written Breaks disks disk_failed h = absurd h.ends.0
+load_statuses seed rounds s Written Breaks disks disk_failed h = (λ is. cc is, λ is. cc is)
 
 load_done : (seed rounds : ℕ) (s : Status) (Written : List Entry → Type 0) (Breaks : List Entry → List Entry → Type 0)
-    (disks : Disks) (image : List ℕ) → disks.seen ≡ Some image → disks.size ≡ JOURNAL_BYTES → IsBlank image
-    → disks.trusted ⊎ (losses_in (load_steps seed rounds) ≡ 0) → (s ≡ status.WriteFault → ⊥)
-    → (s ≡ status.DiskFault → ⊥) → Loaded seed rounds s Written Breaks disks → IsOrMemory status.Done s
-load_done seed rounds status.Done Written Breaks disks image told sized blank kept w d h = inl refl
-load_done seed rounds status.ScriptRefused Written Breaks disks image told sized blank kept w d h = absurd h.ends.0
-load_done seed rounds status.WordsRefused Written Breaks disks image told sized blank kept w d h = absurd h.ends.0
-load_done seed rounds status.ReadFault Written Breaks disks image told sized blank kept w d h = absurd h.ends.0
-load_done seed rounds status.WriteFault Written Breaks disks image told sized blank kept w d h = absurd (w refl)
-load_done seed rounds status.DiskFault Written Breaks disks image told sized blank kept w d h = absurd (d refl)
-load_done seed rounds status.NotBlank Written Breaks disks image told sized blank kept w d h =
+    (disks : Disks) (image : List ℕ) (disk_failed : Type 0) → disks.seen ≡ Some image → disks.size ≡ JOURNAL_BYTES
+    → IsBlank image → disks.trusted ⊎ (losses_in (load_steps seed rounds) ≡ 0) → (s ≡ status.WriteFault → ⊥)
+    → (s ≡ status.DiskFault → ⊥) → Loaded seed rounds s Written Breaks disks disk_failed → IsOrMemory status.Done s
+load_done seed rounds status.Done Written Breaks disks image disk_failed told sized blank kept w d h = inl refl
+load_done seed rounds status.ScriptRefused Written Breaks disks image disk_failed told sized blank kept w d h = absurd h.ends.0
+load_done seed rounds status.WordsRefused Written Breaks disks image disk_failed told sized blank kept w d h = absurd h.ends.0
+load_done seed rounds status.ReadFault Written Breaks disks image disk_failed told sized blank kept w d h = absurd h.ends.0
+load_done seed rounds status.WriteFault Written Breaks disks image disk_failed told sized blank kept w d h = absurd (w refl)
+load_done seed rounds status.DiskFault Written Breaks disks image disk_failed told sized blank kept w d h = absurd (d refl)
+load_done seed rounds status.NotBlank Written Breaks disks image disk_failed told sized blank kept w d h =
     absurd (blank_first image h.ends.0.0 blank (h.ends.0.5 image told))
-load_done seed rounds status.DiskSize Written Breaks disks image told sized blank kept w d h =
+load_done seed rounds status.DiskSize Written Breaks disks image disk_failed told sized blank kept w d h =
     absurd (h.ends.0.0 sized)
-load_done seed rounds status.OutOfMemory Written Breaks disks image told sized blank kept w d h = inr refl
-load_done seed rounds status.JournalLost Written Breaks disks image told sized blank (inl trusted) w d h =
+load_done seed rounds status.OutOfMemory Written Breaks disks image disk_failed told sized blank kept w d h = inr refl
+load_done seed rounds status.JournalLost Written Breaks disks image disk_failed told sized blank (inl trusted) w d h =
     absurd (h.keeps trusted (tells_loss (EndsLost disks load_setup (onto [] h.transcript) h.unplayed) h.tail h.ends.0.0))
-load_done seed rounds status.JournalLost Written Breaks disks image told sized blank (inr none) w d h =
+load_done seed rounds status.JournalLost Written Breaks disks image disk_failed told sized blank (inr none) w d h =
     absurd (none_next h.played h.unplayed (ap losses_in (sym h.steps_are) ∙ none)
     (lost_next (Sure disks.trusted (onto [] h.transcript)) disks.cut_at load_setup
     (onto [] h.transcript) disks.seen_after h.unplayed h.tail h.ends.0.0))
@@ -385,11 +405,11 @@ load_done seed rounds status.JournalLost Written Breaks disks image told sized b
 pub load_completes : (seed rounds : ℕ) (s : Status) (Written : List Entry → Type 0)
     (Breaks : List Entry → List Entry → Type 0) (disks : Disks) (Write Disk Honest : Type 0) (seen : Option (List ℕ))
     → disks.seen ≡ seen → (Honest → is_some seen ≡ true → disks.trusted) → (s ≡ status.WriteFault → Write)
-    → (s ≡ status.DiskFault → Disk) → Loaded seed rounds s Written Breaks disks
+    → (s ≡ status.DiskFault → Disk) → Loaded seed rounds s Written Breaks disks Disk
     → IfSome seen (λ image. disks.size ≡ JOURNAL_BYTES → IsBlank image
     → Honest ⊎ (losses_in (load_steps seed rounds) ≡ 0) → (Write → ⊥) → (Disk → ⊥) → IsOrMemory status.Done s)
 load_completes seed rounds s Written Breaks disks Write Disk Honest None told trusts write disk h = tt
 load_completes seed rounds s Written Breaks disks Write Disk Honest (Some image) told trusts write disk h =
-    λ sized blank kept w d. load_done seed rounds s Written Breaks disks image told sized blank
+    λ sized blank kept w d. load_done seed rounds s Written Breaks disks image Disk told sized blank
     (kept_by Honest disks.trusted (losses_in (load_steps seed rounds) ≡ 0) (λ honest. trusts honest refl) kept)
     (λ is. w (write is)) (λ is. d (disk is)) h

@@ -6,6 +6,7 @@ use Rattle.cct_model.specs.lines.entry.Entry.{Entry}
 use Rattle.cct_model.specs.Legal.{Legal}
 use Rattle.cct_model.specs.Script.{Stage, Script, script}
 use Rattle.cct_model.specs.Transcript.{onto}
+use Rattle.cct_world.specs.Early.{LegalBeforeLoss}
 use Rattle.cct_bench.specs.Disks.{most_records}
 use Rattle.cct_bench.specs.Lines.{said_from}
 
@@ -20,8 +21,8 @@ abbrev pub IsUnbegun : List Step → List Entry → Type 0
 IsUnbegun played past = (played ≡ []) × (past ≡ [])
 
 -- What was taken and played so far: whatever follows, the script says these steps and what the lines from here on say,
--- and the entries are those of these steps, where their past may be relied on; this holds of the steps and the past, and
--- the entries were written.
+-- and the entries are those of these steps, where their past may be relied on, and in any case up to the first loss of
+-- power; this holds of the steps and the past, and the entries were written.
 pub record Going (Relies : List Entry → Type 0) (left0 left : Option (List ℕ)) (held : List ℕ) (number : ℕ)
     (stage : Stage) (Stands : List Step → List Entry → Type 0) (Written : List Entry → Type 0) : Type 0 where
   pub taken : List ℕ
@@ -31,5 +32,6 @@ pub record Going (Relies : List Entry → Type 0) (left0 left : Option (List ℕ
   pub says : (more : List ℕ) → AlsoSays (script (taken ++ more)) played (said_from number stage (held ++ more))
   pub legal : Relies (onto [] transcript) → (more : List ℕ)
       → Legal most_records (script (taken ++ more)).setup played transcript
+  pub early : (more : List ℕ) → LegalBeforeLoss most_records (script (taken ++ more)).setup played transcript
   pub holds : Stands played (onto [] transcript)
   pub wrote : Written transcript

@@ -1,8 +1,10 @@
 pub mod Status
+pub mod Source
 pub mod Lines
 pub mod Setup
 pub mod SetupLines
 pub mod Disks
+pub mod Money
 pub mod Going
 pub mod Playing
 pub mod Run

@@ -1,5 +1,5 @@
 -- How the lines of a script go on, and where they stop.
-use Rattle.std.specs.Prelude.{◌≡◌, ℕ, ◌+◌, ◌≤◌, List, ◌++◌, Option, Some, None, Result, Ok, Err, IfSome}
+use Rattle.std.specs.Prelude.{◌≡◌, ℕ, ◌+◌, ◌≤◌, List, ◌++◌, Option, Some, None, Result, Ok, Err}
 use Rattle.std.specs.Borrow.{Bor}
 use Rattle.std.specs.List.{slice_split, position}
 use Rattle.std.specs.Io.KnownBytes.{Consumes}
@@ -12,6 +12,7 @@ use Rattle.cct_model.specs.Script.{closed_script}
 use Rattle.cct_script.specs.declared.lines.LinesNo.{LinesNo}
 use Rattle.cct_script.specs.declared.lines.LinesNo.TheVariants as no
 use Rattle.cct_script.specs.Giving.{Standing}
+use Rattle.cct_bench.specs.Source.{to_come}
 use Rattle.cct_bench.specs.declared.lines.ScriptStop.{ScriptStop}
 use Rattle.cct_bench.specs.declared.lines.ScriptStop.TheVariants as stop
 use Rattle.cct_bench.specs.declared.play.Ending.{Ending}
@@ -54,7 +55,7 @@ ScriptGoesOn number stage held read rest =
 -- The script says no more from here on, with these bytes and those to come: it has ended, or a line is refused.
 abbrev pub IsClosed : ℕ → Stage → Option LineKind → Option (List ℕ) → List ℕ → Type 0
 IsClosed number stage why left held =
-    IfSome left (λ more. said_from number stage (held ++ more) ≡ closed_script number (setup_at stage) why)
+    said_from number stage (held ++ to_come left) ≡ closed_script number (setup_at stage) why
 
 -- Why these bytes are read no further: no line is whole yet, or the first line is refused.
 abbrev pub StopsAt : ℕ → Stage → ScriptStop → Option (List ℕ) → List ℕ → Type 0

@@ -4,16 +4,11 @@ use Rattle.cct_model.specs.lines.command.Step.{Step}
 use Rattle.cct_model.specs.lines.entry.Entry.{Entry}
 use Rattle.cct_model.specs.lines.entry.Entry.TheVariants as entry
 use Rattle.cct_model.specs.lines.entry.Totals.{Totals}
-use Rattle.cct_model.specs.terms.device.DeviceSetup.{DeviceSetup}
-use Rattle.cct_model.specs.Claims.{Covers, InOrder, Pace}
-use Rattle.cct_model.specs.Device.{IsHopper}
-use Rattle.cct_model.specs.Honest.{Honest}
 use Rattle.cct_model.specs.Legal.{Legal}
 use Rattle.cct_model.specs.Money.{totals}
-use Rattle.cct_model.specs.Paid.{Paid}
 use Rattle.cct_model.specs.Transcript.{onto}
-use Rattle.cct_laws.specs.Law.{IsOf, lines_in}
 use Rattle.cct_journal.specs.Image.{IsFirstByteFrom}
+use Rattle.cct_world.specs.Early.{LegalBeforeLoss}
 use Rattle.cct_world.specs.Restarts.{Survived}
 use Rattle.cct_world.specs.Step.{RoseBy, count_after, crashes}
 use Rattle.cct_world.specs.Sure.{First, IsCrash, MayFail, Sure}
@@ -27,6 +22,7 @@ use Rattle.cct_bench.specs.declared.play.Ending.{Ending}
 use Rattle.cct_bench.specs.declared.play.Ending.TheVariants as ending
 use Rattle.cct_bench.specs.declared.play.TheConstants.{JOURNAL_BYTES}
 use Rattle.cct_bench.specs.Disks.{Disks, IsReady, most_records}
+use Rattle.cct_bench.specs.Money.{IsRight, RightBeforeLoss}
 use Rattle.cct_bench.specs.Run.{Book, EndsLost, TellsLoss, TellsOf, last_entry, listed, status_of, unplayed_by}
 
 -- of a load over a disk: the steps that were played and those that weren't, and the past of those played
@@ -92,7 +88,7 @@ module _ (disks : Disks) (seed rounds : ℕ) (played unplayed : List Step) (past
 -- holds of entries that were written whole, and `Breaks` where a put failed in the second list; and what it left on its
 -- disk, once its first line was to be written. The rest is as of a run.
 pub record Loaded (seed rounds : ℕ) (s : Status) (Written : List Entry → Type 0)
-    (Breaks : List Entry → List Entry → Type 0) (disks : Disks) : Type 0 where
+    (Breaks : List Entry → List Entry → Type 0) (disks : Disks) (disk_failed : Type 0) : Type 0 where
   pub played : List Step
   pub unplayed : List Step
   pub transcript : List Entry
@@ -100,15 +96,12 @@ pub record Loaded (seed rounds : ℕ) (s : Status) (Written : List Entry → Typ
   pub tail : List Entry
   pub steps_are : load_steps seed rounds ≡ played ++ unplayed
   pub legal : Sure disks.trusted (onto [] transcript) → Legal most_records load_setup played transcript
-  pub in_order : Sure disks.trusted (onto [] transcript) → (d : DeviceSetup) → IsOf load_setup d
-      → Honest transcript → InOrder (lines_in d transcript)
-  pub covers : Sure disks.trusted (onto [] transcript) → (d : DeviceSetup) → IsOf load_setup d
-      → Honest transcript → Pace (lines_in d transcript) → Covers (lines_in d transcript)
-  pub paid : Sure disks.trusted (onto [] transcript) → (d : DeviceSetup) → IsOf load_setup d
-      → IsHopper d.body → Honest transcript → Paid (lines_in d transcript)
+  pub money : Sure disks.trusted (onto [] transcript) → IsRight load_setup transcript
+  pub early : RightBeforeLoss load_setup played transcript
   pub ends : LoadEnds disks seed rounds played unplayed (onto [] transcript) s told tail Written Breaks
   pub book : disks.trusted → told ≢ [] → Book disks load_setup unplayed (onto [] transcript) tail
   pub keeps : disks.trusted → TellsLoss tail → ⊥
+  pub disk_cause : tail ≡ entry.DiskFault ∷ [] → disk_failed
   pub survived : Survived (Sure disks.trusted) disks.cut_at load_setup played (onto [] transcript)
   pub cut : RoseBy (crashes (onto [] transcript)) disks.cuts disks.cuts_after
   pub just : (First IsCrash unplayed → ⊥) → disks.cuts_after ≡ count_after (crashes (onto [] transcript)) disks.cuts
@@ -122,6 +115,7 @@ pub record LoadPlayed (seed rounds : ℕ) (how : Ending) (Written : List Entry �
   pub told : List Entry
   pub steps_are : load_steps seed rounds ≡ played ++ unplayed
   pub legal : Sure disks.trusted (onto [] transcript) → Legal most_records load_setup played transcript
+  pub early : LegalBeforeLoss most_records load_setup played transcript
   pub stops : LoadStops disks seed rounds played unplayed (onto [] transcript) how told Written Breaks
   pub book : disks.trusted → told ≢ []
       → Book disks load_setup unplayed (onto [] transcript) (listed (last_entry how))

@@ -5,13 +5,7 @@ use Rattle.std.specs.Prelude.{reverse, ⊤}
 use Rattle.std.specs.Io.KnownBytes.{Appends}
 use Rattle.cct_model.specs.lines.command.Step.{Step}
 use Rattle.cct_model.specs.terms.device.Setup.{Setup}
-use Rattle.cct_model.specs.terms.device.DeviceSetup.{DeviceSetup}
 use Rattle.cct_model.specs.lines.entry.Entry.{Entry}
-use Rattle.cct_model.specs.Claims.{InOrder, Covers, Pace}
-use Rattle.cct_model.specs.Device.{IsHopper}
-use Rattle.cct_model.specs.Paid.{Paid}
-use Rattle.cct_model.specs.Honest.{Honest}
-use Rattle.cct_laws.specs.Law.{IsOf, lines_in}
 use Rattle.cct_model.specs.lines.entry.Entry.TheVariants as entry
 use Rattle.cct_model.specs.Legal.{Legal, LegalFrom}
 use Rattle.cct_model.specs.Records.{records}
@@ -29,6 +23,7 @@ use Rattle.cct_bench.specs.declared.lines.ScriptStop.TheVariants as stop
 use Rattle.cct_bench.specs.declared.play.Ending.{Ending}
 use Rattle.cct_bench.specs.declared.play.Ending.TheVariants as ending
 use Rattle.cct_bench.specs.declared.play.TheConstants.{JOURNAL_BYTES}
+use Rattle.cct_world.specs.Early.{LegalBeforeLoss}
 use Rattle.cct_world.specs.Restarts.{LosesAt, Survived}
 use Rattle.cct_world.specs.Step.{RoseBy, count_after, crashes}
 use Rattle.cct_world.specs.Sure.{First, IsCrash, MayFail, Sure, due_to}
@@ -36,6 +31,8 @@ use Rattle.cct_world.specs.declared.refusal.WorldNo.{WorldNo}
 use Rattle.cct_world.specs.declared.refusal.WorldNo.TheVariants as world_no
 use Rattle.cct_bench.specs.Disks.{Disks, IsReady, most_records}
 use Rattle.cct_bench.specs.Going.{IsUnbegun}
+use Rattle.cct_bench.specs.Money.{IsRight, RightBeforeLoss}
+use Rattle.cct_bench.specs.Source.{to_come}
 
 -- Writing broke off in the lines of the last step played or in the last line, and all lines before were written whole:
 -- they are a front of the transcript, and the entries of the other steps, where their past may be relied on.
@@ -126,35 +123,31 @@ module _ (disks : Disks) (bytes taken : List ℕ) (played unplayed : List Step) 
 
 -- A run over a script of these bytes: what it took of them, the steps that it played, and their transcript; its last
 -- line; what it wrote, where `Written` holds of entries that were written whole, and `Breaks` where a put failed in the
--- second list; and what it left on its disk, once a byte of the script was taken.
--- Where the disk was trusted, or no loss of power is told, the entries are those of the steps; and where the wire was
--- honest besides, the posts of each device are its accepted coins in order, none twice; at each device that kept the
--- pace, none is lost in silence; and at each hopper, each order is paid at most once, and closed with exactly the coins
--- that fell.
+-- second list; and what it left on its disk, once a byte of the script was taken. The bytes are those taken and those
+-- still to come; a source that tells none is taken to have no more.
+-- Where the disk was trusted, or no loss of power is told, the entries are those of the steps, and the money is right.
+-- Over any disk both are so of the steps before the first loss of power.
+-- The last line tells a fault of the source or of the disk only where this one failed, also where it was torn.
 -- Over any disk each step that is a loss of power is told, and no other is, and behind each of them a host started again
 -- rightly, by what the disk told right behind that cut; on a trusted disk no loss of power leaves another journal than
 -- was there. The power was cut at least as often as is told, and just so often where the step that comes next is none.
 pub record Ran (bytes : List ℕ) (s : Status) (left : Option (List ℕ)) (Written : List Entry → Type 0)
-    (Breaks : List Entry → List Entry → Type 0) (disks : Disks) : Type 0 where
+    (Breaks : List Entry → List Entry → Type 0) (disks : Disks) (source_failed disk_failed : Type 0) : Type 0 where
   pub taken : List ℕ
-  pub rest : List ℕ
   pub played : List Step
   pub unplayed : List Step
   pub transcript : List Entry
   pub tail : List Entry
-  pub took : bytes ≡ taken ++ rest
-  pub left_is : left ≡ Some rest
+  pub took : bytes ≡ taken ++ to_come left
   pub steps_are : (script bytes).steps ≡ played ++ unplayed
   pub legal : Sure disks.trusted (onto [] transcript) → Legal most_records (script bytes).setup played transcript
-  pub in_order : Sure disks.trusted (onto [] transcript) → (d : DeviceSetup) → IsOf (script bytes).setup d
-      → Honest transcript → InOrder (lines_in d transcript)
-  pub covers : Sure disks.trusted (onto [] transcript) → (d : DeviceSetup) → IsOf (script bytes).setup d
-      → Honest transcript → Pace (lines_in d transcript) → Covers (lines_in d transcript)
-  pub paid : Sure disks.trusted (onto [] transcript) → (d : DeviceSetup) → IsOf (script bytes).setup d
-      → IsHopper d.body → Honest transcript → Paid (lines_in d transcript)
+  pub money : Sure disks.trusted (onto [] transcript) → IsRight (script bytes).setup transcript
+  pub early : RightBeforeLoss (script bytes).setup played transcript
   pub ends : Ends disks bytes taken played unplayed transcript s tail Written Breaks
   pub book : disks.trusted → taken ≢ [] → Book disks (script bytes).setup unplayed (onto [] transcript) tail
   pub keeps : disks.trusted → TellsLoss tail → ⊥
+  pub source_cause : tail ≡ entry.ReadFault ∷ [] → source_failed
+  pub disk_cause : tail ≡ entry.DiskFault ∷ [] → disk_failed
   pub survived : Survived (Sure disks.trusted) disks.cut_at (script bytes).setup played (onto [] transcript)
   pub cut : RoseBy (crashes (onto [] transcript)) disks.cuts disks.cuts_after
   pub just : (First IsCrash unplayed → ⊥) → disks.cuts_after ≡ count_after (crashes (onto [] transcript)) disks.cuts
@@ -253,14 +246,13 @@ pub record Played (Relies : List Entry → Type 0) (bytes : List ℕ) (how : End
     (Written : List Entry → Type 0) (Breaks : List Entry → List Entry → Type 0)
     (Beside : Ending → Setup → List ℕ → List Step → List Step → List Entry → Type 0) : Type 0 where
   pub taken : List ℕ
-  pub rest : List ℕ
   pub played : List Step
   pub unplayed : List Step
   pub transcript : List Entry
-  pub took : bytes ≡ taken ++ rest
-  pub left_is : left ≡ Some rest
+  pub took : bytes ≡ taken ++ to_come left
   pub steps_are : (script bytes).steps ≡ played ++ unplayed
   pub legal : Relies (onto [] transcript) → Legal most_records (script bytes).setup played transcript
+  pub early : LegalBeforeLoss most_records (script bytes).setup played transcript
   pub stops : Stops Relies how bytes taken played unplayed transcript Written Breaks
   pub beside : Beside how (script bytes).setup taken played unplayed (onto [] transcript)
 

@@ -15,6 +15,7 @@ ghost use Rattle.cct_bench.specs.declared.play.TheConstants.{JOURNAL_BYTES};
 ghost use Rattle.cct_bench.specs.Disks.{disks};
 ghost use Rattle.cct_world.specs.Sure.{losses_in};
 ghost use Rattle.cct_bench.specs.SetupLines.{TookSetup};
+ghost use Rattle.cct_bench.specs.Source.{OfBytes};
 ghost use Rattle.cct_text.specs.Writing.{Broke, Writes, Wrote};
 ghost use Rattle.cct_gen.specs.Load.{load_steps};
 ghost use Rattle.cct_bench.specs.Load.{Loaded};
@@ -59,14 +60,16 @@ pub fn bench<S: Source, K: Sink, D: Disk>(
     out: &mut K,
     disk: D,
 ) -> (Status, D)
-    // With the word `run`: what was taken, played and written; that over an honest wire the posts of each device are in
-    // order and cover its coins, and each order of a hopper is paid at most once, where the disk was trusted or no
-    // loss of power is told; over any disk, that behind each loss of power a host started again rightly, or why none
-    // did; and what is left on the disk.
-    ensures ran { said_in words.now ≡ Some Words.Run → IfSome (S.left script.old) (λ bytes.
+    // With the word `run`: what was taken, played and written, of the bytes that the source tells, or of some where it
+    // tells none; that over an honest wire the posts of each device are in order and cover its coins, and each order of
+    // a hopper is paid at most once, where the disk was trusted or no loss of power is told, and over any disk up to the
+    // first loss of power; over any disk, that after each loss of power a host started again rightly, or why none did;
+    // and what is left on the disk.
+    ensures ran { said_in words.now ≡ Some Words.Run → OfBytes (S.left script.old) (λ bytes.
         Ran bytes result.0 (S.left script.new)
         (Wrote K.written K.puts out.old out.new) (Broke K.written K.puts out.old out.new)
-        (disks D.size D.honest D.seen D.may_leave D.cuts D.cut_to disk result.1)) }
+        (disks D.size D.honest D.seen D.may_leave D.cuts D.cut_to disk result.1)
+        (Rose (S.faults script.old) (S.faults script.new)) (Rose (D.faults disk) (D.faults result.1))) }
 
     // With the word `report`: what was written, by the image of the disk where that is told, by any records that this
     // stands for, and of any disk; that the disk was only read, and no byte of the script was taken.
@@ -87,7 +90,8 @@ pub fn bench<S: Source, K: Sink, D: Disk>(
     // byte of the script was taken.
     ensures loaded { (seed rounds : ℕ) → said_in words.now ≡ Some (Words.Load seed rounds)
         → Loaded seed rounds result.0 (Wrote K.written K.puts out.old out.new) (Broke K.written K.puts out.old out.new)
-        (disks D.size D.honest D.seen D.may_leave D.cuts D.cut_to disk result.1) }
+        (disks D.size D.honest D.seen D.may_leave D.cuts D.cut_to disk result.1)
+        (Rose (D.faults disk) (D.faults result.1)) }
     ensures load_script { (seed rounds : ℕ) → said_in words.now ≡ Some (Words.Load seed rounds)
         → script.new ≡ script.old }
 
@@ -124,7 +128,7 @@ pub fn bench<S: Source, K: Sink, D: Disk>(
 
     // On a blank disk, which is honest or where no step is a loss of power, and with no fault, the script alone
     // decides, but for want of memory.
-    ensures complete { said_in words.now ≡ Some Words.Run → IfSome (S.left script.old) (λ bytes.
+    ensures complete { said_in words.now ≡ Some Words.Run → OfBytes (S.left script.old) (λ bytes.
         IfSome (D.seen disk) (λ image. D.size disk ≡ JOURNAL_BYTES → IsBlank image
         → (D.honest disk ≡ true) ⊎ (losses_in (script_in bytes).steps ≡ 0)
         → (Rose (S.faults script.old) (S.faults script.new) → ⊥) → (Rose (K.faults out.old) (K.faults out.new) → ⊥)

@@ -28,7 +28,8 @@ pub fn run_load<K: Sink, D: Disk>(alloc: Global, load: Load, out: &mut K, disk: 
     requires rounds { load.rounds ≤ MOST_ROUNDS }
     // what was played and written, and what is left on the disk
     ensures loaded { Loaded load.seed load.rounds result.0 (Wrote K.written K.puts out.old out.new)
-        (Broke K.written K.puts out.old out.new) (disks D.size D.honest D.seen D.may_leave D.cuts D.cut_to disk result.1) }
+        (Broke K.written K.puts out.old out.new) (disks D.size D.honest D.seen D.may_leave D.cuts D.cut_to disk result.1)
+        (Rose (D.faults disk) (D.faults result.1)) }
 
     // causes
     ensures write_cause { result.0 ≡ Status.WriteFault → Rose (K.faults out.old) (K.faults out.new) }

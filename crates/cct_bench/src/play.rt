@@ -1,7 +1,7 @@
 //! A run: the script is read a line at a time, and each step is played and its entries are written before the next line
 //! is read.
 ghost use Rattle.std.specs.Prelude.{◌≡◌, ◌≢◌, false, ◌⊎◌, ℕ, ◌+◌, ◌≤◌, List, ◌∷◌, [], Option, Result, Ok, Err};
-ghost use Rattle.std.specs.Prelude.{IfSome, IfOk, IfErr, MatchResult, OnOk};
+ghost use Rattle.std.specs.Prelude.{IfOk, IfErr, MatchResult, OnOk};
 ghost use Rattle.cct_edge.specs.Bytes.{TellsAsBefore};
 ghost use Rattle.cct_edge.specs.declared.fault.Failed.{Failed};
 ghost use Rattle.cct_edge.specs.Faults.{Rose};
@@ -22,6 +22,7 @@ ghost use Rattle.cct_bench.specs.Disks.{Always, Books, IsReady, disks};
 ghost use Rattle.cct_world.specs.Sure.{Sure};
 ghost use Rattle.cct_bench.specs.Going.{Going, IsUnbegun};
 ghost use Rattle.cct_bench.specs.SetupLines.{TookOpening, TookSetup};
+ghost use Rattle.cct_bench.specs.Source.{OfBytes};
 ghost use Rattle.cct_text.specs.Writing.{Writes, Wrote, Broke, IsNothing, NeverBroke};
 ghost use Rattle.cct_bench.specs.Playing.{CanPlay, PlaysOn};
 ghost use Rattle.cct_bench.specs.Run.{BeforeSteps, ClosedBy, IsOfScript, IsUnopened, OverCut, Played, Ran, ending_at};
@@ -145,7 +146,7 @@ fn read_setup<S: Source>(
         TookOpening S.takes S.left script.old script.new (standing_of lines.new).held number (at_steps setup.new)) }
     ensures next { IfOk result (λ number. IsNext number (standing_of lines.new)) }
     ensures ended { IfErr result (λ how.
-        IfSome (S.left script.old) (λ bytes.
+        OfBytes (S.left script.old) (λ bytes.
         Played Always bytes how (S.left script.new) IsNothing NeverBroke BeforeSteps)) }
     ensures unread { result ≡ Err Ending.Unread → Rose (S.faults script.old) (S.faults script.new) }
     ensures of_script { IfErr result IsOfScript }
@@ -251,7 +252,7 @@ impl ScriptDesk {
             → Going (Sure (IsTrusted D.honest D.seen given)) left0 (S.left script.old)
             (standing_of self.old.lines).held first (at_steps (setup_of world.entry)) (WorldHolds given world.entry)
             (Wrote K.written K.puts out.old out.old)
-            → IfSome left0 (λ bytes. Played (Sure (IsTrusted D.honest D.seen given)) bytes result.0 (S.left script.new)
+            → OfBytes left0 (λ bytes. Played (Sure (IsTrusted D.honest D.seen given)) bytes result.0 (S.left script.new)
             (Wrote K.written K.puts out.old out.new) (Broke K.written K.puts out.old out.new)
             (OverCut (disks D.size D.honest D.seen D.may_leave D.cuts D.cut_to given result.1))) }
         ensures unread { result.0 ≡ Ending.Unread → Rose (S.faults script.old) (S.faults script.new) }
@@ -346,7 +347,7 @@ impl Bench {
             → GoesOn D.size D.honest D.seen D.cuts given (journals.disk_of journal)
             → (IsTrusted D.honest D.seen (journals.disk_of journal)
             → Stands D.honest D.seen D.may_leave (journals.disk_of journal) (journals.place_of journal) [])
-            → IfSome (S.left script.old) (λ bytes. Played (Sure (IsTrusted D.honest D.seen given)) bytes result.0
+            → OfBytes (S.left script.old) (λ bytes. Played (Sure (IsTrusted D.honest D.seen given)) bytes result.0
             (S.left script.new) (Wrote K.written K.puts out.old out.new) (Broke K.written K.puts out.old out.new)
             (OverCut (disks D.size D.honest D.seen D.may_leave D.cuts D.cut_to given result.1))) }
         ensures unread { result.0 ≡ Ending.Unread → Rose (S.faults script.old) (S.faults script.new) }
@@ -383,7 +384,7 @@ impl Bench {
     ) -> (Ending, D)
         requires lines { standing_of self.old.desk.lines ≡ none_given }
         requires setup { self.old.setup ≡ no_devices }
-        ensures played { IfSome (S.left script.old) (λ bytes. Played (Sure (IsTrusted D.honest D.seen disk)) bytes
+        ensures played { OfBytes (S.left script.old) (λ bytes. Played (Sure (IsTrusted D.honest D.seen disk)) bytes
             result.0 (S.left script.new) (Wrote K.written K.puts out.old out.new)
             (Broke K.written K.puts out.old out.new)
             (OverCut (disks D.size D.honest D.seen D.may_leave D.cuts D.cut_to disk result.1))) }
@@ -416,9 +417,10 @@ impl Bench {
     ) -> (Status, D)
         requires lines { standing_of self.old.desk.lines ≡ none_given }
         requires setup { self.old.setup ≡ no_devices }
-        ensures ran { IfSome (S.left script.old) (λ bytes. Ran bytes result.0 (S.left script.new)
+        ensures ran { OfBytes (S.left script.old) (λ bytes. Ran bytes result.0 (S.left script.new)
             (Wrote K.written K.puts out.old out.new) (Broke K.written K.puts out.old out.new)
-            (disks D.size D.honest D.seen D.may_leave D.cuts D.cut_to disk result.1)) }
+            (disks D.size D.honest D.seen D.may_leave D.cuts D.cut_to disk result.1)
+            (Rose (S.faults script.old) (S.faults script.new)) (Rose (D.faults disk) (D.faults result.1))) }
         ensures read_cause { result.0 ≡ Status.ReadFault → Rose (S.faults script.old) (S.faults script.new) }
         ensures write_cause { result.0 ≡ Status.WriteFault → Rose (K.faults out.old) (K.faults out.new) }
         ensures disk_cause { result.0 ≡ Status.DiskFault → Rose (D.faults disk) (D.faults result.1) }

@@ -14,7 +14,7 @@ use Rattle.cct_model.specs.Exchange.{by_address, device_at, put_by_address, acce
 use Rattle.cct_model.specs.History.{Met, coin, fall, jam}
 use Rattle.cct_model.specs.Legal.{OfAcceptor, OfHopper, coin_entry, fall_entry, jam_entry}
 use Rattle.cct_model.specs.Hopper.{remaining}
-use Rattle.cct_model.specs.Device.{is_acceptor}
+use Rattle.cct_model.specs.Device.{is_acceptor, is_hopper}
 use Rattle.cct_model.specs.Setup.{AreDistinct, IsSoundSetup}
 use Rattle.cct_model.specs.Transcript.{answers, at, heard_after, heard_by_devices, heard_by_host, meets, met, pending}
 use Rattle.cct_bus.specs.declared.device.Device.{Device}
@@ -90,16 +90,12 @@ acceptor_found (Some e) d is there =
     let same : e ≡ d = cc in
     subst (λ x. is_acceptor x.body ≡ true) same there
 
-not_true : (test : Bool) → IsTrue (not test) → test ≡ false
-not_true true holds = absurd cc
-not_true false holds = refl
-
 pub hopper_found : (found : Option DeviceSetup) (d : DeviceSetup) → found ≡ Some d → IsTrue (hopper_there found)
-    → is_acceptor d.body ≡ false
+    → is_hopper d.body ≡ true
 hopper_found None d is there = absurd cc
 hopper_found (Some e) d is there =
     let same : e ≡ d = cc in
-    subst (λ x. is_acceptor x.body ≡ false) same (not_true (is_acceptor e.body) there)
+    subst (λ x. is_hopper x.body ≡ true) same there
 
 -- the device at an index stands for what the history tells
 pub one_lived : (devices : List Device) (i : ℕ) (y : Device) (addr : ℕ) (history : DeviceSetup → List Met) → position (is_at addr) devices ≡ Some i → y ≡ get_or devices i y
@@ -170,17 +166,13 @@ of_acceptor (Some e) d P is there fact =
     let same : e ≡ d = cc in
     match_true (is_acceptor e.body) (P e) there (subst P (sym same) fact)
 
-match_false : (test : Bool) (A : Type 0) → IsTrue (not test) → A → MatchBool test ⊥ A
-match_false true A holds a = absurd cc
-match_false false A holds a = a
-
 -- a fact of the hopper that was found
 pub of_hopper : (found : Option DeviceSetup) (d : DeviceSetup) (P : DeviceSetup → Type 0) → found ≡ Some d
     → IsTrue (hopper_there found) → P d → OfHopper found P
 of_hopper None d P is there fact = absurd cc
 of_hopper (Some e) d P is there fact =
     let same : e ≡ d = cc in
-    match_false (is_acceptor e.body) (P e) there (subst P (sym same) fact)
+    match_true (is_hopper e.body) (P e) there (subst P (sym same) fact)
 
 -- what the host hears, where the devices answered what reached them
 pub heard_is : (setup : Setup) (past : List Entry) (fault : WireFault) (setups : List DeviceSetup) (sent heard : List ℕ) → fault ≡ pending past → setups ≡ by_address setup.devices

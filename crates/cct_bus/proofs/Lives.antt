@@ -9,7 +9,7 @@ use Rattle.cct_model.specs.Exchange.{answer}
 use Rattle.cct_model.specs.History.{Met}
 use Rattle.cct_model.specs.terms.device.DeviceBody.{DeviceBody}
 use Rattle.cct_model.specs.terms.device.DeviceBody.TheVariants as body
-use Rattle.cct_model.specs.Device.{IsAcceptor, IsHopper, is_acceptor}
+use Rattle.cct_model.specs.Device.{IsAcceptor, IsHopper, is_acceptor, is_hopper}
 use Rattle.cct_bus.specs.declared.body.Body.{Body}
 use Rattle.cct_bus.specs.declared.body.Body.TheVariants.{Acceptor, Hopper}
 use Rattle.cct_bus.specs.Body.{StandsFor}
@@ -29,20 +29,24 @@ pub lives_short : (a : Body) (d : DeviceSetup) (piece said : List ℕ) → ∥ (
 lives_short a d piece said lived tells fits =
     ∥∥₁_elim lived le_prop (λ h. said_room d h.0 piece said (tells h.0 h.1) fits)
 
-kind_of_acceptor : (b : DeviceBody) → IsAcceptor b → true ≡ is_acceptor b
-kind_of_acceptor (body.Acceptor accepts values ids) kind = refl
-kind_of_acceptor (body.Hopper life value) kind = absurd kind
+kinds_of_acceptor : (b : DeviceBody) → IsAcceptor b → (true ≡ is_acceptor b) × (false ≡ is_hopper b)
+kinds_of_acceptor (body.Acceptor accepts values ids) kind = (refl, refl)
+kinds_of_acceptor (body.Hopper life value) kind = absurd kind
 
-kind_of_hopper : (b : DeviceBody) → IsHopper b → false ≡ is_acceptor b
-kind_of_hopper (body.Acceptor accepts values ids) kind = absurd kind
-kind_of_hopper (body.Hopper life value) kind = refl
+kinds_of_hopper : (b : DeviceBody) → IsHopper b → (false ≡ is_acceptor b) × (true ≡ is_hopper b)
+kinds_of_hopper (body.Acceptor accepts values ids) kind = absurd kind
+kinds_of_hopper (body.Hopper life value) kind = (refl, refl)
 
-kind_stands : (a : Body) (d : DeviceSetup) (past : List Met) → StandsFor a d past
-    → kind.is_acceptor a ≡ is_acceptor d.body
-kind_stands (Acceptor a) d past so = kind_of_acceptor d.body so.kind
-kind_stands (Hopper h) d past so = kind_of_hopper d.body so.kind
+kinds_stand : (a : Body) (d : DeviceSetup) (past : List Met) → StandsFor a d past
+    → (kind.is_acceptor a ≡ is_acceptor d.body) × (kind.is_hopper a ≡ is_hopper d.body)
+kinds_stand (Acceptor a) d past so = kinds_of_acceptor d.body so.kind
+kinds_stand (Hopper h) d past so = kinds_of_hopper d.body so.kind
 
 -- and it is what its setup says
-pub kind_lived : (a : Body) (d : DeviceSetup) → ∥ ((past : List Met) × StandsFor a d past) ∥₁
+pub acceptor_lived : (a : Body) (d : DeviceSetup) → ∥ ((past : List Met) × StandsFor a d past) ∥₁
     → kind.is_acceptor a ≡ is_acceptor d.body
-kind_lived a d lived = ∥∥₁_elim lived (Bool-set _ _) (λ h. kind_stands a d h.0 h.1)
+acceptor_lived a d lived = ∥∥₁_elim lived (Bool-set _ _) (λ h. (kinds_stand a d h.0 h.1).0)
+
+pub hopper_lived : (a : Body) (d : DeviceSetup) → ∥ ((past : List Met) × StandsFor a d past) ∥₁
+    → kind.is_hopper a ≡ is_hopper d.body
+hopper_lived a d lived = ∥∥₁_elim lived (Bool-set _ _) (λ h. (kinds_stand a d h.0 h.1).1)

@@ -12,6 +12,11 @@ abbrev pub is_acceptor : Body → Bool
 is_acceptor (Acceptor a) = true
 is_acceptor (Hopper h) = false
 
+-- Whether it is a hopper.
+abbrev pub is_hopper : Body → Bool
+is_hopper (Acceptor a) = false
+is_hopper (Hopper h) = true
+
 -- It stands for one of a setup that met all this, newest first.
 abbrev pub StandsFor : Body → DeviceSetup → List Met → Type 0
 StandsFor (Acceptor a) d past = acceptor.StandsFor a d past

@@ -1,5 +1,5 @@
 //! What a device on the wire is: a coin acceptor or a hopper.
-ghost use Rattle.std.specs.Prelude.{◌≡◌, ◌≤◌, ◌==◌, not, true, false, List, [], ◌∷◌, IfOk, unwrap_or};
+ghost use Rattle.std.specs.Prelude.{◌≡◌, ◌≤◌, ◌==◌, not, true, List, [], ◌∷◌, IfOk, unwrap_or};
 ghost use Rattle.cct_model.specs.terms.device.DeviceSetup.{DeviceSetup};
 ghost use Rattle.cct_model.specs.Device.{IsSound};
 ghost use Rattle.cct_model.specs.Exchange.{answer, asks_of};
@@ -21,7 +21,7 @@ pub(crate) enum Body<'s> {
 }
 
 impl<'s> Body<'s> {
-    ghost use Rattle.cct_bus.specs.Body.{StandsFor, is_acceptor};
+    ghost use Rattle.cct_bus.specs.Body.{StandsFor, is_acceptor, is_hopper};
 
     /// The acceptor or the hopper of a setup as after power-up. This takes all memory that it ever has.
     pub(crate) fn new(alloc: Global, setup: &'s DeviceSetup) -> Result<Body<'s>, AllocError>
@@ -83,7 +83,7 @@ impl<'s> Body<'s> {
 
     /// A coin falls out of a hopper, and is paid where that is paying: true then, and false where it is nothing to it.
     pub(crate) fn fall(&mut self) -> bool
-        requires hopper { is_acceptor self.old ≡ false }
+        requires hopper { is_hopper self.old ≡ true }
         ensures stands { (d : DeviceSetup) (past : List Met) → StandsFor self.old d past
             → StandsFor self.new d (fall ∷ past) }
         ensures answer { (d : DeviceSetup) (past : List Met) → StandsFor self.old d past
@@ -98,7 +98,7 @@ impl<'s> Body<'s> {
     /// A coin is stuck in a hopper, and ends the payout where that is paying: true then, and false where it is nothing
     /// to it.
     pub(crate) fn jam(&mut self) -> bool
-        requires hopper { is_acceptor self.old ≡ false }
+        requires hopper { is_hopper self.old ≡ true }
         ensures stands { (d : DeviceSetup) (past : List Met) → StandsFor self.old d past
             → StandsFor self.new d (jam ∷ past) }
         ensures answer { (d : DeviceSetup) (past : List Met) → StandsFor self.old d past

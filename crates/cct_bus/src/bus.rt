@@ -78,7 +78,7 @@ impl<'s> Bus<'s> {
         ensures { result ≡ hopper_there (device_at (setup_of self.now).devices addr) }
     {
         match self.setup.device_at(addr) {
-            Some(device) => !device.body.is_acceptor(),
+            Some(device) => device.body.is_hopper(),
             None => false,
         }
     }

@@ -1,7 +1,7 @@
 //! One device on the wire.
-ghost use Rattle.std.specs.Prelude.{◌≡◌, ◌≤◌, ◌==◌, not, true, false, List, ◌∷◌, [], IfOk, length, unwrap_or};
+ghost use Rattle.std.specs.Prelude.{◌≡◌, ◌≤◌, ◌==◌, not, true, List, ◌∷◌, [], IfOk, length, unwrap_or};
 ghost use Rattle.cct_model.specs.terms.device.DeviceSetup.{DeviceSetup};
-ghost use Rattle.cct_model.specs.Device.{IsSound, is_acceptor};
+ghost use Rattle.cct_model.specs.Device.{IsSound, is_acceptor, is_hopper};
 ghost use Rattle.cct_model.specs.Exchange.{answer, asks_of};
 ghost use Rattle.cct_model.specs.History.{Met, alien, coin, fall, heard, jam, reset};
 ghost use Rattle.cct_model.specs.Hopper.{remaining};
@@ -72,7 +72,7 @@ impl<'s> Device<'s> {
 
     /// A coin falls out of a hopper, and is paid where that is paying: true then, and false where it is nothing to it.
     pub(crate) fn fall(&mut self) -> bool
-        requires hopper { is_acceptor (setup_in self.old).body ≡ false }
+        requires hopper { is_hopper (setup_in self.old).body ≡ true }
         ensures setup { self.new.setup ≡ self.old.setup }
         ensures lived { (past : List Met) → Lived self.old past → Lived self.new (fall ∷ past) }
         ensures answer { (past : List Met) → Lived self.old past
@@ -84,7 +84,7 @@ impl<'s> Device<'s> {
     /// A coin is stuck in a hopper, and ends the payout where that is paying: true then, and false where it is nothing
     /// to it.
     pub(crate) fn jam(&mut self) -> bool
-        requires hopper { is_acceptor (setup_in self.old).body ≡ false }
+        requires hopper { is_hopper (setup_in self.old).body ≡ true }
         ensures setup { self.new.setup ≡ self.old.setup }
         ensures lived { (past : List Met) → Lived self.old past → Lived self.new (jam ∷ past) }
         ensures answer { (past : List Met) → Lived self.old past

@@ -36,8 +36,8 @@ pub trait Disk {
     /// How often the power was cut: a count that each cut raises by one, and that stands still at 2^64 - 1.
     ghost cuts: { Self → ℕ };
 
-    /// What one loss of power does by its choice to the object, before and after it: so a caller can tell that it came
-    /// from just one, and by which choice.
+    /// What one loss of power does by its choice to the object, before and after it, as far as the object says: so a
+    /// caller can tell that it came from just one, and by which choice where that is said.
     ghost cut_to: { Self → ℕ → Self → Type 0 };
 
     /// How many bytes it has.

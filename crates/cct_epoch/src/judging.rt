@@ -14,9 +14,9 @@ const CYCLE: u16 = 255;
 ///
 /// It is [`Judged::Broken`] where the mask isn't the recorded one, or where the counter is back at 0, since either shows
 /// a reset or a setting of another hand. Else it is [`Judged::Nothing`] where the counter stands still, and else a
-/// [`Judged::Reading`], whose `lost` (0 to 250) tells how many events were overrun before they could be read. Both
-/// records post the coins among as many of the newest events as [`distance`] tells, five at the most, oldest first; an
-/// event whose first number is 0 is an error of the acceptor and no coin.
+/// [`Judged::Reading`], whose `lost` (0 to 250) is how many events more than five [`distance`] tells: they were overrun
+/// before they could be read. Both records post the coins among as many of the newest events as it tells, five at the
+/// most, oldest first; an event whose first number is 0 is an error of the acceptor and no coin.
 #[tactic(auto, unfolding(cct_model::specs::Reading::judge))]
 pub fn judge(addr: u8, mask: u16, counter: u8, credits: &Credits, mask_seen: u16) -> Judged
     ensures { result ≡ judge addr mask counter credits.now mask_seen }

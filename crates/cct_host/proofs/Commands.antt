@@ -15,7 +15,7 @@ use Rattle.cct_model.specs.lines.entry.Entry.TheVariants as entry
 use Rattle.cct_model.specs.declared.judging.EpochState.{EpochState}
 use Rattle.cct_model.specs.declared.judging.EpochState.TheVariants.{Idle, Running}
 use Rattle.cct_model.specs.declared.judging.OpenOrder.{OpenOrder}
-use Rattle.cct_model.specs.Device.{is_acceptor}
+use Rattle.cct_model.specs.Device.{is_acceptor, is_hopper}
 use Rattle.cct_model.specs.Exchange.{acceptor_there, device_at, hopper_there}
 use Rattle.cct_model.specs.Job as model
 use Rattle.cct_model.specs.Job.{address_of}
@@ -73,9 +73,9 @@ unpaid_refusal : (found : Option DeviceSetup) (d : DeviceSetup) (job : Option Jo
     → Keeps (device d) job state owed (lines_of d past)
     → hopper_refusal d job (further (order_of owed.order)) ≡ at_hopper found (when_unpaid past further)
 unpaid_refusal found d job state owed past further is keeps =
-    ap (λ b. cond (is_acceptor d.body) (Some WrongKind) (option_or b (further (order_of owed.order))))
+    ap (λ b. cond (is_hopper d.body) (option_or b (further (order_of owed.order))) (Some WrongKind))
     (busy_is (device d) job _ _ _ keeps.works)
-    ∙ ap (λ o. cond (is_acceptor d.body) (Some WrongKind) (option_or (busy (model.job (lines_of d past))) (further o)))
+    ∙ ap (λ o. cond (is_hopper d.body) (option_or (busy (model.job (lines_of d past))) (further o)) (Some WrongKind))
     keeps.knows.1
     ∙ sym (ap (λ f. at_hopper f (when_unpaid past further)) is)
 
@@ -98,7 +98,7 @@ pub halting_is : (setup : Setup) (d : DeviceSetup) (job : Option Job) (state : E
     → device_at setup.devices (address_of c) ≡ Some d → Keeps (device d) job state owed (lines_of d past)
     → halting_refusal d job ≡ state_refusal setup past c
 halting_is setup d job state owed past (command.Halt addr) runs halt there keeps =
-    ap (λ b. cond (is_acceptor d.body) (Some WrongKind) (cond b None (Some NoPayout)))
+    ap (λ b. cond (is_hopper d.body) (cond b None (Some NoPayout)) (Some WrongKind))
     (halts_is d job _ _ _ runs keeps.works)
     ∙ sym (ap (λ f. at_hopper f (λ e. halt_refusal (model.job (lines_of e past)))) there)
 halting_is setup d job state owed past c runs halt there keeps = absurd cc
@@ -140,15 +140,9 @@ acceptor_is_there : (found : Option DeviceSetup) (d : DeviceSetup) → found ≡
     → IsTrue (acceptor_there found)
 acceptor_is_there found d is kind = subst (λ f. IsTrue (acceptor_there f)) (sym is) kind
 
-unpaid_by : (kind : Bool) (job further : Option CommandNo) → cond kind (Some WrongKind) (option_or job further) ≡ None
-    → (kind ≡ false) × (further ≡ None)
-unpaid_by false None further e = (refl, e)
-unpaid_by false (Some why) further e = absurd cc
-unpaid_by true job further e = absurd cc
-
-hopper_is_there : (found : Option DeviceSetup) (d : DeviceSetup) → found ≡ Some d → is_acceptor d.body ≡ false
+hopper_is_there : (found : Option DeviceSetup) (d : DeviceSetup) → found ≡ Some d → is_hopper d.body ≡ true
     → IsTrue (hopper_there found)
-hopper_is_there found d is kind = subst (λ f. IsTrue (hopper_there f)) (sym is) (ap not kind)
+hopper_is_there found d is kind = subst (λ f. IsTrue (hopper_there f)) (sym is) kind
 
 pub owed_where_free : (owed : Option OpenOrder) → settle_refusal owed ≡ None → IsTrue (is_some owed)
 owed_where_free None free = absurd cc
@@ -175,9 +169,9 @@ may_begin devices d job state owed last (command.Path addr place path) no_halt o
 may_begin devices d job state owed last (command.Ident addr) no_halt of_device there free =
     subst (λ f. IsTrue (is_some f)) (sym there) refl
 may_begin devices d job state owed last (command.Pay addr id count) no_halt of_device there free =
-    hopper_is_there _ d there (unpaid_by _ (busy_by job) (pay_refusal id last (order_of owed.order)) free).0
+    hopper_is_there _ d there (free_by _ (busy_by job) (pay_refusal id last (order_of owed.order)) free).0
 may_begin devices d job state owed last (command.Settle addr) no_halt of_device there free =
-    let parts = unpaid_by _ (busy_by job) (settle_refusal (order_of owed.order)) free in
+    let parts = free_by _ (busy_by job) (settle_refusal (order_of owed.order)) free in
     (hopper_is_there _ d there parts.0, owed_where_free (order_of owed.order) parts.1)
 may_begin devices d job state owed last (command.Halt addr) no_halt of_device there free = absurd cc
 may_begin devices d job state owed last c no_halt of_device there free = absurd cc

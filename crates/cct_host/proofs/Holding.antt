@@ -12,7 +12,7 @@ use Rattle.cct_model.specs.lines.record.Record.{Record}
 use Rattle.cct_model.specs.lines.record.Record.TheVariants as record_of
 use Rattle.cct_model.specs.declared.judging.EpochState.{EpochState}
 use Rattle.cct_model.specs.declared.judging.OpenOrder.{OpenOrder}
-use Rattle.cct_model.specs.Device.{is_acceptor}
+use Rattle.cct_model.specs.Device.{is_acceptor, is_hopper}
 use Rattle.cct_model.specs.Line.{put}
 use Rattle.std.specs.Option.{IfSome, option_or}
 use Rattle.cct_model.specs.Refusal.{pay_refusal, running_refusal, settle_refusal, start_refusal}
@@ -117,17 +117,11 @@ due_left (Some job) = due_puts job
 
 -- a job that begins
 
-first_free : (kind : Bool) (job : Option Job) (further : Option CommandNo)
-    → cond kind (option_or (busy_by job) further) (Some WrongKind) ≡ None → job ≡ None
-first_free true None further e = refl
-first_free true (Some job) further e = absurd cc
-first_free false job further e = absurd cc
-
-second_free : (kind : Bool) (job : Option Job) (further : Option CommandNo)
-    → cond kind (Some WrongKind) (option_or (busy_by job) further) ≡ None → (job ≡ None) × (further ≡ None)
-second_free false None further e = (refl, e)
-second_free false (Some job) further e = absurd cc
-second_free true job further e = absurd cc
+free_by : (kind : Bool) (job : Option Job) (further : Option CommandNo)
+    → cond kind (option_or (busy_by job) further) (Some WrongKind) ≡ None → (job ≡ None) × (further ≡ None)
+free_by true None further e = (refl, e)
+free_by true (Some job) further e = absurd cc
+free_by false job further e = absurd cc
 
 just_free : (job : Option Job) → busy_by job ≡ None → job ≡ None
 just_free None e = refl
@@ -136,18 +130,18 @@ just_free (Some job) e = absurd cc
 pub free_job : (d : DeviceSetup) (job : Option Job) (state : EpochState) (owed : Dues) (last : ℕ) (c : Command)
     → is_halt c ≡ false → is_of_device c ≡ true → refusal_beside d job state owed last c ≡ None → job ≡ None
 free_job d job state owed last (command.Start addr mask) no_halt of_device free =
-    first_free (is_acceptor d.body) job (start_refusal mask d state) free
+    (free_by (is_acceptor d.body) job (start_refusal mask d state) free).0
 free_job d job state owed last (command.Round addr) no_halt of_device free =
-    first_free (is_acceptor d.body) job (running_refusal d state) free
+    (free_by (is_acceptor d.body) job (running_refusal d state) free).0
 free_job d job state owed last (command.Stop addr) no_halt of_device free =
-    first_free (is_acceptor d.body) job (running_refusal d state) free
+    (free_by (is_acceptor d.body) job (running_refusal d state) free).0
 free_job d job state owed last (command.Path addr place path) no_halt of_device free =
-    first_free (is_acceptor d.body) job None free
+    (free_by (is_acceptor d.body) job None free).0
 free_job d job state owed last (command.Ident addr) no_halt of_device free = just_free job free
 free_job d job state owed last (command.Pay addr id count) no_halt of_device free =
-    (second_free (is_acceptor d.body) job (pay_refusal id last (order_of owed.order)) free).0
+    (free_by (is_hopper d.body) job (pay_refusal id last (order_of owed.order)) free).0
 free_job d job state owed last (command.Settle addr) no_halt of_device free =
-    (second_free (is_acceptor d.body) job (settle_refusal (order_of owed.order)) free).0
+    (free_by (is_hopper d.body) job (settle_refusal (order_of owed.order)) free).0
 free_job d job state owed last (command.Halt addr) no_halt of_device free = absurd cc
 free_job d job state owed last c no_halt of_device free = absurd cc
 
@@ -177,7 +171,7 @@ room_by d job state owed last (command.Pay addr id count) new free puts closes =
     omega (arith, room)
 room_by d job state owed last (command.Settle addr) new free puts closes =
     settles_room new (order_of owed.order) (owed_where_free (order_of owed.order)
-    (second_free (is_acceptor d.body) job (settle_refusal (order_of owed.order)) free).1) closes puts
+    (free_by (is_hopper d.body) job (settle_refusal (order_of owed.order)) free).1) closes puts
 room_by d job state owed last (command.Vend id price) new free puts closes = plain_room new _ 1 closes puts
 room_by d job state owed last (command.Start addr mask) new free puts closes = plain_room new _ 1 closes puts
 room_by d job state owed last (command.Round addr) new free puts closes = plain_room new _ 1 closes puts

@@ -11,7 +11,7 @@ use Rattle.cct_model.specs.lines.entry.End.{End}
 use Rattle.cct_model.specs.lines.entry.Entry.{Entry}
 use Rattle.cct_model.specs.lines.entry.Entry.TheVariants as entry
 use Rattle.cct_model.specs.declared.judging.EpochState.{EpochState}
-use Rattle.cct_model.specs.Device.{is_acceptor}
+use Rattle.cct_model.specs.Device.{is_acceptor, is_hopper}
 use Rattle.cct_model.specs.Money.{coins_of}
 use Rattle.cct_model.specs.Refusal.{id_refusal, pay_refusal, running_refusal, settle_refusal, start_refusal}
 use Rattle.cct_jobs.specs.declared.job.Job.{Job}
@@ -34,7 +34,7 @@ acceptor_refusal d job further = if is_acceptor d.body then option_or (busy_by j
 
 -- The tests of a command to a hopper, likewise.
 abbrev pub hopper_refusal : DeviceSetup → Option Job → Option CommandNo → Option CommandNo
-hopper_refusal d job further = if is_acceptor d.body then Some WrongKind else option_or (busy_by job) further
+hopper_refusal d job further = if is_hopper d.body then option_or (busy_by job) further else Some WrongKind
 
 -- A command that halts a job, and begins none.
 abbrev pub is_halt : Command → Bool
@@ -49,7 +49,7 @@ halts_in (Some job) = halts job
 -- The tests of a halt: the device is no hopper, or there is no payout that could be stopped.
 abbrev pub halting_refusal : DeviceSetup → Option Job → Option CommandNo
 halting_refusal d job =
-    if is_acceptor d.body then Some WrongKind else if halts_in job then None else Some NoPayout
+    if is_hopper d.body then (if halts_in job then None else Some NoPayout) else Some WrongKind
 
 -- Why a command that begins a job at a device is refused beside its job, its epoch, its open order and the last id, if
 -- it is.

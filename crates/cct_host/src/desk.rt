@@ -131,12 +131,14 @@ impl JobDesk {
     fn halting_refusal(&self, device: &DeviceSetup) -> Option<CommandNo>
         ensures { result ≡ halting_refusal device.now self.now.job }
     {
-        if device.body.is_acceptor() {
-            Some(CommandNo::WrongKind)
-        } else if self.can_halt() {
-            None
+        if device.body.is_hopper() {
+            if self.can_halt() {
+                None
+            } else {
+                Some(CommandNo::NoPayout)
+            }
         } else {
-            Some(CommandNo::NoPayout)
+            Some(CommandNo::WrongKind)
         }
     }
 
@@ -325,13 +327,13 @@ impl JobDesk {
     fn hopper_refusal(&self, device: &DeviceSetup, further: Option<CommandNo>) -> Option<CommandNo>
         ensures { result ≡ hopper_refusal device.now self.now.job further }
     {
-        if device.body.is_acceptor() {
-            Some(CommandNo::WrongKind)
-        } else {
+        if device.body.is_hopper() {
             match self.busy() {
                 Some(why) => Some(why),
                 None => further,
             }
+        } else {
+            Some(CommandNo::WrongKind)
         }
     }
 

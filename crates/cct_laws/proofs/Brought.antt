@@ -27,7 +27,7 @@ use Rattle.cct_model.specs.declared.judging.OpenOrder.{OpenOrder}
 use Rattle.cct_model.specs.History.{Met}
 use Rattle.cct_model.specs.History as history
 use Rattle.cct_model.specs.Acceptor.{accepts, path_of}
-use Rattle.cct_model.specs.Device.{IsAcceptor, IsHopper, is_acceptor}
+use Rattle.cct_model.specs.Device.{IsAcceptor, IsHopper, is_acceptor, is_hopper}
 use Rattle.cct_model.specs.Hopper.{remaining}
 use Rattle.cct_model.specs.Exchange.{ask, asked, asks_of, device_at}
 use Rattle.cct_model.specs.Line.{Line, accepted, inhibited, alien, fell, reset, exchange, scanned, put, taken, ended, crashed}
@@ -252,18 +252,14 @@ pub accepting_by : (body : DeviceBody) → is_acceptor body ≡ true → IsAccep
 accepting_by (Acceptor accepts values ids) test = tt
 accepting_by (Hopper life value) test = absurd cc
 
-pub paying_by : (body : DeviceBody) → is_acceptor body ≡ false → IsHopper body
+pub paying_by : (body : DeviceBody) → is_hopper body ≡ true → IsHopper body
 paying_by (Acceptor accepts values ids) test = absurd cc
 paying_by (Hopper life value) test = tt
 
 -- what comes without being asked
-acceptor_holds : (b : Bool) (P : Type 0) → MatchBool b P ⊥ → (b ≡ true) × P
-acceptor_holds true P known = (refl, known)
-acceptor_holds false P known = absurd known
-
-hopper_holds : (b : Bool) (P : Type 0) → MatchBool b ⊥ P → (b ≡ false) × P
-hopper_holds true P known = absurd known
-hopper_holds false P known = (refl, known)
+kind_holds : (b : Bool) (P : Type 0) → MatchBool b P ⊥ → (b ≡ true) × P
+kind_holds true P known = (refl, known)
+kind_holds false P known = absurd known
 
 coin_comes : (capacity : ℕ) (setup : Setup) (d : DeviceSetup) (past : List Entry) (place : ℕ) (test : Bool) →
     IsAcceptor d.body →
@@ -290,7 +286,7 @@ coin_brought : (capacity : ℕ) (setup : Setup) (past news : List Entry) (addr p
     Brought capacity setup past (step.Coin addr place) news
 coin_brought capacity setup past news addr place None was told = absurd told
 coin_brought capacity setup past news addr place (Some d) was told =
-    let is = acceptor_holds (is_acceptor d.body) _ told in
+    let is = kind_holds (is_acceptor d.body) _ told in
     subst (Brought capacity setup past (step.Coin addr place)) (sym is.1)
     (there capacity setup past (λ a. step.Coin a place) (λ a. coin_entry d past place ∷ []) addr d was
     (coin_comes capacity setup d past place (accepts (met d past) place) (accepting_by d.body is.0) refl))
@@ -300,7 +296,7 @@ alien_brought : (capacity : ℕ) (setup : Setup) (past news : List Entry) (addr 
     Brought capacity setup past (step.Alien addr) news
 alien_brought capacity setup past news addr None was told = absurd told
 alien_brought capacity setup past news addr (Some d) was told =
-    let is = acceptor_holds (is_acceptor d.body) _ told in
+    let is = kind_holds (is_acceptor d.body) _ told in
     subst (Brought capacity setup past (step.Alien addr)) (sym is.1)
     (there capacity setup past step.Alien (λ a. entry.Alien a ∷ []) addr d was
     (came _ _ _ _ (leaves_alien (accepting_by d.body is.0))))
@@ -310,7 +306,7 @@ fall_brought : (capacity : ℕ) (setup : Setup) (past news : List Entry) (addr :
     Brought capacity setup past (step.Fall addr) news
 fall_brought capacity setup past news addr None was told = absurd told
 fall_brought capacity setup past news addr (Some d) was told =
-    let is = hopper_holds (is_acceptor d.body) _ told in
+    let is = kind_holds (is_hopper d.body) _ told in
     subst (Brought capacity setup past (step.Fall addr)) (sym is.1)
     (there capacity setup past step.Fall (λ a. fall_entry d past ∷ []) addr d was
     (fall_comes capacity setup d past (remaining d.serial (met d past) == 0) (paying_by d.body is.0) refl))
@@ -320,7 +316,7 @@ jam_brought : (capacity : ℕ) (setup : Setup) (past news : List Entry) (addr : 
     Brought capacity setup past (step.Jam addr) news
 jam_brought capacity setup past news addr None was told = absurd told
 jam_brought capacity setup past news addr (Some d) was told =
-    let is = hopper_holds (is_acceptor d.body) _ told in
+    let is = kind_holds (is_hopper d.body) _ told in
     subst (Brought capacity setup past (step.Jam addr)) (sym is.1)
     (there capacity setup past step.Jam (λ a. jam_entry d past ∷ []) addr d was
     (jam_comes capacity setup d past (remaining d.serial (met d past) == 0) (paying_by d.body is.0) refl))
@@ -364,25 +360,24 @@ unfolding IsLetBy
 device_lets None further none = absurd cc
 device_lets (Some d) further none = (d, refl, tt, none)
 
+kind_lets : (b : Bool) (further : Option CommandNo) → cond b further (Some WrongKind) ≡ None →
+    (b ≡ true) × (further ≡ None)
+kind_lets true further none = (refl, none)
+kind_lets false further none = absurd cc
+
 acceptor_lets : (found : Option DeviceSetup) (further : DeviceSetup → Option CommandNo) →
     at_acceptor found further ≡ None → IsLetBy found (λ d. is_acceptor d.body ≡ true) further
 unfolding IsLetBy
 acceptor_lets None further none = absurd cc
-acceptor_lets (Some d) further none = let is = accepting (is_acceptor d.body) none in (d, refl, is.0, is.1)
-  where
-    accepting : (b : Bool) → cond b (further d) (Some WrongKind) ≡ None → (b ≡ true) × (further d ≡ None)
-    accepting true none = (refl, none)
-    accepting false none = absurd cc
+acceptor_lets (Some d) further none =
+    let is = kind_lets (is_acceptor d.body) (further d) none in (d, refl, is.0, is.1)
 
 hopper_lets : (found : Option DeviceSetup) (further : DeviceSetup → Option CommandNo) →
-    at_hopper found further ≡ None → IsLetBy found (λ d. is_acceptor d.body ≡ false) further
+    at_hopper found further ≡ None → IsLetBy found (λ d. is_hopper d.body ≡ true) further
 unfolding IsLetBy
 hopper_lets None further none = absurd cc
-hopper_lets (Some d) further none = let is = paying (is_acceptor d.body) none in (d, refl, is.0, is.1)
-  where
-    paying : (b : Bool) → cond b (Some WrongKind) (further d) ≡ None → (b ≡ false) × (further d ≡ None)
-    paying true none = absurd cc
-    paying false none = (refl, none)
+hopper_lets (Some d) further none =
+    let is = kind_lets (is_hopper d.body) (further d) none in (d, refl, is.0, is.1)
 
 -- a command that begins a job, told by its address
 taken_there : (capacity : ℕ) (setup : Setup) (past : List Entry) (c : ℕ → Command) (addr : ℕ) (d : DeviceSetup) →
@@ -398,7 +393,7 @@ suits_acceptor : (body : DeviceBody) (c : Command) → is_acceptor body ≡ true
 suits_acceptor (Acceptor accepts values ids) c test suited = suited
 suits_acceptor (Hopper life value) c test suited = absurd cc
 
-suits_hopper : (body : DeviceBody) (c : Command) → is_acceptor body ≡ false → is_for_hopper c ≡ true → suits body c ≡ true
+suits_hopper : (body : DeviceBody) (c : Command) → is_hopper body ≡ true → is_for_hopper c ≡ true → suits body c ≡ true
 suits_hopper (Acceptor accepts values ids) c test suited = absurd cc
 suits_hopper (Hopper life value) c test suited = suited
 

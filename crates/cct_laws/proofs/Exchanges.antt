@@ -22,7 +22,10 @@ use Rattle.cct_frame.specs.Frame.{carried}
 use Rattle.cct_frame.proofs.Spellings.{written_back}
 use Rattle.cct_msg.specs.Forms.{FitsItsBytes, IsWhole, form_shown}
 use Rattle.cct_msg.proofs.Exchanges.{asked_back, reply_heard}
-use Rattle.cct_model.specs.Honest.{IsNoMessage, IsAddressPoll, IsHonestFault}
+use Rattle.cct_model.specs.Honest.{IsHonestFault}
+use Rattle.cct_laws.specs.Honesty.{IsNoMessage, IsAddressPoll, DamagesHonestly}
+use Rattle.cct_laws.proofs.Echoes.{echo_off, echo_known}
+use Rattle.cct_laws.proofs.Honesty.{honest_means}
 use Rattle.cct_laws.specs.Kept.{Fate, unheard, silenced, answered, IsRefused}
 use Rattle.cct_laws.specs.Law.{IsOf}
 use Rattle.cct_laws.proofs.Pieces.{ask_to, asks_nothing, none_under, damaged_asks}
@@ -50,28 +53,6 @@ pub record Refused (d : DeviceSetup) (past : List Met) (q : Request) : Type 0 wh
 -- a request that has its reply, or is refused
 abbrev pub Answers : DeviceSetup → List Met → Request → Type 0
 Answers d past q = Replied d past q ⊎ Refused d past q
-
--- the host's own echo is taken off
-pub echo_off : (sent rest : List ℕ) → after_echo sent (sent ++ rest) ≡ Some rest
-unfolding after_echo
-echo_off [] rest = refl
-echo_off (byte ∷ sent) rest = rw (eq-eqb byte byte refl) (echo_off sent rest)
-
-echo_by : (same : Bool) (s h : ℕ) (sent heard rest : List ℕ) → (s == h) ≡ same →
-    (after_echo sent heard ≡ Some rest → heard ≡ sent ++ rest) → cond same (after_echo sent heard) None ≡ Some rest →
-    h ∷ heard ≡ s ∷ sent ++ rest
-echo_by true s h sent heard rest test later e =
-    let first : h ≡ s = sym (eqb-true s h test) in
-    let others : heard ≡ sent ++ rest = later e in
-    cc
-echo_by false s h sent heard rest test later e = absurd cc
-
--- where it is found, the rest stands behind it
-pub echo_known : (sent heard rest : List ℕ) → after_echo sent heard ≡ Some rest → heard ≡ sent ++ rest
-unfolding after_echo
-echo_known [] heard rest e = same_some heard rest e
-echo_known (s ∷ sent) [] rest e = absurd cc
-echo_known (s ∷ sent) (h ∷ heard) rest e = echo_by (s == h) s h sent heard rest refl (echo_known sent heard rest) e
 
 -- the host's piece is its message
 message_asked : (kind : CheckKind) (addr : ℕ) (q : Request) →
@@ -349,22 +330,22 @@ heard_back d past q is = asks_back d q (fits_of d past q is) (to_device_of d pas
 
 fares_under : (setup : Setup) (d : DeviceSetup) (past : List Entry) (q : Request) (f : WireFault) →
     Answers d (met d past) q → IsSoundSetup setup → IsOf setup d →
-    IsHonestFault f (ask d.kind d.addr q) → (IsAddressPoll (ask d.kind d.addr q) → ⊥) → Fares setup d past q f
-fares_under setup d past q fault.Clear is sound own honest no_poll = fares_clear setup d past q is sound own
-fares_under setup d past q (fault.DevicesHear piece) is sound own honest no_poll =
+    DamagesHonestly f (ask d.kind d.addr q) → (IsAddressPoll (ask d.kind d.addr q) → ⊥) → Fares setup d past q f
+fares_under setup d past q fault.Clear is sound own damage no_poll = fares_clear setup d past q is sound own
+fares_under setup d past q (fault.DevicesHear piece) is sound own damage no_poll =
     let sent = ask d.kind d.addr q in
-    fate_is d (met d past) q _ None _ None unheard (damaged_asks d piece honest)
-    (ap (λ heard. got_by d sent (sent ++ heard)) (damaged_answers setup past piece honest)
+    fate_is d (met d past) q _ None _ None unheard (damaged_asks d piece damage)
+    (ap (λ heard. got_by d sent (sent ++ heard)) (damaged_answers setup past piece damage)
     ∙ none_behind d sent [] (λ form. no_message d.kind d.addr form [] (empty_message d.kind)))
-fares_under setup d past q (fault.HostHears piece) is sound own honest no_poll =
+fares_under setup d past q (fault.HostHears piece) is sound own damage no_poll =
     fate_is d (met d past) q _ (Some q) _ None silenced (heard_back d (met d past) q is)
     (none_behind d (ask d.kind d.addr q) piece
-    (λ form. no_message d.kind d.addr form piece (none_under d.kind piece (honest no_poll))))
-fares_under setup d past q (fault.WholeHeard piece) is sound own honest no_poll =
+    (λ form. no_message d.kind d.addr form piece (none_under d.kind piece (damage no_poll))))
+fares_under setup d past q (fault.WholeHeard piece) is sound own damage no_poll =
     let sent = ask d.kind d.addr q in
     fate_is d (met d past) q _ (Some q) _ None silenced (heard_back d (met d past) q is)
     (nothing_got d sent piece (λ form rest found. no_message d.kind d.addr form rest
-    (none_under d.kind rest ((honest no_poll).1 rest (echo_known sent piece rest found)))))
+    (none_under d.kind rest ((damage no_poll).1 rest (echo_known sent piece rest found)))))
 
 -- a request to a device is no address poll
 no_poll : (setup : Setup) (d : DeviceSetup) (q : Request) → IsSoundSetup setup → IsOf setup d →
@@ -381,7 +362,8 @@ pub fares : (setup : Setup) (d : DeviceSetup) (past : List Entry) (q : Request) 
     (got_by d (ask d.kind d.addr q) (heard_after setup past (ask d.kind d.addr q)))
 unfolding heard_after
 fares setup d past q is sound own honest =
-    fares_under setup d past q (pending past) is sound own honest (no_poll setup d q sound own)
+    fares_under setup d past q (pending past) is sound own
+    (honest_means (pending past) (ask d.kind d.addr q) honest) (no_poll setup d q sound own)
 
 -- what is heard where no fault is set
 clear_heard : (setup : Setup) (d : DeviceSetup) (past : List Entry) (sent : List ℕ) → pending past ≡ fault.Clear →

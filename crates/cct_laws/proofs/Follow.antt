@@ -17,7 +17,7 @@ use Rattle.cct_model.specs.lines.command.CommandNo.TheVariants.{NoValue}
 use Rattle.cct_model.specs.declared.judging.EpochState.{EpochState}
 use Rattle.cct_model.specs.declared.judging.EpochState.TheVariants.{Idle, Running}
 use Rattle.cct_model.specs.declared.judging.OpenOrder.{OpenOrder}
-use Rattle.cct_model.specs.Device.{is_acceptor}
+use Rattle.cct_model.specs.Device.{is_acceptor, is_hopper}
 use Rattle.cct_model.specs.Exchange.{device_at, acceptor_there, hopper_there}
 use Rattle.cct_model.specs.Line.{Line}
 use Rattle.cct_model.specs.Order.{close, life_between}
@@ -120,7 +120,7 @@ start_kind (Acceptor accepts values ids) addr mask suited = refl
 start_kind (Hopper life value) addr mask suited = absurd cc
 
 pub pay_kind : (body : DeviceBody) (addr id count : ℕ) → suits body (command.Pay addr id count) ≡ true →
-    is_acceptor body ≡ false
+    is_hopper body ≡ true
 pay_kind (Acceptor accepts values ids) addr id count suited = absurd cc
 pay_kind (Hopper life value) addr id count suited = refl
 
@@ -154,14 +154,14 @@ begins setup before d addr mask state owed at kind least lets =
 
 -- an order that is opened
 opens : (setup : Setup) (before : List Record) (d : DeviceSetup) (addr id count life : ℕ) (state : EpochState)
-    (owed : Option OpenOrder) → Stands setup before d addr state owed → is_acceptor d.body ≡ false →
+    (owed : Option OpenOrder) → Stands setup before d addr state owed → is_hopper d.body ≡ true →
     1 ≤ id → 1 ≤ count → owed ≡ None → is_open id before ≡ false →
     Fits setup before (record_of.Opened id addr count life)
 opens setup before d addr id count life state owed at kind id_least least none unused =
     and_from _ _
     (and_from _ _
     (and_from _ _
-    (and_from _ _ (ap hopper_there at.found ∙ not_from_false _ kind) (ap is_none (at.order_is ∙ none)))
+    (and_from _ _ (ap hopper_there at.found ∙ kind) (ap is_none (at.order_is ∙ none)))
     (not_none id id_least))
     (not_from_false _ unused))
     (not_none count least)

@@ -12,7 +12,7 @@ use Rattle.cct_model.specs.lines.command.CommandNo.TheVariants.{WrongKind, Journ
 use Rattle.cct_model.specs.lines.command.Step.{Step}
 use Rattle.cct_model.specs.lines.entry.Entry.{Entry}
 use Rattle.cct_model.specs.declared.judging.OpenOrder.{OpenOrder}
-use Rattle.cct_model.specs.Device.{is_acceptor}
+use Rattle.cct_model.specs.Device.{is_hopper}
 use Rattle.cct_model.specs.Setup.{IsSoundSetup}
 use Rattle.cct_model.specs.Exchange.{device_at}
 use Rattle.cct_model.specs.Line.{Line}
@@ -102,11 +102,11 @@ settle_not_full (Some o) = λ stored many need is. cc
 hopper_not_full : (found : Option DeviceSetup) (further : DeviceSetup → Option CommandNo) →
     ((d : DeviceSetup) → IsNotFull (further d)) → IsNotFull (at_hopper found further)
 hopper_not_full None further none = λ stored many need is. cc
-hopper_not_full (Some d) further none = by_kind (is_acceptor d.body)
+hopper_not_full (Some d) further none = by_kind (is_hopper d.body)
   where
-    by_kind : (accepting : Bool) → IsNotFull (cond accepting (Some WrongKind) (further d))
-    by_kind true = λ stored many need is. cc
-    by_kind false = none d
+    by_kind : (paying : Bool) → IsNotFull (cond paying (further d) (Some WrongKind))
+    by_kind true = none d
+    by_kind false = λ stored many need is. cc
 
 room_not_full : (capacity : ℕ) (setup : Setup) (past : List Entry) →
     length (records past) + held setup past ≤ capacity → IsNotFull (full_refusal setup past 0 capacity)

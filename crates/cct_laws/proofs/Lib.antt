@@ -13,6 +13,7 @@ pub mod Coins
 pub mod CommonReplies
 pub mod Counting
 pub mod Covered
+pub mod Echoes
 pub mod EitherKind
 pub mod Ending
 pub mod Exchanges
@@ -24,6 +25,7 @@ pub mod Freed
 pub mod GivenUp
 pub mod Growing
 pub mod Held
+pub mod Honesty
 pub mod HopperReplies
 pub mod Ids
 pub mod Items

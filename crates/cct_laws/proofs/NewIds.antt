@@ -9,7 +9,7 @@ use Rattle.cct_model.specs.lines.command.CommandNo.{CommandNo}
 use Rattle.cct_model.specs.lines.command.CommandNo.TheVariants.{WrongKind, OldId}
 use Rattle.cct_model.specs.lines.entry.Entry.{Entry}
 use Rattle.cct_model.specs.declared.judging.OpenOrder.{OpenOrder}
-use Rattle.cct_model.specs.Device.{is_acceptor}
+use Rattle.cct_model.specs.Device.{is_hopper}
 use Rattle.cct_model.specs.Exchange.{device_at}
 use Rattle.cct_model.specs.Order.{order}
 use Rattle.cct_model.specs.Job.{Job, free, works, job, done}
@@ -69,11 +69,11 @@ hopper_passes : (found : Option DeviceSetup) (further : DeviceSetup → Option C
     found ≡ Some d → at_hopper found further ≡ None → further d ≡ None
 hopper_passes None further d is passes = absurd cc
 hopper_passes (Some e) further d is passes =
-    ap further (sym (same_some e d is)) ∙ by_kind (is_acceptor e.body) passes
+    ap further (sym (same_some e d is)) ∙ by_kind (is_hopper e.body) passes
   where
-    by_kind : (accepting : Bool) → cond accepting (Some WrongKind) (further e) ≡ None → further e ≡ None
-    by_kind true same = absurd cc
-    by_kind false same = same
+    by_kind : (paying : Bool) → cond paying (further e) (Some WrongKind) ≡ None → further e ≡ None
+    by_kind true same = same
+    by_kind false same = absurd cc
 
 pub payment_new : (capacity : ℕ) (setup : Setup) (past : List Entry) (d : DeviceSetup) (id count : ℕ) →
     IsOf setup d → order (lines_of d past) ≡ None → refusal capacity setup past (command.Pay d.addr id count) ≡ None →

@@ -14,8 +14,10 @@ use Rattle.cct_model.specs.Exchange.{ask, asks_of, asked_of, to_one, to_all}
 use Rattle.cct_model.specs.Scan.{poll_of}
 use Rattle.cct_model.specs.Transcript.{heard_by_devices}
 use Rattle.cct_model.proofs.Requests.{request_header}
-use Rattle.cct_model.specs.Honest.{IsNoMessage, IsHonestFault}
+use Rattle.cct_model.specs.Honest.{IsHonestFault}
+use Rattle.cct_laws.specs.Honesty.{IsNoMessage}
 use Rattle.cct_laws.specs.Kept.{IsForOthers}
+use Rattle.cct_laws.proofs.Honesty.{honest_means}
 
 passed : (fits : Bool) (x m : Message) → cond fits (Some x) None ≡ Some m → x ≡ m
 passed true x m found = cc
@@ -76,7 +78,8 @@ damaged_asks d piece none = ap (option_and_then (asked_of d.addr)) (none_under d
 -- an honest wire brings a device nothing of what is sent to another
 pub asked_elsewhere : (d : DeviceSetup) (f : WireFault) (sent : List ℕ) → IsHonestFault f sent → slice_index sent 0 ≢ d.addr → slice_index sent 0 ≢ 0 → asks_of d (heard_by_devices f sent) ≡ None
 asked_elsewhere d fault.Clear sent honest other some = asks_nothing d sent other some
-asked_elsewhere d (fault.DevicesHear piece) sent honest other some = damaged_asks d piece honest
+asked_elsewhere d (fault.DevicesHear piece) sent honest other some =
+    damaged_asks d piece (honest_means (fault.DevicesHear piece) sent honest)
 asked_elsewhere d (fault.HostHears piece) sent honest other some = asks_nothing d sent other some
 asked_elsewhere d (fault.WholeHeard piece) sent honest other some = asks_nothing d sent other some
 
@@ -120,6 +123,8 @@ poll_asks d kind addr =
 
 pub poll_others : (d : DeviceSetup) (f : WireFault) (kind : CheckKind) (addr : ℕ) → IsHonestFault f (ask kind addr (poll_of addr)) → IsForOthers (asks_of d (heard_by_devices f (ask kind addr (poll_of addr))))
 poll_others d fault.Clear kind addr honest = poll_asks d kind addr
-poll_others d (fault.DevicesHear piece) kind addr honest = subst IsForOthers (sym (damaged_asks d piece honest)) tt
+poll_others d (fault.DevicesHear piece) kind addr honest =
+    let damage = honest_means (fault.DevicesHear piece) (ask kind addr (poll_of addr)) honest in
+    subst IsForOthers (sym (damaged_asks d piece damage)) tt
 poll_others d (fault.HostHears piece) kind addr honest = poll_asks d kind addr
 poll_others d (fault.WholeHeard piece) kind addr honest = poll_asks d kind addr

@@ -21,11 +21,13 @@ use Rattle.cct_model.proofs.Added.{AreAll, KeepsEach, added_keeps}
 use Rattle.cct_model.specs.Text.{text}
 use Rattle.cct_text.proofs.Whole.{text_is_one}
 use Rattle.cct_model.specs.Honest.{Honest}
-use Rattle.cct_model.specs.Paid.{Paid}
+use Rattle.cct_model.specs.Paid.{Paid, AreFresh}
+use Rattle.cct_model.specs.Records.{records}
+use Rattle.cct_model.specs.Transcript.{onto}
 use Rattle.cct_model.specs.Setup.{IsSoundSetup}
 use Rattle.cct_laws.specs.Law.{IsOf, HasBytes, AreOfToday, lines_in}
 use Rattle.cct_laws.proofs.Coinless.{each_in_order, each_covers}
-use Rattle.cct_laws.proofs.Payments.{legal_paid}
+use Rattle.cct_laws.proofs.Payments.{legal_paid, legal_fresh}
 use Rattle.cct_laws.proofs.Said.{KeepsSound, IfSaid, IsToday, setup_said, step_said}
 use Rattle.cct_laws.proofs.Texts.{legal_written}
 
@@ -167,6 +169,13 @@ pub played_paid : (capacity : ℕ) (bytes : List ℕ) (played rest : List Step) 
 played_paid capacity bytes played rest transcript d fronts legal honest own paying =
     legal_paid capacity (script bytes).setup played transcript d (setup_sound bytes) own paying
     (front_of_today bytes played rest fronts).in_range legal honest
+
+-- whatever the wire does, no id stands in two records
+pub played_fresh : (capacity : ℕ) (bytes : List ℕ) (played rest : List Step) (transcript : List Entry) →
+    (script bytes).steps ≡ played ++ rest → Legal capacity (script bytes).setup played transcript →
+    AreFresh (records (onto [] transcript))
+played_fresh capacity bytes played rest transcript fronts legal =
+    legal_fresh capacity (script bytes).setup played transcript (setup_sound bytes) legal
 
 -- the texts of two scripts that were played up to a step tell their transcripts, whatever the journals take
 pub played_texts : (capacity room : ℕ) (bytes other : List ℕ) (played rest others more : List Step)

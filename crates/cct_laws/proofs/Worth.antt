@@ -1,11 +1,11 @@
 -- How the sums over all records change by one record more.
-use Rattle.std.proofs.Common.{◌≡◌, ℕ, ◌+◌, ◌≤◌, Bool, true, false, not, List, ◌∷◌, refl, ap, sym, ◌∙◌, Option, Some, None, arith, mul-le-mul_right}
+use Rattle.std.proofs.Common.{◌≡◌, ℕ, ◌+◌, ◌≤◌, true, List, ◌∷◌, refl, ap, sym, ◌∙◌, Option, Some, None, arith, mul-le-mul_right}
 use Rattle.cct_model.specs.terms.device.DeviceSetup.{DeviceSetup}
 use Rattle.cct_model.specs.terms.device.Setup.{Setup}
 use Rattle.cct_model.specs.lines.record.Record.{Record}
 use Rattle.cct_model.specs.lines.record.Record.TheVariants as record_of
 use Rattle.cct_model.specs.declared.judging.OpenOrder.{OpenOrder}
-use Rattle.cct_model.specs.Device.{is_acceptor}
+use Rattle.cct_model.specs.Device.{is_hopper}
 use Rattle.cct_model.specs.Exchange.{device_at, hopper_there}
 use Rattle.cct_model.specs.Setup.{AreDistinct}
 use Rattle.cct_model.specs.Order.{order_by}
@@ -26,7 +26,7 @@ pub record HopperAt (setup : Setup) (addr : ℕ) : Type 0 where
   pub found : device_at setup.devices addr ≡ Some device
   pub here : device.addr ≡ addr
   pub is_of : IsOf setup device
-  pub kind : is_acceptor device.body ≡ false
+  pub kind : is_hopper device.body ≡ true
 
 hopper_by : (setup : Setup) (addr : ℕ) (found : Option DeviceSetup) → device_at setup.devices addr ≡ found →
     hopper_there found ≡ true → HopperAt setup addr
@@ -38,12 +38,8 @@ hopper_by setup addr (Some d) is hopper =
       found = is;
       here = at;
       is_of = ap (device_at setup.devices) at ∙ is;
-      kind = negated (is_acceptor d.body) hopper;
+      kind = hopper;
     }
-  where
-    negated : (b : Bool) → not b ≡ true → b ≡ false
-    negated false test = refl
-    negated true test = absurd cc
 
 pub hopper_at : (setup : Setup) (addr : ℕ) → hopper_there (device_at setup.devices addr) ≡ true → HopperAt setup addr
 hopper_at setup addr hopper = hopper_by setup addr (device_at setup.devices addr) refl hopper

@@ -2,6 +2,7 @@ pub mod Balanced
 pub mod Coins
 pub mod Ending
 pub mod Faults
+pub mod Honesty
 pub mod Ids
 pub mod Kept
 pub mod KeptBoth

@@ -9,14 +9,14 @@
 //! A crate above cites the lemmas behind them, each of which is named in its function's `Answers.antt`; and beside them
 //! `kept_legal`, `kept_since_legal` and `kept_hopper_legal` of `proofs/Whole.antt`, by which any fact of a device holds
 //! that each thing that can come keeps; `along` of `proofs/Seen.antt`, by which one of all entries does; `setup_sound`,
-//! `steps_of_today` and `front_of_today` of `proofs/Scripts.antt`, and there `played_in_order`, `played_covers` and
-//! `played_paid`, which say three laws of the front of a script; and `legal_written` of `proofs/Texts.antt`. For a host
-//! that starts again over its records there are `proofs/Recalling.antt`, which says what each record more tells, and
-//! `proofs/Restarts.antt`, which says what entries a loss of power leaves. `books_legal` and `books_behind` of
-//! `proofs/Books.antt` say of every legal past, and of every one that goes on by legal steps behind a past without a job
-//! whose records follow one another, that ids are in order and the books are kept; and `kept_due_allowed` of
-//! `proofs/Journal.antt` and `kept_crash_suits` of `proofs/Restarts.antt`, that a ledger then takes what a job is about
-//! to put, and that a loss of power is survived.
+//! `steps_of_today` and `front_of_today` of `proofs/Scripts.antt`, and there `played_in_order`, `played_covers`,
+//! `played_paid` and `played_fresh`, which say four laws of the front of a script; and `legal_written` of
+//! `proofs/Texts.antt`. For a host that starts again over its records there are `proofs/Recalling.antt`, which says
+//! what each record more tells, and `proofs/Restarts.antt`, which says what entries a loss of power leaves.
+//! `books_legal` and `books_behind` of `proofs/Books.antt` say of every legal past, and of every one that goes on by
+//! legal steps behind a past without a job whose records follow one another, that ids are in order and the books are
+//! kept; and `kept_due_allowed` of `proofs/Journal.antt` and `kept_crash_suits` of `proofs/Restarts.antt`, that a
+//! ledger then takes what a job is about to put, and that a loss of power is survived.
 #![tactic(auto)]
 
 ghost use Rattle.std.specs.Prelude.{ℕ, ◌≡◌, ◌<◌, ◌≤◌, ◌⊎◌, false, List, [], ◌++◌, None, true, Option, Some, ◌≢◌, ◌+◌, ◌-◌, length};
@@ -32,6 +32,7 @@ ghost use Rattle.cct_model.specs.lines.command.Command.{Command};
 ghost use Rattle.cct_model.specs.lines.command.Command.TheVariants.{Round, Settle};
 ghost use Rattle.cct_model.specs.lines.command.CrashAt.{CrashAt};
 ghost use Rattle.cct_model.specs.lines.command.Step.{Step};
+ghost use Rattle.cct_model.specs.lines.command.WireFault.{WireFault};
 ghost use Rattle.cct_model.specs.lines.command.WireFault.TheVariants.{Clear};
 ghost use Rattle.cct_model.specs.lines.entry.Entry.{Entry};
 ghost use Rattle.cct_model.specs.terms.wire.TheConstants.{BROADCAST};
@@ -57,6 +58,7 @@ ghost use Rattle.cct_model.specs.Money.{posted_in, reserved_at_work, freed_by, s
 ghost use Rattle.cct_model.specs.Refusal.{held, last_id, refusal};
 ghost use Rattle.cct_model.specs.Following.{all_follow, follows, is_allowed};
 ghost use Rattle.cct_model.specs.Paid.{Paid, OfOrder, AreFresh, dispenses, fallen};
+ghost use Rattle.cct_laws.specs.Honesty.{DamagesHonestly};
 ghost use Rattle.cct_laws.specs.Kept.{IsRefused, suits};
 ghost use Rattle.cct_laws.specs.Balanced.{IsBalanced, IsConserved};
 ghost use Rattle.cct_laws.specs.Coins.{all_fallen, all_paid};
@@ -81,6 +83,13 @@ pub fn an_undisturbed_exchange_is_answered()
         → IsSoundSetup setup → IsOf setup d → suits d.body command ≡ true → IsCommand command
         → pending past ≡ Clear → row_at d command rows judged payment ≡ sends q
         → IsAnswered setup d past q ⊎ (IsRefused d (met d past) q × IsUnanswered setup d past q) }
+{}
+
+/// The test of an honest fault says exactly what honest damage is: the piece that the devices hear is no message; and
+/// where no address poll is sent, the piece that the host hears is none, nor is what follows the host's own echo in it.
+pub fn an_honest_fault_does_honest_damage()
+    ensures means { (f : WireFault) (sent : List ℕ) → IsHonestFault f sent → DamagesHonestly f sent }
+    ensures tested { (f : WireFault) (sent : List ℕ) → DamagesHonestly f sent → IsHonestFault f sent }
 {}
 
 /// Where an honest fault is set for the next exchange, such a job gets the device's own reply to what it asks, or
@@ -214,7 +223,8 @@ pub fn scripts_are_in_range()
 
 /// A script that was played up to any of its steps, over an honest wire, posts in order at each device of its setup,
 /// where a hopper posts nothing; at each device that keeps the pace it loses no coin in silence; and at each hopper it
-/// pays each order at most once, and closes it with exactly the coins that fell.
+/// pays each order at most once, and closes it with exactly the coins that fell. Whatever the wire does, no id stands in
+/// two of its records.
 pub fn played_scripts_keep_the_laws()
     ensures in_order { (capacity : ℕ) (bytes : List ℕ) (played rest : List Step) (transcript : List Entry)
         (d : DeviceSetup)
@@ -229,6 +239,9 @@ pub fn played_scripts_keep_the_laws()
         (d : DeviceSetup)
         → (script bytes).steps ≡ played ++ rest → Legal capacity (script bytes).setup played transcript
         → Honest transcript → IsOf (script bytes).setup d → IsHopper d.body → Paid (lines_in d transcript) }
+    ensures fresh { (capacity : ℕ) (bytes : List ℕ) (played rest : List Step) (transcript : List Entry)
+        → (script bytes).steps ≡ played ++ rest → Legal capacity (script bytes).setup played transcript
+        → AreFresh (records (onto [] transcript)) }
 {}
 
 /// A text tells its legal transcript: two legal transcripts of one setup with the same text are the same. The setup is

@@ -16,7 +16,7 @@ use Rattle.cct_model.specs.Money.{coins_of, available_in, available_beside, rese
 use Rattle.cct_model.specs.Following.{is_allowed}
 use Rattle.cct_ledger.specs.Orders.{has_id, KeepsOrders}
 use Rattle.cct_ledger.proofs.Orders.{keeps_opened, order_as, owed_next}
-use Rattle.cct_ledger.proofs.Places.{is_hopper, hopper_at, hopper_there_at, hopper_nowhere}
+use Rattle.cct_ledger.proofs.Places.{hopper_is_at, hopper_at, hopper_there_at, hopper_nowhere}
 
 -- what is available beside what is reserved is no more than what the records leave
 beside_less : (setup : Setup) (before : List Record) (beside : ℕ) →
@@ -33,7 +33,7 @@ absorbed false second third implied = refl
 
 -- where no hopper is, no order is opened
 pub refused_nowhere : (setup : Setup) (before : List Record) (beside id addr count life : ℕ) →
-    None ≡ position (is_hopper addr) setup.devices → false ≡ is_allowed setup before beside (Opened id addr count life)
+    None ≡ position (hopper_is_at addr) setup.devices → false ≡ is_allowed setup before beside (Opened id addr count life)
 refused_nowhere setup before beside id addr count life none =
     sym (ap (λ there. (there && is_none (order_in addr before) && not (id == 0) && not (is_open id before) && not
     (count == 0)
@@ -43,7 +43,7 @@ refused_nowhere setup before beside id addr count life none =
 
 -- the order at the place of a hopper
 order_at_place : (setup : Setup) (before : List Record) (orders : List (Option OpenOrder)) (addr place : ℕ) →
-    KeepsOrders setup before orders → Some place ≡ position (is_hopper addr) setup.devices →
+    KeepsOrders setup before orders → Some place ≡ position (hopper_is_at addr) setup.devices →
     slice_get orders place ≡ Some (order_in addr before)
 order_at_place setup before orders addr place keeps is =
     let at = hopper_at setup.devices addr place (sym is) in
@@ -61,7 +61,7 @@ tests orders place id count amount available =
 pub allowed_at : (setup : Setup) (before : List Record) (orders : List (Option OpenOrder))
     (place beside id addr count life amount available : ℕ) → AreDistinct setup.devices →
     KeepsOrders setup before orders →
-    Some place ≡ position (is_hopper addr) setup.devices → amount ≡ coins_of setup addr count →
+    Some place ≡ position (hopper_is_at addr) setup.devices → amount ≡ coins_of setup addr count →
     available ≡ available_beside setup before beside →
     tests orders place id count amount available ≡ is_allowed setup before beside (Opened id addr count life)
 allowed_at setup before orders place beside id addr count life amount available distinct keeps is worth left =
@@ -105,7 +105,7 @@ passed_tests a b c d e all =
 
 pub reserves : (setup : Setup) (before : List Record) (orders later : List (Option OpenOrder))
     (place id addr count life amount available : ℕ) → AreDistinct setup.devices → KeepsOrders setup before orders →
-    Some place ≡ position (is_hopper addr) setup.devices → tests orders place id count amount available ≡ true →
+    Some place ≡ position (hopper_is_at addr) setup.devices → tests orders place id count amount available ≡ true →
     place < length orders → later ≡ set orders place (Some (order_as id addr count life)) →
     Reserves setup before later id addr count life amount available
 reserves setup before orders later place id addr count life amount available distinct keeps is passed within same =

@@ -1,14 +1,14 @@
 -- The devices of a setup by their places in it.
-use Rattle.std.proofs.Common.{◌≡◌, ◌≢◌, ℕ, zero, suc, ◌+◌, ◌-◌, ◌≤◌, ◌==◌, ◌&&◌, not, Bool, true, false, cond, List, [], ◌∷◌, map, set, get_or, sum_by, refl, ap, ap₂, sym, ◌∙◌, Some, None, All, arith, eq-eqb, eqb-true, true≢false}
+use Rattle.std.proofs.Common.{◌≡◌, ◌≢◌, ℕ, zero, suc, ◌+◌, ◌-◌, ◌≤◌, ◌==◌, ◌&&◌, Bool, true, false, cond, List, [], ◌∷◌, map, set, get_or, sum_by, refl, ap, ap₂, sym, ◌∙◌, Some, None, All, arith, eq-eqb, eqb-true, true≢false}
 use Rattle.std.specs.Prelude.{slice_get}
 use Rattle.std.specs.List.{list_any, position}
-use Rattle.std.proofs.lemmas.Bool.{and_parts, ne_eqb, or_parts, not-true}
+use Rattle.std.proofs.lemmas.Bool.{and_parts, ne_eqb, or_parts}
 use Rattle.std.proofs.lemmas.List.Elements.{All-head, All-tail}
 use Rattle.std.proofs.lemmas.List.Sums.{sum_by-cons}
 use Rattle.cct_model.specs.terms.device.DeviceBody.{DeviceBody}
 use Rattle.cct_model.specs.terms.device.DeviceBody.TheVariants.{Acceptor, Hopper}
 use Rattle.cct_model.specs.terms.device.DeviceSetup.{DeviceSetup}
-use Rattle.cct_model.specs.Device.{IsSound, IsSoundBody, is_acceptor, value_at}
+use Rattle.cct_model.specs.Device.{IsSound, IsSoundBody, is_hopper, value_at}
 use Rattle.cct_model.specs.Exchange.{device_at, hopper_there}
 use Rattle.cct_model.specs.Setup.{AreDistinct}
 use Rattle.cct_model.specs.Money.{place_value, sum_over}
@@ -98,48 +98,48 @@ sum_over-map worth f (d ∷ ds) =
 
 -- a hopper is found by its address
 
-abbrev pub is_hopper : ℕ → DeviceSetup → Bool
-is_hopper addr d = (d.addr == addr) && not (is_acceptor d.body)
+abbrev pub hopper_is_at : ℕ → DeviceSetup → Bool
+hopper_is_at addr d = (d.addr == addr) && is_hopper d.body
 
 pub record IsHopperAt (ds : List DeviceSetup) (addr place : ℕ) : Type 0 where
   pub device : DeviceSetup
   pub there : slice_get ds place ≡ Some device
   pub here : device.addr ≡ addr
-  pub kind : is_acceptor device.body ≡ false
+  pub kind : is_hopper device.body ≡ true
 
-pub hopper_at : (ds : List DeviceSetup) (addr place : ℕ) → position (is_hopper addr) ds ≡ Some place →
+pub hopper_at : (ds : List DeviceSetup) (addr place : ℕ) → position (hopper_is_at addr) ds ≡ Some place →
     IsHopperAt ds addr place
 hopper_at ds addr place is =
-    let at = at_position (is_hopper addr) ds place is in
-    let parts = and_parts (at.item.addr == addr) (not (is_acceptor at.item.body)) at.passes in
+    let at = at_position (hopper_is_at addr) ds place is in
+    let parts = and_parts (at.item.addr == addr) (is_hopper at.item.body) at.passes in
     record {
       device = at.item;
       there = at.there;
       here = eqb-true at.item.addr addr parts.0;
-      kind = not-true (is_acceptor at.item.body) parts.1;
+      kind = parts.1;
     }
 
 pub hopper_there_at : (ds : List DeviceSetup) (addr place : ℕ) → AreDistinct ds → IsHopperAt ds addr place →
     hopper_there (device_at ds addr) ≡ true
 hopper_there_at ds addr place distinct at =
     let found = ap (device_at ds) (sym at.here) ∙ at_place ds place at.device distinct at.there in
-    ap hopper_there found ∙ ap not at.kind
+    ap hopper_there found ∙ at.kind
 
-no_hopper : (ds : List DeviceSetup) (addr : ℕ) → list_any (is_hopper addr) ds ≡ false →
+no_hopper : (ds : List DeviceSetup) (addr : ℕ) → list_any (hopper_is_at addr) ds ≡ false →
     hopper_there (device_at ds addr) ≡ false
 no_hopper [] addr none = refl
 no_hopper (e ∷ ds) addr none =
-    let parts = or_parts (is_hopper addr e) (list_any (is_hopper addr) ds) none in
+    let parts = or_parts (hopper_is_at addr e) (list_any (hopper_is_at addr) ds) none in
     by_here (e.addr == addr) parts.0 (no_hopper ds addr parts.1)
   where
-    by_here : (here : Bool) → (here && not (is_acceptor e.body)) ≡ false → hopper_there (device_at ds addr) ≡ false →
+    by_here : (here : Bool) → (here && is_hopper e.body) ≡ false → hopper_there (device_at ds addr) ≡ false →
         hopper_there (cond here (Some e) (device_at ds addr)) ≡ false
     by_here true test rest = test
     by_here false test rest = rest
 
-pub hopper_nowhere : (ds : List DeviceSetup) (addr : ℕ) → position (is_hopper addr) ds ≡ None →
+pub hopper_nowhere : (ds : List DeviceSetup) (addr : ℕ) → position (hopper_is_at addr) ds ≡ None →
     hopper_there (device_at ds addr) ≡ false
-hopper_nowhere ds addr none = no_hopper ds addr (none_passes (is_hopper addr) ds none)
+hopper_nowhere ds addr none = no_hopper ds addr (none_passes (hopper_is_at addr) ds none)
 
 -- what a coin is worth at most
 

@@ -1,7 +1,7 @@
 //! Hoppers and open orders, looked up by their places in a setup.
 ghost use Rattle.std.specs.Prelude.{◌≡◌, ◌<◌, ◌≤◌, ◌==◌, ◌&&◌, not, Some, None, length, map, is_none, IfSome, slice_get, slice_set};
 ghost use Rattle.std.specs.List.{position, list_any};
-ghost use Rattle.cct_model.specs.Device.{is_acceptor};
+ghost use Rattle.cct_model.specs.Device.{is_hopper};
 ghost use Rattle.cct_ledger.specs.Orders.{has_id};
 
 use arrayvec::ArrayVec;
@@ -21,14 +21,14 @@ pub(crate) fn none_open(setup: &Setup) -> ArrayVec<Option<OpenOrder>, DEVICES>
 
 /// The place of the hopper at an address, or none.
 pub(crate) fn hopper_place(setup: &Setup, addr: u8) -> Option<usize>
-    ensures first { result ≡ position (λ d. (d.addr == addr) && not (is_acceptor d.body)) setup.now.devices }
+    ensures first { result ≡ position (λ d. (d.addr == addr) && is_hopper d.body) setup.now.devices }
     ensures within { IfSome result (λ place. place < length setup.now.devices) }
 {
     setup
         .devices
         .as_slice()
         .iter()
-        .position(|device| device.addr == addr && !device.body.is_acceptor())
+        .position(|device| device.addr == addr && device.body.is_hopper())
 }
 
 /// The place of the open order with an id and the order, or none.

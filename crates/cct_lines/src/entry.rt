@@ -29,7 +29,7 @@ pub enum End {
     StartUnsure,
     /// The acceptor's event counter wasn't 0 after its reset; no epoch began.
     Unquiet { counter: u8 },
-    /// The reading had no new event.
+    /// The event counter that was read is the recorded one.
     Clean,
     /// A reading was put.
     Posted,

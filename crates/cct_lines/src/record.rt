@@ -10,8 +10,8 @@ pub enum Record {
         addr: u8,
         mask: u16,
     },
-    /// A reading of acceptor `addr`: the event counter that was read, how many events were overrun and so are lost,
-    /// and the coins that are posted, oldest first.
+    /// A reading of acceptor `addr`: the event counter that was read, how many events it tells to be overrun and so
+    /// lost, and the coins that are posted, oldest first.
     Reading {
         addr: u8,
         counter: u8,

@@ -16,7 +16,8 @@ use Rattle.cct_world.specs.declared.refusal.WorldNo.{WorldNo}
 use Rattle.cct_world.specs.declared.world.World.{World}
 use Rattle.cct_world.specs.Restarts.{Survived, no_step}
 use Rattle.cct_world.specs.Step.{crashes}
-use Rattle.cct_world.specs.World.{StandsFor, disk_of, setup_of}
+use Rattle.cct_world.specs.World.{StandsFor, capacity_in, disk_of, setup_of}
+use Rattle.cct_world.proofs.Early.{early_none}
 use Rattle.cct_world.proofs.Lasting.{trusted_on}
 use Rattle.cct_world.proofs.Sure.{rose_just}
 use Rattle.cct_gen.specs.Load.{line_at, lines_before, load_setup, load_steps}
@@ -49,6 +50,7 @@ module _ {D : Type 0} {g : Ghosts D} (world : World D g) (load : Load) (left : D
     transcript = [];
     steps_are = refl;
     legal = λ relies. refl;
+    early = early_none (capacity_in world) load_setup;
     ends = inl (refl, breaks);
     book = λ trusted. world_leaves world left [] is fresh trusted;
     survived = no_step;
@@ -69,6 +71,7 @@ module _ {D : Type 0} {g : Ghosts D} (world : World D g) (load : Load) (left : D
         transcript = lines.transcript;
         steps_are = behind.1;
         legal = lines.legal;
+        early = lines.early;
         ends = (lines.holds.fails, wrote);
         book = lines.holds.book;
         survived = lines.holds.survived;
@@ -96,6 +99,7 @@ module _ {D : Type 0} {g : Ghosts D} (world : World D g) (load : Load) (left : D
       transcript = lines.transcript;
       steps_are = sym (append-nil steps);
       legal = lines.legal;
+      early = lines.early;
       ends = ends;
       book = book;
       survived = subst (λ disk. SurvivedOn world disk steps past) (sym is)

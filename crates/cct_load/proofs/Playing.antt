@@ -1,6 +1,6 @@
 -- What the playing of a load keeps from line to line, and what it leaves where it stops.
 use Rattle.std.proofs.Common.{◌≡◌, ◌≢◌, ◌≤◌, ◌<◌, ◌+◌, ℕ, List, [], ◌∷◌, ◌++◌, length, reverse, Some, refl, sym, ◌∙◌, subst}
-use Rattle.std.proofs.Common.{inl, arith, add-one}
+use Rattle.std.proofs.Common.{inl, inr, arith, add-one}
 use Rattle.cct_model.specs.lines.command.Step.{Step}
 use Rattle.cct_model.specs.lines.command.Step.TheVariants as step
 use Rattle.cct_model.specs.lines.entry.Entry.{Entry}
@@ -17,12 +17,14 @@ use Rattle.cct_laws.proofs.Onto.{legal_more, transcript_on}
 use Rattle.cct_world.specs.declared.refusal.WorldNo.{WorldNo}
 use Rattle.cct_world.specs.declared.refusal.WorldNo.TheVariants as world_no
 use Rattle.cct_world.specs.declared.world.World.{World}
+use Rattle.cct_world.specs.Early.{LegalBeforeLoss}
 use Rattle.cct_world.specs.Holds.{WorldHolds}
 use Rattle.cct_world.specs.Machine.{FailsIn, LosesIn, StepSuits}
 use Rattle.cct_world.specs.Restarts.{LosesAt, Survived}
 use Rattle.cct_world.specs.Step.{CutsIn, LastsIn, RoseBy, count_after, crashes, crashes_of}
 use Rattle.cct_world.specs.Sure.{MayFail, due_to}
 use Rattle.cct_world.specs.World.{Breaks, Plays, RestartsBy, StandsFor, capacity_in, disk_of, setup_of, used_of}
+use Rattle.cct_world.proofs.Early.{early_more, early_none}
 use Rattle.cct_world.proofs.Holding.{holds_first, loses_at, world_on}
 use Rattle.cct_world.proofs.Lasting.{lasts_here, lasts_in, lasts_then, trusted_on, uncut_in}
 use Rattle.cct_world.proofs.Restarts.{behind_on}
@@ -56,6 +58,7 @@ module _ {D : Type 0} {g : Ghosts D} (world : World D g) where
     lines = record {
       transcript = [];
       legal = λ relies. refl;
+      early = early_none (capacity_in world) load_setup;
       holds = record {
         so = holds_first g.size g.honest g.seen g.cuts g.cut_to (setup_of world) (disk_of world) (StandsFor world)
             (disk_of world) (used_of world) refl fresh.host.keeps.used (λ sure. fresh) [] [] refl refl;
@@ -123,6 +126,9 @@ module _ {D : Type 0} {g : Ghosts D} (world : World D g) where
               subst (λ steps. Legal (capacity_in world) load_setup steps (t ++ report)) (sym more)
               (legal_more (capacity_in world) load_setup (lines_before seed n) t report s
               (goes.lines.legal (sure_back (HasTrusted world) news past here)) (entries here).0);
+          early = subst (λ steps. LegalBeforeLoss (capacity_in world) load_setup steps (t ++ report)) (sym more)
+              (early_more (Relies world) (capacity_in world) load_setup (lines_before seed n) t report s
+              (λ es none. inr none) told (λ relies. (entries relies).0) goes.lines.early);
           holds = subst (Became world next sums1 seed (n + 1)) (sym on) (record {
             so = subst (λ steps. WorldHolds (disk_of world) next steps (news ++ past)) (sym more)
                 (world_on (disk_of world) now next s news (lines_before seed n) past goes.lasts lasts told cut many
@@ -204,6 +210,7 @@ module _ {D : Type 0} {g : Ghosts D} (world : World D g) where
         record {
           transcript = goes.lines.transcript;
           legal = goes.lines.legal;
+          early = goes.lines.early;
           holds = subst (λ x. Stopped world left why x (lines_before seed n) past) is (record {
             fails = fails_at now left (lines_before seed n) past goes.setup before s goes.lasts lasts why breaks lost;
             book = λ given. left_at now left (lines_before seed n) past goes.setup before why s given

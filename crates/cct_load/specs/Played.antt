@@ -14,6 +14,7 @@ use Rattle.cct_journal.specs.Losing.{LeavesWith}
 use Rattle.cct_world.specs.declared.refusal.WorldNo.{WorldNo}
 use Rattle.cct_world.specs.declared.refusal.WorldNo.TheVariants as world_no
 use Rattle.cct_world.specs.declared.world.World.{World}
+use Rattle.cct_world.specs.Early.{LegalBeforeLoss}
 use Rattle.cct_world.specs.Holds.{WorldHolds}
 use Rattle.cct_world.specs.Restarts.{CutAt, LosesAt, Survived}
 use Rattle.cct_world.specs.Step.{RoseBy, count_after, crashes}
@@ -40,10 +41,11 @@ module _ {D : Type 0} {g : Ghosts D} (world : World D g) where
   Relies past = Sure HasTrusted past
 
   -- So many lines of a load were played on the world, from the first on: the entries of the transcript are those of the
-  -- steps, where its past may be relied on; and this holds of its past.
+  -- steps, where its past may be relied on, and in any case up to the first loss of power; and this holds of its past.
   pub record PlayedLines (seed n : ℕ) (Holds : List Entry → Type 0) : Type 0 where
     pub transcript : List Entry
     pub legal : Relies (onto [] transcript) → Legal (capacity_in world) load_setup (lines_before seed n) transcript
+    pub early : LegalBeforeLoss (capacity_in world) load_setup (lines_before seed n) transcript
     pub holds : Holds (onto [] transcript)
 
   -- What is so after a past, where so many lines of a load were played and the world became another: what holds of a
@@ -115,7 +117,8 @@ module _ {D : Type 0} {g : Ghosts D} (world : World D g) where
   Book left how unplayed past = LeavesWith g.honest g.seen g.may_leave left None (reverse (records past))
 
   -- A load was played on the world, ended so, and left this disk: the steps that were played and those that weren't;
-  -- the transcript, whose entries are those of the steps, where its past may be relied on; what was written, where
+  -- the transcript, whose entries are those of the steps, where its past may be relied on, and in any case up to the
+  -- first loss of power; what was written, where
   -- `Written` holds of entries that were written whole, and `Breaks` where a put failed in the second list; and what
   -- the disk keeps where it was trusted. Behind each loss of power among the steps a host started again; and the power of
   -- the disk was cut at least as often as the transcript tells, and just so often where the step that comes next is no
@@ -127,6 +130,7 @@ module _ {D : Type 0} {g : Ghosts D} (world : World D g) where
     pub transcript : List Entry
     pub steps_are : load_steps load.seed load.rounds ≡ played ++ unplayed
     pub legal : Relies (onto [] transcript) → Legal (capacity_in world) load_setup played transcript
+    pub early : LegalBeforeLoss (capacity_in world) load_setup played transcript
     pub ends : Ends left load how played unplayed (onto [] transcript) Written Breaks
     pub book : HasTrusted → Book left how unplayed (onto [] transcript)
     pub survived : SurvivedOn left played (onto [] transcript)

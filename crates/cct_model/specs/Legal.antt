@@ -14,7 +14,7 @@ use Rattle.cct_model.specs.lines.entry.End.{End}
 use Rattle.cct_model.specs.lines.entry.Entry.{Entry}
 use Rattle.cct_model.specs.lines.entry.Entry.TheVariants as entry
 use Rattle.cct_model.specs.Acceptor.{accepts, path_of}
-use Rattle.cct_model.specs.Device.{is_acceptor}
+use Rattle.cct_model.specs.Device.{is_acceptor, is_hopper}
 use Rattle.cct_model.specs.Hopper.{remaining}
 use Rattle.cct_model.specs.Exchange.{ask, asked, device_at}
 use Rattle.cct_model.specs.Line.{Line, exchange, put}
@@ -108,7 +108,7 @@ OfAcceptor found P = OfDevice found (λ d. MatchBool (is_acceptor d.body) (P d) 
 
 -- A fact of the hopper at an address; there has to be one.
 abbrev pub OfHopper : Option DeviceSetup → (DeviceSetup → Type 0) → Type 0
-OfHopper found P = OfDevice found (λ d. MatchBool (is_acceptor d.body) ⊥ (P d))
+OfHopper found P = OfDevice found (λ d. MatchBool (is_hopper d.body) (P d) ⊥)
 
 -- A fact of the device at an address where there is one, else another.
 abbrev pub OfNext : Option DeviceSetup → (DeviceSetup → Type 0) → Type 0 → Type 0

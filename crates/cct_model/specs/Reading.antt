@@ -25,8 +25,8 @@ posted_of new_events pairs = reverse (coins_among (take (min new_events EVENTS) 
 abbrev pub shows_break : ℕ → ℕ → ℕ → ℕ → Bool
 shows_break mask counter seen read = not (seen == mask) || ((read == 0) && not (counter == 0))
 
--- What a reading of an acceptor means, beside the recorded mask and event counter: a break, else nothing where no
--- event came, else a reading that posts the newest coins and tells how many events were overrun.
+-- What a reading of an acceptor means, beside the recorded mask and event counter: a break, else nothing where the
+-- counters tell no event, else a reading that posts the newest coins and tells how many of the events were overrun.
 unfoldable pub judge : ℕ → ℕ → ℕ → Credits → ℕ → Judged
 judge addr mask counter credits seen =
     let new_events = distance counter credits.counter in

@@ -13,7 +13,7 @@ use Rattle.cct_model.specs.declared.judging.EpochState.{EpochState}
 use Rattle.cct_model.specs.declared.judging.EpochState.TheVariants.{Idle, Running}
 use Rattle.cct_model.specs.declared.judging.OpenOrder.{OpenOrder}
 use Rattle.cct_model.specs.Setting.{has_place}
-use Rattle.cct_model.specs.Device.{is_acceptor, value_at}
+use Rattle.cct_model.specs.Device.{is_acceptor, is_hopper, value_at}
 use Rattle.cct_model.specs.Exchange.{device_at}
 use Rattle.cct_model.specs.Line.{Line}
 use Rattle.cct_model.specs.Order.{order}
@@ -39,7 +39,7 @@ at_acceptor found further = at_device found (λ d. if is_acceptor d.body then fu
 
 -- The tests of a command to a hopper, likewise.
 abbrev pub at_hopper : Option DeviceSetup → (DeviceSetup → Option CommandNo) → Option CommandNo
-at_hopper found further = at_device found (λ d. if is_acceptor d.body then Some WrongKind else further d)
+at_hopper found further = at_device found (λ d. if is_hopper d.body then further d else Some WrongKind)
 
 -- The tests of a command to a coin acceptor that no job is at, beside those of its epoch.
 abbrev pub when_free : List Entry → (DeviceSetup → EpochState → Option CommandNo) → DeviceSetup → Option CommandNo

@@ -5,7 +5,7 @@ use crate::Record;
 /// What a reading means beside what was recorded before.
 #[derive(Debug, Drop)]
 pub enum Judged {
-    /// No event came since.
+    /// The event counter is the recorded one.
     Nothing,
     /// Put this record, a `Reading`.
     Reading(Record),

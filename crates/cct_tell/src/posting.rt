@@ -65,7 +65,7 @@ fn write_end<W: fmt::Write>(record: &Record, f: &mut fmt::Formatter<W>) -> fmt::
     }
 }
 
-/// Writes the record of a reading: the coins that are posted, and how many events were overrun.
+/// Writes the record of a reading: the coins that are posted, and how many events it tells as overrun.
 fn write_reading<W: fmt::Write>(
     addr: u8,
     lost: u8,
@@ -75,9 +75,12 @@ fn write_reading<W: fmt::Write>(
     write!(f, "acceptor {addr}: ")?;
     write_posted(posted, f)?;
     match lost {
-        0 => f.write_str("; no event was overrun"),
-        1 => f.write_str("; 1 event was overrun before it could be read"),
-        _ => write!(f, "; {lost} events were overrun before they could be read"),
+        0 => f.write_str("; the event counter tells none overrun"),
+        1 => f.write_str("; the event counter tells 1 more, overrun before it could be read"),
+        _ => write!(
+            f,
+            "; the event counter tells {lost} more, overrun before they could be read"
+        ),
     }
 }
 

@@ -62,7 +62,7 @@ fn write_fault<W: fmt::Write>(fault: &WireFault, f: &mut fmt::Formatter<W>) -> f
 fn write_end<W: fmt::Write>(end: End, f: &mut fmt::Formatter<W>) -> fmt::Result {
     f.write_str(match end {
         End::StartUnsure =>
-            "    the mask was sent and not acknowledged: the epoch runs, and the next round tells\n",
+            "    the mask was sent and not acknowledged: the epoch runs, and a round comes next\n",
         End::Unquiet { .. } => "    pieces fell in behind the reset: no epoch began\n",
         End::Broke =>
             "    the epoch is over, and coins of it may be lost: the cash box is to be counted\n",
@@ -108,7 +108,7 @@ fn write_sums<W: fmt::Write>(entry: &Entry, f: &mut fmt::Formatter<W>) -> fmt::R
             let paid = Count(*paid, "coin");
             write!(
                 f,
-                "    {posted} posted, {lost} overrun, {paid} paid, {unpaid} unpaid, {sold} sold\n"
+                "    {posted} posted, {lost} told as overrun, {paid} paid, {unpaid} unpaid, {sold} sold\n"
             )
         }
         _ => Ok(()),

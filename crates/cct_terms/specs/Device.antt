@@ -60,6 +60,11 @@ abbrev pub is_acceptor : DeviceBody → Bool
 is_acceptor (Acceptor accepts values ids) = true
 is_acceptor (Hopper life value) = false
 
+-- Whether a device is a hopper.
+abbrev pub is_hopper : DeviceBody → Bool
+is_hopper (Acceptor accepts values ids) = false
+is_hopper (Hopper life value) = true
+
 -- The value of a coin place of a device, 0 where it has none.
 abbrev pub value_at : DeviceBody → ℕ → ℕ
 value_at (Acceptor accepts values ids) place = slice_index_or values (place - 1) 0

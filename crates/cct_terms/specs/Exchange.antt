@@ -1,5 +1,5 @@
 -- One exchange on the wire: what the host sends, what a device makes of it, and what the host then hears.
-use Rattle.std.specs.Prelude.{ℕ, ◌==◌, ◌&&◌, nat_le, not, Bool, true, false, List, [], ◌∷◌, if◌then◌else◌, Option, Some, None, option_and_then, unwrap_or}
+use Rattle.std.specs.Prelude.{ℕ, ◌==◌, ◌&&◌, nat_le, Bool, true, false, List, [], ◌∷◌, if◌then◌else◌, Option, Some, None, option_and_then, unwrap_or}
 use Rattle.std.specs.Option.{option_or, option_map}
 use Rattle.cct_terms.specs.declared.wire.TheConstants.{BROADCAST, HOST}
 use Rattle.cct_terms.specs.declared.wire.CheckKind.{CheckKind}
@@ -11,7 +11,7 @@ use Rattle.cct_terms.specs.Message.{Message, message, spelling}
 use Rattle.cct_terms.specs.Request.{header_of, data_of, request_of}
 use Rattle.cct_terms.specs.Reply.{Reply, reply_header, reply_data, reply_in}
 use Rattle.cct_terms.specs.History.{Met}
-use Rattle.cct_terms.specs.Device.{is_acceptor, reply_of}
+use Rattle.cct_terms.specs.Device.{is_acceptor, is_hopper, reply_of}
 
 -- The message by which the host asks a request of an address.
 abbrev pub asking : ℕ → Request → Message
@@ -120,5 +120,5 @@ acceptor_there None = false
 
 -- Whether the device at an address is a hopper.
 abbrev pub hopper_there : Option DeviceSetup → Bool
-hopper_there (Some d) = not (is_acceptor d.body)
+hopper_there (Some d) = is_hopper d.body
 hopper_there None = false

@@ -1,7 +1,7 @@
 //! The devices of a machine, as the setup lines of a script give them.
 ghost use Rattle.std.specs.Prelude.{◌≡◌, ◌<◌, ◌≤◌, ◌==◌, List, [], ◌∷◌, ◌++◌, length, map, if◌then◌else◌};
 ghost use Rattle.std.specs.Option.{option_map};
-ghost use Rattle.cct_terms.specs.Device.{is_acceptor, value_at};
+ghost use Rattle.cct_terms.specs.Device.{is_acceptor, is_hopper, value_at};
 ghost use Rattle.cct_terms.specs.Exchange.{device_at};
 
 use crate::{COIN_PLACES, CheckKind, Name};
@@ -53,6 +53,16 @@ impl DeviceBody {
         match self {
             DeviceBody::Acceptor { .. } => true,
             DeviceBody::Hopper { .. } => false,
+        }
+    }
+
+    /// Whether it is a hopper.
+    pub fn is_hopper(&self) -> bool
+        ensures { result ≡ is_hopper self.now }
+    {
+        match self {
+            DeviceBody::Acceptor { .. } => false,
+            DeviceBody::Hopper { .. } => true,
         }
     }
 

@@ -3,6 +3,7 @@ pub mod Lasting
 pub mod Restarts
 pub mod Suiting
 pub mod Sure
+pub mod Early
 pub mod Steps
 pub mod Suited
 pub mod Surviving

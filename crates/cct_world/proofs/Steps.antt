@@ -12,7 +12,7 @@ use Rattle.cct_model.specs.lines.entry.Entry.{Entry}
 use Rattle.cct_model.specs.lines.entry.Entry.TheVariants as entry
 use Rattle.cct_model.specs.lines.entry.Totals.{Totals}
 use Rattle.cct_model.specs.Acceptor.{accepts}
-use Rattle.cct_model.specs.Device.{is_acceptor}
+use Rattle.cct_model.specs.Device.{is_acceptor, is_hopper}
 use Rattle.cct_model.specs.Exchange.{acceptor_there}
 use Rattle.cct_model.specs.Legal.{EntriesOfNext, OfAcceptor, OfDevice, OfHopper, coin_entry, command_entry}
 use Rattle.cct_model.specs.Money.{totals}
@@ -166,13 +166,13 @@ module _ {D : Type 0} {g : Ghosts D} where
   hopper_at : (kind : Bool) (d : DeviceSetup) (addr : ℕ) (host : Host D g) (bus : Bus) (past report : List Entry)
       (told : Bool → ℕ → Entry) (said : DeviceSetup → Entry) (is : Bool) (result : Bool) → d.addr ≡ addr
       → told is d.addr ≡ said d → IsQuiet past (said d)
-      → MatchBool kind ⊥ ((result ≡ is) × wires.StandsFor bus (said d ∷ past))
+      → MatchBool kind ((result ≡ is) × wires.StandsFor bus (said d ∷ past)) ⊥
       → report ≡ told result addr ∷ [] → hosts.StandsFor host past
-      → MatchBool kind ⊥ (reverse report ≡ said d ∷ []) × Left host bus past report
-  hopper_at true d addr host bus past report told said is result here same quiet goes report_is stands = absurd goes
-  hopper_at false d addr host bus past report told said is result here same quiet goes report_is stands =
+      → MatchBool kind (reverse report ≡ said d ∷ []) ⊥ × Left host bus past report
+  hopper_at true d addr host bus past report told said is result here same quiet goes report_is stands =
       one_goes host bus past (said d) report
       (report_is ∙ ap (λ x. x ∷ []) (ap (λ b. told b addr) goes.0 ∙ ap (told is) (sym here) ∙ same)) quiet stands goes.1
+  hopper_at false d addr host bus past report told said is result here same quiet goes report_is stands = absurd goes
 
   pub hopper_goes : (found : Option DeviceSetup) (addr : ℕ) (host : Host D g) (bus : Bus) (past report : List Entry)
       (told : Bool → ℕ → Entry) (said : DeviceSetup → Entry) (is : DeviceSetup → Bool) (result : Bool)
@@ -182,5 +182,5 @@ module _ {D : Type 0} {g : Ghosts D} where
       → report ≡ told result addr ∷ [] → hosts.StandsFor host past → HopperGoes found said host bus past report
   hopper_goes None addr host bus past report told said is result there same quiet goes report_is stands = absurd goes
   hopper_goes (Some d) addr host bus past report told said is result there same quiet goes report_is stands =
-      hopper_at (is_acceptor d.body) d addr host bus past report told said (is d) result (there d refl) (same d)
+      hopper_at (is_hopper d.body) d addr host bus past report told said (is d) result (there d refl) (same d)
       (quiet d) goes report_is stands

@@ -13,7 +13,7 @@ use Rattle.cct_bench.specs.Report.{IsOrMemory}
 use Rattle.cct_bench.specs.Words.{said_in}
 use Rattle.cct_text.specs.Writing.{Wrote, Broke}
 use Rattle.cct_bench.specs.Run.{Completes, Ran}
-use Rattle.cct_bench.proofs.Closing.{no_memory, some_weaker, told_completes}
+use Rattle.cct_bench.proofs.Closing.{no_memory, bytes_weaker, told_completes}
 use Rattle.cct_bench.proofs.LoadEnds.{load_at_once, load_completes}
 use Rattle.cct_bench.proofs.Words.{load_said, words_most}
 use Rattle.cct_text.proofs.Writing.{wrote_none}
@@ -38,7 +38,7 @@ returns-in-Ok-clause-complete g c is_run =
     let Failed = Rose (disk.faults c.args.disk) (disk.faults last) in
     let Honest = disk.honest c.args.disk ≡ true in
     let ran = c.run.ensures in
-    some_weaker (λ bytes. Ran bytes s (source.left script1) W B ds)
+    bytes_weaker (λ bytes. Ran bytes s (source.left script1) W B ds Read Failed)
     (λ bytes. IfSome (disk.seen c.args.disk) (λ image. disk.size c.args.disk ≡ JOURNAL_BYTES → IsBlank image
     → Honest ⊎ (losses_in (script bytes).steps ≡ 0) → (Read → ⊥) → (Write → ⊥) → (Failed → ⊥)
     → Completes (script bytes).refused s)) (source.left script0)
@@ -52,8 +52,9 @@ returns-in-Err-clause-ran g c is_run =
     let out = c.args.out.now in
     no_memory (g.S.Source.left c.args.script.now) (Wrote sink.written sink.puts out out)
     (Broke sink.written sink.puts out out)
-    (disks disk.size disk.honest disk.seen disk.may_leave disk.cuts disk.cut_to c.args.disk c.args.disk) refl
-    (wrote_none sink.written sink.puts out)
+    (disks disk.size disk.honest disk.seen disk.may_leave disk.cuts disk.cut_to c.args.disk c.args.disk)
+    (Rose (g.S.Source.faults c.args.script.now) (g.S.Source.faults c.args.script.now))
+    (Rose (disk.faults c.args.disk) (disk.faults c.args.disk)) refl (wrote_none sink.written sink.puts out)
 
 pub returns-in-Err-Memory-clause-ran : goal.returns-in-Err-Memory-clause-ran
 returns-in-Err-Memory-clause-ran g c is_run =
@@ -62,8 +63,9 @@ returns-in-Err-Memory-clause-ran g c is_run =
     let out = c.args.out.now in
     no_memory (g.S.Source.left c.args.script.now) (Wrote sink.written sink.puts out out)
     (Broke sink.written sink.puts out out)
-    (disks disk.size disk.honest disk.seen disk.may_leave disk.cuts disk.cut_to c.args.disk c.args.disk) refl
-    (wrote_none sink.written sink.puts out)
+    (disks disk.size disk.honest disk.seen disk.may_leave disk.cuts disk.cut_to c.args.disk c.args.disk)
+    (Rose (g.S.Source.faults c.args.script.now) (g.S.Source.faults c.args.script.now))
+    (Rose (disk.faults c.args.disk) (disk.faults c.args.disk)) refl (wrote_none sink.written sink.puts out)
 
 pub run_load-requires : goal.run_load-requires
 run_load-requires g c =
@@ -81,7 +83,8 @@ returns-in-Ok-Load-clause-loaded g c =
     let B = Broke sink.written sink.puts out c.run_load.new.out in
     let ds = disks disk.size disk.honest disk.seen disk.may_leave disk.cuts disk.cut_to c.args.disk c.run_load.result.1 in
     load_said (said_in c.args.words.now) c.in-Ok-Load.seed c.in-Ok-Load.rounds
-    (λ seed rounds. Loaded seed rounds c.run_load.result.0 W B ds)
+    (λ seed rounds. Loaded seed rounds c.run_load.result.0 W B ds
+    (Rose (disk.faults c.args.disk) (disk.faults c.run_load.result.1)))
     (c.in-Ok-Load.ensures.said ∙ ap Some c.in-Ok-Load.field-0-is) c.run_load.ensures.loaded
 
 pub returns-in-Ok-Load-clause-load_complete : goal.returns-in-Ok-Load-clause-load_complete
@@ -113,4 +116,4 @@ returns-in-Err-Memory-clause-loaded g c seed rounds is =
     let out = c.args.out.now in
     load_at_once seed rounds (Wrote sink.written sink.puts out out) (Broke sink.written sink.puts out out)
     (disks disk.size disk.honest disk.seen disk.may_leave disk.cuts disk.cut_to c.args.disk c.args.disk) refl
-    (wrote_none sink.written sink.puts out)
+    (Rose (disk.faults c.args.disk) (disk.faults c.args.disk)) (wrote_none sink.written sink.puts out)

@@ -1,4 +1,4 @@
-use Rattle.std.proofs.Common.{◌≡◌, ◌+◌, Ok, refl, sym, ap, ◌∙◌, subst, arith}
+use Rattle.std.proofs.Common.{◌≡◌, ◌+◌, Ok, refl, sym, ap, ◌∙◌, subst, inr, arith}
 use Rattle.std.specs.Prelude.{if◌then◌else◌}
 use Rattle.cct_model.specs.Script.{at_steps, at_end, opens, plays}
 use Rattle.cct_disk.specs.Disk.{IsTrusted}
@@ -157,7 +157,8 @@ loop-why-preserved g c =
           (
           going_plays (Sure trusted) left0 left left1 held rest number stage stage setup (WorldHolds given world)
           (WorldHolds given world1) s (Wrote sink.written sink.puts out out1)
-          (λ report. Writes sink.written sink.puts out1 report (Ok tt) out2) W2 (sure_back trusted) refl
+          (λ report. Writes sink.written sink.puts out1 report (Ok tt) out2) W2 (sure_back trusted)
+          (λ past none. inr none) refl
           (λ xs ys before here. writes_then sink.written sink.puts out out1 out2 xs ys (Ok tt) before here)
           (runs.going left0 given on start) reads
           (world_carried given (disk_of world1) world (StandsFor world1) (setup_of world1) (used_of world1) s
