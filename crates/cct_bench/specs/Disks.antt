@@ -4,6 +4,7 @@ use Rattle.cct_model.specs.lines.record.Record.{Record}
 use Rattle.cct_model.specs.lines.entry.Entry.{Entry}
 use Rattle.cct_model.specs.Records.{records}
 use Rattle.cct_disk.specs.Disk.{IsTrusted}
+use Rattle.cct_journal.specs.declared.format.TheConstants.{MOST_RECORDS}
 use Rattle.cct_journal.specs.Image.{IsBlank}
 use Rattle.cct_journal.specs.Losing.{LeavesWith}
 use Rattle.cct_journal.specs.Stands.{Leaves}
@@ -12,7 +13,7 @@ use Rattle.cct_bench.specs.declared.play.TheConstants.{JOURNAL_BYTES}
 
 -- How many records a journal on a disk of that size takes.
 abbrev pub most_records : ℕ
-most_records = 65535
+most_records = MOST_RECORDS
 
 -- A disk of this size, whose reads give these bytes, is one that a journal is created on.
 pub record IsReady (size : ℕ) (seen : Option (List ℕ)) : Type 0 where

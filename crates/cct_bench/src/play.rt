@@ -33,7 +33,7 @@ use crate::opening::{Opened, read_opening};
 use crate::outcome::Status;
 use crate::steps::{is_end, read_step};
 use arrayvec::ArrayVec;
-use cct_disk::Disk;
+use cct_disk::{Disk, MADE_LEN};
 use cct_edge::{Failed, Sink, Source};
 use cct_journal::{CreateNo, Journal};
 use cct_model::{Devices, Entry, LineKind, Setup, Step};
@@ -42,8 +42,8 @@ use cct_text::{TextLine, write_entries, write_entry};
 use cct_world::{World, WorldNo};
 use std::alloc::Global;
 
-/// How many bytes the disk of a journal has.
-pub const JOURNAL_BYTES: u64 = 2_097_152;
+/// How many bytes the disk of a journal has: those of a file that is made for it.
+pub const JOURNAL_BYTES: u64 = MADE_LEN;
 
 /// How the steps of a script came to their end.
 #[derive(Clone, Copy, Debug, PartialEq, Eq)]

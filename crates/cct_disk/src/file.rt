@@ -11,8 +11,8 @@ use std::fs::{File, Files, OpenFile, OpenOptions};
 use std::io::{ErrorKind, Read, Seek, SeekFrom, Write};
 use std::{fs, io};
 
-// How many bytes a file has that is made here, and how many a disk has that has no file.
-const MADE_LEN: u64 = 2_097_152;
+/// How many bytes a file has that is made here, and how many a disk has that has no file.
+pub const MADE_LEN: u64 = 2_097_152;
 
 /// A disk over a file, which tells nothing of its bytes. `docs/JOURNAL.md` says what a real file does and doesn't do.
 ///

@@ -8,7 +8,7 @@ mod memory;
 mod traced;
 
 pub use disk::Disk;
-pub use file::FileDisk;
+pub use file::{FileDisk, MADE_LEN};
 pub use memory::MemDisk;
 
 #[cfg(test)]

@@ -161,7 +161,6 @@ impl<'s, D: Disk> Host<'s, D> {
     /// Why a command is refused that needs room for so many records, if it is: beside the records that are put, and those
     /// that are held for jobs and open orders, the journal has no such room.
     fn full_refusal(&self, need: u32) -> Option<CommandNo>
-        requires { need ≤ 2 }
         ensures fits { result ≡ None → journals.used_of self.now.journal + all_desks.held_of self.now.desks + need
             ≤ capacity_in self.now }
         ensures stands { (past : List Entry) → Keeps self.now past
@@ -169,7 +168,8 @@ impl<'s, D: Disk> Host<'s, D> {
     {
         let used = self.journal.used();
         let held = self.desks.held();
-        if used + held + need <= self.journal.capacity() {
+        let wanted = u64::from(used) + u64::from(held) + u64::from(need);
+        if wanted <= u64::from(self.journal.capacity()) {
             None
         } else {
             Some(CommandNo::JournalFull { used, held, need })

@@ -204,14 +204,13 @@ fn lose<D: Disk, R: Replay>(
 
 /// Which record was kept beside those that were put, by how many there are.
 fn kept_in(found: u32, put: u32, due: Option<Record>) -> Result<Option<Record>, CrashNo>
-    requires few { put ≤ 65535 }
     ensures kept { IfOk result (λ kept. IfSome kept (λ r. due ≡ Some r)) }
     ensures counts { IfOk result (λ kept. found ≡ put + length (put_by kept)) }
     ensures lost { IfErr result (λ why. (why ≡ CrashNo.Lost found put) × IsLost due found put) }
 {
     match due {
         _ if found == put => Ok(None),
-        Some(entry) if found == put + 1 => Ok(Some(entry)),
+        Some(entry) if u64::from(found) == u64::from(put) + 1 => Ok(Some(entry)),
         _ => Err(CrashNo::Lost { found, put }),
     }
 }

@@ -3,6 +3,7 @@ use Rattle.std.specs.Prelude.{◌≡◌, ◌≢◌, ◌⊎◌, ℕ, suc, ◌+◌
 use Rattle.std.specs.Prelude.{◌∷◌, ◌++◌, length, take, drop, map, All, replicate, codes, slice_index}
 use Rattle.cct_lines.specs.declared.record.Record.{Record}
 use Rattle.cct_record.specs.Body.{InRange, IsRefused, body_of}
+use Rattle.cct_journal.specs.declared.format.TheConstants.{MOST_RECORDS}
 
 -- The gate of a slot that counts. Any other gate is shut.
 abbrev pub open_gate : ℕ
@@ -18,7 +19,7 @@ least_size = 64
 
 -- How many records a journal on so many bytes takes.
 abbrev pub capacity_of : ℕ → ℕ
-capacity_of size = min (size / 32 - 1) 65535
+capacity_of size = min (size / 32 - 1) MOST_RECORDS
 
 -- The bodies of the slots that these bytes are, up to the first shut gate, and so many at the most.
 abbrev pub bodies : ℕ → List ℕ → List (List ℕ)

@@ -16,7 +16,7 @@ pub(crate) const HEADER: [u8; 32] = [
 pub(crate) const LEAST: u64 = 64;
 
 /// The most records of a journal.
-pub(crate) const MOST_RECORDS: u64 = 65_535;
+pub const MOST_RECORDS: u64 = 65_535;
 
 /// The bytes that are read at once where all are read.
 pub(crate) const PIECE: usize = 4096;

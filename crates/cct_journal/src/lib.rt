@@ -13,6 +13,7 @@ mod refusal;
 mod replay;
 mod slot;
 
+pub use format::MOST_RECORDS;
 pub use journal::Journal;
 pub use refusal::{CreateNo, JournalNo, OpenNo, ReadNo};
 pub use replay::Replay;

@@ -3,6 +3,7 @@ ghost use Rattle.std.specs.Prelude.{◌≡◌, ◌<◌, List, ◌∷◌, length}
 ghost use Rattle.cct_lines.specs.declared.record.Record.{Record};
 ghost use Rattle.cct_record.specs.Body.{Encodable};
 
+use crate::format::MOST_RECORDS;
 use cct_lines::Record;
 
 /// Whatever goes over the records of a journal as they are found, oldest first, so that each slot is read once.
@@ -12,7 +13,7 @@ pub trait Replay {
 
     /// Goes over the record of an index, behind those before it.
     fn replay(&mut self, index: u32, entry: &Record)
-        requires few { index < 65535 }
+        requires few { index < MOST_RECORDS }
         requires encodable { Encodable entry.now }
         requires behind { (first : Self) × (before : List Record) × (index ≡ length before)
             × replayed first before self.old }

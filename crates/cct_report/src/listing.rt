@@ -14,7 +14,7 @@ ghost use Rattle.cct_report.specs.Listing.{Decides, Finds, Lists, ListsOne, List
 use crate::sums::Sums;
 use cct_disk::Disk;
 use cct_edge::{Failed, Sink};
-use cct_journal::{Journal, OpenNo, ReadNo};
+use cct_journal::{Journal, MOST_RECORDS, OpenNo, ReadNo};
 use cct_lines::Entry;
 use cct_text::{TextLine, write_entry};
 
@@ -124,7 +124,7 @@ fn list_record<K: Sink, D: Disk>(
     sums: &mut Sums,
 ) -> Result<(), ReportEnd>
     requires within { index < journals.used_of journal.old }
-    requires few { index < 65535 }
+    requires few { index < MOST_RECORDS }
     requires small { together sums.old ≤ index * 2 ^ 32 }
     ensures lists { ListsOne (Reads D.seen (journals.disk_of journal.old) (journals.place_of journal.old)) index
         (λ entry. sums.new ≡ with_record entry sums.old)

@@ -13,7 +13,7 @@ ghost use Rattle.cct_terms.specs.Device.{IsAcceptor, IsSound, IsSoundBody, IsWor
 use arrayvec::ArrayVec;
 use cct_acceptor::Acceptor;
 use cct_check::crc16;
-use cct_disk::MemDisk;
+use cct_disk::{MADE_LEN, MemDisk};
 use cct_frame::{read, write};
 use cct_journal::Journal;
 use cct_record::Record;
@@ -47,9 +47,6 @@ enum Work {
     /// The same, and behind the last pass the journal is opened again.
     Reopened,
 }
-
-/// The bytes of a disk with room for 65,535 records.
-const DISK: u64 = 2_097_152;
 
 /// The data bytes of the longest frame. A shorter one has a front of them.
 static DATA: [u8; 255] = [0x55; 255];
@@ -143,7 +140,7 @@ fn reopened(alloc: Global, passes: u32) -> Result<u64, AllocError> {
 
 /// A new journal with so many records on a disk in memory, or none where a call of it fails.
 fn filled(alloc: Global, passes: u32) -> Result<Option<Journal<MemDisk>>, AllocError> {
-    let disk = MemDisk::new(alloc, DISK, Vec::new(alloc))?;
+    let disk = MemDisk::new(alloc, MADE_LEN, Vec::new(alloc))?;
     Ok(filled_on(disk, passes))
 }
 
