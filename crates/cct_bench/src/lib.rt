@@ -74,13 +74,13 @@ pub fn bench<S: Source, K: Sink, D: Disk>(
     // With the word `report`: what was written, by the image of the disk where that is told, by any records that this
     // stands for, and of any disk; that the disk was only read, and no byte of the script was taken.
     ensures reported { said_in words.now ≡ Some Words.Report → (image : List ℕ) → D.seen disk ≡ Some image
-        → Reported (image_known (D.size disk) image) result.0
+        → Reported (image_known (D.size disk) (Rose (D.faults disk) (D.faults result.1)) image) result.0
         (λ lines answer. Writes K.written K.puts out.old lines answer out.new) }
     ensures report_every { said_in words.now ≡ Some Words.Report → (image : List ℕ) (records : List Record)
         → D.seen disk ≡ Some image → StandsFor image records
-        → Reported (records_known (D.size disk) records) result.0
+        → Reported (records_known (D.size disk) (Rose (D.faults disk) (D.faults result.1)) records) result.0
         (λ lines answer. Writes K.written K.puts out.old lines answer out.new) }
-    ensures report_lines { said_in words.now ≡ Some Words.Report → Reported (size_known (D.size disk)) result.0
+    ensures report_lines { said_in words.now ≡ Some Words.Report → Reported (size_known (D.size disk) (Rose (D.faults disk) (D.faults result.1))) result.0
         (λ lines answer. Writes K.written K.puts out.old lines answer out.new) }
     ensures report_disk { said_in words.now ≡ Some Words.Report →
         OnlyReads D.size D.honest D.seen D.may_leave D.moment D.left_since D.cuts disk result.1 }
