@@ -9,7 +9,7 @@ use Rattle.cct_model.specs.lines.entry.Entry.{Entry}
 use Rattle.cct_model.specs.Legal.{Entries, Legal}
 use Rattle.cct_model.specs.Transcript.{onto}
 use Rattle.cct_laws.proofs.Onto.{legal_more, transcript_on}
-use Rattle.cct_world.specs.Early.{BeforeLoss, LegalBeforeLoss}
+use Rattle.cct_world.specs.Early.{LegalBeforeLoss}
 use Rattle.cct_world.specs.Step.{crashes, crashes_of}
 use Rattle.cct_world.specs.Sure.{First, IsCrash, losses_in}
 use Rattle.cct_world.proofs.Sure.{crashes-append}
