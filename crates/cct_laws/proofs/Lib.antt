@@ -1,5 +1,6 @@
 pub mod AcceptorReplies
 pub mod Acceptors
+pub mod Alike
 pub mod Answering
 pub mod Asked
 pub mod AtWork
@@ -53,6 +54,7 @@ pub mod Recalling
 pub mod Recorded
 pub mod Replies
 pub mod Restarts
+pub mod Rising
 pub mod Room
 pub mod Rounds
 pub mod Rows

@@ -19,24 +19,15 @@ use Rattle.cct_model.specs.Honest.{Honest}
 use Rattle.cct_model.specs.Paid.{Paid, OfOrder, dispenses, AreFresh}
 use Rattle.cct_model.specs.Records.{records}
 use Rattle.cct_model.specs.Transcript.{met, onto}
-use Rattle.cct_laws.specs.Ids.{Ids}
 use Rattle.cct_laws.specs.Law.{IsOf, lines_in}
-use Rattle.cct_laws.proofs.Ids.{ids_start}
 use Rattle.cct_laws.proofs.Paying.{pays_kept, pays_paid, rests_unowed, dispense_fresh}
 use Rattle.cct_laws.proofs.Payouts.{Pays}
-use Rattle.cct_laws.proofs.Seen.{along, along_from, any_steps}
+use Rattle.cct_laws.proofs.Seen.{along, any_steps}
 use Rattle.cct_laws.proofs.Growing.{step_grows}
 use Rattle.cct_laws.proofs.Used.{grows_fresh}
 use Rattle.cct_laws.proofs.Whole.{kept_hopper_legal}
 
--- ids, whatever the wire does
-pub legal_ids : (capacity : ℕ) (setup : Setup) (steps : List Step) (transcript : List Entry) →
-    IsSoundSetup setup → Legal capacity setup steps transcript → Ids setup (onto [] transcript)
-legal_ids capacity setup steps transcript sound legal =
-    (along_from capacity setup (λ s. ⊤) (λ past. ⊤) sound (λ past news s any ids told before. tt) [] steps
-    (onto [] transcript) (any_steps steps) (ids_start setup) legal tt).0
-
--- so no id is used twice
+-- no id is used twice, whatever the wire does
 pub legal_fresh : (capacity : ℕ) (setup : Setup) (steps : List Step) (transcript : List Entry) →
     IsSoundSetup setup → Legal capacity setup steps transcript → AreFresh (records (onto [] transcript))
 legal_fresh capacity setup steps transcript sound legal =

@@ -1,22 +1,18 @@
 -- What a loss of power leaves behind a past: no job runs, and the records are those before it, or these and the one that
 -- was due; so a host starts over them.
-use Rattle.std.proofs.Common.{◌≡◌, ◌⊎◌, inl, inr, ℕ, ◌<◌, true, List, [], ◌++◌, refl, sym, subst, Option, Some, None, All}
+use Rattle.std.proofs.Common.{◌≡◌, ◌⊎◌, inl, inr, ℕ, ◌<◌, true, List, ◌++◌, refl, sym, subst, Option, Some, None}
 use Rattle.std.specs.Option.{IfSome}
-use Rattle.std.proofs.lemmas.Bool.{and_from}
 use Rattle.cct_model.specs.terms.device.Setup.{Setup}
 use Rattle.cct_model.specs.lines.record.Record.{Record}
 use Rattle.cct_model.specs.lines.command.CrashAt.{CrashAt}
-use Rattle.cct_model.specs.lines.command.Step.{Step}
 use Rattle.cct_model.specs.lines.entry.Entry.{Entry}
-use Rattle.cct_model.specs.Following.{follows, all_follow}
-use Rattle.cct_model.specs.Legal.{bare_crash, keeping_crash, CrashEntries, EntriesOfCrash, LegalFrom, due_at}
+use Rattle.cct_model.specs.Following.{follows}
+use Rattle.cct_model.specs.Legal.{bare_crash, keeping_crash, CrashEntries, EntriesOfCrash, due_at}
 use Rattle.cct_model.specs.Records.{records}
-use Rattle.cct_model.specs.Script.{IsInRange}
-use Rattle.cct_model.specs.Setup.{IsSoundSetup}
 use Rattle.cct_laws.specs.Ids.{Ids}
 use Rattle.cct_laws.specs.Recorded.{HasNoJob}
 use Rattle.cct_laws.specs.Restart.{due_in, calls_in, CrashSuits}
-use Rattle.cct_laws.proofs.Books.{Books, books_legal}
+use Rattle.cct_laws.proofs.Books.{Books}
 use Rattle.cct_laws.proofs.Journal.{kept_due_follows}
 use Rattle.cct_laws.proofs.Recorded.{restart_frees}
 
@@ -68,18 +64,6 @@ pub crash_frees : (setup : Setup) (past : List Entry) (at : Option CrashAt) (new
     EntriesOfCrash setup past at news → HasNoJob (news ++ past)
 crash_frees setup past at news told = frees_left setup past at news (crash_leaves setup past at news told)
 
--- each record follows those before it, as before
-follow_left : (setup : Setup) (past : List Entry) (at : Option CrashAt) (news : List Entry) →
-    CrashSuits setup past at → CrashLeaves setup past at news → all_follow setup (records (news ++ past)) ≡ true
-follow_left setup past at _ suits left_bare = suits.follow
-follow_left setup past at _ suits (left_kept r is) =
-    and_from _ _ (subst (λ due. IfSome due (λ x. follows setup (records past) x ≡ true)) is suits.due) suits.follow
-
-pub crash_follow : (setup : Setup) (past : List Entry) (at : Option CrashAt) (news : List Entry) →
-    CrashSuits setup past at → EntriesOfCrash setup past at news → all_follow setup (records (news ++ past)) ≡ true
-crash_follow setup past at news suits told =
-    follow_left setup past at news suits (crash_leaves setup past at news told)
-
 -- a past suits a loss of power where ids are in order and the books are kept
 pub kept_crash_suits : (limit : ℕ) (setup : Setup) (past : List Entry) (at : Option CrashAt) → Ids setup past →
     Books limit setup past → CrashSuits setup past at
@@ -94,11 +78,3 @@ kept_crash_suits limit setup past at ids books = record { follow = books.counts.
     due_suits None = tt
     due_suits (Some at) =
         each_suits (due_at setup past at.addr) (λ r. kept_due_follows limit setup past at.addr r ids books)
-
--- so every legal past does, whatever the wire does
-pub legal_crash_suits : (capacity : ℕ) (setup : Setup) (steps : List Step) (past : List Entry)
-    (at : Option CrashAt) → IsSoundSetup setup → All IsInRange steps → LegalFrom capacity setup [] steps past →
-    CrashSuits setup past at
-legal_crash_suits capacity setup steps past at sound in_range legal =
-    let kept = books_legal capacity setup steps past sound in_range legal in
-    kept_crash_suits capacity setup past at kept.0 kept.1

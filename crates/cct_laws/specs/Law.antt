@@ -1,5 +1,5 @@
 -- What the laws speak of beside the definitions of the machine and of an honest wire.
-use Rattle.std.specs.Prelude.{◌≡◌, ◌<◌, true, List, [], ◌∷◌, Some, None, ⊤}
+use Rattle.std.specs.Prelude.{◌≡◌, ◌<◌, true, List, [], ◌∷◌, ◌++◌, Some, None, ⊤}
 use Rattle.std.specs.List.{All}
 use Rattle.cct_model.specs.terms.device.DeviceSetup.{DeviceSetup}
 use Rattle.cct_model.specs.terms.device.Setup.{Setup}
@@ -61,3 +61,17 @@ pub record AreOfToday (steps : List Step) : Type 0 where
   pub in_range : All IsInRange steps
   pub bytes : All HasBytes steps
   pub played : All (λ s. is_played s ≡ true) steps
+
+-- Devices stand in strictly rising order of address: each has a lower one than all behind it.
+abbrev pub AreRising : List DeviceSetup → Type 0
+AreRising [] = ⊤
+AreRising (d ∷ devices) = All (λ e. d.addr < e.addr) devices × AreRising devices
+
+-- A step is no loss of power that names a put, so a disk has no choice in it.
+abbrev pub NamesNoPut : Step → Type 0
+NamesNoPut (step.Crash (Some at) choice) = ⊥
+NamesNoPut s = ⊤
+
+-- A transcript, oldest entry first, begins another.
+abbrev pub Begins : List Entry → List Entry → Type 0
+Begins shorter longer = (rest : List Entry) × (longer ≡ shorter ++ rest)

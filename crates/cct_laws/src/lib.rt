@@ -21,6 +21,7 @@
 
 ghost use Rattle.std.specs.Prelude.{ℕ, ◌≡◌, ◌<◌, ◌≤◌, ◌⊎◌, false, List, [], ◌++◌, None, true, Option, Some, ◌≢◌, ◌+◌, ◌-◌, length};
 ghost use Rattle.std.specs.List.{All};
+ghost use Rattle.std.specs.List.Sorted.{IsPermutation};
 ghost use Rattle.cct_model.specs.terms.coin.Coin.{Coin};
 ghost use Rattle.cct_model.specs.terms.device.DeviceSetup.{DeviceSetup};
 ghost use Rattle.cct_model.specs.terms.device.Setup.{Setup};
@@ -39,7 +40,7 @@ ghost use Rattle.cct_model.specs.terms.wire.TheConstants.{BROADCAST};
 ghost use Rattle.cct_model.specs.Acceptor.{accepts, events, credits_of};
 ghost use Rattle.cct_model.specs.Claims.{AllPast, InOrder, Covers, Pace};
 ghost use Rattle.cct_model.specs.Device.{IsAcceptor, IsHopper};
-ghost use Rattle.cct_model.specs.Exchange.{ask};
+ghost use Rattle.cct_model.specs.Exchange.{ask, by_address};
 ghost use Rattle.cct_model.specs.Job.{works, job, epoch, row, row_at, sends, puts, Payment};
 ghost use Rattle.cct_model.specs.Legal.{EntriesOfCrash, Legal, LegalFrom, due_at};
 ghost use Rattle.cct_model.specs.Line.{Line};
@@ -68,7 +69,7 @@ ghost use Rattle.cct_laws.specs.Recorded.{HasNoJob, IsRestart, open_orders, tota
 ghost use Rattle.cct_laws.specs.Ending.{nexts_at, EndsRound, IsUndisturbed, nexts_needed, is_payment, EndsAs, IsPaidOut};
 ghost use Rattle.cct_laws.specs.Faults.{FailsByFault, EchoFailsByFault, EndsByFaults, is_dispense, FailsByFaultBut};
 ghost use Rattle.cct_model.specs.Honest.{Honest, IsHonestFault};
-ghost use Rattle.cct_laws.specs.Law.{IsOf, EachEntry, HasBytes, IsAnswered, IsUnanswered, AreOfToday, lines_in};
+ghost use Rattle.cct_laws.specs.Law.{AreOfToday, AreRising, Begins, EachEntry, HasBytes, IsAnswered, IsOf, IsUnanswered, NamesNoPut, lines_in};
 ghost use Rattle.cct_laws.specs.Since.{since_epoch_in, mask_set_in, IsMaskedBy, MayBreak, HaveCauses};
 ghost use Rattle.cct_laws.specs.Tries.{TriesAt, ScanTriesAt, HasFewTries, failed_in};
 
@@ -242,6 +243,28 @@ pub fn played_scripts_keep_the_laws()
     ensures fresh { (capacity : ℕ) (bytes : List ℕ) (played rest : List Step) (transcript : List Entry)
         → (script bytes).steps ≡ played ++ rest → Legal capacity (script bytes).setup played transcript
         → AreFresh (records (onto [] transcript)) }
+{}
+
+/// By address, in which order a bus has its devices answer, the devices of a setup are the same devices, each as often as
+/// in the setup; and where the setup is sound, their addresses strictly rise.
+pub fn by_address_devices_are_the_same_rising()
+    ensures same { (devices : List DeviceSetup) → IsPermutation devices (by_address devices) }
+    ensures rising { (setup : Setup) → IsSoundSetup setup → AreRising (by_address setup.devices) }
+{}
+
+/// Steps tell their legal transcript, as long as none of them is a loss of power that names a put: where one list of
+/// steps continues another, the legal transcript of the shorter begins that of the longer; and of the transcripts of two
+/// fronts of one list one begins the other. Both are over the same setup and a journal of the same capacity. It says
+/// nothing of a loss of power that names a put: there the disk may keep the record or not.
+pub fn steps_tell_their_transcript()
+    ensures longer { (capacity : ℕ) (setup : Setup) (played rest : List Step) (shorter longer : List Entry)
+        → All NamesNoPut played → Legal capacity setup played shorter → Legal capacity setup (played ++ rest) longer
+        → Begins shorter longer }
+    ensures fronts { (capacity : ℕ) (setup : Setup) (steps played unplayed others more : List Step)
+        (first second : List Entry)
+        → All NamesNoPut steps → steps ≡ played ++ unplayed → steps ≡ others ++ more
+        → Legal capacity setup played first → Legal capacity setup others second
+        → Begins first second ⊎ Begins second first }
 {}
 
 /// A text tells its legal transcript: two legal transcripts of one setup with the same text are the same. The setup is
