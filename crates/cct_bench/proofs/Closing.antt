@@ -391,6 +391,17 @@ completes_memory : (refused : Option Refusal) → Completes refused status.OutOf
 completes_memory None = inr refl
 completes_memory (Some line) = inr refl
 
+-- with no memory a run is complete, whatever is asked of it
+pub memory_completes : (left seen : Option (List ℕ)) (First Second Third : List ℕ → List ℕ → Type 0)
+    (read write failed : Type 0) → OfBytes left (λ bytes. IfSome seen (λ image. First bytes image → Second bytes image
+    → Third bytes image → read → write → failed → Completes (script bytes).refused status.OutOfMemory))
+memory_completes left None First Second Third read write failed = (to_come left, all_told left, tt)
+memory_completes left (Some image) First Second Third read write failed = (
+  to_come left,
+  all_told left,
+  λ first second third r w d. completes_memory (script (to_come left)).refused,
+)
+
 -- a blank disk has no byte that isn't 0
 pub blank_first : (image : List ℕ) (at : ℕ) → IsBlank image → IsFirstByteFrom 0 image at → ⊥
 blank_first image at blank first = first.not_zero (blank at first.behind first.is_there)

@@ -1,7 +1,6 @@
 -- What a disk keeps over a run, and what is left on it where the steps come to their end.
 use Rattle.std.proofs.Common.{◌≡◌, ◌≢◌, ◌⊎◌, ◌++◌, ℕ, Bool, List, [], ◌∷◌, reverse, Option, None, refl, sym, ap, ◌∙◌}
 use Rattle.std.proofs.Common.{arith, inl, inr, subst, subst₂, Result, Err}
-use Rattle.std.specs.Prelude.{is_some}
 use Rattle.std.proofs.Math.Nat.{le_trans}
 use Rattle.cct_model.specs.terms.device.Setup.{Setup}
 use Rattle.cct_model.specs.lines.command.Step.{Step}
@@ -15,12 +14,12 @@ use Rattle.cct_disk.specs.declared.disk.Disk.{Ghosts}
 use Rattle.cct_disk.specs.Disk.{IsTrusted}
 use Rattle.cct_edge.specs.declared.fault.Failed.{Failed}
 use Rattle.cct_journal.specs.Creating.{RefusesCreate}
-use Rattle.cct_journal.specs.Image as images
 use Rattle.cct_journal.specs.Image.{capacity_of}
 use Rattle.cct_journal.specs.declared.refusal.CreateNo.{CreateNo}
 use Rattle.cct_journal.specs.declared.refusal.CreateNo.TheVariants as create_no
 use Rattle.cct_journal.specs.Stands.{GoesOn, Outlasts}
 use Rattle.cct_journal.specs.declared.place.Place.{Place}
+use Rattle.cct_journal.proofs.Calls.{settled_leaves, stands_settled}
 use Rattle.cct_host.specs.Book.{HasBook, LeavesBook}
 use Rattle.cct_world.specs.declared.refusal.WorldNo.{WorldNo}
 use Rattle.cct_world.specs.declared.refusal.WorldNo.TheVariants as world_no
@@ -54,11 +53,7 @@ use Rattle.cct_bench.proofs.Staying.{IsDone}
 pub stands_leaves : {D : Type 0} (setup : Setup) (honest : D → Bool) (seen : D → Option (List ℕ))
     (may_leave : D → List ℕ → Type 0) (disk : D) (place : Place) (rs : List Record)
     → HasBook setup honest seen may_leave disk place rs → LeavesBook setup honest seen may_leave disk None rs
-stands_leaves setup honest seen may_leave disk place rs stands = record {
-  keeps_synced = stands.held.keeps_synced;
-  tells = ap is_some stands.held.tells;
-  each = λ c may. subst (λ image. images.Keeps image rs) (sym (stands.held.only c may)) stands.keeps;
-}
+stands_leaves setup honest seen may_leave disk place rs stands = settled_leaves (stands_settled stands)
 
 -- the script or its source brought the end, and the disk has the records of the past
 module _ {D : Type 0} (size : D → ℕ) (honest : D → Bool) (seen : D → Option (List ℕ))

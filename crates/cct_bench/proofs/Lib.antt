@@ -6,5 +6,5 @@ pub mod Keeping
 pub mod Going
 pub mod Closing
 pub mod LoadEnds
-pub mod Words
+pub mod CommandLine
 pub mod ReportEnds

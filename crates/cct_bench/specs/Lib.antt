@@ -9,5 +9,5 @@ pub mod Going
 pub mod Playing
 pub mod Run
 pub mod Load
-pub mod Words
+pub mod CommandLine
 pub mod Report

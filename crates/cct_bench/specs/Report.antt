@@ -14,50 +14,54 @@ use Rattle.cct_bench.specs.declared.outcome.Status.TheVariants as status
 use Rattle.cct_bench.specs.declared.play.TheConstants.{JOURNAL_BYTES}
 
 -- What is known of a disk that a report reads: how many bytes it has; for which records it stands; whether it has no
--- journal; and whether, with these records listed, that of an index can't be read.
+-- journal; whether, with these records listed, that of an index can't be read; and whether a call of it failed.
 pub record Known : Type 1 where
   pub size : ℕ
   pub stands : List Record → Type 0
   pub alien : Type 0
   pub bad : List Record → ℕ → Type 0
+  pub failed : Type 0
 
 -- A disk of this size whose reads give this image. A record that can't be read is met before any is listed.
-abbrev pub image_known : ℕ → List ℕ → Known
-image_known size image = record {
+abbrev pub image_known : ℕ → Type 0 → List ℕ → Known
+image_known size failed image = record {
   size = size;
   stands = FindsIn image;
   alien = IsAlien image;
   bad = λ first index. (first ≡ []) × IsBadAt image index;
+  failed = failed;
 }
 
 -- A disk of this size whose reads give an image that stands for these records.
-abbrev pub records_known : ℕ → List Record → Known
-records_known size records = record {
+abbrev pub records_known : ℕ → Type 0 → List Record → Known
+records_known size failed records = record {
   size = size;
   stands = λ found. found ≡ records;
   alien = ⊥;
   bad = λ first index. ⊥;
+  failed = failed;
 }
 
 -- A disk of which its size alone is known.
-abbrev pub size_known : ℕ → Known
-size_known size = record {
+abbrev pub size_known : ℕ → Type 0 → Known
+size_known size failed = record {
   size = size;
   stands = λ found. Unit {0};
   alien = Unit {0};
   bad = λ first index. Unit {0};
+  failed = failed;
 }
 
 -- of a report over a disk
 module _ (disk : Known) where
   -- All lines of a report, by its status: the listing of the records; or a last line alone, where the size is another,
-  -- where there is no journal, and where a record can't be read; or, where the disk failed, the lines of the first
-  -- records and a last line. Any other status is none of a report.
+  -- where there is no journal, and where a record can't be read; or, where a call of the disk failed, the lines of the
+  -- first records and a last line. Any other status is none of a report.
   abbrev pub ReportIs : Status → List Entry → Type 0
   ReportIs status.Done lines =
       (records : List Record) × (disk.size ≡ JOURNAL_BYTES) × disk.stands records × (lines ≡ listed 0 no_sums records)
   ReportIs status.DiskFault lines =
-      (disk.size ≡ JOURNAL_BYTES)
+      (disk.size ≡ JOURNAL_BYTES) × disk.failed
       × ((lines ≡ entry.DiskFault ∷ [])
       ⊎ ((first : List Record) × (behind : List Record) × disk.stands (first ++ behind)
       × (lines ≡ listing_from 0 first ++ entry.DiskFault ∷ [])))

@@ -22,14 +22,13 @@ ghost use Rattle.cct_gen.specs.Load.{load_steps};
 ghost use Rattle.cct_bench.specs.Load.{Loaded};
 ghost use Rattle.cct_bench.specs.Report.{IsDecided, IsOrMemory, Reported, image_known, records_known, size_known};
 ghost use Rattle.cct_bench.specs.Run.{Ran, status_by, Completes};
-ghost use Rattle.cct_bench.specs.Words.{AreRefused, said_in};
+ghost use Rattle.cct_bench.specs.CommandLine.{AreRefused, said_in};
 
 use cct_disk::Disk;
 use cct_edge::{Sink, Source};
 use cct_load::Load;
 use cct_model::Entry;
 use cct_text::TextLine;
-use cct_words::{Words, WordsNo, read_words};
 use loading::run_load;
 use play::{Bench, close};
 use reporting::report;
@@ -43,6 +42,7 @@ mod play;
 mod reporting;
 mod steps;
 
+pub use cct_words::{Words, WordsNo, read_words};
 pub use outcome::Status;
 
 /// Runs the program: by the words of the command line, without its name, plays a script and writes the transcript
@@ -75,13 +75,13 @@ pub fn bench<S: Source, K: Sink, D: Disk>(
     // With the word `report`: what was written, by the image of the disk where that is told, by any records that this
     // stands for, and of any disk; that the disk was only read, and no byte of the script was taken.
     ensures reported { said_in words.now ≡ Some Words.Report → (image : List ℕ) → D.seen disk ≡ Some image
-        → Reported (image_known (D.size disk) image) result.0
+        → Reported (image_known (D.size disk) (Rose (D.faults disk) (D.faults result.1)) image) result.0
         (λ lines answer. Writes K.written K.puts out.old lines answer out.new) }
     ensures report_every { said_in words.now ≡ Some Words.Report → (image : List ℕ) (records : List Record)
         → D.seen disk ≡ Some image → FindsIn image records
-        → Reported (records_known (D.size disk) records) result.0
+        → Reported (records_known (D.size disk) (Rose (D.faults disk) (D.faults result.1)) records) result.0
         (λ lines answer. Writes K.written K.puts out.old lines answer out.new) }
-    ensures report_lines { said_in words.now ≡ Some Words.Report → Reported (size_known (D.size disk)) result.0
+    ensures report_lines { said_in words.now ≡ Some Words.Report → Reported (size_known (D.size disk) (Rose (D.faults disk) (D.faults result.1))) result.0
         (λ lines answer. Writes K.written K.puts out.old lines answer out.new) }
     ensures report_disk { said_in words.now ≡ Some Words.Report →
         OnlyReads D.size D.honest D.seen D.may_leave D.moment D.left_since D.cuts disk result.1 }

@@ -4,6 +4,8 @@ ghost use Rattle.cct_edge.specs.Bytes.{TellsAsBefore};
 ghost use Rattle.cct_edge.specs.Faults.{Rose};
 ghost use Rattle.cct_disk.specs.Disk.{IsTrusted};
 ghost use Rattle.cct_journal.specs.Journal as journals;
+ghost use Rattle.cct_model.specs.terms.device.Setup.{Setup};
+ghost use Rattle.cct_host.specs.Book.{HasBook};
 ghost use Rattle.cct_journal.specs.Stands.{GoesOn, Outlasts};
 ghost use Rattle.cct_text.specs.Writing.{Broke, Wrote};
 ghost use Rattle.cct_bench.specs.Disks.{IsReady, disks};

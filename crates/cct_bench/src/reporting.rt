@@ -22,14 +22,14 @@ use cct_text::TextLine;
 /// Lists the journal on a disk, which it gives back, and writes the last line where the status has one.
 pub fn report<K: Sink, D: Disk>(out: &mut K, line: &mut TextLine, disk: D) -> (Status, D)
     // what was written, by what the image of the disk is, and by the records that it stands for
-    ensures reported { (image : List ℕ) → D.seen disk ≡ Some image → Reported (image_known (D.size disk) image) result.0
+    ensures reported { (image : List ℕ) → D.seen disk ≡ Some image → Reported (image_known (D.size disk) (Rose (D.faults disk) (D.faults result.1)) image) result.0
         (λ lines answer. Writes K.written K.puts out.old lines answer out.new) }
     ensures every { (image : List ℕ) (records : List Record) → D.seen disk ≡ Some image → FindsIn image records
-        → Reported (records_known (D.size disk) records) result.0
+        → Reported (records_known (D.size disk) (Rose (D.faults disk) (D.faults result.1)) records) result.0
         (λ lines answer. Writes K.written K.puts out.old lines answer out.new) }
 
     // what was written, whether or not the disk tells its bytes
-    ensures lines { Reported (size_known (D.size disk)) result.0
+    ensures lines { Reported (size_known (D.size disk) (Rose (D.faults disk) (D.faults result.1))) result.0
         (λ lines answer. Writes K.written K.puts out.old lines answer out.new) }
 
     // causes

@@ -10,12 +10,12 @@ use Rattle.cct_bench.specs.declared.outcome.Status.TheVariants as status
 use Rattle.cct_bench.specs.Disks.{disks}
 use Rattle.cct_bench.specs.Load.{Loaded}
 use Rattle.cct_bench.specs.Report.{IsOrMemory}
-use Rattle.cct_bench.specs.Words.{said_in}
+use Rattle.cct_bench.specs.CommandLine.{said_in}
 use Rattle.cct_text.specs.Writing.{Wrote, Broke}
 use Rattle.cct_bench.specs.Run.{Completes, Ran}
-use Rattle.cct_bench.proofs.Closing.{no_memory, bytes_weaker, told_completes}
+use Rattle.cct_bench.proofs.Closing.{memory_completes, no_memory, bytes_weaker, told_completes}
 use Rattle.cct_bench.proofs.LoadEnds.{load_at_once, load_completes}
-use Rattle.cct_bench.proofs.Words.{load_said, words_most}
+use Rattle.cct_bench.proofs.CommandLine.{load_said, words_most}
 use Rattle.cct_text.proofs.Writing.{wrote_none}
 use Rattle.cct_bench.proofs.bench.Goals as goal
 
@@ -45,6 +45,16 @@ returns-in-Ok-clause-complete g c is_run =
     (λ bytes. told_completes bytes s (source.left script1) W B ds Read Write Failed Honest (disk.seen c.args.disk) refl
     (λ honest tells. (honest, tells)) ran.read_cause ran.write_cause ran.disk_cause) ran.ran
 
+pub returns-in-Err-clause-complete : goal.returns-in-Err-clause-complete
+returns-in-Err-clause-complete g c is_run =
+    let disk = g.D.Disk in
+    memory_completes (g.S.Source.left c.args.script.now) (disk.seen c.args.disk)
+    (λ bytes image. disk.size c.args.disk ≡ JOURNAL_BYTES) (λ bytes image. IsBlank image)
+    (λ bytes image. (disk.honest c.args.disk ≡ true) ⊎ (losses_in (script bytes).steps ≡ 0))
+    (Rose (g.S.Source.faults c.args.script.now) (g.S.Source.faults c.args.script.now) → ⊥)
+    (Rose (g.K.Sink.faults c.args.out.now) (g.K.Sink.faults c.args.out.now) → ⊥)
+    (Rose (disk.faults c.args.disk) (disk.faults c.args.disk) → ⊥)
+
 pub returns-in-Err-clause-ran : goal.returns-in-Err-clause-ran
 returns-in-Err-clause-ran g c is_run =
     let sink = g.K.Sink in
@@ -55,6 +65,16 @@ returns-in-Err-clause-ran g c is_run =
     (disks disk.size disk.honest disk.seen disk.may_leave disk.cuts disk.cut_to c.args.disk c.args.disk)
     (Rose (g.S.Source.faults c.args.script.now) (g.S.Source.faults c.args.script.now))
     (Rose (disk.faults c.args.disk) (disk.faults c.args.disk)) refl (wrote_none sink.written sink.puts out)
+
+pub returns-in-Err-Memory-clause-complete : goal.returns-in-Err-Memory-clause-complete
+returns-in-Err-Memory-clause-complete g c is_run =
+    let disk = g.D.Disk in
+    memory_completes (g.S.Source.left c.args.script.now) (disk.seen c.args.disk)
+    (λ bytes image. disk.size c.args.disk ≡ JOURNAL_BYTES) (λ bytes image. IsBlank image)
+    (λ bytes image. (disk.honest c.args.disk ≡ true) ⊎ (losses_in (script bytes).steps ≡ 0))
+    (Rose (g.S.Source.faults c.args.script.now) (g.S.Source.faults c.args.script.now) → ⊥)
+    (Rose (g.K.Sink.faults c.args.out.now) (g.K.Sink.faults c.args.out.now) → ⊥)
+    (Rose (disk.faults c.args.disk) (disk.faults c.args.disk) → ⊥)
 
 pub returns-in-Err-Memory-clause-ran : goal.returns-in-Err-Memory-clause-ran
 returns-in-Err-Memory-clause-ran g c is_run =

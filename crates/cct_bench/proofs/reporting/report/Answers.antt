@@ -11,7 +11,9 @@ pub returns-then-len-ne-JOURNAL_BYTES-clause-reported : goal.returns-then-len-ne
 returns-then-len-ne-JOURNAL_BYTES-clause-reported g c image told =
     let sink = g.K.Sink in
     let closed = c.close-status.ensures.writes in
-    other_reported (image_known (g.D.Disk.size c.args.disk) image) c.len-len.result c.close-status.result closed.0
+    other_reported
+    (image_known (g.D.Disk.size c.args.disk) (Rose (g.D.Disk.faults c.args.disk) (g.D.Disk.faults c.args.disk)) image)
+    c.len-len.result c.close-status.result closed.0
     (λ lines r. Writes sink.written sink.puts c.args.out.now lines r c.close-status.new.out) c.len-len.ensures
     (λ is. c.if-len-ne-JOURNAL_BYTES.true (c.len-len.ensures ∙ is)) closed.1 closed.2
 
@@ -19,7 +21,9 @@ pub returns-then-len-ne-JOURNAL_BYTES-clause-every : goal.returns-then-len-ne-JO
 returns-then-len-ne-JOURNAL_BYTES-clause-every g c image records told stands =
     let sink = g.K.Sink in
     let closed = c.close-status.ensures.writes in
-    other_reported (records_known (g.D.Disk.size c.args.disk) records) c.len-len.result c.close-status.result closed.0
+    other_reported
+    (records_known (g.D.Disk.size c.args.disk) (Rose (g.D.Disk.faults c.args.disk) (g.D.Disk.faults c.args.disk))
+    records) c.len-len.result c.close-status.result closed.0
     (λ lines r. Writes sink.written sink.puts c.args.out.now lines r c.close-status.new.out) c.len-len.ensures
     (λ is. c.if-len-ne-JOURNAL_BYTES.true (c.len-len.ensures ∙ is)) closed.1 closed.2
 
@@ -27,7 +31,8 @@ pub returns-then-len-ne-JOURNAL_BYTES-clause-lines : goal.returns-then-len-ne-JO
 returns-then-len-ne-JOURNAL_BYTES-clause-lines g c =
     let sink = g.K.Sink in
     let closed = c.close-status.ensures.writes in
-    other_reported (size_known (g.D.Disk.size c.args.disk)) c.len-len.result c.close-status.result closed.0
+    other_reported
+    (size_known (g.D.Disk.size c.args.disk) (Rose (g.D.Disk.faults c.args.disk) (g.D.Disk.faults c.args.disk))) c.len-len.result c.close-status.result closed.0
     (λ lines r. Writes sink.written sink.puts c.args.out.now lines r c.close-status.new.out) c.len-len.ensures
     (λ is. c.if-len-ne-JOURNAL_BYTES.true (c.len-len.ensures ∙ is)) closed.1 closed.2
 
@@ -35,41 +40,46 @@ pub returns-clause-reported : goal.returns-clause-reported
 returns-clause-reported g c image told =
     let sink = g.K.Sink in
     let size = g.D.Disk.size c.args.disk in
+    let failed = Rose (g.D.Disk.faults c.args.disk) (g.D.Disk.faults c.list_journal-how.result.1) in
     let out = c.args.out.now in
     let listed = c.list_journal-how.new.out in
     let how = c.list_journal-how.result.0 in
     let list = c.list_journal-how.ensures in
     let closed = c.finish_report.ensures.writes in
-    reported_behind sink.written sink.puts (image_known size image) out listed c.finish_report.new.out how
+    reported_behind sink.written sink.puts (image_known size failed image) out listed c.finish_report.new.out how
     c.finish_report.result closed.0 (sym c.len-len.ensures ∙ c.if-len-ne-JOURNAL_BYTES.false)
-    (image_lists size image how (listed ≡ out) (λ lines r. Writes sink.written sink.puts out lines r listed)
+    (image_lists size failed image how (listed ≡ out) (λ lines r. Writes sink.written sink.puts out lines r listed)
     (λ same. subst (λ k. Wrote sink.written sink.puts out k []) (sym same) (wrote_none sink.written sink.puts out))
-    (list.found image told) (λ records. list.every image records told)) closed.1 closed.2
+    list.disk_cause (list.found image told) (λ records. list.every image records told)) closed.1 closed.2
 
 pub returns-clause-every : goal.returns-clause-every
 returns-clause-every g c image records told stands =
     let sink = g.K.Sink in
     let size = g.D.Disk.size c.args.disk in
+    let failed = Rose (g.D.Disk.faults c.args.disk) (g.D.Disk.faults c.list_journal-how.result.1) in
     let out = c.args.out.now in
     let listed = c.list_journal-how.new.out in
     let how = c.list_journal-how.result.0 in
     let closed = c.finish_report.ensures.writes in
-    reported_behind sink.written sink.puts (records_known size records) out listed c.finish_report.new.out how
+    reported_behind sink.written sink.puts (records_known size failed records) out listed c.finish_report.new.out how
     c.finish_report.result closed.0 (sym c.len-len.ensures ∙ c.if-len-ne-JOURNAL_BYTES.false)
-    (records_lists size records how (λ lines r. Writes sink.written sink.puts out lines r listed)
+    (records_lists size failed records how (λ lines r. Writes sink.written sink.puts out lines r listed)
+    c.list_journal-how.ensures.disk_cause
     (c.list_journal-how.ensures.every image records told stands)) closed.1 closed.2
 
 pub returns-clause-lines : goal.returns-clause-lines
 returns-clause-lines g c =
     let sink = g.K.Sink in
     let size = g.D.Disk.size c.args.disk in
+    let failed = Rose (g.D.Disk.faults c.args.disk) (g.D.Disk.faults c.list_journal-how.result.1) in
     let out = c.args.out.now in
     let listed = c.list_journal-how.new.out in
     let how = c.list_journal-how.result.0 in
     let closed = c.finish_report.ensures.writes in
-    reported_behind sink.written sink.puts (size_known size) out listed c.finish_report.new.out how
+    reported_behind sink.written sink.puts (size_known size failed) out listed c.finish_report.new.out how
     c.finish_report.result closed.0 (sym c.len-len.ensures ∙ c.if-len-ne-JOURNAL_BYTES.false)
-    (size_lists size how (λ lines r. Writes sink.written sink.puts out lines r listed)
+    (size_lists size failed how (λ lines r. Writes sink.written sink.puts out lines r listed)
+    c.list_journal-how.ensures.disk_cause
     c.list_journal-how.ensures.lines) closed.1 closed.2
 
 pub returns-clause-complete : goal.returns-clause-complete
