@@ -1,7 +1,6 @@
 -- What a disk keeps over a run, and what is left on it where the steps come to their end.
-use Rattle.std.proofs.Common.{◌≡◌, ◌≢◌, ◌⊎◌, ◌++◌, ℕ, Bool, List, [], ◌∷◌, reverse, Option, refl, sym, ap, ◌∙◌}
+use Rattle.std.proofs.Common.{◌≡◌, ◌≢◌, ◌⊎◌, ◌++◌, ℕ, Bool, List, [], ◌∷◌, reverse, Option, None, refl, sym, ap, ◌∙◌}
 use Rattle.std.proofs.Common.{arith, inl, inr, subst, subst₂, Result, Err}
-use Rattle.std.specs.Prelude.{is_some}
 use Rattle.std.proofs.Math.Nat.{le_trans}
 use Rattle.cct_model.specs.terms.device.Setup.{Setup}
 use Rattle.cct_model.specs.lines.command.Step.{Step}
@@ -15,13 +14,13 @@ use Rattle.cct_disk.specs.declared.disk.Disk.{Ghosts}
 use Rattle.cct_disk.specs.Disk.{IsTrusted}
 use Rattle.cct_edge.specs.declared.fault.Failed.{Failed}
 use Rattle.cct_journal.specs.Creating.{RefusesCreate}
-use Rattle.cct_journal.specs.Image as images
 use Rattle.cct_journal.specs.Image.{capacity_of}
 use Rattle.cct_journal.specs.declared.refusal.CreateNo.{CreateNo}
 use Rattle.cct_journal.specs.declared.refusal.CreateNo.TheVariants as create_no
-use Rattle.cct_journal.specs.Losing.{LeavesWith}
-use Rattle.cct_journal.specs.Stands.{GoesOn, Leaves, Outlasts, Stands}
+use Rattle.cct_journal.specs.Stands.{GoesOn, Outlasts}
 use Rattle.cct_journal.specs.declared.place.Place.{Place}
+use Rattle.cct_journal.proofs.Calls.{settled_leaves, stands_settled}
+use Rattle.cct_host.specs.Book.{HasBook, LeavesBook}
 use Rattle.cct_world.specs.declared.refusal.WorldNo.{WorldNo}
 use Rattle.cct_world.specs.declared.refusal.WorldNo.TheVariants as world_no
 use Rattle.cct_world.specs.declared.world.World.{World}
@@ -51,22 +50,18 @@ use Rattle.cct_bench.proofs.Going.{Carries, EndsBeside, IsSetupIn, played_broke,
 use Rattle.cct_bench.proofs.Staying.{IsDone}
 
 -- each image of a disk that keeps just one stands for what that one does
-pub stands_leaves : {D : Type 0} (honest : D → Bool) (seen : D → Option (List ℕ)) (may_leave : D → List ℕ → Type 0)
-    (disk : D) (place : Place) (rs : List Record) → Stands honest seen may_leave disk place rs
-    → Leaves honest seen may_leave disk rs
-stands_leaves honest seen may_leave disk place rs stands = record {
-  keeps_synced = stands.held.keeps_synced;
-  tells = ap is_some stands.held.tells;
-  each = λ c may. subst (λ image. images.Keeps image rs) (sym (stands.held.only c may)) stands.keeps;
-}
+pub stands_leaves : {D : Type 0} (setup : Setup) (honest : D → Bool) (seen : D → Option (List ℕ))
+    (may_leave : D → List ℕ → Type 0) (disk : D) (place : Place) (rs : List Record)
+    → HasBook setup honest seen may_leave disk place rs → LeavesBook setup honest seen may_leave disk None rs
+stands_leaves setup honest seen may_leave disk place rs stands = settled_leaves (stands_settled stands)
 
 -- the script or its source brought the end, and the disk has the records of the past
 module _ {D : Type 0} (size : D → ℕ) (honest : D → Bool) (seen : D → Option (List ℕ))
     (may_leave : D → List ℕ → Type 0) (cuts : D → ℕ) (cut_to : D → ℕ → D → Type 0) where
   pub ends_over : (given last : D) (stage : Stage) (Before : List Step → List Entry → Type 0)
       → IsReady (size given) (seen given)
-      → ((played : List Step) (past : List Entry) → Before played past → IsTrusted honest seen given
-      → Leaves honest seen may_leave last (reverse (records past)))
+      → ((setup : Setup) (played : List Step) (past : List Entry) → IsSetupIn stage setup → Before played past
+      → IsTrusted honest seen given → LeavesBook setup honest seen may_leave last None (reverse (records past)))
       → ((setup : Setup) (played : List Step) (past : List Entry) → IsSetupIn stage setup → Before played past
       → Survived (Sure (IsTrusted honest seen given)) (CutAt size honest seen cuts cut_to given last) setup played past)
       → ((played : List Step) (past : List Entry) → Before played past
@@ -75,7 +70,7 @@ module _ {D : Type 0} (size : D → ℕ) (honest : D → Bool) (seen : D → Opt
   ends_over given last stage Before ready books survives cut ending.Done setup taken played unplayed past is there
       before =
       record {
-        over = (ready, books played past before);
+        over = (ready, books setup played past there before);
         survived = survives setup played past there before;
         cut = rose_just (crashes past) (cuts given) (cuts last) (cut played past before);
         just = λ next. cut played past before;
@@ -83,7 +78,7 @@ module _ {D : Type 0} (size : D → ℕ) (honest : D → Bool) (seen : D → Opt
   ends_over given last stage Before ready books survives cut (ending.Refused number why) setup taken played unplayed past
       is there before =
       record {
-        over = (ready, books played past before);
+        over = (ready, books setup played past there before);
         survived = survives setup played past there before;
         cut = rose_just (crashes past) (cuts given) (cuts last) (cut played past before);
         just = λ next. cut played past before;
@@ -91,7 +86,7 @@ module _ {D : Type 0} (size : D → ℕ) (honest : D → Bool) (seen : D → Opt
   ends_over given last stage Before ready books survives cut ending.Unread setup taken played unplayed past is there
       before =
       record {
-        over = (ready, books played past before);
+        over = (ready, books setup played past there before);
         survived = survives setup played past there before;
         cut = rose_just (crashes past) (cuts given) (cuts last) (cut played past before);
         just = λ next. cut played past before;
@@ -102,9 +97,9 @@ module _ {D : Type 0} (size : D → ℕ) (honest : D → Bool) (seen : D → Opt
 module _ {D : Type 0} {g : Ghosts D} where
   -- the disk of a machine that stands for a past has its records
   pub world_books : (world : World D g) (past : List Entry) → StandsFor world past
-      → Books g.honest g.seen g.may_leave (disk_of world) past
+      → Books (setup_of world) g.honest g.seen g.may_leave (disk_of world) past
   world_books world past stands trusted =
-      stands_leaves g.honest g.seen g.may_leave (disk_of world) _ (reverse (records past)) (stands.host.book trusted)
+      stands_leaves (setup_of world) g.honest g.seen g.may_leave (disk_of world) _ (reverse (records past)) (stands.host.book trusted)
 
   -- so what is left where a run over such a machine ends
   pub world_ends : (given last : D) (world : World D g) (stage : Stage)
@@ -114,9 +109,11 @@ module _ {D : Type 0} {g : Ghosts D} where
       (OverCut (disks g.size g.honest g.seen g.may_leave g.cuts g.cut_to given last))
   world_ends given last world stage same ready on is =
       ends_over g.size g.honest g.seen g.may_leave g.cuts g.cut_to given last stage (WorldHolds given world) ready
-      (λ played past holds trusted. subst (λ disk. Leaves g.honest g.seen g.may_leave disk (reverse (records past))) (sym is)
+      (λ setup played past there holds trusted.
+      subst (λ by. LeavesBook by g.honest g.seen g.may_leave last None (reverse (records past))) (sym (same setup there))
+      (subst (λ disk. LeavesBook (setup_of world) g.honest g.seen g.may_leave disk None (reverse (records past))) (sym is)
       (world_books world past (holds.stands (inl trusted))
-      (trusted_on g.size g.honest g.seen g.cuts given (disk_of world) on trusted)))
+      (trusted_on g.size g.honest g.seen g.cuts given (disk_of world) on trusted))))
       (λ setup played past there holds.
       let relies = Sure (IsTrusted g.honest g.seen given) in
       let Cut = CutAt g.size g.honest g.seen g.cuts g.cut_to given in
@@ -161,14 +158,16 @@ module _ {D : Type 0} {g : Ghosts D} where
   -- a step that was played leaves the records of the past on the disk
   pub books_play : (world next : World D g) (last : D) (s : Step) (report : List Entry)
       → g.size (disk_of world) ≡ JOURNAL_BYTES → worlds.Plays world next s report → last ≡ disk_of next
-      → Plays (IsTrusted g.honest g.seen (disk_of world)) (StandsFor world) (Books g.honest g.seen g.may_leave last)
-      (setup_of world) s report
-  books_play world next last s report sized played is past stands suits survives =
+      → setup_of next ≡ setup_of world
+      → Plays (IsTrusted g.honest g.seen (disk_of world)) (StandsFor world)
+      (Books (setup_of world) g.honest g.seen g.may_leave last) (setup_of world) s report
+  books_play world next last s report sized played is same past stands suits survives =
       let goes = played past stands suits survives in
       let news = reverse report in (
         subst (λ size. Entries (capacity_of size) (setup_of world) past s news) sized goes.0,
-        subst (λ disk. Books g.honest g.seen g.may_leave disk (news ++ past)) (sym is)
-            (world_books next (news ++ past) goes.1),
+        subst (λ setup. Books setup g.honest g.seen g.may_leave last (news ++ past)) same
+            (subst (λ disk. Books (setup_of next) g.honest g.seen g.may_leave disk (news ++ past)) (sym is)
+            (world_books next (news ++ past) goes.1)),
       )
 
   -- the disk failed in a step
@@ -184,7 +183,7 @@ module _ {D : Type 0} {g : Ghosts D} where
       ready,
       λ sure. let due = breaks past (holds.stands sure) in (due.0, due.1.0),
       λ trusted. let due = breaks past (holds.stands (inl trusted)) in
-          subst (λ r. LeavesWith g.honest g.seen g.may_leave left r (reverse (records past))) (sym due.1.0)
+          subst (λ r. LeavesBook (setup_of world) g.honest g.seen g.may_leave left r (reverse (records past))) (sym due.1.0)
           (due.1.1 (on trusted)),
     ),
   )
@@ -265,23 +264,24 @@ module _ {D : Type 0} {g : Ghosts D} where
 module _ {D : Type 0} (size : D → ℕ) (honest : D → Bool) (seen : D → Option (List ℕ))
     (may_leave : D → List ℕ → Type 0) (cuts : D → ℕ) (cut_to : D → ℕ → D → Type 0) where
   -- then nothing else is on the disk that comes back
-  fresh_leaves : (last disk : D) (place : Place) (past : List Entry) → last ≡ disk → past ≡ []
-      → Stands honest seen may_leave disk place [] → Leaves honest seen may_leave last (reverse (records past))
-  fresh_leaves last disk place past is none stands =
-      subst (λ d. Leaves honest seen may_leave d (reverse (records past))) (sym is)
-      (subst (λ p. Leaves honest seen may_leave disk (reverse (records p))) (sym none)
-      (stands_leaves honest seen may_leave disk place [] stands))
+  fresh_leaves : (setup : Setup) (last disk : D) (place : Place) (past : List Entry) → last ≡ disk → past ≡ []
+      → HasBook setup honest seen may_leave disk place []
+      → LeavesBook setup honest seen may_leave last None (reverse (records past))
+  fresh_leaves setup last disk place past is none stands =
+      subst (λ d. LeavesBook setup honest seen may_leave d None (reverse (records past))) (sym is)
+      (subst (λ p. LeavesBook setup honest seen may_leave disk None (reverse (records p))) (sym none)
+      (stands_leaves setup honest seen may_leave disk place [] stands))
 
   -- where the script or its source brought the end
   pub fresh_ends : (given last disk : D) (place : Place) → IsReady (size given) (seen given)
       → GoesOn size honest seen cuts given disk → last ≡ disk
-      → (IsTrusted honest seen disk → Stands honest seen may_leave disk place [])
+      → ((setup : Setup) → IsTrusted honest seen disk → HasBook setup honest seen may_leave disk place [])
       → EndsBeside (at_setup no_devices) IsUnbegun (OverCut (disks size honest seen may_leave cuts cut_to given last))
   fresh_ends given last disk place ready on is stands =
       let same : cuts last ≡ cuts given = ap cuts is ∙ on.same_cuts in
       ends_over size honest seen may_leave cuts cut_to given last (at_setup no_devices) IsUnbegun ready
-      (λ played past none trusted. fresh_leaves last disk place past is none.1
-      (stands (trusted_on size honest seen cuts given disk (lasts_on size honest seen cuts given disk on) trusted)))
+      (λ setup played past there none trusted. fresh_leaves setup last disk place past is none.1
+      (stands setup (trusted_on size honest seen cuts given disk (lasts_on size honest seen cuts given disk on) trusted)))
       (λ setup played past there none.
       subst₂ (Survived (Sure (IsTrusted honest seen given)) (CutAt size honest seen cuts cut_to given last) setup)
       (sym none.0) (sym none.1) no_step)
@@ -300,13 +300,13 @@ module _ {D : Type 0} (size : D → ℕ) (honest : D → Bool) (seen : D → Opt
 
   -- and where there was no memory
   pub fresh_none : (given last disk : D) (place : Place) → GoesOn size honest seen cuts given disk → last ≡ disk
-      → (IsTrusted honest seen disk → Stands honest seen may_leave disk place [])
+      → ((setup : Setup) → IsTrusted honest seen disk → HasBook setup honest seen may_leave disk place [])
       → (setup : Setup) (taken : List ℕ) (unplayed : List Step)
       → OverCut (disks size honest seen may_leave cuts cut_to given last) ending.NoMemory setup taken [] unplayed []
   fresh_none given last disk place on is stands setup taken unplayed =
       uncut_over given last ending.NoMemory setup taken unplayed (ap cuts is ∙ on.same_cuts)
-      (λ trusted. fresh_leaves last disk place [] is refl
-      (stands (trusted_on size honest seen cuts given disk (lasts_on size honest seen cuts given disk on) trusted)))
+      (λ trusted. fresh_leaves setup last disk place [] is refl
+      (stands setup (trusted_on size honest seen cuts given disk (lasts_on size honest seen cuts given disk on) trusted)))
 
   -- no journal was created
   unopened_is : (given last : D) (how : Ending) → IsUnopened (size given) (seen given) how → (setup : Setup)
@@ -335,7 +335,7 @@ module _ {D : Type 0} (size : D → ℕ) (honest : D → Bool) (seen : D → Opt
   pub broke_over : (given last : D) (setup : Setup) (many : ℕ) → IsReady (size given) (seen given)
       → Outlasts size honest seen cuts given last
       → (taken : List ℕ) (played unplayed : List Step) (past : List Entry)
-      → Holds size honest seen cuts cut_to (Books honest seen may_leave last) setup given last many played past
+      → Holds size honest seen cuts cut_to (Books setup honest seen may_leave last) setup given last many played past
       → OverCut (disks size honest seen may_leave cuts cut_to given last) ending.Unwritten setup taken played unplayed past
   broke_over given last setup many ready on taken played unplayed past holds = record {
     over = (ready, λ trusted. holds.stands (inl trusted) (trusted_on size honest seen cuts given last on trusted));
@@ -351,7 +351,7 @@ module _ {K D : Type 0} {g : Ghosts D} (written : K → Option (List ℕ))
   StepEnds out out1 world s how last =
       ((how ≡ ending.Unwritten) × (failed : Failed) × (many : ℕ)
       × PlaysOn (IsTrusted g.honest g.seen (disk_of world)) (StandsFor world)
-      (Books g.honest g.seen g.may_leave last) (setup_of world) s
+      (Books (setup_of world) g.honest g.seen g.may_leave last) (setup_of world) s
       (CutsIn s g.size g.honest g.seen g.cuts g.cut_to (disk_of world) last) (used_of world) many (g.seen last) (λ report. Writes written puts out report (Err failed) out1))
       ⊎ ((why : WorldNo) × (how ≡ unplayed_by why) × Breaks world last why s
       × (why ≢ world_no.Disk → CutsIn s g.size g.honest g.seen g.cuts g.cut_to (disk_of world) last) × (out1 ≡ out))
@@ -373,7 +373,7 @@ module _ {K D : Type 0} {g : Ghosts D} (written : K → Option (List ℕ))
       let B = Broke written puts out out2 in
       let O = OverCut (disks g.size g.honest g.seen g.may_leave g.cuts g.cut_to given last) in
       let WritesThem : List Entry → Type 0 = λ report. Writes written puts out1 report (Err failed) out2 in
-      let books = Books g.honest g.seen g.may_leave last in
+      let books = Books (setup_of world) g.honest g.seen g.may_leave last in
       subst (λ how. OfBytes left0 (λ bytes. Played (Sure trusted) bytes how left1 (Wrote written puts out out2) B O))
       (sym is)
       (played_broke (Sure trusted) left0 left left1 held rest number stage stage (setup_of world)

@@ -6,10 +6,10 @@ use Rattle.cct_edge.specs.declared.fault.Failed.{Failed}
 use Rattle.cct_model.specs.lines.record.Record.{Record}
 use Rattle.cct_model.specs.lines.entry.Entry.{Entry}
 use Rattle.cct_model.specs.lines.entry.Entry.TheVariants as entry
-use Rattle.cct_journal.specs.Image.{StandsFor}
 use Rattle.cct_text.specs.Writing.{Writes}
 use Rattle.cct_text.proofs.Writing.{writes_then}
-use Rattle.cct_report.specs.Listing.{Decides, Finds, Lists, ListsSome, listed, listing_from}
+use Rattle.cct_report.specs.Listing.{Decides, Finds, FindsIn, Lists, ListsSome, listed, listing_from}
+use Rattle.cct_report.specs.Sums.{no_sums}
 use Rattle.cct_report.specs.declared.listing.ReportEnd.{ReportEnd}
 use Rattle.cct_report.specs.declared.listing.ReportEnd.TheVariants as listing
 use Rattle.cct_bench.specs.declared.outcome.Status.{Status}
@@ -21,9 +21,9 @@ use Rattle.cct_bench.specs.Run.{status_by}
 
 -- what a listing wrote, by how it ended, of a disk of which this is known
 abbrev pub ListsOf : Known → ReportEnd → (List Entry → Result (Unit {0}) Failed → Type 0) → Type 0
-ListsOf disk listing.Done writes = (records : List Record) × disk.stands records × writes (listed records) (Ok tt)
+ListsOf disk listing.Done writes = (records : List Record) × disk.stands records × writes (listed 0 no_sums records) (Ok tt)
 ListsOf disk listing.Unwritten writes =
-    (records : List Record) × (failed : Failed) × disk.stands records × writes (listed records) (Err failed)
+    (records : List Record) × (failed : Failed) × disk.stands records × writes (listed 0 no_sums records) (Err failed)
 ListsOf disk listing.DiskFailed writes =
     disk.failed × (writes [] (Ok tt)
     ⊎ ((first : List Record) × (behind : List Record) × disk.stands (first ++ behind)
@@ -34,14 +34,14 @@ ListsOf disk (listing.Bad index) writes =
 
 pub image_lists : (size : ℕ) (failed : Type 0) (image : List ℕ) (how : ReportEnd) (nothing : Type 0)
     (writes : List Entry → Result (Unit {0}) Failed → Type 0) → (nothing → writes [] (Ok tt))
-    → (how ≡ listing.DiskFailed → failed) → Finds how image nothing → ((records : List Record) → StandsFor image records → Lists how records writes)
+    → (how ≡ listing.DiskFailed → failed) → Finds how image nothing → ((records : List Record) → FindsIn image records → Lists how records writes)
     → ListsOf (image_known size failed image) how writes
 image_lists size failed image listing.Done nothing writes none cause finds every = (finds.0, finds.1, every finds.0 finds.1)
 image_lists size failed image listing.Unwritten nothing writes none cause finds every =
     let lists = every finds.0 finds.1 in (finds.0, lists.0, finds.1, lists.1)
 image_lists size failed image listing.DiskFailed nothing writes none cause (inl finds) every =
     let lists = every finds.0 finds.1 in
-    (cause refl, inr (lists.0, lists.1, subst (StandsFor image) lists.2 finds.1, lists.3))
+    (cause refl, inr (lists.0, lists.1, subst (FindsIn image) lists.2 finds.1, lists.3))
 image_lists size failed image listing.DiskFailed nothing writes none cause (inr finds) every =
     (cause refl, inl (none finds))
 image_lists size failed image listing.Alien nothing writes none cause finds every = (finds.0, none finds.1)
@@ -93,16 +93,16 @@ module _ {K : Type 0} (written : K → Option (List ℕ)) (puts : K → List ℕ
       → Writes written puts b (line_behind how) answer c
       → Reported disk (status_by answer (reported_by how)) (λ lines r. Writes written puts a lines r c)
   behind disk a b c listing.Done answer sized lists last =
-      let lines = listed lists.0 in
+      let lines = listed 0 no_sums lists.0 in
       reported disk status.Done lines answer (λ lines r. Writes written puts a lines r c)
       (lists.0, sized, lists.1, refl) (subst (λ xs. Writes written puts a xs answer c) (append-nil lines)
       (writes_then written puts a b c lines [] answer lists.2 last))
   behind disk a b c listing.Unwritten (Ok done) sized lists last = (
     status.Done,
-    listed lists.0,
+    listed 0 no_sums lists.0,
     lists.1,
     (lists.0, sized, lists.2, refl),
-    subst (λ k. Writes written puts a (listed lists.0) (Err lists.1) k) (sym last.put.1) lists.3,
+    subst (λ k. Writes written puts a (listed 0 no_sums lists.0) (Err lists.1) k) (sym last.put.1) lists.3,
   )
   behind disk a b c listing.Unwritten (Err failed) sized lists last = cc last.put.0
   behind disk a b c listing.DiskFailed answer sized (failed, inl none) last =

@@ -1,13 +1,13 @@
 -- The disk that a run is given, and what it leaves on it.
-use Rattle.std.specs.Prelude.{◌≡◌, ℕ, Bool, Option, Some, List, reverse, ⊤}
+use Rattle.std.specs.Prelude.{◌≡◌, ℕ, Bool, Option, Some, None, List, reverse, ⊤}
+use Rattle.cct_model.specs.terms.device.Setup.{Setup}
 use Rattle.cct_model.specs.lines.record.Record.{Record}
 use Rattle.cct_model.specs.lines.entry.Entry.{Entry}
 use Rattle.cct_model.specs.Records.{records}
 use Rattle.cct_disk.specs.Disk.{IsTrusted}
 use Rattle.cct_journal.specs.declared.format.TheConstants.{MOST_RECORDS}
 use Rattle.cct_journal.specs.Image.{IsBlank}
-use Rattle.cct_journal.specs.Losing.{LeavesWith}
-use Rattle.cct_journal.specs.Stands.{Leaves}
+use Rattle.cct_host.specs.Book.{LeavesBook}
 use Rattle.cct_world.specs.Restarts.{CutAt}
 use Rattle.cct_bench.specs.declared.play.TheConstants.{JOURNAL_BYTES}
 
@@ -22,8 +22,8 @@ pub record IsReady (size : ℕ) (seen : Option (List ℕ)) : Type 0 where
 
 -- What a run is told of its disk. As it was handed in: how many bytes it has, which bytes a read gives, where that is
 -- told, whether it is honest and tells them, and how often its power was cut. As it comes back: that each image that a
--- loss of power may leave on it stands for records, the oldest first, or, where one is being put, for these or for
--- these and that one; which bytes a read then gives, where that is told; and how often its power was cut by then. And
+-- loss of power may leave on it is the book of records, the oldest first, or, where one was due, of these or of
+-- these and that one, by a setup; which bytes a read then gives, where that is told; and how often its power was cut by then. And
 -- that in between its power was cut for this time, and something holds of the choice of the cut and of what a read gave
 -- right behind it.
 pub record Disks : Type 1 where
@@ -31,7 +31,7 @@ pub record Disks : Type 1 where
   pub seen : Option (List ℕ)
   pub trusted : Type 0
   pub cuts : ℕ
-  pub leaves : Option Record → List Record → Type 0
+  pub leaves : Setup → Option Record → List Record → Type 0
   pub seen_after : Option (List ℕ)
   pub cuts_after : ℕ
   pub cut_at : ℕ → (ℕ → Option (List ℕ) → Type 0) → Type 0
@@ -46,16 +46,17 @@ module _ {D : Type 0} (size : D → ℕ) (honest : D → Bool) (seen : D → Opt
     seen = seen given;
     trusted = IsTrusted honest seen given;
     cuts = cuts given;
-    leaves = LeavesWith honest seen may_leave back;
+    leaves = λ setup. LeavesBook setup honest seen may_leave back;
     seen_after = seen back;
     cuts_after = cuts back;
     cut_at = CutAt size honest seen cuts cut_to given back;
   }
 
--- Where a disk is trusted, each image that a loss of power may leave on it stands for the records of the past.
-abbrev pub Books : {D : Type 0} → (D → Bool) → (D → Option (List ℕ)) → (D → List ℕ → Type 0) → D → List Entry → Type 0
-Books honest seen may_leave disk past =
-    IsTrusted honest seen disk → Leaves honest seen may_leave disk (reverse (records past))
+-- Where a disk is trusted, each image that a loss of power may leave on it is the book of the past.
+abbrev pub Books : {D : Type 0} → Setup → (D → Bool) → (D → Option (List ℕ)) → (D → List ℕ → Type 0) → D → List Entry
+    → Type 0
+Books setup honest seen may_leave disk past =
+    IsTrusted honest seen disk → LeavesBook setup honest seen may_leave disk None (reverse (records past))
 
 -- Any past may be relied on, as where no disk is used yet.
 abbrev pub Always : List Entry → Type 0

@@ -4,8 +4,9 @@ use Rattle.cct_edge.specs.declared.fault.Failed.{Failed}
 use Rattle.cct_model.specs.lines.record.Record.{Record}
 use Rattle.cct_model.specs.lines.entry.Entry.{Entry}
 use Rattle.cct_model.specs.lines.entry.Entry.TheVariants as entry
-use Rattle.cct_journal.specs.Image.{IsAlien, IsBadAt, StandsFor}
-use Rattle.cct_report.specs.Listing.{listed, listing_from}
+use Rattle.cct_journal.specs.Image.{IsAlien, IsBadAt}
+use Rattle.cct_report.specs.Listing.{FindsIn, listed, listing_from}
+use Rattle.cct_report.specs.Sums.{no_sums}
 use Rattle.cct_report.specs.declared.listing.ReportEnd.{ReportEnd}
 use Rattle.cct_report.specs.declared.listing.ReportEnd.TheVariants as listing
 use Rattle.cct_bench.specs.declared.outcome.Status.{Status}
@@ -25,7 +26,7 @@ pub record Known : Type 1 where
 abbrev pub image_known : ℕ → Type 0 → List ℕ → Known
 image_known size failed image = record {
   size = size;
-  stands = StandsFor image;
+  stands = FindsIn image;
   alien = IsAlien image;
   bad = λ first index. (first ≡ []) × IsBadAt image index;
   failed = failed;
@@ -58,7 +59,7 @@ module _ (disk : Known) where
   -- first records and a last line. Any other status is none of a report.
   abbrev pub ReportIs : Status → List Entry → Type 0
   ReportIs status.Done lines =
-      (records : List Record) × (disk.size ≡ JOURNAL_BYTES) × disk.stands records × (lines ≡ listed records)
+      (records : List Record) × (disk.size ≡ JOURNAL_BYTES) × disk.stands records × (lines ≡ listed 0 no_sums records)
   ReportIs status.DiskFault lines =
       (disk.size ≡ JOURNAL_BYTES) × disk.failed
       × ((lines ≡ entry.DiskFault ∷ [])
@@ -86,7 +87,7 @@ IsOrMemory wanted s = (s ≡ wanted) ⊎ (s ≡ status.OutOfMemory)
 
 -- A report over a disk of this size, whose reads give this image, ended as these two decide, but for want of memory.
 pub record IsDecided (size : ℕ) (image : List ℕ) (s : Status) : Type 0 where
-  pub done : size ≡ JOURNAL_BYTES → (records : List Record) → StandsFor image records → IsOrMemory status.Done s
+  pub done : size ≡ JOURNAL_BYTES → (records : List Record) → FindsIn image records → IsOrMemory status.Done s
   pub alien : size ≡ JOURNAL_BYTES → IsAlien image → IsOrMemory status.JournalLost s
   pub bad : size ≡ JOURNAL_BYTES → (index : ℕ) → IsBadAt image index → IsOrMemory status.JournalLost s
   pub other : size ≢ JOURNAL_BYTES → IsOrMemory status.DiskSize s

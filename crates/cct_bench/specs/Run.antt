@@ -78,8 +78,8 @@ EndsLost disks setup past unplayed why =
 -- or for these and that record.
 abbrev pub Book : Disks → Setup → List Step → List Entry → List Entry → Type 0
 Book disks setup unplayed past (entry.DiskFault ∷ tail) =
-    First (λ s. disks.leaves (due_to setup past s) (reverse (records past))) unplayed
-Book disks setup unplayed past tail = disks.leaves None (reverse (records past))
+    First (λ s. disks.leaves setup (due_to setup past s) (reverse (records past))) unplayed
+Book disks setup unplayed past tail = disks.leaves setup None (reverse (records past))
 
 -- of a run over a disk, with a script of these bytes: what it took of them, the steps that it played and those that it
 -- didn't, and the transcript of those played
@@ -208,12 +208,12 @@ OverLost disks setup past unplayed why =
 -- What is said of a disk by how the steps came to their end: whether it was ready, and what it keeps of the past.
 abbrev pub Over : Disks → Ending → Setup → List ℕ → List Step → List Step → List Entry → Type 0
 Over disks ending.NoMemory setup taken played unplayed past =
-    disks.trusted → disks.leaves None (reverse (records past))
+    disks.trusted → disks.leaves setup None (reverse (records past))
 Over disks ending.DiskFailed setup taken played unplayed past =
     (disks.size ≡ JOURNAL_BYTES)
     × (IsUntouched taken played
     ⊎ (IsReady disks.size disks.seen × First (MayFail (Sure disks.trusted past) setup past) unplayed
-    × (disks.trusted → First (λ s. disks.leaves (due_to setup past s) (reverse (records past))) unplayed)))
+    × (disks.trusted → First (λ s. disks.leaves setup (due_to setup past s) (reverse (records past))) unplayed)))
 Over disks (ending.NotBlank at) setup taken played unplayed past =
     (disks.size ≡ JOURNAL_BYTES) × IsUntouched taken played
     × ((image : List ℕ) → disks.seen ≡ Some image → IsFirstByteFrom 0 image at)
@@ -225,7 +225,7 @@ Over disks (ending.JournalBad index) setup taken played unplayed past =
 Over disks (ending.RecordsLost found put) setup taken played unplayed past =
     OverLost disks setup past unplayed (world_no.Lost found put)
 Over disks how setup taken played unplayed past =
-    IsReady disks.size disks.seen × (disks.trusted → disks.leaves None (reverse (records past)))
+    IsReady disks.size disks.seen × (disks.trusted → disks.leaves setup None (reverse (records past)))
 
 -- Beside that, behind each loss of power a host started again; and the power of the disk was cut at least as often as the
 -- past tells, and just so often where no loss of power is the step that comes next.

@@ -9,7 +9,8 @@ ghost use Rattle.cct_edge.specs.Faults.{Rose};
 ghost use Rattle.cct_model.specs.lines.record.Record.{Record};
 ghost use Rattle.cct_model.specs.Script.{script as script_in};
 ghost use Rattle.cct_disk.specs.Disk.{OnlyReads};
-ghost use Rattle.cct_journal.specs.Image.{IsBlank, StandsFor};
+ghost use Rattle.cct_journal.specs.Image.{IsBlank};
+ghost use Rattle.cct_report.specs.Listing.{FindsIn};
 ghost use Rattle.cct_journal.specs.Stands.{Outlasts};
 ghost use Rattle.cct_bench.specs.declared.play.TheConstants.{JOURNAL_BYTES};
 ghost use Rattle.cct_bench.specs.Disks.{disks};
@@ -77,7 +78,7 @@ pub fn bench<S: Source, K: Sink, D: Disk>(
         → Reported (image_known (D.size disk) (Rose (D.faults disk) (D.faults result.1)) image) result.0
         (λ lines answer. Writes K.written K.puts out.old lines answer out.new) }
     ensures report_every { said_in words.now ≡ Some Words.Report → (image : List ℕ) (records : List Record)
-        → D.seen disk ≡ Some image → StandsFor image records
+        → D.seen disk ≡ Some image → FindsIn image records
         → Reported (records_known (D.size disk) (Rose (D.faults disk) (D.faults result.1)) records) result.0
         (λ lines answer. Writes K.written K.puts out.old lines answer out.new) }
     ensures report_lines { said_in words.now ≡ Some Words.Report → Reported (size_known (D.size disk) (Rose (D.faults disk) (D.faults result.1))) result.0

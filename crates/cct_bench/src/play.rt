@@ -12,10 +12,11 @@ ghost use Rattle.cct_model.specs.Text.{line_of};
 ghost use Rattle.cct_script.specs.Giving.{none_given, standing_of};
 ghost use Rattle.cct_disk.specs.Disk.{IsTrusted};
 ghost use Rattle.cct_journal.specs.Journal as journals;
-ghost use Rattle.cct_journal.specs.Stands.{GoesOn, Outlasts, Stands};
+ghost use Rattle.cct_journal.specs.Stands.{GoesOn, Outlasts};
 ghost use Rattle.cct_world.specs.declared.refusal.WorldNo.{WorldNo};
 ghost use Rattle.cct_world.specs.Holds.{WorldHolds};
 ghost use Rattle.cct_world.specs.Step.{CutsIn, LastsIn};
+ghost use Rattle.cct_host.specs.Book.{HasBook};
 ghost use Rattle.cct_world.specs.World.{Breaks, StandsFor, disk_of, setup_of, used_of};
 ghost use Rattle.cct_bench.specs.Lines.{Came, EndsAt, IsNext};
 ghost use Rattle.cct_bench.specs.Disks.{Always, Books, IsReady, disks};
@@ -99,8 +100,8 @@ pub fn opened<D: Disk>(disk: D) -> Result<Journal<D>, (Ending, D)>
     ensures none { IfOk result (λ journal. journals.used_of journal ≡ 0) }
     ensures whole { IfOk result (λ journal. journals.has_failed journal ≡ false) }
     ensures size { IfOk result (λ journal. D.size (journals.disk_of journal) ≡ JOURNAL_BYTES) }
-    ensures stands { IfOk result (λ journal. IsTrusted D.honest D.seen (journals.disk_of journal)
-        → Stands D.honest D.seen D.may_leave (journals.disk_of journal) (journals.place_of journal) []) }
+    ensures stands { IfOk result (λ journal. (setup : Setup) → IsTrusted D.honest D.seen (journals.disk_of journal)
+        → HasBook setup D.honest D.seen D.may_leave (journals.disk_of journal) (journals.place_of journal) []) }
     ensures refused { IfErr result (λ e. IsUnopened (D.size disk) (D.seen disk) e.0) }
     ensures cause { IfErr result (λ e. e.0 ≡ Ending.DiskFailed → Rose (D.faults disk) (D.faults e.1)) }
     ensures goes_on { MatchResult result
@@ -191,7 +192,7 @@ impl Page {
         // how the run ends
         ensures ended { IfErr result (λ e. ((e.0 ≡ Ending.Unwritten) × (failed : Failed) × (many : ℕ)
             × PlaysOn (IsTrusted D.honest D.seen (disk_of world.entry)) (StandsFor world.entry)
-            (Books D.honest D.seen D.may_leave e.1) (setup_of world.entry) step.now
+            (Books (setup_of world.entry) D.honest D.seen D.may_leave e.1) (setup_of world.entry) step.now
             (CutsIn step.now D.size D.honest D.seen D.cuts D.cut_to (disk_of world.entry) e.1) (used_of world.entry)
             many (D.seen e.1) (λ report. Writes K.written K.puts out.old report (Err failed) out.new))
             ⊎ ((why : WorldNo) × (e.0 ≡ unplayed_by why) × Breaks world.entry e.1 why step.now
@@ -345,8 +346,8 @@ impl Bench {
         requires size { D.size (journals.disk_of journal) ≡ JOURNAL_BYTES }
         ensures played { (given : D) → IsReady (D.size given) (D.seen given)
             → GoesOn D.size D.honest D.seen D.cuts given (journals.disk_of journal)
-            → (IsTrusted D.honest D.seen (journals.disk_of journal)
-            → Stands D.honest D.seen D.may_leave (journals.disk_of journal) (journals.place_of journal) [])
+            → ((setup : Setup) → IsTrusted D.honest D.seen (journals.disk_of journal)
+            → HasBook setup D.honest D.seen D.may_leave (journals.disk_of journal) (journals.place_of journal) [])
             → OfBytes (S.left script.old) (λ bytes. Played (Sure (IsTrusted D.honest D.seen given)) bytes result.0
             (S.left script.new) (Wrote K.written K.puts out.old out.new) (Broke K.written K.puts out.old out.new)
             (OverCut (disks D.size D.honest D.seen D.may_leave D.cuts D.cut_to given result.1))) }

@@ -5,7 +5,7 @@ ghost use Rattle.cct_edge.specs.declared.fault.Failed.{Failed};
 ghost use Rattle.cct_edge.specs.Faults.{Rose};
 ghost use Rattle.cct_model.specs.lines.record.Record.{Record};
 ghost use Rattle.cct_disk.specs.Disk.{OnlyReads};
-ghost use Rattle.cct_journal.specs.Image.{StandsFor};
+ghost use Rattle.cct_report.specs.Listing.{FindsIn};
 ghost use Rattle.cct_text.specs.Writing.{Writes};
 ghost use Rattle.cct_bench.specs.Report.{IsDecided, Reported, image_known, line_behind, records_known, reported_by};
 ghost use Rattle.cct_bench.specs.Report.{size_known};
@@ -24,7 +24,7 @@ pub fn report<K: Sink, D: Disk>(out: &mut K, line: &mut TextLine, disk: D) -> (S
     // what was written, by what the image of the disk is, and by the records that it stands for
     ensures reported { (image : List ℕ) → D.seen disk ≡ Some image → Reported (image_known (D.size disk) (Rose (D.faults disk) (D.faults result.1)) image) result.0
         (λ lines answer. Writes K.written K.puts out.old lines answer out.new) }
-    ensures every { (image : List ℕ) (records : List Record) → D.seen disk ≡ Some image → StandsFor image records
+    ensures every { (image : List ℕ) (records : List Record) → D.seen disk ≡ Some image → FindsIn image records
         → Reported (records_known (D.size disk) (Rose (D.faults disk) (D.faults result.1)) records) result.0
         (λ lines answer. Writes K.written K.puts out.old lines answer out.new) }
 

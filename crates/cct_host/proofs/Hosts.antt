@@ -1,6 +1,6 @@
 -- What a host stands for after it went on.
 use Rattle.std.proofs.Common.{◌≡◌, ℕ, ◌+◌, Bool, List, ◌∷◌, ◌++◌, length, reverse, refl, sym, ap, subst, ◌∙◌, Option, Some, None, arith}
-use Rattle.std.specs.Prelude.{Err, Ok, OnOk, Result}
+use Rattle.std.specs.Prelude.{Err, Ok, OnErr, OnOk, Result}
 use Rattle.std.specs.Option.{option_or}
 use Rattle.cct_edge.specs.declared.fault.Failed.{Failed}
 use Rattle.cct_model.specs.lines.command.Command.{Command}
@@ -13,10 +13,11 @@ use Rattle.cct_model.specs.Refusal.{room_refusal, state_refusal}
 use Rattle.cct_disk.specs.declared.disk.Disk.{Ghosts}
 use Rattle.cct_disk.specs.Disk.{IsTrusted}
 use Rattle.cct_journal.specs.Journal as journals
-use Rattle.cct_journal.specs.Stands.{GoesOn, Stands}
+use Rattle.cct_journal.specs.Stands.{GoesOn}
 use Rattle.cct_ledger.specs.Ledger as ledgers
 use Rattle.cct_host.specs.declared.host.Host.{Host}
 use Rattle.cct_host.specs.Attempt.{news_of}
+use Rattle.cct_host.specs.Book.{HasBook}
 use Rattle.cct_host.specs.Desk.{no_of}
 use Rattle.cct_host.specs.Desks as all_desks
 use Rattle.cct_host.specs.Host.{Answers, Keeps, Nexts, PutSuits, PutsDue, StandsFor, capacity_in, disk_of, put_by, setup_of}
@@ -27,6 +28,11 @@ pub all_ok : (result : Result Unit Failed) (P Q R S : Type 0) → OnOk result P 
     → (P → Q → R → S) → OnOk result S
 all_ok (Ok done) P Q R S p q r goes = goes p q r
 all_ok (Err why) P Q R S p q r goes = tt
+
+-- what is so is so of an answer that fails
+pub if_failed : (result : Result Unit Failed) (P : Type 0) → P → OnErr result P
+if_failed (Ok done) P p = tt
+if_failed (Err why) P p = p
 
 -- a disk that goes on is trusted as before
 pub trusted_before : {D : Type 0} (size : D → ℕ) (honest : D → Bool) (seen : D → Option (List ℕ)) (cuts : D → ℕ)
@@ -74,7 +80,7 @@ module _ {D : Type 0} {g : Ghosts D} where
       record {
         keeps = next_keeps old new addr past news _ refl is puts stands.keeps suits desks;
         book = λ trusted. subst
-            (Stands g.honest g.seen g.may_leave (disk_of new) (journals.place_of new.journal))
+            (HasBook (setup_of new) g.honest g.seen g.may_leave (disk_of new) (journals.place_of new.journal))
             (sym (put_last due (records past) (records (news ++ past)) is))
             (puts.book (stands.book (trusted_before g.size g.honest g.seen g.cuts (disk_of old) (disk_of new) goes
             trusted)));
@@ -121,9 +127,9 @@ module _ {D : Type 0} {g : Ghosts D} where
             used = ap journals.used_of same ∙ stands.keeps.used ∙ sym (ap length quiet);
           };
           book = subst (λ journal. IsTrusted g.honest g.seen (journals.disk_of journal)
-              → Stands g.honest g.seen g.may_leave (journals.disk_of journal) (journals.place_of journal)
+              → HasBook (setup_of new) g.honest g.seen g.may_leave (journals.disk_of journal) (journals.place_of journal)
               (reverse (records (command_entry c (no_of result) ∷ past)))) (sym same)
-              (λ trusted. subst (λ rs. Stands g.honest g.seen g.may_leave (disk_of old)
+              (λ trusted. subst (λ rs. HasBook (setup_of old) g.honest g.seen g.may_leave (disk_of old)
               (journals.place_of old.journal) (reverse rs)) (sym quiet) (stands.book trusted));
         },
       )

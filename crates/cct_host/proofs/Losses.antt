@@ -18,7 +18,6 @@ use Rattle.cct_journal.specs.declared.place.Place.{Place}
 use Rattle.cct_journal.specs.Image.{Keeps}
 use Rattle.cct_journal.specs.Journal as journals
 use Rattle.cct_journal.specs.Losing.{LeavesWith, LeftBy}
-use Rattle.cct_journal.specs.Stands.{Reads, Stands}
 use Rattle.cct_laws.specs.Restart.{CrashSuits, calls_in, due_in}
 use Rattle.cct_laws.proofs.Recalling.{follow_at}
 use Rattle.cct_laws.proofs.Restarts.{crash_bare, crash_frees, crash_keeps}
@@ -27,6 +26,7 @@ use Rattle.cct_host.specs.declared.host.Host.{Host}
 use Rattle.cct_host.specs.declared.refusal.CrashNo.{CrashNo}
 use Rattle.cct_host.specs.declared.recall.Recollection.{Recollection}
 use Rattle.cct_host.specs.declared.restart.Crashed.{Crashed}
+use Rattle.cct_host.specs.Book.{HasBook, LeavesBook, ReadsBook}
 use Rattle.cct_host.specs.Desks as all_desks
 use Rattle.cct_host.specs.Host.{StandsFor, disk_of, journal_of, put_by, setup_of}
 use Rattle.cct_host.specs.Replaying.{GoesOver, Recollects}
@@ -116,27 +116,27 @@ module _ {D : Type 0} (g : Ghosts D) where
         (subst (λ x. Keeps image (rs ++ x ∷ [])) (sym (same_some r k by.0)) keeps));
   }
 
-  pub stands_leave : (disk : D) (place : Place) (calls : ℕ) (due kept : Option Record) (rs : List Record)
-      → KeptBy calls due kept → Stands g.honest g.seen g.may_leave disk place (rs ++ put_by kept)
-      → LeavesWith g.honest g.seen g.may_leave disk due rs
-  stands_leave disk place calls due kept rs by stands =
+  pub stands_leave : (setup : Setup) (disk : D) (place : Place) (calls : ℕ) (due kept : Option Record) (rs : List Record)
+      → KeptBy calls due kept → HasBook setup g.honest g.seen g.may_leave disk place (rs ++ put_by kept)
+      → LeavesBook setup g.honest g.seen g.may_leave disk due rs
+  stands_leave setup disk place calls due kept rs by stands =
       left_with disk calls due kept rs stands.image by stands.held.keeps_synced stands.held.tells stands.held.only
       stands.keeps
 
   -- the same by what is due, and by how many calls were made
-  pub kept_stands : (journal : Journal D g) (calls many : ℕ) (due found kept : Option Record) (rs : List Record)
+  pub kept_stands : (setup : Setup) (journal : Journal D g) (calls many : ℕ) (due found kept : Option Record) (rs : List Record)
       → calls ≡ many → due ≡ found
-      → KeptBy calls due kept × Stands g.honest g.seen g.may_leave (journals.disk_of journal)
+      → KeptBy calls due kept × HasBook setup g.honest g.seen g.may_leave (journals.disk_of journal)
       (journals.place_of journal) (rs ++ put_by kept)
-      → KeptBy many found kept × Stands g.honest g.seen g.may_leave (journals.disk_of journal)
+      → KeptBy many found kept × HasBook setup g.honest g.seen g.may_leave (journals.disk_of journal)
       (journals.place_of journal) (rs ++ put_by kept)
-  kept_stands journal calls many due found kept rs counts is stands =
+  kept_stands setup journal calls many due found kept rs counts is stands =
       (subst (λ n. KeptBy n found kept) counts (subst (λ d. KeptBy calls d kept) is stands.0), stands.1)
 
   -- a read gives what stands
-  pub stands_read : (disk : D) (place : Place) (rs : List Record)
-      → Stands g.honest g.seen g.may_leave disk place rs → Reads g.seen disk place rs
-  stands_read disk place rs stands = record {
+  pub stands_read : (setup : Setup) (disk : D) (place : Place) (rs : List Record)
+      → HasBook setup g.honest g.seen g.may_leave disk place rs → ReadsBook setup g.seen disk place rs
+  stands_read setup disk place rs stands = record {
     image = stands.image;
     tells = stands.held.tells;
     stands = stands.keeps.stands;
@@ -145,11 +145,14 @@ module _ {D : Type 0} (g : Ghosts D) where
 
 -- the first bad record of those that were gone over
 pub first_bad : (first now : Recollection) (setup : Setup) (index : ℕ) (rs : List Record) → now.bad ≡ Some index
-    → all_desks.setup_of first.desks ≡ setup → Recollects first (reverse rs) now → IsFirstBad setup rs index
+    → all_desks.setup_of first.desks ≡ setup → Recollects 0 first (reverse rs) now → IsFirstBad setup rs index
 first_bad first now setup index rs is same over =
-    subst (λ ls. IsFirstBad setup ls index) (reverse-reverse rs)
-    (subst (λ s. IsFirstBad s (reverse (reverse rs)) index) (over.setup ∙ same)
-    (subst (λ bad. GoesOver bad (all_desks.setup_of now.desks) now.desks now.ledger (reverse rs)) is over.over))
+    let bad = subst (λ bad. GoesOver 0 bad (all_desks.setup_of now.desks) now.desks now.ledger (reverse rs)) is
+    over.over in
+    let here : bad.0 ≡ index = omega (arith, bad.1) in
+    subst (IsFirstBad setup rs) here
+    (subst (λ ls. IsFirstBad setup ls bad.0) (reverse-reverse rs)
+    (subst (λ s. IsFirstBad s (reverse (reverse rs)) bad.0) (over.setup ∙ same) bad.2))
 
 -- records that follow one another have no first bad one
 pub none_bad : (setup : Setup) (rs : List Record) (index : ℕ) → all_follow setup (reverse rs) ≡ true
@@ -204,9 +207,9 @@ told_records past many (Some r) = refl
 module _ {D : Type 0} {g : Ghosts D} where
   pub crash_stands : (old new : Host D g) (past : List Entry) (at : Option CrashAt) (kept : Option Record) (many : ℕ)
       → EntriesOfCrash (setup_of old) past at (told_by many kept)
-      → ((rs : List Record) → Reads g.seen (disk_of new) (journals.place_of (journal_of new)) rs
+      → ((rs : List Record) → ReadsBook (setup_of new) g.seen (disk_of new) (journals.place_of (journal_of new)) rs
       → StartsOver new (reverse rs))
-      → Stands g.honest g.seen g.may_leave (disk_of new) (journals.place_of (journal_of new))
+      → HasBook (setup_of new) g.honest g.seen g.may_leave (disk_of new) (journals.place_of (journal_of new))
       (reverse (records past) ++ put_by kept)
       → StandsFor new (told_by many kept ++ past)
   crash_stands old new past at kept many told starts stands =
@@ -215,25 +218,25 @@ module _ {D : Type 0} {g : Ghosts D} where
       turned_back (reverse (records past)) kept ∙ ap (λ ls. put_by kept ++ ls) (reverse-reverse (records past)) in
       started_stands new (told_by many kept ++ past) (reverse rs)
       (crash_frees (setup_of old) past at (told_by many kept) told) (told_records past many kept ∙ sym back)
-      (starts rs (stands_read g (disk_of new) (journals.place_of (journal_of new)) rs stands))
-      (λ trusted. subst (Stands g.honest g.seen g.may_leave (disk_of new) (journals.place_of (journal_of new)))
+      (starts rs (stands_read g (setup_of new) (disk_of new) (journals.place_of (journal_of new)) rs stands))
+      (λ trusted. subst (HasBook (setup_of new) g.honest g.seen g.may_leave (disk_of new) (journals.place_of (journal_of new)))
       (sym (reverse-reverse rs)) stands)
 
   starts_over : (host : Host D g)
-      → ((rs : List Record) → Reads g.seen (disk_of host) (journals.place_of (journal_of host)) rs
+      → ((rs : List Record) → ReadsBook (setup_of host) g.seen (disk_of host) (journals.place_of (journal_of host)) rs
       → WentOver host.desks host.ledger (reverse rs))
-      → (rs : List Record) → Reads g.seen (disk_of host) (journals.place_of (journal_of host)) rs
+      → (rs : List Record) → ReadsBook (setup_of host) g.seen (disk_of host) (journals.place_of (journal_of host)) rs
       → StartsOver host (reverse rs)
   starts_over host over rs reads = record { over = over rs reads; used = reads.count ∙ sym (length-reverse rs) }
 
   pub crashes_by : (old new : Host D g) (at : Option CrashAt) (crashed : Crashed)
       → ((past : List Entry) → all_desks.StandsFor old.desks past → due_of old at ≡ due_in (setup_of old) past at)
-      → ((rs : List Record) → Reads g.seen (disk_of new) (journals.place_of (journal_of new)) rs
+      → ((rs : List Record) → ReadsBook (setup_of new) g.seen (disk_of new) (journals.place_of (journal_of new)) rs
       → WentOver new.desks new.ledger (reverse rs))
       → ((rs : List Record)
-      → Stands g.honest g.seen g.may_leave (disk_of old) (journals.place_of (journal_of old)) rs
+      → HasBook (setup_of old) g.honest g.seen g.may_leave (disk_of old) (journals.place_of (journal_of old)) rs
       → KeptBy (calls_in at) (due_of old at) crashed.kept
-      × Stands g.honest g.seen g.may_leave (disk_of new) (journals.place_of (journal_of new))
+      × HasBook (setup_of new) g.honest g.seen g.may_leave (disk_of new) (journals.place_of (journal_of new))
       (rs ++ put_by crashed.kept))
       → crashed.records ≡ journals.used_of (journal_of old) + length (put_by crashed.kept)
       → Crashes old new at crashed
@@ -249,7 +252,7 @@ module _ {D : Type 0} {g : Ghosts D} where
   pub never_by : (old : Host D g) (past : List Entry) (at : Option CrashAt) (P : Type 0)
       → ((past : List Entry) → all_desks.StandsFor old.desks past → due_of old at ≡ due_in (setup_of old) past at)
       → ((rs : List Record)
-      → Stands g.honest g.seen g.may_leave (disk_of old) (journals.place_of (journal_of old)) rs
+      → HasBook (setup_of old) g.honest g.seen g.may_leave (disk_of old) (journals.place_of (journal_of old)) rs
       → all_follow (setup_of old) (reverse rs) ≡ true
       → IfSome (due_of old at) (λ r. follows (setup_of old) (reverse rs) r ≡ true) → P)
       → StandsFor old past → CrashSuits (setup_of old) past at → IsTrusted g.honest g.seen (disk_of old) → P

@@ -7,9 +7,9 @@ use Rattle.cct_model.specs.Job.{epoch, job}
 use Rattle.cct_model.specs.Order.{order}
 use Rattle.cct_disk.specs.declared.disk.Disk.{Ghosts}
 use Rattle.cct_journal.specs.Journal as journals
-use Rattle.cct_journal.specs.Stands.{Stands}
 use Rattle.cct_ledger.specs.Ledger as ledgers
 use Rattle.cct_host.specs.declared.host.Host.{Host}
+use Rattle.cct_host.specs.Book.{HasBook}
 use Rattle.cct_host.specs.Desks as all_desks
 use Rattle.cct_host.specs.Host as hosts
 use Rattle.cct_host.specs.Place.{Place, device, lines_at, sales, scans}
@@ -27,7 +27,7 @@ host_quiet {D} {g} host past e quiet stands =
         used = stands.keeps.used ∙ ap length same;
       };
       book = λ trusted.
-          subst (λ rs. Stands g.honest g.seen g.may_leave (hosts.disk_of host) (journals.place_of host.journal)
+          subst (λ rs. HasBook (hosts.setup_of host) g.honest g.seen g.may_leave (hosts.disk_of host) (journals.place_of host.journal)
           (reverse rs)) same (stands.book trusted);
     }
 

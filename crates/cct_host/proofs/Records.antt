@@ -140,19 +140,23 @@ bad_at desks ledger rs index entry there refused went =
 
 -- where they are shown one after another
 
-pub bad_next : (setup : Setup) (desks : Desks) (ledger : Ledger) (before : List Record) (index : ℕ) (entry : Record)
-    → setup ≡ all_desks.setup_of desks → index ≡ length before → WentOver desks ledger before
+pub bad_next : (from : ℕ) (setup : Setup) (desks : Desks) (ledger : Ledger) (before : List Record) (index : ℕ)
+    (entry : Record) → setup ≡ all_desks.setup_of desks → index ≡ length before + from → WentOver desks ledger before
     → follows (all_desks.setup_of desks) before entry ≡ false
-    → IsFirstBad setup (reverse (entry ∷ before)) index
-bad_next setup desks ledger before index entry same many over refused = record {
-  before = before;
-  bad = entry;
-  later = [];
-  all = reverse-append (entry ∷ []) before;
-  many = many;
-  follow = ap (λ s. all_follow s before) same ∙ over.follow;
-  refused = ap (λ s. follows s before entry) same ∙ refused;
-}
+    → (at : ℕ) × (index ≡ at + from) × IsFirstBad setup (reverse (entry ∷ before)) at
+bad_next from setup desks ledger before index entry same many over refused = (
+  length before,
+  many,
+  record {
+    before = before;
+    bad = entry;
+    later = [];
+    all = reverse-append (entry ∷ []) before;
+    many = refl;
+    follow = ap (λ s. all_follow s before) same ∙ over.follow;
+    refused = ap (λ s. follows s before entry) same ∙ refused;
+  },
+)
 
 bad_before : (setup : Setup) (before : List Record) (index : ℕ) (entry : Record)
     → IsFirstBad setup (reverse before) index → IsFirstBad setup (reverse (entry ∷ before)) index
@@ -167,16 +171,17 @@ bad_before setup before index entry bad = record {
   refused = bad.refused;
 }
 
-pub bad_stays : (bad : Option ℕ) (setup : Setup) (desks : Desks) (ledger : Ledger) (before : List Record)
-    (entry : Record) → is_some bad ≡ true → GoesOver bad setup desks ledger before
-    → GoesOver bad setup desks ledger (entry ∷ before)
-bad_stays None setup desks ledger before entry is over = absurd (true≢false (sym is))
-bad_stays (Some index) setup desks ledger before entry is bad = bad_before setup before index entry bad
+pub bad_stays : (from : ℕ) (bad : Option ℕ) (setup : Setup) (desks : Desks) (ledger : Ledger) (before : List Record)
+    (entry : Record) → is_some bad ≡ true → GoesOver from bad setup desks ledger before
+    → GoesOver from bad setup desks ledger (entry ∷ before)
+bad_stays from None setup desks ledger before entry is over = absurd (true≢false (sym is))
+bad_stays from (Some index) setup desks ledger before entry is (at, many, bad) =
+    (at, many, bad_before setup before at entry bad)
 
-pub all_good : (bad : Option ℕ) (setup : Setup) (desks : Desks) (ledger : Ledger) (before : List Record)
-    → is_some bad ≡ false → GoesOver bad setup desks ledger before → WentOver desks ledger before
-all_good None setup desks ledger before is over = over
-all_good (Some index) setup desks ledger before is over = absurd (true≢false is)
+pub all_good : (from : ℕ) (bad : Option ℕ) (setup : Setup) (desks : Desks) (ledger : Ledger) (before : List Record)
+    → is_some bad ≡ false → GoesOver from bad setup desks ledger before → WentOver desks ledger before
+all_good from None setup desks ledger before is over = over
+all_good from (Some index) setup desks ledger before is over = absurd (true≢false is)
 
 -- at the end
 

@@ -16,7 +16,6 @@ use Rattle.cct_model.specs.Transcript.{lines_of, sale_lines, scan_lines}
 use Rattle.cct_disk.specs.declared.disk.Disk.{Ghosts}
 use Rattle.cct_disk.specs.Disk.{IsTrusted}
 use Rattle.cct_journal.specs.Journal as journals
-use Rattle.cct_journal.specs.Stands.{Stands}
 use Rattle.cct_ledger.specs.Ledger as ledgers
 use Rattle.cct_laws.specs.Recorded.{HasNoJob}
 use Rattle.cct_laws.proofs.Recorded.{epoch_recorded, order_recorded}
@@ -24,10 +23,11 @@ use Rattle.cct_host.specs.declared.desk.JobDesk.{JobDesk}
 use Rattle.cct_host.specs.declared.desks.Desks.{Desks}
 use Rattle.cct_host.specs.declared.dues.Dues.{Dues}
 use Rattle.cct_host.specs.declared.host.Host.{Host}
+use Rattle.cct_host.specs.Book.{HasBook}
 use Rattle.cct_host.specs.Desk.{AllSit, IsFree, Sits, Works, puts_at, reserved_over, sum_in}
 use Rattle.cct_host.specs.Desks as all_desks
 use Rattle.cct_host.specs.Held.{coins_by, price_by, puts_left}
-use Rattle.cct_host.specs.Host.{Keeps, StandsFor, disk_of}
+use Rattle.cct_host.specs.Host.{Keeps, StandsFor, disk_of, setup_of}
 use Rattle.cct_host.specs.Place.{device, sales, scans}
 use Rattle.cct_host.specs.Recalled.{AllRecall, AreUnused, IsUnused, Recalls, RecallsAt}
 use Rattle.cct_host.specs.Starting.{StartsOver}
@@ -134,10 +134,10 @@ module _ {D : Type 0} {g : Ghosts D} where
   pub started_stands : (host : Host D g) (past : List Entry) (before : List Record) → HasNoJob past
       → records past ≡ before → StartsOver host before
       → (IsTrusted g.honest g.seen (disk_of host)
-      → Stands g.honest g.seen g.may_leave (disk_of host) (journals.place_of host.journal) (reverse before))
+      → HasBook (setup_of host) g.honest g.seen g.may_leave (disk_of host) (journals.place_of host.journal) (reverse before))
       → StandsFor host past
   started_stands host past before none same starts book = record {
     keeps = started_keeps host past before none same starts;
-    book = λ trusted. subst (λ rs. Stands g.honest g.seen g.may_leave (disk_of host)
+    book = λ trusted. subst (λ rs. HasBook (setup_of host) g.honest g.seen g.may_leave (disk_of host)
         (journals.place_of host.journal) (reverse rs)) (sym same) (book trusted);
   }

@@ -16,12 +16,12 @@ use Rattle.cct_disk.specs.Disk.{IsTrusted}
 use Rattle.cct_journal.specs.declared.journal.Journal.{Journal}
 use Rattle.cct_journal.specs.Image.{capacity_of}
 use Rattle.cct_journal.specs.Journal as journals
-use Rattle.cct_journal.specs.Stands.{LeavesOneOf, Stands}
 use Rattle.cct_ledger.specs.declared.ledger.Ledger.{Ledger}
 use Rattle.cct_ledger.specs.Ledger as ledgers
 use Rattle.cct_host.specs.declared.desks.Desks.{Desks}
 use Rattle.cct_host.specs.declared.host.Host.{Host}
 use Rattle.cct_host.specs.Attempt.{Attempt, HeardBy, Links, news_of, put_of}
+use Rattle.cct_host.specs.Book.{HasBook, LeavesBook}
 use Rattle.cct_host.specs.Desk.{no_of}
 use Rattle.cct_host.specs.Desks as all_desks
 use Rattle.cct_host.specs.Place.{OwnsItsPut}
@@ -78,7 +78,8 @@ module _ {D : Type 0} {g : Ghosts D} where
   pub record StandsFor (host : Host D g) (past : List Entry) : Type 0 where
     pub keeps : Keeps host past
     pub book : IsTrusted g.honest g.seen (disk_of host)
-        → Stands g.honest g.seen g.may_leave (disk_of host) (journals.place_of host.journal) (reverse (records past))
+        → HasBook (setup_of host) g.honest g.seen g.may_leave (disk_of host) (journals.place_of host.journal)
+        (reverse (records past))
 
   -- Nothing changed.
   abbrev pub Stays : Host D g → Host D g → Type 0
@@ -114,7 +115,7 @@ module _ {D : Type 0} {g : Ghosts D} where
       (past : List Entry) → StandsFor old past
       → Keeps new past × ((r : Record) × (due_at (setup_of old) past addr ≡ Some r)
       × (IsTrusted g.honest g.seen (disk_of old)
-      → LeavesOneOf g.honest g.seen g.may_leave (disk_of new) (reverse (records past)) r))
+      → LeavesBook (setup_of old) g.honest g.seen g.may_leave (disk_of new) (Some r) (reverse (records past))))
 
   -- After all that happened the record that was due at an address, if one was due, was put: the journal has it, and the
   -- ledger, beside what is reserved after it.
@@ -122,10 +123,10 @@ module _ {D : Type 0} {g : Ghosts D} where
       (journal written : Journal D g) : Type 0 where
     pub used : journals.used_of written
         ≡ journals.used_of journal + length (put_by (due_at (all_desks.setup_of desks) past addr))
-    pub book : Stands g.honest g.seen g.may_leave (journals.disk_of journal) (journals.place_of journal)
-        (reverse (records past))
-        → Stands g.honest g.seen g.may_leave (journals.disk_of written) (journals.place_of written)
-        (reverse (records past) ++ put_by (due_at (all_desks.setup_of desks) past addr))
+    pub book : HasBook (all_desks.setup_of desks) g.honest g.seen g.may_leave (journals.disk_of journal)
+        (journals.place_of journal) (reverse (records past))
+        → HasBook (all_desks.setup_of desks) g.honest g.seen g.may_leave (journals.disk_of written)
+        (journals.place_of written) (reverse (records past) ++ put_by (due_at (all_desks.setup_of desks) past addr))
     pub posts : TakesItsPut (all_desks.setup_of desks) past addr
         → ledgers.StandsFor ledger (records past) (all_desks.reserved_of desks)
         → ledgers.StandsFor posted (put_by (due_at (all_desks.setup_of desks) past addr) ++ records past)

@@ -10,5 +10,6 @@ pub mod Desks
 pub mod Recalled
 pub mod Host
 pub mod Starting
+pub mod Book
 pub mod Restarting
 pub mod Replaying

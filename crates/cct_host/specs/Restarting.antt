@@ -12,15 +12,14 @@ use Rattle.cct_disk.specs.Disk.{IsTrusted}
 use Rattle.cct_journal.specs.declared.journal.Journal.{Journal}
 use Rattle.cct_journal.specs.Image.{IsAlien, IsBadAt}
 use Rattle.cct_journal.specs.Journal as journals
-use Rattle.cct_journal.specs.Stands.{Reads}
 use Rattle.cct_host.specs.declared.desks.Desks.{Desks}
 use Rattle.cct_host.specs.declared.host.Host.{Host}
 use Rattle.cct_host.specs.declared.refusal.CrashNo.{CrashNo}
 use Rattle.cct_host.specs.declared.refusal.CrashNo.TheVariants.{Disk, Alien, BadRecord, Lost}
 use Rattle.cct_host.specs.declared.restart.Crashed.{Crashed}
+use Rattle.cct_host.specs.Book.{FindsBad, FindsMany}
 use Rattle.cct_host.specs.Desks as all_desks
 use Rattle.cct_host.specs.Host.{StandsFor, disk_of, put_by, setup_of}
-use Rattle.cct_host.specs.Starting.{IsFirstBad}
 
 -- The record that is due where a loss of power comes, if one is.
 abbrev pub due_for : Desks → Option CrashAt → Option Record
@@ -55,17 +54,11 @@ abbrev pub crash_news : Crashed → List Entry
 crash_news crashed = told_by crashed.records crashed.kept
 
 module _ {D : Type 0} {g : Ghosts D} where
-  -- A read of this journal gives records, where its disk tells anything.
-  abbrev pub Opens : Journal D g → Type 0
-  Opens journal =
+  -- What a read of this journal gives has as many records as it counts, where its disk tells anything.
+  abbrev pub Opens : Setup → Journal D g → Type 0
+  Opens setup journal =
       (image : List ℕ) → g.seen (journals.disk_of journal) ≡ Some image
-      → (records : List Record) × Reads g.seen (journals.disk_of journal) (journals.place_of journal) records
-
-  -- Of the records that a read of this journal gives, the first that doesn't follow those before it.
-  abbrev pub ReadsBad : Journal D g → Setup → ℕ → Type 0
-  ReadsBad journal setup index =
-      (records : List Record) × Reads g.seen (journals.disk_of journal) (journals.place_of journal) records
-      × IsFirstBad setup records index
+      → FindsMany setup image (journals.used_of journal)
 
   -- Why a host with the first journal isn't started again, where the second one is left: by what a read of its disk gives,
   -- and by how many records there are and were.
@@ -76,9 +69,9 @@ module _ {D : Type 0} {g : Ghosts D} where
   RefusesCrash old new due setup (BadRecord index) =
       (image : List ℕ) → g.seen (journals.disk_of new) ≡ Some image
       → IsBadAt image index
-      ⊎ (HasAll due (journals.used_of new) (journals.used_of old) × ReadsBad new setup index)
+      ⊎ (HasAll due (journals.used_of new) (journals.used_of old) × FindsBad setup image (journals.used_of new) index)
   RefusesCrash old new due setup (Lost found put) =
-      (found ≡ journals.used_of new) × (put ≡ journals.used_of old) × IsLost due found put × Opens new
+      (found ≡ journals.used_of new) × (put ≡ journals.used_of old) × IsLost due found put × Opens setup new
 
   -- The same where only the disk of the journal is given back.
   abbrev pub RefusesWith : Journal D g → Option Record → Setup → D → CrashNo → Type 0

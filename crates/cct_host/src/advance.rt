@@ -4,14 +4,16 @@ ghost use Rattle.arrayvec.specs.ArrayVec.{array_vec_len};
 ghost use Rattle.cct_edge.specs.Faults.{Rose};
 ghost use Rattle.cct_model.specs.lines.entry.Entry.{Entry};
 ghost use Rattle.cct_model.specs.lines.record.Record.{Record};
+ghost use Rattle.cct_model.specs.terms.device.Setup.{Setup};
 ghost use Rattle.cct_model.specs.Following.{is_allowed};
 ghost use Rattle.cct_model.specs.Legal.{due_at};
 ghost use Rattle.cct_model.specs.Money.{freed_by, reserved_at_work};
 ghost use Rattle.cct_record.specs.Body.{Encodable};
 ghost use Rattle.cct_journal.specs.Image.{capacity_of};
 ghost use Rattle.cct_journal.specs.Journal as journals;
-ghost use Rattle.cct_journal.specs.Stands.{GoesOn, LeavesOneOf, Stands};
+ghost use Rattle.cct_journal.specs.Stands.{GoesOn};
 ghost use Rattle.cct_ledger.specs.Ledger as ledgers;
+ghost use Rattle.cct_host.specs.Book.{HasBook, LeavesBook};
 ghost use Rattle.cct_host.specs.Desks as all_desks;
 ghost use Rattle.cct_host.specs.Host.{PutsDue, put_by};
 
@@ -66,8 +68,10 @@ pub(crate) fn advance<D: Disk, L: Link>(
     ensures place { OnErr result (journals.place_of journal.new ≡ journals.place_of journal.old) }
     ensures fails { OnErr result ((past : List Entry) → all_desks.StandsFor desks.old past
         → (r : Record) × (due_at (all_desks.setup_of desks.old) past addr ≡ Some r) × ((before : List Record)
-        → Stands D.honest D.seen D.may_leave (journals.disk_of journal.old) (journals.place_of journal.old) before
-        → LeavesOneOf D.honest D.seen D.may_leave (journals.disk_of journal.new) before r)) }
+        → HasBook (all_desks.setup_of desks.old) D.honest D.seen D.may_leave (journals.disk_of journal.old)
+        (journals.place_of journal.old) before
+        → LeavesBook (all_desks.setup_of desks.old) D.honest D.seen D.may_leave (journals.disk_of journal.new) (Some r)
+        before)) }
 
     // the disk
     ensures cause { OnErr result (Rose (D.faults (journals.disk_of journal.old))
@@ -92,14 +96,14 @@ fn put<D: Disk>(journal: &mut Journal<D>, due: &Option<Record>) -> Result<(), Fa
     ensures whole { OnOk result (journals.has_failed journal.new ≡ false) }
     ensures counted { OnOk result (journals.used_of journal.new
         ≡ journals.used_of journal.old + length (put_by due.now)) }
-    ensures done { OnOk result ((before : List Record)
-        → Stands D.honest D.seen D.may_leave (journals.disk_of journal.old) (journals.place_of journal.old) before
-        → Stands D.honest D.seen D.may_leave (journals.disk_of journal.new) (journals.place_of journal.new)
+    ensures done { OnOk result ((setup : Setup) (before : List Record)
+        → HasBook setup D.honest D.seen D.may_leave (journals.disk_of journal.old) (journals.place_of journal.old) before
+        → HasBook setup D.honest D.seen D.may_leave (journals.disk_of journal.new) (journals.place_of journal.new)
         (before ++ put_by due.now)) }
     ensures place { OnErr result (journals.place_of journal.new ≡ journals.place_of journal.old) }
-    ensures left { OnErr result ((r : Record) × (due.now ≡ Some r) × ((before : List Record)
-        → Stands D.honest D.seen D.may_leave (journals.disk_of journal.old) (journals.place_of journal.old) before
-        → LeavesOneOf D.honest D.seen D.may_leave (journals.disk_of journal.new) before r)) }
+    ensures left { OnErr result ((r : Record) × (due.now ≡ Some r) × ((setup : Setup) (before : List Record)
+        → HasBook setup D.honest D.seen D.may_leave (journals.disk_of journal.old) (journals.place_of journal.old) before
+        → LeavesBook setup D.honest D.seen D.may_leave (journals.disk_of journal.new) (Some r) before)) }
     ensures cause { OnErr result (Rose (D.faults (journals.disk_of journal.old))
         (D.faults (journals.disk_of journal.new))) }
     ensures goes_on { GoesOn D.size D.honest D.seen D.cuts (journals.disk_of journal.old)

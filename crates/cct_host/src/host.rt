@@ -12,8 +12,7 @@ ghost use Rattle.cct_model.specs.Setup.{IsSoundSetup};
 ghost use Rattle.cct_disk.specs.Disk.{IsTrusted, OnlyReads};
 ghost use Rattle.cct_journal.specs.Image.{capacity_of};
 ghost use Rattle.cct_journal.specs.Journal as journals;
-ghost use Rattle.cct_journal.specs.Losing.{LeavesWith};
-ghost use Rattle.cct_journal.specs.Stands.{CutOnce, GoesOn, Outlasts, Reads, Stands};
+ghost use Rattle.cct_journal.specs.Stands.{CutOnce, GoesOn, Outlasts};
 ghost use Rattle.cct_laws.specs.Restart.{CrashSuits, due_in};
 ghost use Rattle.cct_ledger.specs.Ledger as ledgers;
 ghost use Rattle.cct_host.specs.Desks as all_desks;
@@ -49,6 +48,7 @@ pub struct Host<'s, D: Disk> {
 }
 
 impl<'s, D: Disk> Host<'s, D> {
+    ghost use Rattle.cct_host.specs.Book.{HasBook, LeavesBook, ReadsBook};
     ghost use Rattle.cct_host.specs.Host.{Answers, Fails, Keeps, Nexts, StandsFor, Stays, capacity_in, disk_of, has_failed, journal_of, put_by, setup_of};
     ghost use Rattle.cct_host.specs.Restarting.{Crashes, Opens, RefusesCrash, RefusesWith, due_of};
     ghost use Rattle.cct_host.specs.Starting.{RefusesStart, StartsOver};
@@ -66,10 +66,10 @@ impl<'s, D: Disk> Host<'s, D> {
 
         // what it knows, and why it isn't started
         ensures knows { IfOk result (λ host. (records : List Record)
-            → Reads D.seen (journals.disk_of journal) (journals.place_of journal) records
+            → ReadsBook setup.now D.seen (journals.disk_of journal) (journals.place_of journal) records
             → StartsOver host (reverse records)) }
         ensures refused { IfErr result (λ e. (records : List Record)
-            → Reads D.seen (journals.disk_of journal) (journals.place_of journal) records
+            → ReadsBook setup.now D.seen (journals.disk_of journal) (journals.place_of journal) records
             → RefusesStart e.1 setup.now records) }
         ensures cause { IfErr result (λ e. e.1 ≡ StartNo.Disk
             → Rose (D.faults (journals.disk_of journal)) (D.faults e.0)) }
@@ -81,8 +81,9 @@ impl<'s, D: Disk> Host<'s, D> {
 
         // the journal and its disk
         ensures stands { IfOk result (λ host. (records : List Record)
-            → Stands D.honest D.seen D.may_leave (journals.disk_of journal) (journals.place_of journal) records
-            → Stands D.honest D.seen D.may_leave (disk_of host) (journals.place_of (journal_of host)) records) }
+            → HasBook setup.now D.honest D.seen D.may_leave (journals.disk_of journal) (journals.place_of journal) records
+            → HasBook setup.now D.honest D.seen D.may_leave (disk_of host) (journals.place_of (journal_of host))
+            records) }
         ensures reads { MatchResult result
             (λ host. OnlyReads D.size D.honest D.seen D.may_leave D.moment D.left_since D.cuts
             (journals.disk_of journal) (disk_of host))
@@ -226,9 +227,9 @@ impl<'s, D: Disk> Host<'s, D> {
 
         // what it tells, and what it then stands for
         ensures crashes { IfOk result (Crashes self.old self.new at) }
-        ensures found { OnOk result (Opens (journal_of self.new)) }
+        ensures found { OnOk result (Opens (setup_of self.new) (journal_of self.new)) }
         ensures recalls { OnOk result ((records : List Record)
-            → Reads D.seen (disk_of self.new) (journals.place_of (journal_of self.new)) records
+            → ReadsBook (setup_of self.new) D.seen (disk_of self.new) (journals.place_of (journal_of self.new)) records
             → StartsOver self.new (reverse records)) }
         ensures records { IfOk result (λ crashed. crashed.records ≡ journals.used_of (journal_of self.new)) }
         ensures counts { IfOk result (λ crashed. crashed.records
@@ -244,7 +245,8 @@ impl<'s, D: Disk> Host<'s, D> {
             → CrashSuits (setup_of self.old) past at → IsTrusted D.honest D.seen (disk_of self.old)
             → why ≡ CrashNo.Disk) }
         ensures left { OnErr result ((past : List Entry) → StandsFor self.old past
-            → IsTrusted D.honest D.seen (disk_of self.old) → LeavesWith D.honest D.seen D.may_leave (disk_of self.new)
+            → IsTrusted D.honest D.seen (disk_of self.old)
+            → LeavesBook (setup_of self.old) D.honest D.seen D.may_leave (disk_of self.new)
             (due_in (setup_of self.old) past at) (reverse (records past))) }
         ensures cause { result ≡ Err CrashNo.Disk → Rose (D.faults (disk_of self.old)) (D.faults (disk_of self.new)) }
 
@@ -276,9 +278,9 @@ impl<'s, D: Disk> Host<'s, D> {
 
         // what it tells, and what it then stands for
         ensures crashes { IfOk result (λ again. Crashes self.entry again.0 at again.1) }
-        ensures found { IfOk result (λ again. Opens (journal_of again.0)) }
+        ensures found { IfOk result (λ again. Opens (setup_of again.0) (journal_of again.0)) }
         ensures recalls { IfOk result (λ again. (records : List Record)
-            → Reads D.seen (disk_of again.0) (journals.place_of (journal_of again.0)) records
+            → ReadsBook (setup_of again.0) D.seen (disk_of again.0) (journals.place_of (journal_of again.0)) records
             → StartsOver again.0 (reverse records)) }
         ensures records { IfOk result (λ again. again.1.records ≡ journals.used_of (journal_of again.0)) }
         ensures counts { IfOk result (λ again. again.1.records
@@ -292,8 +294,8 @@ impl<'s, D: Disk> Host<'s, D> {
             → CrashSuits (setup_of self.entry) past at → IsTrusted D.honest D.seen (disk_of self.entry)
             → e.1 ≡ CrashNo.Disk) }
         ensures left { IfErr result (λ e. (past : List Entry) → StandsFor self.entry past
-            → IsTrusted D.honest D.seen (disk_of self.entry) → LeavesWith D.honest D.seen D.may_leave e.0
-            (due_in (setup_of self.entry) past at) (reverse (records past))) }
+            → IsTrusted D.honest D.seen (disk_of self.entry)
+            → LeavesBook (setup_of self.entry) D.honest D.seen D.may_leave e.0 (due_in (setup_of self.entry) past at) (reverse (records past))) }
         ensures cause { IfErr result (λ e. e.1 ≡ CrashNo.Disk
             → Rose (D.faults (disk_of self.entry)) (D.faults e.0)) }
 

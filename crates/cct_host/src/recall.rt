@@ -7,8 +7,8 @@ ghost use Rattle.cct_model.specs.Setup.{IsSoundSetup};
 ghost use Rattle.cct_record.specs.Body.{Encodable};
 ghost use Rattle.cct_journal.specs.Image.{capacity_of};
 ghost use Rattle.cct_journal.specs.Journal as journals;
-ghost use Rattle.cct_journal.specs.Stands.{Reads};
 ghost use Rattle.cct_ledger.specs.Ledger as ledgers;
+ghost use Rattle.cct_host.specs.Book.{ReadsBook};
 ghost use Rattle.cct_host.specs.Desks as all_desks;
 ghost use Rattle.cct_host.specs.Recalled.{AreUnused, Recalls};
 ghost use Rattle.cct_host.specs.Starting.{OnlyReadIn, RefusesStart, WentOver, WentOverFirst};
@@ -42,12 +42,14 @@ pub(crate) fn recall<D: Disk>(
 
     // what they tell
     ensures over { OnOk result ((records : List Record)
-        → Reads D.seen (journals.disk_of journal.old) (journals.place_of journal.old) records
+        → ReadsBook (all_desks.setup_of desks.old) D.seen (journals.disk_of journal.old)
+        (journals.place_of journal.old) records
         → WentOver desks.new ledger.new (reverse records)) }
     ensures starts { journals.used_of journal.old ≡ 0 → IsTrue (is_ok result) }
     ensures fresh { journals.used_of journal.old ≡ 0 → WentOver desks.new ledger.new [] }
     ensures refused { IfErr result (λ why. (records : List Record)
-        → Reads D.seen (journals.disk_of journal.old) (journals.place_of journal.old) records
+        → ReadsBook (all_desks.setup_of desks.old) D.seen (journals.disk_of journal.old)
+        (journals.place_of journal.old) records
         → RefusesStart why (all_desks.setup_of desks.old) records) }
 
     // the journal
@@ -78,11 +80,13 @@ fn recall_next<D: Disk>(
     ensures reserved { ledgers.reserved_of ledger.new ≡ ledgers.reserved_of ledger.old }
     ensures counted { ledgers.applied ledger.new ≤ index + 1 }
     ensures over { OnOk result ((records : List Record)
-        → Reads D.seen (journals.disk_of journal.old) (journals.place_of journal.old) records
+        → ReadsBook (all_desks.setup_of desks.old) D.seen (journals.disk_of journal.old)
+        (journals.place_of journal.old) records
         → WentOverFirst desks.old ledger.old records index
         → WentOverFirst desks.new ledger.new records (index + 1)) }
     ensures refused { IfErr result (λ why. (records : List Record)
-        → Reads D.seen (journals.disk_of journal.old) (journals.place_of journal.old) records
+        → ReadsBook (all_desks.setup_of desks.old) D.seen (journals.disk_of journal.old)
+        (journals.place_of journal.old) records
         → WentOverFirst desks.old ledger.old records index
         → RefusesStart why (all_desks.setup_of desks.old) records) }
     ensures reads { OnlyReadIn journal.old journal.new }
@@ -148,7 +152,7 @@ impl<'s> Recollection<'s> {
     pub(crate) fn new(setup: &'s Setup) -> Self
         requires sound { IsSoundSetup setup.now }
         ensures setup { all_desks.setup_of result.desks ≡ setup.now }
-        ensures starts { Recollects result [] result }
+        ensures starts { Recollects 0 result [] result }
     {
         Recollection {
             desks: Desks::new(setup),

@@ -9,10 +9,10 @@ ghost use Rattle.cct_model.specs.Script.{IsCrash};
 ghost use Rattle.cct_record.specs.Body.{Encodable};
 ghost use Rattle.cct_journal.specs.Image.{capacity_of};
 ghost use Rattle.cct_journal.specs.Journal as journals;
-ghost use Rattle.cct_journal.specs.Losing.{LeavesWith};
-ghost use Rattle.cct_journal.specs.Stands.{CutOnce, Outlasts, Reads, Stands};
+ghost use Rattle.cct_journal.specs.Stands.{CutOnce, Outlasts};
 ghost use Rattle.cct_ledger.specs.Ledger as ledgers;
 ghost use Rattle.cct_laws.specs.Restart.{calls_in, due_in};
+ghost use Rattle.cct_host.specs.Book.{HasBook, LeavesBook, ReadsBook};
 ghost use Rattle.cct_host.specs.Desks as all_desks;
 ghost use Rattle.cct_host.specs.Host.{put_by};
 ghost use Rattle.cct_host.specs.Restarting.{IsLost, KeptBy, Opens, RefusesCrash, due_for};
@@ -64,27 +64,32 @@ pub(crate) fn restart<'s, D: Disk>(
     ensures records { IfOk result (λ c. c.records ≡ journals.used_of journal.new) }
     ensures kept { IfOk result (λ c. IfSome c.kept (λ r. due_for desks.old at ≡ Some r)) }
     ensures counts { IfOk result (λ c. c.records ≡ journals.used_of journal.old + length (put_by c.kept)) }
-    ensures found { OnOk result (Opens journal.new) }
+    ensures found { OnOk result (Opens (all_desks.setup_of desks.old) journal.new) }
     ensures over { OnOk result ((records : List Record)
-        → Reads D.seen (journals.disk_of journal.new) (journals.place_of journal.new) records
+        → ReadsBook (all_desks.setup_of desks.old) D.seen (journals.disk_of journal.new)
+        (journals.place_of journal.new) records
         → WentOver desks.new ledger.new (reverse records)) }
     ensures stands { IfOk result (λ c. (records : List Record)
-        → Stands D.honest D.seen D.may_leave (journals.disk_of journal.old) (journals.place_of journal.old) records
+        → HasBook (all_desks.setup_of desks.old) D.honest D.seen D.may_leave (journals.disk_of journal.old)
+        (journals.place_of journal.old) records
         → KeptBy (calls_in at) (due_for desks.old at) c.kept
-        × Stands D.honest D.seen D.may_leave (journals.disk_of journal.new) (journals.place_of journal.new)
-        (records ++ put_by c.kept)) }
+        × HasBook (all_desks.setup_of desks.old) D.honest D.seen D.may_leave (journals.disk_of journal.new)
+        (journals.place_of journal.new) (records ++ put_by c.kept)) }
 
     // why it isn't started, and what stands then
     ensures refused { IfErr result (RefusesCrash journal.old journal.new (due_for desks.old at)
         (all_desks.setup_of desks.old)) }
     ensures never { IfErr result (λ why. (records : List Record)
-        → Stands D.honest D.seen D.may_leave (journals.disk_of journal.old) (journals.place_of journal.old) records
+        → HasBook (all_desks.setup_of desks.old) D.honest D.seen D.may_leave (journals.disk_of journal.old)
+        (journals.place_of journal.old) records
         → all_follow (all_desks.setup_of desks.old) (reverse records) ≡ true
         → IfSome (due_for desks.old at) (λ r. follows (all_desks.setup_of desks.old) (reverse records) r ≡ true)
         → why ≡ CrashNo.Disk) }
     ensures left { OnErr result ((records : List Record)
-        → Stands D.honest D.seen D.may_leave (journals.disk_of journal.old) (journals.place_of journal.old) records
-        → LeavesWith D.honest D.seen D.may_leave (journals.disk_of journal.new) (due_for desks.old at) records) }
+        → HasBook (all_desks.setup_of desks.old) D.honest D.seen D.may_leave (journals.disk_of journal.old)
+        (journals.place_of journal.old) records
+        → LeavesBook (all_desks.setup_of desks.old) D.honest D.seen D.may_leave (journals.disk_of journal.new)
+        (due_for desks.old at) records) }
     ensures cause { result ≡ Err CrashNo.Disk → Rose (D.faults (journals.disk_of journal.old))
         (D.faults (journals.disk_of journal.new)) }
 
@@ -156,33 +161,33 @@ fn lose<D: Disk, R: Replay>(
     requires room { IfSome due (λ _. journals.used_of journal.old
         < capacity_of (D.size (journals.disk_of journal.old))) }
     requires encodable { IfSome due Encodable }
-    requires starts { R.replayed replay.old [] replay.old }
+    requires starts { R.replayed 0 replay.old [] replay.old }
 
     // what is opened, and what is replayed of it
     ensures whole { OnOk result (journals.has_failed journal.new ≡ false) }
     ensures kept { IfOk result (λ kept. IfSome kept (λ r. due ≡ Some r)) }
     ensures counts { IfOk result (λ kept. journals.used_of journal.new
         ≡ journals.used_of journal.old + length (put_by kept)) }
-    ensures found { OnOk result (Opens journal.new) }
-    ensures stands { IfOk result (λ kept. (records : List Record)
-        → Stands D.honest D.seen D.may_leave (journals.disk_of journal.old) (journals.place_of journal.old) records
+    ensures found { OnOk result ((setup : Setup) → Opens setup journal.new) }
+    ensures stands { IfOk result (λ kept. (setup : Setup) (records : List Record)
+        → HasBook setup D.honest D.seen D.may_leave (journals.disk_of journal.old) (journals.place_of journal.old) records
         → KeptBy calls due kept
-        × Stands D.honest D.seen D.may_leave (journals.disk_of journal.new) (journals.place_of journal.new)
+        × HasBook setup D.honest D.seen D.may_leave (journals.disk_of journal.new) (journals.place_of journal.new)
         (records ++ put_by kept)) }
     ensures replayed { OnOk result ((before : List Record) × (journals.used_of journal.new ≡ length before)
-        × R.replayed replay.old before replay.new) }
-    ensures told { OnOk result ((records : List Record)
-        → Reads D.seen (journals.disk_of journal.new) (journals.place_of journal.new) records
-        → R.replayed replay.old (reverse records) replay.new) }
+        × R.replayed 0 replay.old before replay.new) }
+    ensures told { OnOk result ((setup : Setup) (records : List Record)
+        → ReadsBook setup D.seen (journals.disk_of journal.new) (journals.place_of journal.new) records
+        → R.replayed 0 replay.old (reverse records) replay.new) }
 
     // why nothing is, and what stands then
     ensures refused { IfErr result (λ why. (setup : Setup) → RefusesCrash journal.old journal.new due setup why) }
-    ensures never { IfErr result (λ why. (records : List Record)
-        → Stands D.honest D.seen D.may_leave (journals.disk_of journal.old) (journals.place_of journal.old) records
+    ensures never { IfErr result (λ why. (setup : Setup) (records : List Record)
+        → HasBook setup D.honest D.seen D.may_leave (journals.disk_of journal.old) (journals.place_of journal.old) records
         → why ≡ CrashNo.Disk) }
-    ensures left { OnErr result ((records : List Record)
-        → Stands D.honest D.seen D.may_leave (journals.disk_of journal.old) (journals.place_of journal.old) records
-        → LeavesWith D.honest D.seen D.may_leave (journals.disk_of journal.new) due records) }
+    ensures left { OnErr result ((setup : Setup) (records : List Record)
+        → HasBook setup D.honest D.seen D.may_leave (journals.disk_of journal.old) (journals.place_of journal.old) records
+        → LeavesBook setup D.honest D.seen D.may_leave (journals.disk_of journal.new) due records) }
     ensures cause { result ≡ Err CrashNo.Disk → Rose (D.faults (journals.disk_of journal.old))
         (D.faults (journals.disk_of journal.new)) }
 

@@ -114,9 +114,9 @@ module _ (image : List ℕ) (index : ℕ) (records : List Record) (walked : Walk
 
 -- the records of an image that were replayed
 
-pub replayed_none : {R : Type 0} (replayed : R → List Record → R → Type 0) (old : R) (images : List ℕ → Type 0)
-    → replayed old [] old
-    → Replayed replayed old old 0 (λ records. (image : List ℕ) → images image → Walked image 0 records)
+pub replayed_none : {R : Type 0} (replayed : ℕ → R → List Record → R → Type 0) (old : R) (images : List ℕ → Type 0)
+    → replayed 0 old [] old
+    → Replayed replayed 0 old old 0 (λ records. (image : List ℕ) → images image → Walked image 0 records)
 replayed_none replayed old images starts = record {
   before = [];
   count = refl;
@@ -124,15 +124,16 @@ replayed_none replayed old images starts = record {
   fact = λ image is. walked_none image;
 }
 
-pub replayed_on : {R : Type 0} (replayed : R → List Record → R → Type 0) (first old new : R) (index : ℕ) (r : Record)
-    (images : List ℕ → Type 0)
-    → Replayed replayed first old index (λ records. (image : List ℕ) → images image → Walked image index records)
-    → ((before : List Record) → index ≡ length before → replayed first before old → replayed first (r ∷ before) new)
+pub replayed_on : {R : Type 0} (replayed : ℕ → R → List Record → R → Type 0) (from : ℕ) (first old new : R) (index : ℕ)
+    (r : Record) (images : List ℕ → Type 0)
+    → Replayed replayed from first old index (λ records. (image : List ℕ) → images image → Walked image index records)
+    → ((before : List Record) → index ≡ length before + from → replayed from first before old
+    → replayed from first (r ∷ before) new)
     → ((image : List ℕ) → images image
     → (index < capacity_of (length image)) × (gate_at index image ≡ open_gate) × Spells r (body_at index image))
-    → Replayed replayed first new (index + 1)
+    → Replayed replayed from first new (index + 1)
     (λ records. (image : List ℕ) → images image → Walked image (index + 1) records)
-replayed_on replayed first old new index r images so_far goes slot = record {
+replayed_on replayed from first old new index r images so_far goes slot = record {
   before = r ∷ so_far.before;
   count = omega (arith, so_far.count);
   over = goes so_far.before so_far.count so_far.over;
@@ -142,10 +143,10 @@ replayed_on replayed first old new index r images so_far goes slot = record {
       (walked_step image index (reverse so_far.before) (so_far.fact image is) here.0 r here.1 here.2);
 }
 
-pub replayed_all : {R : Type 0} (replayed : R → List Record → R → Type 0) (old new : R) (many : ℕ)
-    (holds are : List Record → Type 0) → Replayed replayed old new many holds
-    → ((records : List Record) → holds records → are records) → Replayed replayed old new many are
-replayed_all replayed old new many holds are over weaker = record {
+pub replayed_all : {R : Type 0} (replayed : ℕ → R → List Record → R → Type 0) (from : ℕ) (old new : R)
+    (many : ℕ) (holds are : List Record → Type 0) → Replayed replayed from old new many holds
+    → ((records : List Record) → holds records → are records) → Replayed replayed from old new many are
+replayed_all replayed from old new many holds are over weaker = record {
   before = over.before;
   count = over.count;
   over = over.over;

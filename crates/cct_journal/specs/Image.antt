@@ -37,6 +37,10 @@ pub record StandsFor (image : List ℕ) (records : List Record) : Type 0 where
   pub records_are : bodies_in image ≡ map body_of records
   pub in_range : All InRange records
 
+-- An image stands for so many records.
+abbrev pub HasRecords : List ℕ → ℕ → Type 0
+HasRecords image many = (records : List Record) × StandsFor image records × (length records ≡ many)
+
 -- An image has no header of a journal, or is too short for one.
 abbrev pub IsAlien : List ℕ → Type 0
 IsAlien image = (length image < least_size) ⊎ (take 32 image ≢ header)

@@ -21,12 +21,12 @@ pub record Walked (image : List ℕ) (index : ℕ) (records : List Record) : Typ
   pub in_range : All InRange records
   pub count : index ≡ length records
 
--- So many records were replayed, and of these, oldest first, a fact holds.
-pub record Replayed {R : Type 0} (replayed : R → List Record → R → Type 0) (old new : R) (many : ℕ)
+-- The records from one index up to another were replayed, and of these, oldest first, a fact holds.
+pub record Replayed {R : Type 0} (replayed : ℕ → R → List Record → R → Type 0) (from : ℕ) (old new : R) (many : ℕ)
     (holds : List Record → Type 0) : Type 0 where
   pub before : List Record
-  pub count : many ≡ length before
-  pub over : replayed old before new
+  pub count : many ≡ length before + from
+  pub over : replayed from old before new
   pub fact : holds (reverse before)
 
 -- Why the records of an image can't be counted.

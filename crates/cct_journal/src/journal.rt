@@ -6,7 +6,7 @@ ghost use Rattle.cct_edge.specs.Faults.{Rose, next_count};
 ghost use Rattle.cct_lines.specs.declared.record.Record.{Record};
 ghost use Rattle.cct_record.specs.Body.{Encodable, Spells};
 ghost use Rattle.cct_disk.specs.Disk.{Holds, IsWithin, LeavesOnly, Only, OnlyReads};
-ghost use Rattle.cct_journal.specs.Image.{IsBlank, Keeps, KeepsOneOf, StandsFor, capacity_of, least_size};
+ghost use Rattle.cct_journal.specs.Image.{HasRecords, IsBlank, Keeps, KeepsOneOf, StandsFor, capacity_of, least_size};
 ghost use Rattle.cct_journal.specs.Creating.{IsCreated, RefusesCreate};
 ghost use Rattle.cct_journal.specs.Losing.{KeepsWith, LeavesWith, LeftBy};
 ghost use Rattle.cct_journal.specs.Opening.{RefusesOpen, RefusesRead};
@@ -88,7 +88,7 @@ impl<D: Disk> Journal<D> {
     /// before it.
     pub fn reopen(disk: D) -> Result<(Journal<D>, u32), (D, OpenNo)>
         ensures found { IfOk result (λ opened. (image : List ℕ) → D.seen disk ≡ Some image
-            → (records : List Record) × Reads D.seen (disk_of opened.0) (place_of opened.0) records) }
+            → HasRecords image (used_of opened.0)) }
         ensures every { IfOk result (λ opened. (image : List ℕ) (records : List Record) → D.seen disk ≡ Some image
             → StandsFor image records → Reads D.seen (disk_of opened.0) (place_of opened.0) records) }
         ensures stands { IfOk result (λ opened. (records : List Record)
@@ -343,7 +343,7 @@ impl<D: Disk> Journal<D> {
         requires few { calls ≤ 4 }
         requires room { IfSome put.now (λ _. used_of self.old < capacity_of (D.size (disk_of self.old))) }
         requires encodable { IfSome put.now Encodable }
-        requires starts { R.replayed replay.old [] replay.old }
+        requires starts { R.replayed 0 replay.old [] replay.old }
 
         // each image that a loss of power at a moment of the call may leave
         ensures moments { (records : List Record)
@@ -356,7 +356,7 @@ impl<D: Disk> Journal<D> {
             → (left : List Record) × LeftBy calls put.now records left
             × Stands D.honest D.seen D.may_leave (disk_of self.new) (place_of self.new) left) }
         ensures found { OnOk result ((image : List ℕ) → D.seen (disk_of self.new) ≡ Some image
-            → (records : List Record) × Reads D.seen (disk_of self.new) (place_of self.new) records) }
+            → HasRecords image (used_of self.new)) }
         ensures every { OnOk result ((image : List ℕ) (records : List Record)
             → D.seen (disk_of self.new) ≡ Some image → StandsFor image records
             → Reads D.seen (disk_of self.new) (place_of self.new) records) }
@@ -365,10 +365,10 @@ impl<D: Disk> Journal<D> {
 
         // what was replayed then: so many records, and just those that a read gives
         ensures replayed { OnOk result ((before : List Record) × (used_of self.new ≡ length before)
-            × R.replayed replay.old before replay.new) }
+            × R.replayed 0 replay.old before replay.new) }
         ensures told { OnOk result ((records : List Record)
             → Reads D.seen (disk_of self.new) (place_of self.new) records
-            → R.replayed replay.old (reverse records) replay.new) }
+            → R.replayed 0 replay.old (reverse records) replay.new) }
 
         // why nothing is opened, and what stands then
         ensures refused { IfErr result (λ why. (image : List ℕ) → D.seen (disk_of self.new) ≡ Some image

@@ -79,9 +79,9 @@ pub(crate) fn replay_records<D: Disk, R: Replay>(
     replay: &mut R,
 ) -> Result<u32, OpenNo>
     requires long { least_size ≤ D.size disk.old }
-    requires starts { R.replayed replay.old [] replay.old }
+    requires starts { R.replayed 0 replay.old [] replay.old }
     ensures fits { IfOk result (λ used. used ≤ capacity_of (D.size disk.old)) }
-    ensures replayed { IfOk result (λ used. Replayed R.replayed replay.old replay.new used
+    ensures replayed { IfOk result (λ used. Replayed R.replayed 0 replay.old replay.new used
         (λ records. (image : List ℕ) → D.seen disk.old ≡ Some image → CountsIn image records)) }
     ensures stopped { IfErr result (λ why. (image : List ℕ) → D.seen disk.old ≡ Some image → StopsCount why image) }
     ensures reads { OnlyReads D.size D.honest D.seen D.may_leave D.moment D.left_since D.cuts disk.old disk.new }

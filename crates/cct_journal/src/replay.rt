@@ -1,5 +1,5 @@
 //! The records of a journal are replayed as they are found.
-ghost use Rattle.std.specs.Prelude.{◌≡◌, ◌<◌, List, ◌∷◌, length};
+ghost use Rattle.std.specs.Prelude.{◌≡◌, ℕ, ◌<◌, ◌+◌, List, ◌∷◌, length};
 ghost use Rattle.cct_lines.specs.declared.record.Record.{Record};
 ghost use Rattle.cct_record.specs.Body.{Encodable};
 
@@ -8,17 +8,18 @@ use cct_lines::Record;
 
 /// Whatever goes over the records of a journal as they are found, oldest first, so that each slot is read once.
 pub trait Replay {
-    /// What goes over these records, newest first, is the first value before them and the second behind them.
-    ghost replayed: { Self → List Record → Self → Type 0 };
+    /// What goes over these records, newest first, from an index on, is the first value before them and the second behind
+    /// them.
+    ghost replayed: { ℕ → Self → List Record → Self → Type 0 };
 
     /// Goes over the record of an index, behind those before it.
     fn replay(&mut self, index: u32, entry: &Record)
         requires few { index < MOST_RECORDS }
         requires encodable { Encodable entry.now }
-        requires behind { (first : Self) × (before : List Record) × (index ≡ length before)
-            × replayed first before self.old }
-        ensures { (first : Self) (before : List Record) → index ≡ length before → replayed first before self.old
-            → replayed first (entry.now ∷ before) self.new };
+        requires behind { (from : ℕ) × (first : Self) × (before : List Record) × (index ≡ length before + from)
+            × replayed from first before self.old }
+        ensures { (from : ℕ) (first : Self) (before : List Record) → index ≡ length before + from
+            → replayed from first before self.old → replayed from first (entry.now ∷ before) self.new };
 }
 
 /// The records are only counted.
@@ -26,7 +27,7 @@ pub trait Replay {
 pub(crate) struct OnlyCounted;
 
 impl Replay for OnlyCounted {
-    ghost replayed = { λ _ _ _. Unit {0} };
+    ghost replayed = { λ _ _ _ _. Unit {0} };
 
     fn replay(&mut self, _index: u32, _entry: &Record) {}
 }

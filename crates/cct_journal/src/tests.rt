@@ -115,7 +115,7 @@ struct Shown {
 }
 
 impl Replay for Shown {
-    ghost replayed = { λ _ _ _. Unit {0} };
+    ghost replayed = { λ _ _ _ _. Unit {0} };
 
     fn replay(&mut self, index: u32, _entry: &Record) {
         if index == self.records {

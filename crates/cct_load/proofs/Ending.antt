@@ -1,5 +1,5 @@
 -- What the playing of a load leaves, by how it came to its end.
-use Rattle.std.proofs.Common.{◌≡◌, ◌+◌, ◌*◌, List, [], ◌∷◌, ◌++◌, reverse, refl, sym, ap, ◌∙◌, subst, inl, inr}
+use Rattle.std.proofs.Common.{◌≡◌, ◌+◌, ◌*◌, None, List, [], ◌∷◌, ◌++◌, reverse, refl, sym, ap, ◌∙◌, subst, inl, inr}
 use Rattle.std.proofs.lemmas.List.{append-nil}
 use Rattle.cct_model.specs.lines.command.Step.{Step}
 use Rattle.cct_model.specs.lines.entry.Entry.{Entry}
@@ -10,8 +10,9 @@ use Rattle.cct_model.specs.Records.{records}
 use Rattle.cct_model.specs.Transcript.{onto}
 use Rattle.cct_disk.specs.declared.disk.Disk.{Ghosts}
 use Rattle.cct_disk.specs.Disk.{IsTrusted}
-use Rattle.cct_journal.specs.Stands.{Leaves, Outlasts}
+use Rattle.cct_journal.specs.Stands.{Outlasts}
 use Rattle.cct_journal.proofs.Calls.{settled_leaves, stands_settled}
+use Rattle.cct_host.specs.Book.{LeavesBook}
 use Rattle.cct_world.specs.declared.refusal.WorldNo.{WorldNo}
 use Rattle.cct_world.specs.declared.world.World.{World}
 use Rattle.cct_world.specs.Restarts.{Survived, no_step}
@@ -34,9 +35,9 @@ module _ {D : Type 0} {g : Ghosts D} where
   -- the disk of a world that stands for a past has its records
   world_leaves : (world : World D g) (left : D) (past : List Entry) → left ≡ disk_of world → StandsFor world past
       → IsTrusted g.honest g.seen (disk_of world)
-      → Leaves g.honest g.seen g.may_leave left (reverse (records past))
+      → LeavesBook (setup_of world) g.honest g.seen g.may_leave left None (reverse (records past))
   world_leaves world left past is stands trusted =
-      subst (λ disk. Leaves g.honest g.seen g.may_leave disk (reverse (records past))) (sym is)
+      subst (λ disk. LeavesBook (setup_of world) g.honest g.seen g.may_leave disk None (reverse (records past))) (sym is)
       (settled_leaves (stands_settled (stands.host.book trusted)))
 
 module _ {D : Type 0} {g : Ghosts D} (world : World D g) (load : Load) (left : D) (Written : List Entry → Type 0)
@@ -109,7 +110,8 @@ module _ {D : Type 0} {g : Ghosts D} (world : World D g) (load : Load) (left : D
       just = λ quiet. ap g.cuts is ∙ lines.holds.so.cut;
     }
 
-    leaves_all : HasTrusted world → Leaves g.honest g.seen g.may_leave left (reverse (records past))
+    leaves_all : HasTrusted world
+        → LeavesBook load_setup g.honest g.seen g.may_leave left None (reverse (records past))
     leaves_all trusted =
         world_leaves next left past is (lines.holds.so.stands (inl trusted))
         (trusted_on g.size g.honest g.seen g.cuts (disk_of world) (disk_of next) lasts trusted)

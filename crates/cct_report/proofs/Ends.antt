@@ -1,6 +1,6 @@
 -- How a listing ended, and the image of its disk.
-use Rattle.std.proofs.Common.{◌≡◌, ◌≤◌, ℕ, List, [], ◌∷◌, ◌++◌, length, map, take, Option, Some, Result, inl, inr, refl}
-use Rattle.std.proofs.Common.{sym, ◌∙◌, ap, subst, arith, length-append}
+use Rattle.std.proofs.Common.{◌≡◌, ◌≤◌, ℕ, List, [], ◌∷◌, ◌++◌, length, map, take, Result, inl, inr, refl}
+use Rattle.std.proofs.Common.{sym, ◌∙◌, ap, arith, length-append}
 use Rattle.std.specs.List.{All}
 use Rattle.std.proofs.lemmas.List.{append-nil, length-map}
 use Rattle.std.proofs.lemmas.List.Elements.{All-head, All-tail}
@@ -8,26 +8,17 @@ use Rattle.cct_edge.specs.declared.fault.Failed.{Failed}
 use Rattle.cct_lines.specs.declared.record.Record.{Record}
 use Rattle.cct_lines.specs.declared.entry.Entry.{Entry}
 use Rattle.cct_record.specs.Body.{InRange, IsRefused, body_of}
-use Rattle.cct_journal.specs.declared.place.Place.{Place}
 use Rattle.cct_journal.specs.declared.refusal.OpenNo.{OpenNo}
 use Rattle.cct_journal.specs.declared.refusal.OpenNo.TheVariants as opening
-use Rattle.cct_journal.specs.Image.{IsAlien, IsBadAt, StandsFor, header, least_size}
+use Rattle.cct_journal.specs.Image.{IsAlien, IsBadAt, header, least_size}
 use Rattle.cct_journal.specs.Opening.{RefusesOpen}
-use Rattle.cct_journal.specs.Stands.{Reads}
 use Rattle.cct_report.specs.declared.listing.ReportEnd.{ReportEnd}
 use Rattle.cct_report.specs.declared.listing.ReportEnd.TheVariants.{Done, Unwritten, DiskFailed, Alien, Bad}
-use Rattle.cct_report.specs.Listing.{Decides, Finds, Lists, unopened}
-
--- the image that a read gives stands for what a journal reads
-pub reads_stand : {D : Type 0} {seen : D → Option (List ℕ)} {disk : D} {place : Place} {records : List Record}
-    (image : List ℕ) → seen disk ≡ Some image → Reads seen disk place records → StandsFor image records
-reads_stand image tells reads =
-    let same : reads.image ≡ image = let both = sym reads.tells ∙ tells in cc in
-    subst (λ (i : List ℕ). StandsFor i _) same reads.stands
+use Rattle.cct_report.specs.Listing.{Decides, Finds, FindsIn, Lists, unopened}
 
 -- what was written of records is so of an image that stands for them
 pub opened_finds : (how : ReportEnd) (image : List ℕ) (records : List Record) (nothing : Type 0)
-    (writes : List Entry → Result (Unit {0}) Failed → Type 0) → StandsFor image records → Lists how records writes
+    (writes : List Entry → Result (Unit {0}) Failed → Type 0) → FindsIn image records → Lists how records writes
     → Finds how image nothing
 opened_finds Done image records nothing writes stands lists = (records, stands)
 opened_finds Unwritten image records nothing writes stands lists = (records, stands)
@@ -56,7 +47,7 @@ behind_refused (b ∷ bs) (r ∷ rs) body rest tail refused fits same =
     omega (arith, few)
 
 -- an image has but one of the three
-stands_not_bad : (image : List ℕ) (records : List Record) (index : ℕ) → StandsFor image records
+stands_not_bad : (image : List ℕ) (records : List Record) (index : ℕ) → FindsIn image records
     → IsBadAt image index → ⊥
 stands_not_bad image records index stands bad =
     let at = bad.refused in

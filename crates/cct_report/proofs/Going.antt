@@ -12,8 +12,8 @@ use Rattle.cct_text.proofs.Writing.{wrote_none, writes_more, writes_then}
 use Rattle.cct_report.specs.declared.sums.Sums.{Sums}
 use Rattle.cct_report.specs.declared.listing.ReportEnd.{ReportEnd}
 use Rattle.cct_report.specs.declared.listing.ReportEnd.TheVariants.{Done, Unwritten, DiskFailed, Alien, Bad}
-use Rattle.cct_report.specs.Sums.{sums_of, with_record}
-use Rattle.cct_report.specs.Listing.{Lists, ListsOne, ListsSome, listed, listing_from, total_in, total_of}
+use Rattle.cct_report.specs.Sums.{no_sums, sums_over, with_record}
+use Rattle.cct_report.specs.Listing.{Lists, ListsOne, ListsSome, listed, listing_from, total_in, total_over}
 use Rattle.cct_report.proofs.Lines.{behind_first, listed_front, listing_more, sums_more}
 
 -- Records are the first of others.
@@ -26,7 +26,7 @@ pub record Going {K : Type 0} (written : K → Option (List ℕ))
     (sums : Sums) (index : ℕ) : Type 0 where
   pub read : List Record
   pub count : index ≡ length read
-  pub summed : sums ≡ sums_of read
+  pub summed : sums ≡ sums_over no_sums read
   pub wrote : Wrote written puts before now (listing_from 0 read)
   pub first : (records : List Record) → holds records → IsFront read records
 
@@ -51,7 +51,7 @@ front_all read records front same =
 
 module _ {K : Type 0} (written : K → Option (List ℕ)) (puts : K → List ℕ → Result (Unit {0}) Failed → K → Type 0) where
   -- before the first record
-  pub going_starts : (before : K) (holds : List Record → Type 0) (sums : Sums) → sums ≡ sums_of []
+  pub going_starts : (before : K) (holds : List Record → Type 0) (sums : Sums) → sums ≡ no_sums
       → Going written puts before before holds sums 0
   going_starts before holds sums none = record {
     read = [];
@@ -65,11 +65,11 @@ module _ {K : Type 0} (written : K → Option (List ℕ)) (puts : K → List ℕ
   broke_within : (before between now : K) (read : List Record) (index : ℕ) (entry : Record) (failed : Failed)
       (records : List Record) → index ≡ length read → Wrote written puts before between (listing_from 0 read)
       → Writes written puts between (Listing index entry ∷ []) (Err failed) now → IsFront (read ++ entry ∷ []) records
-      → Writes written puts before (listed records) (Err failed) now
+      → Writes written puts before (listed 0 no_sums records) (Err failed) now
   broke_within before between now read index entry failed records count wrote broke front =
       let lines = listing_from 0 read in
       let found = listed_front (read ++ entry ∷ []) front.0 in
-      let whole : listed records ≡ (lines ++ Listing index entry ∷ []) ++ found.0 = ap listed front.1 ∙ found.1
+      let whole : listed 0 no_sums records ≡ (lines ++ Listing index entry ∷ []) ++ found.0 = ap (listed 0 no_sums) front.1 ∙ found.1
       ∙ ap (λ l. l ++ found.0) (listing_more index read entry count) in
       subst (λ l. Writes written puts before l (Err failed) now) (sym whole)
       (writes_more written puts before now (lines ++ Listing index entry ∷ []) found.0 failed
@@ -87,7 +87,7 @@ module _ {K : Type 0} (written : K → Option (List ℕ)) (puts : K → List ℕ
         let entry = one.0 in record {
           read = going.read ++ entry ∷ [];
           count = omega (arith, going.count, length-append going.read (entry ∷ []));
-          summed = one.2 ∙ ap (with_record entry) going.summed ∙ sums_more going.read entry;
+          summed = one.2 ∙ ap (with_record entry) going.summed ∙ sums_more no_sums going.read entry;
           wrote = subst (λ l. Wrote written puts before now l) (sym (listing_more index going.read entry going.count))
               (writes_then written puts before between now (listing_from 0 going.read) (Listing index entry ∷ [])
               (Ok tt) going.wrote one.3);
@@ -138,15 +138,15 @@ module _ {K : Type 0} (written : K → Option (List ℕ)) (puts : K → List ℕ
     -- the line of the sums behind all records
     pub sums_told : (total : Entry) (answer : Result (Unit {0}) Failed) → total ≡ total_in sums
         → Writes written puts between (total ∷ []) answer now
-        → Writes written puts before (listed going.read) answer now
+        → Writes written puts before (listed 0 no_sums going.read) answer now
     sums_told total answer is wrote =
-        writes_then written puts before between now (listing_from 0 going.read) (total_of going.read ∷ []) answer
+        writes_then written puts before between now (listing_from 0 going.read) (total_over no_sums going.read ∷ []) answer
         going.wrote
         (subst (λ e. Writes written puts between (e ∷ []) answer now) (is ∙ ap total_in going.summed) wrote)
 
     pub sums_told_of : (total : Entry) (answer : Result (Unit {0}) Failed) (records : List Record) → holds records
         → index ≡ length records → total ≡ total_in sums → Writes written puts between (total ∷ []) answer now
-        → Writes written puts before (listed records) answer now
+        → Writes written puts before (listed 0 no_sums records) answer now
     sums_told_of total answer records held all is wrote =
         let whole = front_all going.read records (going.first records held) (sym all ∙ going.count) in
-        subst (λ l. Writes written puts before (listed l) answer now) (sym whole) (sums_told total answer is wrote)
+        subst (λ l. Writes written puts before (listed 0 no_sums l) answer now) (sym whole) (sums_told total answer is wrote)

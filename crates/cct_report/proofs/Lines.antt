@@ -1,13 +1,13 @@
 -- The lines of records, and their sums, one record after another.
-use Rattle.std.proofs.Common.{◌≡◌, ℕ, suc, ◌+◌, List, [], ◌∷◌, ◌++◌, length, Some, ◌∙◌, ap, arith}
+use Rattle.std.proofs.Common.{◌≡◌, ℕ, suc, ◌+◌, List, [], ◌∷◌, ◌++◌, length, Some, refl, ◌∙◌, ap, arith}
 use Rattle.std.proofs.Common.{append_assoc}
 use Rattle.std.specs.List.{slice_get}
-use Rattle.std.proofs.lemmas.List.Sums.{sum_by_push}
 use Rattle.cct_lines.specs.declared.record.Record.{Record}
 use Rattle.cct_lines.specs.declared.entry.Entry.{Entry}
 use Rattle.cct_lines.specs.declared.entry.Entry.TheVariants.{Listing}
-use Rattle.cct_report.specs.Sums.{lost_in, paid_in, posted_in, sold_in, sums_of, unpaid_in, with_record}
-use Rattle.cct_report.specs.Listing.{listed, listing_from, total_of}
+use Rattle.cct_report.specs.declared.sums.Sums.{Sums}
+use Rattle.cct_report.specs.Sums.{no_sums, sums_over, with_record}
+use Rattle.cct_report.specs.Listing.{listed, listing_from, total_over}
 
 listing_append : (n : ℕ) (xs ys : List Record)
     → listing_from n (xs ++ ys) ≡ listing_from n xs ++ listing_from (n + length xs) ys
@@ -28,9 +28,9 @@ listing_more index read entry count =
 
 -- the lines of the first records are the first of a listing
 pub listed_front : (first behind : List Record)
-    → (more : List Entry) × (listed (first ++ behind) ≡ listing_from 0 first ++ more)
+    → (more : List Entry) × (listed 0 no_sums (first ++ behind) ≡ listing_from 0 first ++ more)
 listed_front first behind =
-    let total = total_of (first ++ behind) ∷ [] in
+    let total = total_over no_sums (first ++ behind) ∷ [] in
     let others = listing_from (0 + length first) behind in (
       others ++ total,
       ap (λ l. l ++ total) (listing_append 0 first behind)
@@ -38,14 +38,10 @@ listed_front first behind =
     )
 
 -- the sums over records and one more
-pub sums_more : (read : List Record) (entry : Record) → with_record entry (sums_of read) ≡ sums_of (read ++ entry ∷ [])
-sums_more read entry =
-    let posted = sum_by_push posted_in read entry in
-    let lost = sum_by_push lost_in read entry in
-    let paid = sum_by_push paid_in read entry in
-    let unpaid = sum_by_push unpaid_in read entry in
-    let sold = sum_by_push sold_in read entry in
-    rw (posted, lost, paid, unpaid, sold)
+pub sums_more : (sums : Sums) (read : List Record) (entry : Record)
+    → with_record entry (sums_over sums read) ≡ sums_over sums (read ++ entry ∷ [])
+sums_more sums [] entry = refl
+sums_more sums (r ∷ read) entry = sums_more (with_record r sums) read entry
 
 -- the record behind the first ones is that of their number
 pub behind_first : (first behind : List Record) (entry : Record)

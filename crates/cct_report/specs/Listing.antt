@@ -7,7 +7,7 @@ use Rattle.cct_lines.specs.declared.entry.Entry.TheVariants.{Listing, Total}
 use Rattle.cct_journal.specs.Image.{IsAlien, IsBadAt, StandsFor}
 use Rattle.cct_journal.specs.declared.refusal.OpenNo.{OpenNo}
 use Rattle.cct_journal.specs.declared.refusal.OpenNo.TheVariants as opening
-use Rattle.cct_report.specs.Sums.{sums_of}
+use Rattle.cct_report.specs.Sums.{no_sums, sums_over}
 use Rattle.cct_report.specs.declared.sums.Sums.{Sums}
 use Rattle.cct_report.specs.declared.listing.ReportEnd.{ReportEnd}
 use Rattle.cct_report.specs.declared.listing.ReportEnd.TheVariants.{Done, Unwritten, DiskFailed, Alien, Bad}
@@ -21,19 +21,24 @@ listing_from index (r ∷ records) = Listing index r ∷ listing_from (suc index
 abbrev pub total_in : Sums → Entry
 total_in sums = Total sums.posted sums.lost sums.paid sums.unpaid sums.sold
 
--- The line of the sums over records.
-abbrev pub total_of : List Record → Entry
-total_of records = total_in (sums_of records)
+-- The line of these sums with those over records.
+abbrev pub total_over : Sums → List Record → Entry
+total_over sums records = total_in (sums_over sums records)
 
--- The listing of records: the line of each, and the line of their sums.
-abbrev pub listed : List Record → List Entry
-listed records = listing_from 0 records ++ total_of records ∷ []
+-- The listing of records behind so many others, over which the sums are these: the line of each, and the line of the sums
+-- over all.
+abbrev pub listed : ℕ → Sums → List Record → List Entry
+listed index sums records = listing_from index records ++ total_over sums records ∷ []
+
+-- An image has these records, the oldest first.
+abbrev pub FindsIn : List ℕ → List Record → Type 0
+FindsIn image records = StandsFor image records
 
 -- What was written of the listing of these records, by how it ended: the whole; up to a put that failed; or whole lines
 -- of the first records, where the disk failed.
 abbrev pub Lists : ReportEnd → List Record → (List Entry → Result (Unit {0}) Failed → Type 0) → Type 0
-Lists Done records writes = writes (listed records) (Ok tt)
-Lists Unwritten records writes = (failed : Failed) × writes (listed records) (Err failed)
+Lists Done records writes = writes (listed 0 no_sums records) (Ok tt)
+Lists Unwritten records writes = (failed : Failed) × writes (listed 0 no_sums records) (Err failed)
 Lists DiskFailed records writes =
     (first behind : List Record) × (records ≡ first ++ behind) × writes (listing_from 0 first) (Ok tt)
 Lists Alien records writes = ⊥
@@ -41,8 +46,8 @@ Lists (Bad index) records writes = ⊥
 
 -- What was written of the listing of records that are told by no image, by how it ended.
 abbrev pub ListsSome : ReportEnd → (List Entry → Result (Unit {0}) Failed → Type 0) → Type 0
-ListsSome Done writes = (read : List Record) × writes (listed read) (Ok tt)
-ListsSome Unwritten writes = (read : List Record) × (failed : Failed) × writes (listed read) (Err failed)
+ListsSome Done writes = (read : List Record) × writes (listed 0 no_sums read) (Ok tt)
+ListsSome Unwritten writes = (read : List Record) × (failed : Failed) × writes (listed 0 no_sums read) (Err failed)
 ListsSome DiskFailed writes = (read : List Record) × writes (listing_from 0 read) (Ok tt)
 ListsSome Alien writes = writes [] (Ok tt)
 ListsSome (Bad index) writes = (read : List Record) × writes (listing_from 0 read) (Ok tt)
@@ -50,15 +55,15 @@ ListsSome (Bad index) writes = (read : List Record) × writes (listing_from 0 re
 -- What the image of a disk is to a listing, by how it ended: it stands for records, where any line was to be written;
 -- else nothing was written, and it has no journal, or one with a record that is spelt wrongly.
 abbrev pub Finds : ReportEnd → List ℕ → Type 0 → Type 0
-Finds Done image nothing = (records : List Record) × StandsFor image records
-Finds Unwritten image nothing = (records : List Record) × StandsFor image records
-Finds DiskFailed image nothing = ((records : List Record) × StandsFor image records) ⊎ nothing
+Finds Done image nothing = (records : List Record) × FindsIn image records
+Finds Unwritten image nothing = (records : List Record) × FindsIn image records
+Finds DiskFailed image nothing = ((records : List Record) × FindsIn image records) ⊎ nothing
 Finds Alien image nothing = IsAlien image × nothing
 Finds (Bad index) image nothing = IsBadAt image index × nothing
 
 -- A listing ended as the image decides.
 pub record Decides (how : ReportEnd) (image : List ℕ) : Type 0 where
-  pub done : (records : List Record) → StandsFor image records → how ≡ Done
+  pub done : (records : List Record) → FindsIn image records → how ≡ Done
   pub alien : IsAlien image → how ≡ Alien
   pub bad : (index : ℕ) → IsBadAt image index → how ≡ Bad index
 

@@ -1,6 +1,5 @@
 -- What the records of a journal sum up to.
-use Rattle.std.specs.Prelude.{ℕ, ◌+◌, List, length}
-use Rattle.std.specs.List.{sum_by}
+use Rattle.std.specs.Prelude.{ℕ, ◌+◌, List, [], ◌∷◌, length}
 use Rattle.cct_lines.specs.declared.record.Record.{Record}
 use Rattle.cct_lines.specs.declared.record.Record.TheVariants.{Reading, Broken, Closed, Sold}
 use Rattle.cct_report.specs.declared.sums.Sums.{Sums}
@@ -31,16 +30,6 @@ abbrev pub sold_in : Record → ℕ
 sold_in (Sold id price) = price
 sold_in r = 0
 
--- The sums over records.
-abbrev pub sums_of : List Record → Sums
-sums_of records = record {
-  posted = sum_by posted_in records;
-  lost = sum_by lost_in records;
-  paid = sum_by paid_in records;
-  unpaid = sum_by unpaid_in records;
-  sold = sum_by sold_in records;
-}
-
 -- Sums with one record more.
 abbrev pub with_record : Record → Sums → Sums
 with_record entry sums = record {
@@ -50,6 +39,21 @@ with_record entry sums = record {
   unpaid = sums.unpaid + unpaid_in entry;
   sold = sums.sold + sold_in entry;
 }
+
+-- The sums over no record.
+abbrev pub no_sums : Sums
+no_sums = record {
+  posted = 0;
+  lost = 0;
+  paid = 0;
+  unpaid = 0;
+  sold = 0;
+}
+
+-- These sums with those over records, the oldest first.
+abbrev pub sums_over : Sums → List Record → Sums
+sums_over sums [] = sums
+sums_over sums (r ∷ records) = sums_over (with_record r sums) records
 
 -- All sums together.
 abbrev pub together : Sums → ℕ

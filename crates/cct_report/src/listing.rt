@@ -4,12 +4,12 @@ ghost use Rattle.cct_edge.specs.Bytes.{TellsAsBefore};
 ghost use Rattle.cct_edge.specs.Faults.{Rose};
 ghost use Rattle.cct_lines.specs.declared.record.Record.{Record};
 ghost use Rattle.cct_disk.specs.Disk.{OnlyReads};
-ghost use Rattle.cct_journal.specs.Image.{StandsFor, least_size};
+ghost use Rattle.cct_journal.specs.Image.{least_size};
 ghost use Rattle.cct_journal.specs.Journal as journals;
 ghost use Rattle.cct_journal.specs.Stands.{Reads};
 ghost use Rattle.cct_text.specs.Writing.{Writes};
 ghost use Rattle.cct_report.specs.Sums.{together, with_record};
-ghost use Rattle.cct_report.specs.Listing.{Decides, Finds, Lists, ListsOne, ListsSome, unopened};
+ghost use Rattle.cct_report.specs.Listing.{Decides, Finds, FindsIn, Lists, ListsOne, ListsSome, unopened};
 
 use crate::sums::Sums;
 use cct_disk::Disk;
@@ -42,7 +42,7 @@ pub enum ReportEnd {
 pub fn list_journal<K: Sink, D: Disk>(out: &mut K, line: &mut TextLine, disk: D) -> (ReportEnd, D)
     // what the image of the disk stands for, and what was written of it
     ensures found { (image : List ℕ) → D.seen disk ≡ Some image → Finds result.0 image (out.new ≡ out.old) }
-    ensures every { (image : List ℕ) (records : List Record) → D.seen disk ≡ Some image → StandsFor image records
+    ensures every { (image : List ℕ) (records : List Record) → D.seen disk ≡ Some image → FindsIn image records
         → Lists result.0 records (λ entries answer. Writes K.written K.puts out.old entries answer out.new) }
 
     // what was written, whether or not the disk tells its bytes

@@ -15,20 +15,19 @@ use Rattle.cct_edge.specs.Faults.{next_count}
 use Rattle.cct_disk.specs.declared.disk.Disk.{Ghosts}
 use Rattle.cct_disk.specs.Disk.{IsTrusted}
 use Rattle.cct_journal.specs.declared.journal.Journal.{Journal}
-use Rattle.cct_journal.specs.Image as images
 use Rattle.cct_journal.specs.Image.{IsBadAt}
 use Rattle.cct_journal.specs.Journal as journals
-use Rattle.cct_journal.specs.Losing.{LeavesWith}
-use Rattle.cct_journal.specs.Stands.{CutOnce, Outlasts, Reads}
+use Rattle.cct_journal.specs.Stands.{CutOnce, Outlasts}
 use Rattle.cct_laws.specs.Restart.{CrashSuits, due_in}
 use Rattle.cct_host.specs.declared.host.Host.{Host}
 use Rattle.cct_host.specs.declared.refusal.CrashNo.{CrashNo}
 use Rattle.cct_host.specs.declared.refusal.CrashNo.TheVariants as crash_no
 use Rattle.cct_host.specs.declared.restart.Crashed.{Crashed}
 use Rattle.cct_host.specs.Attempt.{Attempt, asked, idle, news_of, put, put_of}
+use Rattle.cct_host.specs.Book.{FindsBad, FindsMany, LeavesBook, ReadsBook}
 use Rattle.cct_host.specs.Host as hosts
 use Rattle.cct_host.specs.Host.{put_by}
-use Rattle.cct_host.specs.Restarting.{HasAll, IsLost, Opens, ReadsBad, RefusesCrash, crash_news, due_of, told_by}
+use Rattle.cct_host.specs.Restarting.{HasAll, IsLost, Opens, RefusesCrash, crash_news, due_of, told_by}
 use Rattle.cct_host.specs.Starting.{StartsOver}
 use Rattle.cct_world.specs.declared.machine.Machine.{Machine}
 use Rattle.cct_world.specs.Machine.{Breaks, DueAsTold, StandsFor}
@@ -93,23 +92,14 @@ restarts_count setup due used many seen news restarts =
     restarts.all.count
     ∙ ap (λ rs. used + length rs) (sym (ap records restarts.news_are ∙ told_records many restarts.all.kept))
 
-same_image : (one other : List ℕ) (seen : Option (List ℕ)) → seen ≡ Some one → seen ≡ Some other → one ≡ other
-same_image one other seen is too = cc (is, too)
-
 module _ {D : Type 0} {g : Ghosts D} where
   -- why no host starts again
   bad_by : (old new : Journal D g) (due : Option Record) (setup : Setup) (index : ℕ) (image : List ℕ)
-      → g.seen (journals.disk_of new) ≡ Some image
       → IsBadAt image index
-      ⊎ (HasAll due (journals.used_of new) (journals.used_of old) × ReadsBad new setup index)
+      ⊎ (HasAll due (journals.used_of new) (journals.used_of old) × FindsBad setup image (journals.used_of new) index)
       → IsBadAt image index ⊎ HasBad setup (journals.used_of old) due image index
-  bad_by old new due setup index image tells (inl bad) = inl bad
-  bad_by old new due setup index image tells (inr (all, (rs, reads, bad))) = inr (
-    rs,
-    subst (λ i. images.StandsFor i rs) (same_image reads.image image _ reads.tells tells) reads.stands,
-    subst (λ n. HasAll due n (journals.used_of old)) reads.count all,
-    bad,
-  )
+  bad_by old new due setup index image (inl bad) = inl bad
+  bad_by old new due setup index image (inr (all, bad)) = inr (journals.used_of new, all, bad)
 
   loses_by : (old new : Journal D g) (due : Option Record) (setup : Setup) (why : CrashNo)
       → (why ≡ crash_no.Disk → ⊥) → RefusesCrash old new due setup why
@@ -117,15 +107,11 @@ module _ {D : Type 0} {g : Ghosts D} where
   loses_by old new due setup crash_no.Disk other refused = absurd (other refl)
   loses_by old new due setup crash_no.Alien other refused = refused
   loses_by old new due setup (crash_no.BadRecord index) other refused =
-      λ image tells. bad_by old new due setup index image tells (refused image tells)
+      λ image tells. bad_by old new due setup index image (refused image tells)
   loses_by old new due setup (crash_no.Lost found many) other refused = (
     refused.1,
     subst (IsLost due found) refused.1 refused.2,
-    λ image tells. let opens = refused.3 image tells in (
-      opens.0,
-      subst (λ i. images.StandsFor i opens.0) (same_image opens.1.image image _ opens.1.tells tells) opens.1.stands,
-      sym opens.1.count ∙ sym refused.0,
-    ),
+    λ image tells. subst (FindsMany setup image) (sym refused.0) (refused.3 image tells),
   )
 
   crash_loses : (old : Machine D g) (host : Host D g) (at : Option CrashAt) (why : CrashNo)
@@ -152,8 +138,8 @@ module _ {D : Type 0} {g : Ghosts D} where
       → ((past : List Entry) → hosts.StandsFor old.host past → CrashSuits (hosts.setup_of old.host) past at
       → IsTrusted g.honest g.seen (hosts.disk_of old.host) → why ≡ crash_no.Disk)
       → ((past : List Entry) → hosts.StandsFor old.host past → IsTrusted g.honest g.seen (hosts.disk_of old.host)
-      → LeavesWith g.honest g.seen g.may_leave (hosts.disk_of host) (due_in (hosts.setup_of old.host) past at)
-      (reverse (records past)))
+      → LeavesBook (hosts.setup_of old.host) g.honest g.seen g.may_leave (hosts.disk_of host)
+      (due_in (hosts.setup_of old.host) past at) (reverse (records past)))
       → ((past : List Entry) → hosts.StandsFor old.host past
       → due_of old.host at ≡ due_in (hosts.setup_of old.host) past at)
       → Breaks old (hosts.disk_of host) (unplayed why) (step.Crash at choice)
@@ -168,8 +154,9 @@ module _ {D : Type 0} {g : Ghosts D} where
 
   -- a host starts again
   pub crash_restarts : (old new : Host D g) (at : Option CrashAt) (crashed : Crashed) (news : List Entry)
-      → news ≡ crash_news crashed → hosts.setup_of new ≡ hosts.setup_of old → Opens (hosts.journal_of new)
-      → ((rs : List Record) → Reads g.seen (hosts.disk_of new) (journals.place_of (hosts.journal_of new)) rs
+      → news ≡ crash_news crashed → hosts.setup_of new ≡ hosts.setup_of old → Opens (hosts.setup_of new) (hosts.journal_of new)
+      → ((rs : List Record)
+      → ReadsBook (hosts.setup_of new) g.seen (hosts.disk_of new) (journals.place_of (hosts.journal_of new)) rs
       → StartsOver new (reverse rs))
       → crashed.records ≡ journals.used_of (hosts.journal_of new)
       → crashed.records ≡ journals.used_of (hosts.journal_of old) + length (put_by crashed.kept)
@@ -181,10 +168,11 @@ module _ {D : Type 0} {g : Ghosts D} where
     news_are = told ∙ ap (λ n. told_by n crashed.kept) records;
     whole = λ image tells. let opened = opens image tells in (
       opened.0,
-      subst (λ i. images.StandsFor i opened.0) (same_image opened.1.image image _ opened.1.tells tells)
-          opened.1.stands,
-      sym opened.1.count,
-      subst (λ setup. all_follow setup (reverse opened.0) ≡ true) same (recalls opened.0 opened.1).over.follow,
+      opened.1,
+      opened.2,
+      subst (λ setup. all_follow setup (reverse opened.0) ≡ true) same
+          (recalls opened.0
+          (record { image = image; tells = tells; stands = opened.1; count = sym opened.2 })).over.follow,
     );
   }
 

@@ -1,5 +1,5 @@
 -- What a disk has behind a loss of power: a journal over which the host starts again, or why it doesn't.
-use Rattle.std.specs.Prelude.{◌≡◌, ◌⊎◌, ℕ, suc, Bool, true, List, [], ◌∷◌, ◌++◌, length, reverse, Option, Some, None}
+use Rattle.std.specs.Prelude.{◌≡◌, ◌⊎◌, ℕ, suc, Bool, List, [], ◌∷◌, ◌++◌, length, Option, Some, None}
 use Rattle.cct_model.specs.terms.device.Setup.{Setup}
 use Rattle.cct_model.specs.lines.command.CrashAt.{CrashAt}
 use Rattle.cct_model.specs.lines.command.Step.{Step}
@@ -7,26 +7,20 @@ use Rattle.cct_model.specs.lines.command.Step.TheVariants as step
 use Rattle.cct_model.specs.lines.record.Record.{Record}
 use Rattle.cct_model.specs.lines.entry.Entry.{Entry}
 use Rattle.cct_model.specs.lines.entry.Entry.TheVariants as entry
-use Rattle.cct_model.specs.Following.{all_follow}
 use Rattle.cct_model.specs.Records.{records}
-use Rattle.cct_journal.specs.Image.{IsAlien, IsBadAt, StandsFor}
+use Rattle.cct_journal.specs.Image.{IsAlien, IsBadAt}
 use Rattle.cct_journal.specs.Stands.{Outlasts}
 use Rattle.cct_laws.specs.Restart.{due_in}
+use Rattle.cct_host.specs.Book.{FindsBad, FindsMany, FindsWhole}
 use Rattle.cct_host.specs.Restarting.{HasAll, IsLost, told_by}
-use Rattle.cct_host.specs.Starting.{IsFirstBad}
 use Rattle.cct_world.specs.declared.refusal.WorldNo.{WorldNo}
 use Rattle.cct_world.specs.declared.refusal.WorldNo.TheVariants as world_no
 use Rattle.cct_world.specs.Step.{count_after, crashes}
 
--- An image stands for so many records.
-abbrev pub HasRecords : List ℕ → ℕ → Type 0
-HasRecords image many = (rs : List Record) × StandsFor image rs × (length rs ≡ many)
-
--- An image stands for records of which none is missing, and the one of this index is the first that doesn't follow
--- those before it.
+-- An image has so many records of which none is missing, and the one of this index is the first that doesn't follow those
+-- before it.
 abbrev pub HasBad : Setup → ℕ → Option Record → List ℕ → ℕ → Type 0
-HasBad setup put due image index =
-    (rs : List Record) × StandsFor image rs × HasAll due (length rs) put × IsFirstBad setup rs index
+HasBad setup put due image index = (many : ℕ) × HasAll due many put × FindsBad setup image many index
 
 -- Why no host starts again behind a loss of power, where so many records were put and this one was due, if one was, by
 -- what a read of the disk then gives, where that is told: it has no journal; a record can't be read, or none is missing
@@ -37,13 +31,11 @@ Loses setup put due seen world_no.Alien = (image : List ℕ) → seen ≡ Some i
 Loses setup put due seen (world_no.BadRecord index) =
     (image : List ℕ) → seen ≡ Some image → IsBadAt image index ⊎ HasBad setup put due image index
 Loses setup put due seen (world_no.Lost found many) =
-    (many ≡ put) × IsLost due found put × ((image : List ℕ) → seen ≡ Some image → HasRecords image found)
+    (many ≡ put) × IsLost due found put × ((image : List ℕ) → seen ≡ Some image → FindsMany setup image found)
 
--- What a read gives, where that is told, stands for so many records, each of which follows those before it.
+-- What a read gives, where that is told, has so many records, and each follows those before it.
 abbrev pub IsWhole : Setup → Option (List ℕ) → ℕ → Type 0
-IsWhole setup seen many =
-    (image : List ℕ) → seen ≡ Some image
-    → (rs : List Record) × StandsFor image rs × (length rs ≡ many) × (all_follow setup (reverse rs) ≡ true)
+IsWhole setup seen many = (image : List ℕ) → seen ≡ Some image → FindsWhole setup image many
 
 -- A host starts again behind a loss of power, where so many records were put and this one was due, if one was: these are
 -- its entries, newest first; none of the records is missing; so many does its journal then count; and a read of the

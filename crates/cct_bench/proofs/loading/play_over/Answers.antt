@@ -34,3 +34,6 @@ returns-in-Err-clause-played g c given ready on =
     (Broke sink.written sink.puts out out)
     (disks disk.size disk.honest disk.seen disk.may_leave disk.cuts disk.cut_to given c.in-Err.disk)
     (ap disk.cuts c.in-Err.ensures.disk ∙ on.same_cuts) (wrote_none sink.written sink.puts out)
+
+pub play_load-how-requires-clause-fresh : goal.play_load-how-requires-clause-fresh
+play_load-how-requires-clause-fresh g c = c.in-Ok.ensures.fresh (c.requires.stands c.load_setup.new.setup)

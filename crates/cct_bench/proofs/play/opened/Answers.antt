@@ -12,7 +12,7 @@ returns-in-Ok-clause-size g c =
     c.in-Ok.ensures.goes_on.same_size ∙ (sym c.len-len.ensures ∙ c.if-len-ne-JOURNAL_BYTES.false)
 
 pub returns-in-Ok-clause-stands : goal.returns-in-Ok-clause-stands
-returns-in-Ok-clause-stands g c trusted =
+returns-in-Ok-clause-stands g c setup trusted =
     let on = c.in-Ok.ensures.goes_on in
     c.in-Ok.ensures.stands (sym on.same_honest ∙ trusted.0) (sym on.same_telling ∙ trusted.1)
 

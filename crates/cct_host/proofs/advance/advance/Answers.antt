@@ -4,10 +4,11 @@ use Rattle.cct_model.specs.Following.{is_allowed}
 use Rattle.cct_model.specs.Money.{freed_by, reserved_at_work}
 use Rattle.cct_model.specs.Records.{records}
 use Rattle.cct_journal.specs.Journal as journals
-use Rattle.cct_journal.specs.Stands.{Stands}
 use Rattle.cct_ledger.specs.Ledger as ledgers
+use Rattle.cct_host.specs.Book.{HasBook}
 use Rattle.cct_host.specs.Desks.{reserved_of, setup_of}
 use Rattle.cct_host.specs.Host.{put_by}
+use Rattle.cct_host.proofs.Hosts.{if_failed}
 use Rattle.cct_host.proofs.Money.{allowed_is}
 use Rattle.cct_host.proofs.advance.advance.Goals as goal
 
@@ -24,8 +25,8 @@ returns-clause-puts g c past stands =
       used = c.in_ok-put.ensures.counted
           ∙ ap (λ d. journals.used_of c.args.journal.now + length (put_by d)) due_is;
       book = λ stood. subst
-          (λ d. Stands disk.honest disk.seen disk.may_leave (journals.disk_of written) (journals.place_of written)
-          (reverse (records past) ++ put_by d)) due_is (c.in_ok-put.ensures.done (reverse (records past)) stood);
+          (λ d. HasBook setup disk.honest disk.seen disk.may_leave (journals.disk_of written) (journals.place_of written)
+          (reverse (records past) ++ put_by d)) due_is (c.in_ok-put.ensures.done setup (reverse (records past)) stood);
       posts = λ takes stood.
           let allowed = allowed_is due _ setup (records past) (reserved_at_work setup past) (reserved_of turned)
           (c.go_on.ensures.same ∙ c.requires.same)
@@ -37,3 +38,10 @@ returns-clause-puts g c past stands =
           (c.enter.ensures.posts (records past) (reserved_of turned) allowed
           (c.go_on.ensures.stands (records past) stood));
     }
+
+pub returns-in_err-put-clause-fails : goal.returns-in_err-put-clause-fails
+returns-in_err-put-clause-fails g c =
+    let failed = c.in_err-put.ensures.left in
+    if_failed c.from_residual.result _
+    (λ past stands.
+    (failed.0, sym (c.due-due.ensures.stands past stands) ∙ failed.1, failed.2 (setup_of c.args.desks.now)))

@@ -14,12 +14,8 @@ returns-in-Ok-clause-found g c image told =
     let seen = c.has_header.ensures.reads.same_seen ∙ told in
     let over = c.in-Ok.ensures.replayed in (
       reverse over.before,
-      record {
-        image = image;
-        tells = c.replay_records.ensures.reads.same_seen ∙ seen;
-        stands = counted_stands image _ (over.fact image seen) long header_is;
-        count = over.count ∙ sym (length-reverse over.before);
-      },
+      counted_stands image _ (over.fact image seen) long header_is,
+      omega (arith, length-reverse over.before, over.count),
     )
 
 pub returns-in-Ok-clause-every : goal.returns-in-Ok-clause-every
@@ -30,8 +26,12 @@ returns-in-Ok-clause-every g c image records told stands =
       image = image;
       tells = c.replay_records.ensures.reads.same_seen ∙ seen;
       stands = stands;
-      count = over.count ∙ sym (length-reverse over.before)
-          ∙ ap length (counted_same image _ records (over.fact image seen) stands);
+      count = omega (
+        arith,
+        over.count,
+        length-reverse over.before,
+        ap length (counted_same image _ records (over.fact image seen) stands),
+      );
     }
 
 pub returns-in-Ok-clause-told : goal.returns-in-Ok-clause-told
@@ -39,7 +39,7 @@ returns-in-Ok-clause-told g c records reads =
     let over = c.in-Ok.ensures.replayed in
     let seen = sym c.replay_records.ensures.reads.same_seen ∙ reads.tells in
     let same = counted_same reads.image _ records (over.fact reads.image seen) reads.stands in
-    subst (λ before. g.R.Replay.replayed c.args.replay.now before c.replay_records.new.replay)
+    subst (λ before. g.R.Replay.replayed 0 c.args.replay.now before c.replay_records.new.replay)
     (sym (reverse-reverse over.before) ∙ ap reverse same) over.over
 
 pub returns-in-Err-clause-refused : goal.returns-in-Err-clause-refused

@@ -7,7 +7,7 @@ use Rattle.cct_journal.proofs.reading.replay_records.Goals as goal
 
 pub returns-then-slot-clause-replayed : goal.returns-then-slot-clause-replayed
 returns-then-slot-clause-replayed g c =
-    replayed_all _ _ _ _ _ _ c.loop-index.invariant.replayed
+    replayed_all _ _ _ _ _ _ _ c.loop-index.invariant.replayed
     (λ records walked image told.
     let all : c.capacity_in-capacity.result ≡ capacity_of (length image) = c.capacity_in-capacity.ensures
     ∙ ap capacity_of (c.len.ensures ∙ sym (g.met.D.Disk.fits _ image told)) in
@@ -30,8 +30,8 @@ pub loop-index-preserved : goal.loop-index-preserved
 loop-index-preserved g c = record {
   reads = reads_then c.loop-index.invariant.reads c.read_slot.ensures.reads;
   later = omega (arith, c.loop-index.invariant.later, c.read_slot.ensures.cause.later);
-  replayed = replayed_on _ _ _ _ c.loop-index.index c.in-Some.entry _ c.loop-index.invariant.replayed
-      (c.replay.ensures c.args.replay.now)
+  replayed = replayed_on _ _ _ _ _ c.loop-index.index c.in-Some.entry _ c.loop-index.invariant.replayed
+      (c.replay.ensures 0 c.args.replay.now)
       (λ image told.
       let all : c.capacity_in-capacity.result ≡ capacity_of (length image) = c.capacity_in-capacity.ensures
       ∙ ap capacity_of (c.len.ensures ∙ sym (g.met.D.Disk.fits _ image told)) in

@@ -1,9 +1,9 @@
-use Rattle.std.proofs.Common.{◌≡◌, ◌∙◌, refl, sym, subst}
+use Rattle.std.proofs.Common.{◌≡◌, refl, sym, subst}
 use Rattle.cct_edge.specs.Faults.{Rose}
 use Rattle.cct_edge.proofs.Chains.{Rose-earlier}
 use Rattle.cct_text.specs.Writing.{Writes}
 use Rattle.cct_report.specs.Listing.{Decides, Finds}
-use Rattle.cct_report.proofs.Ends.{decides, opened_finds, reads_stand, unopened_decides, unopened_finds}
+use Rattle.cct_report.proofs.Ends.{decides, opened_finds, unopened_decides, unopened_finds}
 use Rattle.cct_report.proofs.listing.list_journal.Goals as goal
 
 pub returns-in-Ok-clause-found : goal.returns-in-Ok-clause-found
@@ -12,8 +12,7 @@ returns-in-Ok-clause-found g c image told =
     let found = c.in-Ok.ensures.found image told in
     opened_finds c.list_records-how.result image found.0 (c.list_records-how.new.out ≡ c.args.out.now)
     (λ entries answer. Writes sink.written sink.puts c.args.out.now entries answer c.list_records-how.new.out)
-    (reads_stand image (c.in-Ok.ensures.reads.same_seen ∙ told) found.1)
-    (c.list_records-how.ensures.every found.0 found.1)
+    found.1 (c.list_records-how.ensures.every found.0 (c.in-Ok.ensures.every image found.0 told found.1))
 
 pub returns-in-Ok-clause-complete : goal.returns-in-Ok-clause-complete
 returns-in-Ok-clause-complete g c image told no_write no_disk =

@@ -43,7 +43,7 @@ returns-in-Ok-build-clause-played g c given ready on stands =
     going_by Always left0 left lines first (at_steps (setup_of world)) IsUnbegun IsNothing W
     (wrote_nothing sink.written sink.puts out) opened in
     let same = c.in-Ok-build.ensures.disk in
-    let fresh = c.in-Ok-build.ensures.fresh stands in
+    let fresh = c.in-Ok-build.ensures.fresh (stands c.read_setup.new.setup) in
     c.play_steps.ensures.played left0 given ready
     (subst (Outlasts disk.size disk.honest disk.seen disk.cuts given) (sym same)
     (lasts_on disk.size disk.honest disk.seen disk.cuts given _ on))

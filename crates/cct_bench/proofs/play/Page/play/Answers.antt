@@ -24,7 +24,7 @@ returns-in-Err-write_entries-clause-ended g c =
       used_of next,
       record {
         report = c.step.new.report.items;
-        plays = books_play world next last s c.step.new.report.items c.requires.size played.plays is;
+        plays = books_play world next last s c.step.new.report.items c.requires.size played.plays is played.setup;
         told = played.told;
         cut = subst (CutsIn s disk.size disk.honest disk.seen disk.cuts disk.cut_to (disk_of world)) (sym is)
             played.cut;

@@ -3,25 +3,25 @@ use Rattle.cct_host.proofs.Records.{all_good, bad_next, bad_stays}
 use Rattle.cct_host.proofs.recall.RecollectionReplay.replay.Goals as goal
 
 pub returns-then-is_some : goal.returns-then-is_some
-returns-then-is_some c first before many over = record {
+returns-then-is_some c from first before many over = record {
   setup = over.setup;
   same = over.same;
   unused = over.unused;
   reserved = over.reserved;
   counted = omega (arith, over.counted);
-  over = bad_stays c.args.self.now.bad _ _ _ before _ (sym c.is_some.ensures ∙ c.if-is_some.true) over.over;
+  over = bad_stays from c.args.self.now.bad _ _ _ before _ (sym c.is_some.ensures ∙ c.if-is_some.true) over.over;
 }
 
 pub returns-in-Err : goal.returns-in-Err
-returns-in-Err c first before many over =
+returns-in-Err c from first before many over =
     let desks = c.args.self.now.desks in
-    let before_it = all_good c.args.self.now.bad _ _ _ before (sym c.is_some.ensures ∙ c.if-is_some.false) over.over in
+    let before_it = all_good from c.args.self.now.bad _ _ _ before (sym c.is_some.ensures ∙ c.if-is_some.false) over.over in
     record {
       setup = c.recall_entry.ensures.setup ∙ over.setup;
       same = c.recall_entry.ensures.same;
       unused = c.recall_entry.ensures.unused over.unused;
       reserved = c.recall_entry.ensures.reserved ∙ over.reserved;
       counted = omega (arith, c.recall_entry.ensures.counted, over.counted);
-      over = bad_next _ desks c.args.self.now.ledger before c.args.index c.args.entry.now
+      over = bad_next from _ desks c.args.self.now.ledger before c.args.index c.args.entry.now
           c.recall_entry.ensures.setup many before_it (c.in-Err.ensures.refused before before_it);
     }
