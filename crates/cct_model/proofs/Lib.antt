@@ -16,3 +16,4 @@ mod Refusals
 mod Ledger
 mod Forged
 mod Day
+mod SameRows

@@ -24,6 +24,7 @@ pub mod Scan
 pub mod Records
 pub mod Transcript
 pub mod Money
+pub mod Rows
 pub mod Refusal
 pub mod Following
 pub mod Honest
