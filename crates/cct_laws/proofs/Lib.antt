@@ -53,7 +53,6 @@ pub mod Replies
 pub mod Restarts
 pub mod Room
 pub mod Rounds
-pub mod Rows
 pub mod Safety
 pub mod Said
 pub mod Scans
@@ -68,6 +67,7 @@ pub mod Tests
 pub mod Texts
 pub mod Told
 pub mod Tries
+mod LastRows
 pub mod Unmoved
 pub mod Unodd
 pub mod Used

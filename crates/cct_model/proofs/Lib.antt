@@ -7,6 +7,8 @@ pub use Rattle.cct_lines.proofs.Sound
 pub mod Polls
 pub mod Doses
 pub mod OpenOrders
+pub mod Rows
+pub mod Tries
 mod Vectors
 mod Machine
 mod Payments
@@ -16,4 +18,3 @@ mod Refusals
 mod Ledger
 mod Forged
 mod Day
-mod SameRows

@@ -20,11 +20,11 @@ pub mod Reading
 pub mod Line
 pub mod Order
 pub mod Job
+pub mod Rows
 pub mod Scan
 pub mod Records
 pub mod Transcript
 pub mod Money
-pub mod Rows
 pub mod Refusal
 pub mod Following
 pub mod Honest

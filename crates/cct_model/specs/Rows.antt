@@ -1,9 +1,8 @@
 -- The table of jobs, and what is read off the rows of it that a job has left: what it sends or puts next, how it ends, what
 -- it may still put, what it reserves, and whether it can be halted.
-use Rattle.std.specs.Prelude.{ℕ, suc, zero, ◌+◌, Bool, true, false, List, [], ◌∷◌, Option, Some, None}
+use Rattle.std.specs.Prelude.{ℕ, suc, zero, Bool, true, false, List, [], ◌∷◌, Option, Some, None}
 use Rattle.cct_model.specs.terms.request.TheConstants.{ENABLE_CODE}
 use Rattle.cct_model.specs.terms.device.DeviceSetup.{DeviceSetup}
-use Rattle.cct_model.specs.terms.device.Setup.{Setup}
 use Rattle.cct_model.specs.terms.request.Request.{Request}
 use Rattle.cct_model.specs.terms.request.Request.TheVariants.{ResetDevice, SetMask, GetMask, SetMaster, ReadCredits, Enable, Dispense, GetLife}
 use Rattle.cct_model.specs.lines.record.Record.{Record}
@@ -21,7 +20,6 @@ use Rattle.cct_model.specs.Reply.{Reply}
 use Rattle.cct_model.specs.Reply as reply
 use Rattle.cct_model.specs.Line.{Line, exchange, put}
 use Rattle.cct_model.specs.Job.{done, tries, Row, sends, puts, no_row, put_or, ident_requests, path_set, path_read, Payment, state_row, open_row, close_row, address_of, judged_in, payment_in, end_of_close, end_of_credits, end_of_reading, end_of_tries}
-use Rattle.cct_model.specs.Money.{coins_of}
 
 -- How a job goes on behind a row: by its next row; it ends so; by the next row where the acceptor's counter is 0; where
 -- the reading means something, else it ends clean; with the path that was read it ends; a break ends it, and a reading
@@ -108,9 +106,17 @@ abbrev pub from : List TableRow → Judged → List TableRow
 from (puts_due reading behind ∷ rows) Nothing = rows
 from rows means = rows
 
+-- The rows that a job hasn't done.
+abbrev pub rest : DeviceSetup → Command → List Line → List TableRow
+rest d c since = after (rows_of d c) (done since)
+
+-- The rows of a command at a device that are left after so many, beside what was judged.
+abbrev pub left_at : DeviceSetup → Command → ℕ → Judged → List TableRow
+left_at d c n means = from (after (rows_of d c) n) means
+
 -- The rows of a job that are left, beside its epoch.
 abbrev pub left : DeviceSetup → Command → List Line → EpochState → List TableRow
-left d c since state = from (after (rows_of d c) (done since)) (judged_in c since state)
+left d c since state = left_at d c (done since) (judged_in c since state)
 
 -- The rows of a sale that are left.
 abbrev pub left_of_sale : Command → List Line → List TableRow
@@ -133,31 +139,23 @@ first addr means p (asks_once q behind without ∷ rows) = sends q
 first addr means p (waits_for_coins ∷ rows) = state_row p.is_marked
 first addr means p (puts_due due behind ∷ rows) = due_row addr means p due
 
--- The row at which a job stands.
-abbrev pub row_now : DeviceSetup → Command → List Line → EpochState → Option OpenOrder → Row
-row_now d c since state owed = first (address_of c) (judged_in c since state) (payment_in since owed) (left d c since state)
+-- The row at which a job at a device stands, after so many rows.
+abbrev pub row_at : DeviceSetup → Command → ℕ → Judged → Payment → Row
+row_at d c n means p = first (address_of c) means p (left_at d c n means)
 
--- The row at which a sale stands.
-abbrev pub row_of_sale_now : Command → List Line → Row
-row_of_sale_now c since = first (address_of c) Nothing (payment_in since None) (left_of_sale c since)
+-- The row at which a job at a device stands, beside its epoch and its open order.
+abbrev pub row : DeviceSetup → Command → List Line → EpochState → Option OpenOrder → Row
+row d c since state owed = row_at d c (done since) (judged_in c since state) (payment_in since owed)
+
+-- The row at which a job that is at no device stands: a sale.
+abbrev pub row_of_sale : Command → List Line → Row
+row_of_sale c since = first (address_of c) Nothing (payment_in since None) (left_of_sale c since)
 
 -- How many records these rows may put.
 abbrev pub puts_in : List TableRow → ℕ
 puts_in [] = 0
 puts_in (puts_due due behind ∷ rows) = suc (puts_in rows)
 puts_in (row ∷ rows) = puts_in rows
-
--- What a record that is still to be put reserves, at an address.
-abbrev pub reserves : Setup → ℕ → Due → ℕ
-reserves setup addr (new_order id count) = coins_of setup addr count
-reserves setup addr (sale id price) = price
-reserves setup addr due = 0
-
--- What these rows reserve until they put their records.
-abbrev pub reserved_for : Setup → ℕ → List TableRow → ℕ
-reserved_for setup addr [] = 0
-reserved_for setup addr (puts_due due behind ∷ rows) = reserves setup addr due + reserved_for setup addr rows
-reserved_for setup addr (row ∷ rows) = reserved_for setup addr rows
 
 -- Among these rows is one that waits for a payout: a job that has it to come can be halted.
 abbrev pub has_waits : List TableRow → Bool
@@ -210,20 +208,27 @@ abbrev pub end_failed : List TableRow → ℕ → Option End
 end_failed (asks_once q behind without ∷ rows) failed = end_bare without
 end_failed rows failed = end_of_tries failed
 
--- The end that a record brings to the first of these rows.
+-- The end that a record brings to the first of these rows that may put it: one that puts what was judged puts a reading or
+-- a break.
 abbrev pub end_kept : List TableRow → Record → Option End
+end_kept [] r = None
+end_kept (puts_due reading behind ∷ rows) (record_of.Reading addr counter lost coins) =
+    end_by_record behind (record_of.Reading addr counter lost coins)
+end_kept (puts_due reading behind ∷ rows) (record_of.Broken addr seen counter coins) =
+    end_by_record behind (record_of.Broken addr seen counter coins)
+end_kept (puts_due reading behind ∷ rows) r = end_kept rows r
 end_kept (puts_due due behind ∷ rows) r = end_by_record behind r
-end_kept rows r = None
+end_kept (row ∷ rows) r = None
 
 -- The end that a line brings to a job at a device, if it brings one.
-abbrev pub end_now : DeviceSetup → Command → Line → List Line → EpochState → Option End
-end_now d c (put entry) since state = end_kept (left d c since state) entry
-end_now d c (exchange asked (Some y)) since state =
+abbrev pub end_of : DeviceSetup → Command → Line → List Line → EpochState → Option End
+end_of d c (put entry) since state = end_kept (rest d c since) entry
+end_of d c (exchange asked (Some y)) since state =
     end_answered (left d c since state) y (judged_in c (exchange asked (Some y) ∷ since) state)
-end_now d c (exchange (Some q) None) since state =
+end_of d c (exchange (Some q) None) since state =
     end_failed (left d c since state) (tries (header_of q) (exchange (Some q) None ∷ since))
-end_now d c line since state = None
+end_of d c line since state = None
 
 -- The end that a record brings to a sale, if it brings one.
-abbrev pub end_of_sale_now : Command → Record → List Line → Option End
-end_of_sale_now c r since = end_kept (left_of_sale c since) r
+abbrev pub end_of_sale : Command → Record → List Line → Option End
+end_of_sale c r since = end_kept (left_of_sale c since) r
