@@ -7,6 +7,7 @@ use Rattle.cct_model.specs.terms.request.Request.{Request}
 use Rattle.cct_model.specs.lines.record.Record.{Record}
 use Rattle.cct_model.specs.lines.record.Record.TheVariants as record_of
 use Rattle.cct_model.specs.lines.command.Command.{Command}
+use Rattle.cct_model.specs.declared.judging.Judged.TheVariants.{Nothing}
 use Rattle.cct_model.specs.lines.command.Command.TheVariants as command
 use Rattle.cct_model.specs.lines.entry.End.{End}
 use Rattle.cct_model.specs.lines.entry.Entry.{Entry}
@@ -17,7 +18,9 @@ use Rattle.cct_model.specs.Exchange.{ask}
 use Rattle.cct_model.specs.Line.{Line}
 use Rattle.cct_model.specs.Line as line
 use Rattle.cct_model.specs.Job as model
-use Rattle.cct_model.specs.Job.{done, row_of_sale, vend_row}
+use Rattle.cct_model.specs.Rows as table
+use Rattle.cct_model.specs.Job.{done, Payment, payment_in}
+use Rattle.cct_model.specs.Rows.{row_of_sale, rows_of_sale, after, first}
 use Rattle.cct_model.specs.Order.{order, order_by}
 use Rattle.cct_model.specs.Legal.{PollEntries, RowEntries, SaleRowEntries, due_of, record_due, with_end}
 use Rattle.cct_model.specs.Records.{id_of}
@@ -84,14 +87,15 @@ has_exchanges scans c since n owed asks = tt
 has_exchanges sales c since n owed asks = absurd asks
 
 -- what a sale puts is one
-vend_sold : (id price rows : ℕ) (r : Record) → vend_row id price rows ≡ model.puts r → record_of.Sold id price ≡ r
-vend_sold id price zero r is = cc
-vend_sold id price (suc rows) r is = absurd cc
+vend_sold : (id price rows : ℕ) (p : Payment) (r : Record)
+    → first HOST Nothing p (after (rows_of_sale (command.Vend id price)) rows) ≡ model.puts r → record_of.Sold id price ≡ r
+vend_sold id price zero p r is = cc
+vend_sold id price (suc rows) p r is = absurd cc
 
 row_sold : (c : Command) (since : List Line) (r : Record) (past : List Entry) → row_of_sale c since ≡ model.puts r
     → (owner past r ≡ HOST) × (sold_line r ≡ line.put r ∷ [])
 row_sold (command.Vend id price) since r past is =
-    subst (λ x. (owner past x ≡ HOST) × (sold_line x ≡ line.put x ∷ [])) (vend_sold id price (done since) r is)
+    subst (λ x. (owner past x ≡ HOST) × (sold_line x ≡ line.put x ∷ [])) (vend_sold id price (done since) (payment_in since None) r is)
     (refl, refl)
 row_sold c since r past is = absurd cc
 
@@ -143,14 +147,14 @@ idle_attempts gives link addr state owed desk report reported none same ordered 
 device_entries : (hears : List ℕ → List ℕ) (d : DeviceSetup) (past : List Entry) (c : Command) (since : List Line)
     (q : Request) (sent heard : List ℕ) (end : Option End)
     → sent ≡ ask d.kind d.addr q → heard ≡ hears sent
-    → end ≡ model.end_of d c (line_heard d sent heard) since (model.epoch (lines_of d past))
+    → end ≡ table.end_of d c (line_heard d sent heard) since (model.epoch (lines_of d past))
     → RowEntries hears d past c since (model.sends q) (with_end d.addr (entry.Wire d.addr sent heard) end)
 device_entries hears d past c since q sent heard end sent_is heard_is end_is =
     let n = model.epoch (lines_of d past) in
     subst (λ s. with_end d.addr (entry.Wire d.addr sent heard) end ≡ with_end d.addr (entry.Wire d.addr s (hears s))
-    (model.end_of d c (line_heard d s (hears s)) since n)) sent_is
+    (table.end_of d c (line_heard d s (hears s)) since n)) sent_is
     (ap (with_end d.addr (entry.Wire d.addr sent heard)) end_is
-    ∙ ap (λ p. with_end d.addr (entry.Wire d.addr sent p) (model.end_of d c (line_heard d sent p) since n)) heard_is)
+    ∙ ap (λ p. with_end d.addr (entry.Wire d.addr sent p) (table.end_of d c (line_heard d sent p) since n)) heard_is)
 
 asked_entries : (hears : List ℕ → List ℕ) (place : Place) (past : List Entry) (c : Command) (since : List Line)
     (sent heard : List ℕ) (end : Option End)
@@ -266,7 +270,7 @@ put_by hears sales past old new r state last owed left end kept told reported (m
     let after = sells.goes c since works in
     record {
       entries = subst (λ k. NextAt hears sales past k (with_end HOST (entry.Put r) end)) (sym was)
-          (subst (λ x. SaleRowEntries c x (with_end HOST (entry.Put r) end)) (sym row)
+          (subst (λ x. SaleRowEntries c since x (with_end HOST (entry.Put r) end)) (sym row)
           (ap (with_end HOST (entry.Put r)) (ends sales c (line.put r) since (model.epoch (sale_lines past))
           (order (sale_lines past)) after)));
       at = end_at_too HOST past (entry.Put r) end (put_at HOST past r sold.0);
@@ -281,7 +285,7 @@ put_by hears (device d) past old new r state last owed left end kept told report
     let puts = puts_on.needs d c since n o works in
     let own : owner past r ≡ d.addr =
     puts.owned past (due_owns past d.addr r _ (ap (due_of d (lines_of d past)) was ∙ ap record_due puts.row_is) owns) in
-    let end_is : end ≡ model.end_of d c (line.put r) since n =
+    let end_is : end ≡ table.end_of d c (line.put r) since n =
     ends (device d) c (line.put r) since n (order_by r o) (puts_on.goes d c since n n o works) in
     record {
       entries = subst (λ k. NextAt hears (device d) past k (with_end d.addr (entry.Put r) end)) (sym was)

@@ -13,7 +13,8 @@ use Rattle.cct_model.specs.declared.judging.EpochState.{EpochState}
 use Rattle.cct_model.specs.declared.judging.OpenOrder.{OpenOrder}
 use Rattle.cct_model.specs.Exchange.{device_at}
 use Rattle.cct_model.specs.Job as model
-use Rattle.cct_model.specs.Job.{done, row, row_of_sale}
+use Rattle.cct_model.specs.Job.{done}
+use Rattle.cct_model.specs.Rows.{row, row_of_sale}
 use Rattle.cct_model.specs.Legal.{due_of, due_of_sale, due_there, record_due}
 use Rattle.cct_model.specs.Line.{Line}
 use Rattle.cct_model.specs.Money.{coins_of, freed_by, hopper_value, reserved_at_work, reserved_by, sum_over}
@@ -30,7 +31,7 @@ use Rattle.cct_jobs.specs.declared.stage.Stage.{Stage}
 use Rattle.cct_jobs.specs.declared.stage.Stage.TheVariants.{Reads, Looks, Pays}
 use Rattle.cct_jobs.specs.declared.stage.Visit.TheVariants.{Round, Stop}
 use Rattle.cct_jobs.specs.Jobs.{Needs, Stands, closes_order, coins_reserved, end_of_job, is_closing, may_put_of, need_of, newest_end, order_of, price_reserved, stage_puts}
-use Rattle.cct_jobs.specs.Sales.{NeedsSale, StandsSale, end_of_sale}
+use Rattle.cct_jobs.specs.Sales.{NeedsSale, StandsSale, newest_sale_end}
 use Rattle.cct_jobs.proofs.Needs.{end_known, may_put_known, need_known}
 use Rattle.cct_jobs.proofs.Reserves.{closes_known, frees_by, reserves_known}
 use Rattle.cct_jobs.proofs.Sales.{price_freed, sale_end_known, sale_may_put, sale_need_known, sale_price}
@@ -114,9 +115,9 @@ held_over (d ∷ ds) (k ∷ ks) past all =
     ap₂ (λ m n. m + n) (held_desk d k past all.0) (held_over ds ks past all.1)
 
 sale_on : (job : Job) (c : Command) (since : List Line) → is_running (Some job) ≡ true → StandsSale job c since
-    → end_of_sale c since ≡ None
+    → newest_sale_end c since ≡ None
 sale_on job c since runs at =
-    let is : end_of_job job ≡ end_of_sale c since = sale_end_known job c since _ refl at in
+    let is : end_of_job job ≡ newest_sale_end c since = sale_end_known job c since _ refl at in
     sym is ∙ none_by (end_of_job job) runs
 
 sale_held_works : (job : Option Job) (j : model.Job) (owed : Option Owed) (state : EpochState)
@@ -161,7 +162,7 @@ pub due_is : (setup : Setup) (d : DeviceSetup) (k : JobDesk) (past : List Entry)
 due_is setup d k past addr found is sits =
     due_works d (lines_of d past) k.job _ k.runs sits.works ∙ sym (ap (due_there past addr) is)
 
-sale_due_needed : (n : Need) (c : Command) (since : List Line) → NeedsSale n c since → end_of_sale c since ≡ None
+sale_due_needed : (n : Need) (c : Command) (since : List Line) → NeedsSale n c since → newest_sale_end c since ≡ None
     → put_in n ≡ record_due (row_of_sale c since)
 sale_due_needed need.Exchange c since needs on = absurd needs
 sale_due_needed (need.Put entry) c since needs on = sym (ap record_due needs)

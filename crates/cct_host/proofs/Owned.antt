@@ -5,13 +5,15 @@ use Rattle.cct_model.specs.terms.wire.TheConstants.{HOST}
 use Rattle.cct_model.specs.terms.device.DeviceSetup.{DeviceSetup}
 use Rattle.cct_model.specs.terms.device.Setup.{Setup}
 use Rattle.cct_model.specs.lines.command.Command.{Command}
+use Rattle.cct_model.specs.declared.judging.Judged.TheVariants.{Nothing}
 use Rattle.cct_model.specs.lines.command.Command.TheVariants as command
 use Rattle.cct_model.specs.lines.entry.Entry.{Entry}
 use Rattle.cct_model.specs.declared.judging.OpenOrder.{OpenOrder}
 use Rattle.cct_model.specs.Exchange.{device_at}
 use Rattle.cct_model.specs.Line.{Line}
 use Rattle.cct_model.specs.Job as model
-use Rattle.cct_model.specs.Job.{done, row_of_sale, vend_row}
+use Rattle.cct_model.specs.Job.{done, Payment, payment_in}
+use Rattle.cct_model.specs.Rows.{row_of_sale, rows_of_sale, after, first}
 use Rattle.cct_model.specs.Legal.{due_of, due_of_sale, due_there, record_due}
 use Rattle.cct_model.specs.Order.{order}
 use Rattle.cct_model.specs.Transcript.{lines_of, opened_at, sale_lines}
@@ -34,14 +36,15 @@ device_owns past addr d model.free opened = tt
 device_owns past addr d (model.works c since) opened = row_owns past addr d c since _ _ opened
 
 -- nor does a sale
-vend_owns : (past : List Entry) (addr id price rows : ℕ)
-    → IfSome (record_due (vend_row id price rows)) (ClosesItsOwn past addr)
-vend_owns past addr id price zero = tt
-vend_owns past addr id price (suc rows) = tt
+vend_owns : (past : List Entry) (addr id price rows : ℕ) (p : Payment)
+    → IfSome (record_due (first HOST Nothing p (after (rows_of_sale (command.Vend id price)) rows)))
+    (ClosesItsOwn past addr)
+vend_owns past addr id price zero p = tt
+vend_owns past addr id price (suc rows) p = tt
 
 sale_row_owns : (past : List Entry) (addr : ℕ) (c : Command) (since : List Line)
     → IfSome (record_due (row_of_sale c since)) (ClosesItsOwn past addr)
-sale_row_owns past addr (command.Vend id price) since = vend_owns past addr id price (done since)
+sale_row_owns past addr (command.Vend id price) since = vend_owns past addr id price (done since) (payment_in since None)
 sale_row_owns past addr c since = tt
 
 sale_owns : (past : List Entry) (addr : ℕ) (j : model.Job) → IfSome (due_of_sale j) (ClosesItsOwn past addr)

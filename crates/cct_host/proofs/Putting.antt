@@ -59,17 +59,18 @@ scan_records hears past model.free news is = after_is past news _ (records past)
 scan_records hears past (model.works c since) news is = poll_records hears past since (scan_row since) news is
 
 -- a sale
-sale_row_records : (past : List Entry) (c : Command) (row : model.Row) (news : List Entry) → SaleRowEntries c row news
+sale_row_records : (past : List Entry) (c : Command) (since : List Line) (row : model.Row) (news : List Entry)
+    → SaleRowEntries c since row news
     → records (news ++ past) ≡ put_by (record_due row) ++ records past
-sale_row_records past c (model.puts r) news is =
+sale_row_records past c since (model.puts r) news is =
     after_is past news _ (r ∷ records past) is (put_records past HOST r _)
-sale_row_records past c (model.sends q) news is = absurd is
-sale_row_records past c model.no_row news is = absurd is
+sale_row_records past c since (model.sends q) news is = absurd is
+sale_row_records past c since model.no_row news is = absurd is
 
 sale_records : (past : List Entry) (j : model.Job) (news : List Entry) → SaleEntries j news
     → records (news ++ past) ≡ put_by (due_of_sale j) ++ records past
 sale_records past model.free news is = after_is past news _ (records past) is refl
-sale_records past (model.works c since) news is = sale_row_records past c _ news is
+sale_records past (model.works c since) news is = sale_row_records past c since _ news is
 
 -- an address without a device
 all_is_no_host : (addr : ℕ) → (addr == BROADCAST) ≡ true → (addr == HOST) ≡ false

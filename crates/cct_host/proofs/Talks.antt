@@ -9,7 +9,8 @@ use Rattle.cct_model.specs.declared.judging.EpochState.{EpochState}
 use Rattle.cct_model.specs.declared.judging.OpenOrder.{OpenOrder}
 use Rattle.cct_model.specs.Exchange.{ask}
 use Rattle.cct_model.specs.Line.{Line}
-use Rattle.cct_model.specs.Job.{row, sends}
+use Rattle.cct_model.specs.Job.{sends}
+use Rattle.cct_model.specs.Rows.{row}
 use Rattle.cct_model.specs.Scan.{poll_of, scan_row}
 use Rattle.cct_model.specs.Transcript.{scan_line}
 use Rattle.cct_jobs.specs.declared.job.Job.{Job}

@@ -15,13 +15,14 @@ use Rattle.cct_model.specs.declared.judging.OpenOrder.{OpenOrder}
 use Rattle.cct_model.specs.Exchange.{ask}
 use Rattle.cct_model.specs.Line.{Line, exchange}
 use Rattle.cct_model.specs.Job as model
+use Rattle.cct_model.specs.Rows as table
 use Rattle.cct_model.specs.Order.{order}
 use Rattle.cct_model.specs.Scan.{end_of_scan, poll_of, scan_row}
 use Rattle.cct_model.specs.Legal.{NextEntries, SaleEntries, ScanEntries, due_at, due_of}
 use Rattle.cct_model.specs.Transcript.{lines_of, sale_lines, scan_line, scan_lines}
 use Rattle.cct_jobs.specs.declared.job.Job.{Job}
 use Rattle.cct_jobs.specs.Jobs.{ClosesItsOwn, SendsNext, Stands, line_heard}
-use Rattle.cct_jobs.specs.Sales.{StandsSale, end_of_sale}
+use Rattle.cct_jobs.specs.Sales.{StandsSale, newest_sale_end}
 use Rattle.cct_jobs.specs.Scans.{PollsNext, StandsScan}
 
 -- A device of the setup, the place of scans, or that of sales.
@@ -50,9 +51,9 @@ line_at sales sent heard = exchange None None
 
 -- The end that a line brings to a job at a place, if it brings one.
 abbrev pub end_at : Place → Command → Line → List Line → EpochState → Option End
-end_at (device d) c line since state = model.end_of d c line since state
+end_at (device d) c line since state = table.end_of d c line since state
 end_at scans c line since state = end_of_scan (line ∷ since)
-end_at sales c line since state = end_of_sale c (line ∷ since)
+end_at sales c line since state = newest_sale_end c (line ∷ since)
 
 -- The row of a job at a place sends something next.
 abbrev pub AsksNext : Place → Command → List Line → EpochState → Option OpenOrder → Type 0
@@ -63,7 +64,7 @@ AsksNext sales c since state owed = ⊥
 -- This piece is what the row of a job at a place sends.
 abbrev pub Asks : Place → Command → List Line → EpochState → Option OpenOrder → List ℕ → Type 0
 Asks (device d) c since state owed sent =
-    (q : Request) × (model.row d c since state owed ≡ model.sends q) × (sent ≡ ask d.kind d.addr q)
+    (q : Request) × (table.row d c since state owed ≡ model.sends q) × (sent ≡ ask d.kind d.addr q)
 Asks scans c since state owed sent =
     (poll : CheckKind × ℕ) × (scan_row since ≡ Some poll) × (sent ≡ ask poll.0 poll.1 (poll_of poll.1))
 Asks sales c since state owed sent = ⊥

@@ -1,5 +1,5 @@
 -- The credits and masks that a start, a round and a stop read, and what their puts leave.
-use Rattle.std.proofs.Common.{◌≡◌, ℕ, suc, ◌==◌, Bool, true, false, cond, List, ◌∷◌, refl, sym, ap, ap₂, subst, ◌∙◌, Option, Some, None, arith}
+use Rattle.std.proofs.Common.{◌≡◌, ℕ, suc, ◌==◌, Bool, true, false, cond, List, ◌∷◌, refl, sym, ap, ap₂, subst, ◌∙◌, Option, Some, None, arith, []}
 use Rattle.cct_model.specs.terms.coin.Credits.{Credits}
 use Rattle.cct_model.specs.terms.device.DeviceSetup.{DeviceSetup}
 use Rattle.cct_model.specs.terms.request.Request.TheVariants.{GetMask, ReadCredits}
@@ -14,7 +14,8 @@ use Rattle.cct_model.specs.lines.command.Command.TheVariants as command
 use Rattle.cct_model.specs.lines.entry.End.{End}
 use Rattle.cct_model.specs.lines.entry.End.TheVariants.{Broke, Posted, Stopped, Unquiet}
 use Rattle.cct_model.specs.Line.{Line, exchange, put}
-use Rattle.cct_model.specs.Job.{puts, Payment, payment_in, row, row_at, judged_in, judged_by, address_of, credits_read, done, end_of_answer, end_of_credits, end_of_put, end_of_start, start_row, stop_row}
+use Rattle.cct_model.specs.Job.{puts, Payment, payment_in, judged_in, judged_by, address_of, credits_read, done, end_of_credits, end_of_reading}
+use Rattle.cct_model.specs.Rows.{epoch_end, ends_as, row, row_at, TableRow, end_answered, end_kept, after, left_at, puts_due, rest, rows_of, reading, if_posted}
 use Rattle.cct_model.specs.Order.{order_by}
 use Rattle.cct_model.specs.Reading.{judge}
 use Rattle.cct_model.specs.Reply as reply
@@ -30,6 +31,11 @@ use Rattle.cct_jobs.specs.declared.job.Need.TheVariants as need
 use Rattle.cct_jobs.specs.declared.job.Job.TheVariants.{Asks, StartPuts, RoundPuts, StopPuts, StopEnds, OrderOpens, OrderCloses, Done}
 use Rattle.cct_jobs.specs.Jobs.{Asking, Opening, Putting, Stands, after_put, closing_by, need_of, newest_end, opened_by, round_after, rows_before, runs, stop_after, target_of, visiting}
 use Rattle.cct_jobs.proofs.Stages.{end_after}
+use Rattle.cct_model.specs.Reply.{Reply}
+
+-- the rows after so many
+abbrev after_rows : List TableRow → ℕ → List TableRow
+after_rows rows n = after rows n
 
 -- a start that read its credits
 
@@ -37,7 +43,12 @@ module _ {d : DeviceSetup} {device : Target} {mask failed : ℕ} {c : Command} {
     {owed : Option OpenOrder} (at : Asking d device (StartReads mask) failed c since state owed) (read : Credits) where
   read_end : newest_end d c (exchange (Some ReadCredits)
       (Some (reply.credits read)) ∷ since) state ≡ end_of_credits read.counter
-  read_end = end_after at tt (reply.credits read) ∙ ap (λ n. end_of_start n (reply.credits read)) (ap suc at.is_after)
+  read_end =
+      let k = command.Start d.addr mask in
+      let line = exchange (Some ReadCredits) (Some (reply.credits read)) in
+      end_after at (reply.credits read)
+      ∙ ap (λ n. end_answered (left_at d k n (judged_in k since state)) (reply.credits read) (judged_in k (line ∷ since) state))
+      at.is_after
 
   pub start_puts : (read.counter == 0) ≡ true
       → Stands d (StartPuts device mask) c (exchange (Some ReadCredits) (Some (reply.credits read)) ∷ since) state owed
@@ -49,8 +60,9 @@ module _ {d : DeviceSetup} {device : Target} {mask failed : ℕ} {c : Command} {
         record {
           command_is = at.command_is;
           row_is = ap (λ k. row d k (line ∷ since) state owed) at.command_is
-              ∙ ap (start_row d.addr mask) rows_are;
-          ends = refl;
+              ∙ ap (λ n. row_at d (command.Start d.addr mask) n (judged_in (command.Start d.addr mask) (line ∷ since) state)
+              (payment_in (line ∷ since) owed)) rows_are;
+          ends = ap (λ n. end_kept (after (rows_of d (command.Start d.addr mask)) n) (Epoch d.addr mask)) rows_are;
           goes_on = read_end ∙ ap (λ b. cond b None (Some (Unquiet read.counter))) quiet;
         },
       )
@@ -76,29 +88,31 @@ by_broken false false x r entry e = absurd cc
 
 -- the end that the put of a reading or of a break brings
 
-reading_posts : (a addr mask counter : ℕ) (read : Credits) (seen : ℕ) (entry : Record)
-    → judge addr mask counter read seen ≡ Reading entry → end_of_put (command.Round a) entry ≡ Some Posted
+reading_posts : (of_reading : Option End) (rows : List TableRow) (addr mask counter : ℕ) (read : Credits) (seen : ℕ)
+    (entry : Record) → judge addr mask counter read seen ≡ Reading entry
+    → end_kept (puts_due reading (if_posted of_reading) ∷ rows) entry ≡ of_reading
 unfolding judge
-reading_posts a addr mask counter read seen entry e =
-    ap (end_of_put (command.Round a)) (sym (by_reading _ _ _ _ entry e))
+reading_posts of_reading rows addr mask counter read seen entry e =
+    ap (end_kept (puts_due reading (if_posted of_reading) ∷ rows)) (sym (by_reading _ _ _ _ entry e))
 
-break_ends_round : (a addr mask counter : ℕ) (read : Credits) (seen : ℕ) (entry : Record)
-    → judge addr mask counter read seen ≡ Broken entry → end_of_put (command.Round a) entry ≡ Some Broke
+break_ends : (of_reading : Option End) (rows : List TableRow) (addr mask counter : ℕ) (read : Credits) (seen : ℕ)
+    (entry : Record) → judge addr mask counter read seen ≡ Broken entry
+    → end_kept (puts_due reading (if_posted of_reading) ∷ rows) entry ≡ Some Broke
 unfolding judge
-break_ends_round a addr mask counter read seen entry e =
-    ap (end_of_put (command.Round a)) (sym (by_broken _ _ _ _ entry e))
+break_ends of_reading rows addr mask counter read seen entry e =
+    ap (end_kept (puts_due reading (if_posted of_reading) ∷ rows)) (sym (by_broken _ _ _ _ entry e))
 
-reading_goes_on : (a addr mask counter : ℕ) (read : Credits) (seen : ℕ) (entry : Record)
-    → judge addr mask counter read seen ≡ Reading entry → end_of_put (command.Stop a) entry ≡ None
-unfolding judge
-reading_goes_on a addr mask counter read seen entry e =
-    ap (end_of_put (command.Stop a)) (sym (by_reading _ _ _ _ entry e))
+-- the end that a look at the mask brings
+abbrev end_of_visit : Visit → Judged → Option End
+end_of_visit visit_of.Round means = end_of_reading means
+end_of_visit visit_of.Stop means = None
 
-break_ends_stop : (a addr mask counter : ℕ) (read : Credits) (seen : ℕ) (entry : Record)
-    → judge addr mask counter read seen ≡ Broken entry → end_of_put (command.Stop a) entry ≡ Some Broke
-unfolding judge
-break_ends_stop a addr mask counter read seen entry e =
-    ap (end_of_put (command.Stop a)) (sym (by_broken _ _ _ _ entry e))
+looked_by : (visit : Visit) (d : DeviceSetup) (addr n : ℕ) (meant means : Judged) (y : Reply) → n ≡ suc (rows_before visit)
+    → end_answered (left_at d (visiting visit addr) n meant) y means ≡ end_of_visit visit means
+looked_by visit_of.Round d addr n meant means y at =
+    ap (λ m. end_answered (left_at d (command.Round addr) m meant) y means) at
+looked_by visit_of.Stop d addr n meant means y at =
+    ap (λ m. end_answered (left_at d (command.Stop addr) m meant) y means) at
 
 visit_here : (visit : Visit) (addr : ℕ) → address_of (visiting visit addr) ≡ addr
 visit_here visit_of.Round addr = refl
@@ -121,17 +135,17 @@ module _ {d : DeviceSetup} {device : Target} {visit : Visit} {recorded : Recorde
       ∙ ap (λ (t : Target). judge t.addr recorded.mask recorded.counter read seen) (sym at.device_is)
       ∙ meant
 
-  looked_end : newest_end d c (looked seen ∷ since) state ≡ end_of_answer d.body (visiting visit d.addr)
-      (suc (suc (rows_before visit))) (reply.mask seen) means
+  looked_end : newest_end d c (looked seen ∷ since) state ≡ end_of_visit visit means
   looked_end =
-      end_after at tt (reply.mask seen)
-      ∙ ap₂ (λ n m. end_of_answer d.body (visiting visit d.addr) n (reply.mask seen) m) (ap suc at.is_after) judged_is
+      end_after at (reply.mask seen)
+      ∙ looked_by visit d d.addr (done since) _ _ (reply.mask seen) at.is_after
+      ∙ ap (end_of_visit visit) judged_is
 
   -- a record that is put
   put_at : (entry : Record) (end : Option End)
       → ((p : Payment) → row_at d (visiting visit d.addr) (suc (suc (rows_before visit))) means p ≡ puts entry)
-      → end_of_answer d.body (visiting visit d.addr) (suc (suc (rows_before visit))) (reply.mask seen) means ≡ None
-      → end_of_put (visiting visit d.addr) entry ≡ end
+      → end_of_visit visit means ≡ None
+      → end_kept (after (rows_of d (visiting visit d.addr)) (suc (suc (rows_before visit)))) entry ≡ end
       → Putting d (visiting visit d.addr) entry end c (looked seen ∷ since) state owed
   put_at entry end is_row on ends = record {
     command_is = at.command_is;
@@ -140,7 +154,7 @@ module _ {d : DeviceSetup} {device : Target} {visit : Visit} {recorded : Recorde
         ap (λ k. row d k (looked seen ∷ since) state owed) at.command_is
         ∙ ap₂ (λ n m. row_at d (visiting visit d.addr) n m p) (ap suc at.is_after) judged_is
         ∙ is_row p;
-    ends = ends;
+    ends = ap (λ n. end_kept (after (rows_of d (visiting visit d.addr)) n) entry) (ap suc at.is_after) ∙ ends;
     goes_on = looked_end ∙ on;
   }
 
@@ -151,9 +165,9 @@ pub round_judges : {d : DeviceSetup} {device : Target} {recorded : Recorded} {re
     → Stands d (round_after means) c (looked seen ∷ since) state owed
 round_judges at seen Nothing e = looked_end at seen Nothing e
 round_judges {d} {read = read} at seen (Reading entry) e =
-    put_at at seen (Reading entry) e entry (Some Posted) (λ p. refl) refl (reading_posts d.addr _ _ _ read seen entry e)
+    put_at at seen (Reading entry) e entry (Some Posted) (λ p. refl) refl (reading_posts (Some Posted) [] _ _ _ read seen entry e)
 round_judges {d} {read = read} at seen (Broken entry) e =
-    put_at at seen (Broken entry) e entry (Some Broke) (λ p. refl) refl (break_ends_round d.addr _ _ _ read seen entry e)
+    put_at at seen (Broken entry) e entry (Some Broke) (λ p. refl) refl (break_ends (Some Posted) [] _ _ _ read seen entry e)
 
 pub stop_judges : {d : DeviceSetup} {device : Target} {recorded : Recorded} {read : Credits} {failed : ℕ} {c : Command}
     {since : List Line} {state : EpochState} {owed : Option OpenOrder}
@@ -166,13 +180,13 @@ stop_judges {d} {read = read} at seen (Reading entry) e = (
   at.device_is,
   ap suc at.is_after,
   λ e. cc,
-  put_at at seen (Reading entry) e entry None (λ p. refl) refl (reading_goes_on d.addr _ _ _ read seen entry e),
+  put_at at seen (Reading entry) e entry None (λ p. refl) refl (reading_posts None (puts_due epoch_end (ends_as Stopped) ∷ []) _ _ _ read seen entry e),
 )
 stop_judges {d} {read = read} at seen (Broken entry) e = (
   at.device_is,
   ap suc at.is_after,
   λ e. cc,
-  put_at at seen (Broken entry) e entry (Some Broke) (λ p. refl) refl (break_ends_stop d.addr _ _ _ read seen entry e),
+  put_at at seen (Broken entry) e entry (Some Broke) (λ p. refl) refl (break_ends None (puts_due epoch_end (ends_as Stopped) ∷ []) _ _ _ read seen entry e),
 )
 
 -- what a put leaves, whatever the epoch is then
@@ -180,7 +194,7 @@ stop_judges {d} {read = read} at seen (Broken entry) e = (
 put_ends : (d : DeviceSetup) (own : Command) (entry : Record) (end : Option End) (c : Command) (since : List Line)
     (state after : EpochState) (owed : Option OpenOrder) → Putting d own entry end c since state owed
     → newest_end d c (put entry ∷ since) after ≡ end
-put_ends d own entry end c since state after owed at = ap (λ k. end_of_put k entry) at.command_is ∙ at.ends
+put_ends d own entry end c since state after owed at = ap (λ k. end_kept (rest d k since) entry) at.command_is ∙ at.ends
 
 start_sets : (d : DeviceSetup) (device : Target) (mask : ℕ) (c : Command) (since : List Line) (state after : EpochState)
     (owed owed_after : Option OpenOrder) → Stands d (StartPuts device mask) c since state owed
@@ -204,8 +218,9 @@ stop_closes d device entry c since state after owed owed_after (device_is, rows_
     command_is = at.command_is;
     row_is =
         ap (λ k. row d k (put entry ∷ since) after owed_after) at.command_is
-        ∙ ap (λ n. stop_row d.addr n (judged_in (command.Stop d.addr) (put entry ∷ since) after)) (ap suc rows_are);
-    ends = refl;
+        ∙ ap (λ n. row_at d (command.Stop d.addr) n (judged_in (command.Stop d.addr) (put entry ∷ since) after)
+        (payment_in (put entry ∷ since) owed_after)) (ap suc rows_are);
+    ends = ap (λ n. end_kept (after_rows (rows_of d (command.Stop d.addr)) n) (EpochEnd d.addr)) (ap suc rows_are);
     goes_on = put_ends d (command.Stop d.addr) entry None c since state after owed at;
   },
 )

@@ -8,7 +8,8 @@ use Rattle.cct_model.specs.declared.judging.EpochState.{EpochState}
 use Rattle.cct_model.specs.declared.judging.Judged.{Judged}
 use Rattle.cct_model.specs.declared.judging.OpenOrder.{OpenOrder}
 use Rattle.cct_model.specs.Line.{Line, taken}
-use Rattle.cct_model.specs.Job.{Payment, can_halt, done, judged_in, open_row, pay_row, payment_in, row, row_at, works}
+use Rattle.cct_model.specs.Job.{Payment, can_halt, done, judged_in, open_row, payment_in, works}
+use Rattle.cct_model.specs.Rows.{row, row_at}
 use Rattle.cct_jobs.specs.declared.job.Job.{Job}
 use Rattle.cct_jobs.specs.declared.job.Job.TheVariants.{Asks, StartPuts, RoundPuts, StopPuts, StopEnds, OrderOpens, OrderCloses, ScanCallsSimple, ScanCallsCrc, ScanPollsSimple, ScanPollsCrc, Done}
 use Rattle.cct_jobs.specs.declared.owed.Owed.{Owed}
@@ -141,9 +142,9 @@ opens_still : (d : DeviceSetup) (own : Owed) (rows : ℕ) (p before : Payment) (
     → p.life ≡ before.life → rows ≡ 2 → row_at d (command.Pay d.addr own.order.id own.order.count) rows means p ≡ row_at d
     (command.Pay d.addr own.order.id own.order.count) rows meant before
 opens_still d own rows p before means meant same at =
-    ap (λ n. pay_row d.serial d.addr own.order.id own.order.count n p) at
+    ap (λ n. row_at d (command.Pay d.addr own.order.id own.order.count) n means p) at
     ∙ ap (open_row d.addr own.order.id own.order.count) same
-    ∙ sym (ap (λ n. pay_row d.serial d.addr own.order.id own.order.count n before) at)
+    ∙ sym (ap (λ n. row_at d (command.Pay d.addr own.order.id own.order.count) n meant before) at)
 
 opening_halts : (d : DeviceSetup) (device : Target) (own : Owed) (halted : Bool) (c k : Command) (since : List Line)
     (state : EpochState) (owed : Option OpenOrder) → Opening d device own halted c since state owed
@@ -163,7 +164,7 @@ opening_halts d device own halted c k since state owed at = record {
         (judged_in (command.Pay d.addr own.order.id own.order.count) since state) refl at.rows_are
         ∙ ap (λ j. row d j since state owed) (sym at.at.command_is)
         ∙ at.at.row_is;
-    ends = refl;
+    ends = at.at.ends;
     goes_on = refl;
   };
 }

@@ -14,7 +14,8 @@ use Rattle.cct_model.specs.terms.request.Request.{Request}
 use Rattle.cct_model.specs.terms.wire.CheckKind.{CheckKind}
 use Rattle.cct_model.specs.terms.wire.CheckKind.TheVariants.{Simple, Crc}
 use Rattle.cct_model.specs.Exchange.{ask}
-use Rattle.cct_model.specs.Job.{Row, address_of, credits_read, done, end_of_put, mask_read, sends, puts, puts_at, row}
+use Rattle.cct_model.specs.Job.{Row, address_of, credits_read, done, mask_read, sends, puts, puts_at, payment_in}
+use Rattle.cct_model.specs.Rows.{row, end_kept, after, rows_of}
 use Rattle.cct_model.specs.Line.{Line}
 use Rattle.cct_model.specs.Scan.{end_of_scan, poll_of, scan_row}
 use Rattle.cct_model.specs.Transcript.{owner}
@@ -50,13 +51,13 @@ needs_by d (StartPuts device mask) c since state owed (device_is, rows_are, at) 
 needs_by d (RoundPuts entry end) c since state owed at = record {
   is_here = ap address_of at.command_is;
   row_is = at.row_is;
-  owned = λ past owns. round_owner d.addr (done since) state (credits_read since) (mask_read since) past entry
+  owned = λ past owns. round_owner d d.addr (done since) state (credits_read since) (mask_read since) past entry (payment_in since owed)
       (ap (λ k. row d k since state owed) (sym at.command_is) ∙ at.row_is);
 }
 needs_by d (StopPuts device entry end) c since state owed (device_is, rows_are, apart, at) = record {
   is_here = ap address_of at.command_is;
   row_is = at.row_is;
-  owned = λ past owns. stop_owner d.addr (done since) state (credits_read since) (mask_read since) past entry
+  owned = λ past owns. stop_owner d d.addr (done since) state (credits_read since) (mask_read since) past entry (payment_in since owed)
       (ap (λ k. row d k since state owed) (sym at.command_is) ∙ at.row_is);
 }
 needs_by d (StopEnds device) c since state owed (device_is, at) = record {
@@ -175,10 +176,12 @@ stage_may_put (Pays row) d addr rows at = payout_may_put row d addr rows at
 stage_may_put stage d addr rows at = refl
 
 -- a record of a stop that isn't the epoch's end
-two_to_put : (addr rows : ℕ) (entry : Record) (end : Option End) → end_of_put (command.Stop addr) entry ≡ end
+two_to_put : (d : DeviceSetup) (addr rows : ℕ) (entry : Record) (end : Option End) → rows ≡ 3
+    → end_kept (after (rows_of d (command.Stop addr)) rows) entry ≡ end
     → end ≢ Some Stopped → puts_at (command.Stop addr) rows (puts entry) ≡ 2
-two_to_put addr rows (EpochEnd at) end ends apart = absurd (apart (sym ends))
-two_to_put addr rows entry end ends apart = refl
+two_to_put d addr rows (EpochEnd at) end third ends apart =
+    absurd (apart (sym ends ∙ ap (λ n. end_kept (after (rows_of d (command.Stop addr)) n) (EpochEnd at)) third))
+two_to_put d addr rows entry end third ends apart = refl
 
 put_row : (d : DeviceSetup) (own : Command) (entry : Record) (end : Option End) (c : Command) (since : List Line)
     (state : EpochState) (owed : Option OpenOrder) → Putting d own entry end c since state owed
@@ -200,7 +203,7 @@ may_put_by d (StartPuts device mask) c since state owed (device_is, rows_are, at
 may_put_by d (RoundPuts entry end) c since state owed at on =
     put_row d (command.Round d.addr) entry (Some end) c since state owed at
 may_put_by d (StopPuts device entry end) c since state owed (device_is, rows_are, apart, at) on =
-    sym (two_to_put d.addr (done since) entry end at.ends apart)
+    sym (two_to_put d d.addr (done since) entry end rows_are at.ends apart)
     ∙ put_row d (command.Stop d.addr) entry end c since state owed at
 may_put_by d (StopEnds device) c since state owed (device_is, at) on =
     put_row d (command.Stop d.addr) (EpochEnd d.addr) (Some Stopped) c since state owed at

@@ -6,7 +6,8 @@ use Rattle.cct_model.specs.lines.record.Record.TheVariants.{Epoch, EpochEnd}
 use Rattle.cct_model.specs.terms.device.DeviceSetup.{DeviceSetup}
 use Rattle.cct_model.specs.declared.judging.EpochState.{EpochState}
 use Rattle.cct_model.specs.Line.{Line}
-use Rattle.cct_model.specs.Job.{credits_read, done, mask_read, row}
+use Rattle.cct_model.specs.Job.{credits_read, done, mask_read, payment_in}
+use Rattle.cct_model.specs.Rows.{row}
 use Rattle.cct_model.specs.Order.{order_by}
 use Rattle.cct_jobs.specs.declared.job.Job.{Job}
 use Rattle.cct_jobs.specs.declared.job.Job.TheVariants.{Asks, StartPuts, RoundPuts, StopPuts, StopEnds, OrderOpens, OrderCloses, Done}
@@ -23,12 +24,12 @@ owes_by d (StartPuts device mask) c since state before entry e at =
     ap (λ r. order_by r (order_of before)) same
 owes_by d (RoundPuts own end) c since state before entry e at =
     let same : own ≡ entry = cc in
-    sym (round_owes (order_of before) d.addr (done since) state (credits_read since) (mask_read since) own
+    sym (round_owes d (order_of before) d.addr (done since) state (credits_read since) (mask_read since) own (payment_in since (order_of before))
     (ap (λ k. row d k since state (order_of before)) (sym at.command_is) ∙ at.row_is))
     ∙ ap (λ r. order_by r (order_of before)) same
 owes_by d (StopPuts device own end) c since state before entry e (device_is, rows_are, apart, at) =
     let same : own ≡ entry = cc in
-    sym (stop_owes (order_of before) d.addr (done since) state (credits_read since) (mask_read since) own
+    sym (stop_owes d (order_of before) d.addr (done since) state (credits_read since) (mask_read since) own (payment_in since (order_of before))
     (ap (λ k. row d k since state (order_of before)) (sym at.command_is) ∙ at.row_is))
     ∙ ap (λ r. order_by r (order_of before)) same
 owes_by d (StopEnds device) c since state before entry e at =

@@ -15,7 +15,8 @@ use Rattle.cct_model.specs.Reply.{Reply}
 use Rattle.cct_model.specs.Reply as reply
 use Rattle.cct_model.specs.Line.{Line, exchange}
 use Rattle.cct_model.specs.Order.{close}
-use Rattle.cct_model.specs.Job.{answer_ends, done, end_of, end_of_close, end_of_put, judged_in, pay_row, payment_in, puts, row}
+use Rattle.cct_model.specs.Job.{answer_ends, done, end_of_close, judged_in, payment_in, puts, tries}
+use Rattle.cct_model.specs.Rows.{end_of, row, row_at, end_failed, end_kept, after, left_at, rest, rows_of}
 use Rattle.cct_jobs.specs.declared.job.Job.TheVariants.{Asks, OrderCloses, OrderOpens}
 use Rattle.cct_jobs.specs.declared.owed.Owed.{Owed}
 use Rattle.cct_jobs.specs.declared.payout.Closing.{Closing}
@@ -24,8 +25,9 @@ use Rattle.cct_jobs.specs.declared.payout.Payout.{Payout}
 use Rattle.cct_jobs.specs.declared.payout.Payout.TheVariants.{Enables, Counts, Dispenses, Waits, Stops, Recounts}
 use Rattle.cct_jobs.specs.declared.stage.Stage.TheVariants.{Pays}
 use Rattle.cct_jobs.specs.declared.target.Target.{Target}
-use Rattle.cct_jobs.specs.Jobs.{Asking, Stands, closing_by, closing_end, newest_end, settling}
+use Rattle.cct_jobs.specs.Jobs.{Asking, Stands, closing_by, closing_end, newest_end, settling, rows_paid, opened_by}
 use Rattle.cct_jobs.proofs.Payouts.{close_row_is, payout_goes_on}
+use Rattle.cct_model.specs.Request.{header_of}
 
 module _ {d : DeviceSetup} {device : Target} {row : Payout} {failed : ℕ} {c : Command} {since : List Line}
     {state : EpochState} {owed : Option OpenOrder} (at : Asking d device (Pays row) failed c since state owed) where
@@ -73,10 +75,12 @@ count_opens {d} {device} {id} {count} {c = c} {since = since} {state = state} {o
             ∙ ap₂ (λ (o p : OpenOrder). command.Pay d.addr o.id p.count) (sym is) (sym is);
         row_is =
             ap (λ k. row d k (line ∷ since) state owed) at.command_is
-            ∙ ap (λ n. pay_row d.serial d.addr id count n (payment_in (line ∷ since) owed)) rows_are
+            ∙ ap (λ n. row_at d (command.Pay d.addr id count) n
+            (judged_in (command.Pay d.addr id count) (line ∷ since) state) (payment_in (line ∷ since) owed)) rows_are
             ∙ ap (λ a. puts (record_of.Opened id a count life)) (sym (ap (λ (t : Target). t.addr) at.device_is))
             ∙ ap (λ (o : OpenOrder). puts (record_of.Opened o.id o.addr o.count o.life)) (sym is);
-        ends = refl;
+        ends = ap (λ n. end_kept (after (rows_of d (command.Pay d.addr own.order.id own.order.count)) n) (opened_by own.order))
+            rows_are;
         goes_on = answer_goes_on at GetLife (reply.life life);
       };
     }
@@ -85,6 +89,16 @@ count_opens {d} {device} {id} {count} {c = c} {since = since} {state = state} {o
 
 module _ {d : DeviceSetup} {device : Target} {own : Owed} {serial failed : ℕ} {c : Command} {since : List Line}
     {state : EpochState} {owed : Option OpenOrder} where
+  -- nor does a dispense that isn't acknowledged
+  unheard_goes_on : {halted : Bool} → Asking d device (Pays (Dispenses serial own halted)) failed c since state owed
+      → newest_end d c (exchange (Some (Dispense serial own.order.count)) None ∷ since) state ≡ None
+  unheard_goes_on at =
+      let q = Dispense serial own.order.count in
+      let k = command.Pay d.addr own.order.id own.order.count in
+      ap (λ x. end_of d x (exchange (Some q) None) since state) at.command_is
+      ∙ ap (λ n. end_failed (left_at d k n (judged_in k since state)) (tries (header_of q) (exchange (Some q) None ∷ since)))
+      at.is_after.0
+
   unmarked_waits : (got : Option Reply)
       → Asking d device (Pays (Dispenses serial own false)) failed c since state owed
       → Asking d device (Pays (Waits closing_of.Payment own)) 0 c
@@ -95,7 +109,7 @@ module _ {d : DeviceSetup} {device : Target} {own : Owed} {serial failed : ℕ} 
     is_after = ap suc at.is_after.0;
     knows = (at.knows.0, at.knows.1, refl);
     trying = record { counted = refl; few = omega arith };
-    goes_on = refl;
+    goes_on = unheard_goes_on at;
   }
   unmarked_waits (Some y) at = record {
     device_is = at.device_is;
@@ -116,7 +130,7 @@ module _ {d : DeviceSetup} {device : Target} {own : Owed} {serial failed : ℕ} 
     is_after = ap suc at.is_after.0;
     knows = at.knows;
     trying = record { counted = refl; few = omega arith };
-    goes_on = refl;
+    goes_on = unheard_goes_on at;
   }
   marked_stops (Some y) at = record {
     device_is = at.device_is;
@@ -188,10 +202,13 @@ close_ends : (o : OpenOrder) (life : ℕ) → end_of_close (close o life) ≡ So
 unfolding close
 close_ends o life = close_ends_by _ o.id _ _ o.life life
 
-closing_ends : (closing : Closing) (o own : OpenOrder) (addr life : ℕ)
-    → end_of_put (closing_by closing own addr) (close o life) ≡ Some (closing_end (close o life))
-closing_ends closing_of.Payment o own addr life = close_ends o life
-closing_ends closing_of.Settlement o own addr life = close_ends o life
+closing_ends : (closing : Closing) (d : DeviceSetup) (o own : OpenOrder) (addr life rows : ℕ)
+    → rows ≡ suc (suc (rows_paid closing))
+    → end_kept (after (rows_of d (closing_by closing own addr)) rows) (close o life) ≡ Some (closing_end (close o life))
+closing_ends closing_of.Payment d o own addr life rows at =
+    ap (λ n. end_kept (after (rows_of d (command.Pay addr own.id own.count)) n) (close o life)) at ∙ close_ends o life
+closing_ends closing_of.Settlement d o own addr life rows at =
+    ap (λ n. end_kept (after (rows_of d (command.Settle addr)) n) (close o life)) at ∙ close_ends o life
 
 -- its life count is read again
 pub recount_closes : {d : DeviceSetup} {device : Target} {closing : Closing} {failed : ℕ} {c : Command}
@@ -219,8 +236,8 @@ recount_closes {d} {device} {closing} {failed} {c} {since} {state} {owed} own li
             rows_are at.knows refl
             ∙ ap puts (sym closes);
         ends =
-            ap (end_of_put (closing_by closing own.order d.addr)) closes
-            ∙ closing_ends closing own.order own.order d.addr life
+            ap (end_kept (rest d (closing_by closing own.order d.addr) (line ∷ since))) closes
+            ∙ closing_ends closing d own.order own.order d.addr life (suc (done since)) rows_are
             ∙ ap (λ r. Some (closing_end r)) (sym closes)
             ∙ ap Some (sym ends);
         goes_on = answer_goes_on at GetLife (reply.life life);

@@ -1,6 +1,6 @@
 -- The rows of a payment and of a settlement.
 use Rattle.std.specs.Prelude.{⊤}
-use Rattle.std.proofs.Common.{◌≡◌, ℕ, ◌<◌, ◌^◌, suc, Bool, true, false, List, ◌∷◌, refl, sym, ap, ap₂, subst, ◌∙◌, Option, Some, None}
+use Rattle.std.proofs.Common.{◌≡◌, ℕ, ◌<◌, ◌^◌, suc, Bool, true, false, List, ◌∷◌, refl, sym, ap, ap₂, subst, ◌∙◌, Option, Some, None, rules}
 use Rattle.cct_model.specs.terms.device.DeviceSetup.{DeviceSetup}
 use Rattle.cct_model.specs.terms.request.Request.{Request}
 use Rattle.cct_model.specs.terms.request.Request.TheVariants.{Dispense}
@@ -10,7 +10,8 @@ use Rattle.cct_model.specs.declared.judging.OpenOrder.{OpenOrder}
 use Rattle.cct_model.specs.Reply.{Reply}
 use Rattle.cct_model.specs.Line.{Line, exchange}
 use Rattle.cct_model.specs.Order.{close, is_marked}
-use Rattle.cct_model.specs.Job.{Payment, Row, address_of, close_row, end_of, is_once, puts, puts_at, row_at, sends, state_row}
+use Rattle.cct_model.specs.Job.{Payment, Row, address_of, close_row, is_once, puts, puts_at, sends, state_row}
+use Rattle.cct_model.specs.Rows.{end_of, row_at, rows_of}
 use Rattle.cct_msg.specs.Forms.{FitsItsBytes}
 use Rattle.cct_jobs.specs.declared.payout.Closing.{Closing}
 use Rattle.cct_jobs.specs.declared.payout.Closing.TheVariants as closing_of
@@ -18,6 +19,8 @@ use Rattle.cct_jobs.specs.declared.payout.Payout.{Payout}
 use Rattle.cct_jobs.specs.declared.payout.Payout.TheVariants.{Enables, Counts, Dispenses, Waits, Stops, Recounts}
 use Rattle.cct_jobs.specs.Jobs.{IsAfterPayout, IsPayoutAgain, KnowsPayout, closing_by, payout_by, payout_puts, payout_request, rows_paid}
 use Rattle.cct_jobs.proofs.Questions.{again_fits}
+use Rattle.cct_model.proofs.Rows.{EachRow, answer_end, AnswerEnds, IfEnd}
+use Rattle.cct_model.specs.lines.entry.End.{End}
 
 -- a row that waits isn't marked, and one that stops is
 abbrev pub MarkedFor : Payout → Bool → Type 0
@@ -81,17 +84,25 @@ payout_knows (Stops closing own) since owed knows = knows
 payout_knows (Recounts closing own) since owed knows = knows
 
 -- no answer ends the job
+none_ends : (row : Payout) (d : DeviceSetup) (addr : ℕ) → EachRow (AnswerEnds (λ end. ⊥)) (rows_of d (payout_by row addr))
+none_ends (Enables id count halted) d addr = search rules
+none_ends (Counts id count halted) d addr = search rules
+none_ends (Dispenses serial own halted) d addr = search rules
+none_ends (Waits closing_of.Payment own) d addr = search rules
+none_ends (Waits closing_of.Settlement own) d addr = search rules
+none_ends (Stops closing_of.Payment own) d addr = search rules
+none_ends (Stops closing_of.Settlement own) d addr = search rules
+none_ends (Recounts closing_of.Payment own) d addr = search rules
+none_ends (Recounts closing_of.Settlement own) d addr = search rules
+
+none_there : (end : Option End) → IfEnd (λ e. ⊥) end → end ≡ None
+none_there None none = refl
+none_there (Some end) none = absurd none
+
 pub payout_goes_on : (row : Payout) (d : DeviceSetup) (addr : ℕ) (q : Request) (y : Reply) (since : List Line)
     (state : EpochState) → end_of d (payout_by row addr) (exchange (Some q) (Some y)) since state ≡ None
-payout_goes_on (Enables id count halted) d addr q y since state = refl
-payout_goes_on (Counts id count halted) d addr q y since state = refl
-payout_goes_on (Dispenses serial own halted) d addr q y since state = refl
-payout_goes_on (Waits closing_of.Payment own) d addr q y since state = refl
-payout_goes_on (Waits closing_of.Settlement own) d addr q y since state = refl
-payout_goes_on (Stops closing_of.Payment own) d addr q y since state = refl
-payout_goes_on (Stops closing_of.Settlement own) d addr q y since state = refl
-payout_goes_on (Recounts closing_of.Payment own) d addr q y since state = refl
-payout_goes_on (Recounts closing_of.Settlement own) d addr q y since state = refl
+payout_goes_on row d addr q y since state =
+    none_there _ (answer_end (λ end. ⊥) d (payout_by row addr) (Some q) y since state (none_ends row d addr))
 
 -- what a row may still put
 pub payout_may_put : (row : Payout) (d : DeviceSetup) (addr rows : ℕ) → IsAfterPayout row d rows

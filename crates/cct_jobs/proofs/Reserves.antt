@@ -8,7 +8,8 @@ use Rattle.cct_model.specs.terms.device.Setup.{Setup}
 use Rattle.cct_model.specs.declared.judging.EpochState.{EpochState}
 use Rattle.cct_model.specs.declared.judging.OpenOrder.{OpenOrder}
 use Rattle.cct_model.specs.Exchange.{device_at}
-use Rattle.cct_model.specs.Job.{credits_read, done, mask_read, puts, row, works}
+use Rattle.cct_model.specs.Job.{credits_read, done, mask_read, puts, works, payment_in}
+use Rattle.cct_model.specs.Rows.{row}
 use Rattle.cct_model.specs.Line.{Line}
 use Rattle.cct_model.specs.Money.{coins_of, freed_by, hopper_value, reserved_by}
 use Rattle.cct_jobs.specs.declared.job.Job.{Job}
@@ -192,11 +193,11 @@ pub frees_by : (setup : Setup) (d : DeviceSetup) (job : Job) (c : Command) (sinc
 frees_by setup d (StartPuts device mask) c since state owed r is at = nothing setup d.addr ∙ freed_put setup _ r _ is refl
 frees_by setup d (RoundPuts entry end) c since state owed r is at =
     nothing setup d.addr ∙ freed_put setup entry r _ is
-    (round_frees setup d.addr (done since) state (credits_read since) (mask_read since) entry
+    (round_frees d setup d.addr (done since) state (credits_read since) (mask_read since) entry (payment_in since owed)
     (subst (λ k. row d k since state owed ≡ puts entry) at.command_is at.row_is))
 frees_by setup d (StopPuts device entry end) c since state owed r is (device_is, rows_are, apart, at) =
     nothing setup d.addr ∙ freed_put setup entry r _ is
-    (stop_frees setup d.addr (done since) state (credits_read since) (mask_read since) entry
+    (stop_frees d setup d.addr (done since) state (credits_read since) (mask_read since) entry (payment_in since owed)
     (subst (λ k. row d k since state owed ≡ puts entry) at.command_is at.row_is))
 frees_by setup d (StopEnds device) c since state owed r is at = nothing setup d.addr ∙ freed_put setup _ r _ is refl
 frees_by setup d (OrderOpens device own halted) c since state owed r is at =

@@ -8,7 +8,8 @@ use Rattle.cct_model.specs.terms.device.DeviceSetup.{DeviceSetup}
 use Rattle.cct_model.specs.terms.device.Setup.{Setup}
 use Rattle.cct_model.specs.declared.judging.EpochState.{EpochState}
 use Rattle.cct_model.specs.declared.judging.OpenOrder.{OpenOrder}
-use Rattle.cct_model.specs.Job.{done, puts_at, row_of_sale, works}
+use Rattle.cct_model.specs.Job.{done, puts_at, works}
+use Rattle.cct_model.specs.Rows.{row_of_sale}
 use Rattle.cct_model.specs.Line.{Line, put}
 use Rattle.cct_model.specs.Money.{freed_by, reserved_by}
 use Rattle.cct_jobs.specs.declared.job.Job.{Job}
@@ -17,13 +18,13 @@ use Rattle.cct_jobs.specs.declared.job.Need.{Need}
 use Rattle.cct_jobs.specs.declared.job.Need.TheVariants as need
 use Rattle.cct_jobs.specs.declared.owed.Owed.{Owed}
 use Rattle.cct_jobs.specs.Jobs.{Stands, after_put, closes_order, coins_reserved, end_of_job, halts, may_put_of, need_of, owed_after, price_reserved}
-use Rattle.cct_jobs.specs.Sales.{NeedsSale, StandsSale, end_of_sale}
+use Rattle.cct_jobs.specs.Sales.{NeedsSale, StandsSale, newest_sale_end}
 
 -- what it needs, and how it ended
 
 needs_by : (job : Job) (c : Command) (since : List Line) → StandsSale job c since → NeedsSale (need_of job) c since
 needs_by (SalePuts id price) c since at = ap₂ row_of_sale at.command_is at.unsold
-needs_by (Done end) c since at = ap₂ end_of_sale at.command_is at.sold ∙ ap Some (sym at.end_is)
+needs_by (Done end) c since at = ap₂ newest_sale_end at.command_is at.sold ∙ ap Some (sym at.end_is)
 needs_by job c since at = absurd at
 
 pub sale_need_known : (job : Job) (c : Command) (since : List Line) (n : Need) → n ≡ need_of job
@@ -31,40 +32,40 @@ pub sale_need_known : (job : Job) (c : Command) (since : List Line) (n : Need) �
 sale_need_known job c since n is at = rw is (needs_by job c since at)
 
 end_by : (job : Job) (c : Command) (since : List Line) → StandsSale job c since
-    → end_of_job job ≡ end_of_sale c since
-end_by (SalePuts id price) c since at = sym (ap (end_of_sale c) at.unsold)
+    → end_of_job job ≡ newest_sale_end c since
+end_by (SalePuts id price) c since at = sym (ap (newest_sale_end c) at.unsold)
 end_by (Done end) c since at = sym (needs_by (Done end) c since at)
 end_by job c since at = absurd at
 
 pub sale_end_known : (job : Job) (c : Command) (since : List Line) (end : Option End) → end ≡ end_of_job job
-    → StandsSale job c since → end ≡ end_of_sale c since
+    → StandsSale job c since → end ≡ newest_sale_end c since
 sale_end_known job c since end is at = is ∙ end_by job c since at
 
 -- what it may put, and what it reserves until then
 
-may_put_by : (job : Job) (c : Command) (since : List Line) → StandsSale job c since → end_of_sale c since ≡ None
+may_put_by : (job : Job) (c : Command) (since : List Line) → StandsSale job c since → newest_sale_end c since ≡ None
     → may_put_of job ≡ puts_at c (done since) (row_of_sale c since)
 may_put_by (SalePuts id price) c since at on =
     sym (ap (λ k. puts_at k (done since) (row_of_sale k since)) at.command_is)
 may_put_by (Done end) c since at on =
-    let ended : end_of_sale c since ≡ Some end = needs_by (Done end) c since at in
+    let ended : newest_sale_end c since ≡ Some end = needs_by (Done end) c since at in
     absurd cc
 may_put_by job c since at on = absurd at
 
 pub sale_may_put : (job : Job) (c : Command) (since : List Line) (n : ℕ) → n ≡ may_put_of job
-    → StandsSale job c since → end_of_sale c since ≡ None → n ≡ puts_at c (done since) (row_of_sale c since)
+    → StandsSale job c since → newest_sale_end c since ≡ None → n ≡ puts_at c (done since) (row_of_sale c since)
 sale_may_put job c since n is at on = is ∙ may_put_by job c since at on
 
 price_by : (setup : Setup) (job : Job) (c : Command) (since : List Line) → StandsSale job c since
-    → end_of_sale c since ≡ None → price_reserved job ≡ reserved_by setup (works c since)
+    → newest_sale_end c since ≡ None → price_reserved job ≡ reserved_by setup (works c since)
 price_by setup (SalePuts id price) c since at on = sym (ap (λ k. reserved_by setup (works k since)) at.command_is)
 price_by setup (Done end) c since at on =
-    let ended : end_of_sale c since ≡ Some end = needs_by (Done end) c since at in
+    let ended : newest_sale_end c since ≡ Some end = needs_by (Done end) c since at in
     absurd cc
 price_by setup job c since at on = absurd at
 
 pub sale_price : (setup : Setup) (job : Job) (c : Command) (since : List Line) (n : ℕ) → n ≡ price_reserved job
-    → StandsSale job c since → end_of_sale c since ≡ None → n ≡ reserved_by setup (works c since)
+    → StandsSale job c since → newest_sale_end c since ≡ None → n ≡ reserved_by setup (works c since)
 sale_price setup job c since n is at on = is ∙ price_by setup job c since at on
 
 -- the record that it is about to put frees just that

@@ -5,7 +5,7 @@ use Rattle.std.proofs.lemmas.Bool.{eqb-true}
 use Rattle.std.proofs.lemmas.Bool.Decides.{nat_tests}
 use Rattle.cct_model.specs.terms.device.DeviceSetup.{DeviceSetup}
 use Rattle.cct_model.specs.terms.request.Request.{Request}
-use Rattle.cct_model.specs.terms.request.Request.TheVariants.{SetMask, Dispense}
+use Rattle.cct_model.specs.terms.request.Request.TheVariants.{SetMask}
 use Rattle.cct_model.specs.declared.judging.EpochState.{EpochState}
 use Rattle.cct_model.specs.declared.judging.OpenOrder.{OpenOrder}
 use Rattle.cct_model.specs.declared.judging.Judged.{Judged}
@@ -14,7 +14,8 @@ use Rattle.cct_model.specs.lines.entry.End.TheVariants.{NoAnswer, Told}
 use Rattle.cct_model.specs.Request.{header_of}
 use Rattle.cct_model.specs.Reply.{Reply}
 use Rattle.cct_model.specs.Line.{Line, exchange}
-use Rattle.cct_model.specs.Job.{sends, Payment, payment_in, row, row_at, judged_in, end_of, end_of_answer, end_of_failure, end_of_tries, done, tries, is_once, answer_ends, ident_requests}
+use Rattle.cct_model.specs.Job.{sends, Payment, payment_in, judged_in, end_of_tries, done, tries, is_once, answer_ends, ident_requests}
+use Rattle.cct_model.specs.Rows.{row, row_at, end_of, end_answered, left}
 use Rattle.cct_msg.specs.Forms.{FitsItsBytes}
 use Rattle.cct_jobs.specs.declared.job.Job.{Job}
 use Rattle.cct_jobs.specs.declared.stage.Stage.{Stage}
@@ -24,6 +25,8 @@ use Rattle.cct_jobs.specs.declared.target.Target.{Target}
 use Rattle.cct_jobs.specs.Jobs.{Asking, IsAfter, IsAgain, Knows, Stands, Trying, after_failed, newest_end, own_of, question_after, request_of}
 use Rattle.cct_jobs.proofs.Payouts.{MarkedFor, marked_for, payout_again, payout_fits, payout_knows, row_of_payout}
 use Rattle.cct_jobs.proofs.Questions.{next_question, last_question, question_again, question_within, question_ends, again_fits, read_again, read_ends, set_again, set_ends}
+use Rattle.cct_model.proofs.Rows.{told_first, told_end}
+use Rattle.cct_model.proofs.Tries.{asked_fails}
 
 -- the row of a stage
 
@@ -46,7 +49,8 @@ row_of_stage (Reads Round recorded) d addr rows means p knows at = rw at refl
 row_of_stage (Reads Stop recorded) d addr rows means p knows at = rw at refl
 row_of_stage (Looks Round recorded read) d addr rows means p knows at = rw at refl
 row_of_stage (Looks Stop recorded read) d addr rows means p knows at = rw at refl
-row_of_stage (IdentAsks question) d addr rows means p knows at = rw at refl
+row_of_stage (IdentAsks question) d addr rows means p knows at =
+    told_first addr (ident_requests d.body) rows means p question at
 row_of_stage (PathSets place path) d addr rows means p knows at = rw at refl
 row_of_stage (PathReads place path) d addr rows means p knows at = rw at refl
 row_of_stage (Pays row) d addr rows means p knows at = row_of_payout row d addr rows means p at knows
@@ -90,12 +94,6 @@ ends_after (Pays row) d rows y settled at = absurd settled
 ends_after stage d rows y settled at = refl
 
 -- failed tries
-
--- what is sent once alone is a mask that lets coins in, or coins paid out
-pub fails_by_tries : (q : Request) (failed : ℕ) → is_once q ≡ false → end_of_failure q failed ≡ end_of_tries failed
-fails_by_tries (SetMask mask) failed again = absurd cc
-fails_by_tries (Dispense serial count) failed again = absurd cc
-fails_by_tries q failed again = refl
 
 -- tries of a row
 pub tried : (q : Request) (since : List Line)
@@ -159,7 +157,7 @@ module _ {d : DeviceSetup} {device : Target} {stage : Stage} {failed : ℕ} {c :
         knows = still_knows stage since state owed at.knows;
         trying = record { counted = now; few = count.1 };
         goes_on =
-            fails_by_tries (request_of stage) _ again
+            asked_fails d c since state owed (request_of stage) stage_row again _
             ∙ ap end_of_tries (sym now)
             ∙ ap (λ b. cond b (Some NoAnswer) None) not_third;
       }
@@ -168,7 +166,7 @@ module _ {d : DeviceSetup} {device : Target} {stage : Stage} {failed : ℕ} {c :
   pub stage_no_answer : IsAgain stage → after_failed failed ≡ None
       → newest_end d c (exchange (Some (request_of stage)) None ∷ since) state ≡ Some NoAnswer
   stage_no_answer is_again last =
-      fails_by_tries (request_of stage) _ (again_after stage d (done since) is_again at.is_after)
+      asked_fails d c since state owed (request_of stage) stage_row (again_after stage d (done since) is_again at.is_after) _
       ∙ ap end_of_tries (sym (tries_now (request_of stage) failed 3 since at.trying (sym (third_try failed last))))
 
   -- so many rows are done then
@@ -177,16 +175,12 @@ module _ {d : DeviceSetup} {device : Target} {stage : Stage} {failed : ℕ} {c :
   rows_after settled y =
       ap (λ b. cond b (suc (done since)) (done since)) (ends_after stage d (done since) y settled at.is_after)
 
-  -- the end that an answer brings, by the command and what was read
-  pub end_after : IsSettled stage → (y : Reply)
-      → newest_end d c (exchange (Some (request_of stage)) (Some y) ∷ since) state ≡ end_of_answer d.body
-      (own_of stage d.addr) (suc (done since)) y
+  -- the end that an answer brings, by the rows of the command that are left and what was read
+  pub end_after : (y : Reply)
+      → newest_end d c (exchange (Some (request_of stage)) (Some y) ∷ since) state ≡ end_answered
+      (left d (own_of stage d.addr) since state) y
       (judged_in (own_of stage d.addr) (exchange (Some (request_of stage)) (Some y) ∷ since) state)
-  end_after settled y =
-      ap (λ k. end_of d k (exchange (Some (request_of stage)) (Some y)) since state) at.command_is
-      ∙ ap (λ n. end_of_answer d.body (own_of stage d.addr) n y
-      (judged_in (own_of stage d.addr) (exchange (Some (request_of stage)) (Some y) ∷ since) state))
-      (rows_after settled y)
+  end_after y = ap (λ k. end_of d k (exchange (Some (request_of stage)) (Some y)) since state) at.command_is
 
 -- the questions of an identification
 
@@ -208,7 +202,8 @@ module _ {d : DeviceSetup} {device : Target} {question : Request} {failed : ℕ}
           is_after = ap (slice_get (ident_requests d.body)) (rows_after at tt y) ∙ more;
           knows = tt;
           trying = record { counted = refl; few = omega arith };
-          goes_on = end_after at tt y
+          goes_on = end_after at y
+              ∙ told_end (ident_requests d.body) (done since) _ y _ question at.is_after
               ∙ ap (λ b. cond b (Some Told) None) (question_within (ident_requests d.body) (suc (done since)) next more);
         }
 
@@ -217,7 +212,8 @@ module _ {d : DeviceSetup} {device : Target} {question : Request} {failed : ℕ}
     ident_told y e =
         let all : length (ident_requests d.body) ≡ suc (done since) =
         last_question (ident_requests d.body) (done since) question at.is_after (next_is ∙ e) in
-        end_after at tt y ∙ ap (λ b. cond b (Some Told) None) (eq-eqb _ _ all)
+        end_after at y ∙ told_end (ident_requests d.body) (done since) _ y _ question at.is_after
+        ∙ ap (λ b. cond b (Some Told) None) (eq-eqb _ _ all)
 
 -- the line of an answer, by the stage and the reply
 pub as_answered : (d : DeviceSetup) (job : Job) (c : Command) (since : List Line) (state : EpochState)

@@ -1,93 +1,110 @@
 -- What the definitions say of failed tries.
-use Rattle.std.proofs.Common.{◌≡◌, ◌≢◌, ◌↔◌, ℕ, suc, zero, ◌==◌, Bool, true, false, cond, List, ◌∷◌, length, refl, ap, ◌∙◌, Some, None, arith}
+use Rattle.std.proofs.Common.{◌≡◌, ◌≢◌, ◌↔◌, ℕ, suc, ◌==◌, Bool, true, false, cond, List, ◌∷◌, refl, ap, ◌∙◌, Some, None, arith, Option, subst, rules, sym, []}
 use Rattle.std.proofs.lemmas.Bool.{eqb-true, ne_eqb}
 use Rattle.cct_model.specs.lines.command.Command.{Command}
 use Rattle.cct_model.specs.lines.command.Command.TheVariants as command
 use Rattle.cct_model.specs.terms.device.DeviceBody.{DeviceBody}
 use Rattle.cct_model.specs.terms.device.DeviceSetup.{DeviceSetup}
-use Rattle.cct_model.specs.lines.entry.End.TheVariants.{NoAnswer, Told, Unquiet}
+use Rattle.cct_model.specs.lines.entry.End.TheVariants.{NoAnswer, Told, StartUnsure}
 use Rattle.cct_model.specs.terms.request.Request.{Request}
-use Rattle.cct_model.specs.terms.request.Request.TheVariants.{SetMask, Dispense}
+use Rattle.cct_model.specs.terms.request.Request.TheVariants.{SetMask, SetDefault, GetDefault, SetPath, GetPath}
 use Rattle.cct_model.specs.declared.judging.EpochState.{EpochState}
 use Rattle.cct_model.specs.declared.judging.Judged.{Judged}
-use Rattle.cct_model.specs.declared.judging.Judged.TheVariants.{Nothing, Reading, Broken}
-use Rattle.cct_model.specs.Job.{done, end_of, end_of_answer, end_of_failure, end_of_path, end_of_reading, end_of_round, end_of_start, end_of_tries, ident_requests, is_once, judged_in, tries}
+use Rattle.cct_model.specs.Job.{end_of_tries, ident_requests, is_once, judged_in, tries, Payment, sends, address_of, state_row, payment_in}
+use Rattle.cct_model.specs.Rows.{end_of, TableRow, Then, asks_for, telling, rows_of, first, row, ends_as, goes_on, asks_once, path_told, end_failed, end_bare, puts_due, left, waits_for_coins}
 use Rattle.cct_model.specs.Line.{Line, exchange}
 use Rattle.cct_model.specs.Reply.{Reply}
-use Rattle.cct_model.specs.Reply as reply
 use Rattle.cct_model.specs.Request.{header_of}
-use Rattle.cct_jobs.proofs.Stages.{fails_by_tries, tried}
+use Rattle.cct_jobs.proofs.Stages.{tried}
+use Rattle.cct_model.proofs.Rows.{Each, EachRow, IfEnd, answer_end, each_left}
+use Rattle.cct_model.specs.declared.judging.OpenOrder.{OpenOrder}
+use Rattle.cct_model.specs.terms.device.DeviceBody.TheVariants.{Acceptor, Hopper}
+use Rattle.std.specs.Prelude.{⊤}
+use Rattle.cct_model.proofs.Tries.{IsHeardEnd, asked_fails, same_request, answers_heard, due_sends}
 
 cond_some : (b : Bool) → cond b (Some NoAnswer) None ≡ Some NoAnswer → b ≡ true
 cond_some true e = refl
 cond_some false e = absurd cc
 
-by_tries : (q : Request) (failed : ℕ) → is_once q ≡ false → end_of_failure q failed ≡ Some NoAnswer → failed ≡ 3
-by_tries (SetMask mask) failed again e = absurd cc
-by_tries (Dispense serial count) failed again e = absurd cc
-by_tries q failed again e = eqb-true _ _ (cond_some (failed == 3) e)
+by_tries : (failed : ℕ) → end_of_tries failed ≡ Some NoAnswer → failed ≡ 3
+by_tries failed e = eqb-true _ _ (cond_some (failed == 3) e)
 
 -- the third failed try of what is sent again ends a job, and no other does
 pub third_ends : (d : DeviceSetup) (c : Command) (q : Request) (since : List Line) (state : EpochState)
-    → is_once q ≡ false
+    (owed : Option OpenOrder) → row d c since state owed ≡ sends q → is_once q ≡ false
     → (end_of d c (exchange (Some q) None) since state ≡ Some NoAnswer) ↔ (tries (header_of q) since ≡ 2)
-third_ends d c q since state again = (
-  λ ends.
-      let all : tries (header_of q) (exchange (Some q) None ∷ since) ≡ 3 = by_tries q _ again ends in
-      let more = tried q since in
-      omega arith,
-  λ two. fails_by_tries q _ again ∙ ap end_of_tries (tried q since ∙ ap suc two),
-)
+third_ends d c q since state owed is again =
+    let fails = asked_fails d c since state owed q is again in (
+      λ ends.
+          let all : tries (header_of q) (exchange (Some q) None ∷ since) ≡ 3 = by_tries _ (sym (fails _) ∙ ends) in
+          let more = tried q since in
+          omega arith,
+      λ two. fails _ ∙ ap end_of_tries (tried q since ∙ ap suc two),
+    )
 
-by_reading : (means : Judged) → end_of_reading means ≢ Some NoAnswer
-by_reading Nothing e = cc
-by_reading (Reading entry) e = cc
-by_reading (Broken entry) e = cc
+-- a mask that isn't acknowledged ends its job unsure
+abbrev MasksEnd : TableRow → Type 0
+MasksEnd (asks_for (SetMask mask) behind) = ⊥
+MasksEnd (asks_for q behind) = ⊤
+MasksEnd (asks_once (SetMask mask) behind without) = end_bare without ≡ Some StartUnsure
+MasksEnd r = ⊤
 
-by_round : (rows : ℕ) (means : Judged) → end_of_round rows means ≢ Some NoAnswer
-by_round zero means e = cc
-by_round (suc zero) means e = cc
-by_round (suc (suc zero)) means e = by_reading means e
-by_round (suc (suc (suc rows))) means e = cc
+no_mask_set : (first : Bool) (place path : ℕ) (behind : Then)
+    → MasksEnd (asks_for (cond first (SetDefault path) (SetPath place path)) behind)
+no_mask_set true place path behind = tt
+no_mask_set false place path behind = tt
 
-by_counter : (b : Bool) (counter : ℕ) → cond b None (Some (Unquiet counter)) ≢ Some NoAnswer
-by_counter true counter e = cc
-by_counter false counter e = cc
+no_mask_read : (first : Bool) (place : ℕ) (behind : Then)
+    → MasksEnd (asks_for (cond first GetDefault (GetPath place)) behind)
+no_mask_read true place behind = tt
+no_mask_read false place behind = tt
 
-by_start : (rows : ℕ) (y : Reply) → end_of_start rows y ≢ Some NoAnswer
-by_start zero y e = cc
-by_start (suc zero) y e = cc
-by_start (suc (suc zero)) (reply.credits read) e = by_counter (read.counter == 0) read.counter e
-by_start (suc (suc zero)) y e = cc
-by_start (suc (suc (suc zero))) y e = cc
-by_start (suc (suc (suc (suc zero)))) y e = cc
-by_start (suc (suc (suc (suc (suc rows))))) y e = cc
+no_mask : (q : Request) (behind : Then) → is_once q ≡ false → MasksEnd (asks_for q behind)
+no_mask (SetMask mask) behind once = absurd cc
+no_mask q behind once = tt
 
-by_all : (b : Bool) → cond b (Some Told) None ≢ Some NoAnswer
-by_all true e = cc
-by_all false e = cc
+told_masks : (qs : List Request) → Each (λ q. is_once q ≡ false) qs → EachRow MasksEnd (telling qs)
+told_masks [] each = tt
+told_masks (q ∷ []) each = (no_mask q (ends_as Told) each.0, tt)
+told_masks (q ∷ r ∷ qs) each = (no_mask q goes_on each.0, told_masks (r ∷ qs) each.1)
 
-by_path : (place rows : ℕ) (y : Reply) → end_of_path place rows y ≢ Some NoAnswer
-by_path place zero y e = cc
-by_path place (suc zero) y e = cc
-by_path place (suc (suc zero)) (reply.path number) e = cc
-by_path place (suc (suc zero)) y e = cc
-by_path place (suc (suc (suc rows))) y e = cc
+ident_once : (body : DeviceBody) → Each (λ q. is_once q ≡ false) (ident_requests body)
+ident_once (Acceptor accepts values ids) = search rules
+ident_once (Hopper life value) = search rules
 
-by_answer : (body : DeviceBody) (c : Command) (rows : ℕ) (y : Reply) (means : Judged)
-    → end_of_answer body c rows y means ≢ Some NoAnswer
-by_answer body (command.Start addr mask) rows y means e = by_start rows y e
-by_answer body (command.Round addr) rows y means e = by_round rows means e
-by_answer body (command.Ident addr) rows y means e = by_all (length (ident_requests body) == rows) e
-by_answer body (command.Path addr place path) rows y means e = by_path place rows y e
-by_answer body c rows y means e = cc
+masks_end : (d : DeviceSetup) (c : Command) → EachRow MasksEnd (rows_of d c)
+masks_end d (command.Ident addr) = told_masks (ident_requests d.body) (ident_once d.body)
+masks_end d (command.Path addr place path) =
+    (no_mask_set (place == 0) place path goes_on, (no_mask_read (place == 0) place (path_told place), tt))
+masks_end d c = search rules
+
+first_unsure : (addr : ℕ) (means : Judged) (p : Payment) (rows : List TableRow) (mask failed : ℕ) → EachRow MasksEnd rows
+    → first addr means p rows ≡ sends (SetMask mask) → end_failed rows failed ≡ Some StartUnsure
+first_unsure addr means p [] mask failed each is = absurd cc
+first_unsure addr means p (asks_for x behind ∷ rows) mask failed each is =
+    absurd (subst (λ q. MasksEnd (asks_for q behind)) (same_request x (SetMask mask) is) each.0)
+first_unsure addr means p (asks_once x behind without ∷ rows) mask failed each is =
+    subst (λ q. MasksEnd (asks_once q behind without)) (same_request x (SetMask mask) is) each.0
+first_unsure addr means p (waits_for_coins ∷ rows) mask failed each is = absurd (marked_not p.is_marked is)
+  where
+    marked_not : (marked : Bool) → state_row marked ≡ sends (SetMask mask) → ⊥
+    marked_not true is = cc
+    marked_not false is = cc
+first_unsure addr means p (puts_due due behind ∷ rows) mask failed each is =
+    absurd (due_sends addr means p due (SetMask mask) is)
+
+pub mask_unsure : (d : DeviceSetup) (c : Command) (mask : ℕ) (since : List Line) (state : EpochState)
+    (owed : Option OpenOrder) → row d c since state owed ≡ sends (SetMask mask)
+    → end_of d c (exchange (Some (SetMask mask)) None) since state ≡ Some StartUnsure
+mask_unsure d c mask since state owed is =
+    first_unsure (address_of c) (judged_in c since state) (payment_in since owed) (left d c since state) mask _
+    (each_left MasksEnd d c since state (masks_end d c)) is
 
 -- a wanted reply doesn't
 pub answer_goes_on : (d : DeviceSetup) (c : Command) (q : Request) (y : Reply) (since : List Line) (state : EpochState)
     → end_of d c (exchange (Some q) (Some y)) since state ≢ Some NoAnswer
 answer_goes_on d c q y since state e =
-    let line = exchange (Some q) (Some y) in
-    by_answer d.body c (done (line ∷ since)) y (judged_in c (line ∷ since) state) e
+    subst (IfEnd IsHeardEnd) e (answer_end IsHeardEnd d c (Some q) y since state (answers_heard d c))
 
 -- an exchange of another row begins the count anew
 pub other_clears : (q : Request) (header : ℕ) (since : List Line) → header_of q ≢ header

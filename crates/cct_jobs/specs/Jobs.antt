@@ -27,7 +27,8 @@ use Rattle.cct_model.specs.Reply as reply
 use Rattle.cct_model.specs.Exchange.{asked, device_at, got, acceptor_there, hopper_there}
 use Rattle.cct_model.specs.Device.{is_acceptor}
 use Rattle.cct_model.specs.Line.{Line, exchange}
-use Rattle.cct_model.specs.Job.{address_of, sends, puts, row, credits_read, end_of, end_of_put, done, tries, ident_requests, path_set, path_read}
+use Rattle.cct_model.specs.Job.{address_of, sends, puts, credits_read, done, tries, ident_requests, path_set, path_read}
+use Rattle.cct_model.specs.Rows.{end_kept, end_of, rest, row}
 use Rattle.cct_model.specs.Order.{close, is_marked}
 use Rattle.cct_model.specs.Scan.{poll_of}
 use Rattle.cct_model.specs.Transcript.{got_by, opened_at, owner}
@@ -524,7 +525,7 @@ pub record Putting (d : DeviceSetup) (own : Command) (entry : Record) (end : Opt
     (since : List Line) (state : EpochState) (owed : Option OpenOrder) : Type 0 where
   pub command_is : c ≡ own
   pub row_is : row d c since state owed ≡ puts entry
-  pub ends : end_of_put own entry ≡ end
+  pub ends : end_kept (rest d own since) entry ≡ end
   pub goes_on : newest_end d c since state ≡ None
 
 -- A payment puts that its order is opened at the device, with the life count that it read.

@@ -5,7 +5,8 @@ use Rattle.cct_model.specs.lines.command.Command.{Command}
 use Rattle.cct_model.specs.lines.command.Command.TheVariants as command
 use Rattle.cct_model.specs.lines.entry.End.{End}
 use Rattle.cct_model.specs.lines.entry.End.TheVariants.{Sold}
-use Rattle.cct_model.specs.Job.{end_of_put, puts, row_of_sale}
+use Rattle.cct_model.specs.Job.{puts}
+use Rattle.cct_model.specs.Rows.{row_of_sale, end_of_sale}
 use Rattle.cct_model.specs.Line.{Line, put}
 use Rattle.cct_jobs.specs.declared.job.Need.{Need}
 use Rattle.cct_jobs.specs.declared.job.Need.TheVariants as need
@@ -32,13 +33,13 @@ StandsSale (Done end) c since = HasSold end c since
 StandsSale job c since = ⊥
 
 -- The end that the newest line brought to a sale, and none before its first line.
-abbrev pub end_of_sale : Command → List Line → Option End
-end_of_sale c [] = None
-end_of_sale c (put entry ∷ since) = end_of_put c entry
-end_of_sale c (line ∷ since) = None
+abbrev pub newest_sale_end : Command → List Line → Option End
+newest_sale_end c [] = None
+newest_sale_end c (put entry ∷ since) = end_of_sale c entry since
+newest_sale_end c (line ∷ since) = None
 
 -- What a sale needs, by its lines: its row puts this record, or its newest line ended it so.
 abbrev pub NeedsSale : Need → Command → List Line → Type 0
 NeedsSale need.Exchange c since = ⊥
 NeedsSale (need.Put entry) c since = row_of_sale c since ≡ puts entry
-NeedsSale (need.Done end) c since = end_of_sale c since ≡ Some end
+NeedsSale (need.Done end) c since = newest_sale_end c since ≡ Some end

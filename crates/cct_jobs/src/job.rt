@@ -11,7 +11,8 @@ ghost use Rattle.cct_model.specs.terms.request.Request.{Request};
 ghost use Rattle.cct_model.specs.terms.wire.CheckKind.{CheckKind};
 ghost use Rattle.cct_model.specs.Exchange.{ask, device_at};
 ghost use Rattle.cct_model.specs.declared.judging.OpenOrder.{OpenOrder};
-ghost use Rattle.cct_model.specs.Job.{address_of, can_halt, done, puts_at, row, row_of_sale, sends, works};
+ghost use Rattle.cct_model.specs.Job.{address_of, can_halt, done, puts_at, sends, works};
+ghost use Rattle.cct_model.specs.Rows.{row, row_of_sale};
 ghost use Rattle.cct_model.specs.Line.{Line, put, taken};
 ghost use Rattle.cct_model.specs.Money.{coins_of, reserved_by};
 ghost use Rattle.cct_model.specs.Order.{order_by};
@@ -19,7 +20,7 @@ ghost use Rattle.cct_model.specs.Scan.{end_of_scan, poll_of, scan_row};
 ghost use Rattle.cct_model.specs.Transcript.{scan_line};
 ghost use Rattle.cct_record.specs.Body.{Encodable};
 ghost use Rattle.cct_jobs.specs.Jobs.{IsPut, IsRunning, MayBegin, Needs, PutsFit, Stands, after_halt, after_put, closes_order, coins_asked, coins_reserved, end_of_job, first_need, halts, is_closing, is_of_device, line_heard, may_put_of, need_of, newest_end, opened_by, order_of, owed_after, price_asked, price_reserved, records_of, runs, sending_of};
-ghost use Rattle.cct_jobs.specs.Sales.{NeedsSale, StandsSale, end_of_sale};
+ghost use Rattle.cct_jobs.specs.Sales.{NeedsSale, StandsSale, newest_sale_end};
 ghost use Rattle.cct_jobs.specs.Scans.{NeedsScan, StandsScan};
 
 use crate::asks::first_try;
@@ -246,7 +247,7 @@ impl Job {
             (owed : Option OpenOrder) → Stands d self.now c since state owed → result ≡ newest_end d c since state }
         ensures scan { (since : List Line) → StandsScan self.now since → result ≡ end_of_scan since }
         ensures sale { (c : Command) (since : List Line) → StandsSale self.now c since
-            → result ≡ end_of_sale c since }
+            → result ≡ newest_sale_end c since }
     {
         self.told_end()
     }
@@ -268,7 +269,7 @@ impl Job {
         ensures row { (d : DeviceSetup) (c : Command) (since : List Line) (state : EpochState)
             (owed : Option OpenOrder) → Stands d self.now c since state owed → newest_end d c since state ≡ None
             → result ≡ puts_at c (done since) (row d c since state owed) }
-        ensures sale { (c : Command) (since : List Line) → StandsSale self.now c since → end_of_sale c since ≡ None
+        ensures sale { (c : Command) (since : List Line) → StandsSale self.now c since → newest_sale_end c since ≡ None
             → result ≡ puts_at c (done since) (row_of_sale c since) }
     {
         self.records()
@@ -318,7 +319,7 @@ impl Job {
         ensures row { (d : DeviceSetup) (c : Command) (since : List Line) (state : EpochState)
             (owed : Option OpenOrder) → Stands d self.now c since state owed → result ≡ 0 }
         ensures sale { (setup : Setup) (c : Command) (since : List Line) → StandsSale self.now c since
-            → end_of_sale c since ≡ None → result ≡ reserved_by setup (works c since) }
+            → newest_sale_end c since ≡ None → result ≡ reserved_by setup (works c since) }
     {
         match self {
             Job::SalePuts { price, .. } => *price,

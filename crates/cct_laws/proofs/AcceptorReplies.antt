@@ -1,6 +1,5 @@
 -- What an acceptor replies to each request that a job sends it.
 use Rattle.std.proofs.Common.{◌≡◌, ℕ, zero, suc, ◌+◌, ◌-◌, ◌<◌, ◌≤◌, ◌==◌, cond, true, false, Bool, List, [], ◌∷◌, ◌++◌, length, drop, refl, ◌∙◌, slice_get, unwrap_or, All, arith, length-append, length-take}
-use Rattle.std.specs.Prelude.{⊤}
 use Rattle.std.proofs.lemmas.List.Elements.{All-head, All-tail}
 use Rattle.std.proofs.lemmas.Bool.Decides.{nat_tests}
 use Rattle.cct_model.specs.terms.coin.Pair.{Pair}
@@ -10,7 +9,6 @@ use Rattle.cct_model.specs.terms.device.DeviceBody.TheVariants.{Acceptor, Hopper
 use Rattle.cct_model.specs.terms.request.Request.{Request}
 use Rattle.cct_model.specs.terms.request.Request.TheVariants.{SetMask, GetMask, SetMaster, GetMaster, ReadCredits, SetPath, GetPath, SetDefault, GetDefault, CoinId, AcceptCount}
 use Rattle.cct_model.specs.terms.request.ReplyForm.TheVariants as form
-use Rattle.cct_model.specs.declared.judging.Judged.{Judged}
 use Rattle.cct_model.specs.lines.command.Command.{Command}
 use Rattle.cct_model.specs.lines.command.Command.TheVariants as command
 use Rattle.cct_model.specs.Request.{form_of}
@@ -19,13 +17,14 @@ use Rattle.cct_model.specs.History.{Met}
 use Rattle.cct_model.specs.Setting.{is_place, is_path, default_in}
 use Rattle.cct_model.specs.Acceptor.{settings, events, no_event, last_five, credits_of, mask_of, path_of, master_of, accept_count, id_at, acceptor_reply}
 use Rattle.cct_model.specs.Device.{IsSound, IsSoundBody, IsId, IsAcceptor, common_reply, reply_of}
-use Rattle.cct_model.specs.Job.{Payment, own_requests}
+use Rattle.cct_model.specs.Job.{own_requests, ident_requests}
 use Rattle.cct_model.specs.Script.{IsCommand}
 use Rattle.cct_laws.specs.Kept.{is_for_acceptor}
 use Rattle.cct_laws.proofs.Exchanges.{Replied}
 use Rattle.cct_laws.proofs.Replies.{start_of, ids_of, acceptor_is, replied_credits, replied_mask}
 use Rattle.cct_laws.proofs.CommonReplies.{answers_so, reset_replied, also, ident_replied}
-use Rattle.cct_laws.proofs.Rows.{Each, RoundHolds, CommandHolds, any_judged}
+use Rattle.cct_model.proofs.Rows.{Each, EachRow, each_asked, Asks}
+use Rattle.cct_model.specs.Rows.{rows_of}
 
 -- a sound acceptor
 pub record Sane (d : DeviceSetup) : Type 0 where
@@ -182,27 +181,20 @@ read_by d past place false test sane high = path_replied d past place sane (plac
     not_zero : (n : ℕ) → (n == 0) ≡ false → 1 ≤ n
     not_zero n e = grind (arith, nat_tests)
 
-round_replied : (d : DeviceSetup) (past : List Met) (judged : Judged) → Sane d →
-    RoundHolds (Replied d past) (λ r. ⊤) judged
-round_replied d past judged sane =
-    record { reads = credits_replied d past sane; looks = mask_replied d past sane; means = any_judged judged }
-
 -- all that a command asks has a reply in the wanted form
-pub acceptor_replied : (d : DeviceSetup) (past : List Met) (c : Command) (judged : Judged) (p : Payment) → Sane d →
-    IsCommand c → is_for_acceptor c ≡ true → CommandHolds (Replied d past) (λ r. ⊤) d c judged p
-acceptor_replied d past (command.Start addr mask) judged p sane known suited = record {
-  resets = reset_replied d past;
-  reads = credits_replied d past sane;
-  begins = tt;
-  opens = set_mask_replied d past mask sane;
-}
-acceptor_replied d past (command.Round addr) judged p sane known suited = round_replied d past judged sane
-acceptor_replied d past (command.Stop addr) judged p sane known suited =
-    record { shuts = set_master_replied d past 0 sane; round = round_replied d past judged sane; over = tt }
-acceptor_replied d past (command.Ident addr) judged p sane known suited =
-    ident_replied d past d.body sane.sound (owns_by d past d.body sane.accepting sane)
-acceptor_replied d past (command.Path addr place path) judged p sane known suited =
-    (set_by d past place path (place == 0) refl sane known, read_by d past place (place == 0) refl sane known.0)
-acceptor_replied d past (command.Pay addr id count) judged p sane known suited = absurd cc
-acceptor_replied d past (command.Settle addr) judged p sane known suited = absurd cc
-acceptor_replied d past c judged p sane known suited = tt
+pub acceptor_replied : (d : DeviceSetup) (past : List Met) (c : Command) → Sane d → IsCommand c →
+    is_for_acceptor c ≡ true → EachRow (Asks (Replied d past)) (rows_of d c)
+acceptor_replied d past (command.Start addr mask) sane known suited =
+    (reset_replied d past, (credits_replied d past sane, (tt, (set_mask_replied d past mask sane, tt))))
+acceptor_replied d past (command.Round addr) sane known suited =
+    (credits_replied d past sane, (mask_replied d past sane, (tt, tt)))
+acceptor_replied d past (command.Stop addr) sane known suited =
+    (set_master_replied d past 0 sane, (credits_replied d past sane, (mask_replied d past sane, (tt, (tt, tt)))))
+acceptor_replied d past (command.Ident addr) sane known suited =
+    each_asked (Replied d past) (ident_requests d.body)
+    (ident_replied d past d.body sane.sound (owns_by d past d.body sane.accepting sane))
+acceptor_replied d past (command.Path addr place path) sane known suited = (
+  set_by d past place path (place == 0) refl sane known,
+  (read_by d past place (place == 0) refl sane known.0, tt),
+)
+acceptor_replied d past c sane known suited = absurd cc

@@ -1,5 +1,5 @@
 -- What holds of an acceptor is kept by all that can come over an honest wire.
-use Rattle.std.proofs.Common.{◌≡◌, ℕ, zero, suc, ◌==◌, cond, Bool, true, false, List, [], ◌∷◌, length, refl, sym, subst, Option, Some, None, le_refl, rules}
+use Rattle.std.proofs.Common.{◌≡◌, ℕ, ◌==◌, cond, Bool, true, false, List, [], ◌∷◌, refl, sym, subst, Option, Some, None, le_refl, rules}
 use Rattle.std.specs.Prelude.{⊤}
 use Rattle.cct_model.specs.terms.device.DeviceBody.{DeviceBody}
 use Rattle.cct_model.specs.terms.device.DeviceBody.TheVariants.{Acceptor, Hopper}
@@ -12,26 +12,27 @@ use Rattle.cct_model.specs.declared.judging.Judged.{Judged}
 use Rattle.cct_model.specs.lines.command.Command.{Command}
 use Rattle.cct_model.specs.lines.command.Command.TheVariants as command
 use Rattle.cct_model.specs.lines.entry.End.{End}
-use Rattle.cct_model.specs.lines.entry.End.TheVariants.{Clean, Told}
+use Rattle.cct_model.specs.lines.entry.End.TheVariants.{Clean}
 use Rattle.cct_model.specs.Reply.{Reply}
-use Rattle.cct_model.specs.Reply as reply
 use Rattle.cct_model.specs.Script.{IsCommand}
 use Rattle.cct_model.specs.History.{Met, heard}
 use Rattle.cct_model.specs.Device.{IsAcceptor}
 use Rattle.cct_model.specs.Line.{Line, exchange, put, crashed}
 use Rattle.cct_model.specs.Order.{order}
-use Rattle.cct_model.specs.Job.{works, job, sends, puts, ident_requests, Payment, payment_in, row, row_at, done, epoch, credits_read, judged_in, is_once, end_of, end_of_answer, end_of_path, end_of_put}
-use Rattle.cct_laws.proofs.Rows.{IfSends, Each, CommandHolds, each_row}
+use Rattle.cct_model.specs.Job.{works, job, sends, puts, ident_requests, Payment, payment_in, done, epoch, credits_read, judged_in, is_once}
+use Rattle.cct_model.specs.Rows.{row, row_at, end_of, rows_of}
+use Rattle.cct_model.proofs.Rows.{IfSends, Each, EachRow, puts_only, both_hold, each_ask, AnswerEnds, answer_end, PutEnds, each_asked, told_only, each_put, each_told, Asks, puts_none, put_end}
 use Rattle.cct_laws.specs.Kept.{Fate, IsForOthers, is_for_acceptor, with_ended}
 use Rattle.cct_laws.proofs.EitherKind.{for_acceptor}
 use Rattle.cct_laws.specs.Since.{IsKept}
 use Rattle.cct_model.specs.Claims.{mark, base, InOrder, Covers, Pace}
 use Rattle.cct_laws.proofs.World.{world, closed}
 use Rattle.cct_laws.proofs.Fits.{book, StateOf, Fits}
-use Rattle.cct_laws.proofs.Moves.{Sound, sound_line, Keeps, KeepsAsk, FitsBehind, IfOther, IsMild, keeps_accepted, keeps_inhibited, keeps_alien, keeps_reset, keeps_taken, keeps_with_ended, keeps_exchange, other_if, on_heard, fits_at, by_fate}
+use Rattle.cct_laws.proofs.Moves.{Sound, sound_line, Keeps, KeepsAsk, FitsBehind, IfOther, IsMild, keeps_accepted, keeps_inhibited, keeps_alien, keeps_reset, keeps_taken, keeps_with_ended, keeps_exchange, on_heard, fits_at, by_fate, IsOtherEnd}
 use Rattle.cct_laws.proofs.Starts.{start_asks, start_puts}
 use Rattle.cct_laws.proofs.Rounds.{round_asks, round_puts}
 use Rattle.cct_laws.proofs.Stops.{stop_asks, stop_puts}
+use Rattle.cct_model.specs.declared.judging.EpochState.{EpochState}
 
 -- a job without records
 
@@ -52,17 +53,24 @@ plain_if : (b : Bool) (q r : Request) → IsPlainRequest q → IsPlainRequest r 
 plain_if true q r plain other = plain
 plain_if false q r plain other = other
 
-plain_command : (d : DeviceSetup) (c : Command) (judged : Judged) (p : Payment) → IsPlain c →
-    CommandHolds IsPlainRequest (λ r. ⊥) d c judged p
-plain_command d (command.Ident addr) judged p plain = plain_ident d.body
-plain_command d (command.Path addr place path) judged p plain =
-    (plain_if (place == 0) _ _ (refl, tt) (refl, tt), plain_if (place == 0) _ _ (refl, tt) (refl, tt))
-plain_command d c judged p plain = absurd plain
+plain_command : (d : DeviceSetup) (c : Command) → IsPlain c → EachRow (Asks IsPlainRequest) (rows_of d c)
+plain_command d (command.Ident addr) plain = each_asked IsPlainRequest (ident_requests d.body) (plain_ident d.body)
+plain_command d (command.Path addr place path) plain =
+    (plain_if (place == 0) _ _ (refl, tt) (refl, tt), (plain_if (place == 0) _ _ (refl, tt) (refl, tt), tt))
+plain_command d c plain = absurd plain
+
+-- it puts nothing
+plain_puts_none : (d : DeviceSetup) (c : Command) → IsPlain c → puts_only puts_none (rows_of d c) ≡ true
+plain_puts_none d (command.Ident addr) plain = told_only puts_none (ident_requests d.body)
+plain_puts_none d (command.Path addr place path) plain = refl
+plain_puts_none d c plain = absurd plain
 
 pub plain_row : (d : DeviceSetup) (c : Command) (rows : ℕ) (judged : Judged) (p : Payment) → IsPlain c →
     IfSends IsPlainRequest (row_at d c rows judged p)
 plain_row d c rows judged p plain =
-    each_row IsPlainRequest (λ r. ⊥) d c rows judged p (plain_command d c judged p plain)
+    both_hold IsPlainRequest (λ r. ⊥) (row_at d c rows judged p)
+    (each_ask IsPlainRequest d c rows judged p (plain_command d c plain))
+    (each_put (λ r. ⊥) puts_none d c rows judged p (plain_puts_none d c plain) (λ due none. absurd cc))
 
 -- it needs nothing, and its ends are no items
 plain_fits : (now : List Met) (lines : List Line) (c : Command) (since : List Line) → IsPlain c →
@@ -71,18 +79,15 @@ plain_fits now lines (command.Ident addr) since plain = tt
 plain_fits now lines (command.Path addr place path) since plain = tt
 plain_fits now lines c since plain = absurd plain
 
-path_end : (place rows : ℕ) (y : Reply) → IfOther (end_of_path place rows y)
-path_end place zero y = tt
-path_end place (suc zero) y = tt
-path_end place (suc (suc zero)) (reply.path number) = tt
-path_end place (suc (suc zero)) y = tt
-path_end place (suc (suc (suc rows))) y = tt
+plain_ends : (d : DeviceSetup) (c : Command) → IsPlain c → EachRow (AnswerEnds IsOtherEnd) (rows_of d c)
+plain_ends d (command.Ident addr) plain =
+    each_told (AnswerEnds IsOtherEnd) (λ q. tt) (λ q. tt) (ident_requests d.body)
+plain_ends d (command.Path addr place path) plain = (tt, ((λ number. tt), tt))
+plain_ends d c plain = absurd plain
 
-plain_end : (body : DeviceBody) (c : Command) (rows : ℕ) (y : Reply) (judged : Judged) → IsPlain c →
-    IfOther (end_of_answer body c rows y judged)
-plain_end body (command.Ident addr) rows y judged plain = other_if (length (ident_requests body) == rows) Told tt
-plain_end body (command.Path addr place path) rows y judged plain = path_end place rows y
-plain_end body c rows y judged plain = absurd plain
+plain_end : (d : DeviceSetup) (c : Command) (asked : Option Request) (y : Reply) (since : List Line)
+    (state : EpochState) → IsPlain c → IfOther (end_of d c (exchange asked (Some y)) since state)
+plain_end d c asked y since state plain = answer_end IsOtherEnd d c asked y since state (plain_ends d c plain)
 
 plain_asks : (d : DeviceSetup) (past : List Met) (lines : List Line) (c : Command) (since : List Line) (q : Request)
     (asked : Option Request) (got : Option Reply) → IsPlain c → job lines ≡ works c since →
@@ -95,7 +100,7 @@ plain_asks d past lines c since q asked got plain is_job row_is keeps fate =
     subst (IfSends IsPlainRequest) row_is (plain_row d c (done since) judged (payment_in since (order lines)) plain) in
     by_fate d past lines c since q asked got asks.0 asks.1 is_job keeps (λ y gives.
     let line = exchange (Some q) (Some y) in
-    keeps_with_ended now (line ∷ lines) _ (plain_end d.body c _ y _ plain)
+    keeps_with_ended now (line ∷ lines) _ (plain_end d c (Some q) y since (epoch lines) plain)
     (keeps_exchange past now lines c since (Some q) (Some y) is_job (on_heard past lines q asks.1) keeps.sound
     (plain_fits now (line ∷ lines) c (line ∷ since) plain))) fate
 
@@ -106,15 +111,16 @@ keeps_asks : (d : DeviceSetup) (past : List Met) (lines : List Line) (c : Comman
     job lines ≡ works c since → row d c since (epoch lines) (order lines) ≡ sends q → Fate d past q asked got →
     Keeps past lines → KeepsAsk d past lines c since q asked got
 keeps_asks d past lines (command.Start addr mask) since q asked got accepting suited in_range is_job row_is fate keeps =
-    start_asks d past lines addr mask since q asked got (done since) accepting in_range is_job refl
+    let c = command.Start addr mask in
+    start_asks d past lines addr mask since q asked got (judged_in c since (epoch lines)) (payment_in since (order lines)) (done since) accepting in_range is_job refl
     (fits_at past lines (command.Start addr mask) since is_job keeps) row_is keeps fate
 keeps_asks d past lines (command.Round addr) since q asked got accepting suited in_range is_job row_is fate keeps =
     let c = command.Round addr in
-    round_asks d past lines addr since (judged_in c since (epoch lines)) q asked got (done since) accepting is_job refl
+    round_asks d past lines addr since (judged_in c since (epoch lines)) q asked got (payment_in since (order lines)) (done since) accepting is_job refl
     (fits_at past lines c since is_job keeps) row_is keeps fate
 keeps_asks d past lines (command.Stop addr) since q asked got accepting suited in_range is_job row_is fate keeps =
     let c = command.Stop addr in
-    stop_asks d past lines addr since (judged_in c since (epoch lines)) q asked got (done since) accepting is_job refl
+    stop_asks d past lines addr since (judged_in c since (epoch lines)) q asked got (payment_in since (order lines)) (done since) accepting is_job refl
     (fits_at past lines c since is_job keeps) row_is keeps fate
 keeps_asks d past lines (command.Ident addr) since q asked got accepting suited in_range is_job row_is fate keeps =
     plain_asks d past lines (command.Ident addr) since q asked got tt is_job row_is keeps fate
@@ -135,15 +141,16 @@ keeps_puts : (d : DeviceSetup) (past : List Met) (lines : List Line) (c : Comman
     job lines ≡ works c since → row d c since (epoch lines) (order lines) ≡ puts r → Keeps past lines →
     Keeps past (with_ended (end_of d c (put r) since (epoch lines)) (put r ∷ lines))
 keeps_puts d past lines (command.Start addr mask) since r suited in_range is_job row_is keeps =
-    start_puts past lines addr mask since r (done since) in_range is_job refl
+    let c = command.Start addr mask in
+    start_puts d past lines addr mask since r (judged_in c since (epoch lines)) (payment_in since (order lines)) (done since) in_range is_job refl
     (fits_at past lines (command.Start addr mask) since is_job keeps) row_is keeps
 keeps_puts d past lines (command.Round addr) since r suited in_range is_job row_is keeps =
     let c = command.Round addr in
-    round_puts past lines addr (credits_read since) (judged_in c since (epoch lines)) r (done since)
+    round_puts d past lines addr (credits_read since) (judged_in c since (epoch lines)) r (payment_in since (order lines)) (done since)
     (fits_at past lines c since is_job keeps) row_is keeps
 keeps_puts d past lines (command.Stop addr) since r suited in_range is_job row_is keeps =
     let c = command.Stop addr in
-    stop_puts past lines addr since (judged_in c since (epoch lines)) r (done since) is_job refl
+    stop_puts d past lines addr since (judged_in c since (epoch lines)) r (payment_in since (order lines)) (done since) is_job refl
     (fits_at past lines c since is_job keeps) row_is keeps
 keeps_puts d past lines (command.Ident addr) since r suited in_range is_job row_is keeps =
     absurd (plain_puts d lines (command.Ident addr) since r tt row_is)
@@ -159,17 +166,13 @@ keeps_crashed past lines keeps = record {
 }
 
 -- no put ends a job clean
-pub put_other : (c : Command) (r : Record) → IfOther (end_of_put c r)
-put_other (command.Round at) (record_of.Reading addr counter lost posted) = tt
-put_other (command.Round at) (record_of.Broken addr seen counter posted) = tt
-put_other (command.Stop at) (record_of.Broken addr seen counter posted) = tt
-put_other (command.Stop at) (record_of.EpochEnd addr) = tt
-put_other (command.Pay at id count) (record_of.Closed closed paid unpaid) = tt
-put_other (command.Pay at id count) (record_of.Odd closed life_before life_after) = tt
-put_other (command.Settle at) (record_of.Closed closed paid unpaid) = tt
-put_other (command.Settle at) (record_of.Odd closed life_before life_after) = tt
-put_other (command.Vend id price) (record_of.Sold used at) = tt
-put_other c r = tt
+other_puts : (d : DeviceSetup) (c : Command) → EachRow (PutEnds IsOtherEnd) (rows_of d c)
+other_puts d (command.Ident addr) = each_told (PutEnds IsOtherEnd) (λ q. tt) (λ q. tt) (ident_requests d.body)
+other_puts d c = search rules
+
+pub put_other : (d : DeviceSetup) (c : Command) (r : Record) (since : List Line) (state : EpochState) →
+    IfOther (end_of d c (put r) since state)
+put_other d c r since state = put_end IsOtherEnd d c r since state (other_puts d c)
 
 -- what holds behind another end held before it
 unended : (past : List Met) (lines : List Line) (end : Option End) → IfOther end → Keeps past (with_ended end lines) →
@@ -215,7 +218,7 @@ keeps_kept_record : (d : DeviceSetup) (past : List Met) (lines : List Line) (c :
     (r : Record) → Keeps past (with_ended (end_of d c (put r) since (epoch lines)) (put r ∷ lines)) →
     Keeps past (put r ∷ crashed ∷ lines)
 keeps_kept_record d past lines c since r keeps = record {
-  sound = sound_kept past lines r (unended past (put r ∷ lines) (end_of_put c r) (put_other c r) keeps);
+  sound = sound_kept past lines r (unended past (put r ∷ lines) _ (put_other d c r since (epoch lines)) keeps);
   fits = tt;
 }
 

@@ -15,7 +15,8 @@ use Rattle.cct_model.specs.Line.{Line}
 use Rattle.cct_model.specs.Device.{IsSound, IsAcceptor, IsHopper, reply_of}
 use Rattle.cct_model.specs.Setup.{IsSoundSetup}
 use Rattle.cct_model.specs.Order.{order}
-use Rattle.cct_model.specs.Job.{sends, row_at, Payment, done, epoch, judged_in, payment_in}
+use Rattle.cct_model.specs.Job.{sends, Payment, done, epoch, judged_in, payment_in}
+use Rattle.cct_model.specs.Rows.{row_at}
 use Rattle.cct_model.specs.Script.{IsCommand}
 use Rattle.cct_model.specs.Exchange.{ask, asked, asks_of}
 use Rattle.cct_model.specs.Transcript.{pending, met, lines_of, heard_by_devices, heard_after, got_by}
@@ -29,7 +30,7 @@ use Rattle.cct_laws.proofs.Exchanges.{Replied, Answers, fits_of, undisturbed_got
 use Rattle.cct_laws.proofs.AcceptorReplies.{Sane, acceptor_replied}
 use Rattle.cct_laws.proofs.HopperReplies.{Payer, hopper_answers}
 use Rattle.cct_laws.proofs.Brought.{row_after}
-use Rattle.cct_laws.proofs.Rows.{RowHolds, each_row}
+use Rattle.cct_model.proofs.Rows.{RowHolds, each_ask}
 
 sound_of : (setup : Setup) (d : DeviceSetup) → IsSoundSetup setup → IsOf setup d → IsSound d
 sound_of setup d sound own = (found_in IsSound setup.devices d.addr d sound.devices own).0
@@ -41,8 +42,8 @@ pub replied_at : (setup : Setup) (past : List Entry) (d : DeviceSetup) (c : Comm
 replied_at setup past d c rows judged p q sound own accepting suited known asks =
     let sane : Sane d = record { sound = sound_of setup d sound own; accepting = accepting } in
     subst (RowHolds (Replied d (met d past)) (λ r. ⊤)) asks
-    (each_row (Replied d (met d past)) (λ r. ⊤) d c rows judged p
-    (acceptor_replied d (met d past) c judged p sane known (for_acceptor d.body c accepting suited)))
+    (each_ask (Replied d (met d past)) d c rows judged p
+    (acceptor_replied d (met d past) c sane known (for_acceptor d.body c accepting suited)))
 
 -- and what one at a hopper asks has its reply, or is refused
 paid_at : (setup : Setup) (past : List Entry) (d : DeviceSetup) (c : Command) (rows : ℕ) (judged : Judged)
@@ -51,8 +52,8 @@ paid_at : (setup : Setup) (past : List Entry) (d : DeviceSetup) (c : Command) (r
 paid_at setup past d c rows judged p q sound own paying suited asks =
     let payer : Payer d = record { sound = sound_of setup d sound own; paying = paying } in
     subst (RowHolds (Answers d (met d past)) (λ r. ⊤)) asks
-    (each_row (Answers d (met d past)) (λ r. ⊤) d c rows judged p
-    (hopper_answers d (met d past) c judged p payer (for_hopper d.body c paying suited)))
+    (each_ask (Answers d (met d past)) d c rows judged p
+    (hopper_answers d (met d past) c payer (for_hopper d.body c paying suited)))
 
 pub answers_at : (setup : Setup) (past : List Entry) (d : DeviceSetup) (c : Command) (rows : ℕ) (judged : Judged)
     (p : Payment) (q : Request) → IsSoundSetup setup → IsOf setup d → suits d.body c ≡ true → IsCommand c →

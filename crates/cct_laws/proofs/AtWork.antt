@@ -14,7 +14,8 @@ use Rattle.cct_model.specs.Reply.{Reply}
 use Rattle.cct_model.specs.Setup.{AreDistinct}
 use Rattle.cct_model.specs.Line.{Line, exchange, put}
 use Rattle.cct_model.specs.Order.{order_by}
-use Rattle.cct_model.specs.Job.{works, job, done, puts, open_row, pay_row, Payment, payment_in, row}
+use Rattle.cct_model.specs.Job.{works, job, done, puts, open_row, Payment, payment_in, judged_in}
+use Rattle.cct_model.specs.Rows.{row, row_at}
 use Rattle.cct_model.specs.Records.{records}
 use Rattle.cct_model.specs.Money.{coins_of, posted_in, reserved_by, reserved_at_work, spoken_for, available}
 use Rattle.cct_model.specs.Transcript.{lines_of, sale_lines}
@@ -23,6 +24,7 @@ use Rattle.cct_laws.proofs.Sums.{sum_moved}
 use Rattle.cct_laws.proofs.Orders.{order_as}
 use Rattle.cct_laws.proofs.Covered.{spoken_in}
 use Rattle.cct_laws.proofs.Held.{done_grows, same_record, settle_row_closes}
+use Rattle.cct_model.specs.declared.judging.Judged.{Judged}
 
 -- what is spoken for is so by the records or by the jobs
 pub spoken_both : (setup : Setup) (past : List Entry) →
@@ -85,13 +87,13 @@ pub record OpensWork (setup : Setup) (addr id count : ℕ) (since : List Line) (
 some_none : (o : OpenOrder) → Some o ≡ None → ⊥
 some_none o is = cc
 
-opened_rows : (setup : Setup) (serial addr id count : ℕ) (since : List Line) (r : Record) (rows : ℕ) (p : Payment) →
-    done since ≡ rows → pay_row serial addr id count rows p ≡ puts r →
+opened_rows : (setup : Setup) (d : DeviceSetup) (addr id count : ℕ) (since : List Line) (r : Record) (rows : ℕ)
+    (judged : Judged) (p : Payment) → done since ≡ rows → row_at d (command.Pay addr id count) rows judged p ≡ puts r →
     (opened counted at life : ℕ) → r ≡ record_of.Opened opened at counted life →
     (opened ≡ id) × (at ≡ addr) × (counted ≡ count) × OpensWork setup addr id count since r
-opened_rows setup serial addr id count since r zero p rows_are is opened counted at life opens = absurd cc
-opened_rows setup serial addr id count since r (suc zero) p rows_are is opened counted at life opens = absurd cc
-opened_rows setup serial addr id count since r (suc (suc zero)) p rows_are is opened counted at life opens =
+opened_rows setup d addr id count since r zero judged p rows_are is opened counted at life opens = absurd cc
+opened_rows setup d addr id count since r (suc zero) judged p rows_are is opened counted at life opens = absurd cc
+opened_rows setup d addr id count since r (suc (suc zero)) judged p rows_are is opened counted at life opens =
     by_life p.life is
   where
     by_life : (read : Option ℕ) → open_row addr id count read ≡ puts r →
@@ -108,10 +110,10 @@ opened_rows setup serial addr id count since r (suc (suc zero)) p rows_are is op
             reserved_after = ap (λ n. cond (nat_le (suc n) 2) (coins_of setup addr count) 0) rows_are;
           },
         )
-opened_rows setup serial addr id count since r (suc (suc (suc zero))) p rows_are is opened counted at life opens =
+opened_rows setup d addr id count since r (suc (suc (suc zero))) judged p rows_are is opened counted at life opens =
     absurd cc
-opened_rows setup serial addr id count since r (suc (suc (suc (suc rows)))) p rows_are is opened counted at life opens =
-    let closes = settle_row_closes rows p r is in
+opened_rows setup d addr id count since r (suc (suc (suc (suc rows)))) judged p rows_are is opened counted at life opens =
+    let closes = settle_row_closes d addr rows judged p r is in
     absurd (some_none (order_as opened at counted life) (sym (ap (λ x. order_by x None) opens) ∙ closes.none None))
 
 pub work_opened : (setup : Setup) (d : DeviceSetup) (addr id count : ℕ) (since : List Line) (state : EpochState)
@@ -120,8 +122,8 @@ pub work_opened : (setup : Setup) (d : DeviceSetup) (addr id count : ℕ) (since
     (opened ≡ id) × (at ≡ addr) × (counted ≡ count)
     × OpensWork setup addr id count since (record_of.Opened opened at counted life)
 work_opened setup d addr id count since state owed opened counted at life is =
-    opened_rows setup d.serial addr id count since (record_of.Opened opened at counted life) (done since)
-    (payment_in since owed) refl is opened counted at life refl
+    opened_rows setup d addr id count since (record_of.Opened opened at counted life) (done since)
+    (judged_in (command.Pay addr id count) since state) (payment_in since owed) refl is opened counted at life refl
 
 -- what a command spends is reserved as its job begins
 abbrev pub spent_by : Setup → Command → ℕ

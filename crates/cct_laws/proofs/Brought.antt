@@ -32,7 +32,8 @@ use Rattle.cct_model.specs.Hopper.{remaining}
 use Rattle.cct_model.specs.Exchange.{ask, asked, asks_of, device_at}
 use Rattle.cct_model.specs.Line.{Line, accepted, inhibited, alien, fell, reset, exchange, scanned, put, taken, ended, crashed}
 use Rattle.cct_model.specs.Order.{order}
-use Rattle.cct_model.specs.Job.{Job, free, works, job, begun, with_line, done, epoch, Row, sends, puts, no_row, row, row_of_sale, vend_row, can_halt, address_of, end_of, end_of_put}
+use Rattle.cct_model.specs.Job.{Job, free, works, job, begun, with_line, done, epoch, Row, sends, puts, no_row, can_halt, address_of, payment_in}
+use Rattle.cct_model.specs.Rows.{row, row_of_sale, end_of, first, end_of_sale, end_kept, after, rows_of_sale}
 use Rattle.cct_model.specs.Money.{totals}
 use Rattle.cct_model.specs.Scan.{scan_row, end_of_scan, poll_of}
 use Rattle.cct_model.specs.Refusal.{at_device, at_acceptor, at_hopper, busy, pay_refusal, halt_refusal, last_id, state_refusal, refusal}
@@ -44,6 +45,7 @@ use Rattle.cct_laws.specs.Law.{IsOf}
 use Rattle.cct_model.proofs.Doses.{job_undosed}
 use Rattle.cct_laws.proofs.Setups.{address_found}
 use Rattle.cct_laws.proofs.Tests.{tests_pass}
+use Rattle.cct_model.specs.declared.judging.Judged.TheVariants.{Nothing}
 
 -- what comes to a device that met all this without being asked, over a step: the entry, what the device then met, and
 -- its line, if it is one
@@ -498,22 +500,28 @@ sale_puts : (c : Command) (since : List Line) (r : Record) → row_of_sale c sin
     (id : ℕ) × (price : ℕ) × (c ≡ command.Vend id price) × (done since ≡ 0) × (r ≡ record_of.Sold id price)
 sale_puts (command.Vend id price) since r is = by_rows (done since) is
   where
-    by_rows : (rows : ℕ) → vend_row id price rows ≡ puts r →
+    by_rows : (rows : ℕ) → first HOST Nothing (payment_in since None) (after (rows_of_sale (command.Vend id price)) rows) ≡ puts r →
         (i : ℕ) × (p : ℕ) × (command.Vend id price ≡ command.Vend i p) × (rows ≡ 0) × (r ≡ record_of.Sold i p)
     by_rows zero is = (id, price, refl, refl, cc)
     by_rows (suc rows) is = absurd cc
 sale_puts c since r is = absurd cc
 
+-- it ends the sale
+sale_ends : (id price : ℕ) (since : List Line) (r : Record) → done since ≡ 0 →
+    end_of_sale (command.Vend id price) r since ≡ Some Sold
+sale_ends id price since r none = ap (λ n. end_kept (after (rows_of_sale (command.Vend id price)) n) r) none
+
 sale_row_brought : (capacity : ℕ) (setup : Setup) (past news : List Entry) (c : Command) (since : List Line) (r : Row) →
     device_at setup.devices HOST ≡ None → job (sale_lines past) ≡ works c since → row_of_sale c since ≡ r →
-    SaleRowEntries c r news → Brought capacity setup past (step.Next HOST) news
+    SaleRowEntries c since r news → Brought capacity setup past (step.Next HOST) news
 sale_row_brought capacity setup past news c since (puts r) none is row_is told =
     let made = sale_puts c since r row_is in
     let selling : Selling past made.0 made.1 since =
     record { job_is = is ∙ ap (λ x. works x since) made.2; first = made.3 } in
+    let ends : end_of_sale c r since ≡ Some Sold =
+    ap (λ x. end_of_sale x r since) made.2 ∙ sale_ends made.0 made.1 since r made.3 in
     subst (Brought capacity setup past (step.Next HOST))
-    (sym (told ∙ subst (λ x. with_end HOST (entry.Put r) (end_of_put x r) ≡ with_end HOST (entry.Put r) (end_of_put (command.Vend made.0 made.1) r)) (sym made.2) refl
-    ∙ ap (λ x. with_end HOST (entry.Put x) (end_of_put (command.Vend made.0 made.1) x)) made.4))
+    (sym (told ∙ ap (with_end HOST (entry.Put r)) ends ∙ ap (λ x. with_end HOST (entry.Put x) (Some Sold)) made.4))
     (sold made.0 made.1 since none selling)
 sale_row_brought capacity setup past news c since (sends q) none is row_is told = absurd told
 sale_row_brought capacity setup past news c since no_row none is row_is told = absurd told

@@ -1,13 +1,12 @@
 -- A hopper posts nothing: no line of it tells of coins that an acceptor took, so each is in order, and none is lost at it
 -- in silence. So that holds of every device of a setup, of either kind.
-use Rattle.std.proofs.Common.{◌≡◌, ℕ, ◌-◌, ◌==◌, nat_le, cond, Bool, true, false, List, ◌∷◌, ◌++◌, length, subst, Option, Some, None, All, inl, inr}
+use Rattle.std.proofs.Common.{refl, ◌≡◌, ℕ, ◌-◌, nat_le, cond, Bool, true, false, List, ◌∷◌, ◌++◌, subst, Option, Some, None, All, inl, inr, sym, ap, rules, ◌∙◌}
 use Rattle.std.specs.Prelude.{⊤}
 use Rattle.cct_model.specs.terms.device.DeviceBody.{DeviceBody}
 use Rattle.cct_model.specs.terms.device.DeviceBody.TheVariants.{Acceptor, Hopper}
 use Rattle.cct_model.specs.terms.device.DeviceSetup.{DeviceSetup}
 use Rattle.cct_model.specs.terms.device.Setup.{Setup}
 use Rattle.cct_model.specs.terms.request.Request.{Request}
-use Rattle.cct_model.specs.terms.request.Request.TheVariants.{SetMask, Dispense}
 use Rattle.cct_model.specs.lines.record.Record.{Record}
 use Rattle.cct_model.specs.lines.record.Record.TheVariants as record_of
 use Rattle.cct_model.specs.declared.judging.EpochState.{EpochState}
@@ -17,7 +16,7 @@ use Rattle.cct_model.specs.lines.command.Command.{Command}
 use Rattle.cct_model.specs.lines.command.Command.TheVariants as command
 use Rattle.cct_model.specs.lines.command.Step.{Step}
 use Rattle.cct_model.specs.lines.entry.End.{End}
-use Rattle.cct_model.specs.lines.entry.End.TheVariants.{Clean, Told}
+use Rattle.cct_model.specs.lines.entry.End.TheVariants.{Clean}
 use Rattle.cct_model.specs.lines.entry.Entry.{Entry}
 use Rattle.cct_model.specs.Claims.{InOrder, Covers, Pace}
 use Rattle.cct_model.specs.Device.{IsHopper}
@@ -25,7 +24,8 @@ use Rattle.cct_model.specs.Reply.{Reply}
 use Rattle.cct_model.specs.History.{Met}
 use Rattle.cct_model.specs.Hopper.{taken_of}
 use Rattle.cct_model.specs.Honest.{Honest}
-use Rattle.cct_model.specs.Job.{Payment, payment_in, judged_in, done, epoch, row, puts, ident_requests, end_of, end_of_answer, end_of_failure}
+use Rattle.cct_model.specs.Job.{Payment, payment_in, judged_in, done, epoch, puts, ident_requests, address_of}
+use Rattle.cct_model.specs.Rows.{row, end_of, Due, new_order, rows_of, order_end}
 use Rattle.cct_model.specs.Legal.{Legal}
 use Rattle.cct_model.specs.Line.{Line, exchange, put, crashed}
 use Rattle.cct_model.specs.Order.{order, close, life_between}
@@ -37,9 +37,9 @@ use Rattle.cct_laws.specs.KeptHopper.{IsKeptHopper}
 use Rattle.cct_laws.specs.Law.{IsOf, lines_in}
 use Rattle.cct_laws.proofs.Acceptors.{put_other}
 use Rattle.cct_laws.proofs.EitherKind.{for_hopper, kind_of}
-use Rattle.cct_laws.proofs.Moves.{IfOther, other_if, tries_end}
+use Rattle.cct_laws.proofs.Moves.{IfOther, IsOtherEnd, failure_other}
 use Rattle.cct_laws.proofs.Posts.{legal_in_order, legal_covers}
-use Rattle.cct_laws.proofs.Rows.{RowHolds, CommandHolds, SettleHolds, each_row, any_sent}
+use Rattle.cct_model.proofs.Rows.{RowHolds, puts_only, EachRow, answer_end, DueHolds, AnswerEnds, told_only, each_told, each_put}
 use Rattle.cct_laws.proofs.Whole.{kept_hopper_legal}
 
 -- what holds of the lines of a hopper
@@ -74,24 +74,30 @@ close_of_order o life = by_test (nat_le (life_between o.life life) o.count)
     by_test true = tt
     by_test false = tt
 
-settle_of_order : (p : Payment) → SettleHolds (λ q. ⊤) IsOfOrder p
-settle_of_order p =
-    record { asks = tt; stops = tt; reads = tt; closes = λ o life owed read. close_of_order o life }
+abbrev is_order_due : Due → Bool
+is_order_due (new_order id count) = true
+is_order_due order_end = true
+is_order_due due = false
 
-command_of_order : (d : DeviceSetup) (c : Command) (judged : Judged) (p : Payment) → is_for_hopper c ≡ true →
-    CommandHolds (λ q. ⊤) IsOfOrder d c judged p
-command_of_order d (command.Pay addr id count) judged p suited =
-    record { enables = tt; opens = λ life read. tt; dispenses = tt; settles = settle_of_order p }
-command_of_order d (command.Settle addr) judged p suited = settle_of_order p
-command_of_order d (command.Ident addr) judged p suited = any_sent (ident_requests d.body)
-command_of_order d c judged p suited = absurd cc
+hopper_dues : (d : DeviceSetup) (c : Command) → cond (is_for_hopper c) (puts_only is_order_due (rows_of d c)) true ≡ true
+hopper_dues d (command.Ident addr) = told_only is_order_due (ident_requests d.body)
+hopper_dues d c = refl
+
+due_of_order : (addr : ℕ) (judged : Judged) (p : Payment) (due : Due) → is_order_due due ≡ true →
+    DueHolds IsOfOrder addr judged p due
+due_of_order addr judged p (new_order id count) is = λ life read. tt
+due_of_order addr judged p order_end is = λ o life owed read. close_of_order o life
+due_of_order addr judged p due is = absurd cc
 
 puts_of_order : (d : DeviceSetup) (c : Command) (work : List Line) (state : EpochState) (owed : Option OpenOrder)
     (r : Record) → is_for_hopper c ≡ true → row d c work state owed ≡ puts r → IsOfOrder r
 puts_of_order d c work state owed r suited is_row =
+    let judged = judged_in c work state in
+    let p = payment_in work owed in
+    let only : puts_only is_order_due (rows_of d c) ≡ true =
+    sym (ap (λ b. cond b (puts_only is_order_due (rows_of d c)) true) suited) ∙ hopper_dues d c in
     subst (RowHolds (λ q. ⊤) IsOfOrder) is_row
-    (each_row (λ q. ⊤) IsOfOrder d c (done work) (judged_in c work state) (payment_in work owed)
-    (command_of_order d c (judged_in c work state) (payment_in work owed) suited))
+    (each_put IsOfOrder is_order_due d c (done work) judged p only (due_of_order (address_of c) judged p))
 
 -- and end in no clean end
 coinless_ended : (lines : List Line) (end : Option End) → IfOther end → Coinless lines → Coinless (with_ended end lines)
@@ -100,22 +106,18 @@ coinless_ended lines (Some Clean) other less = absurd other
 coinless_ended lines (Some end) other less =
     record { in_order = (tt, less.in_order); covers = (tt, less.covers) }
 
-answer_other : (body : DeviceBody) (c : Command) (rows : ℕ) (y : Reply) (judged : Judged) → is_for_hopper c ≡ true →
-    IfOther (end_of_answer body c rows y judged)
-answer_other body (command.Pay addr id count) rows y judged suited = tt
-answer_other body (command.Settle addr) rows y judged suited = tt
-answer_other body (command.Ident addr) rows y judged suited = other_if (length (ident_requests body) == rows) Told tt
-answer_other body c rows y judged suited = absurd cc
-
-failure_other : (q : Request) (failed : ℕ) → IfOther (end_of_failure q failed)
-failure_other (SetMask mask) failed = tt
-failure_other (Dispense serial count) failed = tt
-failure_other q failed = tries_end failed
+hopper_ends : (d : DeviceSetup) (c : Command) → is_for_hopper c ≡ true → EachRow (AnswerEnds IsOtherEnd) (rows_of d c)
+hopper_ends d (command.Ident addr) suited =
+    each_told (AnswerEnds IsOtherEnd) (λ q. tt) (λ q. tt) (ident_requests d.body)
+hopper_ends d (command.Pay addr id count) suited = search rules
+hopper_ends d (command.Settle addr) suited = search rules
+hopper_ends d c suited = absurd cc
 
 exchange_other : (d : DeviceSetup) (c : Command) (q : Request) (got : Option Reply) (work : List Line)
     (state : EpochState) → is_for_hopper c ≡ true → IfOther (end_of d c (exchange (Some q) got) work state)
-exchange_other d c q (Some y) work state suited = answer_other d.body c _ y _ suited
-exchange_other d c q None work state suited = failure_other q _
+exchange_other d c q (Some y) work state suited =
+    answer_end IsOtherEnd d c (Some q) y work state (hopper_ends d c suited)
+exchange_other d c q None work state suited = failure_other d c q work state
 
 -- any other line is none of an acceptor: so is that of a dispense that was taken
 coinless_more : (lines : List Line) (took : Option ℕ) → Coinless lines → Coinless (dispensed_by took ++ lines)
@@ -156,7 +158,7 @@ coinless_kept d paying = record {
       (puts_of_order d c work (epoch lines) (order lines) r (for_hopper d.body c paying at.suited) row_is)
       (record { in_order = (tt, less.in_order); covers = (tt, less.covers) });
   puts = λ past lines c work r at row_is less.
-      coinless_ended (put r ∷ lines) _ (put_other c r)
+      coinless_ended (put r ∷ lines) _ (put_other d c r work (epoch lines))
       (coinless_put lines r
       (puts_of_order d c work (epoch lines) (order lines) r (for_hopper d.body c paying at.suited) row_is) less);
 }

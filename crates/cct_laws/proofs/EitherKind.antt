@@ -7,7 +7,8 @@ use Rattle.cct_model.specs.lines.command.Command.{Command}
 use Rattle.cct_model.specs.Device.{IsAcceptor, IsHopper}
 use Rattle.cct_model.specs.History.{Met, heard}
 use Rattle.cct_model.specs.Line.{Line, exchange}
-use Rattle.cct_model.specs.Job.{end_of, epoch}
+use Rattle.cct_model.specs.Job.{epoch}
+use Rattle.cct_model.specs.Rows.{end_of}
 use Rattle.cct_laws.specs.Kept.{is_for_acceptor, is_for_hopper, suits, with_ended}
 use Rattle.cct_laws.specs.KeptBoth.{IsKeptBoth}
 use Rattle.cct_laws.specs.KeptHopper.{IsKeptHopper}

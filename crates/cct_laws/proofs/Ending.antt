@@ -1,7 +1,6 @@
 -- A job whose exchanges no fault disturbs ends within so many `next` as it has rows, whatever else comes between them.
-use Rattle.std.proofs.Common.{◌≡◌, ℕ, zero, suc, ◌+◌, ◌-◌, ◌<◌, ◌≤◌, ◌==◌, nat_le, cond, true, false, Bool, List, [], ◌∷◌, ◌++◌, length, refl, ap, sym, ◌∙◌, subst, Option, Some, None, ◌⊎◌, inl, inr, arith, rules, eq-eqb, append_assoc, slice_get}
+use Rattle.std.proofs.Common.{◌≡◌, ℕ, zero, suc, ◌+◌, ◌<◌, ◌≤◌, ◌==◌, cond, true, false, Bool, List, [], ◌∷◌, ◌++◌, refl, ap, sym, ◌∙◌, subst, Option, Some, None, ◌⊎◌, inl, inr, arith, rules, eq-eqb, append_assoc, true≢false}
 use Rattle.std.specs.Prelude.{⊤}
-use Rattle.std.proofs.lemmas.Bool.Decides.{nat_tests}
 use Rattle.cct_model.specs.terms.device.DeviceBody.{DeviceBody}
 use Rattle.cct_model.specs.terms.device.DeviceBody.TheVariants.{Acceptor, Hopper}
 use Rattle.cct_model.specs.terms.device.DeviceSetup.{DeviceSetup}
@@ -9,38 +8,33 @@ use Rattle.cct_model.specs.terms.device.Setup.{Setup}
 use Rattle.cct_model.specs.terms.request.Request.{Request}
 use Rattle.cct_model.specs.terms.request.Request.TheVariants.{SetPath, GetPath, SetDefault, GetDefault, Dispense, GetStatus, StopNow}
 use Rattle.cct_model.specs.terms.request.ReplyForm.{ReplyForm}
-use Rattle.cct_model.specs.terms.request.ReplyForm.TheVariants as form
 use Rattle.cct_model.specs.lines.record.Record.{Record}
-use Rattle.cct_model.specs.lines.record.Record.TheVariants as record_of
 use Rattle.cct_model.specs.declared.judging.Judged.{Judged}
-use Rattle.cct_model.specs.declared.judging.Judged.TheVariants.{Nothing, Reading, Broken}
-use Rattle.cct_model.specs.declared.judging.OpenOrder.{OpenOrder}
 use Rattle.cct_model.specs.lines.command.Command.{Command}
 use Rattle.cct_model.specs.lines.command.Command.TheVariants as command
 use Rattle.cct_model.specs.lines.command.WireFault.TheVariants as fault
 use Rattle.cct_model.specs.lines.command.Step.{Step}
 use Rattle.cct_model.specs.lines.command.Step.TheVariants as step
 use Rattle.cct_model.specs.lines.entry.End.{End}
-use Rattle.cct_model.specs.lines.entry.End.TheVariants.{Told, PathSet, Stopped}
 use Rattle.cct_model.specs.lines.entry.Entry.{Entry}
 use Rattle.cct_model.specs.lines.entry.Entry.TheVariants as entry
 use Rattle.cct_model.specs.Request.{form_of}
 use Rattle.cct_model.specs.Reply.{Reply}
-use Rattle.cct_model.specs.Reply as reply
 use Rattle.cct_model.specs.History.{Met}
 use Rattle.cct_model.specs.Hopper.{remaining, status_of, hopper_reply}
-use Rattle.cct_model.specs.Device.{IsSound, IsAcceptor, IsHopper, common_reply, reply_of}
+use Rattle.cct_model.specs.Device.{IsAcceptor, IsHopper, common_reply, reply_of}
 use Rattle.cct_model.specs.Setup.{IsSoundSetup}
 use Rattle.cct_model.specs.Exchange.{ask, asked, asks_of}
 use Rattle.cct_model.specs.Line.{Line, exchange, put, taken}
-use Rattle.cct_model.specs.Order.{order, close, life_between, is_marked}
-use Rattle.cct_model.specs.Job.{free, works, job, with_line, done, answer_ends, epoch, credits_read, mask_read, Row, sends, puts, no_row, Payment, payment_in, put_or, open_row, close_row, state_row, settle_row, stop_row, send_row, row_at, ident_requests, judged_in, address_of, can_halt, end_of, end_of_answer, end_of_path, end_of_close, end_of_put}
+use Rattle.cct_model.specs.Order.{order, is_marked}
+use Rattle.cct_model.specs.Job.{free, works, job, with_line, done, answer_ends, epoch, credits_read, mask_read, sends, puts, Payment, payment_in, state_row, ident_requests, judged_in, address_of, can_halt}
+use Rattle.cct_model.specs.Rows.{row_at, end_of, TableRow, end_answered, asks_for, telling, rows_of, first, left_at, asks_once, puts_due, waits_for_coins}
 use Rattle.cct_model.specs.Script.{IsCommand}
 use Rattle.cct_model.specs.Legal.{with_end, LegalFrom}
 use Rattle.cct_model.specs.Transcript.{pending, met, lines_of, heard_by_devices, heard_after, doses_of, got_by}
 use Rattle.cct_msg.specs.Forms.{form_shown}
 use Rattle.cct_msg.proofs.Exchanges.{asked_back}
-use Rattle.cct_laws.specs.Ending.{nexts_after, nexts_at, halts_after, halts_at, is_payment, rows_of, nexts_needed, ShowsEnd, EndsAs, EndsRound, HasNoEnd, EachAtWork, LeavesAlone, IsUndisturbed, FindsNoneLeft, IsPaidOut}
+use Rattle.cct_laws.specs.Ending.{nexts_after, nexts_at, halts_after, halts_at, is_payment, row_count, nexts_needed, ShowsEnd, EndsAs, EndsRound, HasNoEnd, EachAtWork, LeavesAlone, IsUndisturbed, FindsNoneLeft, IsPaidOut}
 use Rattle.cct_laws.specs.Ids.{Ids}
 use Rattle.cct_laws.specs.Kept.{IsRefused, suits}
 use Rattle.cct_laws.specs.Law.{IsOf}
@@ -50,17 +44,18 @@ use Rattle.cct_model.proofs.Doses.{job_undosed}
 use Rattle.cct_laws.proofs.Exchanges.{Replied, Refused, undisturbed_got, undisturbed_refused}
 use Rattle.cct_laws.proofs.Ids.{ids_start, ids_step, put_owned}
 use Rattle.cct_laws.proofs.Replies.{hopper_is}
-use Rattle.cct_laws.proofs.Rows.{RowHolds, Each, JudgedHolds, any_judged, judged_holds, each_row}
+use Rattle.cct_model.proofs.Rows.{RowHolds, Each, EachRow, due_holds, any_due, walk}
 use Rattle.cct_laws.proofs.Seen.{ArePassed, loose, loose_line, Lost, bare, kept_here, kept_elsewhere, seen_here, seen_aside, seen_lost, seen_from, passed_job, lines_wire, lines_put, lines_taken, along_from, any_steps}
-use Rattle.cct_laws.proofs.Setups.{found_in}
-use Rattle.cct_laws.proofs.Tries.{IsSentAt, sent_at, IfEndOf, ends_of_answer, ends_of_put}
+use Rattle.cct_laws.proofs.Tries.{IfEndOf, ends_of_answer, ends_of_put}
+use Rattle.cct_laws.proofs.LastRows.{dispensed_ends, few_failed, few_put, few_answered}
+use Rattle.cct_laws.proofs.Held.{judged_reads}
 
 -- a job that is to end within so many `next`: one for each of its rows that aren't done, and one for a halt
 record JobAt (d : DeviceSetup) (c : Command) (nexts : ℕ) (past : List Entry) : Type 0 where
   since : List Line
   job_is : job (lines_of d past) ≡ works c since
-  few : done since < rows_of d.body c
-  enough : rows_of d.body c + cond (is_marked since) 1 0 ≤ done since + nexts
+  few : done since < row_count d c
+  enough : row_count d c + cond (is_marked since) 1 0 ≤ done since + nexts
 
 -- what a step makes of it: it ends, or has so many `next` left, and no job ended at its address
 Goes : DeviceSetup → Command → ℕ → List Entry → List Entry → Type 0
@@ -83,8 +78,8 @@ job_left d c nexts more past news fewer same no_end at =
 -- an entry of it, with its end or without
 goes_by : (d : DeviceSetup) (c : Command) (nexts : ℕ) (past : List Entry) (since : List Line) (l : Line) (e : Entry)
     (found : Option End) → job (lines_of d (e ∷ past)) ≡ works c (l ∷ since) → HasNoEnd d.addr (e ∷ []) →
-    IfEndOf c found → (found ≡ None → done (l ∷ since) < rows_of d.body c) →
-    rows_of d.body c + cond (is_marked (l ∷ since)) 1 0 ≤ done (l ∷ since) + nexts →
+    IfEndOf c found → (found ≡ None → done (l ∷ since) < row_count d c) →
+    row_count d c + cond (is_marked (l ∷ since)) 1 0 ≤ done (l ∷ since) + nexts →
     Goes d c nexts past (with_end d.addr e found)
 unfolding Goes
 goes_by d c nexts past since l e None is_job no_end ends few enough =
@@ -99,67 +94,62 @@ IsOfPayment marked pays StopNow = marked ≡ true
 IsOfPayment marked pays GetStatus = pays ≡ true
 IsOfPayment marked pays q = ⊤
 
+-- it asks how a payout goes in the row of a payment that waits for its coins, and nothing else of a payout
+abbrev IsPlainAsk : Request → Type 0
+IsPlainAsk q = IsOfPayment false false q
+
+abbrev AsksOfPayment : Bool → TableRow → Type 0
+AsksOfPayment pays (asks_for q behind) = IsPlainAsk q
+AsksOfPayment pays (asks_once q behind without) = IsPlainAsk q
+AsksOfPayment pays waits_for_coins = pays ≡ true
+AsksOfPayment pays (puts_due due behind) = ⊤
+
+ident_asks : (body : DeviceBody) → Each IsPlainAsk (ident_requests body)
+ident_asks (Acceptor accepts values ids) = search rules
+ident_asks (Hopper life value) = search rules
+
+told_asks : (pays : Bool) (qs : List Request) → Each IsPlainAsk qs → EachRow (AsksOfPayment pays) (telling qs)
+told_asks pays [] each = tt
+told_asks pays (q ∷ []) each = (each.0, tt)
+told_asks pays (q ∷ r ∷ qs) each = (each.0, told_asks pays (r ∷ qs) each.1)
+
+set_asks : (first : Bool) (place path : ℕ) → IsPlainAsk (cond first (SetDefault path) (SetPath place path))
+set_asks true place path = tt
+set_asks false place path = tt
+
+read_asks : (first : Bool) (place : ℕ) → IsPlainAsk (cond first GetDefault (GetPath place))
+read_asks true place = tt
+read_asks false place = tt
+
+command_asks : (d : DeviceSetup) (c : Command) → EachRow (AsksOfPayment (is_payment c)) (rows_of d c)
+command_asks d (command.Ident addr) = told_asks false (ident_requests d.body) (ident_asks d.body)
+command_asks d (command.Path addr place path) =
+    (set_asks (place == 0) place path, (read_asks (place == 0) place, tt))
+command_asks d c = search rules
+
+plain_asks : (marked pays : Bool) (q : Request) → IsPlainAsk q → IsOfPayment marked pays q
+plain_asks marked pays StopNow plain = absurd (true≢false (sym plain))
+plain_asks marked pays GetStatus plain = absurd (true≢false (sym plain))
+plain_asks marked pays q plain = tt
+
 state_asks : (marked pays : Bool) → pays ≡ true → RowHolds (IsOfPayment marked pays) (λ r. ⊤) (state_row marked)
 state_asks true pays is = refl
 state_asks false pays is = is
 
-close_asks : (P : Request → Type 0) (owed : Option OpenOrder) (life : Option ℕ) →
-    RowHolds P (λ r. ⊤) (close_row owed life)
-close_asks P (Some o) (Some life) = tt
-close_asks P (Some o) None = tt
-close_asks P None life = tt
-
-open_asks : (P : Request → Type 0) (addr id count : ℕ) (life : Option ℕ) →
-    RowHolds P (λ r. ⊤) (open_row addr id count life)
-open_asks P addr id count (Some life) = tt
-open_asks P addr id count None = tt
-
-settle_asks : (rows : ℕ) (p : Payment) → RowHolds (IsOfPayment p.is_marked true) (λ r. ⊤) (settle_row rows p)
-settle_asks zero p = state_asks p.is_marked true refl
-settle_asks (suc zero) p = tt
-settle_asks (suc (suc zero)) p = close_asks (IsOfPayment p.is_marked true) p.owed p.life
-settle_asks (suc (suc (suc rows))) p = tt
-
-ident_asks : (marked pays : Bool) (body : DeviceBody) → Each (IsOfPayment marked pays) (ident_requests body)
-ident_asks marked pays (Acceptor accepts values ids) = search rules
-ident_asks marked pays (Hopper life value) = search rules
-
-set_asks : (marked pays first : Bool) (place path : ℕ) →
-    IsOfPayment marked pays (cond first (SetDefault path) (SetPath place path))
-set_asks marked pays true place path = tt
-set_asks marked pays false place path = tt
-
-read_asks : (marked pays first : Bool) (place : ℕ) → IsOfPayment marked pays (cond first GetDefault (GetPath place))
-read_asks marked pays true place = tt
-read_asks marked pays false place = tt
-
 row_asks : (d : DeviceSetup) (c : Command) (rows : ℕ) (judged : Judged) (p : Payment) →
     RowHolds (IsOfPayment p.is_marked (is_payment c)) (λ r. ⊤) (row_at d c rows judged p)
-row_asks d (command.Start addr mask) rows judged p =
-    each_row (IsOfPayment p.is_marked false) (λ r. ⊤) d (command.Start addr mask) rows judged p
-    (record { resets = tt; reads = tt; begins = tt; opens = tt })
-row_asks d (command.Round addr) rows judged p =
-    each_row (IsOfPayment p.is_marked false) (λ r. ⊤) d (command.Round addr) rows judged p
-    (record { reads = tt; looks = tt; means = any_judged judged })
-row_asks d (command.Stop addr) rows judged p =
-    each_row (IsOfPayment p.is_marked false) (λ r. ⊤) d (command.Stop addr) rows judged p
-    (record { shuts = tt; round = record { reads = tt; looks = tt; means = any_judged judged }; over = tt })
-row_asks d (command.Pay addr id count) zero judged p = tt
-row_asks d (command.Pay addr id count) (suc zero) judged p = tt
-row_asks d (command.Pay addr id count) (suc (suc zero)) judged p =
-    open_asks (IsOfPayment p.is_marked true) addr id count p.life
-row_asks d (command.Pay addr id count) (suc (suc (suc zero))) judged p = tt
-row_asks d (command.Pay addr id count) (suc (suc (suc (suc rows)))) judged p = settle_asks rows p
-row_asks d (command.Settle addr) rows judged p = settle_asks rows p
-row_asks d (command.Ident addr) rows judged p =
-    each_row (IsOfPayment p.is_marked false) (λ r. ⊤) d (command.Ident addr) rows judged p
-    (ident_asks p.is_marked false d.body)
-row_asks d (command.Path addr place path) rows judged p =
-    each_row (IsOfPayment p.is_marked false) (λ r. ⊤) d (command.Path addr place path) rows judged p
-    (set_asks p.is_marked false (place == 0) place path, read_asks p.is_marked false (place == 0) place)
-row_asks d (command.Halt addr) rows judged p = tt
-row_asks d command.Scan rows judged p = tt
-row_asks d (command.Vend id price) rows judged p = tt
+row_asks d c rows judged p =
+    walk (AsksOfPayment (is_payment c)) (RowHolds (IsOfPayment p.is_marked (is_payment c)) (λ r. ⊤)) d c rows judged p tt
+    by_row (command_asks d c)
+  where
+    by_row : (r : TableRow) (rest : List TableRow) → AsksOfPayment (is_payment c) r →
+        RowHolds (IsOfPayment p.is_marked (is_payment c)) (λ r. ⊤) (first (address_of c) judged p (r ∷ rest))
+    by_row (asks_for q behind) rest asks = plain_asks p.is_marked (is_payment c) q asks
+    by_row (asks_once q behind without) rest asks = plain_asks p.is_marked (is_payment c) q asks
+    by_row waits_for_coins rest asks = state_asks p.is_marked (is_payment c) asks
+    by_row (puts_due due behind) rest asks =
+        due_holds (IsOfPayment p.is_marked (is_payment c)) (λ r. ⊤) (address_of c) judged p due
+        (any_due (address_of c) judged p due)
 
 -- an answer to it brings the job on: it ends the row, or the mark of a halt
 status_is : (d : DeviceSetup) (past : List Met) → IsHopper d.body →
@@ -199,215 +189,16 @@ off_by false rows n nexts is enough = absurd cc
 answer_brings : (d : DeviceSetup) (past : List Met) (c : Command) (since : List Line) (q : Request) (y : Reply)
     (nexts : ℕ) → suits d.body c ≡ true → IsOfPayment (is_marked since) (is_payment c) q →
     reply_of d past q ≡ Some y → (is_payment c ≡ true → FoundNoneLeft d past q) →
-    rows_of d.body c + cond (is_marked since) 1 0 ≤ done since + suc nexts →
-    rows_of d.body c + cond (is_marked (exchange (Some q) (Some y) ∷ since)) 1 0 ≤
+    row_count d c + cond (is_marked since) 1 0 ≤ done since + suc nexts →
+    row_count d c + cond (is_marked (exchange (Some q) (Some y) ∷ since)) 1 0 ≤
     done (exchange (Some q) (Some y) ∷ since) + nexts
 answer_brings d past c since StopNow y nexts suited asks replied found enough =
-    off_by (is_marked since) (rows_of d.body c) (done since) nexts asks enough
+    off_by (is_marked since) (row_count d c) (done since) nexts asks enough
 answer_brings d past c since GetStatus y nexts suited asks replied found enough =
-    on_by (answer_ends GetStatus y) (is_marked since) (rows_of d.body c) (done since) nexts
+    on_by (answer_ends GetStatus y) (is_marked since) (row_count d c) (done since) nexts
     (zero_left d past y replied (paying_of d.body c suited asks) (found asks refl)) enough
 answer_brings d past c since q y nexts suited asks replied found enough =
-    on_by true (is_marked since) (rows_of d.body c) (done since) nexts refl enough
-
--- the last row that a job has ends it
-abbrev IsPath : Reply → Type 0
-IsPath y = (number : ℕ) × (y ≡ reply.path number)
-
-path_by : (wanted : ReplyForm) (y : Reply) → Some form.Path ≡ Some wanted → form_shown y ≡ Some wanted → IsPath y
-path_by wanted (reply.path number) is shown = (number, refl)
-path_by wanted y is shown = absurd cc
-
-path_shown : (first : Bool) (place : ℕ) (wanted : ReplyForm) (y : Reply) →
-    form_of (cond first GetDefault (GetPath place)) ≡ Some wanted → form_shown y ≡ Some wanted → IsPath y
-unfolding form_of
-path_shown true place wanted y is shown = path_by wanted y is shown
-path_shown false place wanted y is shown = path_by wanted y is shown
-
-no_close : (owed : Option OpenOrder) (life : Option ℕ) (q : Request) → close_row owed life ≡ sends q → ⊥
-no_close (Some o) (Some life) q is = cc
-no_close (Some o) None q is = cc
-no_close None life q is = cc
-
-no_put_or : (r : Row) (judged : Judged) (q : Request) → (r ≡ sends q → ⊥) → put_or r judged ≡ sends q → ⊥
-no_put_or r Nothing q none is = none is
-no_put_or r (Reading e) q none is = cc
-no_put_or r (Broken e) q none is = cc
-
-told_by : (told : Bool) (all rows : ℕ) → (all == suc rows) ≡ told → rows < all →
-    cond told (Some Told) None ≡ None → suc rows < all
-told_by true all rows test few none = absurd cc
-told_by false all rows test few none = grind (arith, nat_tests)
-
-few_answered : (d : DeviceSetup) (c : Command) (rows : ℕ) (judged means : Judged) (p : Payment) (q : Request)
-    (y : Reply) (wanted : ReplyForm) → row_at d c rows judged p ≡ sends q → form_of q ≡ Some wanted →
-    form_shown y ≡ Some wanted → rows < rows_of d.body c → end_of_answer d.body c (suc rows) y means ≡ None →
-    suc rows < rows_of d.body c
-few_answered d (command.Start addr mask) zero judged means p q y wanted is wants shown few none = omega arith
-few_answered d (command.Start addr mask) (suc zero) judged means p q y wanted is wants shown few none = omega arith
-few_answered d (command.Start addr mask) (suc (suc zero)) judged means p q y wanted is wants shown few none =
-    omega arith
-few_answered d (command.Start addr mask) (suc (suc (suc zero))) judged means p q y wanted is wants shown few none =
-    absurd cc
-few_answered d (command.Start addr mask) (suc (suc (suc (suc rows)))) judged means p q y wanted is wants shown few
-    none = absurd (omega (arith, few))
-few_answered d (command.Round addr) zero judged means p q y wanted is wants shown few none = omega arith
-few_answered d (command.Round addr) (suc zero) judged means p q y wanted is wants shown few none = omega arith
-few_answered d (command.Round addr) (suc (suc zero)) judged means p q y wanted is wants shown few none =
-    absurd (no_put_or no_row judged q (λ e. cc) is)
-few_answered d (command.Round addr) (suc (suc (suc rows))) judged means p q y wanted is wants shown few none =
-    absurd (omega (arith, few))
-few_answered d (command.Stop addr) zero judged means p q y wanted is wants shown few none = omega arith
-few_answered d (command.Stop addr) (suc zero) judged means p q y wanted is wants shown few none = omega arith
-few_answered d (command.Stop addr) (suc (suc zero)) judged means p q y wanted is wants shown few none = omega arith
-few_answered d (command.Stop addr) (suc (suc (suc zero))) judged means p q y wanted is wants shown few none =
-    omega arith
-few_answered d (command.Stop addr) (suc (suc (suc (suc rows)))) judged means p q y wanted is wants shown few none =
-    absurd (no_end_of_stop rows few is)
-  where
-    no_end_of_stop : (more : ℕ) → suc (suc (suc (suc more))) < 5 →
-        stop_row addr (suc (suc (suc (suc more)))) judged ≡ sends q → ⊥
-    no_end_of_stop zero few is = cc
-    no_end_of_stop (suc more) few is = omega (arith, few)
-few_answered d (command.Pay addr id count) rows judged means p q y wanted is wants shown few none =
-    pay_few rows is few
-  where
-    pay_few : (n : ℕ) → row_at d (command.Pay addr id count) n judged p ≡ sends q → n < 7 → suc n < 7
-    pay_few (suc (suc (suc (suc (suc (suc zero)))))) is few = absurd (no_close p.owed p.life q is)
-    pay_few (suc (suc (suc (suc (suc (suc (suc n))))))) is few = absurd (omega (arith, few))
-    pay_few zero is few = omega arith
-    pay_few (suc zero) is few = omega arith
-    pay_few (suc (suc zero)) is few = omega arith
-    pay_few (suc (suc (suc zero))) is few = omega arith
-    pay_few (suc (suc (suc (suc zero)))) is few = omega arith
-    pay_few (suc (suc (suc (suc (suc zero))))) is few = omega arith
-few_answered d (command.Settle addr) zero judged means p q y wanted is wants shown few none = omega arith
-few_answered d (command.Settle addr) (suc zero) judged means p q y wanted is wants shown few none = omega arith
-few_answered d (command.Settle addr) (suc (suc zero)) judged means p q y wanted is wants shown few none =
-    absurd (no_close p.owed p.life q is)
-few_answered d (command.Settle addr) (suc (suc (suc rows))) judged means p q y wanted is wants shown few none =
-    absurd (omega (arith, few))
-few_answered d (command.Ident addr) rows judged means p q y wanted is wants shown few none =
-    told_by (length (ident_requests d.body) == suc rows) (length (ident_requests d.body)) rows refl few none
-few_answered d (command.Path addr place path) zero judged means p q y wanted is wants shown few none = omega arith
-few_answered d (command.Path addr place path) (suc zero) judged means p q y wanted is wants shown few none =
-    let read : cond (place == 0) GetDefault (GetPath place) ≡ q = cc in
-    let tells = path_shown (place == 0) place wanted y (ap form_of read ∙ wants) shown in
-    absurd (no_path_end tells.0 (ap (end_of_path place 2) (sym tells.1) ∙ none))
-  where
-    no_path_end : (number : ℕ) → Some (PathSet place number) ≡ None → ⊥
-    no_path_end number e = cc
-few_answered d (command.Path addr place path) (suc (suc rows)) judged means p q y wanted is wants shown few none =
-    absurd (omega (arith, few))
-few_answered d (command.Halt addr) rows judged means p q y wanted is wants shown few none = absurd (omega (arith, few))
-few_answered d command.Scan rows judged means p q y wanted is wants shown few none = absurd (omega (arith, few))
-few_answered d (command.Vend id price) rows judged means p q y wanted is wants shown few none =
-    absurd (omega (arith, few))
-
--- and so does its last put
-same_put : (a b : Record) → puts a ≡ puts b → a ≡ b
-same_put a b e = cc
-
-abbrev EndsARound : Record → Type 0
-EndsARound r = end_of_put (command.Round 0) r ≡ None → ⊥
-
-round_put : (judged : Judged) (r : Record) → JudgedHolds EndsARound judged → put_or no_row judged ≡ puts r →
-    EndsARound r
-round_put Nothing r ends is = absurd cc
-round_put (Reading e) r ends is = subst EndsARound (same_put e r is) ends
-round_put (Broken e) r ends is = subst EndsARound (same_put e r is) ends
-
-close_ended : (o : OpenOrder) (life : ℕ) → end_of_close (close o life) ≡ None → ⊥
-unfolding close
-close_ended o life = by_test (nat_le (life_between o.life life) o.count)
-  where
-    by_test : (fits : Bool) → end_of_close (cond fits
-        (record_of.Closed o.id (life_between o.life life) (o.count - life_between o.life life))
-        (record_of.Odd o.id o.life life)) ≡ None → ⊥
-    by_test true none = cc
-    by_test false none = cc
-
-close_put : (owed : Option OpenOrder) (life : Option ℕ) (r : Record) → close_row owed life ≡ puts r →
-    end_of_close r ≡ None → ⊥
-close_put (Some o) (Some life) r is none = close_ended o life (ap end_of_close (same_put (close o life) r is) ∙ none)
-close_put (Some o) None r is none = cc
-close_put None life r is none = cc
-
-no_put_sent : (found : Option Request) (r : Record) → send_row found ≡ puts r → ⊥
-no_put_sent (Some q) r is = cc
-no_put_sent None r is = cc
-
-few_put : (d : DeviceSetup) (c : Command) (rows : ℕ) (judged : Judged) (p : Payment) (r : Record) →
-    row_at d c rows judged p ≡ puts r → JudgedHolds EndsARound judged → rows < rows_of d.body c →
-    end_of_put c r ≡ None → suc rows < rows_of d.body c
-few_put d (command.Start addr mask) zero judged p r is means few none = omega arith
-few_put d (command.Start addr mask) (suc zero) judged p r is means few none = omega arith
-few_put d (command.Start addr mask) (suc (suc zero)) judged p r is means few none = omega arith
-few_put d (command.Start addr mask) (suc (suc (suc zero))) judged p r is means few none = absurd cc
-few_put d (command.Start addr mask) (suc (suc (suc (suc rows)))) judged p r is means few none =
-    absurd (omega (arith, few))
-few_put d (command.Round addr) zero judged p r is means few none = omega arith
-few_put d (command.Round addr) (suc zero) judged p r is means few none = omega arith
-few_put d (command.Round addr) (suc (suc zero)) judged p r is means few none =
-    absurd (round_put judged r means is none)
-few_put d (command.Round addr) (suc (suc (suc rows))) judged p r is means few none = absurd (omega (arith, few))
-few_put d (command.Stop addr) zero judged p r is means few none = omega arith
-few_put d (command.Stop addr) (suc zero) judged p r is means few none = omega arith
-few_put d (command.Stop addr) (suc (suc zero)) judged p r is means few none = omega arith
-few_put d (command.Stop addr) (suc (suc (suc zero))) judged p r is means few none = omega arith
-few_put d (command.Stop addr) (suc (suc (suc (suc zero)))) judged p r is means few none =
-    absurd (stop_ended r (same_put (record_of.EpochEnd addr) r is) none)
-  where
-    stop_ended : (e : Record) → record_of.EpochEnd addr ≡ e → end_of_put (command.Stop addr) e ≡ None → ⊥
-    stop_ended e same none = some_none (ap (end_of_put (command.Stop addr)) same ∙ none)
-      where
-        some_none : Some Stopped ≡ None → ⊥
-        some_none e = cc
-few_put d (command.Stop addr) (suc (suc (suc (suc (suc rows))))) judged p r is means few none =
-    absurd (omega (arith, few))
-few_put d (command.Pay addr id count) rows judged p r is means few none = pay_few rows is few
-  where
-    pay_few : (n : ℕ) → row_at d (command.Pay addr id count) n judged p ≡ puts r → n < 7 → suc n < 7
-    pay_few (suc (suc (suc (suc (suc (suc zero)))))) is few = absurd (close_put p.owed p.life r is none)
-    pay_few (suc (suc (suc (suc (suc (suc (suc n))))))) is few = absurd (omega (arith, few))
-    pay_few zero is few = omega arith
-    pay_few (suc zero) is few = omega arith
-    pay_few (suc (suc zero)) is few = omega arith
-    pay_few (suc (suc (suc zero))) is few = omega arith
-    pay_few (suc (suc (suc (suc zero)))) is few = omega arith
-    pay_few (suc (suc (suc (suc (suc zero))))) is few = omega arith
-few_put d (command.Settle addr) zero judged p r is means few none = omega arith
-few_put d (command.Settle addr) (suc zero) judged p r is means few none = omega arith
-few_put d (command.Settle addr) (suc (suc zero)) judged p r is means few none =
-    absurd (close_put p.owed p.life r is none)
-few_put d (command.Settle addr) (suc (suc (suc rows))) judged p r is means few none = absurd (omega (arith, few))
-few_put d (command.Ident addr) rows judged p r is means few none =
-    absurd (no_put_sent (slice_get (ident_requests d.body) rows) r is)
-few_put d (command.Path addr place path) zero judged p r is means few none = omega arith
-few_put d (command.Path addr place path) (suc zero) judged p r is means few none = absurd cc
-few_put d (command.Path addr place path) (suc (suc rows)) judged p r is means few none = absurd (omega (arith, few))
-few_put d (command.Halt addr) rows judged p r is means few none = absurd (omega (arith, few))
-few_put d command.Scan rows judged p r is means few none = absurd (omega (arith, few))
-few_put d (command.Vend id price) rows judged p r is means few none = absurd (omega (arith, few))
-
--- a dispense is no last row
-few_dispensed : (d : DeviceSetup) (c : Command) (judged : Judged) (p : Payment) (serial count : ℕ) →
-    row_at d c 3 judged p ≡ sends (Dispense serial count) → 4 < rows_of d.body c
-few_dispensed d (command.Start addr mask) judged p serial count is = absurd cc
-few_dispensed d (command.Round addr) judged p serial count is = absurd cc
-few_dispensed d (command.Stop addr) judged p serial count is =
-    absurd (no_put_or (puts (record_of.EpochEnd addr)) judged (Dispense serial count) (λ e. cc) is)
-few_dispensed d (command.Pay addr id count) judged p serial many is = omega arith
-few_dispensed d (command.Settle addr) judged p serial count is = absurd cc
-few_dispensed d (command.Ident addr) judged p serial count is = many_asked d.body
-  where
-    many_asked : (body : DeviceBody) → 4 < length (ident_requests body)
-    many_asked (Acceptor accepts values ids) = omega arith
-    many_asked (Hopper life value) = omega arith
-few_dispensed d (command.Path addr place path) judged p serial count is = absurd cc
-few_dispensed d (command.Halt addr) judged p serial count is = absurd cc
-few_dispensed d command.Scan judged p serial count is = absurd cc
-few_dispensed d (command.Vend id price) judged p serial count is = absurd cc
+    on_by true (is_marked since) (row_count d c) (done since) nexts refl enough
 
 -- an exchange of a job, what it got being told
 exchanged : (setup : Setup) (d : DeviceSetup) (c : Command) (nexts : ℕ) (past : List Entry) (since : List Line)
@@ -416,8 +207,8 @@ exchanged : (setup : Setup) (d : DeviceSetup) (c : Command) (nexts : ℕ) (past 
     got_by d (ask d.kind d.addr q) (heard_after setup past (ask d.kind d.addr q)) ≡ found →
     IfEndOf c (end_of d c (exchange (Some q) found) since (epoch (lines_of d past))) →
     (end_of d c (exchange (Some q) found) since (epoch (lines_of d past)) ≡ None →
-    done (exchange (Some q) found ∷ since) < rows_of d.body c) →
-    rows_of d.body c + cond (is_marked (exchange (Some q) found ∷ since)) 1 0 ≤
+    done (exchange (Some q) found ∷ since) < row_count d c) →
+    row_count d c + cond (is_marked (exchange (Some q) found ∷ since)) 1 0 ≤
     done (exchange (Some q) found ∷ since) + nexts →
     Goes d c nexts past (with_end d.addr (wire_of setup d past q) (wire_end setup d past c since q))
 exchanged setup d c nexts past since q found is_job asks_it got_is ends few enough =
@@ -438,18 +229,18 @@ exchanged setup d c nexts past since q found is_job asks_it got_is ends few enou
     ends few enough)
 
 -- an answered one brings it on
-few_by : (ended : Bool) (d : DeviceSetup) (c : Command) (rows : ℕ) (judged means : Judged) (p : Payment) (q : Request)
-    (y : Reply) (wanted : ReplyForm) → row_at d c rows judged p ≡ sends q → form_of q ≡ Some wanted →
-    form_shown y ≡ Some wanted → rows < rows_of d.body c →
-    end_of_answer d.body c (cond ended (suc rows) rows) y means ≡ None → cond ended (suc rows) rows < rows_of d.body c
-few_by true d c rows judged means p q y wanted is wants shown few none =
+few_left : (ended : Bool) (d : DeviceSetup) (c : Command) (rows : ℕ) (judged means : Judged) (p : Payment)
+    (q : Request) (y : Reply) (wanted : ReplyForm) → row_at d c rows judged p ≡ sends q → form_of q ≡ Some wanted →
+    form_shown y ≡ Some wanted → rows < row_count d c → end_answered (left_at d c rows judged) y means ≡ None →
+    cond ended (suc rows) rows < row_count d c
+few_left true d c rows judged means p q y wanted is wants shown few none =
     few_answered d c rows judged means p q y wanted is wants shown few none
-few_by false d c rows judged means p q y wanted is wants shown few none = few
+few_left false d c rows judged means p q y wanted is wants shown few none = few
 
 answered_there : (setup : Setup) (d : DeviceSetup) (c : Command) (nexts : ℕ) (past : List Entry) (since : List Line)
     (q : Request) → IsSoundSetup setup → IsOf setup d → suits d.body c ≡ true → job (lines_of d past) ≡ works c since →
-    done since < rows_of d.body c →
-    rows_of d.body c + cond (is_marked since) 1 0 ≤ done since + suc nexts →
+    done since < row_count d c →
+    row_count d c + cond (is_marked since) 1 0 ≤ done since + suc nexts →
     row_after d past c since ≡ sends q → pending past ≡ fault.Clear →
     (is_payment c ≡ true → FoundNoneLeft d (met d past) q) → Replied d (met d past) q →
     Goes d c nexts past (with_end d.addr (wire_of setup d past q) (wire_end setup d past c since q))
@@ -462,39 +253,34 @@ answered_there setup d c nexts past since q sound own suited is_job few enough i
     (row_asks d c (done since) judged p) in
     exchanged setup d c nexts past since q (Some is.y) is_job (asked_back d.kind d.addr q is.fits)
     (undisturbed_got setup d past q is sound own clear)
-    (ends_of_answer d.body c (done (exchange (Some q) (Some is.y) ∷ since)) is.y means)
-    (few_by (answer_ends q is.y) d c (done since) judged means p q is.y is.form is_row is.wants is.shown few)
+    (ends_of_answer d c (Some q) is.y since state)
+    (few_left (answer_ends q is.y) d c (done since) judged means p q is.y is.form is_row is.wants is.shown few)
     (answer_brings d (met d past) c since q is.y nexts suited asks is.replied found enough)
 
 -- and so does a dispense that the hopper refuses
-fourth_row : (rows serial count : ℕ) → IsSentAt rows (Dispense serial count) → rows ≡ 3
-fourth_row rows serial count (inl again) = absurd cc
-fourth_row rows serial count (inr once) = once.1
-
 refused_there : (setup : Setup) (d : DeviceSetup) (c : Command) (nexts : ℕ) (past : List Entry) (since : List Line)
     (q : Request) → IsSoundSetup setup → IsOf setup d → job (lines_of d past) ≡ works c since →
-    rows_of d.body c + cond (is_marked since) 1 0 ≤ done since + suc nexts →
+    done since < row_count d c → row_count d c + cond (is_marked since) 1 0 ≤ done since + suc nexts →
     row_after d past c since ≡ sends q → pending past ≡ fault.Clear → IsRefused d (met d past) q →
     Refused d (met d past) q →
     Goes d c nexts past (with_end d.addr (wire_of setup d past q) (wire_end setup d past c since q))
-refused_there setup d c nexts past since (Dispense serial count) sound own is_job enough is_row clear refuses is =
+refused_there setup d c nexts past since (Dispense serial count) sound own is_job few enough is_row clear refuses is =
     let q = Dispense serial count in
-    let judged = judged_in c since (epoch (lines_of d past)) in
+    let state = epoch (lines_of d past) in
+    let judged = judged_in c since state in
     let p = payment_in since (order (lines_of d past)) in
-    let low = (found_in IsSound setup.devices d.addr d sound.devices own).0.serial in
-    let fourth : done since ≡ 3 = fourth_row (done since) serial count
-    (subst (RowHolds (IsSentAt (done since)) (λ r. ⊤)) is_row (sent_at d c (done since) judged p low)) in
-    let few : 4 < rows_of d.body c =
-    few_dispensed d c judged p serial count (subst (λ n. row_at d c n judged p ≡ sends q) fourth is_row) in
+    let none : end_of d c (exchange (Some q) None) since state ≡ None =
+    dispensed_ends d c since state p serial count is_row in
     exchanged setup d c nexts past since q None is_job (asked_back d.kind d.addr q is.fits)
-    (undisturbed_refused setup d past q is sound own clear) tt (λ none. omega (arith, fourth, few))
-    (on_by true (is_marked since) (rows_of d.body c) (done since) nexts refl enough)
-refused_there setup d c nexts past since q sound own is_job enough is_row clear refuses is = absurd refuses
+    (undisturbed_refused setup d past q is sound own clear) (subst (IfEndOf c) (sym none) tt)
+    (λ no_end. few_failed d c (done since) judged p q _ is_row refl few no_end)
+    (on_by true (is_marked since) (row_count d c) (done since) nexts refl enough)
+refused_there setup d c nexts past since q sound own is_job few enough is_row clear refuses is = absurd refuses
 
 asks_there : (setup : Setup) (d : DeviceSetup) (c : Command) (nexts : ℕ) (past : List Entry) (since : List Line)
     (q : Request) → IsSoundSetup setup → IsOf setup d → IsCommand c → suits d.body c ≡ true →
-    job (lines_of d past) ≡ works c since → done since < rows_of d.body c →
-    rows_of d.body c + cond (is_marked since) 1 0 ≤ done since + suc nexts →
+    job (lines_of d past) ≡ works c since → done since < row_count d c →
+    row_count d c + cond (is_marked since) 1 0 ≤ done since + suc nexts →
     row_after d past c since ≡ sends q → pending past ≡ fault.Clear →
     (is_payment c ≡ true → FoundNoneLeft d (met d past) q) →
     Goes d c nexts past (with_end d.addr (wire_of setup d past q) (wire_end setup d past c since q))
@@ -502,23 +288,22 @@ asks_there setup d c nexts past since q sound own known suited is_job few enough
     elim (answers_at setup past d c (done since) (judged_in c since (epoch (lines_of d past)))
     (payment_in since (order (lines_of d past))) q sound own suited known is_row) [
       | inl is ↦ answered_there setup d c nexts past since q sound own suited is_job few enough is_row clear found is
-      | inr is ↦ refused_there setup d c nexts past since q sound own is_job enough is_row clear is.refuses is
+      | inr is ↦ refused_there setup d c nexts past since q sound own is_job few enough is_row clear is.refuses is
     ]
 
 -- a put brings it on
 puts_there : (setup : Setup) (d : DeviceSetup) (c : Command) (nexts : ℕ) (past : List Entry) (since : List Line)
-    (r : Record) → IsOf setup d → Ids setup past → AtWork d past c since → done since < rows_of d.body c →
-    rows_of d.body c + cond (is_marked since) 1 0 ≤ done since + suc nexts → row_after d past c since ≡ puts r →
+    (r : Record) → IsOf setup d → Ids setup past → AtWork d past c since → done since < row_count d c →
+    row_count d c + cond (is_marked since) 1 0 ≤ done since + suc nexts → row_after d past c since ≡ puts r →
     Goes d c nexts past (with_end d.addr (entry.Put r) (record_end d past c since r))
 puts_there setup d c nexts past since r own ids at_work few enough is_row =
     let state = epoch (lines_of d past) in
-    let means = judged_holds EndsARound (address_of c) state (credits_read since) (mask_read since)
-    (λ counter lost posted none. cc) (λ mask counter posted none. cc) in
-    goes_by d c nexts past since (put r) (entry.Put r) (end_of_put c r)
+    let reads = judged_reads (address_of c) state (credits_read since) (mask_read since) in
+    goes_by d c nexts past since (put r) (entry.Put r) (end_of d c (put r) since state)
     (ap job (lines_put d past r (put_owned setup past d c since r own ids at_work is_row))
-    ∙ ap (with_line (put r)) at_work.job_is) tt (ends_of_put c r)
-    (few_put d c (done since) (judged_in c since state) (payment_in since (order (lines_of d past))) r is_row means few)
-    (on_by true (is_marked since) (rows_of d.body c) (done since) nexts refl enough)
+    ∙ ap (with_line (put r)) at_work.job_is) tt (ends_of_put d c r since state)
+    (few_put d c (done since) (judged_in c since state) (payment_in since (order (lines_of d past))) r is_row reads few)
+    (on_by true (is_marked since) (row_count d c) (done since) nexts refl enough)
 
 -- how many `next` are left behind a step
 abbrev one_fewer : ℕ → ℕ
@@ -564,7 +349,7 @@ halt_there d c nexts past at =
       since = l ∷ at.since;
       job_is = ap job (lines_taken d past (command.Halt d.addr) refl) ∙ ap (with_line l) at.job_is;
       few = at.few;
-      enough = marked_more (is_marked at.since) (rows_of d.body c) (done at.since) nexts at.enough;
+      enough = marked_more (is_marked at.since) (row_count d c) (done at.since) nexts at.enough;
     } in
     inr (after, tt)
 
@@ -598,8 +383,8 @@ record IsPlayed (setup : Setup) (d : DeviceSetup) (c : Command) : Type 0 where
 
 asked_there : (setup : Setup) (d : DeviceSetup) (c at_work : Command) (nexts : ℕ) (past : List Entry)
     (since others : List Line) (q : Request) → IsPlayed setup d c → (at_work ≡ c) × (others ≡ since) →
-    job (lines_of d past) ≡ works c since → done since < rows_of d.body c →
-    rows_of d.body c + cond (is_marked since) 1 0 ≤ done since + suc nexts →
+    job (lines_of d past) ≡ works c since → done since < row_count d c →
+    row_count d c + cond (is_marked since) 1 0 ≤ done since + suc nexts →
     row_after d past at_work others ≡ sends q →
     EachAtWork (LeavesAlone d.addr) d.addr past
     (with_end d.addr (wire_of setup d past q) (wire_end setup d past at_work others q)) →
@@ -630,8 +415,8 @@ asked_there setup d c at_work nexts past since others q played same is_job few e
 
 put_there : (setup : Setup) (d : DeviceSetup) (c at_work : Command) (nexts : ℕ) (past : List Entry)
     (since others : List Line) (r : Record) → IsPlayed setup d c → Ids setup past →
-    (at_work ≡ c) × (others ≡ since) → AtWork d past c since → done since < rows_of d.body c →
-    rows_of d.body c + cond (is_marked since) 1 0 ≤ done since + suc nexts →
+    (at_work ≡ c) × (others ≡ since) → AtWork d past c since → done since < row_count d c →
+    row_count d c + cond (is_marked since) 1 0 ≤ done since + suc nexts →
     row_after d past at_work others ≡ puts r →
     Goes d c nexts past (with_end d.addr (entry.Put r) (record_end d past at_work others r))
 put_there setup d c at_work nexts past since others r played ids same is_work few enough is_row =
@@ -639,7 +424,8 @@ put_there setup d c at_work nexts past since others r played ids same is_work fe
     subst (λ x. row_after d past x since ≡ puts r) same.0
     (subst (λ x. row_after d past at_work x ≡ puts r) same.1 is_row) in
     subst (λ x. Goes d c nexts past (with_end d.addr (entry.Put r) (record_end d past x others r))) (sym same.0)
-    (puts_there setup d c nexts past since r played.own ids is_work few enough same_row)
+    (subst (λ x. Goes d c nexts past (with_end d.addr (entry.Put r) (record_end d past c x r))) (sym same.1)
+    (puts_there setup d c nexts past since r played.own ids is_work few enough same_row))
 
 -- and what it makes of the job
 job_there : (capacity : ℕ) (setup : Setup) (d : DeviceSetup) (c : Command) (nexts : ℕ) (past news : List Entry)
@@ -798,16 +584,16 @@ ends_along capacity setup d c (suc nexts) past (s ∷ steps) end played come ids
     ]
 
 -- a job has a row
-has_rows : (body : DeviceBody) (c : Command) → suits body c ≡ true → 0 < rows_of body c
-has_rows body (command.Start addr mask) suited = omega arith
-has_rows body (command.Round addr) suited = omega arith
-has_rows body (command.Stop addr) suited = omega arith
-has_rows body (command.Pay addr id count) suited = omega arith
-has_rows body (command.Settle addr) suited = omega arith
-has_rows body (command.Ident addr) suited = omega arith
-has_rows body (command.Path addr place path) suited = omega arith
-has_rows (Acceptor accepts values ids) c suited = absurd cc
-has_rows (Hopper life value) c suited = absurd cc
+has_rows : (d : DeviceSetup) (body : DeviceBody) (c : Command) → suits body c ≡ true → 0 < row_count d c
+has_rows d body (command.Start addr mask) suited = omega arith
+has_rows d body (command.Round addr) suited = omega arith
+has_rows d body (command.Stop addr) suited = omega arith
+has_rows d body (command.Pay addr id count) suited = omega arith
+has_rows d body (command.Settle addr) suited = omega arith
+has_rows d body (command.Ident addr) suited = omega arith
+has_rows d body (command.Path addr place path) suited = omega arith
+has_rows d (Acceptor accepts values ids) c suited = absurd cc
+has_rows d (Hopper life value) c suited = absurd cc
 
 needs_by : (pays : Bool) (rows halts come : ℕ) → cond pays (rows + halts) rows ≤ come → rows + cond pays halts 0 ≤ come
 needs_by true rows halts come enough = enough
@@ -823,14 +609,14 @@ job_ends capacity setup before past d c steps end sound own known suited was is_
     let played : IsPlayed setup d c = record { sound = sound; own = own; known = known; suited = suited } in
     let ids = (along_from capacity setup (λ s. ⊤) (λ es. ⊤) sound (λ es news s any ids told holds. tt) [] before past
     (any_steps before) (ids_start setup) was tt).0 in
-    let at : JobAt d c (rows_of d.body c) past = record {
+    let at : JobAt d c (row_count d c) past = record {
       since = [];
       job_is = is_job;
-      few = has_rows d.body c suited;
+      few = has_rows d d.body c suited;
       enough = omega arith;
     } in
-    ends_along capacity setup d c (rows_of d.body c) past steps end played
-    (needs_by (is_payment c) (rows_of d.body c) (halts_at d.addr steps) (nexts_at d.addr steps) enough) ids at legal
+    ends_along capacity setup d c (row_count d c) past steps end played
+    (needs_by (is_payment c) (row_count d c) (halts_at d.addr steps) (nexts_at d.addr steps) enough) ids at legal
     undisturbed paid
 
 -- a round does so within three `next`

@@ -21,7 +21,8 @@ use Rattle.cct_model.specs.Device.{is_acceptor, is_hopper}
 use Rattle.cct_model.specs.Exchange.{device_at, acceptor_there, hopper_there}
 use Rattle.cct_model.specs.Line.{Line}
 use Rattle.cct_model.specs.Order.{close, life_between}
-use Rattle.cct_model.specs.Job.{puts, done, address_of, credits_read, mask_read, judged_in, payment_in, Payment, row, start_row, round_row, stop_row, pay_row}
+use Rattle.cct_model.specs.Job.{puts, done, address_of, credits_read, mask_read, judged_in, payment_in, Payment, ident_requests}
+use Rattle.cct_model.specs.Rows.{row, row_at, settling, new_order}
 use Rattle.cct_model.specs.Records.{is_open, epoch_in, order_in}
 use Rattle.cct_model.specs.Money.{coins_of, available_in}
 use Rattle.cct_model.specs.Refusal.{valueless, start_refusal, running_refusal}
@@ -29,9 +30,10 @@ use Rattle.cct_model.specs.Following.{is_running, has_values, count_of, follows}
 use Rattle.cct_model.specs.Paid.{uses}
 use Rattle.cct_model.specs.Script.{IsCommand}
 use Rattle.cct_laws.specs.Kept.{suits}
-use Rattle.cct_laws.proofs.Held.{same_record, send_puts_none}
+use Rattle.cct_laws.proofs.Held.{same_record}
 use Rattle.cct_laws.proofs.Orders.{Belongs}
-use Rattle.cct_laws.proofs.Rows.{RowHolds, JudgedHolds, judged_holds, SettleHolds, each_row}
+use Rattle.cct_model.proofs.Rows.{Puts, RowHolds, JudgedHolds, judged_holds, each_due, EachRow, each_put, puts_none, told_only, due_holds}
+use Rattle.cct_model.specs.declared.judging.Judged.{Judged}
 
 -- a record fits those before it: it follows them, but for the money that the coins of an order and the price of a sale
 -- take
@@ -184,14 +186,11 @@ closes setup before addr o life belongs is =
         and_from _ _ own.is_open (eq-eqb _ _ (all ∙ sym (ap count_of own.named)))
     by_test false test = (belongs.owned addr o is).is_open
 
-settles : (setup : Setup) (before : List Record) (d : DeviceSetup) (addr : ℕ) (state : EpochState) (p : Payment) →
-    Stands setup before d addr state p.owed → SettleHolds (λ q. ⊤) (Fits setup before) p
-settles setup before d addr state p at = record {
-  asks = tt;
-  stops = tt;
-  reads = tt;
-  closes = λ o life owed read. closes setup before addr o life at.belongs (at.order_is ∙ owed);
-}
+settles : (setup : Setup) (before : List Record) (d : DeviceSetup) (addr at_addr : ℕ) (state : EpochState)
+    (judged : Judged) (p : Payment) → Stands setup before d addr state p.owed →
+    EachRow (Puts (Fits setup before) at_addr judged p) settling
+settles setup before d addr at_addr state judged p at =
+    (tt, (tt, ((λ o life owed read. closes setup before addr o life at.belongs (at.order_is ∙ owed)), tt)))
 
 -- a reading, a break and the end of an epoch
 judged_fits : (setup : Setup) (before : List Record) (addr : ℕ) (state : EpochState) (since : List Line) →
@@ -207,22 +206,23 @@ put_by : (Q : Record → Type 0) (d : DeviceSetup) (c : Command) (since : List L
     RowHolds (λ q. ⊤) Q (row d c since state owed) → Q r
 put_by Q d c since state owed r is holds = subst (RowHolds (λ q. ⊤) Q) is holds
 
-start_fits : (setup : Setup) (before : List Record) (addr mask rows : ℕ) (r : Record) →
-    (rows ≤ 2 → Fits setup before (record_of.Epoch addr mask)) → start_row addr mask rows ≡ puts r →
+start_fits : (setup : Setup) (before : List Record) (d : DeviceSetup) (addr mask rows : ℕ) (judged : Judged)
+    (p : Payment) (r : Record) → (rows ≤ 2 → Fits setup before (record_of.Epoch addr mask)) →
+    row_at d (command.Start addr mask) rows judged p ≡ puts r →
     Fits setup before r
-start_fits setup before addr mask zero r begun is = absurd cc
-start_fits setup before addr mask (suc zero) r begun is = absurd cc
-start_fits setup before addr mask (suc (suc zero)) r begun is =
+start_fits setup before d addr mask zero judged p r begun is = absurd cc
+start_fits setup before d addr mask (suc zero) judged p r begun is = absurd cc
+start_fits setup before d addr mask (suc (suc zero)) judged p r begun is =
     subst (Fits setup before) (same_record (record_of.Epoch addr mask) r is) (begun (omega arith))
-start_fits setup before addr mask (suc (suc (suc zero))) r begun is = absurd cc
-start_fits setup before addr mask (suc (suc (suc (suc rows)))) r begun is = absurd cc
+start_fits setup before d addr mask (suc (suc (suc zero))) judged p r begun is = absurd cc
+start_fits setup before d addr mask (suc (suc (suc (suc rows)))) judged p r begun is = absurd cc
 
 -- a round puts after two rows, a stop after three or four, and a payment opens its order after two
 round_early : (d : DeviceSetup) (addr : ℕ) (since : List Line) (state : EpochState) (owed : Option OpenOrder)
     (r : Record) → row d (command.Round addr) since state owed ≡ puts r → done since ≤ 2
 round_early d addr since state owed r is = by_rows (done since) is
   where
-    by_rows : (rows : ℕ) → round_row rows (judged_in (command.Round addr) since state) ≡ puts r → rows ≤ 2
+    by_rows : (rows : ℕ) → row_at d (command.Round addr) rows (judged_in (command.Round addr) since state) (payment_in since owed) ≡ puts r → rows ≤ 2
     by_rows zero same = omega arith
     by_rows (suc zero) same = omega arith
     by_rows (suc (suc zero)) same = omega arith
@@ -232,7 +232,7 @@ pub stop_early : (d : DeviceSetup) (addr : ℕ) (since : List Line) (state : Epo
     (r : Record) → row d (command.Stop addr) since state owed ≡ puts r → done since ≤ 4
 stop_early d addr since state owed r is = by_rows (done since) is
   where
-    by_rows : (rows : ℕ) → stop_row addr rows (judged_in (command.Stop addr) since state) ≡ puts r → rows ≤ 4
+    by_rows : (rows : ℕ) → row_at d (command.Stop addr) rows (judged_in (command.Stop addr) since state) (payment_in since owed) ≡ puts r → rows ≤ 4
     by_rows zero same = omega arith
     by_rows (suc zero) same = omega arith
     by_rows (suc (suc zero)) same = omega arith
@@ -240,27 +240,20 @@ stop_early d addr since state owed r is = by_rows (done since) is
     by_rows (suc (suc (suc (suc zero)))) same = omega arith
     by_rows (suc (suc (suc (suc (suc rows))))) same = absurd cc
 
-pay_fits : (setup : Setup) (before : List Record) (d : DeviceSetup) (addr id count rows : ℕ) (since : List Line)
-    (state : EpochState) (p : Payment) (r : Record) →
+pay_fits : (setup : Setup) (before : List Record) (d : DeviceSetup) (addr id count rows : ℕ) (judged : Judged)
+    (p : Payment) (r : Record) →
     (rows ≤ 2 → (life : ℕ) → Fits setup before (record_of.Opened id addr count life)) →
-    SettleHolds (λ q. ⊤) (Fits setup before) p → pay_row d.serial addr id count rows p ≡ puts r →
-    Fits setup before r
-pay_fits setup before d addr id count zero since state p r opened settled is = absurd cc
-pay_fits setup before d addr id count (suc zero) since state p r opened settled is = absurd cc
-pay_fits setup before d addr id count (suc (suc zero)) since state p r opened settled is =
+    EachRow (Puts (Fits setup before) addr judged p) settling →
+    row_at d (command.Pay addr id count) rows judged p ≡ puts r → Fits setup before r
+pay_fits setup before d addr id count zero judged p r opened settled is = absurd cc
+pay_fits setup before d addr id count (suc zero) judged p r opened settled is = absurd cc
+pay_fits setup before d addr id count (suc (suc zero)) judged p r opened settled is =
     subst (RowHolds (λ q. ⊤) (Fits setup before)) is
-    (each_row (λ q. ⊤) (Fits setup before) d (command.Pay addr id count) 2
-    (judged_in (command.Pay addr id count) since state) p (record {
-      enables = tt;
-      opens = λ life read. opened (omega arith) life;
-      dispenses = tt;
-      settles = settled;
-    }))
-pay_fits setup before d addr id count (suc (suc (suc zero))) since state p r opened settled is = absurd cc
-pay_fits setup before d addr id count (suc (suc (suc (suc rows)))) since state p r opened settled is =
+    (due_holds (λ q. ⊤) (Fits setup before) addr judged p (new_order id count) (λ life read. opened (omega arith) life))
+pay_fits setup before d addr id count (suc (suc (suc zero))) judged p r opened settled is = absurd cc
+pay_fits setup before d addr id count (suc (suc (suc (suc rows)))) judged p r opened settled is =
     subst (RowHolds (λ q. ⊤) (Fits setup before)) is
-    (each_row (λ q. ⊤) (Fits setup before) d (command.Settle addr) rows
-    (judged_in (command.Settle addr) since state) p settled)
+    (each_due (Fits setup before) d (command.Settle addr) rows judged p settled)
 
 -- what any job at a device puts fits
 pub row_fits : (setup : Setup) (before : List Record) (d : DeviceSetup) (c : Command) (since : List Line)
@@ -269,36 +262,39 @@ pub row_fits : (setup : Setup) (before : List Record) (d : DeviceSetup) (c : Com
     NeedsOf d c (done since) state owed → NewOf before c (done since) → row d c since state owed ≡ puts r →
     Fits setup before r
 row_fits setup before d (command.Start addr mask) since state owed r at range suited needs new is =
-    start_fits setup before addr mask (done since) r
+    start_fits setup before d addr mask (done since) (judged_in (command.Start addr mask) since state)
+    (payment_in since owed) r
     (λ few. begins setup before d addr mask state owed at (start_kind d.body addr mask suited) range (needs few)) is
 row_fits setup before d (command.Round addr) since state owed r at range suited needs new is =
     let runs = ap is_running at.epoch_is ∙ needs (round_early d addr since state owed r is) in
     put_by (Fits setup before) d (command.Round addr) since state owed r is
-    (each_row (λ q. ⊤) (Fits setup before) d (command.Round addr) (done since)
+    (each_due (Fits setup before) d (command.Round addr) (done since)
     (judged_in (command.Round addr) since state) (payment_in since owed)
-    (record { reads = tt; looks = tt; means = judged_fits setup before addr state since runs }))
+    (tt, (tt, (judged_fits setup before addr state since runs, tt))))
 row_fits setup before d (command.Stop addr) since state owed r at range suited needs new is =
     let runs = ap is_running at.epoch_is ∙ needs (stop_early d addr since state owed r is) in
-    let means = judged_fits setup before addr state since runs in
     put_by (Fits setup before) d (command.Stop addr) since state owed r is
-    (each_row (λ q. ⊤) (Fits setup before) d (command.Stop addr) (done since)
+    (each_due (Fits setup before) d (command.Stop addr) (done since)
     (judged_in (command.Stop addr) since state) (payment_in since owed)
-    (record { shuts = tt; round = record { reads = tt; looks = tt; means = means }; over = runs }))
+    (tt, (tt, (tt, (judged_fits setup before addr state since runs, (runs, tt))))))
 row_fits setup before d (command.Pay addr id count) since state owed r at range suited needs new is =
-    pay_fits setup before d addr id count (done since) since state (payment_in since owed) r
+    let judged = judged_in (command.Pay addr id count) since state in
+    pay_fits setup before d addr id count (done since) judged (payment_in since owed) r
     (λ few life.
     opens setup before d addr id count life state owed at (pay_kind d.body addr id count suited) range.0 range.1
     (needs few) (new few))
-    (settles setup before d addr state (payment_in since owed) at) is
+    (settles setup before d addr addr state judged (payment_in since owed) at) is
 row_fits setup before d (command.Settle addr) since state owed r at range suited needs new is =
+    let judged = judged_in (command.Settle addr) since state in
     put_by (Fits setup before) d (command.Settle addr) since state owed r is
-    (each_row (λ q. ⊤) (Fits setup before) d (command.Settle addr) (done since)
-    (judged_in (command.Settle addr) since state) (payment_in since owed)
-    (settles setup before d addr state (payment_in since owed) at))
+    (each_due (Fits setup before) d (command.Settle addr) (done since) judged (payment_in since owed)
+    (settles setup before d addr addr state judged (payment_in since owed) at))
 row_fits setup before d (command.Ident addr) since state owed r at range suited needs new is =
-    absurd (send_puts_none _ r is)
-row_fits setup before d (command.Path addr place path) since state owed r at range suited needs new is =
-    put_by (Fits setup before) d (command.Path addr place path) since state owed r is
-    (each_row (λ q. ⊤) (Fits setup before) d (command.Path addr place path) (done since)
-    (judged_in (command.Path addr place path) since state) (payment_in since owed) (tt, tt))
-row_fits setup before d c since state owed r at range suited needs new is = absurd cc
+    put_by (Fits setup before) d (command.Ident addr) since state owed r is
+    (each_put (Fits setup before) puts_none d (command.Ident addr) (done since)
+    (judged_in (command.Ident addr) since state) (payment_in since owed)
+    (told_only puts_none (ident_requests d.body)) (λ due none. absurd cc))
+row_fits setup before d c since state owed r at range suited needs new is =
+    put_by (Fits setup before) d c since state owed r is
+    (each_put (Fits setup before) puts_none d c (done since) (judged_in c since state) (payment_in since owed) refl
+    (λ due none. absurd cc))

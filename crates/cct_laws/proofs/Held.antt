@@ -24,7 +24,8 @@ use Rattle.cct_model.specs.Setup.{AreDistinct}
 use Rattle.cct_model.specs.Line.{Line, exchange, put, taken, ended, crashed}
 use Rattle.cct_model.specs.Order.{order_by, order, life_between, close}
 use Rattle.cct_model.specs.Reading.{judge, shows_break, distance, posted_of}
-use Rattle.cct_model.specs.Job.{Job, free, works, with_line, job, done, ends_row, Row, sends, puts, no_row, put_or, send_row, start_row, round_row, stop_row, open_row, close_row, settle_row, pay_row, path_row, Payment, row_at, row, puts_at, can_halt, end_of_put, end_of_close, judged_by, judged_in, payment_in, credits_read, mask_read, address_of, epoch_by, epoch}
+use Rattle.cct_model.specs.Job.{Job, free, works, with_line, job, done, ends_row, Row, sends, puts, no_row, put_or, open_row, close_row, Payment, puts_at, can_halt, end_of_close, judged_by, judged_in, payment_in, credits_read, mask_read, address_of, epoch_by, epoch, ident_requests}
+use Rattle.cct_model.specs.Rows.{row_at, row, end_kept, end_of, if_posted, after, puts_due, TableRow, rows_of, reading, epoch_end, ends_as}
 use Rattle.cct_model.specs.Refusal.{job_holds, order_holds, holds_at, sale_holds, held}
 use Rattle.cct_model.specs.Transcript.{owner, lines_of, sale_lines}
 use Rattle.cct_laws.specs.Kept.{with_ended}
@@ -33,6 +34,8 @@ use Rattle.cct_laws.specs.Law.{IsOf}
 use Rattle.cct_laws.specs.Recorded.{need_of}
 use Rattle.cct_laws.proofs.Sums.{sum_grows, sum_moved}
 use Rattle.cct_laws.proofs.Recorded.{restart_frees}
+use Rattle.cct_model.proofs.Rows.{stop_at, round_at, RowHolds, each_put, puts_none, told_only}
+use Rattle.cct_model.specs.lines.entry.End.TheVariants.{Posted, Stopped}
 
 -- what a reading was judged to be is a reading or a break
 abbrev pub IsReading : Judged → Type 0
@@ -190,22 +193,23 @@ stop_leaves addr Nothing r reads is = end_leaves addr r is
 stop_leaves addr (Reading entry) r reads is = judged_leaves (Reading entry) r reads is
 stop_leaves addr (Broken entry) r reads is = judged_leaves (Broken entry) r reads is
 
-stop_row_leaves : (addr rows : ℕ) (judged : Judged) (r : Record) → IsReading judged →
-    stop_row addr rows judged ≡ puts r →
+stop_row_leaves : (d : DeviceSetup) (addr rows : ℕ) (judged : Judged) (p : Payment) (r : Record) → IsReading judged →
+    row_at d (command.Stop addr) rows judged p ≡ puts r →
     LeavesOrders r
-stop_row_leaves addr zero judged r reads is = absurd cc
-stop_row_leaves addr (suc zero) judged r reads is = absurd cc
-stop_row_leaves addr (suc (suc zero)) judged r reads is = absurd cc
-stop_row_leaves addr (suc (suc (suc zero))) judged r reads is = stop_leaves addr judged r reads is
-stop_row_leaves addr (suc (suc (suc (suc zero)))) judged r reads is = end_leaves addr r is
-stop_row_leaves addr (suc (suc (suc (suc (suc rows))))) judged r reads is = absurd cc
+stop_row_leaves d addr zero judged p r reads is = absurd cc
+stop_row_leaves d addr (suc zero) judged p r reads is = absurd cc
+stop_row_leaves d addr (suc (suc zero)) judged p r reads is = absurd cc
+stop_row_leaves d addr (suc (suc (suc zero))) judged p r reads is = stop_leaves addr judged r reads (sym (stop_at d addr judged p) ∙ is)
+stop_row_leaves d addr (suc (suc (suc (suc zero)))) judged p r reads is = end_leaves addr r is
+stop_row_leaves d addr (suc (suc (suc (suc (suc rows))))) judged p r reads is = absurd cc
 
-round_row_leaves : (rows : ℕ) (judged : Judged) (r : Record) → IsReading judged → round_row rows judged ≡ puts r →
+round_row_leaves : (d : DeviceSetup) (addr rows : ℕ) (judged : Judged) (p : Payment) (r : Record) →
+    IsReading judged → row_at d (command.Round addr) rows judged p ≡ puts r →
     LeavesOrders r
-round_row_leaves zero judged r reads is = absurd cc
-round_row_leaves (suc zero) judged r reads is = absurd cc
-round_row_leaves (suc (suc zero)) judged r reads is = judged_leaves judged r reads is
-round_row_leaves (suc (suc (suc rows))) judged r reads is = absurd cc
+round_row_leaves d addr zero judged p r reads is = absurd cc
+round_row_leaves d addr (suc zero) judged p r reads is = absurd cc
+round_row_leaves d addr (suc (suc zero)) judged p r reads is = judged_leaves judged r reads (sym (round_at d addr judged p) ∙ is)
+round_row_leaves d addr (suc (suc (suc rows))) judged p r reads is = absurd cc
 
 -- a record that closes an order leaves none open, and ends its job
 pub record ClosesOrder (r : Record) : Type 0 where
@@ -222,17 +226,27 @@ close_closes o life = by_test (nat_le (life_between o.life life) o.count)
     by_test true = record { none = λ owed. refl; ends = λ none. absurd cc }
     by_test false = record { none = λ owed. refl; ends = λ none. absurd cc }
 
-close_row_closes : (owed : Option OpenOrder) (life : Option ℕ) (r : Record) → close_row owed life ≡ puts r →
+pub close_row_closes : (owed : Option OpenOrder) (life : Option ℕ) (r : Record) → close_row owed life ≡ puts r →
     ClosesOrder r
 close_row_closes None life r is = absurd cc
 close_row_closes (Some o) None r is = absurd cc
 close_row_closes (Some o) (Some life) r is = subst ClosesOrder (same_record (close o life) r is) (close_closes o life)
 
-pub settle_row_closes : (rows : ℕ) (p : Payment) (r : Record) → settle_row rows p ≡ puts r → ClosesOrder r
-settle_row_closes zero p r is = absurd cc
-settle_row_closes (suc zero) p r is = absurd cc
-settle_row_closes (suc (suc zero)) p r is = close_row_closes p.owed p.life r is
-settle_row_closes (suc (suc (suc rows))) p r is = absurd cc
+pub settle_row_closes : (d : DeviceSetup) (addr rows : ℕ) (judged : Judged) (p : Payment) (r : Record) →
+    row_at d (command.Settle addr) rows judged p ≡ puts r → ClosesOrder r
+settle_row_closes d addr zero judged p r is = absurd cc
+settle_row_closes d addr (suc zero) judged p r is = absurd cc
+settle_row_closes d addr (suc (suc zero)) judged p r is = close_row_closes p.owed p.life r is
+settle_row_closes d addr (suc (suc (suc rows))) judged p r is = absurd cc
+
+settle_row_ends : (d : DeviceSetup) (addr rows : ℕ) (judged : Judged) (p : Payment) (r : Record) →
+    row_at d (command.Settle addr) rows judged p ≡ puts r →
+    end_kept (after (rows_of d (command.Settle addr)) rows) r ≢ None
+settle_row_ends d addr zero judged p r is none = absurd cc
+settle_row_ends d addr (suc zero) judged p r is none = absurd cc
+settle_row_ends d addr (suc (suc zero)) judged p r is none =
+    (close_row_closes p.owed p.life r is).ends none
+settle_row_ends d addr (suc (suc (suc rows))) judged p r is none = absurd cc
 
 opens_one : (addr id count : ℕ) (life : Option ℕ) (r : Record) → open_row addr id count life ≡ puts r →
     (end_of_close r ≡ None) × ((owed : Option OpenOrder) → order_holds free (order_by r owed) ≤ 1)
@@ -274,64 +288,72 @@ stop_least : (addr rows : ℕ) (r : Record) → 1 ≤ puts_at (command.Stop addr
 stop_least addr rows (record_of.EpochEnd at) = omega arith
 stop_least addr rows r = omega arith
 
-start_puts_once : (addr mask : ℕ) (since : List Line) (owed : Option OpenOrder) (r : Record) (rows : ℕ) →
-    start_row addr mask rows ≡ puts r →
+start_puts_once : (d : DeviceSetup) (addr mask : ℕ) (since : List Line) (owed : Option OpenOrder) (r : Record)
+    (rows : ℕ) (judged : Judged) (p : Payment) → row_at d (command.Start addr mask) rows judged p ≡ puts r →
     suc (order_holds free (order_by r owed))
-    ≤ puts_at (command.Start addr mask) rows (start_row addr mask rows)
+    ≤ puts_at (command.Start addr mask) rows (row_at d (command.Start addr mask) rows judged p)
     + order_holds (works (command.Start addr mask) since) owed
-start_puts_once addr mask since owed r zero is = absurd cc
-start_puts_once addr mask since owed r (suc zero) is = absurd cc
-start_puts_once addr mask since owed r (suc (suc zero)) is =
+start_puts_once d addr mask since owed r zero judged p is = absurd cc
+start_puts_once d addr mask since owed r (suc zero) judged p is = absurd cc
+start_puts_once d addr mask since owed r (suc (suc zero)) judged p is =
     free_same (command.Start addr mask) since owed r 1 (omega arith)
     (subst LeavesOrders (same_record (record_of.Epoch addr mask) r is) (λ o. refl)) (start_holds addr mask since owed)
-start_puts_once addr mask since owed r (suc (suc (suc zero))) is = absurd cc
-start_puts_once addr mask since owed r (suc (suc (suc (suc rows)))) is = absurd cc
+start_puts_once d addr mask since owed r (suc (suc (suc zero))) judged p is = absurd cc
+start_puts_once d addr mask since owed r (suc (suc (suc (suc rows)))) judged p is = absurd cc
 
-pay_puts_once : (serial addr id count : ℕ) (since : List Line) (r : Record) (rows : ℕ) (p : Payment) →
-    pay_row serial addr id count rows p ≡ puts r →
+pay_puts_once : (d : DeviceSetup) (addr id count : ℕ) (since : List Line) (r : Record) (rows : ℕ) (judged : Judged)
+    (p : Payment) → row_at d (command.Pay addr id count) rows judged p ≡ puts r →
     suc (order_holds free (order_by r p.owed))
-    ≤ puts_at (command.Pay addr id count) rows (pay_row serial addr id count rows p)
+    ≤ puts_at (command.Pay addr id count) rows (row_at d (command.Pay addr id count) rows judged p)
     + order_holds (works (command.Pay addr id count) since) p.owed
-pay_puts_once serial addr id count since r zero p is = absurd cc
-pay_puts_once serial addr id count since r (suc zero) p is = absurd cc
-pay_puts_once serial addr id count since r (suc (suc zero)) p is =
+pay_puts_once d addr id count since r zero judged p is = absurd cc
+pay_puts_once d addr id count since r (suc zero) judged p is = absurd cc
+pay_puts_once d addr id count since r (suc (suc zero)) judged p is =
     let few = (opens_one addr id count p.life r is).1 p.owed in
     omega arith
-pay_puts_once serial addr id count since r (suc (suc (suc zero))) p is = absurd cc
-pay_puts_once serial addr id count since r (suc (suc (suc (suc rows)))) p is =
+pay_puts_once d addr id count since r (suc (suc (suc zero))) judged p is = absurd cc
+pay_puts_once d addr id count since r (suc (suc (suc (suc rows)))) judged p is =
     closed_least (works (command.Pay addr id count) since) p.owed r
-    (puts_at (command.Pay addr id count) (suc (suc (suc (suc rows)))) (settle_row rows p))
-    (pay_puts addr id count (suc (suc (suc (suc rows)))) (settle_row rows p)) (settle_row_closes rows p r is)
+    (puts_at (command.Pay addr id count) (suc (suc (suc (suc rows)))) (row_at d (command.Settle addr) rows judged p))
+    (pay_puts addr id count (suc (suc (suc (suc rows)))) (row_at d (command.Settle addr) rows judged p)) (settle_row_closes d addr rows judged p r is)
 
-pub send_puts_none : (q : Option Request) (r : Record) → send_row q ≡ puts r → ⊥
-send_puts_none None r is = cc
-send_puts_none (Some q) r is = cc
+-- a job that only asks puts nothing
+abbrev nothing_put : Record → Type 0
+nothing_put r = ⊥
 
-path_puts_none : (place path rows : ℕ) (r : Record) → path_row place path rows ≡ puts r → ⊥
-path_puts_none place path zero r is = cc
-path_puts_none place path (suc zero) r is = cc
-path_puts_none place path (suc (suc rows)) r is = cc
+ident_puts_none : (d : DeviceSetup) (addr rows : ℕ) (judged : Judged) (p : Payment) (r : Record) →
+    row_at d (command.Ident addr) rows judged p ≡ puts r → ⊥
+ident_puts_none d addr rows judged p r is =
+    subst (RowHolds (λ q. ⊤) nothing_put) is
+    (each_put nothing_put puts_none d (command.Ident addr) rows judged p
+    (told_only puts_none (ident_requests d.body)) (λ due none. absurd cc))
+
+path_puts_none : (d : DeviceSetup) (addr place path rows : ℕ) (judged : Judged) (p : Payment) (r : Record) →
+    row_at d (command.Path addr place path) rows judged p ≡ puts r → ⊥
+path_puts_none d addr place path rows judged p r is =
+    subst (RowHolds (λ q. ⊤) nothing_put) is
+    (each_put nothing_put puts_none d (command.Path addr place path) rows judged p refl (λ due none. absurd cc))
 
 least_at : (d : DeviceSetup) (c : Command) (since : List Line) (rows : ℕ) (judged : Judged) (p : Payment) (r : Record) →
     IsReading judged → row_at d c rows judged p ≡ puts r →
     suc (order_holds free (order_by r p.owed))
     ≤ puts_at c rows (row_at d c rows judged p) + order_holds (works c since) p.owed
-least_at d (command.Start addr mask) since rows judged p r reads is = start_puts_once addr mask since p.owed r rows is
+least_at d (command.Start addr mask) since rows judged p r reads is = start_puts_once d addr mask since p.owed r rows judged p is
 least_at d (command.Round addr) since rows judged p r reads is =
-    free_same (command.Round addr) since p.owed r 1 (omega arith) (round_row_leaves rows judged r reads is)
+    free_same (command.Round addr) since p.owed r 1 (omega arith) (round_row_leaves d addr rows judged p r reads is)
     (round_holds addr since p.owed)
 least_at d (command.Stop addr) since rows judged p r reads is =
     subst (λ x. suc (order_holds free (order_by r p.owed)) ≤ puts_at (command.Stop addr) rows x
     + order_holds (works (command.Stop addr) since) p.owed)
     (sym is)
     (free_same (command.Stop addr) since p.owed r (puts_at (command.Stop addr) rows (puts r)) (stop_least addr rows r)
-    (stop_row_leaves addr rows judged r reads is) (stop_holds addr since p.owed))
+    (stop_row_leaves d addr rows judged p r reads is) (stop_holds addr since p.owed))
 least_at d (command.Pay addr id count) since rows judged p r reads is =
-    pay_puts_once d.serial addr id count since r rows p is
+    pay_puts_once d addr id count since r rows judged p is
 least_at d (command.Settle addr) since rows judged p r reads is =
-    closed_least (works (command.Settle addr) since) p.owed r 1 (omega arith) (settle_row_closes rows p r is)
-least_at d (command.Ident addr) since rows judged p r reads is = absurd (send_puts_none _ r is)
-least_at d (command.Path addr place path) since rows judged p r reads is = absurd (path_puts_none place path rows r is)
+    closed_least (works (command.Settle addr) since) p.owed r 1 (omega arith) (settle_row_closes d addr rows judged p r is)
+least_at d (command.Ident addr) since rows judged p r reads is = absurd (ident_puts_none d addr rows judged p r is)
+least_at d (command.Path addr place path) since rows judged p r reads is = absurd (path_puts_none d addr place path rows judged p r is)
 least_at d c since rows judged p r reads is = absurd cc
 
 pub put_least : (d : DeviceSetup) (c : Command) (since : List Line) (state : EpochState) (owed : Option OpenOrder)
@@ -341,148 +363,151 @@ put_least d c since state owed r is =
     least_at d c since (done since) (judged_in c since state) (payment_in since owed) r
     (judged_reads (address_of c) state (credits_read since) (mask_read since)) is
 
-start_row_leaves : (addr mask rows : ℕ) (r : Record) → start_row addr mask rows ≡ puts r → LeavesOrders r
-start_row_leaves addr mask zero r is = absurd cc
-start_row_leaves addr mask (suc zero) r is = absurd cc
-start_row_leaves addr mask (suc (suc zero)) r is =
+start_row_leaves : (d : DeviceSetup) (addr mask rows : ℕ) (judged : Judged) (p : Payment) (r : Record) →
+    row_at d (command.Start addr mask) rows judged p ≡ puts r → LeavesOrders r
+start_row_leaves d addr mask zero judged p r is = absurd cc
+start_row_leaves d addr mask (suc zero) judged p r is = absurd cc
+start_row_leaves d addr mask (suc (suc zero)) judged p r is =
     subst LeavesOrders (same_record (record_of.Epoch addr mask) r is) (λ o. refl)
-start_row_leaves addr mask (suc (suc (suc zero))) r is = absurd cc
-start_row_leaves addr mask (suc (suc (suc (suc rows)))) r is = absurd cc
+start_row_leaves d addr mask (suc (suc (suc zero))) judged p r is = absurd cc
+start_row_leaves d addr mask (suc (suc (suc (suc rows)))) judged p r is = absurd cc
 
 -- a job that puts a record and goes on leaves one less held
 
 -- a judged record that isn't a break doesn't end a stop, and any ends a round
-round_ends : (addr : ℕ) (judged : Judged) (r : Record) → IsReading judged → put_or no_row judged ≡ puts r →
-    end_of_put (command.Round addr) r ≢ None
-round_ends addr Nothing r reads is none = absurd cc
-round_ends addr (Reading (record_of.Reading a counter lost posted)) r reads is none =
-    let none_end : end_of_put (command.Round addr) (record_of.Reading a counter lost posted) ≡ None =
-    ap (end_of_put (command.Round addr)) (same_record (record_of.Reading a counter lost posted) r is) ∙ none in
+posted_ends : (e r : Record) → e ≡ r → IsReading (Reading e) → end_kept (puts_due reading (if_posted (Some Posted)) ∷ []) r ≢ None
+posted_ends (record_of.Reading a counter lost posted) r same reads none =
+    let none_end : end_kept (puts_due reading (if_posted (Some Posted)) ∷ []) (record_of.Reading a counter lost posted) ≡ None =
+    ap (end_kept (puts_due reading (if_posted (Some Posted)) ∷ [])) same ∙ none in
     absurd cc
-round_ends addr (Reading other) r reads is none = absurd reads
-round_ends addr (Broken (record_of.Broken a seen counter posted)) r reads is none =
-    let none_end : end_of_put (command.Round addr) (record_of.Broken a seen counter posted) ≡ None =
-    ap (end_of_put (command.Round addr)) (same_record (record_of.Broken a seen counter posted) r is) ∙ none in
+posted_ends e r same reads none = absurd reads
+
+broken_ends : (of_reading : Option End) (rows : List TableRow) (e r : Record) → e ≡ r → IsReading (Broken e) →
+    end_kept (puts_due reading (if_posted of_reading) ∷ rows) r ≢ None
+broken_ends of_reading rows (record_of.Broken a seen counter posted) r same reads none =
+    let none_end : end_kept (puts_due reading (if_posted of_reading) ∷ rows) (record_of.Broken a seen counter posted) ≡ None =
+    ap (end_kept (puts_due reading (if_posted of_reading) ∷ rows)) same ∙ none in
     absurd cc
-round_ends addr (Broken other) r reads is none = absurd reads
+broken_ends of_reading rows e r same reads none = absurd reads
 
-round_row_ends : (addr rows : ℕ) (judged : Judged) (r : Record) → IsReading judged → round_row rows judged ≡ puts r →
-    end_of_put (command.Round addr) r ≢ None
-round_row_ends addr zero judged r reads is none = absurd cc
-round_row_ends addr (suc zero) judged r reads is none = absurd cc
-round_row_ends addr (suc (suc zero)) judged r reads is none = round_ends addr judged r reads is none
-round_row_ends addr (suc (suc (suc rows))) judged r reads is none = absurd cc
+round_row_ends : (d : DeviceSetup) (addr rows : ℕ) (judged : Judged) (p : Payment) (r : Record) → IsReading judged →
+    row_at d (command.Round addr) rows judged p ≡ puts r →
+    end_kept (after (rows_of d (command.Round addr)) rows) r ≢ None
+round_row_ends d addr zero judged p r reads is none = absurd cc
+round_row_ends d addr (suc zero) judged p r reads is none = absurd cc
+round_row_ends d addr (suc (suc zero)) Nothing p r reads is none = absurd cc
+round_row_ends d addr (suc (suc zero)) (Reading e) p r reads is none = posted_ends e r (same_record e r is) reads none
+round_row_ends d addr (suc (suc zero)) (Broken e) p r reads is none =
+    broken_ends (Some Posted) [] e r (same_record e r is) reads none
+round_row_ends d addr (suc (suc (suc rows))) judged p r reads is none = absurd cc
 
-epoch_end_ends : (addr at : ℕ) (r : Record) → puts (record_of.EpochEnd at) ≡ puts r →
-    end_of_put (command.Stop addr) r ≢ None
-epoch_end_ends addr at r is none =
-    let none_end : end_of_put (command.Stop addr) (record_of.EpochEnd at) ≡ None =
-    ap (end_of_put (command.Stop addr)) (same_record (record_of.EpochEnd at) r is) ∙ none in
-    absurd cc
-
-stop_puts_reading : (addr : ℕ) (judged : Judged) (r : Record) → IsReading judged →
-    put_or (puts (record_of.EpochEnd addr)) judged ≡ puts r → end_of_put (command.Stop addr) r ≡ None →
+stop_puts_reading : (addr : ℕ) (e r : Record) → e ≡ r → IsReading (Reading e) →
     puts_at (command.Stop addr) 3 (puts r) ≡ 2
-stop_puts_reading addr Nothing r reads is none = absurd (epoch_end_ends addr addr r is none)
-stop_puts_reading addr (Reading (record_of.Reading a counter lost posted)) r reads is none =
-    ap (λ x. puts_at (command.Stop addr) 3 (puts x)) (sym (same_record (record_of.Reading a counter lost posted) r is))
-stop_puts_reading addr (Reading other) r reads is none = absurd reads
-stop_puts_reading addr (Broken (record_of.Broken a seen counter posted)) r reads is none =
-    let none_end : end_of_put (command.Stop addr) (record_of.Broken a seen counter posted) ≡ None =
-    ap (end_of_put (command.Stop addr)) (same_record (record_of.Broken a seen counter posted) r is) ∙ none in
+stop_puts_reading addr (record_of.Reading a counter lost posted) r same reads =
+    ap (λ x. puts_at (command.Stop addr) 3 (puts x)) (sym same)
+stop_puts_reading addr e r same reads = absurd reads
+
+abbrev rows_after_three : DeviceSetup → ℕ → List TableRow
+rows_after_three d addr = after (rows_of d (command.Stop addr)) 3
+
+stop_falls : (d : DeviceSetup) (addr rows : ℕ) (judged then_means : Judged) (p q : Payment) (r : Record) →
+    IsReading judged → row_at d (command.Stop addr) rows judged p ≡ puts r →
+    end_kept (after (rows_of d (command.Stop addr)) rows) r ≡ None →
+    suc (puts_at (command.Stop addr) (suc rows) (row_at d (command.Stop addr) (suc rows) then_means q))
+    ≤ puts_at (command.Stop addr) rows (row_at d (command.Stop addr) rows judged p)
+stop_falls d addr zero judged then_means p q r reads is none = absurd cc
+stop_falls d addr (suc zero) judged then_means p q r reads is none = absurd cc
+stop_falls d addr (suc (suc zero)) judged then_means p q r reads is none = absurd cc
+stop_falls d addr (suc (suc (suc zero))) Nothing then_means p q r reads is none =
+    let over : end_kept (rows_after_three d addr) (record_of.EpochEnd addr) ≡ None =
+    ap (end_kept (rows_after_three d addr)) (same_record (record_of.EpochEnd addr) r is) ∙ none in
     absurd cc
-stop_puts_reading addr (Broken other) r reads is none = absurd reads
-
-stop_falls : (addr rows : ℕ) (judged after : Judged) (r : Record) → IsReading judged →
-    stop_row addr rows judged ≡ puts r →
-    end_of_put (command.Stop addr) r ≡ None →
-    suc (puts_at (command.Stop addr) (suc rows) (stop_row addr (suc rows) after))
-    ≤ puts_at (command.Stop addr) rows (stop_row addr rows judged)
-stop_falls addr zero judged after r reads is none = absurd cc
-stop_falls addr (suc zero) judged after r reads is none = absurd cc
-stop_falls addr (suc (suc zero)) judged after r reads is none = absurd cc
-stop_falls addr (suc (suc (suc zero))) judged after r reads is none =
-    let two : puts_at (command.Stop addr) 3 (put_or (puts (record_of.EpochEnd addr)) judged) ≡ 2 =
-    ap (puts_at (command.Stop addr) 3) is ∙ stop_puts_reading addr judged r reads is none in
+stop_falls d addr (suc (suc (suc zero))) (Reading e) then_means p q r reads is none =
+    let two : puts_at (command.Stop addr) 3 (puts e) ≡ 2 =
+    ap (puts_at (command.Stop addr) 3) is ∙ stop_puts_reading addr e r (same_record e r is) reads in
     omega arith
-stop_falls addr (suc (suc (suc (suc zero)))) judged after r reads is none = absurd (epoch_end_ends addr addr r is none)
-stop_falls addr (suc (suc (suc (suc (suc rows))))) judged after r reads is none = absurd cc
+stop_falls d addr (suc (suc (suc zero))) (Broken e) then_means p q r reads is none =
+    absurd (broken_ends None (puts_due epoch_end (ends_as Stopped) ∷ []) e r (same_record e r is) reads none)
+stop_falls d addr (suc (suc (suc (suc zero)))) judged then_means p q r reads is none = absurd cc
+stop_falls d addr (suc (suc (suc (suc (suc rows))))) judged then_means p q r reads is none = absurd cc
 
-start_falls : (addr mask rows : ℕ) (after : Row) (r : Record) → start_row addr mask rows ≡ puts r →
-    suc (puts_at (command.Start addr mask) (suc rows) after)
-    ≤ puts_at (command.Start addr mask) rows (start_row addr mask rows)
-start_falls addr mask zero after r is = absurd cc
-start_falls addr mask (suc zero) after r is = absurd cc
-start_falls addr mask (suc (suc zero)) after r is = omega arith
-start_falls addr mask (suc (suc (suc zero))) after r is = absurd cc
-start_falls addr mask (suc (suc (suc (suc rows)))) after r is = absurd cc
+start_falls : (d : DeviceSetup) (addr mask rows : ℕ) (judged : Judged) (p : Payment) (next : Row) (r : Record) →
+    row_at d (command.Start addr mask) rows judged p ≡ puts r →
+    suc (puts_at (command.Start addr mask) (suc rows) next)
+    ≤ puts_at (command.Start addr mask) rows (row_at d (command.Start addr mask) rows judged p)
+start_falls d addr mask zero judged p next r is = absurd cc
+start_falls d addr mask (suc zero) judged p next r is = absurd cc
+start_falls d addr mask (suc (suc zero)) judged p next r is = omega arith
+start_falls d addr mask (suc (suc (suc zero))) judged p next r is = absurd cc
+start_falls d addr mask (suc (suc (suc (suc rows)))) judged p next r is = absurd cc
 
-pay_falls : (serial addr id count rows : ℕ) (p : Payment) (after : Row) (r : Record) →
-    pay_row serial addr id count rows p ≡ puts r → end_of_close r ≡ None →
-    suc (puts_at (command.Pay addr id count) (suc rows) after)
-    ≤ puts_at (command.Pay addr id count) rows (pay_row serial addr id count rows p)
-pay_falls serial addr id count zero p after r is none = absurd cc
-pay_falls serial addr id count (suc zero) p after r is none = absurd cc
-pay_falls serial addr id count (suc (suc zero)) p after r is none = omega arith
-pay_falls serial addr id count (suc (suc (suc zero))) p after r is none = absurd cc
-pay_falls serial addr id count (suc (suc (suc (suc rows)))) p after r is none =
-    absurd ((settle_row_closes rows p r is).ends none)
+pay_falls : (d : DeviceSetup) (addr id count rows : ℕ) (judged : Judged) (p : Payment) (next : Row) (r : Record) →
+    row_at d (command.Pay addr id count) rows judged p ≡ puts r →
+    end_kept (after (rows_of d (command.Pay addr id count)) rows) r ≡ None →
+    suc (puts_at (command.Pay addr id count) (suc rows) next)
+    ≤ puts_at (command.Pay addr id count) rows (row_at d (command.Pay addr id count) rows judged p)
+pay_falls d addr id count zero judged p next r is none = absurd cc
+pay_falls d addr id count (suc zero) judged p next r is none = absurd cc
+pay_falls d addr id count (suc (suc zero)) judged p next r is none = omega arith
+pay_falls d addr id count (suc (suc (suc zero))) judged p next r is none = absurd cc
+pay_falls d addr id count (suc (suc (suc (suc rows)))) judged p next r is none =
+    absurd (settle_row_ends d addr rows judged p r is none)
 
 -- a put that ends no job leaves one less to put
-pub put_falls : (d : DeviceSetup) (c : Command) (rows : ℕ) (judged after : Judged) (p q : Payment) (r : Record) →
-    IsReading judged → row_at d c rows judged p ≡ puts r → end_of_put c r ≡ None →
-    suc (puts_at c (suc rows) (row_at d c (suc rows) after q)) ≤ puts_at c rows (row_at d c rows judged p)
-put_falls d (command.Start addr mask) rows judged after p q r reads is none =
-    start_falls addr mask rows (start_row addr mask (suc rows)) r is
-put_falls d (command.Round addr) rows judged after p q r reads is none =
-    absurd (round_row_ends addr rows judged r reads is none)
-put_falls d (command.Stop addr) rows judged after p q r reads is none =
-    stop_falls addr rows judged after r reads is none
-put_falls d (command.Pay addr id count) rows judged after p q r reads is none =
-    pay_falls d.serial addr id count rows p (pay_row d.serial addr id count (suc rows) q) r is none
-put_falls d (command.Settle addr) rows judged after p q r reads is none =
-    absurd ((settle_row_closes rows p r is).ends none)
-put_falls d (command.Ident addr) rows judged after p q r reads is none = absurd (send_puts_none _ r is)
-put_falls d (command.Path addr place path) rows judged after p q r reads is none =
-    absurd (path_puts_none place path rows r is)
-put_falls d c rows judged after p q r reads is none = absurd cc
+pub put_falls : (d : DeviceSetup) (c : Command) (rows : ℕ) (judged then_means : Judged) (p q : Payment) (r : Record) →
+    IsReading judged → row_at d c rows judged p ≡ puts r → end_kept (after (rows_of d c) rows) r ≡ None →
+    suc (puts_at c (suc rows) (row_at d c (suc rows) then_means q)) ≤ puts_at c rows (row_at d c rows judged p)
+put_falls d (command.Start addr mask) rows judged then_means p q r reads is none =
+    start_falls d addr mask rows judged p (row_at d (command.Start addr mask) (suc rows) then_means q) r is
+put_falls d (command.Round addr) rows judged then_means p q r reads is none =
+    absurd (round_row_ends d addr rows judged p r reads is none)
+put_falls d (command.Stop addr) rows judged then_means p q r reads is none =
+    stop_falls d addr rows judged then_means p q r reads is none
+put_falls d (command.Pay addr id count) rows judged then_means p q r reads is none =
+    pay_falls d addr id count rows judged p (row_at d (command.Pay addr id count) (suc rows) then_means q) r is none
+put_falls d (command.Settle addr) rows judged then_means p q r reads is none =
+    absurd (settle_row_ends d addr rows judged p r is none)
+put_falls d (command.Ident addr) rows judged then_means p q r reads is none = absurd (ident_puts_none d addr rows judged p r is)
+put_falls d (command.Path addr place path) rows judged then_means p q r reads is none =
+    absurd (path_puts_none d addr place path rows judged p r is)
+put_falls d c rows judged then_means p q r reads is none = absurd cc
 
 -- what is held for the order of a job that goes on doesn't rise at its put
 order_falls : (d : DeviceSetup) (c : Command) (since : List Line) (rows : ℕ) (judged : Judged) (p : Payment)
     (r : Record) →
-    IsReading judged → row_at d c rows judged p ≡ puts r → end_of_put c r ≡ None →
+    IsReading judged → row_at d c rows judged p ≡ puts r → end_kept (after (rows_of d c) rows) r ≡ None →
     order_holds (works c (put r ∷ since)) (order_by r p.owed) ≤ order_holds (works c since) p.owed
 order_falls d (command.Start addr mask) since rows judged p r reads is none =
     le_of_eq (ap (order_holds (works (command.Start addr mask) (put r ∷ since)))
-    (start_row_leaves addr mask rows r is p.owed)
+    (start_row_leaves d addr mask rows judged p r is p.owed)
     ∙ order_same (command.Start addr mask) (put r ∷ since) since p.owed)
 order_falls d (command.Round addr) since rows judged p r reads is none =
-    absurd (round_row_ends addr rows judged r reads is none)
+    absurd (round_row_ends d addr rows judged p r reads is none)
 order_falls d (command.Stop addr) since rows judged p r reads is none =
     le_of_eq (ap (order_holds (works (command.Stop addr) (put r ∷ since)))
-    (stop_row_leaves addr rows judged r reads is p.owed)
+    (stop_row_leaves d addr rows judged p r reads is p.owed)
     ∙ order_same (command.Stop addr) (put r ∷ since) since p.owed)
 order_falls d (command.Pay addr id count) since rows judged p r reads is none =
     let nothing = pay_holds_none addr id count (put r ∷ since) (order_by r p.owed) in
     omega arith
 order_falls d (command.Settle addr) since rows judged p r reads is none =
-    absurd ((settle_row_closes rows p r is).ends none)
-order_falls d (command.Ident addr) since rows judged p r reads is none = absurd (send_puts_none _ r is)
+    absurd (settle_row_ends d addr rows judged p r is none)
+order_falls d (command.Ident addr) since rows judged p r reads is none = absurd (ident_puts_none d addr rows judged p r is)
 order_falls d (command.Path addr place path) since rows judged p r reads is none =
-    absurd (path_puts_none place path rows r is)
+    absurd (path_puts_none d addr place path rows judged p r is)
 order_falls d c since rows judged p r reads is none = absurd cc
 
 pub put_goes_on : (d : DeviceSetup) (c : Command) (since : List Line) (state : EpochState) (owed : Option OpenOrder)
-    (r : Record) → row d c since state owed ≡ puts r → end_of_put c r ≡ None →
+    (r : Record) → row d c since state owed ≡ puts r → end_of d c (put r) since state ≡ None →
     suc (holds_with d (works c (put r ∷ since)) (epoch_by r state) (order_by r owed))
     ≤ holds_with d (works c since) state owed
 put_goes_on d c since state owed r is none =
     let judged = judged_in c since state in
-    let after = judged_in c (put r ∷ since) (epoch_by r state) in
+    let then_means = judged_in c (put r ∷ since) (epoch_by r state) in
     let reads = judged_reads (address_of c) state (credits_read since) (mask_read since) in
     let p = payment_in since owed in
     let q = payment_in (put r ∷ since) (order_by r owed) in
-    let falls = put_falls d c (done since) judged after p q r reads is none in
+    let falls = put_falls d c (done since) judged then_means p q r reads is none in
     let orders = order_falls d c since (done since) judged p r reads is none in
     omega arith
 
@@ -597,10 +622,10 @@ holds_asked d c since q got (Some end) lines between is asks jobs epochs orders 
 -- a put and its end
 pub holds_put : (d : DeviceSetup) (c : Command) (since : List Line) (r : Record) (lines : List Line) →
     job lines ≡ works c since → row d c since (epoch lines) (order lines) ≡ puts r →
-    suc (holds_of d (with_ended (end_of_put c r) (put r ∷ lines))) ≤ holds_of d lines
-holds_put d c since r lines is puts_it = by_end (end_of_put c r) refl
+    suc (holds_of d (with_ended (end_of d c (put r) since (epoch lines)) (put r ∷ lines))) ≤ holds_of d lines
+holds_put d c since r lines is puts_it = by_end (end_of d c (put r) since (epoch lines)) refl
   where
-    by_end : (end : Option End) → end_of_put c r ≡ end →
+    by_end : (end : Option End) → end_of d c (put r) since (epoch lines) ≡ end →
         suc (holds_of d (with_ended end (put r ∷ lines))) ≤ holds_of d lines
     by_end None none =
         let before = holds_as d lines (works c since) is in

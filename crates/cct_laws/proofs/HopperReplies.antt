@@ -1,6 +1,5 @@
 -- What a hopper replies to each request that a job sends it.
 use Rattle.std.proofs.Common.{◌≡◌, ℕ, ◌<◌, ◌^◌, true, List, [], ◌∷◌, refl, ap, ◌∙◌, subst, Option, Some, None, inl, inr, arith}
-use Rattle.std.specs.Prelude.{⊤}
 use Rattle.cct_model.specs.terms.device.DeviceSetup.{DeviceSetup}
 use Rattle.cct_model.specs.terms.device.DeviceBody.{DeviceBody}
 use Rattle.cct_model.specs.terms.device.DeviceBody.TheVariants.{Acceptor, Hopper}
@@ -8,7 +7,6 @@ use Rattle.cct_model.specs.terms.request.Request.{Request}
 use Rattle.cct_model.specs.terms.request.Request.TheVariants.{Enable, Dispense, GetStatus, GetLife, StopNow, TestHopper}
 use Rattle.cct_model.specs.terms.request.TheConstants.{ENABLE_CODE}
 use Rattle.cct_model.specs.terms.request.ReplyForm.TheVariants as form
-use Rattle.cct_model.specs.declared.judging.Judged.{Judged}
 use Rattle.cct_model.specs.lines.command.Command.{Command}
 use Rattle.cct_model.specs.lines.command.Command.TheVariants as command
 use Rattle.cct_model.specs.Request.{form_of}
@@ -16,13 +14,14 @@ use Rattle.cct_model.specs.Reply as reply
 use Rattle.cct_model.specs.History.{Met}
 use Rattle.cct_model.specs.Hopper.{remaining, taken_of, life_count, status_of, register_of, dispense_reply, hopper_reply}
 use Rattle.cct_model.specs.Device.{IsSound, IsHopper, common_reply, reply_of}
-use Rattle.cct_model.specs.Job.{Payment, ident_requests, own_requests}
+use Rattle.cct_model.specs.Job.{ident_requests, own_requests}
 use Rattle.cct_msg.specs.Forms.{FitsItsBytes}
 use Rattle.cct_laws.specs.Kept.{is_for_hopper}
 use Rattle.cct_laws.proofs.Exchanges.{Replied, Answers}
 use Rattle.cct_laws.proofs.Replies.{start_of, hopper_is}
 use Rattle.cct_laws.proofs.CommonReplies.{answers_so, ident_replied}
-use Rattle.cct_laws.proofs.Rows.{Each, SettleHolds, CommandHolds}
+use Rattle.cct_model.proofs.Rows.{Each, EachRow, each_asked, Asks}
+use Rattle.cct_model.specs.Rows.{settling, rows_of}
 
 -- a sound hopper
 pub record Payer (d : DeviceSetup) : Type 0 where
@@ -98,30 +97,22 @@ each_answers : (d : DeviceSetup) (past : List Met) (qs : List Request) → Each 
 each_answers d past [] each = tt
 each_answers d past (q ∷ qs) each = (inl each.0, each_answers d past qs each.1)
 
-settle_replied : (d : DeviceSetup) (past : List Met) (p : Payment) → Payer d →
-    SettleHolds (Answers d past) (λ r. ⊤) p
-settle_replied d past p payer = record {
-  asks = inl (status_replied d past payer);
-  stops = inl (stop_replied d past payer);
-  reads = inl (life_replied d past payer);
-  closes = λ o life owed read. tt;
-}
+settle_replied : (d : DeviceSetup) (past : List Met) → Payer d → EachRow (Asks (Answers d past)) settling
+settle_replied d past payer = (
+  (inl (status_replied d past payer), inl (stop_replied d past payer)),
+  (inl (life_replied d past payer), (tt, tt)),
+)
 
 -- all that a command asks has a reply in the wanted form, or is a dispense that is refused
-pub hopper_answers : (d : DeviceSetup) (past : List Met) (c : Command) (judged : Judged) (p : Payment) → Payer d →
-    is_for_hopper c ≡ true → CommandHolds (Answers d past) (λ r. ⊤) d c judged p
-hopper_answers d past (command.Pay addr id count) judged p payer suited = record {
-  enables = inl (enable_replied d past ENABLE_CODE payer);
-  opens = λ life read. tt;
-  dispenses = dispense_by d past count _ payer refl;
-  settles = settle_replied d past p payer;
-}
-hopper_answers d past (command.Settle addr) judged p payer suited = settle_replied d past p payer
-hopper_answers d past (command.Ident addr) judged p payer suited =
-    each_answers d past (ident_requests d.body)
-    (ident_replied d past d.body payer.sound (owns_by d past d.body payer.paying payer))
-hopper_answers d past (command.Start addr mask) judged p payer suited = absurd cc
-hopper_answers d past (command.Round addr) judged p payer suited = absurd cc
-hopper_answers d past (command.Stop addr) judged p payer suited = absurd cc
-hopper_answers d past (command.Path addr place path) judged p payer suited = absurd cc
-hopper_answers d past c judged p payer suited = tt
+pub hopper_answers : (d : DeviceSetup) (past : List Met) (c : Command) → Payer d → is_for_hopper c ≡ true →
+    EachRow (Asks (Answers d past)) (rows_of d c)
+hopper_answers d past (command.Pay addr id count) payer suited = (
+  inl (enable_replied d past ENABLE_CODE payer),
+  (inl (life_replied d past payer), (tt, (dispense_by d past count _ payer refl, settle_replied d past payer))),
+)
+hopper_answers d past (command.Settle addr) payer suited = settle_replied d past payer
+hopper_answers d past (command.Ident addr) payer suited =
+    each_asked (Answers d past) (ident_requests d.body)
+    (each_answers d past (ident_requests d.body)
+    (ident_replied d past d.body payer.sound (owns_by d past d.body payer.paying payer)))
+hopper_answers d past c payer suited = absurd cc

@@ -39,7 +39,7 @@ use Rattle.cct_laws.specs.KeptHopper.{IsOwed}
 use Rattle.cct_laws.specs.Law.{IsOf}
 use Rattle.cct_laws.specs.Recorded.{HasNoJob}
 use Rattle.cct_laws.proofs.Setups.{same_some, found_in}
-use Rattle.cct_laws.proofs.Rows.{RowHolds, IsOwned, row_owned}
+use Rattle.cct_model.proofs.Rows.{RowHolds, IsOwned, row_owned}
 use Rattle.cct_laws.proofs.Brought.{Comes, takes_coin, leaves_coin, leaves_alien, drops_coin, drops_none, jams, jams_none, is_reset, AtWork, row_after, wire_of, wire_end, record_end, poll_wire, poll_end, AtDevice, came, took, halted, idled, made_exchange, made_put, Selling, Brought, of_device, faulted, refused, began_scan, began_sale, nobody, polled, sold, balanced, lost_power, lost_in_put, lost_in_sale}
 use Rattle.cct_laws.proofs.Orders.{belongs_all}
 use Rattle.cct_laws.proofs.Recorded.{order_recorded, restart_frees}

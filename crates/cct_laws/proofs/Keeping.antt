@@ -14,7 +14,8 @@ use Rattle.cct_model.specs.History.{Met, heard}
 use Rattle.cct_model.specs.Setup.{IsSoundSetup}
 use Rattle.cct_model.specs.Exchange.{ask, asked, asks_of}
 use Rattle.cct_model.specs.Line.{Line, exchange, put, taken}
-use Rattle.cct_model.specs.Job.{Job, free, works, job, with_line, epoch, end_of}
+use Rattle.cct_model.specs.Job.{Job, free, works, job, with_line, epoch}
+use Rattle.cct_model.specs.Rows.{end_of}
 use Rattle.cct_model.specs.Legal.{with_end, keeping_crash}
 use Rattle.cct_model.specs.Script.{IsCommand, IsInRange}
 use Rattle.cct_model.specs.Transcript.{pending, meets, met, owner, lines_of, heard_by_devices, heard_after, got_by, doses_of}

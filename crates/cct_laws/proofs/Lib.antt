@@ -57,7 +57,6 @@ pub mod Restarts
 pub mod Rising
 pub mod Room
 pub mod Rounds
-pub mod Rows
 pub mod Safety
 pub mod Said
 pub mod Scans
@@ -72,6 +71,7 @@ pub mod Tests
 pub mod Texts
 pub mod Told
 pub mod Tries
+mod LastRows
 pub mod Unmoved
 pub mod Unodd
 pub mod Used

@@ -1,5 +1,5 @@
 -- Which inhibit mask an acceptor has while its epoch runs, by what it met since the epoch began.
-use Rattle.std.proofs.Common.{◌≡◌, ◌≢◌, ℕ, zero, suc, true, cond, List, [], ◌∷◌, refl, ap, sym, ◌∙◌, subst, Option, Some, None, inl, inr, eq-eqb}
+use Rattle.std.proofs.Common.{◌≡◌, ◌≢◌, ℕ, zero, suc, true, cond, List, [], ◌∷◌, refl, ap, sym, ◌∙◌, subst, Option, Some, None, inl, inr, eq-eqb, rules}
 use Rattle.std.specs.Prelude.{⊤}
 use Rattle.cct_model.specs.terms.device.DeviceSetup.{DeviceSetup}
 use Rattle.cct_model.specs.terms.request.Request.{Request}
@@ -21,11 +21,12 @@ use Rattle.cct_model.specs.terms.coin.Coin.{Coin}
 use Rattle.cct_model.specs.Device.{IsAcceptor}
 use Rattle.cct_model.specs.Line.{Line, exchange, put}
 use Rattle.cct_model.specs.Order.{order}
-use Rattle.cct_model.specs.Job.{works, job, Row, sends, puts, no_row, start_row, payment_in, row, done, epoch, counted, epoch_by, address_of, judged_in}
+use Rattle.cct_model.specs.Job.{works, job, Row, sends, puts, no_row, payment_in, done, epoch, counted, epoch_by, address_of, judged_in, Payment}
+use Rattle.cct_model.specs.Rows.{row, row_at}
 use Rattle.cct_laws.proofs.EitherKind.{for_acceptor}
 use Rattle.cct_laws.specs.Kept.{is_for_acceptor, Fate, unheard, silenced, answered, IsForOthers, with_ended}
 use Rattle.cct_laws.specs.Since.{since_record, mask_set_in, IsMaskedBy, MayBreak, IsKeptSince}
-use Rattle.cct_laws.proofs.Rows.{IfSends, RowHolds, RoundHolds, each_row, any_judged}
+use Rattle.cct_model.proofs.Rows.{IfSends, RowHolds, each_ask}
 use Rattle.cct_laws.proofs.World.{World, Silent, IsLive, mask_at, world}
 use Rattle.cct_laws.proofs.Fits.{Book, book, StateOf, IsRunning, FitsStart}
 use Rattle.cct_laws.proofs.Moves.{Keeps, IsMild, fits_at}
@@ -82,16 +83,13 @@ reset_masked (Running mask counter) since past = inr (refl, refl)
 abbrev IfAsks : EpochState → Row → Type 0
 IfAsks state what = RowHolds (Asks state) (λ r. ⊤) what
 
-start_asks : (w : World) (b : Book) (addr mask rows : ℕ) → FitsStart w b mask rows →
-    IfAsks b.epoch (start_row addr mask rows)
-start_asks w b addr mask zero fits = tt
-start_asks w b addr mask (suc zero) fits = tt
-start_asks w b addr mask (suc (suc zero)) fits = tt
-start_asks w b addr mask (suc (suc (suc zero))) fits = fits.running
-start_asks w b addr mask (suc (suc (suc (suc rows)))) fits = tt
-
-round_asks : (state : EpochState) (judged : Judged) → RoundHolds (Asks state) (λ r. ⊤) judged
-round_asks state judged = record { reads = tt; looks = tt; means = any_judged judged }
+start_asks : (d : DeviceSetup) (w : World) (b : Book) (addr mask : ℕ) (judged : Judged) (p : Payment) (rows : ℕ) →
+    FitsStart w b mask rows → IfAsks b.epoch (row_at d (command.Start addr mask) rows judged p)
+start_asks d w b addr mask judged p zero fits = tt
+start_asks d w b addr mask judged p (suc zero) fits = tt
+start_asks d w b addr mask judged p (suc (suc zero)) fits = tt
+start_asks d w b addr mask judged p (suc (suc (suc zero))) fits = fits.running
+start_asks d w b addr mask judged p (suc (suc (suc (suc rows)))) fits = tt
 
 mild_asks : (state : EpochState) (q : Request) → IsMild q → Asks state q
 mild_asks state (SetMask mask) mild = absurd mild
@@ -106,16 +104,16 @@ row_asks : (d : DeviceSetup) (past : List Met) (lines : List Line) (c : Command)
     is_for_acceptor c ≡ true → job lines ≡ works c work → Keeps past lines →
     IfAsks (epoch lines) (row d c work (epoch lines) (order lines))
 row_asks d past lines (command.Start addr mask) work suited is_job keeps =
-    start_asks (world past lines) (book lines) addr mask (done work)
+    let c = command.Start addr mask in
+    start_asks d (world past lines) (book lines) addr mask (judged_in c work (epoch lines)) (payment_in work (order lines))
+    (done work)
     (fits_at past lines (command.Start addr mask) work is_job keeps)
 row_asks d past lines (command.Round addr) work suited is_job keeps =
     let judged = judged_in (command.Round addr) work (epoch lines) in
-    each_row (Asks (epoch lines)) (λ r. ⊤) d (command.Round addr) (done work) judged (payment_in work (order lines))
-    (round_asks (epoch lines) judged)
+    each_ask (Asks (epoch lines)) d (command.Round addr) (done work) judged (payment_in work (order lines)) (search rules)
 row_asks d past lines (command.Stop addr) work suited is_job keeps =
     let judged = judged_in (command.Stop addr) work (epoch lines) in
-    each_row (Asks (epoch lines)) (λ r. ⊤) d (command.Stop addr) (done work) judged (payment_in work (order lines))
-    (record { shuts = tt; round = round_asks (epoch lines) judged; over = tt })
+    each_ask (Asks (epoch lines)) d (command.Stop addr) (done work) judged (payment_in work (order lines)) (search rules)
 row_asks d past lines (command.Ident addr) work suited is_job keeps =
     let c = command.Ident addr in
     plain_asks (epoch lines) (row d c work (epoch lines) (order lines))

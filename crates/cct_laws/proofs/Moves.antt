@@ -1,5 +1,5 @@
 -- What holds of an acceptor after every step, and how pieces, commands, ends and exchanges keep it.
-use Rattle.std.proofs.Common.{◌≡◌, ℕ, suc, ◌≤◌, ◌==◌, cond, Bool, true, false, List, ◌∷◌, length, refl, sym, subst, Option, Some, None, arith}
+use Rattle.std.proofs.Common.{◌≡◌, ℕ, suc, ◌≤◌, cond, true, false, List, ◌∷◌, length, refl, sym, subst, Option, Some, None, arith, rules}
 use Rattle.std.specs.Prelude.{⊤}
 use Rattle.cct_model.specs.terms.coin.Coin.{Coin}
 use Rattle.cct_model.specs.terms.device.DeviceSetup.{DeviceSetup}
@@ -19,7 +19,9 @@ use Rattle.cct_model.specs.Acceptor.{accepts, path_of}
 use Rattle.cct_model.specs.Device.{reply_of}
 use Rattle.cct_model.specs.Line.{Line, accepted, inhibited, exchange, taken, ended}
 use Rattle.cct_model.specs.Line as line
-use Rattle.cct_model.specs.Job.{works, job, with_line, is_once, done, epoch, credits_read, judged_in, end_of, end_of_tries, sends, puts}
+use Rattle.cct_model.specs.Job.{works, job, with_line, is_once, done, epoch, credits_read, judged_in, sends, puts, ident_requests}
+use Rattle.cct_model.specs.Rows.{rows_of, end_of}
+use Rattle.cct_model.proofs.Rows.{IfEnd, EachRow, BareEnds, each_told, failed_end}
 use Rattle.cct_model.specs.Refusal.{start_refusal, running_refusal}
 use Rattle.cct_model.specs.Claims.{coins, mark, base, OrderAt, CoverAt, PaceAt, InOrder, Covers, Pace}
 use Rattle.cct_laws.specs.Kept.{is_for_acceptor, Fate, unheard, silenced, answered, with_ended, IsTaken}
@@ -103,8 +105,7 @@ IsOtherEnd Clean = ⊥
 IsOtherEnd end = ⊤
 
 abbrev pub IfOther : Option End → Type 0
-IfOther None = ⊤
-IfOther (Some end) = IsOtherEnd end
+IfOther found = IfEnd IsOtherEnd found
 
 sound_ended : (past : List Met) (lines : List Line) (end : End) → IsOtherEnd end → Sound past lines → Sound past (ended end ∷ lines)
 sound_ended past lines Clean other sound = absurd other
@@ -168,12 +169,13 @@ abbrev pub KeepsAsk : DeviceSetup → List Met → List Line → Command → Lis
 KeepsAsk d past lines c since q asked got =
     Keeps (heard asked ∷ past) (with_ended (end_of d c (exchange (Some q) got) since (epoch lines)) (exchange (Some q) got ∷ lines))
 
-pub other_if : (b : Bool) (end : End) → IsOtherEnd end → IfOther (cond b (Some end) None)
-other_if true end other = other
-other_if false end other = tt
+bare_other : (d : DeviceSetup) (c : Command) → EachRow (BareEnds IsOtherEnd) (rows_of d c)
+bare_other d (command.Ident addr) = each_told (BareEnds IsOtherEnd) (λ q. tt) (λ q. tt) (ident_requests d.body)
+bare_other d c = search rules
 
-pub tries_end : (failed : ℕ) → IfOther (end_of_tries failed)
-tries_end failed = other_if (failed == 3) _ tt
+pub failure_other : (d : DeviceSetup) (c : Command) (q : Request) (since : List Line) (state : EpochState) →
+    IfOther (end_of d c (exchange (Some q) None) since state)
+failure_other d c q since state = failed_end IsOtherEnd d c q since state (bare_other d c) tt
 
 -- an exchange without its reply is tried again, or ends the job
 keeps_failed : (d : DeviceSetup) (past now : List Met) (lines : List Line) (c : Command) (since : List Line) (q : Request) → is_once q ≡ false → job lines ≡ works c since →
@@ -182,7 +184,7 @@ keeps_failed : (d : DeviceSetup) (past now : List Met) (lines : List Line) (c : 
 keeps_failed d past now lines c since (SetMask mask) many is_job on keeps = absurd cc
 keeps_failed d past now lines c since (Dispense serial count) many is_job on keeps = absurd cc
 keeps_failed d past now lines c since q many is_job on keeps =
-    keeps_with_ended now (exchange (Some q) None ∷ lines) _ (tries_end _)
+    keeps_with_ended now (exchange (Some q) None ∷ lines) _ (failure_other d c q since (epoch lines))
     (keeps_exchange past now lines c since (Some q) None is_job on keeps.sound
     (for_on (world past lines) (world now lines) (book lines) c (done since) (credits_read since) (judged_in c since (epoch lines)) on (fits_at past lines c since is_job keeps)))
 

@@ -7,6 +7,8 @@ use Rattle.cct_model.specs.terms.device.Setup.{Setup}
 use Rattle.cct_model.specs.terms.request.Request.{Request}
 use Rattle.cct_model.specs.lines.record.Record.{Record}
 use Rattle.cct_model.specs.lines.command.Command.{Command}
+use Rattle.cct_model.specs.lines.record.Record.TheVariants as record_of
+use Rattle.cct_model.specs.declared.judging.Judged.TheVariants.{Nothing, Reading, Broken}
 use Rattle.cct_model.specs.lines.command.Command.TheVariants as command
 use Rattle.cct_model.specs.lines.command.Step.{Step}
 use Rattle.cct_model.specs.lines.entry.End.{End}
@@ -20,7 +22,8 @@ use Rattle.cct_model.specs.Setup.{IsSoundSetup}
 use Rattle.cct_model.specs.Exchange.{ask, asked}
 use Rattle.cct_model.specs.Line.{Line, exchange, put, taken}
 use Rattle.cct_model.specs.Order.{order_by, order}
-use Rattle.cct_model.specs.Job.{Job, free, works, with_line, job, done, puts, counted, epoch_by, epoch, row, start_row, round_row, pay_row, Payment, payment_in, judged_in, credits_read, mask_read, end_of_put}
+use Rattle.cct_model.specs.Job.{Job, free, works, with_line, job, done, puts, counted, epoch_by, epoch, Payment, payment_in, judged_in, credits_read, mask_read}
+use Rattle.cct_model.specs.Rows.{row, end_of, row_at, end_kept, if_posted, puts_due, after, reading, rows_of, epoch_end, ends_as}
 use Rattle.cct_model.specs.Following.{is_running}
 use Rattle.cct_model.specs.Transcript.{lines_of, heard_after, got_by, doses_of}
 use Rattle.cct_laws.specs.Ids.{Ids}
@@ -29,11 +32,13 @@ use Rattle.cct_laws.specs.KeptHopper.{IsOwed}
 use Rattle.cct_laws.specs.Law.{IsOf}
 use Rattle.cct_laws.proofs.Brought.{wire_of, wire_end, record_end, AtDevice, came, took, halted, idled, made_exchange, made_put, Brought, begun_at_work}
 use Rattle.cct_laws.proofs.Follow.{NeedsOf, runs_by}
-use Rattle.cct_laws.proofs.Held.{done_grows}
+use Rattle.cct_laws.proofs.Held.{done_grows, IsReading, judged_reads, same_record}
 use Rattle.cct_laws.proofs.Ids.{put_owned}
-use Rattle.cct_laws.proofs.Rows.{RowHolds, judged_holds, each_row}
 use Rattle.cct_laws.proofs.Seen.{Lost, bare, kept_here, kept_elsewhere, seen_here, seen_aside, seen_lost, seen_from, passed_same, lines_wire, lines_put, lines_taken, lines_kept, lines_kept_elsewhere, lines_with_end}
 use Rattle.cct_laws.proofs.Unmoved.{AreSame, same_came, same_dosed}
+use Rattle.cct_model.specs.declared.judging.Judged.{Judged}
+use Rattle.cct_model.specs.declared.judging.Judged.TheVariants.{Reading, Broken, Nothing}
+use Rattle.cct_model.specs.lines.entry.End.TheVariants.{Stopped}
 
 -- what the job of lines needs
 abbrev pub Needs : DeviceSetup → Job → EpochState → Option OpenOrder → Type 0
@@ -110,63 +115,86 @@ counted_runs : (counter : ℕ) (state : EpochState) → is_running (counted coun
 counted_runs counter Idle = refl
 counted_runs counter (Running mask before) = refl
 
-start_put : (d : DeviceSetup) (addr mask rows : ℕ) (state : EpochState) (owed : Option OpenOrder) (r : Record) →
-    start_row addr mask rows ≡ puts r → NeedsOf d (command.Start addr mask) (suc rows) state owed
-start_put d addr mask zero state owed r is = absurd cc
-start_put d addr mask (suc zero) state owed r is = absurd cc
-start_put d addr mask (suc (suc rows)) state owed r is = λ few. absurd (omega (arith, few))
+start_put : (d : DeviceSetup) (addr mask rows : ℕ) (judged : Judged) (p : Payment) (state : EpochState)
+    (owed : Option OpenOrder) (r : Record) → row_at d (command.Start addr mask) rows judged p ≡ puts r →
+    NeedsOf d (command.Start addr mask) (suc rows) state owed
+start_put d addr mask zero judged p state owed r is = absurd cc
+start_put d addr mask (suc zero) judged p state owed r is = absurd cc
+start_put d addr mask (suc (suc rows)) judged p state owed r is = λ few. absurd (omega (arith, few))
 
-round_put : (d : DeviceSetup) (addr rows : ℕ) (since : List Line) (before state : EpochState)
-    (owed : Option OpenOrder) (r : Record) →
-    round_row rows (judged_in (command.Round addr) since before) ≡ puts r →
+round_put : (d : DeviceSetup) (addr rows : ℕ) (judged : Judged) (p : Payment) (state : EpochState)
+    (owed : Option OpenOrder) (r : Record) → row_at d (command.Round addr) rows judged p ≡ puts r →
     NeedsOf d (command.Round addr) (suc rows) state owed
-round_put d addr zero since before state owed r is = absurd cc
-round_put d addr (suc zero) since before state owed r is = absurd cc
-round_put d addr (suc (suc rows)) since before state owed r is = λ few. absurd (omega (arith, few))
+round_put d addr zero judged p state owed r is = absurd cc
+round_put d addr (suc zero) judged p state owed r is = absurd cc
+round_put d addr (suc (suc rows)) judged p state owed r is = λ few. absurd (omega (arith, few))
 
-pay_put : (d : DeviceSetup) (serial addr id count rows : ℕ) (p : Payment) (state : EpochState)
-    (owed : Option OpenOrder) (r : Record) →
-    pay_row serial addr id count rows p ≡ puts r → NeedsOf d (command.Pay addr id count) (suc rows) state owed
-pay_put d serial addr id count zero p state owed r is = absurd cc
-pay_put d serial addr id count (suc zero) p state owed r is = absurd cc
-pay_put d serial addr id count (suc (suc rows)) p state owed r is = λ few. absurd (omega (arith, few))
+pay_put : (d : DeviceSetup) (addr id count rows : ℕ) (judged : Judged) (p : Payment) (state : EpochState)
+    (owed : Option OpenOrder) (r : Record) → row_at d (command.Pay addr id count) rows judged p ≡ puts r →
+    NeedsOf d (command.Pay addr id count) (suc rows) state owed
+pay_put d addr id count zero judged p state owed r is = absurd cc
+pay_put d addr id count (suc zero) judged p state owed r is = absurd cc
+pay_put d addr id count (suc (suc rows)) judged p state owed r is = λ few. absurd (omega (arith, few))
 
 -- an epoch still runs behind a record that doesn't end a stop
-StopsOn : ℕ → EpochState → Record → Type 0
-StopsOn addr state r = end_of_put (command.Stop addr) r ≡ None → is_running (epoch_by r state) ≡ is_running state
+StillRuns : EpochState → Record → Type 0
+StillRuns state r = is_running (epoch_by r state) ≡ is_running state
 
-stop_put : (d : DeviceSetup) (addr : ℕ) (since : List Line) (state : EpochState) (owed : Option OpenOrder)
-    (r : Record) → row d (command.Stop addr) since state owed ≡ puts r → StopsOn addr state r
-unfolding StopsOn
-stop_put d addr since state owed r is =
-    let means =
-    judged_holds (StopsOn addr state) addr state (credits_read since) (mask_read since)
-    (λ counter lost posted. λ none. counted_runs counter state) (λ mask counter posted. λ none. absurd cc) in
-    subst (RowHolds (λ q. ⊤) (StopsOn addr state)) is
-    (each_row (λ q. ⊤) (StopsOn addr state) d (command.Stop addr) (done since)
-    (judged_in (command.Stop addr) since state) (payment_in since owed)
-    (record { shuts = tt; round = record { reads = tt; looks = tt; means = means }; over = λ none. absurd cc }))
+stop_posts : (state : EpochState) (r e : Record) → e ≡ r → IsReading (Reading e) → StillRuns state r
+unfolding StillRuns
+stop_posts state r (record_of.Reading addr counter lost posted) same reads =
+    subst (λ x. is_running (epoch_by x state) ≡ is_running state) same (counted_runs counter state)
+stop_posts state r e same reads = absurd reads
+
+stop_breaks : (state : EpochState) (r e : Record) → e ≡ r → IsReading (Broken e) →
+    end_kept (puts_due reading (if_posted None) ∷ puts_due epoch_end (ends_as Stopped) ∷ []) r ≡ None → StillRuns state r
+stop_breaks state r (record_of.Broken addr seen counter posted) same reads none =
+    let broke : end_kept (puts_due reading (if_posted None) ∷ puts_due epoch_end (ends_as Stopped) ∷ []) (record_of.Broken addr seen counter posted) ≡ None =
+    ap (end_kept (puts_due reading (if_posted None) ∷ puts_due epoch_end (ends_as Stopped) ∷ [])) same ∙ none in
+    absurd cc
+stop_breaks state r e same reads none = absurd reads
+
+stop_put : (d : DeviceSetup) (addr rows : ℕ) (judged : Judged) (p : Payment) (state : EpochState) (r : Record) →
+    IsReading judged → row_at d (command.Stop addr) rows judged p ≡ puts r →
+    end_kept (after (rows_of d (command.Stop addr)) rows) r ≡ None → StillRuns state r
+stop_put d addr zero judged p state r reads is none = absurd cc
+stop_put d addr (suc zero) judged p state r reads is none = absurd cc
+stop_put d addr (suc (suc zero)) judged p state r reads is none = absurd cc
+stop_put d addr (suc (suc (suc zero))) Nothing p state r reads is none =
+    let over : end_kept (after (rows_of d (command.Stop addr)) 3) (record_of.EpochEnd addr) ≡ None =
+    ap (end_kept (after (rows_of d (command.Stop addr)) 3)) (same_record (record_of.EpochEnd addr) r is) ∙ none in
+    absurd cc
+stop_put d addr (suc (suc (suc zero))) (Reading e) p state r reads is none = stop_posts state r e (same_record e r is) reads
+stop_put d addr (suc (suc (suc zero))) (Broken e) p state r reads is none =
+    stop_breaks state r e (same_record e r is) reads none
+stop_put d addr (suc (suc (suc (suc zero)))) judged p state r reads is none = absurd cc
+stop_put d addr (suc (suc (suc (suc (suc rows))))) judged p state r reads is none = absurd cc
 
 needs_put : (d : DeviceSetup) (c : Command) (since : List Line) (state : EpochState) (owed : Option OpenOrder)
-    (r : Record) → row d c since state owed ≡ puts r → end_of_put c r ≡ None → NeedsOf d c (done since) state owed →
-    NeedsOf d c (suc (done since)) (epoch_by r state) (order_by r owed)
-unfolding StopsOn
+    (r : Record) → row d c since state owed ≡ puts r → end_of d c (put r) since state ≡ None →
+    NeedsOf d c (done since) state owed → NeedsOf d c (suc (done since)) (epoch_by r state) (order_by r owed)
+unfolding StillRuns
 needs_put d (command.Start addr mask) since state owed r is none needs =
-    start_put d addr mask (done since) (epoch_by r state) (order_by r owed) r is
+    start_put d addr mask (done since) (judged_in (command.Start addr mask) since state) (payment_in since owed)
+    (epoch_by r state) (order_by r owed) r is
 needs_put d (command.Round addr) since state owed r is none needs =
-    round_put d addr (done since) since state (epoch_by r state) (order_by r owed) r is
+    round_put d addr (done since) (judged_in (command.Round addr) since state) (payment_in since owed) (epoch_by r state)
+    (order_by r owed) r is
 needs_put d (command.Stop addr) since state owed r is none needs =
-    λ few. stop_put d addr since state owed r is none ∙ needs (omega (arith, few))
+    λ few. stop_put d addr (done since) (judged_in (command.Stop addr) since state) (payment_in since owed) state r
+    (judged_reads addr state (credits_read since) (mask_read since)) is none
+    ∙ needs (omega (arith, few))
 needs_put d (command.Pay addr id count) since state owed r is none needs =
-    pay_put d d.serial addr id count (done since) (payment_in since owed) (epoch_by r state) (order_by r owed) r is
+    pay_put d addr id count (done since) (judged_in (command.Pay addr id count) since state) (payment_in since owed)
+    (epoch_by r state) (order_by r owed) r is
 needs_put d c since state owed r is none needs = tt
 
 needs_record : (d : DeviceSetup) (c : Command) (since : List Line) (r : Record) (lines : List Line) →
     job lines ≡ works c since → row d c since (epoch lines) (order lines) ≡ puts r → NeedsIn d lines →
-    NeedsIn d (with_ended (end_of_put c r) (put r ∷ lines))
-needs_record d c since r lines is row_is needs = by_end (end_of_put c r) refl
+    NeedsIn d (with_ended (end_of d c (put r) since (epoch lines)) (put r ∷ lines))
+needs_record d c since r lines is row_is needs = by_end (end_of d c (put r) since (epoch lines)) refl
   where
-    by_end : (end : Option End) → end_of_put c r ≡ end → NeedsIn d (with_ended end (put r ∷ lines))
+    by_end : (end : Option End) → end_of d c (put r) since (epoch lines) ≡ end → NeedsIn d (with_ended end (put r ∷ lines))
     by_end None none =
         needs_as d (put r ∷ lines) (works c (put r ∷ since)) (ap (with_line (put r)) is)
         (needs_put d c since (epoch lines) (order lines) r row_is none (needs_at d lines c since is needs))

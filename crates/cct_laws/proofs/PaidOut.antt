@@ -9,7 +9,7 @@ use Rattle.cct_model.specs.terms.device.DeviceBody.TheVariants.{Acceptor, Hopper
 use Rattle.cct_model.specs.terms.device.DeviceSetup.{DeviceSetup}
 use Rattle.cct_model.specs.terms.device.Setup.{Setup}
 use Rattle.cct_model.specs.terms.request.Request.{Request}
-use Rattle.cct_model.specs.terms.request.Request.TheVariants.{SimplePoll, AddressPoll, Enable, Dispense, GetStatus}
+use Rattle.cct_model.specs.terms.request.Request.TheVariants.{SimplePoll, AddressPoll, Enable, Dispense, GetStatus, StopNow, GetLife}
 use Rattle.cct_model.specs.lines.record.Record.{Record}
 use Rattle.cct_model.specs.lines.record.Record.TheVariants as record_of
 use Rattle.cct_model.specs.declared.judging.Judged.{Judged}
@@ -25,7 +25,8 @@ use Rattle.cct_model.specs.Device.{IsHopper, reply_of}
 use Rattle.cct_model.specs.Setup.{IsSoundSetup}
 use Rattle.cct_model.specs.Line.{Line, exchange, put, taken}
 use Rattle.cct_model.specs.Order.{order}
-use Rattle.cct_model.specs.Job.{Row, Job, free, works, job, begun, with_line, done, ends_row, epoch, row, row_at, sends, puts, Payment, payment_in, judged_in, open_row, ident_requests}
+use Rattle.cct_model.specs.Job.{Row, Job, free, works, job, begun, with_line, done, ends_row, epoch, sends, puts, Payment, payment_in, judged_in, open_row, ident_requests}
+use Rattle.cct_model.specs.Rows.{row, row_at}
 use Rattle.cct_model.specs.Legal.{Legal}
 use Rattle.cct_model.specs.Script.{IsInRange}
 use Rattle.cct_model.specs.Honest.{Honest}
@@ -38,7 +39,7 @@ use Rattle.cct_laws.specs.Law.{IsOf, lines_in}
 use Rattle.cct_laws.specs.PaidOut.{shows_none, paid_out_by, is_paid_out}
 use Rattle.cct_laws.proofs.EitherKind.{for_hopper}
 use Rattle.cct_laws.proofs.Payouts.{replied_status}
-use Rattle.cct_laws.proofs.Rows.{RowHolds, Each, SettleHolds, each_row}
+use Rattle.cct_model.proofs.Rows.{both_hold, each_ask, each_due, each_sent, RowHolds, Each}
 use Rattle.cct_laws.proofs.Whole.{kept_hopper_legal}
 
 -- a request lets no hopper dispense
@@ -89,24 +90,30 @@ opened_row : (addr id count : ℕ) (life : Option ℕ) →
 opened_row addr id count None = tt
 opened_row addr id count (Some life) = λ before out. absurd cc
 
-pay_settles : (addr id count rows : ℕ) (p : Payment) →
-    SettleHolds (Sent (command.Pay addr id count) (suc (suc (suc (suc rows)))))
-    (Puts (command.Pay addr id count) (suc (suc (suc (suc rows))))) p
-pay_settles addr id count rows p = record {
-  asks = record { undosed = λ aside. tt; behind = λ got. aside_by _ _ (beyond rows) (beyond (suc rows)) };
-  stops = record { undosed = λ aside. tt; behind = λ got. aside_by _ _ (beyond rows) (beyond (suc rows)) };
-  reads = record { undosed = λ aside. tt; behind = λ got. aside_by _ _ (beyond rows) (beyond (suc rows)) };
-  closes = λ o life owed read before out. beyond (suc rows);
-}
+pay_settles : (d : DeviceSetup) (addr id count rows : ℕ) (judged : Judged) (p : Payment) →
+    RowHolds (Sent (command.Pay addr id count) (suc (suc (suc (suc rows)))))
+    (Puts (command.Pay addr id count) (suc (suc (suc (suc rows))))) (row_at d (command.Settle addr) rows judged p)
+pay_settles d addr id count rows judged p =
+    let n = suc (suc (suc (suc rows))) in
+    let c = command.Pay addr id count in
+    let sent : (q : Request) → IsNoDispense q → Sent c n q =
+    λ q none. record { undosed = λ aside. none; behind = λ got. aside_by _ _ (beyond rows) (beyond (suc rows)) } in
+    both_hold (Sent c n) (Puts c n) (row_at d (command.Settle addr) rows judged p)
+    (each_ask (Sent c n) d (command.Settle addr) rows judged p
+    ((sent GetStatus tt, sent StopNow tt), (sent GetLife tt, (tt, tt))))
+    (each_due (Puts c n) d (command.Settle addr) rows judged p
+    (tt, (tt, ((λ o life owed read before out. beyond (suc rows)), tt))))
 
-settles : (addr rows : ℕ) (p : Payment) →
-    SettleHolds (Sent (command.Settle addr) rows) (Puts (command.Settle addr) rows) p
-settles addr rows p = record {
-  asks = record { undosed = λ aside. tt; behind = λ got. tt };
-  stops = record { undosed = λ aside. tt; behind = λ got. tt };
-  reads = record { undosed = λ aside. tt; behind = λ got. tt };
-  closes = λ o life owed read before out. tt;
-}
+settles : (d : DeviceSetup) (addr rows : ℕ) (judged : Judged) (p : Payment) →
+    RowHolds (Sent (command.Settle addr) rows) (Puts (command.Settle addr) rows)
+    (row_at d (command.Settle addr) rows judged p)
+settles d addr rows judged p =
+    let c = command.Settle addr in
+    let sent : (q : Request) → IsNoDispense q → Sent c rows q =
+    λ q none. record { undosed = λ aside. none; behind = λ got. tt } in
+    both_hold (Sent c rows) (Puts c rows) (row_at d c rows judged p)
+    (each_ask (Sent c rows) d c rows judged p ((sent GetStatus tt, sent StopNow tt), (sent GetLife tt, (tt, tt))))
+    (each_due (Puts c rows) d c rows judged p (tt, (tt, ((λ o life owed read before out. tt), tt))))
 
 asked_of : (addr rows : ℕ) (q : Request) → IsNoDispense q → Sent (command.Ident addr) rows q
 asked_of addr rows q undosed = record { undosed = λ aside. undosed; behind = λ got. tt }
@@ -129,14 +136,10 @@ hopper_row d (command.Pay addr id count) (suc (suc zero)) judged p played = open
 hopper_row d (command.Pay addr id count) (suc (suc (suc zero))) judged p played =
     dispensed_row addr id count d.serial count
 hopper_row d (command.Pay addr id count) (suc (suc (suc (suc rows)))) judged p played =
-    each_row (Sent (command.Pay addr id count) (suc (suc (suc (suc rows)))))
-    (Puts (command.Pay addr id count) (suc (suc (suc (suc rows))))) d (command.Settle addr) rows judged p
-    (pay_settles addr id count rows p)
-hopper_row d (command.Settle addr) rows judged p played =
-    each_row (Sent (command.Settle addr) rows) (Puts (command.Settle addr) rows) d (command.Settle addr) rows judged p
-    (settles addr rows p)
+    pay_settles d addr id count rows judged p
+hopper_row d (command.Settle addr) rows judged p played = settles d addr rows judged p
 hopper_row d (command.Ident addr) rows judged p played =
-    each_row (Sent (command.Ident addr) rows) (Puts (command.Ident addr) rows) d (command.Ident addr) rows judged p
+    each_sent (Sent (command.Ident addr) rows) (Puts (command.Ident addr) rows) d addr rows judged p
     (identifies addr rows (ident_requests d.body) (ident_undosed d.body))
 hopper_row d c rows judged p played = absurd cc
 

@@ -16,7 +16,8 @@ use Rattle.cct_model.specs.Device.{IsHopper}
 use Rattle.cct_model.specs.Line.{Line, fell, exchange, put, taken, crashed}
 use Rattle.cct_model.specs.Line as line
 use Rattle.cct_model.specs.Order.{order}
-use Rattle.cct_model.specs.Job.{Job, free, works, job, begun, with_line, epoch, row, sends, puts}
+use Rattle.cct_model.specs.Job.{Job, free, works, job, begun, with_line, epoch, sends, puts}
+use Rattle.cct_model.specs.Rows.{row}
 use Rattle.cct_model.specs.Paid.{dispenses, OfOrder, PaidBy, Paid}
 use Rattle.cct_model.specs.Refusal.{settle_refusal}
 use Rattle.cct_model.specs.Script.{IsCommand}

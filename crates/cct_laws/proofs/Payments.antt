@@ -12,7 +12,8 @@ use Rattle.cct_model.specs.Hopper.{remaining}
 use Rattle.cct_model.specs.Setup.{IsSoundSetup}
 use Rattle.cct_model.specs.Line.{Line}
 use Rattle.cct_model.specs.Order.{order}
-use Rattle.cct_model.specs.Job.{works, job, row, epoch, sends}
+use Rattle.cct_model.specs.Job.{works, job, epoch, sends}
+use Rattle.cct_model.specs.Rows.{row}
 use Rattle.cct_model.specs.Legal.{Legal}
 use Rattle.cct_model.specs.Script.{IsInRange}
 use Rattle.cct_model.specs.Honest.{Honest}

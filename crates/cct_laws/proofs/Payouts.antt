@@ -21,12 +21,13 @@ use Rattle.cct_model.specs.Hopper.{remaining, dropped, taken_of, life_count, sta
 use Rattle.cct_model.specs.Device.{IsHopper, common_reply, own_reply, reply_of}
 use Rattle.cct_model.specs.Line.{Line, dispensed, exchange, put}
 use Rattle.cct_model.specs.Order.{order, is_marked, life_read, close}
-use Rattle.cct_model.specs.Job.{Row, works, job, with_line, is_once, answer_ends, done, epoch, end_of, sends, puts, Payment, payment_in, state_row, open_row, close_row, settle_row, pay_row, row_at, row, ident_requests, judged_in}
+use Rattle.cct_model.specs.Job.{Row, works, job, with_line, is_once, answer_ends, done, epoch, sends, puts, Payment, payment_in, state_row, open_row, close_row, ident_requests, judged_in}
+use Rattle.cct_model.specs.Rows.{end_of, row_at, row}
 use Rattle.cct_model.specs.Paid.{dispenses, fallen, PaidBy, Paid}
 use Rattle.cct_model.specs.Transcript.{dispensed_by, doses}
 use Rattle.cct_model.proofs.Hoppers.{left_heard, remaining_heard, taken_when}
 use Rattle.cct_laws.specs.Kept.{Fate, unheard, silenced, answered, with_ended}
-use Rattle.cct_laws.proofs.Rows.{RowHolds, Each, each_sent}
+use Rattle.cct_model.proofs.Rows.{RowHolds, Each, each_sent}
 use Rattle.cct_laws.proofs.Owing.{View, StateOf, Less, Takes, state_less, IsFresh, state_takes, state_opens, close_is, IsOpen, IsLife, FitsSettle, FitsPay, FitsFor, FitsJob, for_less, fits_less}
 
 -- the life count at which a hopper started
@@ -254,18 +255,18 @@ no_open_sent addr id count None q row_is = cc
 no_open_sent addr id count (Some life) q row_is = cc
 
 settle_next : (d : DeviceSetup) (past : List Met) (lines : List Line) (w : View) (owed : Option OpenOrder)
-    (work : List Line) (rows : ℕ) (p : Payment) (q : Request) (y : Reply) → IsHopper d.body →
+    (work : List Line) (addr rows : ℕ) (judged : Judged) (p : Payment) (q : Request) (y : Reply) → IsHopper d.body →
     Less (view d past lines) w → FitsSettle (life_of d.body) (view d past lines) owed (life_read work) rows →
-    settle_row rows p ≡ sends q → reply_of d past q ≡ Some y → SettlesNext (life_of d.body) w owed work rows q y
-settle_next d past lines w owed work zero p q y paying less fits row_is gives =
+    row_at d (command.Settle addr) rows judged p ≡ sends q → reply_of d past q ≡ Some y → SettlesNext (life_of d.body) w owed work rows q y
+settle_next d past lines w owed work addr zero judged p q y paying less fits row_is gives =
     state_next d past lines w owed work p.is_marked q y paying less fits row_is gives
-settle_next d past lines w owed work (suc zero) p q y paying less fits row_is gives =
+settle_next d past lines w owed work addr (suc zero) judged p q y paying less fits row_is gives =
     subst (λ r. reply_of d past r ≡ Some y → SettlesNext (life_of d.body) w owed work 1 r y)
     (request_is GetLife q row_is)
     (λ gives. (fits.0, omega (arith, less.rest, fits.1), life_next d past lines w work y paying less gives)) gives
-settle_next d past lines w owed work (suc (suc zero)) p q y paying less fits row_is gives =
+settle_next d past lines w owed work addr (suc (suc zero)) judged p q y paying less fits row_is gives =
     absurd (no_close_sent p.owed p.life q row_is)
-settle_next d past lines w owed work (suc (suc (suc rows))) p q y paying less fits row_is gives = absurd cc
+settle_next d past lines w owed work addr (suc (suc (suc rows))) judged p q y paying less fits row_is gives = absurd cc
 
 -- what an answer brings to a payment
 abbrev PaysNext : ℕ → View → Option OpenOrder → List Line → ℕ → ℕ → Request → Reply → Type 0
@@ -284,24 +285,24 @@ fresh_open v None count fresh = absurd fresh
 fresh_open v (Some o) count fresh = tt
 
 pay_next : (d : DeviceSetup) (past : List Met) (lines : List Line) (w : View) (owed : Option OpenOrder)
-    (work : List Line) (addr id count rows : ℕ) (p : Payment) (q : Request) (y : Reply) → IsHopper d.body →
+    (work : List Line) (addr id count rows : ℕ) (judged : Judged) (p : Payment) (q : Request) (y : Reply) → IsHopper d.body →
     Less (view d past lines) w → FitsPay (life_of d.body) (view d past lines) owed (life_read work) count rows →
-    pay_row d.serial addr id count rows p ≡ sends q → reply_of d past q ≡ Some y →
+    row_at d (command.Pay addr id count) rows judged p ≡ sends q → reply_of d past q ≡ Some y →
     PaysNext (life_of d.body) w owed work count rows q y
-pay_next d past lines w owed work addr id count zero p q y paying less fits row_is gives =
+pay_next d past lines w owed work addr id count zero judged p q y paying less fits row_is gives =
     subst (λ r. PaysNext (life_of d.body) w owed work count 0 r y) (request_is (Enable ENABLE_CODE) q row_is) fits
-pay_next d past lines w owed work addr id count (suc zero) p q y paying less fits row_is gives =
+pay_next d past lines w owed work addr id count (suc zero) judged p q y paying less fits row_is gives =
     subst (λ r. reply_of d past r ≡ Some y → PaysNext (life_of d.body) w owed work count 1 r y)
     (request_is GetLife q row_is)
     (λ gives. (fits.0, fits.1, life_next d past lines w work y paying less gives)) gives
-pay_next d past lines w owed work addr id count (suc (suc zero)) p q y paying less fits row_is gives =
+pay_next d past lines w owed work addr id count (suc (suc zero)) judged p q y paying less fits row_is gives =
     absurd (no_open_sent addr id count p.life q row_is)
-pay_next d past lines w owed work addr id count (suc (suc (suc zero))) p q y paying less fits row_is gives =
+pay_next d past lines w owed work addr id count (suc (suc (suc zero))) judged p q y paying less fits row_is gives =
     subst (λ r. PaysNext (life_of d.body) w owed work count 3 r y) (request_is (Dispense d.serial count) q row_is)
     (fresh_open (view d past lines) owed count fits)
-pay_next d past lines w owed work addr id count (suc (suc (suc (suc rows)))) p q y paying less fits row_is gives =
+pay_next d past lines w owed work addr id count (suc (suc (suc (suc rows)))) judged p q y paying less fits row_is gives =
     settles_in_pay (life_of d.body) w owed (life_read (exchange (Some q) (Some y) ∷ work)) count rows (answer_ends q y)
-    (settle_next d past lines w owed work rows p q y paying less fits row_is gives)
+    (settle_next d past lines w owed work addr rows judged p q y paying less fits row_is gives)
 
 -- what an answer brings to a job
 fits_next : (d : DeviceSetup) (past : List Met) (lines : List Line) (w : View) (owed : Option OpenOrder)
@@ -312,9 +313,9 @@ fits_next : (d : DeviceSetup) (past : List Met) (lines : List Line) (w : View) (
     FitsFor (life_of d.body) w owed (life_read (exchange (Some q) (Some y) ∷ work)) c
     (cond (answer_ends q y) (suc rows) rows)
 fits_next d past lines w owed work (command.Pay addr id count) rows judged p q y paying less fits row_is gives =
-    pay_next d past lines w owed work addr id count rows p q y paying less fits row_is gives
+    pay_next d past lines w owed work addr id count rows judged p q y paying less fits row_is gives
 fits_next d past lines w owed work (command.Settle addr) rows judged p q y paying less fits row_is gives =
-    settle_next d past lines w owed work rows p q y paying less fits row_is gives
+    settle_next d past lines w owed work addr rows judged p q y paying less fits row_is gives
 fits_next d past lines w owed work (command.Ident addr) rows judged p q y paying less fits row_is gives = tt
 fits_next d past lines w owed work c rows judged p q y paying less fits row_is gives = absurd fits
 
@@ -389,30 +390,30 @@ state_fits : (d : DeviceSetup) (past : List Met) (lines : List Line) (life : Opt
 state_fits d past lines life F true = tt
 state_fits d past lines life F false = tt
 
-settle_fits : (d : DeviceSetup) (past : List Met) (lines work : List Line) (rows : ℕ) →
+settle_fits : (d : DeviceSetup) (past : List Met) (lines work : List Line) (addr rows : ℕ) (judged : Judged) →
     FitsSettle (life_of d.body) (view d past lines) (order lines) (life_read work) rows →
     StateOf (life_of d.body) (view d past lines) (order lines) →
     RowFits d past lines (life_read work) (λ w owed life. FitsSettle (life_of d.body) w owed life (suc rows))
-    (settle_row rows (payment_in work (order lines)))
-settle_fits d past lines work zero fits state = state_fits d past lines (life_read work) _ (is_marked work)
-settle_fits d past lines work (suc zero) fits state = tt
-settle_fits d past lines work (suc (suc zero)) fits state =
+    (row_at d (command.Settle addr) rows judged (payment_in work (order lines)))
+settle_fits d past lines work addr zero judged fits state = state_fits d past lines (life_read work) _ (is_marked work)
+settle_fits d past lines work addr (suc zero) judged fits state = tt
+settle_fits d past lines work addr (suc (suc zero)) judged fits state =
     closed_fits d past lines (life_read work) (order lines) refl fits.0 fits.1 fits.2 state
-settle_fits d past lines work (suc (suc (suc rows))) fits state = tt
+settle_fits d past lines work addr (suc (suc (suc rows))) judged fits state = tt
 
-pay_fits : (d : DeviceSetup) (past : List Met) (lines work : List Line) (addr id count rows : ℕ) →
+pay_fits : (d : DeviceSetup) (past : List Met) (lines work : List Line) (addr id count rows : ℕ) (judged : Judged) →
     FitsPay (life_of d.body) (view d past lines) (order lines) (life_read work) count rows →
     StateOf (life_of d.body) (view d past lines) (order lines) →
     RowFits d past lines (life_read work) (λ w owed life. FitsPay (life_of d.body) w owed life count (suc rows))
-    (pay_row d.serial addr id count rows (payment_in work (order lines)))
-pay_fits d past lines work addr id count zero fits state = tt
-pay_fits d past lines work addr id count (suc zero) fits state = tt
-pay_fits d past lines work addr id count (suc (suc zero)) fits state =
+    (row_at d (command.Pay addr id count) rows judged (payment_in work (order lines)))
+pay_fits d past lines work addr id count zero judged fits state = tt
+pay_fits d past lines work addr id count (suc zero) judged fits state = tt
+pay_fits d past lines work addr id count (suc (suc zero)) judged fits state =
     opened_fits d past lines addr id count (life_read work) fits.0 fits.1 fits.2 state
-pay_fits d past lines work addr id count (suc (suc (suc zero))) fits state =
+pay_fits d past lines work addr id count (suc (suc (suc zero))) judged fits state =
     record { to_own = refl; fresh = fits; goes_on = λ w life. fresh_open (view d past lines) (order lines) count fits }
-pay_fits d past lines work addr id count (suc (suc (suc (suc rows)))) fits state =
-    settle_fits d past lines work rows fits state
+pay_fits d past lines work addr id count (suc (suc (suc (suc rows)))) judged fits state =
+    settle_fits d past lines work addr rows judged fits state
 
 ident_sent : (v : View) (owed : Option OpenOrder) (own : ℕ) (F : Next) (body : DeviceBody) →
     Each (IsSent v owed own F) (ident_requests body)
@@ -425,12 +426,12 @@ for_fits : (d : DeviceSetup) (past : List Met) (lines work : List Line) (c : Com
     RowFits d past lines (life_read work) (λ w owed life. FitsFor (life_of d.body) w owed life c (suc rows))
     (row_at d c rows judged (payment_in work (order lines)))
 for_fits d past lines work (command.Pay addr id count) rows judged fits state =
-    pay_fits d past lines work addr id count rows fits state
-for_fits d past lines work (command.Settle addr) rows judged fits state = settle_fits d past lines work rows fits state
+    pay_fits d past lines work addr id count rows judged fits state
+for_fits d past lines work (command.Settle addr) rows judged fits state = settle_fits d past lines work addr rows judged fits state
 for_fits d past lines work (command.Ident addr) rows judged fits state =
     let F : Next = λ w owed life. ⊤ in
-    each_sent (IsSent (view d past lines) (order lines) d.serial F) (Puts d past lines (life_read work) F)
-    (ident_requests d.body) rows (ident_sent (view d past lines) (order lines) d.serial F d.body)
+    each_sent (IsSent (view d past lines) (order lines) d.serial F) (Puts d past lines (life_read work) F) d addr rows judged
+    (payment_in work (order lines)) (ident_sent (view d past lines) (order lines) d.serial F d.body)
 for_fits d past lines work c rows judged fits state = absurd fits
 
 -- what a job needs at its next row

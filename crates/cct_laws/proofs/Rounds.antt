@@ -16,7 +16,7 @@ use Rattle.cct_model.specs.History.{Met, heard}
 use Rattle.cct_model.specs.Acceptor.{credits_of, mask_of}
 use Rattle.cct_model.specs.Device.{IsAcceptor}
 use Rattle.cct_model.specs.Line.{Line, exchange, put}
-use Rattle.cct_model.specs.Job.{works, job, sends, puts, no_row, put_or, round_row, done, epoch, credits_read, judged_in, judged_by, end_of_round, end_of_reading, end_of_put}
+use Rattle.cct_model.specs.Job.{works, job, sends, puts, no_row, put_or, done, epoch, credits_read, judged_in, judged_by, end_of_reading, Payment}
 use Rattle.cct_model.specs.Claims.{coins, arrivals, reading, looking, mark, base}
 use Rattle.cct_laws.specs.Kept.{Fate, with_ended}
 use Rattle.cct_laws.proofs.World.{world, on_nothing}
@@ -25,6 +25,8 @@ use Rattle.cct_laws.proofs.Moves.{Sound, Keeps, KeepsAsk, keeps_ended, keeps_exc
 use Rattle.cct_laws.proofs.Readings.{held_now, ready_now}
 use Rattle.cct_laws.proofs.Items.{reading_fewer, keeps_clean, sound_reading, sound_broken}
 use Rattle.cct_laws.proofs.Replies.{replied_credits, replied_mask}
+use Rattle.cct_model.specs.Rows.{end_answered, end_kept, left_at, row_at, after, rows_of}
+use Rattle.cct_model.proofs.Rows.{round_at, round_left}
 
 -- what an acceptor's credits tell an epoch
 pub held_at : (past : List Met) (lines : List Line) → IsRunning (epoch lines) → Sound past lines →
@@ -45,7 +47,7 @@ round_reads d past lines addr since asked got accepting is_job rows running keep
     let kept = keeps_exchange past now lines c since (Some ReadCredits) (Some y) is_job (on_nothing w) keeps.sound
     (subst (λ n. FitsRound w (book (line ∷ lines)) (suc n) (Some (credits_of past)) judged) (sym rows) (held_at past lines running keeps.sound)) in
     let replied : KeepsAsk d past lines c since ReadCredits (Some ReadCredits) (Some y) =
-    subst (λ n. Keeps now (with_ended (end_of_round (suc n) judged) (line ∷ lines))) (sym rows) kept in
+    subst (λ n. Keeps now (with_ended (end_answered (left_at d c n (judged_in c since (epoch lines))) y judged) (line ∷ lines))) (sym rows) kept in
     by_fate d past lines c since ReadCredits asked got refl tt is_job keeps
     (λ z gives. subst (λ found. KeepsAsk d past lines c since ReadCredits (Some ReadCredits) found) (sym (replied_credits d past accepting) ∙ gives) replied) fate
 
@@ -77,7 +79,7 @@ round_looks d past lines addr since asked got accepting is_job rows held keeps f
     let kept = keeps_exchange past now lines c since (Some GetMask) (Some y) is_job (on_nothing w) keeps.sound
     (subst (λ n. FitsRound w (book (line ∷ lines)) (suc n) (credits_read since) judged) (sym rows) ready) in
     let replied : KeepsAsk d past lines c since GetMask (Some GetMask) (Some y) =
-    subst (λ n. Keeps now (with_ended (end_of_round (suc n) judged) (line ∷ lines))) (sym rows) (round_judged now (line ∷ lines) judged ready kept) in
+    subst (λ n. Keeps now (with_ended (end_answered (left_at d c n (judged_in c since (epoch lines))) y judged) (line ∷ lines))) (sym rows) (round_judged now (line ∷ lines) judged ready kept) in
     by_fate d past lines c since GetMask asked got refl tt is_job keeps
     (λ z gives. subst (λ found. KeepsAsk d past lines c since GetMask (Some GetMask) found) (sym (replied_mask d past accepting) ∙ gives) replied) fate
 
@@ -88,42 +90,42 @@ judged_sends Nothing q row = absurd cc
 judged_sends (Reading entry) q row = absurd cc
 judged_sends (Broken entry) q row = absurd cc
 
-pub round_asks : (d : DeviceSetup) (past : List Met) (lines : List Line) (addr : ℕ) (since : List Line) (judged : Judged) (q : Request) (asked : Option Request) (got : Option Reply) (rows : ℕ) → IsAcceptor d.body →
-    job lines ≡ works (command.Round addr) since → done since ≡ rows → FitsRound (world past lines) (book lines) rows (credits_read since) judged → round_row rows judged ≡ sends q → Keeps past lines →
+pub round_asks : (d : DeviceSetup) (past : List Met) (lines : List Line) (addr : ℕ) (since : List Line) (judged : Judged) (q : Request) (asked : Option Request) (got : Option Reply) (p : Payment) (rows : ℕ) → IsAcceptor d.body →
+    job lines ≡ works (command.Round addr) since → done since ≡ rows → FitsRound (world past lines) (book lines) rows (credits_read since) judged → row_at d (command.Round addr) rows judged p ≡ sends q → Keeps past lines →
     Fate d past q asked got → KeepsAsk d past lines (command.Round addr) since q asked got
-round_asks d past lines addr since judged q asked got zero accepting is_job rows fits row keeps =
+round_asks d past lines addr since judged q asked got p zero accepting is_job rows fits row keeps =
     subst (λ r. Fate d past r asked got → KeepsAsk d past lines (command.Round addr) since r asked got) (request_is ReadCredits q row)
     (round_reads d past lines addr since asked got accepting is_job rows fits keeps)
-round_asks d past lines addr since judged q asked got (suc zero) accepting is_job rows fits row keeps =
+round_asks d past lines addr since judged q asked got p (suc zero) accepting is_job rows fits row keeps =
     subst (λ r. Fate d past r asked got → KeepsAsk d past lines (command.Round addr) since r asked got) (request_is GetMask q row)
     (round_looks d past lines addr since asked got accepting is_job rows fits keeps)
-round_asks d past lines addr since judged q asked got (suc (suc zero)) accepting is_job rows fits row keeps = absurd (judged_sends judged q row)
-round_asks d past lines addr since judged q asked got (suc (suc (suc rest))) accepting is_job rows fits row keeps = absurd cc
+round_asks d past lines addr since judged q asked got p (suc (suc zero)) accepting is_job rows fits row keeps = absurd (judged_sends judged q (sym (round_at d addr judged p) ∙ row))
+round_asks d past lines addr since judged q asked got p (suc (suc (suc rest))) accepting is_job rows fits row keeps = absurd cc
 
 -- what a round puts ends it
 
-posts_end : (past : List Met) (lines : List Line) (addr : ℕ) (entry : Record) → PostsAs (world past lines) (book lines) entry → Sound past lines →
-    Keeps past (with_ended (end_of_put (command.Round addr) entry) (put entry ∷ lines))
-posts_end past lines addr (record_of.Reading a k lost posted) posts sound = keeps_ended past _ Posted tt (sound_reading past lines a k lost posted posts sound)
-posts_end past lines addr entry posts sound = absurd posts
+posts_end : (past : List Met) (lines : List Line) (entry : Record) → PostsAs (world past lines) (book lines) entry → Sound past lines →
+    Keeps past (with_ended (end_kept round_left entry) (put entry ∷ lines))
+posts_end past lines (record_of.Reading a k lost posted) posts sound = keeps_ended past _ Posted tt (sound_reading past lines a k lost posted posts sound)
+posts_end past lines entry posts sound = absurd posts
 
-breaks_end : (past : List Met) (lines : List Line) (addr : ℕ) (entry : Record) → BreaksAs (world past lines) (book lines) entry → Sound past lines →
-    Keeps past (with_ended (end_of_put (command.Round addr) entry) (put entry ∷ lines))
-breaks_end past lines addr (record_of.Broken a seen k posted) breaks sound = keeps_ended past _ Broke tt (sound_broken past lines a seen k posted breaks sound)
-breaks_end past lines addr entry breaks sound = absurd breaks
+breaks_end : (past : List Met) (lines : List Line) (entry : Record) → BreaksAs (world past lines) (book lines) entry → Sound past lines →
+    Keeps past (with_ended (end_kept round_left entry) (put entry ∷ lines))
+breaks_end past lines (record_of.Broken a seen k posted) breaks sound = keeps_ended past _ Broke tt (sound_broken past lines a seen k posted breaks sound)
+breaks_end past lines entry breaks sound = absurd breaks
 
-judged_puts : (past : List Met) (lines : List Line) (addr : ℕ) (judged : Judged) (r : Record) → put_or no_row judged ≡ puts r → Ready (world past lines) (book lines) judged → Sound past lines →
-    Keeps past (with_ended (end_of_put (command.Round addr) r) (put r ∷ lines))
-judged_puts past lines addr Nothing r row ready sound = absurd cc
-judged_puts past lines addr (Reading entry) r row ready sound =
-    subst (λ e. Keeps past (with_ended (end_of_put (command.Round addr) e) (put e ∷ lines))) (entry_is entry r row) (posts_end past lines addr entry ready sound)
-judged_puts past lines addr (Broken entry) r row ready sound =
-    subst (λ e. Keeps past (with_ended (end_of_put (command.Round addr) e) (put e ∷ lines))) (entry_is entry r row) (breaks_end past lines addr entry ready sound)
+judged_puts : (d : DeviceSetup) (past : List Met) (lines : List Line) (addr : ℕ) (judged : Judged) (r : Record) → put_or no_row judged ≡ puts r → Ready (world past lines) (book lines) judged → Sound past lines →
+    Keeps past (with_ended (end_kept (after (rows_of d (command.Round addr)) 2) r) (put r ∷ lines))
+judged_puts d past lines addr Nothing r row ready sound = absurd cc
+judged_puts d past lines addr (Reading entry) r row ready sound =
+    subst (λ e. Keeps past (with_ended (end_kept round_left e) (put e ∷ lines))) (entry_is entry r row) (posts_end past lines entry ready sound)
+judged_puts d past lines addr (Broken entry) r row ready sound =
+    subst (λ e. Keeps past (with_ended (end_kept round_left e) (put e ∷ lines))) (entry_is entry r row) (breaks_end past lines entry ready sound)
 
-pub round_puts : (past : List Met) (lines : List Line) (addr : ℕ) (credits : Option Credits) (judged : Judged) (r : Record) (rows : ℕ) →
-    FitsRound (world past lines) (book lines) rows credits judged → round_row rows judged ≡ puts r → Keeps past lines →
-    Keeps past (with_ended (end_of_put (command.Round addr) r) (put r ∷ lines))
-round_puts past lines addr credits judged r zero fits row keeps = absurd cc
-round_puts past lines addr credits judged r (suc zero) fits row keeps = absurd cc
-round_puts past lines addr credits judged r (suc (suc zero)) fits row keeps = judged_puts past lines addr judged r row fits keeps.sound
-round_puts past lines addr credits judged r (suc (suc (suc rest))) fits row keeps = absurd cc
+pub round_puts : (d : DeviceSetup) (past : List Met) (lines : List Line) (addr : ℕ) (credits : Option Credits) (judged : Judged) (r : Record) (p : Payment) (rows : ℕ) →
+    FitsRound (world past lines) (book lines) rows credits judged → row_at d (command.Round addr) rows judged p ≡ puts r → Keeps past lines →
+    Keeps past (with_ended (end_kept (after (rows_of d (command.Round addr)) rows) r) (put r ∷ lines))
+round_puts d past lines addr credits judged r p zero fits row keeps = absurd cc
+round_puts d past lines addr credits judged r p (suc zero) fits row keeps = absurd cc
+round_puts d past lines addr credits judged r p (suc (suc zero)) fits row keeps = judged_puts d past lines addr judged r (sym (round_at d addr judged p) ∙ row) fits keeps.sound
+round_puts d past lines addr credits judged r p (suc (suc (suc rest))) fits row keeps = absurd cc

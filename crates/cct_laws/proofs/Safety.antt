@@ -16,7 +16,8 @@ use Rattle.cct_model.specs.Setup.{IsSoundSetup}
 use Rattle.cct_model.specs.Line.{Line}
 use Rattle.cct_model.specs.Reading.{coins_among}
 use Rattle.cct_model.specs.Order.{order}
-use Rattle.cct_model.specs.Job.{works, job, epoch, row, puts, address_of}
+use Rattle.cct_model.specs.Job.{works, job, epoch, puts, address_of}
+use Rattle.cct_model.specs.Rows.{row}
 use Rattle.cct_model.specs.Legal.{Legal}
 use Rattle.cct_model.specs.Claims.{mark, base}
 use Rattle.cct_model.specs.Script.{IsInRange}

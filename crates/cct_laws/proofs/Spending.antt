@@ -20,7 +20,8 @@ use Rattle.cct_model.specs.Setup.{AreDistinct, IsSoundSetup}
 use Rattle.cct_model.specs.Exchange.{ask, asked}
 use Rattle.cct_model.specs.Line.{Line, exchange, put, taken}
 use Rattle.cct_model.specs.Order.{order}
-use Rattle.cct_model.specs.Job.{Job, free, works, with_line, job, done, epoch, puts, sends, row, address_of, can_halt}
+use Rattle.cct_model.specs.Job.{Job, free, works, with_line, job, done, epoch, puts, sends, address_of, can_halt}
+use Rattle.cct_model.specs.Rows.{row}
 use Rattle.cct_model.specs.Records.{records}
 use Rattle.cct_model.specs.Money.{coins_of, posted_in, reserved_by}
 use Rattle.cct_model.specs.Following.{all_follow}

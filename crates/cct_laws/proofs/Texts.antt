@@ -35,7 +35,7 @@ use Rattle.cct_laws.proofs.Brought.{Comes, takes_coin, leaves_coin, leaves_alien
 use Rattle.cct_laws.proofs.Seen.{unscanned, along}
 use Rattle.cct_terms.proofs.OfBytes.{IfThere}
 use Rattle.cct_laws.proofs.Lists.{Fine, IsAsked, fine_begun, row_asked, fine_more, scan_ends}
-use Rattle.cct_laws.proofs.Told.{FitsCommand, IsTold, AllTold, all_written, heard_bytes, FitsAsk, ask_bytes, poll_fits, FitsJob, job_fits, FitsRow, row_fits, exchange_ends, put_end}
+use Rattle.cct_laws.proofs.Told.{FitsCommand, IsTold, AllTold, all_written, heard_bytes, FitsAsk, ask_bytes, poll_fits, FitsJob, job_fits, FitsRow, row_fits, exchange_ends, put_ends}
 
 -- what holds of a past
 abbrev FineJob : Job → Type 0
@@ -107,7 +107,7 @@ told_there capacity setup d past _ _ sound own range bytes (made_exchange c sinc
 told_there capacity setup d past _ _ sound own range bytes (made_put c since r at_work is_row) told =
     let record_fits : FitsRow (puts r) = due_fits d past c since (puts r) at_work is_row told in
     with_end_told past d.addr (entry.Put r) (record_end d past c since r) record_fits
-    (put_end d c r since (epoch (lines_of d past)) at_work.is_here) told
+    (put_ends d c r since (epoch (lines_of d past))) told
 
 -- a poll of a scan
 poll_asks : (addr : ℕ) → FitsAsk (poll_of addr)

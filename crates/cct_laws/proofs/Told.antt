@@ -1,5 +1,5 @@
 -- What an entry of a legal transcript tells: bytes and masks in range.
-use Rattle.std.proofs.Common.{◌≡◌, ℕ, zero, suc, ◌-◌, ◌<◌, ◌==◌, nat_le, Bool, true, false, cond, List, [], ◌∷◌, ◌++◌, length, sym, Option, Some, None, arith, All, rules}
+use Rattle.std.proofs.Common.{ℕ, ◌-◌, ◌<◌, ◌==◌, nat_le, Bool, true, false, cond, List, [], ◌∷◌, ◌++◌, Option, Some, None, arith, All, rules}
 use Rattle.std.specs.Prelude.{⊤, unwrap_or, option_and_then, flat_map}
 use Rattle.std.proofs.lemmas.List.Elements.{All-head, All-tail, All-nil, All-cons}
 use Rattle.cct_model.specs.terms.coin.Coin.{Coin}
@@ -10,10 +10,9 @@ use Rattle.cct_model.specs.terms.device.DeviceBody.TheVariants.{Acceptor, Hopper
 use Rattle.cct_model.specs.terms.device.DeviceSetup.{DeviceSetup}
 use Rattle.cct_model.specs.terms.device.Setup.{Setup}
 use Rattle.cct_model.specs.terms.request.Request.{Request}
-use Rattle.cct_model.specs.terms.request.Request.TheVariants.{SetMask, GetMask, Dispense}
+use Rattle.cct_model.specs.terms.request.Request.TheVariants.{SetMask, GetMask}
 use Rattle.cct_model.specs.lines.record.Record.{Record}
 use Rattle.cct_model.specs.lines.record.Record.TheVariants as record_of
-use Rattle.cct_model.specs.declared.judging.Judged.{Judged}
 use Rattle.cct_model.specs.declared.judging.Judged.TheVariants.{Nothing, Reading, Broken}
 use Rattle.cct_model.specs.declared.judging.EpochState.{EpochState}
 use Rattle.cct_model.specs.declared.judging.EpochState.TheVariants.{Running}
@@ -22,8 +21,6 @@ use Rattle.cct_model.specs.lines.command.Command.{Command}
 use Rattle.cct_model.specs.lines.command.Command.TheVariants as command
 use Rattle.cct_model.specs.lines.command.WireFault.{WireFault}
 use Rattle.cct_model.specs.lines.command.WireFault.TheVariants as fault
-use Rattle.cct_model.specs.lines.entry.End.{End}
-use Rattle.cct_model.specs.lines.entry.End.TheVariants as ends_of
 use Rattle.cct_model.specs.lines.entry.Entry.{Entry}
 use Rattle.cct_model.specs.lines.entry.Entry.TheVariants as entry
 use Rattle.cct_model.specs.Request.{header_of, data_of, form_of}
@@ -37,12 +34,13 @@ use Rattle.cct_model.specs.Line.{Line, accepted, inhibited, fell, exchange, scan
 use Rattle.cct_model.specs.Line as line
 use Rattle.cct_model.specs.Reading.{judge}
 use Rattle.cct_model.specs.Order.{close, life_between}
-use Rattle.cct_model.specs.Job.{Job, free, works, job, begun, with_line, done, credits_read, mask_reply, mask_line, mask_read, judged_by, judged_in, Row, Payment, payment_in, ident_requests, row, address_of, tries, end_of_close, end_of_put, end_of_start, end_of_reading, end_of_round, end_of_path, end_of_answer, end_of_failure, end_of}
+use Rattle.cct_model.specs.Job.{Job, free, works, job, begun, with_line, done, credits_read, mask_reply, mask_line, mask_read, judged_by, judged_in, Row, payment_in, ident_requests, address_of}
+use Rattle.cct_model.specs.Rows.{row, end_of, rows_of}
 use Rattle.cct_model.specs.Transcript.{pending, heard_by_devices, heard_by_host, met, answers, heard_after, got_by, dispensed_by, doses, doses_of, owner, lines_of}
 use Rattle.cct_model.proofs.Requests.{request_short}
 use Rattle.cct_text.specs.Written.{IsMask, IsCommand, IsRecord, IsFault, IsEnd, IsWritten}
 use Rattle.cct_terms.proofs.OfBytes.{Bytes, IfThere, bytes_are, are_bytes, bytes_more}
-use Rattle.cct_laws.proofs.Rows.{Each, RowHolds, JudgedHolds, RoundHolds, SettleHolds, CommandHolds, each_row}
+use Rattle.cct_model.proofs.Rows.{Puts, Each, RowHolds, JudgedHolds, EachRow, both_hold, exchange_end, put_end, Asks, each_ask, AnswerEnds, BareEnds, PutEnds, each_due, each_asked, each_told}
 use Rattle.cct_laws.proofs.Bytes.{spelled_bytes, FitsReply, got_fits}
 use Rattle.cct_laws.proofs.Answering.{FitsMet, FitsAll, there_or, answer_bytes, asks_fit}
 
@@ -312,10 +310,6 @@ unfolding data_of
 ident_fits (Acceptor accepts values ids) = search rules
 ident_fits (Hopper life value) = search rules
 
-round_fits : (judged : Judged) → JudgedHolds IsRecord judged → RoundHolds FitsAsk IsRecord judged
-unfolding data_of
-round_fits judged fits = record { reads = tt; looks = tt; means = fits }
-
 close_fits : (o : OpenOrder) (life : ℕ) → IsRecord (close o life)
 unfolding close
 close_fits o life = by_test (nat_le (life_between o.life life) o.count)
@@ -326,110 +320,74 @@ close_fits o life = by_test (nat_le (life_between o.life life) o.count)
     by_test true = tt
     by_test false = tt
 
-settle_fits : (p : Payment) → SettleHolds FitsAsk IsRecord p
+command_asks : (d : DeviceSetup) (c : Command) (since : List Line) → FitsJob (works c since) →
+    EachRow (Asks FitsAsk) (rows_of d c)
 unfolding data_of
-settle_fits p = record { asks = tt; stops = tt; reads = tt; closes = λ o life owed read. close_fits o life }
-
-command_fits : (d : DeviceSetup) (c : Command) (since : List Line) (state : EpochState) (owed : Option OpenOrder) →
-    FitsJob (works c since) → CommandHolds FitsAsk IsRecord d c (judged_in c since state) (payment_in since owed)
-unfolding data_of
-command_fits d (command.Start addr mask) since state owed h = record {
-  resets = tt;
-  reads = tt;
-  begins = omega (arith, h.0);
-  opens = (omega arith, (omega (arith, h.0), tt));
-}
-command_fits d (command.Round addr) since state owed h =
-    round_fits (judged_in (command.Round addr) since state) (judged_fits (command.Round addr) since state h.1)
-command_fits d (command.Stop addr) since state owed h = record {
-  shuts = (omega arith, tt);
-  round = round_fits (judged_in (command.Stop addr) since state) (judged_fits (command.Stop addr) since state h.1);
-  over = tt;
-}
-command_fits d (command.Pay addr id count) since state owed h = record {
-  enables = (omega arith, tt);
-  opens = λ life read. tt;
-  dispenses = (omega arith, (omega arith, (omega arith, (h.0, tt))));
-  settles = settle_fits (payment_in since owed);
-}
-command_fits d (command.Settle addr) since state owed h = settle_fits (payment_in since owed)
-command_fits d (command.Ident addr) since state owed h = ident_fits d.body
-command_fits d (command.Path addr place path) since state owed h = (
-  poll_fits (place == 0) _ _ (h.0.1, tt) (h.0.0, (h.0.1, tt)),
-  poll_fits (place == 0) _ _ tt (h.0.0, tt),
+command_asks d (command.Start addr mask) since h =
+    (tt, (tt, (tt, ((omega arith, (omega (arith, h.0), tt)), tt))))
+command_asks d (command.Round addr) since h = (tt, (tt, (tt, tt)))
+command_asks d (command.Stop addr) since h = ((omega arith, tt), (tt, (tt, (tt, (tt, tt)))))
+command_asks d (command.Pay addr id count) since h = (
+  (omega arith, tt),
+  (tt, (tt, ((omega arith, (omega arith, (omega arith, (h.0, tt)))), ((tt, tt), (tt, (tt, tt)))))),
 )
-command_fits d c since state owed h = tt
+command_asks d (command.Settle addr) since h = ((tt, tt), (tt, (tt, tt)))
+command_asks d (command.Ident addr) since h = each_asked FitsAsk (ident_requests d.body) (ident_fits d.body)
+command_asks d (command.Path addr place path) since h = (
+  poll_fits (place == 0) _ _ (h.0.1, tt) (h.0.0, (h.0.1, tt)),
+  (poll_fits (place == 0) _ _ tt (h.0.0, tt), tt),
+)
+command_asks d c since h = tt
+
+command_puts : (d : DeviceSetup) (c : Command) (since : List Line) (state : EpochState) (owed : Option OpenOrder) →
+    FitsJob (works c since) →
+    EachRow (Puts IsRecord (address_of c) (judged_in c since state) (payment_in since owed)) (rows_of d c)
+command_puts d (command.Start addr mask) since state owed h = (tt, (tt, (omega (arith, h.0), (tt, tt))))
+command_puts d (command.Round addr) since state owed h =
+    (tt, (tt, (judged_fits (command.Round addr) since state h.1, tt)))
+command_puts d (command.Stop addr) since state owed h =
+    (tt, (tt, (tt, (judged_fits (command.Stop addr) since state h.1, (tt, tt)))))
+command_puts d (command.Pay addr id count) since state owed h = (
+  tt,
+  (tt, ((λ life read. tt), (tt, (tt, (tt, ((λ o life is read. close_fits o life), tt)))))),
+)
+command_puts d (command.Settle addr) since state owed h = (tt, (tt, ((λ o life is read. close_fits o life), tt)))
+command_puts d (command.Ident addr) since state owed h =
+    each_told (Puts IsRecord addr (judged_in (command.Ident addr) since state) (payment_in since owed)) (λ q. tt) (λ q. tt)
+    (ident_requests d.body)
+command_puts d (command.Path addr place path) since state owed h = (tt, (tt, tt))
+command_puts d c since state owed h = tt
 
 pub row_fits : (d : DeviceSetup) (c : Command) (since : List Line) (state : EpochState) (owed : Option OpenOrder) →
     FitsJob (works c since) → FitsRow (row d c since state owed)
 row_fits d c since state owed h =
-    each_row FitsAsk IsRecord d c (done since) (judged_in c since state) (payment_in since owed)
-    (command_fits d c since state owed h)
+    let judged = judged_in c since state in
+    let p = payment_in since owed in
+    both_hold FitsAsk IsRecord (row d c since state owed)
+    (each_ask FitsAsk d c (done since) judged p (command_asks d c since h))
+    (each_due IsRecord d c (done since) judged p (command_puts d c since state owed h))
 
 -- the end that a line brings
-ends_if : (addr : ℕ) (b : Bool) (end : End) → IsEnd addr end → IfThere (IsEnd addr) (cond b (Some end) None)
-ends_if addr true end h = h
-ends_if addr false end h = tt
+answer_ends_at : (addr : ℕ) (d : DeviceSetup) (c : Command) → EachRow (AnswerEnds (IsEnd addr)) (rows_of d c)
+answer_ends_at addr d (command.Ident a) =
+    each_told (AnswerEnds (IsEnd addr)) (λ q. tt) (λ q. tt) (ident_requests d.body)
+answer_ends_at addr d c = search rules
 
-close_ends : (addr : ℕ) (r : Record) → IfThere (IsEnd addr) (end_of_close r)
-close_ends addr (record_of.Closed id paid unpaid) = tt
-close_ends addr (record_of.Odd id before after) = tt
-close_ends addr r = tt
+bare_ends_at : (addr : ℕ) (d : DeviceSetup) (c : Command) → EachRow (BareEnds (IsEnd addr)) (rows_of d c)
+bare_ends_at addr d (command.Ident a) =
+    each_told (BareEnds (IsEnd addr)) (λ q. tt) (λ q. tt) (ident_requests d.body)
+bare_ends_at addr d c = search rules
 
-put_ends : (addr : ℕ) (c : Command) (r : Record) → address_of c ≡ addr → IfThere (IsEnd addr) (end_of_put c r)
-put_ends addr (command.Round at) (record_of.Reading a counter lost posted) here = tt
-put_ends addr (command.Round at) (record_of.Broken a seen counter posted) here = tt
-put_ends addr (command.Stop at) (record_of.Broken a seen counter posted) here = tt
-put_ends addr (command.Stop at) (record_of.EpochEnd a) here = tt
-put_ends addr (command.Pay at id count) r here = close_ends addr r
-put_ends addr (command.Settle at) r here = close_ends addr r
-put_ends addr (command.Vend id price) (record_of.Sold sold at) here = sym here
-put_ends addr c r here = tt
-
-start_ends : (addr rows : ℕ) (y : Reply) → IfThere (IsEnd addr) (end_of_start rows y)
-start_ends addr (suc (suc zero)) (reply.credits c) = unquiet (c.counter == 0)
-  where
-    unquiet : (quiet : Bool) → IfThere (IsEnd addr) (cond quiet None (Some (ends_of.Unquiet c.counter)))
-    unquiet true = tt
-    unquiet false = tt
-start_ends addr (suc (suc (suc (suc zero)))) y = tt
-start_ends addr rows y = tt
-
-reading_ends : (addr : ℕ) (judged : Judged) → IfThere (IsEnd addr) (end_of_reading judged)
-reading_ends addr Nothing = tt
-reading_ends addr (Reading r) = tt
-reading_ends addr (Broken r) = tt
-
-round_ends : (addr rows : ℕ) (judged : Judged) → IfThere (IsEnd addr) (end_of_round rows judged)
-round_ends addr (suc (suc zero)) judged = reading_ends addr judged
-round_ends addr rows judged = tt
-
-path_ends : (addr place rows : ℕ) (y : Reply) → IfThere (IsEnd addr) (end_of_path place rows y)
-path_ends addr place (suc (suc zero)) (reply.path number) = tt
-path_ends addr place rows y = tt
-
-answer_end : (addr : ℕ) (body : DeviceBody) (c : Command) (rows : ℕ) (y : Reply) (judged : Judged) →
-    IfThere (IsEnd addr) (end_of_answer body c rows y judged)
-answer_end addr body (command.Start a mask) rows y judged = start_ends addr rows y
-answer_end addr body (command.Round a) rows y judged = round_ends addr rows judged
-answer_end addr body (command.Ident a) rows y judged =
-    ends_if addr (length (ident_requests body) == rows) ends_of.Told tt
-answer_end addr body (command.Path a place path) rows y judged = path_ends addr place rows y
-answer_end addr body c rows y judged = tt
-
-failure_end : (addr : ℕ) (q : Request) (failed : ℕ) → IfThere (IsEnd addr) (end_of_failure q failed)
-failure_end addr (SetMask mask) failed = tt
-failure_end addr (Dispense serial count) failed = tt
-failure_end addr q failed = ends_if addr (failed == 3) ends_of.NoAnswer tt
+put_ends_at : (addr : ℕ) (d : DeviceSetup) (c : Command) → EachRow (PutEnds (IsEnd addr)) (rows_of d c)
+put_ends_at addr d (command.Ident a) =
+    each_told (PutEnds (IsEnd addr)) (λ q. tt) (λ q. tt) (ident_requests d.body)
+put_ends_at addr d c = search rules
 
 pub exchange_ends : (d : DeviceSetup) (c : Command) (asks : Option Request) (found : Option Reply) (since : List Line)
     (state : EpochState) → IfThere (IsEnd d.addr) (end_of d c (exchange asks found) since state)
-exchange_ends d c None None since state = tt
-exchange_ends d c (Some q) None since state =
-    failure_end d.addr q (tries (header_of q) (exchange (Some q) None ∷ since))
-exchange_ends d c None (Some y) since state = answer_end d.addr d.body c _ y _
-exchange_ends d c (Some q) (Some y) since state = answer_end d.addr d.body c _ y _
+exchange_ends d c asks found since state =
+    exchange_end (IsEnd d.addr) d c asks found since state (answer_ends_at d.addr d c) (bare_ends_at d.addr d c) tt
 
-pub put_end : (d : DeviceSetup) (c : Command) (r : Record) (since : List Line) (state : EpochState) →
-    address_of c ≡ d.addr → IfThere (IsEnd d.addr) (end_of d c (put r) since state)
-put_end d c r since state here = put_ends d.addr c r here
+pub put_ends : (d : DeviceSetup) (c : Command) (r : Record) (since : List Line) (state : EpochState) →
+    IfThere (IsEnd d.addr) (end_of d c (put r) since state)
+put_ends d c r since state = put_end (IsEnd d.addr) d c r since state (put_ends_at d.addr d c)

@@ -1,34 +1,30 @@
 -- A job at a device ends for want of an answer exactly after three failed tries.
-use Rattle.std.proofs.Common.{◌≡◌, ℕ, zero, suc, ◌<◌, ◌≤◌, ◌^◌, ◌==◌, cond, true, false, Bool, List, [], ◌∷◌, ◌++◌, refl, ap, sym, ◌∙◌, subst, Option, Some, None, ◌⊎◌, inl, inr, arith, rules, eq-eqb, eqb-true}
+use Rattle.std.proofs.Common.{◌≡◌, ℕ, zero, suc, ◌<◌, ◌≤◌, ◌^◌, ◌==◌, cond, true, false, Bool, List, [], ◌∷◌, ◌++◌, refl, ap, sym, ◌∙◌, subst, Option, Some, None, ◌⊎◌, inl, inr, arith, rules, eq-eqb, eqb-true, true≢false}
 use Rattle.std.specs.Prelude.{⊤}
 use Rattle.std.proofs.lemmas.Bool.Decides.{nat_tests}
-use Rattle.cct_model.specs.terms.device.DeviceBody.{DeviceBody}
-use Rattle.cct_model.specs.terms.device.DeviceBody.TheVariants.{Acceptor, Hopper}
 use Rattle.cct_model.specs.terms.device.DeviceSetup.{DeviceSetup}
 use Rattle.cct_model.specs.terms.device.Setup.{Setup}
 use Rattle.cct_model.specs.terms.request.Request.{Request}
-use Rattle.cct_model.specs.terms.request.Request.TheVariants.{SetMask, SetPath, GetPath, SetDefault, GetDefault, Dispense, CipherDispense}
+use Rattle.cct_model.specs.terms.request.Request.TheVariants.{SetMask, Dispense, CipherDispense}
 use Rattle.cct_model.specs.lines.record.Record.{Record}
-use Rattle.cct_model.specs.lines.record.Record.TheVariants as record_of
 use Rattle.cct_model.specs.declared.judging.Judged.{Judged}
-use Rattle.cct_model.specs.declared.judging.Judged.TheVariants.{Nothing, Reading, Broken}
 use Rattle.cct_model.specs.declared.judging.EpochState.{EpochState}
 use Rattle.cct_model.specs.lines.command.Command.{Command}
 use Rattle.cct_model.specs.lines.command.Command.TheVariants as command
 use Rattle.cct_model.specs.lines.command.Step.{Step}
 use Rattle.cct_model.specs.lines.entry.End.{End}
-use Rattle.cct_model.specs.lines.entry.End.TheVariants.{NoAnswer, Unquiet, Told, Closed, OddLife}
+use Rattle.cct_model.specs.lines.entry.End.TheVariants.{NoAnswer}
 use Rattle.cct_model.specs.lines.entry.Entry.{Entry}
 use Rattle.cct_model.specs.lines.entry.Entry.TheVariants as entry
 use Rattle.cct_model.specs.Exchange.{ask, asked, asks_of}
 use Rattle.cct_model.specs.Request.{header_of}
 use Rattle.cct_model.specs.History.{Met}
 use Rattle.cct_model.specs.Reply.{Reply}
-use Rattle.cct_model.specs.Reply as reply
 use Rattle.cct_model.specs.Device.{IsSound}
 use Rattle.cct_model.specs.Setup.{IsSoundSetup}
 use Rattle.cct_model.specs.Line.{Line, dispensed, exchange, put, taken, ended, crashed}
-use Rattle.cct_model.specs.Job.{Job, free, works, job, with_line, is_once, done, epoch, judged_in, Row, sends, puts, no_row, open_row, settle_row, ident_requests, row_at, Payment, payment_in, tries, tries_after, end_of, end_of_answer, end_of_start, end_of_round, end_of_path, end_of_close, end_of_put, end_of_reading}
+use Rattle.cct_model.specs.Job.{Job, free, works, job, with_line, is_once, done, epoch, judged_in, Row, sends, puts, no_row, open_row, ident_requests, Payment, payment_in, tries, tries_after}
+use Rattle.cct_model.specs.Rows.{row_at, end_of, left, rows_of}
 use Rattle.cct_model.specs.Claims.{AllPast}
 use Rattle.cct_model.specs.Legal.{Legal}
 use Rattle.cct_model.specs.Order.{order}
@@ -45,16 +41,11 @@ use Rattle.cct_model.proofs.Doses.{AreDoses, doses_are, job_undosed}
 use Rattle.cct_laws.proofs.Ids.{put_owned}
 use Rattle.cct_laws.proofs.HopperReplies.{serial_fits}
 use Rattle.cct_laws.proofs.Setups.{found_in}
-use Rattle.cct_laws.proofs.Rows.{RowHolds, Each, SettleHolds, RoundHolds, CommandHolds, any_judged, each_row}
+use Rattle.cct_model.proofs.Rows.{IfEnd, RowHolds, EachRow, each_asked, answer_end, put_end, Asks, AnswerEnds, PutEnds, each_ask, each_told}
 use Rattle.cct_laws.proofs.Seen.{ArePassed, loose, loose_line, Lost, bare, kept_here, kept_elsewhere, seen_here, seen_aside, seen_lost, seen_from, along, any_steps, lines_wire, lines_with_end, lines_put, lines_taken, lines_kept, lines_kept_elsewhere}
+use Rattle.cct_model.proofs.Tries.{is_asked_again, IsAgain, IfHeard, FailsAs, fails_as, ident_again, IsHeardEnd, path_set_again, answers_heard, puts_heard, path_read_again}
 
--- a request that a job asks again, under a header that what is sent once doesn't have
-abbrev pub is_asked_again : Request → Bool
-is_asked_again (SetMask mask) = false
-is_asked_again (Dispense serial count) = false
-is_asked_again CipherDispense = false
-is_asked_again q = true
-
+-- what is asked again has a header that what is sent once doesn't have
 pub record AskedAgain (q : Request) : Type 0 where
   pub no_mask : (header_of q == 231) ≡ false
   pub no_dispense : (header_of q == 167) ≡ false
@@ -67,39 +58,18 @@ asked_again CipherDispense again = absurd cc
 asked_again q again = record { no_mask = refl; no_dispense = refl; fits = λ serial count is. cc }
 
 -- what a row sends is asked again, or is sent once, as the fourth row of its job
-abbrev pub IsAgain : Request → Type 0
-IsAgain q = is_asked_again q ≡ true
-
 abbrev pub IsSentAt : ℕ → Request → Type 0
 IsSentAt rows q = IsAgain q ⊎ ((is_once q ≡ true) × (rows ≡ 3) × FitsItsBytes q)
-
-settle_again : (p : Payment) → SettleHolds IsAgain (λ r. ⊤) p
-settle_again p = record { asks = refl; stops = refl; reads = refl; closes = λ o life owed read. tt }
-
-round_again : (judged : Judged) → RoundHolds IsAgain (λ r. ⊤) judged
-round_again judged = record { reads = refl; looks = refl; means = any_judged judged }
-
-ident_again : (body : DeviceBody) → Each IsAgain (ident_requests body)
-ident_again (Acceptor accepts values ids) = search rules
-ident_again (Hopper life value) = search rules
-
-path_set_again : (first : Bool) (place path : ℕ) → IsAgain (cond first (SetDefault path) (SetPath place path))
-path_set_again true place path = refl
-path_set_again false place path = refl
-
-path_read_again : (first : Bool) (place : ℕ) → IsAgain (cond first GetDefault (GetPath place))
-path_read_again true place = refl
-path_read_again false place = refl
 
 row_sent_at : (rows : ℕ) (r : Row) → RowHolds IsAgain (λ r. ⊤) r → RowHolds (IsSentAt rows) (λ r. ⊤) r
 row_sent_at rows (sends q) again = inl again
 row_sent_at rows (puts r) again = tt
 row_sent_at rows no_row again = tt
 
-again_at : (d : DeviceSetup) (c : Command) (rows : ℕ) (judged : Judged) (p : Payment) →
-    CommandHolds IsAgain (λ r. ⊤) d c judged p → RowHolds (IsSentAt rows) (λ r. ⊤) (row_at d c rows judged p)
-again_at d c rows judged p holds =
-    row_sent_at rows (row_at d c rows judged p) (each_row IsAgain (λ r. ⊤) d c rows judged p holds)
+again_at : (d : DeviceSetup) (c : Command) (at rows : ℕ) (judged : Judged) (p : Payment) →
+    EachRow (Asks IsAgain) (rows_of d c) → RowHolds (IsSentAt at) (λ r. ⊤) (row_at d c rows judged p)
+again_at d c at rows judged p holds =
+    row_sent_at at (row_at d c rows judged p) (each_ask IsAgain d c rows judged p holds)
 
 opened_sent : (addr id count : ℕ) (life : Option ℕ) → RowHolds (IsSentAt 2) (λ r. ⊤) (open_row addr id count life)
 opened_sent addr id count None = tt
@@ -118,19 +88,13 @@ sent_at d (command.Pay addr id count) (suc (suc zero)) judged p low = opened_sen
 sent_at d (command.Pay addr id count) (suc (suc (suc zero))) judged p low =
     inr (refl, refl, serial_fits d.serial count low)
 sent_at d (command.Pay addr id count) (suc (suc (suc (suc rows)))) judged p low =
-    row_sent_at (suc (suc (suc (suc rows)))) (settle_row rows p)
-    (each_row IsAgain (λ r. ⊤) d (command.Settle addr) rows judged p (settle_again p))
-sent_at d (command.Settle addr) rows judged p low = again_at d (command.Settle addr) rows judged p (settle_again p)
-sent_at d (command.Round addr) rows judged p low = again_at d (command.Round addr) rows judged p (round_again judged)
-sent_at d (command.Stop addr) rows judged p low =
-    again_at d (command.Stop addr) rows judged p (record { shuts = refl; round = round_again judged; over = tt })
-sent_at d (command.Ident addr) rows judged p low = again_at d (command.Ident addr) rows judged p (ident_again d.body)
+    again_at d (command.Settle addr) (suc (suc (suc (suc rows)))) rows judged p (search rules)
+sent_at d (command.Ident addr) rows judged p low =
+    again_at d (command.Ident addr) rows rows judged p (each_asked IsAgain (ident_requests d.body) (ident_again d.body))
 sent_at d (command.Path addr place path) rows judged p low =
-    again_at d (command.Path addr place path) rows judged p
-    (path_set_again (place == 0) place path, path_read_again (place == 0) place)
-sent_at d (command.Halt addr) rows judged p low = tt
-sent_at d command.Scan rows judged p low = tt
-sent_at d (command.Vend id price) rows judged p low = tt
+    again_at d (command.Path addr place path) rows rows judged p
+    (path_set_again (place == 0) place path, (path_read_again (place == 0) place, tt))
+sent_at d c rows judged p low = again_at d c rows rows judged p (search rules)
 
 pub fits_sent : (rows : ℕ) (q : Request) → IsSentAt rows q → FitsItsBytes q
 fits_sent rows q (inl again) = (asked_again q again).fits
@@ -209,11 +173,6 @@ tries_most h (exchange asks found ∷ since) = tries_by h asks found since
 tries_most h (put r ∷ since) = omega arith
 tries_most h (l ∷ since) = tries_most h since
 
--- an end but that one, if there is one
-abbrev IfHeard : Option End → Type 0
-IfHeard None = ⊤
-IfHeard (Some end) = IsHeard (ended end)
-
 steady_ended : (end : Option End) (lines : List Line) → IfHeard end → Steady lines → Steady (with_ended end lines)
 steady_ended None lines heard steady = steady
 steady_ended (Some NoAnswer) lines heard steady = absurd heard
@@ -221,85 +180,25 @@ steady_ended (Some end) lines heard steady = steady_line (ended end) lines (λ o
 
 -- the ends of an answered exchange and of a put are those of a job that got its answers
 abbrev pub IfEndOf : Command → Option End → Type 0
-IfEndOf c None = ⊤
-IfEndOf c (Some end) = IsEndOf c end
+IfEndOf c found = IfEnd (IsEndOf c) found
 
-ends_if : (c : Command) (b : Bool) (end : End) → IsEndOf c end → IfEndOf c (cond b (Some end) None)
-ends_if c true end is = is
-ends_if c false end is = tt
+answers_end : (d : DeviceSetup) (c : Command) → EachRow (AnswerEnds (IsEndOf c)) (rows_of d c)
+answers_end d (command.Ident addr) =
+    each_told (AnswerEnds (IsEndOf (command.Ident addr))) (λ q. tt) (λ q. tt) (ident_requests d.body)
+answers_end d c = search rules
 
-path_ends : (addr place path rows : ℕ) (y : Reply) → IfEndOf (command.Path addr place path) (end_of_path place rows y)
-path_ends addr place path zero y = tt
-path_ends addr place path (suc zero) y = tt
-path_ends addr place path (suc (suc zero)) (reply.path number) = tt
-path_ends addr place path (suc (suc zero)) y = tt
-path_ends addr place path (suc (suc (suc rows))) y = tt
+pub ends_of_answer : (d : DeviceSetup) (c : Command) (asked : Option Request) (y : Reply) (since : List Line)
+    (state : EpochState) → IfEndOf c (end_of d c (exchange asked (Some y)) since state)
+ends_of_answer d c asked y since state = answer_end (IsEndOf c) d c asked y since state (answers_end d c)
 
-reading_ends : (addr : ℕ) (judged : Judged) → IfEndOf (command.Round addr) (end_of_reading judged)
-reading_ends addr Nothing = tt
-reading_ends addr (Reading r) = tt
-reading_ends addr (Broken r) = tt
+puts_end : (d : DeviceSetup) (c : Command) → EachRow (PutEnds (IsEndOf c)) (rows_of d c)
+puts_end d (command.Ident addr) =
+    each_told (PutEnds (IsEndOf (command.Ident addr))) (λ q. tt) (λ q. tt) (ident_requests d.body)
+puts_end d c = search rules
 
-round_ends : (addr rows : ℕ) (judged : Judged) → IfEndOf (command.Round addr) (end_of_round rows judged)
-round_ends addr zero judged = tt
-round_ends addr (suc zero) judged = tt
-round_ends addr (suc (suc zero)) judged = reading_ends addr judged
-round_ends addr (suc (suc (suc rows))) judged = tt
-
-quiet_ends : (addr mask : ℕ) (quiet : Bool) (counter : ℕ) →
-    IfEndOf (command.Start addr mask) (cond quiet None (Some (Unquiet counter)))
-quiet_ends addr mask true counter = tt
-quiet_ends addr mask false counter = tt
-
-start_ends : (addr mask rows : ℕ) (y : Reply) → IfEndOf (command.Start addr mask) (end_of_start rows y)
-start_ends addr mask zero y = tt
-start_ends addr mask (suc zero) y = tt
-start_ends addr mask (suc (suc zero)) (reply.credits c) = quiet_ends addr mask (c.counter == 0) c.counter
-start_ends addr mask (suc (suc zero)) y = tt
-start_ends addr mask (suc (suc (suc zero))) y = tt
-start_ends addr mask (suc (suc (suc (suc zero)))) y = tt
-start_ends addr mask (suc (suc (suc (suc (suc rows))))) y = tt
-
-pub ends_of_answer : (body : DeviceBody) (c : Command) (rows : ℕ) (y : Reply) (judged : Judged) →
-    IfEndOf c (end_of_answer body c rows y judged)
-ends_of_answer body (command.Start addr mask) rows y judged = start_ends addr mask rows y
-ends_of_answer body (command.Round addr) rows y judged = round_ends addr rows judged
-ends_of_answer body (command.Ident addr) rows y judged = ends_if (command.Ident addr) _ Told tt
-ends_of_answer body (command.Path addr place path) rows y judged = path_ends addr place path rows y
-ends_of_answer body c rows y judged = tt
-
-close_ends : (c : Command) (r : Record) → IsEndOf c Closed → IsEndOf c OddLife → IfEndOf c (end_of_close r)
-close_ends c (record_of.Closed id paid unpaid) closed odd = closed
-close_ends c (record_of.Odd id life_before life_after) closed odd = odd
-close_ends c r closed odd = tt
-
-pub ends_of_put : (c : Command) (r : Record) → IfEndOf c (end_of_put c r)
-ends_of_put (command.Round at) (record_of.Reading addr counter lost posted) = tt
-ends_of_put (command.Round at) (record_of.Broken addr seen counter posted) = tt
-ends_of_put (command.Stop at) (record_of.Broken addr seen counter posted) = tt
-ends_of_put (command.Stop at) (record_of.EpochEnd addr) = tt
-ends_of_put (command.Pay addr id count) r = close_ends (command.Pay addr id count) r tt tt
-ends_of_put (command.Settle addr) r = close_ends (command.Settle addr) r tt tt
-ends_of_put (command.Vend id price) (record_of.Sold sold at) = tt
-ends_of_put c r = tt
-
--- none of them is for want of an answer
-heard_of : (c : Command) (end : End) → IsEndOf c end → IsHeard (ended end)
-heard_of (command.Start addr mask) NoAnswer is = is
-heard_of (command.Round addr) NoAnswer is = is
-heard_of (command.Stop addr) NoAnswer is = is
-heard_of (command.Pay addr id count) NoAnswer is = is
-heard_of (command.Settle addr) NoAnswer is = is
-heard_of (command.Ident addr) NoAnswer is = is
-heard_of (command.Path addr place path) NoAnswer is = is
-heard_of (command.Halt addr) end is = absurd is
-heard_of command.Scan end is = absurd is
-heard_of (command.Vend id price) NoAnswer is = is
-heard_of c end is = tt
-
-if_heard : (c : Command) (found : Option End) → IfEndOf c found → IfHeard found
-if_heard c None ends = tt
-if_heard c (Some end) ends = heard_of c end ends
+pub ends_of_put : (d : DeviceSetup) (c : Command) (r : Record) (since : List Line) (state : EpochState) →
+    IfEndOf c (end_of d c (put r) since state)
+ends_of_put d c r since state = put_end (IsEndOf c) d c r since state (puts_end d c)
 
 -- an exchange of a job that is no third failed try
 steady_exchange : (lines since : List Line) (c : Command) (q : Request) (found : Option Reply) →
@@ -345,31 +244,47 @@ once_none : (lines since : List Line) (c : Command) → job lines ≡ works c si
 once_none lines since c is_job fourth steady =
     (subst HasTriesLeft is_job steady.goes_on).none_of_once (omega (arith, fourth))
 
--- an exchange of a job, and its end; a mask that isn't acknowledged ends the job at once, and a dispense that isn't
--- acknowledged ends its row
+-- an exchange of a job, and its end; what is sent once ends its row, and ends no job for want of an answer
+steady_once : (d : DeviceSetup) (lines since : List Line) (c : Command) (q : Request) (end : Option End) →
+    job lines ≡ works c since → is_once q ≡ true → done since ≡ 3 → IfHeard end → tries (header_of q) since ≡ 0 →
+    Steady lines → Steady (with_ended end (exchange (Some q) None ∷ lines))
+steady_once d lines since c q end is_job once fourth heard none steady =
+    let one : failed_by (Some q) None since < 3 = omega (arith, none) in
+    let rows : done (exchange (Some q) None ∷ since) ≡ 4 =
+    ap (λ b. cond b (suc (done since)) (done since)) once ∙ ap suc fourth in
+    steady_ended end (exchange (Some q) None ∷ lines) heard
+    (steady_exchange lines since c q None is_job one (λ few. absurd (omega (arith, few, rows))) steady)
+
+once_tries : (lines since : List Line) (c : Command) (q : Request) → is_once q ≡ true → job lines ≡ works c since →
+    done since ≡ 3 → Steady lines → tries (header_of q) since ≡ 0
+once_tries lines since c (SetMask mask) once is_job fourth steady = (once_none lines since c is_job fourth steady).0
+once_tries lines since c (Dispense serial count) once is_job fourth steady =
+    (once_none lines since c is_job fourth steady).1
+once_tries lines since c q once is_job fourth steady = absurd cc
+
+once_again : (q : Request) → is_once q ≡ true → is_asked_again q ≡ false
+once_again (SetMask mask) once = refl
+once_again (Dispense serial count) once = refl
+once_again q once = absurd cc
+
 steady_wire : (d : DeviceSetup) (lines since : List Line) (c : Command) (q : Request) (found : Option Reply)
-    (state : EpochState) → job lines ≡ works c since → IsSentAt (done since) q → Steady lines →
-    Steady (with_ended (end_of d c (exchange (Some q) found) since state) (exchange (Some q) found ∷ lines))
-steady_wire d lines since c q (Some y) state is_job sent steady =
-    steady_ended _ (exchange (Some q) (Some y) ∷ lines) (if_heard c _ (ends_of_answer d.body c _ y _))
+    (state : EpochState) → job lines ≡ works c since → IsSentAt (done since) q → FailsAs (left d c since state) q →
+    Steady lines → Steady (with_ended (end_of d c (exchange (Some q) found) since state) (exchange (Some q) found ∷ lines))
+steady_wire d lines since c q (Some y) state is_job sent fails steady =
+    steady_ended _ (exchange (Some q) (Some y) ∷ lines)
+    (answer_end IsHeardEnd d c (Some q) y since state (answers_heard d c))
     (steady_exchange lines since c q (Some y) is_job (omega arith) (λ few. (refl, refl)) steady)
-steady_wire d lines since c (SetMask mask) None state is_job (inr once) steady =
-    let none = (once_none lines since c is_job once.1 steady).0 in
-    let l = exchange (Some (SetMask mask)) None in
-    let one : failed_in (job (l ∷ lines)) < 3 = rw (ap (λ j. failed_in (with_line l j)) is_job) (omega (arith, none)) in
-    record { each = (one, (steady.goes_on.few, steady.each)); goes_on = free_on }
-steady_wire d lines since c (SetMask mask) None state is_job (inl again) steady = absurd cc
-steady_wire d lines since c (Dispense serial count) None state is_job (inr once) steady =
-    let none = (once_none lines since c is_job once.1 steady).1 in
-    steady_exchange lines since c (Dispense serial count) None is_job (omega (arith, none))
-    (λ few. absurd (omega (arith, few, once.1))) steady
-steady_wire d lines since c (Dispense serial count) None state is_job (inl again) steady = absurd cc
-steady_wire d lines since c q None state is_job sent steady =
-    elim sent [
-      | inl again ↦ rw (same_tries q since) (steady_failed lines since c q (suc (tries (header_of q) since) == 3)
-          refl again (again_none c q since (asked_again q again)) is_job steady)
-      | inr once ↦ absurd cc
-    ]
+steady_wire d lines since c q None state is_job (inl again) (inl fails) steady =
+    let test = suc (tries (header_of q) since) == 3 in
+    rw (same_tries q since, fails.1 (suc (tries (header_of q) since)))
+    (steady_failed lines since c q test refl again (again_none c q since (asked_again q again)) is_job steady)
+steady_wire d lines since c q None state is_job (inl again) (inr fails) steady =
+    absurd (true≢false (sym again ∙ fails.0))
+steady_wire d lines since c q None state is_job (inr once) (inl fails) steady =
+    absurd (true≢false (sym fails.0 ∙ once_again q once.0))
+steady_wire d lines since c q None state is_job (inr once) (inr fails) steady =
+    steady_once d lines since c q _ is_job once.0 once.1 (fails.2 _)
+    (once_tries lines since c q once.0 is_job once.1 steady) steady
 
 with_put : (r : Record) (j : Job) → HasTriesLeft (with_line (put r) j)
 with_put r free = free_on
@@ -443,11 +358,12 @@ steady_there capacity setup d past _ _ sound own ids (made_exchange c since q at
     subst Steady (sym (lines_with_end d past (wire_of setup d past q) (wire_end setup d past c since q) _
     (lines_wire d past sent (heard_after setup past sent))))
     (subst (λ a. Steady (with_ended (end_of d c (exchange a got) since state) (exchange a got ∷ dosed))) (sym asks)
-    (steady_wire d dosed since c q got state job_is row_is before))
+    (steady_wire d dosed since c q got state job_is row_is (fails_as d c since state (order (lines_of d past)) q is_row) before))
 steady_there capacity setup d past _ _ sound own ids (made_put c since r at_work is_row) steady =
     subst Steady (sym (lines_with_end d past (entry.Put r) (record_end d past c since r) (put r ∷ lines_of d past)
     (lines_put d past r (put_owned setup past d c since r own ids at_work is_row))))
-    (steady_ended (end_of_put c r) (put r ∷ lines_of d past) (if_heard c _ (ends_of_put c r))
+    (steady_ended (end_of d c (put r) since (epoch (lines_of d past))) (put r ∷ lines_of d past)
+    (put_end IsHeardEnd d c r since (epoch (lines_of d past)) (puts_heard d c))
     (steady_line (put r) (lines_of d past) (λ older few. few) (with_put r (job (lines_of d past))) steady))
 
 -- a loss of power

@@ -27,7 +27,7 @@ use Rattle.cct_laws.proofs.Brought.{Comes, takes_coin, leaves_coin, leaves_alien
 use Rattle.cct_model.proofs.Doses.{job_undosed, epoch_undosed, order_undosed}
 use Rattle.cct_laws.proofs.Ids.{above_host, put_owned}
 use Rattle.cct_laws.proofs.Opening.{UsesOwn, row_own}
-use Rattle.cct_laws.proofs.Rows.{RowHolds}
+use Rattle.cct_model.proofs.Rows.{RowHolds}
 use Rattle.cct_laws.proofs.Seen.{IsLoose, loose, loose_line}
 use Rattle.std.specs.Prelude.{⊤}
 

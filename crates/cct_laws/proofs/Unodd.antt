@@ -1,5 +1,5 @@
 -- No order is ever closed with life counts that don't fit it.
-use Rattle.std.proofs.Common.{◌≡◌, ℕ, zero, suc, ◌==◌, ◌||◌, cond, true, false, Bool, List, [], ◌++◌, length, refl, subst, Option, Some, None, All}
+use Rattle.std.proofs.Common.{◌≡◌, ℕ, ◌==◌, ◌||◌, cond, true, false, Bool, List, [], ◌++◌, refl, subst, Option, Some, None, All, rules, sym, ap, ◌∷◌, ◌∙◌}
 use Rattle.std.specs.Prelude.{⊤}
 use Rattle.cct_model.specs.terms.coin.Credits.{Credits}
 use Rattle.cct_model.specs.terms.wire.CheckKind.{CheckKind}
@@ -9,28 +9,25 @@ use Rattle.cct_model.specs.terms.device.DeviceBody.TheVariants.{Acceptor, Hopper
 use Rattle.cct_model.specs.terms.device.DeviceSetup.{DeviceSetup}
 use Rattle.cct_model.specs.terms.device.Setup.{Setup}
 use Rattle.cct_model.specs.terms.request.Request.{Request}
-use Rattle.cct_model.specs.terms.request.Request.TheVariants.{SetMask, Dispense}
 use Rattle.cct_model.specs.lines.record.Record.{Record}
 use Rattle.cct_model.specs.lines.record.Record.TheVariants as record_of
 use Rattle.cct_model.specs.declared.judging.EpochState.{EpochState}
-use Rattle.cct_model.specs.declared.judging.Judged.{Judged}
-use Rattle.cct_model.specs.declared.judging.Judged.TheVariants.{Nothing, Reading, Broken}
 use Rattle.cct_model.specs.declared.judging.OpenOrder.{OpenOrder}
 use Rattle.cct_model.specs.lines.command.Command.{Command}
 use Rattle.cct_model.specs.lines.command.Command.TheVariants as command
 use Rattle.cct_model.specs.lines.command.Step.{Step}
 use Rattle.cct_model.specs.lines.entry.End.{End}
-use Rattle.cct_model.specs.lines.entry.End.TheVariants.{Unquiet, NoAnswer, OddLife, Told}
+use Rattle.cct_model.specs.lines.entry.End.TheVariants.{NoAnswer, OddLife}
 use Rattle.cct_model.specs.lines.entry.Entry.{Entry}
 use Rattle.cct_model.specs.lines.entry.Entry.TheVariants as entry
 use Rattle.cct_model.specs.History.{Met}
 use Rattle.cct_model.specs.Reply.{Reply}
-use Rattle.cct_model.specs.Reply as reply
 use Rattle.cct_model.specs.Device.{IsHopper}
 use Rattle.cct_model.specs.Setup.{IsSoundSetup}
-use Rattle.cct_model.specs.Line.{Line, exchange}
+use Rattle.cct_model.specs.Line.{Line, exchange, put}
 use Rattle.cct_model.specs.Order.{order}
-use Rattle.cct_model.specs.Job.{job, epoch, puts, row, done, judged_in, judged_by, credits_read, mask_read, payment_in, ident_requests, end_of, end_of_put, end_of_answer, end_of_start, end_of_round, end_of_reading, end_of_path, end_of_failure, end_of_close}
+use Rattle.cct_model.specs.Job.{job, epoch, puts, done, judged_in, judged_by, credits_read, mask_read, payment_in, ident_requests, end_of_close, address_of}
+use Rattle.cct_model.specs.Rows.{row, end_of, TableRow, Due, puts_due, rows_of, Then, end_kept, new_epoch, ends_as, end_by_record, if_posted, if_closed, reading, asks_for, epoch_end, asks_once, waits_for_coins, new_order, rest, sale, order_end}
 use Rattle.cct_model.specs.Scan.{end_of_scan, end_by_row, scan_row, scan_tries}
 use Rattle.cct_model.specs.Legal.{with_end, Legal}
 use Rattle.cct_model.specs.Script.{IsInRange}
@@ -45,69 +42,31 @@ use Rattle.cct_laws.proofs.EitherKind.{both_hopper}
 use Rattle.cct_laws.proofs.Keeping.{IsRanged, ranged_step, kept_step}
 use Rattle.cct_laws.proofs.Paying.{pays_kept, never_odd}
 use Rattle.cct_laws.proofs.Payouts.{Pays}
-use Rattle.cct_laws.proofs.Rows.{RowHolds, CommandHolds, JudgedHolds, each_row, any_sent, judged_holds}
+use Rattle.cct_model.proofs.Rows.{IfEnd, RowHolds, JudgedHolds, judged_holds, EachRow, exchange_end, puts_only, AnswerEnds, BareEnds, DueHolds, each_told, told_only, each_put, each_after}
 use Rattle.cct_laws.proofs.Seen.{along}
 use Rattle.cct_laws.proofs.Whole.{honest_before}
 
 -- an end but that one, if there is one
-abbrev IsFit : Option End → Type 0
-IsFit (Some OddLife) = ⊥
-IsFit end = ⊤
+abbrev IsFitEnd : End → Type 0
+IsFitEnd OddLife = ⊥
+IsFitEnd end = ⊤
 
-fit_if : (b : Bool) (end : End) → IsFit (Some end) → IsFit (cond b (Some end) None)
-fit_if true end fine = fine
-fit_if false end fine = tt
+abbrev IsFit : Option End → Type 0
+IsFit found = IfEnd IsFitEnd found
 
 -- the ends of an exchange
-start_fit : (rows : ℕ) (y : Reply) → IsFit (end_of_start rows y)
-start_fit zero y = tt
-start_fit (suc zero) y = tt
-start_fit (suc (suc zero)) (reply.credits c) = unquiet (c.counter == 0)
-  where
-    unquiet : (quiet : Bool) → IsFit (cond quiet None (Some (Unquiet c.counter)))
-    unquiet true = tt
-    unquiet false = tt
-start_fit (suc (suc zero)) y = tt
-start_fit (suc (suc (suc zero))) y = tt
-start_fit (suc (suc (suc (suc zero)))) y = tt
-start_fit (suc (suc (suc (suc (suc rows))))) y = tt
+answers_fit : (d : DeviceSetup) (c : Command) → EachRow (AnswerEnds IsFitEnd) (rows_of d c)
+answers_fit d (command.Ident addr) = each_told (AnswerEnds IsFitEnd) (λ q. tt) (λ q. tt) (ident_requests d.body)
+answers_fit d c = search rules
 
-reading_fit : (judged : Judged) → IsFit (end_of_reading judged)
-reading_fit Nothing = tt
-reading_fit (Reading r) = tt
-reading_fit (Broken r) = tt
-
-round_fit : (rows : ℕ) (judged : Judged) → IsFit (end_of_round rows judged)
-round_fit zero judged = tt
-round_fit (suc zero) judged = tt
-round_fit (suc (suc zero)) judged = reading_fit judged
-round_fit (suc (suc (suc rows))) judged = tt
-
-path_fit : (place rows : ℕ) (y : Reply) → IsFit (end_of_path place rows y)
-path_fit place zero y = tt
-path_fit place (suc zero) y = tt
-path_fit place (suc (suc zero)) (reply.path number) = tt
-path_fit place (suc (suc zero)) y = tt
-path_fit place (suc (suc (suc rows))) y = tt
-
-answer_fit : (body : DeviceBody) (c : Command) (rows : ℕ) (y : Reply) (judged : Judged) →
-    IsFit (end_of_answer body c rows y judged)
-answer_fit body (command.Start addr mask) rows y judged = start_fit rows y
-answer_fit body (command.Round addr) rows y judged = round_fit rows judged
-answer_fit body (command.Ident addr) rows y judged = fit_if (length (ident_requests body) == rows) Told tt
-answer_fit body (command.Path addr place path) rows y judged = path_fit place rows y
-answer_fit body c rows y judged = tt
-
-failure_fit : (q : Request) (failed : ℕ) → IsFit (end_of_failure q failed)
-failure_fit (SetMask mask) failed = tt
-failure_fit (Dispense serial count) failed = tt
-failure_fit q failed = fit_if (failed == 3) NoAnswer tt
+bare_fit : (d : DeviceSetup) (c : Command) → EachRow (BareEnds IsFitEnd) (rows_of d c)
+bare_fit d (command.Ident addr) = each_told (BareEnds IsFitEnd) (λ q. tt) (λ q. tt) (ident_requests d.body)
+bare_fit d c = search rules
 
 exchange_fit : (d : DeviceSetup) (c : Command) (asked : Option Request) (got : Option Reply) (work : List Line)
     (state : EpochState) → IsFit (end_of d c (exchange asked got) work state)
-exchange_fit d c asked (Some y) work state = answer_fit d.body c _ y _
-exchange_fit d c (Some q) None work state = failure_fit q _
-exchange_fit d c None None work state = tt
+exchange_fit d c asked got work state =
+    exchange_end IsFitEnd d c asked got work state (answers_fit d c) (bare_fit d c) tt
 
 listed_fit : (since : List Line) (due : Option (CheckKind × ℕ)) → IsFit (end_by_row since due)
 listed_fit since (Some poll) = tt
@@ -127,15 +86,45 @@ close_fit (record_of.Closed id paid unpaid) fine = tt
 close_fit (record_of.Odd id life_before life_after) fine = absurd fine
 close_fit r fine = tt
 
-put_fit : (c : Command) (r : Record) → IsNotOdd r → IsFit (end_of_put c r)
-put_fit (command.Pay addr id count) r fine = close_fit r fine
-put_fit (command.Settle addr) r fine = close_fit r fine
-put_fit (command.Round at) (record_of.Reading addr counter lost posted) fine = tt
-put_fit (command.Round at) (record_of.Broken addr seen counter posted) fine = tt
-put_fit (command.Stop at) (record_of.Broken addr seen counter posted) fine = tt
-put_fit (command.Stop at) (record_of.EpochEnd addr) fine = tt
-put_fit (command.Vend used price) (record_of.Sold id at) fine = tt
-put_fit c r fine = tt
+abbrev PutsFit : TableRow → Type 0
+PutsFit (puts_due due (ends_as end)) = IsFitEnd end
+PutsFit (puts_due due (if_posted of_reading)) = IsFit of_reading
+PutsFit r = ⊤
+
+puts_fit : (d : DeviceSetup) (c : Command) → EachRow PutsFit (rows_of d c)
+puts_fit d (command.Ident addr) = each_told PutsFit (λ q. tt) (λ q. tt) (ident_requests d.body)
+puts_fit d c = search rules
+
+record_fit : (due : Due) (behind : Then) (r : Record) → PutsFit (puts_due due behind) → IsNotOdd r →
+    IsFit (end_by_record behind r)
+record_fit due (ends_as end) r fit fine = fit
+record_fit due (if_posted of_reading) (record_of.Reading addr counter lost coins) fit fine = fit
+record_fit due (if_posted of_reading) (record_of.Broken addr seen counter coins) fit fine = tt
+record_fit due (if_posted of_reading) r fit fine = tt
+record_fit due if_closed r fit fine = close_fit r fine
+record_fit due behind r fit fine = tt
+
+kept_fit : (rows : List TableRow) (r : Record) → EachRow PutsFit rows → IsNotOdd r → IsFit (end_kept rows r)
+kept_fit [] r each fine = tt
+kept_fit (puts_due reading behind ∷ rows) (record_of.Reading addr counter lost coins) each fine =
+    record_fit reading behind (record_of.Reading addr counter lost coins) each.0 fine
+kept_fit (puts_due reading behind ∷ rows) (record_of.Broken addr seen counter coins) each fine =
+    record_fit reading behind (record_of.Broken addr seen counter coins) each.0 fine
+kept_fit (puts_due reading behind ∷ rows) r each fine = kept_fit rows r each.1 fine
+kept_fit (puts_due (new_epoch mask) behind ∷ rows) r each fine = record_fit (new_epoch mask) behind r each.0 fine
+kept_fit (puts_due epoch_end behind ∷ rows) r each fine = record_fit epoch_end behind r each.0 fine
+kept_fit (puts_due (new_order id count) behind ∷ rows) r each fine =
+    record_fit (new_order id count) behind r each.0 fine
+kept_fit (puts_due order_end behind ∷ rows) r each fine = record_fit order_end behind r each.0 fine
+kept_fit (puts_due (sale id price) behind ∷ rows) r each fine = record_fit (sale id price) behind r each.0 fine
+kept_fit (asks_for q behind ∷ rows) r each fine = tt
+kept_fit (asks_once q behind without ∷ rows) r each fine = tt
+kept_fit (waits_for_coins ∷ rows) r each fine = tt
+
+put_fit : (d : DeviceSetup) (c : Command) (r : Record) (since : List Line) (state : EpochState) → IsNotOdd r →
+    IsFit (end_of d c (put r) since state)
+put_fit d c r since state fine =
+    kept_fit (rest d c since) r (each_after PutsFit (rows_of d c) (done since) (puts_fit d c)) fine
 
 -- an entry, and an end behind it
 entries_fit : (past : List Entry) (addr : ℕ) (e : Entry) (end : Option End) → FitsLife past e → IsFit end →
@@ -150,26 +139,33 @@ judged_fit : (addr : ℕ) (state : EpochState) (credits : Option Credits) (seen 
 judged_fit addr state credits seen =
     judged_holds IsNotOdd addr state credits seen (λ counter lost posted. tt) (λ mask counter posted. tt)
 
-command_fit : (d : DeviceSetup) (c : Command) (since : List Line) (state : EpochState) (owed : Option OpenOrder) →
-    is_for_acceptor c ≡ true →
-    CommandHolds (λ q. ⊤) IsNotOdd d c (judged_in c since state) (payment_in since owed)
-command_fit d (command.Start addr mask) since state owed suited =
-    record { resets = tt; reads = tt; begins = tt; opens = tt }
-command_fit d (command.Round addr) since state owed suited =
-    record { reads = tt; looks = tt; means = judged_fit addr state (credits_read since) (mask_read since) }
-command_fit d (command.Stop addr) since state owed suited =
-    let means = judged_fit addr state (credits_read since) (mask_read since) in
-    record { shuts = tt; round = record { reads = tt; looks = tt; means = means }; over = tt }
-command_fit d (command.Ident addr) since state owed suited = any_sent (ident_requests d.body)
-command_fit d (command.Path addr place path) since state owed suited = (tt, tt)
-command_fit d c since state owed suited = absurd cc
+abbrev is_reading_due : Due → Bool
+is_reading_due (new_epoch mask) = true
+is_reading_due reading = true
+is_reading_due epoch_end = true
+is_reading_due due = false
+
+acceptor_dues : (d : DeviceSetup) (c : Command) →
+    cond (is_for_acceptor c) (puts_only is_reading_due (rows_of d c)) true ≡ true
+acceptor_dues d (command.Ident addr) = told_only is_reading_due (ident_requests d.body)
+acceptor_dues d c = refl
 
 acceptor_fit : (d : DeviceSetup) (c : Command) (since : List Line) (state : EpochState) (owed : Option OpenOrder)
     (r : Record) → is_for_acceptor c ≡ true → row d c since state owed ≡ puts r → IsNotOdd r
 acceptor_fit d c since state owed r suited is_row =
+    let judged = judged_in c since state in
+    let p = payment_in since owed in
+    let only : puts_only is_reading_due (rows_of d c) ≡ true =
+    sym (ap (λ b. cond b (puts_only is_reading_due (rows_of d c)) true) suited) ∙ acceptor_dues d c in
     subst (RowHolds (λ q. ⊤) IsNotOdd) is_row
-    (each_row (λ q. ⊤) IsNotOdd d c (done since) (judged_in c since state) (payment_in since owed)
-    (command_fit d c since state owed suited))
+    (each_put IsNotOdd is_reading_due d c (done since) judged p only due_fit)
+  where
+    due_fit : (due : Due) → is_reading_due due ≡ true →
+        DueHolds IsNotOdd (address_of c) (judged_in c since state) (payment_in since owed) due
+    due_fit (new_epoch mask) is = tt
+    due_fit reading is = judged_fit (address_of c) state (credits_read since) (mask_read since)
+    due_fit epoch_end is = tt
+    due_fit due is = absurd cc
 
 -- what holds of every hopper of a setup beside
 record AllFit (setup : Setup) (past : List Entry) : Type 0 where
@@ -218,7 +214,7 @@ there_fit capacity setup d past _ _ own all honest (made_exchange c since q at_w
     (exchange_fit d c _ _ since (epoch (lines_of d past))) before
 there_fit capacity setup d past _ _ own all honest (made_put c since r at_work is_row) before =
     let fine = device_fit setup past d c since r own all honest at_work is_row in
-    entries_fit past d.addr (entry.Put r) (record_end d past c since r) fine (put_fit c r fine) before
+    entries_fit past d.addr (entry.Put r) (record_end d past c since r) fine (put_fit d c r since (epoch (lines_of d past)) fine) before
 
 life_fit : (capacity : ℕ) (setup : Setup) (past news : List Entry) (s : Step) → AllFit setup past → HonestPast past →
     Brought capacity setup past s news → EachEntry FitsLife past → EachEntry FitsLife (news ++ past)

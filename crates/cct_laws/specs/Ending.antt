@@ -1,6 +1,5 @@
 -- When a job ends: which steps ask for it, which ends are its own, which entries are its own, and which show its end.
 use Rattle.std.specs.Prelude.{◌≡◌, ◌≢◌, ◌⊎◌, ℕ, suc, ◌+◌, ◌==◌, Bool, true, false, List, [], ◌∷◌, ◌++◌, length, if◌then◌else◌, Some, ⊤}
-use Rattle.cct_model.specs.terms.device.DeviceBody.{DeviceBody}
 use Rattle.cct_model.specs.terms.device.DeviceSetup.{DeviceSetup}
 use Rattle.cct_model.specs.terms.request.Request.TheVariants.{GetStatus}
 use Rattle.cct_model.specs.lines.command.Command.{Command}
@@ -14,7 +13,7 @@ use Rattle.cct_model.specs.lines.entry.Entry.{Entry}
 use Rattle.cct_model.specs.lines.entry.Entry.TheVariants as entry
 use Rattle.cct_model.specs.Exchange.{asked}
 use Rattle.cct_model.specs.Hopper.{remaining}
-use Rattle.cct_model.specs.Job.{ident_requests}
+use Rattle.cct_model.specs.Rows.{rows_of}
 use Rattle.cct_model.specs.Transcript.{pending, met}
 
 -- So many `next` at an address after a step.
@@ -43,21 +42,14 @@ is_payment (command.Pay addr id count) = true
 is_payment (command.Settle addr) = true
 is_payment c = false
 
--- How many rows the job of a command has at the most, at a device of a kind.
-abbrev pub rows_of : DeviceBody → Command → ℕ
-rows_of body (command.Start addr mask) = 4
-rows_of body (command.Round addr) = 3
-rows_of body (command.Stop addr) = 5
-rows_of body (command.Pay addr id count) = 7
-rows_of body (command.Settle addr) = 3
-rows_of body (command.Ident addr) = length (ident_requests body)
-rows_of body (command.Path addr place path) = 2
-rows_of body c = 0
+-- How many rows the job of a command has at the most, at a device.
+abbrev pub row_count : DeviceSetup → Command → ℕ
+row_count d c = length (rows_of d c)
 
 -- How many `next` the job of a command needs at the most, where these steps come: one for each of its rows, and for a
 -- payment one more for each halt.
 abbrev pub nexts_needed : DeviceSetup → Command → List Step → ℕ
-nexts_needed d c steps = if is_payment c then rows_of d.body c + halts_at d.addr steps else rows_of d.body c
+nexts_needed d c steps = if is_payment c then row_count d c + halts_at d.addr steps else row_count d c
 
 -- The ends of a job that got its answers: a start that started, or whose acceptor wasn't quiet; a round or a stop that
 -- came to its end, or broke; an order that was closed; an identification and a path that were told; a sale.

@@ -15,7 +15,8 @@ use Rattle.cct_model.specs.Hopper.{remaining}
 use Rattle.cct_model.specs.Line.{Line, accepted, inhibited, fell, exchange, put, taken, crashed}
 use Rattle.cct_model.specs.Line as line
 use Rattle.cct_model.specs.Order.{order}
-use Rattle.cct_model.specs.Job.{free, job, epoch, row, sends, puts, end_of, address_of, can_halt}
+use Rattle.cct_model.specs.Job.{free, job, epoch, sends, puts, address_of, can_halt}
+use Rattle.cct_model.specs.Rows.{row, end_of}
 use Rattle.cct_model.specs.Script.{IsCommand}
 use Rattle.cct_model.specs.Transcript.{doses}
 use Rattle.cct_laws.specs.Kept.{Fate, IsForOthers, suits, with_ended, IsTaken, WorksAt}

@@ -12,7 +12,8 @@ use Rattle.cct_model.specs.Hopper.{remaining}
 use Rattle.cct_model.specs.Line as line
 use Rattle.cct_model.specs.Line.{Line, fell, exchange, put, taken, crashed}
 use Rattle.cct_model.specs.Order.{order}
-use Rattle.cct_model.specs.Job.{free, job, row, sends, puts, address_of, can_halt, end_of, epoch}
+use Rattle.cct_model.specs.Job.{free, job, sends, puts, address_of, can_halt, epoch}
+use Rattle.cct_model.specs.Rows.{row, end_of}
 use Rattle.cct_model.specs.Refusal.{settle_refusal}
 use Rattle.cct_model.specs.Script.{IsCommand}
 use Rattle.cct_model.specs.Transcript.{doses}

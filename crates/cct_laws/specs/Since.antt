@@ -16,7 +16,8 @@ use Rattle.cct_model.specs.Acceptor as acceptor
 use Rattle.cct_model.specs.Line.{Line, accepted, inhibited, exchange, put, taken, crashed}
 use Rattle.cct_model.specs.Line as line
 use Rattle.cct_model.specs.Order.{order}
-use Rattle.cct_model.specs.Job.{free, job, epoch, row, sends, puts, end_of, address_of}
+use Rattle.cct_model.specs.Job.{free, job, epoch, sends, puts, address_of}
+use Rattle.cct_model.specs.Rows.{row, end_of}
 use Rattle.cct_model.specs.Script.{IsCommand}
 use Rattle.cct_model.specs.Transcript.{meets, onto}
 use Rattle.cct_laws.specs.Law.{EachEntry}

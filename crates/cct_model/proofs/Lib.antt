@@ -7,6 +7,8 @@ pub use Rattle.cct_lines.proofs.Sound
 pub mod Polls
 pub mod Doses
 pub mod OpenOrders
+pub mod Rows
+pub mod Tries
 mod Vectors
 mod Machine
 mod Payments

@@ -26,7 +26,8 @@ use Rattle.cct_model.specs.Exchange.{after_echo, asker, asks_of, got}
 use Rattle.cct_model.specs.Grammar.{plain_device, plain_acceptor}
 use Rattle.cct_model.specs.DeviceSet.{all_addresses}
 use Rattle.cct_model.specs.Line.{Line, exchange, scanned, put}
-use Rattle.cct_model.specs.Job.{row, sends, puts, end_of}
+use Rattle.cct_model.specs.Job.{sends, puts}
+use Rattle.cct_model.specs.Rows.{row, end_of}
 use Rattle.cct_model.specs.Scan.{scan_row, next_due}
 use Rattle.cct_model.specs.Transcript.{heard_after}
 use Rattle.cct_model.specs.Reading.{distance, judge}

@@ -1,15 +1,13 @@
 -- The job at an address, read off its lines: which command began it, which of its rows are done, and how it ends. And
 -- the epoch of an acceptor, read off its records.
-use Rattle.std.specs.Prelude.{ℕ, suc, zero, ◌==◌, nat_le, nat_lt, Bool, true, false, List, [], ◌∷◌, length, map, if◌then◌else◌, Option, Some, None, slice_get}
+use Rattle.std.specs.Prelude.{ℕ, suc, ◌==◌, nat_le, nat_lt, Bool, true, false, List, [], ◌∷◌, map, if◌then◌else◌, Option, Some, None}
 use Rattle.std.specs.Option.{option_or}
 use Rattle.cct_model.specs.terms.wire.TheConstants.{BROADCAST, HOST}
 use Rattle.cct_model.specs.terms.coin.Credits.{Credits}
-use Rattle.cct_model.specs.terms.request.TheConstants.{ENABLE_CODE}
 use Rattle.cct_model.specs.terms.device.DeviceBody.{DeviceBody}
 use Rattle.cct_model.specs.terms.device.DeviceBody.TheVariants.{Acceptor, Hopper}
-use Rattle.cct_model.specs.terms.device.DeviceSetup.{DeviceSetup}
 use Rattle.cct_model.specs.terms.request.Request.{Request}
-use Rattle.cct_model.specs.terms.request.Request.TheVariants.{MakerId, Category, ProductCode, SerialNumber, SoftwareRevision, BuildCode, CommsRevision, ResetDevice, SetMask, GetMask, SetMaster, GetMaster, ReadCredits, SetPath, GetPath, SetDefault, GetDefault, CoinId, AcceptCount, TestHopper, Enable, Dispense, GetStatus, GetLife, StopNow}
+use Rattle.cct_model.specs.terms.request.Request.TheVariants.{MakerId, Category, ProductCode, SerialNumber, SoftwareRevision, BuildCode, CommsRevision, SetMask, GetMask, GetMaster, ReadCredits, SetPath, GetPath, SetDefault, GetDefault, CoinId, AcceptCount, TestHopper, Dispense, GetStatus, StopNow}
 use Rattle.cct_model.specs.lines.record.Record.{Record}
 use Rattle.cct_model.specs.lines.record.Record.TheVariants as record_of
 use Rattle.cct_model.specs.declared.judging.Judged.{Judged}
@@ -20,7 +18,7 @@ use Rattle.cct_model.specs.declared.judging.OpenOrder.{OpenOrder}
 use Rattle.cct_model.specs.lines.command.Command.{Command}
 use Rattle.cct_model.specs.lines.command.Command.TheVariants as command
 use Rattle.cct_model.specs.lines.entry.End.{End}
-use Rattle.cct_model.specs.lines.entry.End.TheVariants.{Started, StartUnsure, Unquiet, Clean, Posted, Broke, Stopped, NoAnswer, Told, PathSet, Closed, OddLife, Sold}
+use Rattle.cct_model.specs.lines.entry.End.TheVariants.{Unquiet, Clean, NoAnswer, Closed, OddLife}
 use Rattle.cct_model.specs.Request.{header_of}
 use Rattle.cct_model.specs.Reply.{Reply}
 use Rattle.cct_model.specs.Reply as reply
@@ -180,11 +178,6 @@ abbrev pub ident_requests : DeviceBody → List Request
 ident_requests body =
     MakerId ∷ Category ∷ ProductCode ∷ SerialNumber ∷ SoftwareRevision ∷ BuildCode ∷ CommsRevision ∷ own_requests body
 
--- The row that sends a request, where there is one.
-abbrev pub send_row : Option Request → Row
-send_row None = no_row
-send_row (Some q) = sends q
-
 -- The request that sets a sorter path; place 0 sets the default path.
 abbrev pub path_set : ℕ → ℕ → Request
 path_set place path = if place == 0 then SetDefault path else SetPath place path
@@ -192,37 +185,6 @@ path_set place path = if place == 0 then SetDefault path else SetPath place path
 -- The request that reads it back.
 abbrev pub path_read : ℕ → Request
 path_read place = if place == 0 then GetDefault else GetPath place
-
--- The rows of a start: it resets the acceptor, reads its credits, puts that an epoch begins, and sets the mask.
-abbrev pub start_row : ℕ → ℕ → ℕ → Row
-start_row addr mask zero = sends ResetDevice
-start_row addr mask (suc zero) = sends ReadCredits
-start_row addr mask (suc (suc zero)) = puts (record_of.Epoch addr mask)
-start_row addr mask (suc (suc (suc zero))) = sends (SetMask mask)
-start_row addr mask (suc (suc (suc (suc rows)))) = no_row
-
--- The rows of a round: it reads the credits and then the mask, and puts what they mean.
-abbrev pub round_row : ℕ → Judged → Row
-round_row zero judged = sends ReadCredits
-round_row (suc zero) judged = sends GetMask
-round_row (suc (suc zero)) judged = put_or no_row judged
-round_row (suc (suc (suc rows))) judged = no_row
-
--- The rows of a stop: it inhibits every coin, reads the credits and then the mask, puts what they mean, and then that
--- the epoch ends.
-abbrev pub stop_row : ℕ → ℕ → Judged → Row
-stop_row addr zero judged = sends (SetMaster 0)
-stop_row addr (suc zero) judged = sends ReadCredits
-stop_row addr (suc (suc zero)) judged = sends GetMask
-stop_row addr (suc (suc (suc zero))) judged = put_or (puts (record_of.EpochEnd addr)) judged
-stop_row addr (suc (suc (suc (suc zero)))) judged = puts (record_of.EpochEnd addr)
-stop_row addr (suc (suc (suc (suc (suc rows))))) judged = no_row
-
--- The rows of the setting of a path: it is set, and then read back.
-abbrev pub path_row : ℕ → ℕ → ℕ → Row
-path_row place path zero = sends (path_set place path)
-path_row place path (suc zero) = sends (path_read place)
-path_row place path (suc (suc rows)) = no_row
 
 -- What the lines of a payment tell: whether the payout is to be stopped, the life count that was last read, and the order
 -- that is open.
@@ -245,42 +207,6 @@ abbrev pub close_row : Option OpenOrder → Option ℕ → Row
 close_row (Some o) (Some life) = puts (close o life)
 close_row owed life = no_row
 
--- The rows of a settlement: it asks how the payout goes until nothing is left to pay, reads the life count, and closes the
--- order.
-abbrev pub settle_row : ℕ → Payment → Row
-settle_row zero p = state_row p.is_marked
-settle_row (suc zero) p = sends GetLife
-settle_row (suc (suc zero)) p = close_row p.owed p.life
-settle_row (suc (suc (suc rows))) p = no_row
-
--- The rows of a payment: it enables the hopper, reads its life count, opens the order, lets the hopper dispense, and then
--- settles the order.
-abbrev pub pay_row : ℕ → ℕ → ℕ → ℕ → ℕ → Payment → Row
-pay_row serial addr id count zero p = sends (Enable ENABLE_CODE)
-pay_row serial addr id count (suc zero) p = sends GetLife
-pay_row serial addr id count (suc (suc zero)) p = open_row addr id count p.life
-pay_row serial addr id count (suc (suc (suc zero))) p = sends (Dispense serial count)
-pay_row serial addr id count (suc (suc (suc (suc rows)))) p = settle_row rows p
-
--- The one row of a sale.
-abbrev pub vend_row : ℕ → ℕ → ℕ → Row
-vend_row id price zero = puts (record_of.Sold id price)
-vend_row id price (suc rows) = no_row
-
--- The row at which a job stands, after so many rows; an identification asks for one thing after the other. A halt and a
--- scan are no job with such rows.
-abbrev pub row_at : DeviceSetup → Command → ℕ → Judged → Payment → Row
-row_at d (command.Start addr mask) rows judged p = start_row addr mask rows
-row_at d (command.Round addr) rows judged p = round_row rows judged
-row_at d (command.Stop addr) rows judged p = stop_row addr rows judged
-row_at d (command.Pay addr id count) rows judged p = pay_row d.serial addr id count rows p
-row_at d (command.Settle addr) rows judged p = settle_row rows p
-row_at d (command.Ident addr) rows judged p = send_row (slice_get (ident_requests d.body) rows)
-row_at d (command.Path addr place path) rows judged p = path_row place path rows
-row_at d (command.Halt addr) rows judged p = no_row
-row_at d command.Scan rows judged p = no_row
-row_at d (command.Vend id price) rows judged p = no_row
-
 -- The address of a command: a scan is at 0, and a sale at 1.
 abbrev pub address_of : Command → ℕ
 address_of (command.Start addr mask) = addr
@@ -301,15 +227,6 @@ judged_in c since state = judged_by (address_of c) state (credits_read since) (m
 -- What the lines of a job tell of a payment, beside the open order.
 abbrev pub payment_in : List Line → Option OpenOrder → Payment
 payment_in since owed = record { is_marked = is_marked since; life = life_read since; owed = owed }
-
--- The row at which a job at a device stands, beside its epoch and its open order.
-abbrev pub row : DeviceSetup → Command → List Line → EpochState → Option OpenOrder → Row
-row d c since state owed = row_at d c (done since) (judged_in c since state) (payment_in since owed)
-
--- The row at which a job that is at no device stands: a sale.
-abbrev pub row_of_sale : Command → List Line → Row
-row_of_sale (command.Vend id price) since = vend_row id price (done since)
-row_of_sale c since = no_row
 
 -- How many records a job may still put after so many rows, at a row: a start one up to its put, a round and a settlement
 -- one, a stop the epoch's end too, a payment its opened and its closed order, and a sale one.
@@ -335,28 +252,9 @@ end_of_close (record_of.Closed id paid unpaid) = Some Closed
 end_of_close (record_of.Odd id life_before life_after) = Some OddLife
 end_of_close r = None
 
--- The end that a put brings to a job: a round ends with what it judged, a stop with a break or with the epoch's end, a
--- payment and a settlement with the order, and a sale with its record.
-abbrev pub end_of_put : Command → Record → Option End
-end_of_put (command.Round addr) (record_of.Reading a counter lost posted) = Some Posted
-end_of_put (command.Round addr) (record_of.Broken a seen counter posted) = Some Broke
-end_of_put (command.Stop addr) (record_of.Broken a seen counter posted) = Some Broke
-end_of_put (command.Stop addr) (record_of.EpochEnd a) = Some Stopped
-end_of_put (command.Pay addr id count) r = end_of_close r
-end_of_put (command.Settle addr) r = end_of_close r
-end_of_put (command.Vend id price) (record_of.Sold sold at) = Some Sold
-end_of_put c r = None
-
 -- The end that the credits bring to a start: an acceptor that was just reset has event counter 0.
 abbrev pub end_of_credits : ℕ → Option End
 end_of_credits counter = if counter == 0 then None else Some (Unquiet counter)
-
--- The end that an answer brings to a start, of which so many rows are then done: the credits may end it, and the
--- acknowledged mask does.
-abbrev pub end_of_start : ℕ → Reply → Option End
-end_of_start (suc (suc zero)) (reply.credits c) = end_of_credits c.counter
-end_of_start (suc (suc (suc (suc zero)))) y = Some Started
-end_of_start rows y = None
 
 -- A reading that means nothing ends a round clean.
 abbrev pub end_of_reading : Judged → Option End
@@ -364,40 +262,6 @@ end_of_reading Nothing = Some Clean
 end_of_reading (Reading entry) = None
 end_of_reading (Broken entry) = None
 
--- The end that an answer brings to a round, of which so many rows are then done: the mask completes its reading.
-abbrev pub end_of_round : ℕ → Judged → Option End
-end_of_round (suc (suc zero)) judged = end_of_reading judged
-end_of_round rows judged = None
-
--- The path that was read back ends the setting of a path.
-abbrev pub end_of_path : ℕ → ℕ → Reply → Option End
-end_of_path place (suc (suc zero)) (reply.path number) = Some (PathSet place number)
-end_of_path place rows y = None
-
--- The end that an answered exchange brings to a job, of which so many rows are then done; the last answer ends an
--- identification.
-abbrev pub end_of_answer : DeviceBody → Command → ℕ → Reply → Judged → Option End
-end_of_answer body (command.Start addr mask) rows y judged = end_of_start rows y
-end_of_answer body (command.Round addr) rows y judged = end_of_round rows judged
-end_of_answer body (command.Ident addr) rows y judged = if length (ident_requests body) == rows then Some Told else None
-end_of_answer body (command.Path addr place path) rows y judged = end_of_path place rows y
-end_of_answer body c rows y judged = None
-
 -- The third failed try in succession ends a job.
 abbrev pub end_of_tries : ℕ → Option End
 end_of_tries failed = if failed == 3 then Some NoAnswer else None
-
--- The end that an exchange without the wanted reply brings to a job, whose row then has so many failed tries: a start
--- whose mask, sent once, isn't acknowledged ends unsure, and a payment goes on behind its dispense, which is sent once.
-abbrev pub end_of_failure : Request → ℕ → Option End
-end_of_failure (SetMask mask) failed = Some StartUnsure
-end_of_failure (Dispense serial count) failed = None
-end_of_failure q failed = end_of_tries failed
-
--- The end that a line brings to a job at a device, if it brings one.
-abbrev pub end_of : DeviceSetup → Command → Line → List Line → EpochState → Option End
-end_of d c (put entry) since state = end_of_put c entry
-end_of d c (exchange asked (Some y)) since state =
-    end_of_answer d.body c (done (exchange asked (Some y) ∷ since)) y (judged_in c (exchange asked (Some y) ∷ since) state)
-end_of d c (exchange (Some q) None) since state = end_of_failure q (tries (header_of q) (exchange (Some q) None ∷ since))
-end_of d c line since state = None

@@ -19,7 +19,8 @@ use Rattle.cct_model.specs.Hopper.{remaining}
 use Rattle.cct_model.specs.Exchange.{ask, asked, device_at}
 use Rattle.cct_model.specs.Line.{Line, exchange, put}
 use Rattle.cct_model.specs.Order.{order}
-use Rattle.cct_model.specs.Job.{Job, free, works, job, Row, sends, puts, no_row, row, row_of_sale, epoch, end_of, end_of_put}
+use Rattle.cct_model.specs.Job.{Job, free, works, job, Row, sends, puts, no_row, epoch}
+use Rattle.cct_model.specs.Rows.{row, row_of_sale, end_of, end_of_sale}
 use Rattle.cct_model.specs.Records.{records}
 use Rattle.cct_model.specs.Money.{totals}
 use Rattle.cct_model.specs.Refusal.{refusal}
@@ -82,14 +83,14 @@ ScanEntries hears free news = news ≡ entry.Idle BROADCAST ∷ []
 ScanEntries hears (works c since) news = PollEntries hears since (scan_row since) news
 
 -- The entries of the row of a sale, newest first: its put, and its end.
-abbrev pub SaleRowEntries : Command → Row → List Entry → Type 0
-SaleRowEntries c (puts r) news = news ≡ with_end HOST (entry.Put r) (end_of_put c r)
-SaleRowEntries c next news = ⊥
+abbrev pub SaleRowEntries : Command → List Line → Row → List Entry → Type 0
+SaleRowEntries c since (puts r) news = news ≡ with_end HOST (entry.Put r) (end_of_sale c r since)
+SaleRowEntries c since next news = ⊥
 
 -- The entries of a `next` at address 1, newest first: idle with no sale, else those of its row.
 abbrev pub SaleEntries : Job → List Entry → Type 0
 SaleEntries free news = news ≡ entry.Idle HOST ∷ []
-SaleEntries (works c since) news = SaleRowEntries c (row_of_sale c since) news
+SaleEntries (works c since) news = SaleRowEntries c since (row_of_sale c since) news
 
 -- The entries of a `next` at an address without a device, newest first: a scan is at address 0 alone, and a sale at 1.
 abbrev pub BareNext : (List ℕ → List ℕ) → List Entry → ℕ → List Entry → Type 0

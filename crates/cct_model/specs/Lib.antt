@@ -20,6 +20,7 @@ pub mod Reading
 pub mod Line
 pub mod Order
 pub mod Job
+pub mod Rows
 pub mod Scan
 pub mod Records
 pub mod Transcript

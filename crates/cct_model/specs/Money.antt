@@ -14,6 +14,7 @@ use Rattle.cct_model.specs.declared.judging.OpenOrder.{OpenOrder}
 use Rattle.cct_model.specs.Device.{value_at}
 use Rattle.cct_model.specs.Exchange.{device_at}
 use Rattle.cct_model.specs.Job.{Job, works, job, done}
+use Rattle.cct_model.specs.Rows.{Due, new_order, sale, TableRow, puts_due}
 use Rattle.cct_model.specs.Records.{records, order_named, opened_in, order_in}
 use Rattle.cct_model.specs.Transcript.{lines_of, sale_lines}
 
@@ -109,6 +110,18 @@ available_in setup before = posted_in setup before - (reserved_in setup before +
 abbrev pub available_beside : Setup → List Record → ℕ → ℕ
 available_beside setup before beside =
     posted_in setup before - (reserved_in setup before + beside + paid_in setup before + sold_in before)
+
+-- What a record that is still to be put reserves, at an address.
+abbrev pub reserves : Setup → ℕ → Due → ℕ
+reserves setup addr (new_order id count) = coins_of setup addr count
+reserves setup addr (sale id price) = price
+reserves setup addr due = 0
+
+-- What these rows reserve until they put their records.
+abbrev pub reserved_for : Setup → ℕ → List TableRow → ℕ
+reserved_for setup addr [] = 0
+reserved_for setup addr (puts_due due behind ∷ rows) = reserves setup addr due + reserved_for setup addr rows
+reserved_for setup addr (row ∷ rows) = reserved_for setup addr rows
 
 -- What a running job reserves until it puts its record: a payment the amount of its order, and a sale its price.
 abbrev pub reserved_by : Setup → Job → ℕ

@@ -17,7 +17,8 @@ use Rattle.cct_model.specs.Device.{is_acceptor, is_hopper, value_at}
 use Rattle.cct_model.specs.Exchange.{device_at}
 use Rattle.cct_model.specs.Line.{Line}
 use Rattle.cct_model.specs.Order.{order}
-use Rattle.cct_model.specs.Job.{Job, free, works, job, done, row, row_of_sale, puts_at, can_halt, coin_places, epoch}
+use Rattle.cct_model.specs.Job.{Job, free, works, job, done, puts_at, can_halt, coin_places, epoch}
+use Rattle.cct_model.specs.Rows.{row, row_of_sale}
 use Rattle.cct_model.specs.Records.{records, greatest_id}
 use Rattle.cct_model.specs.Money.{sum_over, coins_of, available}
 use Rattle.cct_model.specs.Transcript.{lines_of, scan_lines, sale_lines}

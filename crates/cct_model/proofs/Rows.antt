@@ -1,0 +1,495 @@
+-- What the rows of a job at a device send and put, and how they end: the walks over the rows that are left, and that each
+-- record is of the job's address.
+use Rattle.std.proofs.Common.{◌≡◌, ◌∙◌, ℕ, ◌-◌, ◌==◌, ◌&&◌, nat_le, zero, suc, cond, true, false, Bool, List, [], ◌∷◌, length, slice_get, arith, refl, ap, sym, Option, Some, None}
+use Rattle.std.specs.Prelude.{⊤}
+use Rattle.std.proofs.lemmas.Bool.{and_parts}
+use Rattle.std.proofs.lemmas.Bool.Decides.{nat_tests}
+use Rattle.cct_model.specs.terms.device.DeviceSetup.{DeviceSetup}
+use Rattle.cct_model.specs.terms.coin.Coin.{Coin}
+use Rattle.cct_model.specs.terms.coin.Credits.{Credits}
+use Rattle.cct_model.specs.terms.request.Request.{Request}
+use Rattle.cct_model.specs.terms.request.Request.TheVariants.{GetStatus, StopNow}
+use Rattle.cct_model.specs.lines.record.Record.{Record}
+use Rattle.cct_model.specs.lines.record.Record.TheVariants as record_of
+use Rattle.cct_model.specs.declared.judging.Judged.{Judged}
+use Rattle.cct_model.specs.declared.judging.Judged.TheVariants.{Nothing, Reading, Broken}
+use Rattle.cct_model.specs.declared.judging.EpochState.{EpochState}
+use Rattle.cct_model.specs.declared.judging.EpochState.TheVariants.{Idle, Running}
+use Rattle.cct_model.specs.declared.judging.OpenOrder.{OpenOrder}
+use Rattle.cct_model.specs.lines.command.Command.{Command}
+use Rattle.cct_model.specs.lines.command.Command.TheVariants as command
+use Rattle.cct_model.specs.lines.entry.End.{End}
+use Rattle.cct_model.specs.lines.entry.End.TheVariants.{Posted, Unquiet, Clean, Broke, NoAnswer, Told, PathSet, Closed, OddLife}
+use Rattle.cct_model.specs.lines.entry.Entry.{Entry}
+use Rattle.cct_model.specs.Reply.{Reply}
+use Rattle.cct_model.specs.Reply as reply
+use Rattle.cct_model.specs.Line.{Line, exchange, put}
+use Rattle.cct_model.specs.Reading.{judge}
+use Rattle.cct_model.specs.Order.{close, life_between}
+use Rattle.cct_model.specs.Job.{Row, sends, puts, no_row, put_or, Payment, payment_in, state_row, open_row, close_row, ident_requests, judged_by, judged_in, credits_read, mask_read, done, address_of, end_of_reading, end_of_close}
+use Rattle.cct_model.specs.Rows.{Then, goes_on, ends_as, if_quiet, if_judged, path_told, if_posted, if_closed, Due, new_epoch, reading, epoch_end, new_order, order_end, sale, TableRow, asks_for, asks_once, waits_for_coins, puts_due, telling, rows_of, after, from, left, rest, first, due_row, row, row_at, end_by_answer, end_by_record, end_bare, end_answered, end_failed, end_kept, end_of}
+use Rattle.cct_model.specs.Transcript.{owner, opened_at}
+
+-- a fact of the request that a row sends, and one of the record that it puts
+abbrev pub RowHolds : (Request → Type 0) → (Record → Type 0) → Row → Type 0
+RowHolds P Q (sends q) = P q
+RowHolds P Q (puts r) = Q r
+RowHolds P Q no_row = ⊤
+
+-- a row puts nothing, and a fact holds of the request that it sends
+abbrev pub IfSends : (Request → Type 0) → Row → Type 0
+IfSends P r = RowHolds P (λ entry. ⊥) r
+
+-- both facts apart
+pub both_hold : (P : Request → Type 0) (Q : Record → Type 0) (r : Row) → RowHolds P (λ entry. ⊤) r →
+    RowHolds (λ q. ⊤) Q r → RowHolds P Q r
+both_hold P Q (sends q) asks keeps = asks
+both_hold P Q (puts r) asks keeps = keeps
+both_hold P Q no_row asks keeps = tt
+
+-- a fact of each request of a list
+abbrev pub Each : (Request → Type 0) → List Request → Type 0
+Each P [] = ⊤
+Each P (q ∷ qs) = P q × Each P qs
+
+-- a fact of the record that was judged, if there is one
+abbrev pub JudgedHolds : (Record → Type 0) → Judged → Type 0
+JudgedHolds Q Nothing = ⊤
+JudgedHolds Q (Reading r) = Q r
+JudgedHolds Q (Broken r) = Q r
+
+pub any_judged : (judged : Judged) → JudgedHolds (λ r. ⊤) judged
+any_judged Nothing = tt
+any_judged (Reading r) = tt
+any_judged (Broken r) = tt
+
+-- what a reading of an address means, where the fact holds of each reading and each break of it
+pub judged_holds : (Q : Record → Type 0) (addr : ℕ) (state : EpochState) (credits : Option Credits) (seen : Option ℕ) →
+    ((counter lost : ℕ) (posted : List Coin) → Q (record_of.Reading addr counter lost posted)) →
+    ((mask counter : ℕ) (posted : List Coin) → Q (record_of.Broken addr mask counter posted)) →
+    JudgedHolds Q (judged_by addr state credits seen)
+unfolding judge
+judged_holds Q addr (Running mask counter) (Some credits) (Some seen) reads breaks = by_tests _ _ _ _ _ _ _
+  where
+    by_tests : (seen read lost : ℕ) (ps qs : List Coin) (broke none : Bool) →
+        JudgedHolds Q (cond broke (Broken (record_of.Broken addr seen read ps))
+        (cond none Nothing (Reading (record_of.Reading addr read lost qs))))
+    by_tests seen read lost ps qs true none = breaks seen read ps
+    by_tests seen read lost ps qs false true = tt
+    by_tests seen read lost ps qs false false = reads read lost qs
+judged_holds Q addr (Running mask counter) (Some credits) None reads breaks = tt
+judged_holds Q addr (Running mask counter) None seen reads breaks = tt
+judged_holds Q addr Idle credits seen reads breaks = tt
+
+-- a fact of each row of the table
+abbrev pub EachRow : (TableRow → Type 0) → List TableRow → Type 0
+EachRow F [] = ⊤
+EachRow F (r ∷ rows) = F r × EachRow F rows
+
+pub each_after : (F : TableRow → Type 0) (rows : List TableRow) (n : ℕ) → EachRow F rows → EachRow F (after rows n)
+each_after F [] n each = tt
+each_after F (r ∷ rows) zero each = each
+each_after F (r ∷ rows) (suc n) each = each_after F rows n each.1
+
+each_from : (F : TableRow → Type 0) (rows : List TableRow) (means : Judged) → EachRow F rows →
+    EachRow F (from rows means)
+each_from F (puts_due reading behind ∷ rows) Nothing each = each.1
+each_from F (puts_due reading behind ∷ rows) (Reading r) each = each
+each_from F (puts_due reading behind ∷ rows) (Broken r) each = each
+each_from F (puts_due due behind ∷ rows) means each = each
+each_from F (asks_for q behind ∷ rows) means each = each
+each_from F (asks_once q behind without ∷ rows) means each = each
+each_from F (waits_for_coins ∷ rows) means each = each
+each_from F [] means each = each
+
+-- of the rows that are left
+pub each_left : (F : TableRow → Type 0) (d : DeviceSetup) (c : Command) (since : List Line) (state : EpochState) →
+    EachRow F (rows_of d c) → EachRow F (left d c since state)
+each_left F d c since state each =
+    each_from F (after (rows_of d c) (done since)) (judged_in c since state) (each_after F (rows_of d c) (done since) each)
+
+-- of the rows that ask for one thing after the other
+pub each_told : (F : TableRow → Type 0) → ((q : Request) → F (asks_for q goes_on)) →
+    ((q : Request) → F (asks_for q (ends_as Told))) → (qs : List Request) → EachRow F (telling qs)
+each_told F goes last [] = tt
+each_told F goes last (q ∷ []) = (last q, tt)
+each_told F goes last (q ∷ r ∷ qs) = (goes q, each_told F goes last (r ∷ qs))
+
+-- the row at which a job stands is the first of those that are left
+pub walk : (F : TableRow → Type 0) (G : Row → Type 0) (d : DeviceSetup) (c : Command) (n : ℕ) (means : Judged)
+    (p : Payment) → G no_row →
+    ((r : TableRow) (rows : List TableRow) → F r → G (first (address_of c) means p (r ∷ rows))) →
+    EachRow F (rows_of d c) → G (row_at d c n means p)
+walk F G d c n means p none more each =
+    by_first (from (after (rows_of d c) n) means) (each_from F _ means (each_after F (rows_of d c) n each))
+  where
+    by_first : (rows : List TableRow) → EachRow F rows → G (first (address_of c) means p rows)
+    by_first [] each = none
+    by_first (r ∷ rows) each = more r rows each.0
+
+-- a fact of what a row of the table asks
+abbrev pub Asks : (Request → Type 0) → TableRow → Type 0
+Asks P (asks_for q behind) = P q
+Asks P (asks_once q behind without) = P q
+Asks P waits_for_coins = P GetStatus × P StopNow
+Asks P (puts_due due behind) = ⊤
+
+pub state_holds : (P : Request → Type 0) (Q : Record → Type 0) (marked : Bool) → P GetStatus → P StopNow →
+    RowHolds P Q (state_row marked)
+state_holds P Q true asks stops = stops
+state_holds P Q false asks stops = asks
+
+-- of the record that it puts, beside what was judged and what is known of a payout
+abbrev pub DueHolds : (Record → Type 0) → ℕ → Judged → Payment → Due → Type 0
+DueHolds Q addr means p (new_epoch mask) = Q (record_of.Epoch addr mask)
+DueHolds Q addr means p reading = JudgedHolds Q means
+DueHolds Q addr means p epoch_end = Q (record_of.EpochEnd addr)
+DueHolds Q addr means p (new_order id count) =
+    (life : ℕ) → p.life ≡ Some life → Q (record_of.Opened id addr count life)
+DueHolds Q addr means p order_end =
+    (o : OpenOrder) (life : ℕ) → p.owed ≡ Some o → p.life ≡ Some life → Q (close o life)
+DueHolds Q addr means p (sale id price) = Q (record_of.Sold id price)
+
+opened_holds : (P : Request → Type 0) (Q : Record → Type 0) (addr id count : ℕ) (life : Option ℕ) →
+    ((found : ℕ) → life ≡ Some found → Q (record_of.Opened id addr count found)) →
+    RowHolds P Q (open_row addr id count life)
+opened_holds P Q addr id count None holds = tt
+opened_holds P Q addr id count (Some life) holds = holds life refl
+
+closed_holds : (P : Request → Type 0) (Q : Record → Type 0) (owed : Option OpenOrder) (life : Option ℕ) →
+    ((o : OpenOrder) (found : ℕ) → owed ≡ Some o → life ≡ Some found → Q (close o found)) →
+    RowHolds P Q (close_row owed life)
+closed_holds P Q (Some o) (Some life) holds = holds o life refl refl
+closed_holds P Q (Some o) None holds = tt
+closed_holds P Q None life holds = tt
+
+judged_row : (P : Request → Type 0) (Q : Record → Type 0) (means : Judged) → JudgedHolds Q means →
+    RowHolds P Q (put_or no_row means)
+judged_row P Q Nothing holds = tt
+judged_row P Q (Reading r) holds = holds
+judged_row P Q (Broken r) holds = holds
+
+pub due_holds : (P : Request → Type 0) (Q : Record → Type 0) (addr : ℕ) (means : Judged) (p : Payment) (due : Due) →
+    DueHolds Q addr means p due → RowHolds P Q (due_row addr means p due)
+due_holds P Q addr means p (new_epoch mask) holds = holds
+due_holds P Q addr means p reading holds = judged_row P Q means holds
+due_holds P Q addr means p epoch_end holds = holds
+due_holds P Q addr means p (new_order id count) holds = opened_holds P Q addr id count p.life holds
+due_holds P Q addr means p order_end holds = closed_holds P Q p.owed p.life holds
+due_holds P Q addr means p (sale id price) holds = holds
+
+pub any_due : (addr : ℕ) (means : Judged) (p : Payment) (due : Due) →
+    DueHolds (λ r. ⊤) addr means p due
+any_due addr means p (new_epoch mask) = tt
+any_due addr means p reading = any_judged means
+any_due addr means p epoch_end = tt
+any_due addr means p (new_order id count) = λ life read. tt
+any_due addr means p order_end = λ o life owed read. tt
+any_due addr means p (sale id price) = tt
+
+-- what each row of a command asks holds of the row at which its job stands
+pub each_ask : (P : Request → Type 0) (d : DeviceSetup) (c : Command) (n : ℕ) (means : Judged) (p : Payment) →
+    EachRow (Asks P) (rows_of d c) → RowHolds P (λ r. ⊤) (row_at d c n means p)
+each_ask P d c n means p each = walk (Asks P) (RowHolds P (λ r. ⊤)) d c n means p tt by_row each
+  where
+    by_row : (r : TableRow) (rows : List TableRow) → Asks P r →
+        RowHolds P (λ r. ⊤) (first (address_of c) means p (r ∷ rows))
+    by_row (asks_for q behind) rows holds = holds
+    by_row (asks_once q behind without) rows holds = holds
+    by_row waits_for_coins rows holds = state_holds P (λ r. ⊤) p.is_marked holds.0 holds.1
+    by_row (puts_due due behind) rows holds =
+        due_holds P (λ r. ⊤) (address_of c) means p due (any_due (address_of c) means p due)
+
+-- a fact of what is asked one after the other
+pub each_asked : (P : Request → Type 0) (qs : List Request) → Each P qs → EachRow (Asks P) (telling qs)
+each_asked P [] each = tt
+each_asked P (q ∷ []) each = (each.0, tt)
+each_asked P (q ∷ r ∷ qs) each = (each.0, each_asked P (r ∷ qs) each.1)
+
+-- of what these rows put, each passes a test
+abbrev pub puts_only : (Due → Bool) → List TableRow → Bool
+puts_only test [] = true
+puts_only test (puts_due due behind ∷ rows) = test due && puts_only test rows
+puts_only test (r ∷ rows) = puts_only test rows
+
+pub told_only : (test : Due → Bool) (qs : List Request) → puts_only test (telling qs) ≡ true
+told_only test [] = refl
+told_only test (q ∷ []) = refl
+told_only test (q ∷ r ∷ qs) = told_only test (r ∷ qs)
+
+-- no job at a device sells
+abbrev pub is_at_device : Due → Bool
+is_at_device (sale id price) = false
+is_at_device due = true
+
+pub device_puts : (d : DeviceSetup) (c : Command) → puts_only is_at_device (rows_of d c) ≡ true
+device_puts d (command.Ident addr) = told_only is_at_device (ident_requests d.body)
+device_puts d c = refl
+
+-- a fact of what a row of the table puts
+abbrev pub Puts : (Record → Type 0) → ℕ → Judged → Payment → TableRow → Type 0
+Puts Q addr means p (puts_due due behind) = DueHolds Q addr means p due
+Puts Q addr means p r = ⊤
+
+-- what each row of a command puts holds of the row at which its job stands
+pub each_due : (Q : Record → Type 0) (d : DeviceSetup) (c : Command) (n : ℕ) (means : Judged) (p : Payment) →
+    EachRow (Puts Q (address_of c) means p) (rows_of d c) → RowHolds (λ q. ⊤) Q (row_at d c n means p)
+each_due Q d c n means p each =
+    walk (Puts Q (address_of c) means p) (RowHolds (λ q. ⊤) Q) d c n means p tt by_row each
+  where
+    by_row : (r : TableRow) (rows : List TableRow) → Puts Q (address_of c) means p r →
+        RowHolds (λ q. ⊤) Q (first (address_of c) means p (r ∷ rows))
+    by_row (asks_for q behind) rows holds = tt
+    by_row (asks_once q behind without) rows holds = tt
+    by_row waits_for_coins rows holds = state_holds (λ q. ⊤) Q p.is_marked tt tt
+    by_row (puts_due due behind) rows holds = due_holds (λ q. ⊤) Q (address_of c) means p due holds
+
+-- each thing that these rows put passes a test
+pub puts_by : (Q : Record → Type 0) (test : Due → Bool) (addr : ℕ) (means : Judged) (p : Payment) →
+    ((due : Due) → test due ≡ true → DueHolds Q addr means p due) → (rows : List TableRow) →
+    puts_only test rows ≡ true → EachRow (Puts Q addr means p) rows
+puts_by Q test addr means p holds [] only = tt
+puts_by Q test addr means p holds (puts_due due behind ∷ rows) only =
+    let parts = and_parts (test due) (puts_only test rows) only in
+    (holds due parts.0, puts_by Q test addr means p holds rows parts.1)
+puts_by Q test addr means p holds (asks_for q behind ∷ rows) only = (tt, puts_by Q test addr means p holds rows only)
+puts_by Q test addr means p holds (asks_once q behind without ∷ rows) only =
+    (tt, puts_by Q test addr means p holds rows only)
+puts_by Q test addr means p holds (waits_for_coins ∷ rows) only = (tt, puts_by Q test addr means p holds rows only)
+
+pub each_put : (Q : Record → Type 0) (test : Due → Bool) (d : DeviceSetup) (c : Command) (n : ℕ) (means : Judged)
+    (p : Payment) → puts_only test (rows_of d c) ≡ true →
+    ((due : Due) → test due ≡ true → DueHolds Q (address_of c) means p due) →
+    RowHolds (λ q. ⊤) Q (row_at d c n means p)
+each_put Q test d c n means p only holds =
+    each_due Q d c n means p (puts_by Q test (address_of c) means p holds (rows_of d c) only)
+
+-- what is asked one after the other, with nothing put
+abbrev pub puts_none : Due → Bool
+puts_none due = false
+
+pub each_sent : (P : Request → Type 0) (Q : Record → Type 0) (d : DeviceSetup) (addr n : ℕ) (means : Judged)
+    (p : Payment) → Each P (ident_requests d.body) → RowHolds P Q (row_at d (command.Ident addr) n means p)
+each_sent P Q d addr n means p each =
+    both_hold P Q (row_at d (command.Ident addr) n means p)
+    (each_ask P d (command.Ident addr) n means p (each_asked P (ident_requests d.body) each))
+    (each_put Q puts_none d (command.Ident addr) n means p (told_only puts_none (ident_requests d.body))
+    (λ due none. absurd cc))
+
+-- the row of a question, and the end that its answer brings
+pub told_first : (addr : ℕ) (qs : List Request) (n : ℕ) (means : Judged) (p : Payment) (q : Request) →
+    slice_get qs n ≡ Some q → first addr means p (from (after (telling qs) n) means) ≡ sends q
+told_first addr [] n means p q is = absurd cc
+told_first addr (x ∷ []) zero means p q is = cc
+told_first addr (x ∷ []) (suc n) means p q is = absurd cc
+told_first addr (x ∷ y ∷ qs) zero means p q is = cc
+told_first addr (x ∷ y ∷ qs) (suc n) means p q is = told_first addr (y ∷ qs) n means p q is
+
+pub told_end : (qs : List Request) (n : ℕ) (means : Judged) (y : Reply) (then_means : Judged) (q : Request) →
+    slice_get qs n ≡ Some q →
+    end_answered (from (after (telling qs) n) means) y then_means ≡ cond (length qs == suc n) (Some Told) None
+told_end [] n means y then_means q is = absurd cc
+told_end (x ∷ []) zero means y then_means q is = refl
+told_end (x ∷ []) (suc n) means y then_means q is = absurd cc
+told_end (x ∷ z ∷ qs) zero means y then_means q is = sym (ap (λ b. cond b (Some Told) None) (no_more (length qs)))
+  where
+    no_more : (n : ℕ) → (suc (suc n) == suc zero) ≡ false
+    no_more n = grind (arith, nat_tests)
+told_end (x ∷ z ∷ qs) (suc n) means y then_means q is =
+    told_end (z ∷ qs) n means y then_means q is
+    ∙ ap (λ b. cond b (Some Told) None) (one_less (length (z ∷ qs)) (suc n))
+  where
+    one_less : (a b : ℕ) → (a == b) ≡ (suc a == suc b)
+    one_less a b = grind (arith, nat_tests)
+
+-- what a round puts
+abbrev pub round_left : List TableRow
+round_left = puts_due reading (if_posted (Some Posted)) ∷ []
+
+-- the row behind which a round ends, and the one at which a stop puts its last reading
+pub round_at : (d : DeviceSetup) (addr : ℕ) (means : Judged) (p : Payment) →
+    row_at d (command.Round addr) 2 means p ≡ put_or no_row means
+round_at d addr Nothing p = refl
+round_at d addr (Reading r) p = refl
+round_at d addr (Broken r) p = refl
+
+pub stop_at : (d : DeviceSetup) (addr : ℕ) (means : Judged) (p : Payment) →
+    row_at d (command.Stop addr) 3 means p ≡ put_or (puts (record_of.EpochEnd addr)) means
+stop_at d addr Nothing p = refl
+stop_at d addr (Reading r) p = refl
+stop_at d addr (Broken r) p = refl
+
+-- a fact of an end, if there is one
+abbrev pub IfEnd : (End → Type 0) → Option End → Type 0
+IfEnd P None = ⊤
+IfEnd P (Some end) = P end
+
+-- a fact of each end that is brought behind a row
+abbrev pub Behind : (End → Type 0) → Then → Type 0
+Behind P goes_on = ⊤
+Behind P (ends_as end) = P end
+Behind P if_quiet = (counter : ℕ) → P (Unquiet counter)
+Behind P if_judged = P Clean
+Behind P (path_told place) = (number : ℕ) → P (PathSet place number)
+Behind P (if_posted of_reading) = IfEnd P of_reading × P Broke
+Behind P if_closed = P Closed × P OddLife
+
+-- of each end that an answer brings, of each that is brought without one, and of each that a record brings
+abbrev pub AnswerEnds : (End → Type 0) → TableRow → Type 0
+AnswerEnds P (asks_for q behind) = Behind P behind
+AnswerEnds P (asks_once q behind without) = Behind P behind
+AnswerEnds P r = ⊤
+
+abbrev pub BareEnds : (End → Type 0) → TableRow → Type 0
+BareEnds P (asks_once q behind without) = Behind P without
+BareEnds P r = ⊤
+
+abbrev pub PutEnds : (End → Type 0) → TableRow → Type 0
+PutEnds P (puts_due due behind) = Behind P behind
+PutEnds P r = ⊤
+
+pub end_if : (P : End → Type 0) (b : Bool) (end : End) → P end → IfEnd P (cond b (Some end) None)
+end_if P true end holds = holds
+end_if P false end holds = tt
+
+quiet_end : (P : End → Type 0) (quiet : Bool) (end : End) → P end → IfEnd P (cond quiet None (Some end))
+quiet_end P true end holds = tt
+quiet_end P false end holds = holds
+
+reading_end : (P : End → Type 0) (means : Judged) → P Clean → IfEnd P (end_of_reading means)
+reading_end P Nothing holds = holds
+reading_end P (Reading r) holds = tt
+reading_end P (Broken r) holds = tt
+
+close_end : (P : End → Type 0) (r : Record) → P Closed → P OddLife → IfEnd P (end_of_close r)
+close_end P (record_of.Closed id paid unpaid) closed odd = closed
+close_end P (record_of.Odd id life_before life_after) closed odd = odd
+close_end P r closed odd = tt
+
+behind_answer : (P : End → Type 0) (behind : Then) (y : Reply) (means : Judged) → Behind P behind →
+    IfEnd P (end_by_answer behind y means)
+behind_answer P goes_on y means holds = tt
+behind_answer P (ends_as end) y means holds = holds
+behind_answer P if_quiet (reply.credits c) means holds =
+    quiet_end P (c.counter == 0) (Unquiet c.counter) (holds c.counter)
+behind_answer P if_quiet y means holds = tt
+behind_answer P if_judged y means holds = reading_end P means holds
+behind_answer P (path_told place) (reply.path number) means holds = holds number
+behind_answer P (path_told place) y means holds = tt
+behind_answer P (if_posted of_reading) y means holds = tt
+behind_answer P if_closed y means holds = tt
+
+pub behind_bare : (P : End → Type 0) (behind : Then) → Behind P behind → IfEnd P (end_bare behind)
+behind_bare P (ends_as end) holds = holds
+behind_bare P behind holds = tt
+
+behind_record : (P : End → Type 0) (behind : Then) (r : Record) → Behind P behind →
+    IfEnd P (end_by_record behind r)
+behind_record P goes_on r holds = tt
+behind_record P (ends_as end) r holds = holds
+behind_record P if_quiet r holds = tt
+behind_record P if_judged r holds = tt
+behind_record P (path_told place) r holds = tt
+behind_record P (if_posted of_reading) (record_of.Reading addr counter lost coins) holds = holds.0
+behind_record P (if_posted of_reading) (record_of.Broken addr seen counter coins) holds = holds.1
+behind_record P (if_posted of_reading) r holds = tt
+behind_record P if_closed r holds = close_end P r holds.0 holds.1
+
+-- hold of the end of an answered exchange
+pub answer_end : (P : End → Type 0) (d : DeviceSetup) (c : Command) (asked : Option Request) (y : Reply)
+    (since : List Line) (state : EpochState) → EachRow (AnswerEnds P) (rows_of d c) →
+    IfEnd P (end_of d c (exchange asked (Some y)) since state)
+answer_end P d c asked y since state each =
+    by_first (left d c since state) (each_left (AnswerEnds P) d c since state each)
+  where
+    by_first : (rows : List TableRow) → EachRow (AnswerEnds P) rows →
+        IfEnd P (end_answered rows y (judged_in c (exchange asked (Some y) ∷ since) state))
+    by_first [] each = tt
+    by_first (asks_for q behind ∷ rows) each = behind_answer P behind y _ each.0
+    by_first (asks_once q behind without ∷ rows) each = behind_answer P behind y _ each.0
+    by_first (waits_for_coins ∷ rows) each = tt
+    by_first (puts_due due behind ∷ rows) each = tt
+
+-- of that of one without an answer
+pub failed_end : (P : End → Type 0) (d : DeviceSetup) (c : Command) (q : Request) (since : List Line)
+    (state : EpochState) → EachRow (BareEnds P) (rows_of d c) → P NoAnswer →
+    IfEnd P (end_of d c (exchange (Some q) None) since state)
+failed_end P d c q since state bare given_up =
+    by_first (left d c since state) _ (each_left (BareEnds P) d c since state bare)
+  where
+    by_first : (rows : List TableRow) (failed : ℕ) → EachRow (BareEnds P) rows → IfEnd P (end_failed rows failed)
+    by_first [] failed each = end_if P (failed == 3) NoAnswer given_up
+    by_first (asks_for q behind ∷ rows) failed each = end_if P (failed == 3) NoAnswer given_up
+    by_first (asks_once q behind without ∷ rows) failed each = behind_bare P without each.0
+    by_first (waits_for_coins ∷ rows) failed each = end_if P (failed == 3) NoAnswer given_up
+    by_first (puts_due due behind ∷ rows) failed each = end_if P (failed == 3) NoAnswer given_up
+
+-- of that of any exchange
+pub exchange_end : (P : End → Type 0) (d : DeviceSetup) (c : Command) (asked : Option Request) (got : Option Reply)
+    (since : List Line) (state : EpochState) → EachRow (AnswerEnds P) (rows_of d c) →
+    EachRow (BareEnds P) (rows_of d c) → P NoAnswer → IfEnd P (end_of d c (exchange asked got) since state)
+exchange_end P d c asked (Some y) since state answered bare given_up = answer_end P d c asked y since state answered
+exchange_end P d c None None since state answered bare given_up = tt
+exchange_end P d c (Some q) None since state answered bare given_up = failed_end P d c q since state bare given_up
+
+-- and of that of a put
+kept_end : (P : End → Type 0) (rows : List TableRow) (r : Record) → EachRow (PutEnds P) rows →
+    IfEnd P (end_kept rows r)
+kept_end P [] r each = tt
+kept_end P (puts_due reading behind ∷ rows) (record_of.Reading addr counter lost coins) each =
+    behind_record P behind (record_of.Reading addr counter lost coins) each.0
+kept_end P (puts_due reading behind ∷ rows) (record_of.Broken addr seen counter coins) each =
+    behind_record P behind (record_of.Broken addr seen counter coins) each.0
+kept_end P (puts_due reading behind ∷ rows) r each = kept_end P rows r each.1
+kept_end P (puts_due (new_epoch mask) behind ∷ rows) r each = behind_record P behind r each.0
+kept_end P (puts_due epoch_end behind ∷ rows) r each = behind_record P behind r each.0
+kept_end P (puts_due (new_order id count) behind ∷ rows) r each = behind_record P behind r each.0
+kept_end P (puts_due order_end behind ∷ rows) r each = behind_record P behind r each.0
+kept_end P (puts_due (sale id price) behind ∷ rows) r each = behind_record P behind r each.0
+kept_end P (asks_for q behind ∷ rows) r each = tt
+kept_end P (asks_once q behind without ∷ rows) r each = tt
+kept_end P (waits_for_coins ∷ rows) r each = tt
+
+pub put_end : (P : End → Type 0) (d : DeviceSetup) (c : Command) (r : Record) (since : List Line)
+    (state : EpochState) → EachRow (PutEnds P) (rows_of d c) → IfEnd P (end_of d c (put r) since state)
+put_end P d c r since state each = kept_end P (rest d c since) r (each_after (PutEnds P) (rows_of d c) (done since) each)
+
+-- a record is of an address after a past, and so is what a row puts
+abbrev IsRecordOf : List Entry → ℕ → Record → Type 0
+IsRecordOf past addr r = owner past r ≡ addr
+
+abbrev pub IsOwned : List Entry → ℕ → Row → Type 0
+IsOwned past addr r = RowHolds (λ q. ⊤) (IsRecordOf past addr) r
+
+judged_owned : (past : List Entry) (addr : ℕ) (state : EpochState) (credits : Option Credits) (seen : Option ℕ) →
+    JudgedHolds (IsRecordOf past addr) (judged_by addr state credits seen)
+judged_owned past addr state credits seen =
+    judged_holds (IsRecordOf past addr) addr state credits seen (λ counter lost posted. refl) (λ mask counter posted. refl)
+
+-- the record that closes an order is of the address at which it was opened
+pub close_owned : (past : List Entry) (o : OpenOrder) (life : ℕ) → owner past (close o life) ≡ opened_at o.id past
+unfolding close
+close_owned past o life = by_test (nat_le (life_between o.life life) o.count)
+  where
+    by_test : (fits : Bool) → owner past (cond fits
+        (record_of.Closed o.id (life_between o.life life) (o.count - life_between o.life life))
+        (record_of.Odd o.id o.life life)) ≡ opened_at o.id past
+    by_test true = refl
+    by_test false = refl
+
+-- the row of any job puts only records of its address, where the open order was opened there
+pub row_owned : (past : List Entry) (d : DeviceSetup) (c : Command) (since : List Line) (state : EpochState)
+    (owed : Option OpenOrder) → ((o : OpenOrder) → owed ≡ Some o → opened_at o.id past ≡ address_of c) →
+    IsOwned past (address_of c) (row d c since state owed)
+row_owned past d c since state owed owned =
+    each_put (IsRecordOf past (address_of c)) is_at_device d c (done since) (judged_in c since state) (payment_in since owed)
+    (device_puts d c) due_owned
+  where
+    due_owned : (due : Due) → is_at_device due ≡ true →
+        DueHolds (IsRecordOf past (address_of c)) (address_of c) (judged_in c since state) (payment_in since owed) due
+    due_owned (new_epoch mask) here = refl
+    due_owned reading here = judged_owned past (address_of c) state (credits_read since) (mask_read since)
+    due_owned epoch_end here = refl
+    due_owned (new_order id count) here = λ life read. refl
+    due_owned order_end here = λ o life is read. close_owned past o life ∙ owned o is
+    due_owned (sale id price) here = absurd cc

@@ -1,0 +1,122 @@
+-- What a failed try brings: no end for want of an answer but at the third of what is asked again.
+use Rattle.std.proofs.Common.{◌≡◌, ℕ, ◌==◌, Bool, true, false, cond, List, [], ◌∷◌, ◌⊎◌, inl, inr, refl, sym, ◌∙◌, true≢false, subst, Option, rules}
+use Rattle.std.specs.Prelude.{⊤}
+use Rattle.cct_model.specs.terms.device.DeviceBody.{DeviceBody}
+use Rattle.cct_model.specs.terms.device.DeviceBody.TheVariants.{Acceptor, Hopper}
+use Rattle.cct_model.specs.terms.device.DeviceSetup.{DeviceSetup}
+use Rattle.cct_model.specs.terms.request.Request.{Request}
+use Rattle.cct_model.specs.terms.request.Request.TheVariants.{SetMask, Dispense, CipherDispense, SetDefault, SetPath, GetDefault, GetPath, StopNow, GetStatus}
+use Rattle.cct_model.specs.declared.judging.Judged.{Judged}
+use Rattle.cct_model.specs.declared.judging.EpochState.{EpochState}
+use Rattle.cct_model.specs.declared.judging.OpenOrder.{OpenOrder}
+use Rattle.cct_model.specs.lines.command.Command.{Command}
+use Rattle.cct_model.specs.lines.command.Command.TheVariants as command
+use Rattle.cct_model.specs.lines.entry.End.{End}
+use Rattle.cct_model.specs.lines.entry.End.TheVariants.{NoAnswer}
+use Rattle.cct_model.specs.Line.{Line}
+use Rattle.cct_model.specs.Job.{is_once, sends, Payment, payment_in, judged_in, address_of, ident_requests, state_row, end_of_tries}
+use Rattle.cct_model.specs.Rows.{Due, TableRow, asks_for, asks_once, waits_for_coins, puts_due, telling, rows_of, left, first, due_row, row, end_failed}
+use Rattle.cct_model.proofs.Rows.{IfEnd, RowHolds, Each, EachRow, AnswerEnds, PutEnds, Behind, each_left, each_told, due_holds, any_due, behind_bare}
+
+-- a request that a job asks again, under a header that what is sent once doesn't have
+abbrev pub is_asked_again : Request → Bool
+is_asked_again (SetMask mask) = false
+is_asked_again (Dispense serial count) = false
+is_asked_again CipherDispense = false
+is_asked_again q = true
+
+abbrev pub IsAgain : Request → Type 0
+IsAgain q = is_asked_again q ≡ true
+
+-- an end but that for want of an answer
+abbrev pub IsHeardEnd : End → Type 0
+IsHeardEnd NoAnswer = ⊥
+IsHeardEnd end = ⊤
+
+abbrev pub IfHeard : Option End → Type 0
+IfHeard found = IfEnd IsHeardEnd found
+
+pub ident_again : (body : DeviceBody) → Each IsAgain (ident_requests body)
+ident_again (Acceptor accepts values ids) = search rules
+ident_again (Hopper life value) = search rules
+
+pub path_set_again : (first : Bool) (place path : ℕ) → IsAgain (cond first (SetDefault path) (SetPath place path))
+path_set_again true place path = refl
+path_set_again false place path = refl
+
+pub path_read_again : (first : Bool) (place : ℕ) → IsAgain (cond first GetDefault (GetPath place))
+path_read_again true place = refl
+path_read_again false place = refl
+
+-- none of them is for want of an answer
+pub answers_heard : (d : DeviceSetup) (c : Command) → EachRow (AnswerEnds IsHeardEnd) (rows_of d c)
+answers_heard d (command.Ident addr) = each_told (AnswerEnds IsHeardEnd) (λ q. tt) (λ q. tt) (ident_requests d.body)
+answers_heard d c = search rules
+
+pub puts_heard : (d : DeviceSetup) (c : Command) → EachRow (PutEnds IsHeardEnd) (rows_of d c)
+puts_heard d (command.Ident addr) = each_told (PutEnds IsHeardEnd) (λ q. tt) (λ q. tt) (ident_requests d.body)
+puts_heard d c = search rules
+
+-- what the table asks until it is answered is asked again; of what it asks once no third failed try is counted
+abbrev pub AsksWell : TableRow → Type 0
+AsksWell (asks_for q behind) = IsAgain q
+AsksWell (asks_once q behind without) = (is_asked_again q ≡ false) × (is_once q ≡ true) × Behind IsHeardEnd without
+AsksWell r = ⊤
+
+pub told_well : (qs : List Request) → Each IsAgain qs → EachRow AsksWell (telling qs)
+told_well [] each = tt
+told_well (q ∷ []) each = (each.0, tt)
+told_well (q ∷ r ∷ qs) each = (each.0, told_well (r ∷ qs) each.1)
+
+pub asks_well : (d : DeviceSetup) (c : Command) → EachRow AsksWell (rows_of d c)
+asks_well d (command.Ident addr) = told_well (ident_requests d.body) (ident_again d.body)
+asks_well d (command.Path addr place path) =
+    (path_set_again (place == 0) place path, (path_read_again (place == 0) place, tt))
+asks_well d c = search rules
+
+pub same_request : (q r : Request) → sends q ≡ sends r → q ≡ r
+same_request q r e = cc
+
+-- what a failed try brings to the row that asked
+abbrev pub FailsAs : List TableRow → Request → Type 0
+FailsAs rows q =
+    ((is_asked_again q ≡ true) × ((failed : ℕ) → end_failed rows failed ≡ end_of_tries failed))
+    ⊎ ((is_asked_again q ≡ false) × (is_once q ≡ true) × ((failed : ℕ) → IfHeard (end_failed rows failed)))
+
+pub state_again : (marked : Bool) (q : Request) → state_row marked ≡ sends q → IsAgain q
+state_again true q is = subst IsAgain (same_request StopNow q is) refl
+state_again false q is = subst IsAgain (same_request GetStatus q is) refl
+
+pub due_sends : (addr : ℕ) (means : Judged) (p : Payment) (due : Due) (q : Request) → due_row addr means p due ≡ sends q → ⊥
+due_sends addr means p due q is =
+    subst (RowHolds (λ x. ⊥) (λ r. ⊤)) is (due_holds (λ x. ⊥) (λ r. ⊤) addr means p due (any_due addr means p due))
+
+pub fails_first : (addr : ℕ) (means : Judged) (p : Payment) (rows : List TableRow) (q : Request) → EachRow AsksWell rows →
+    first addr means p rows ≡ sends q → FailsAs rows q
+fails_first addr means p [] q each is = absurd cc
+fails_first addr means p (asks_for x behind ∷ rows) q each is =
+    inl (subst IsAgain (same_request x q is) each.0, λ failed. refl)
+fails_first addr means p (asks_once x behind without ∷ rows) q each is =
+    inr (
+      subst (λ y. is_asked_again y ≡ false) (same_request x q is) each.0.0,
+      subst (λ y. is_once y ≡ true) (same_request x q is) each.0.1,
+      λ failed. behind_bare IsHeardEnd without each.0.2,
+    )
+fails_first addr means p (waits_for_coins ∷ rows) q each is = inl (state_again p.is_marked q is, λ failed. refl)
+fails_first addr means p (puts_due due behind ∷ rows) q each is = absurd (due_sends addr means p due q is)
+
+pub fails_as : (d : DeviceSetup) (c : Command) (since : List Line) (state : EpochState) (owed : Option OpenOrder)
+    (q : Request) → row d c since state owed ≡ sends q → FailsAs (left d c since state) q
+fails_as d c since state owed q is =
+    fails_first (address_of c) (judged_in c since state) (payment_in since owed) (left d c since state) q
+    (each_left AsksWell d c since state (asks_well d c)) is
+
+-- what isn't sent once fails by its tries
+pub asked_fails : (d : DeviceSetup) (c : Command) (since : List Line) (state : EpochState) (owed : Option OpenOrder)
+    (q : Request) → row d c since state owed ≡ sends q → is_once q ≡ false → (failed : ℕ) →
+    end_failed (left d c since state) failed ≡ end_of_tries failed
+asked_fails d c since state owed q is again failed =
+    elim (fails_as d c since state owed q is) [
+      | inl asked ↦ asked.1 failed
+      | inr once ↦ absurd (true≢false (sym once.1 ∙ again))
+    ]
