@@ -18,6 +18,7 @@ use Rattle.cct_model.specs.declared.judging.OpenOrder.{OpenOrder}
 use Rattle.cct_model.specs.Device.{is_acceptor, is_hopper}
 use Rattle.cct_model.specs.Exchange.{acceptor_there, device_at, hopper_there}
 use Rattle.cct_model.specs.Job as model
+use Rattle.cct_model.specs.Rows as table
 use Rattle.cct_model.specs.Job.{address_of}
 use Rattle.cct_model.specs.Order.{order}
 use Rattle.cct_model.specs.Refusal.{at_acceptor, at_device, at_hopper, busy, halt_refusal, id_refusal, last_id, pay_refusal, state_refusal, running_id, running_refusal, settle_refusal, start_refusal, when_free, when_unpaid}
@@ -85,7 +86,7 @@ none_of (Some end) runs = absurd cc
 
 -- a job that isn't done can be halted as its lines say
 halts_is : (d : DeviceSetup) (job : Option Job) (j : model.Job) (state : EpochState) (owed : Option OpenOrder)
-    → is_running job ≡ true → Works (device d) job j state owed → halts_in job ≡ model.can_halt j
+    → is_running job ≡ true → Works (device d) job j state owed → halts_in job ≡ table.can_halt d j
 halts_is d None model.free state owed runs works = refl
 halts_is d (Some job) (model.works c since) state owed runs works =
     halts_known d job c since state owed (halts job) refl works
@@ -100,7 +101,7 @@ pub halting_is : (setup : Setup) (d : DeviceSetup) (job : Option Job) (state : E
 halting_is setup d job state owed past (command.Halt addr) runs halt there keeps =
     ap (λ b. cond (is_hopper d.body) (cond b None (Some NoPayout)) (Some WrongKind))
     (halts_is d job _ _ _ runs keeps.works)
-    ∙ sym (ap (λ f. at_hopper f (λ e. halt_refusal (model.job (lines_of e past)))) there)
+    ∙ sym (ap (λ f. at_hopper f (λ e. halt_refusal e (model.job (lines_of e past)))) there)
 halting_is setup d job state owed past c runs halt there keeps = absurd cc
 
 -- the tests of a command that begins a job at a device
@@ -333,7 +334,7 @@ absent_refused setup past (command.Pay addr id count) of_device none =
 absent_refused setup past (command.Settle addr) of_device none =
     sym (ap (λ f. at_hopper f (when_unpaid past settle_refusal)) none)
 absent_refused setup past (command.Halt addr) of_device none =
-    sym (ap (λ f. at_hopper f (λ d. halt_refusal (model.job (lines_of d past)))) none)
+    sym (ap (λ f. at_hopper f (λ d. halt_refusal d (model.job (lines_of d past)))) none)
 absent_refused setup past (command.Ident addr) of_device none =
     sym (ap (λ f. at_device f (λ d. busy (model.job (lines_of d past)))) none)
 absent_refused setup past c of_device none = absurd cc

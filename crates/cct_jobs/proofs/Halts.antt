@@ -1,6 +1,5 @@
 -- Which jobs can be halted, and what a halt leaves.
-use Rattle.std.proofs.Common.{◌≡◌, ℕ, suc, ◌==◌, Bool, true, false, List, ◌∷◌, refl, sym, ap, ap₂, subst, ◌∙◌, Option, None, arith}
-use Rattle.std.specs.Prelude.{nat_le}
+use Rattle.std.proofs.Common.{◌≡◌, ℕ, suc, Bool, true, false, List, ◌∷◌, refl, sym, ap, ap₂, subst, ◌∙◌, Option, None, arith}
 use Rattle.cct_model.specs.lines.command.Command.{Command}
 use Rattle.cct_model.specs.lines.command.Command.TheVariants as command
 use Rattle.cct_model.specs.terms.device.DeviceSetup.{DeviceSetup}
@@ -8,8 +7,8 @@ use Rattle.cct_model.specs.declared.judging.EpochState.{EpochState}
 use Rattle.cct_model.specs.declared.judging.Judged.{Judged}
 use Rattle.cct_model.specs.declared.judging.OpenOrder.{OpenOrder}
 use Rattle.cct_model.specs.Line.{Line, taken}
-use Rattle.cct_model.specs.Job.{Payment, can_halt, done, judged_in, open_row, payment_in, works}
-use Rattle.cct_model.specs.Rows.{row, row_at}
+use Rattle.cct_model.specs.Job.{Payment, done, judged_in, open_row, payment_in, works, ident_requests}
+use Rattle.cct_model.specs.Rows.{row, row_at, can_halt, has_waits, after, rows_of}
 use Rattle.cct_jobs.specs.declared.job.Job.{Job}
 use Rattle.cct_jobs.specs.declared.job.Job.TheVariants.{Asks, StartPuts, RoundPuts, StopPuts, StopEnds, OrderOpens, OrderCloses, ScanCallsSimple, ScanCallsCrc, ScanPollsSimple, ScanPollsCrc, Done}
 use Rattle.cct_jobs.specs.declared.owed.Owed.{Owed}
@@ -18,65 +17,86 @@ use Rattle.cct_jobs.specs.declared.payout.Closing.TheVariants as closing_of
 use Rattle.cct_jobs.specs.declared.payout.Payout.{Payout}
 use Rattle.cct_jobs.specs.declared.payout.Payout.TheVariants.{Enables, Counts, Dispenses, Waits, Stops, Recounts}
 use Rattle.cct_jobs.specs.declared.stage.Stage.{Stage}
-use Rattle.cct_jobs.specs.declared.stage.Stage.TheVariants.{Reads, Looks, Pays}
+use Rattle.cct_jobs.specs.declared.stage.Stage.TheVariants.{Reads, Looks, Pays, IdentAsks}
 use Rattle.cct_jobs.specs.declared.stage.Visit.TheVariants.{Round, Stop}
 use Rattle.cct_jobs.specs.declared.target.Target.{Target}
 use Rattle.cct_jobs.specs.Jobs.{Asking, IsAfter, IsAfterPayout, KnowsPayout, Opening, Stands, Trying, after_halt, closing_by, end_of_job, halted_row, halted_tries, halts, may_put_of, newest_end, own_of, payout_by, payout_halts, payout_puts, payout_request, rows_paid, stage_halts}
 use Rattle.cct_jobs.specs.Scans.{StandsScan}
+use Rattle.cct_model.proofs.Rows.{none_waits, told_no_waits}
 
 -- which can
 
 payout_can : (row : Payout) (d : DeviceSetup) (addr : ℕ) (since : List Line) → IsAfterPayout row d (done since)
-    → payout_halts row ≡ can_halt (works (payout_by row addr) since)
-payout_can (Enables id count halted) d addr since at = ap (λ n. nat_le n 4) (sym at.0)
-payout_can (Counts id count halted) d addr since at = ap (λ n. nat_le n 4) (sym at.0)
-payout_can (Dispenses serial own halted) d addr since at = ap (λ n. nat_le n 4) (sym at.0)
-payout_can (Waits closing_of.Payment own) d addr since at = ap (λ n. nat_le n 4) (sym at)
-payout_can (Waits closing_of.Settlement own) d addr since at = ap (λ n. n == 0) (sym at)
-payout_can (Stops closing_of.Payment own) d addr since at = ap (λ n. nat_le n 4) (sym at)
-payout_can (Stops closing_of.Settlement own) d addr since at = ap (λ n. n == 0) (sym at)
-payout_can (Recounts closing_of.Payment own) d addr since at = ap (λ n. nat_le n 4) (sym at)
-payout_can (Recounts closing_of.Settlement own) d addr since at = ap (λ n. n == 0) (sym at)
+    → payout_halts row ≡ can_halt d (works (payout_by row addr) since)
+payout_can (Enables id count halted) d addr since at =
+    ap (λ n. has_waits (after (rows_of d (payout_by (Enables id count halted) addr)) n)) (sym at.0)
+payout_can (Counts id count halted) d addr since at =
+    ap (λ n. has_waits (after (rows_of d (payout_by (Counts id count halted) addr)) n)) (sym at.0)
+payout_can (Dispenses serial own halted) d addr since at =
+    ap (λ n. has_waits (after (rows_of d (payout_by (Dispenses serial own halted) addr)) n)) (sym at.0)
+payout_can (Waits closing_of.Payment own) d addr since at =
+    ap (λ n. has_waits (after (rows_of d (payout_by (Waits closing_of.Payment own) addr)) n)) (sym at)
+payout_can (Waits closing_of.Settlement own) d addr since at =
+    ap (λ n. has_waits (after (rows_of d (payout_by (Waits closing_of.Settlement own) addr)) n)) (sym at)
+payout_can (Stops closing_of.Payment own) d addr since at =
+    ap (λ n. has_waits (after (rows_of d (payout_by (Stops closing_of.Payment own) addr)) n)) (sym at)
+payout_can (Stops closing_of.Settlement own) d addr since at =
+    ap (λ n. has_waits (after (rows_of d (payout_by (Stops closing_of.Settlement own) addr)) n)) (sym at)
+payout_can (Recounts closing_of.Payment own) d addr since at =
+    ap (λ n. has_waits (after (rows_of d (payout_by (Recounts closing_of.Payment own) addr)) n)) (sym at)
+payout_can (Recounts closing_of.Settlement own) d addr since at =
+    ap (λ n. has_waits (after (rows_of d (payout_by (Recounts closing_of.Settlement own) addr)) n)) (sym at)
 
 stage_can : (stage : Stage) (d : DeviceSetup) (addr : ℕ) (since : List Line) → IsAfter stage d (done since)
-    → stage_halts stage ≡ can_halt (works (own_of stage addr) since)
+    → stage_halts stage ≡ can_halt d (works (own_of stage addr) since)
 stage_can (Pays row) d addr since at = payout_can row d addr since at
-stage_can (Reads Round recorded) d addr since at = refl
-stage_can (Reads Stop recorded) d addr since at = refl
-stage_can (Looks Round recorded read) d addr since at = refl
-stage_can (Looks Stop recorded read) d addr since at = refl
-stage_can stage d addr since at = refl
+stage_can (IdentAsks question) d addr since at =
+    sym (none_waits (rows_of d (command.Ident addr)) (done since) (told_no_waits (ident_requests d.body)))
+stage_can (Reads Round recorded) d addr since at = sym (none_waits (rows_of d (command.Round addr)) (done since) refl)
+stage_can (Reads Stop recorded) d addr since at = sym (none_waits (rows_of d (command.Stop addr)) (done since) refl)
+stage_can (Looks Round recorded read) d addr since at = sym (none_waits (rows_of d (command.Round addr)) (done since) refl)
+stage_can (Looks Stop recorded read) d addr since at = sym (none_waits (rows_of d (command.Stop addr)) (done since) refl)
+stage_can stage d addr since at = sym (none_waits (rows_of d (own_of stage addr)) (done since) refl)
 
-closed_cannot : (closing : Closing) (o : OpenOrder) (addr : ℕ) (since : List Line)
-    → done since ≡ suc (suc (rows_paid closing)) → false ≡ can_halt (works (closing_by closing o addr) since)
-closed_cannot closing_of.Payment o addr since at = ap (λ n. nat_le n 4) (sym at)
-closed_cannot closing_of.Settlement o addr since at = ap (λ n. n == 0) (sym at)
+closed_cannot : (closing : Closing) (d : DeviceSetup) (o : OpenOrder) (addr : ℕ) (since : List Line)
+    → done since ≡ suc (suc (rows_paid closing)) → false ≡ can_halt d (works (closing_by closing o addr) since)
+closed_cannot closing_of.Payment d o addr since at =
+    ap (λ n. has_waits (after (rows_of d (command.Pay addr o.id o.count)) n)) (sym at)
+closed_cannot closing_of.Settlement d o addr since at =
+    ap (λ n. has_waits (after (rows_of d (command.Settle addr)) n)) (sym at)
 
-by_command : (b : Bool) (own c : Command) (since : List Line) → b ≡ can_halt (works own since) → c ≡ own
-    → b ≡ can_halt (works c since)
-by_command b own c since is command_is = is ∙ ap (λ k. can_halt (works k since)) (sym command_is)
+by_command : (d : DeviceSetup) (b : Bool) (own c : Command) (since : List Line) → b ≡ can_halt d (works own since) → c ≡ own
+    → b ≡ can_halt d (works c since)
+by_command d b own c since is command_is = is ∙ ap (λ k. can_halt d (works k since)) (sym command_is)
 
 halts_by : (d : DeviceSetup) (job : Job) (c : Command) (since : List Line) (state : EpochState)
     (owed : Option OpenOrder) → Stands d job c since state owed → newest_end d c since state ≡ None
-    → halts job ≡ can_halt (works c since)
+    → halts job ≡ can_halt d (works c since)
 halts_by d (Asks device stage failed) c since state owed at on =
-    by_command _ (own_of stage d.addr) c since (stage_can stage d d.addr since at.is_after) at.command_is
+    by_command d _ (own_of stage d.addr) c since (stage_can stage d d.addr since at.is_after) at.command_is
 halts_by d (StartPuts device mask) c since state owed (device_is, rows_are, at) on =
-    by_command _ _ c since refl at.command_is
-halts_by d (RoundPuts entry end) c since state owed at on = by_command _ _ c since refl at.command_is
+    let own = command.Start d.addr mask in
+    by_command d _ own c since (sym (none_waits (rows_of d own) (done since) refl)) at.command_is
+halts_by d (RoundPuts entry end) c since state owed at on =
+    let own = command.Round d.addr in
+    by_command d _ own c since (sym (none_waits (rows_of d own) (done since) refl)) at.command_is
 halts_by d (StopPuts device entry end) c since state owed (device_is, rows_are, apart, at) on =
-    by_command _ _ c since refl at.command_is
-halts_by d (StopEnds device) c since state owed (device_is, at) on = by_command _ _ c since refl at.command_is
+    let own = command.Stop d.addr in
+    by_command d _ own c since (sym (none_waits (rows_of d own) (done since) refl)) at.command_is
+halts_by d (StopEnds device) c since state owed (device_is, at) on =
+    let own = command.Stop d.addr in
+    by_command d _ own c since (sym (none_waits (rows_of d own) (done since) refl)) at.command_is
 halts_by d (OrderOpens device own halted) c since state owed at on =
-    by_command _ _ c since (ap (λ n. nat_le n 4) (sym at.rows_are)) at.at.command_is
+    by_command d _ _ c since (ap (λ n. has_waits (after (rows_of d (command.Pay d.addr own.order.id own.order.count)) n)) (sym at.rows_are))
+    at.at.command_is
 halts_by d (OrderCloses entry end) c since state owed at on =
-    by_command _ _ c since (closed_cannot at.closing at.order d.addr since at.rows_are) at.at.command_is
+    by_command d _ _ c since (closed_cannot at.closing d at.order d.addr since at.rows_are) at.at.command_is
 halts_by d (Done end) c since state owed at on = absurd cc
 halts_by d job c since state owed at on = absurd at
 
 pub halts_known : (d : DeviceSetup) (job : Job) (c : Command) (since : List Line) (state : EpochState)
     (owed : Option OpenOrder) (b : Bool) → b ≡ halts job → Stands d job c since state owed
-    → newest_end d c since state ≡ None → b ≡ can_halt (works c since)
+    → newest_end d c since state ≡ None → b ≡ can_halt d (works c since)
 halts_known d job c since state owed b is at on = is ∙ halts_by d job c since state owed at on
 
 scan_stays : (job : Job) (since : List Line) → StandsScan job since → halts job ≡ false

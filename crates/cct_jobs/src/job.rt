@@ -11,8 +11,8 @@ ghost use Rattle.cct_model.specs.terms.request.Request.{Request};
 ghost use Rattle.cct_model.specs.terms.wire.CheckKind.{CheckKind};
 ghost use Rattle.cct_model.specs.Exchange.{ask, device_at};
 ghost use Rattle.cct_model.specs.declared.judging.OpenOrder.{OpenOrder};
-ghost use Rattle.cct_model.specs.Job.{address_of, can_halt, done, puts_at, sends, works};
-ghost use Rattle.cct_model.specs.Rows.{row, row_of_sale};
+ghost use Rattle.cct_model.specs.Job.{address_of, done, puts_at, sends, works};
+ghost use Rattle.cct_model.specs.Rows.{row, row_of_sale, can_halt};
 ghost use Rattle.cct_model.specs.Line.{Line, put, taken};
 ghost use Rattle.cct_model.specs.Money.{coins_of, reserved_by};
 ghost use Rattle.cct_model.specs.Order.{order_by};
@@ -497,7 +497,7 @@ impl Job {
         ensures value { result ≡ halts self.now }
         ensures row { (d : DeviceSetup) (c : Command) (since : List Line) (state : EpochState)
             (owed : Option OpenOrder) → Stands d self.now c since state owed → newest_end d c since state ≡ None
-            → result ≡ can_halt (works c since) }
+            → result ≡ can_halt d (works c since) }
         ensures scan { (since : List Line) → StandsScan self.now since → result ≡ false }
         ensures sale { (c : Command) (since : List Line) → StandsSale self.now c since → result ≡ false }
     {

@@ -32,8 +32,8 @@ use Rattle.cct_model.specs.Hopper.{remaining}
 use Rattle.cct_model.specs.Exchange.{ask, asked, asks_of, device_at}
 use Rattle.cct_model.specs.Line.{Line, accepted, inhibited, alien, fell, reset, exchange, scanned, put, taken, ended, crashed}
 use Rattle.cct_model.specs.Order.{order}
-use Rattle.cct_model.specs.Job.{Job, free, works, job, begun, with_line, done, epoch, Row, sends, puts, no_row, can_halt, address_of, payment_in}
-use Rattle.cct_model.specs.Rows.{row, row_of_sale, end_of, first, end_of_sale, end_kept, after, rows_of_sale}
+use Rattle.cct_model.specs.Job.{Job, free, works, job, begun, with_line, done, epoch, Row, sends, puts, no_row, address_of, payment_in}
+use Rattle.cct_model.specs.Rows.{row, row_of_sale, end_of, first, end_of_sale, end_kept, after, rows_of_sale, can_halt}
 use Rattle.cct_model.specs.Money.{totals}
 use Rattle.cct_model.specs.Scan.{scan_row, end_of_scan, poll_of}
 use Rattle.cct_model.specs.Refusal.{at_device, at_acceptor, at_hopper, busy, pay_refusal, halt_refusal, last_id, state_refusal, refusal}
@@ -105,7 +105,7 @@ pub data AtDevice (capacity : ℕ) (setup : Setup) (d : DeviceSetup) (past : Lis
   took : (c : Command) → suits d.body c ≡ true → address_of c ≡ d.addr → job (lines_of d past) ≡ free →
       IsTaken d c (epoch (lines_of d past)) → IsOwed c (order (lines_of d past)) → refusal capacity setup past c ≡ None →
       AtDevice capacity setup d past (step.Command c) (entry.Taken c ∷ [])
-  halted : IsHopper d.body → can_halt (job (lines_of d past)) ≡ true →
+  halted : IsHopper d.body → can_halt d (job (lines_of d past)) ≡ true →
       AtDevice capacity setup d past (step.Command (command.Halt d.addr)) (entry.Taken (command.Halt d.addr) ∷ [])
   idled : job (lines_of d past) ≡ free → AtDevice capacity setup d past (step.Next d.addr) (entry.Idle d.addr ∷ [])
   made_exchange : (c : Command) (since : List Line) (q : Request) → AtWork d past c since →
@@ -345,8 +345,8 @@ unowed : (id last : ℕ) (owed : Option OpenOrder) → pay_refusal id last owed 
 unowed id last None none = refl
 unowed id last (Some o) none = absurd cc
 
-halting : (j : Job) → halt_refusal j ≡ None → can_halt j ≡ true
-halting j none = by_test (can_halt j) none
+halting : (d : DeviceSetup) (j : Job) → halt_refusal d j ≡ None → can_halt d j ≡ true
+halting d j none = by_test (can_halt d j) none
   where
     by_test : (b : Bool) → cond b None (Some NoPayout) ≡ None → b ≡ true
     by_test true none = refl
@@ -436,7 +436,7 @@ taken_brought capacity setup past (command.Settle addr) none lets =
 taken_brought capacity setup past (command.Halt addr) none lets =
     let at_it = hopper_lets (device_at setup.devices addr) _ lets in
     there capacity setup past (λ a. step.Command (command.Halt a)) (λ a. entry.Taken (command.Halt a) ∷ []) addr at_it.0 at_it.1
-    (halted (paying_by at_it.0.body at_it.2) (halting (job (lines_of at_it.0 past)) at_it.3))
+    (halted (paying_by at_it.0.body at_it.2) (halting at_it.0 (job (lines_of at_it.0 past)) at_it.3))
 taken_brought capacity setup past (command.Path addr place path) none lets =
     let at_it = acceptor_lets (device_at setup.devices addr) _ lets in
     taken_there capacity setup past (λ a. command.Path a place path) addr at_it.0 at_it.1 none

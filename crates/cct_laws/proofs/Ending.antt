@@ -27,8 +27,8 @@ use Rattle.cct_model.specs.Setup.{IsSoundSetup}
 use Rattle.cct_model.specs.Exchange.{ask, asked, asks_of}
 use Rattle.cct_model.specs.Line.{Line, exchange, put, taken}
 use Rattle.cct_model.specs.Order.{order, is_marked}
-use Rattle.cct_model.specs.Job.{free, works, job, with_line, done, answer_ends, epoch, credits_read, mask_read, sends, puts, Payment, payment_in, state_row, ident_requests, judged_in, address_of, can_halt}
-use Rattle.cct_model.specs.Rows.{row_at, end_of, TableRow, end_answered, asks_for, telling, rows_of, first, left_at, asks_once, puts_due, waits_for_coins}
+use Rattle.cct_model.specs.Job.{free, works, job, with_line, done, answer_ends, epoch, credits_read, mask_read, sends, puts, Payment, payment_in, state_row, ident_requests, judged_in, address_of}
+use Rattle.cct_model.specs.Rows.{row_at, end_of, TableRow, end_answered, asks_for, telling, rows_of, first, left_at, asks_once, puts_due, waits_for_coins, can_halt, has_waits}
 use Rattle.cct_model.specs.Script.{IsCommand}
 use Rattle.cct_model.specs.Legal.{with_end, LegalFrom}
 use Rattle.cct_model.specs.Transcript.{pending, met, lines_of, heard_by_devices, heard_after, doses_of, got_by}
@@ -44,7 +44,7 @@ use Rattle.cct_model.proofs.Doses.{job_undosed}
 use Rattle.cct_laws.proofs.Exchanges.{Replied, Refused, undisturbed_got, undisturbed_refused}
 use Rattle.cct_laws.proofs.Ids.{ids_start, ids_step, put_owned}
 use Rattle.cct_laws.proofs.Replies.{hopper_is}
-use Rattle.cct_model.proofs.Rows.{RowHolds, Each, EachRow, due_holds, any_due, walk}
+use Rattle.cct_model.proofs.Rows.{RowHolds, Each, EachRow, due_holds, any_due, walk, waits_before, told_no_waits}
 use Rattle.cct_laws.proofs.Seen.{ArePassed, loose, loose_line, Lost, bare, kept_here, kept_elsewhere, seen_here, seen_aside, seen_lost, seen_from, passed_job, lines_wire, lines_put, lines_taken, along_from, any_steps}
 use Rattle.cct_laws.proofs.Tries.{IfEndOf, ends_of_answer, ends_of_put}
 use Rattle.cct_laws.proofs.LastRows.{dispensed_ends, few_failed, few_put, few_answered}
@@ -331,10 +331,13 @@ other_needs pays addr (step.Command (command.Halt other)) n same = halt_more (ot
 other_needs pays addr s n same = omega arith
 
 -- a halt is a line of it, for which one `next` more is needed
-halted_pays : (c : Command) (since : List Line) → can_halt (works c since) ≡ true → is_payment c ≡ true
-halted_pays (command.Pay addr id count) since can = refl
-halted_pays (command.Settle addr) since can = refl
-halted_pays c since can = absurd cc
+payment_waits : (d : DeviceSetup) (c : Command) → has_waits (rows_of d c) ≡ is_payment c
+payment_waits d (command.Ident addr) = told_no_waits (ident_requests d.body)
+payment_waits d c = refl
+
+halted_pays : (d : DeviceSetup) (c : Command) (since : List Line) → can_halt d (works c since) ≡ true →
+    is_payment c ≡ true
+halted_pays d c since can = sym (payment_waits d c) ∙ waits_before (rows_of d c) (done since) can
 
 marked_more : (marked : Bool) (rows n nexts : ℕ) → rows + cond marked 1 0 ≤ n + nexts → rows + 1 ≤ n + suc nexts
 marked_more true rows n nexts enough = omega (arith, enough)
@@ -442,7 +445,7 @@ job_there capacity setup d c nexts past _ _ played ids at alone finds (came s e 
 job_there capacity setup d c nexts past _ _ played ids at alone finds
     (took x suited here is_free is_taken is_owed lets) = absurd (no_free c at.since (sym at.job_is ∙ is_free))
 job_there capacity setup d c nexts past _ _ played ids at alone finds (halted paying can) =
-    let pays = halted_pays c at.since (subst (λ j. can_halt j ≡ true) at.job_is can) in
+    let pays = halted_pays d c at.since (subst (λ j. can_halt d j ≡ true) at.job_is can) in
     rw (eq-eqb d.addr d.addr refl, pays) (halt_there d c (suc nexts) past at)
 job_there capacity setup d c nexts past _ _ played ids at alone finds (idled is_free) =
     absurd (no_free c at.since (sym at.job_is ∙ is_free))

@@ -24,8 +24,8 @@ use Rattle.cct_model.specs.Setup.{AreDistinct}
 use Rattle.cct_model.specs.Line.{Line, exchange, put, taken, ended, crashed}
 use Rattle.cct_model.specs.Order.{order_by, order, life_between, close}
 use Rattle.cct_model.specs.Reading.{judge, shows_break, distance, posted_of}
-use Rattle.cct_model.specs.Job.{Job, free, works, with_line, job, done, ends_row, Row, sends, puts, no_row, put_or, open_row, close_row, Payment, puts_at, can_halt, end_of_close, judged_by, judged_in, payment_in, credits_read, mask_read, address_of, epoch_by, epoch, ident_requests}
-use Rattle.cct_model.specs.Rows.{row_at, row, end_kept, end_of, if_posted, after, puts_due, TableRow, rows_of, reading, epoch_end, ends_as}
+use Rattle.cct_model.specs.Job.{Job, free, works, with_line, job, done, ends_row, Row, sends, puts, no_row, put_or, open_row, close_row, Payment, puts_at, end_of_close, judged_by, judged_in, payment_in, credits_read, mask_read, address_of, epoch_by, epoch, ident_requests}
+use Rattle.cct_model.specs.Rows.{row_at, row, end_kept, end_of, if_posted, after, puts_due, TableRow, rows_of, reading, epoch_end, ends_as, can_halt}
 use Rattle.cct_model.specs.Refusal.{job_holds, order_holds, holds_at, sale_holds, held}
 use Rattle.cct_model.specs.Transcript.{owner, lines_of, sale_lines}
 use Rattle.cct_laws.specs.Kept.{with_ended}
@@ -34,7 +34,7 @@ use Rattle.cct_laws.specs.Law.{IsOf}
 use Rattle.cct_laws.specs.Recorded.{need_of}
 use Rattle.cct_laws.proofs.Sums.{sum_grows, sum_moved}
 use Rattle.cct_laws.proofs.Recorded.{restart_frees}
-use Rattle.cct_model.proofs.Rows.{stop_at, round_at, RowHolds, each_put, puts_none, told_only}
+use Rattle.cct_model.proofs.Rows.{stop_at, round_at, RowHolds, each_put, puts_none, told_only, waits_before, told_no_waits}
 use Rattle.cct_model.specs.lines.entry.End.TheVariants.{Posted, Stopped}
 
 -- what a reading was judged to be is a reading or a break
@@ -536,14 +536,17 @@ taken_holds d c state (Some o) is_owed = omega arith
 
 pub halted_holds : (d : DeviceSetup) (c stop : Command) (since : List Line) (state : EpochState)
     (owed : Option OpenOrder) →
-    can_halt (works c since) ≡ true →
+    can_halt d (works c since) ≡ true →
     holds_with d (works c (taken stop ∷ since)) state owed ≡ holds_with d (works c since) state owed
 halted_holds d (command.Pay addr id count) stop since state owed can =
     ap (λ n. puts_at (command.Pay addr id count) (done since) (row d (command.Pay addr id count) since state owed) + n)
     (order_same (command.Pay addr id count) (taken stop ∷ since) since owed)
 halted_holds d (command.Settle addr) stop since state owed can =
     ap (λ n. 1 + n) (order_same (command.Settle addr) (taken stop ∷ since) since owed)
-halted_holds d c stop since state owed can = absurd (true≢false (sym can))
+halted_holds d (command.Ident addr) stop since state owed can =
+    absurd (true≢false (sym (waits_before (rows_of d (command.Ident addr)) (done since) can)
+    ∙ told_no_waits (ident_requests d.body)))
+halted_holds d c stop since state owed can = absurd (true≢false (sym (waits_before (rows_of d c) (done since) can)))
 
 -- the lines of a device
 
@@ -584,11 +587,11 @@ holds_taken d c lines none begins is_owed =
     let more = taken_holds d c (epoch lines) (order lines) is_owed in
     omega arith
 
-pub holds_halted : (d : DeviceSetup) (addr : ℕ) (lines : List Line) → can_halt (job lines) ≡ true →
+pub holds_halted : (d : DeviceSetup) (addr : ℕ) (lines : List Line) → can_halt d (job lines) ≡ true →
     holds_of d (taken (command.Halt addr) ∷ lines) ≡ holds_of d lines
 holds_halted d addr lines can = by_job (job lines) refl can
   where
-    by_job : (j : Job) → job lines ≡ j → can_halt j ≡ true →
+    by_job : (j : Job) → job lines ≡ j → can_halt d j ≡ true →
         holds_of d (taken (command.Halt addr) ∷ lines) ≡ holds_of d lines
     by_job free is at = absurd (true≢false (sym at))
     by_job (works c since) is at =

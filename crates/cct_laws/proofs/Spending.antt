@@ -20,8 +20,8 @@ use Rattle.cct_model.specs.Setup.{AreDistinct, IsSoundSetup}
 use Rattle.cct_model.specs.Exchange.{ask, asked}
 use Rattle.cct_model.specs.Line.{Line, exchange, put, taken}
 use Rattle.cct_model.specs.Order.{order}
-use Rattle.cct_model.specs.Job.{Job, free, works, with_line, job, done, epoch, puts, sends, address_of, can_halt}
-use Rattle.cct_model.specs.Rows.{row}
+use Rattle.cct_model.specs.Job.{Job, free, works, with_line, job, done, epoch, puts, sends, address_of}
+use Rattle.cct_model.specs.Rows.{row, can_halt}
 use Rattle.cct_model.specs.Records.{records}
 use Rattle.cct_model.specs.Money.{coins_of, posted_in, reserved_by}
 use Rattle.cct_model.specs.Following.{all_follow}
@@ -161,7 +161,7 @@ moves_taken capacity setup d past c sound ids own follow suited here is_free is_
 -- a payment is halted
 pub moves_halted : (capacity : ℕ) (setup : Setup) (d : DeviceSetup) (past : List Entry) →
     IsSoundSetup setup → Ids setup past → IsOf setup d → all_follow setup (records past) ≡ true →
-    can_halt (job (lines_of d past)) ≡ true →
+    can_halt d (job (lines_of d past)) ≡ true →
     AtDevice capacity setup d past (step.Command (command.Halt d.addr)) (entry.Taken (command.Halt d.addr) ∷ []) →
     Moves setup d past (entry.Taken (command.Halt d.addr) ∷ past) 0 0
 moves_halted capacity setup d past sound ids own follow can at =

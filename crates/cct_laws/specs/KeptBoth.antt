@@ -15,8 +15,8 @@ use Rattle.cct_model.specs.Hopper.{remaining}
 use Rattle.cct_model.specs.Line.{Line, accepted, inhibited, fell, exchange, put, taken, crashed}
 use Rattle.cct_model.specs.Line as line
 use Rattle.cct_model.specs.Order.{order}
-use Rattle.cct_model.specs.Job.{free, job, epoch, sends, puts, address_of, can_halt}
-use Rattle.cct_model.specs.Rows.{row, end_of}
+use Rattle.cct_model.specs.Job.{free, job, epoch, sends, puts, address_of}
+use Rattle.cct_model.specs.Rows.{row, end_of, can_halt}
 use Rattle.cct_model.specs.Script.{IsCommand}
 use Rattle.cct_model.specs.Transcript.{doses}
 use Rattle.cct_laws.specs.Kept.{Fate, IsForOthers, suits, with_ended, IsTaken, WorksAt}
@@ -48,7 +48,7 @@ pub record IsKeptBoth (d : DeviceSetup) (P : List Met → List Met → List Line
   pub takes : (since past : List Met) (lines : List Line) (c : Command) → job lines ≡ free → address_of c ≡ d.addr →
       IsCommand c → suits d.body c ≡ true → IsTaken d c (epoch lines) → IsOwed c (order lines) → P since past lines →
       P since past (taken c ∷ lines)
-  pub halts : (since past : List Met) (lines : List Line) → IsHopper d.body → can_halt (job lines) ≡ true →
+  pub halts : (since past : List Met) (lines : List Line) → IsHopper d.body → can_halt d (job lines) ≡ true →
       P since past lines → P since past (taken (command.Halt d.addr) ∷ lines)
   pub asks : (since past : List Met) (lines : List Line) (c : Command) (work : List Line) (q : Request)
       (asked : Option Request) (got : Option Reply) →

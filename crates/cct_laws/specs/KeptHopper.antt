@@ -12,8 +12,8 @@ use Rattle.cct_model.specs.Hopper.{remaining}
 use Rattle.cct_model.specs.Line as line
 use Rattle.cct_model.specs.Line.{Line, fell, exchange, put, taken, crashed}
 use Rattle.cct_model.specs.Order.{order}
-use Rattle.cct_model.specs.Job.{free, job, sends, puts, address_of, can_halt, epoch}
-use Rattle.cct_model.specs.Rows.{row, end_of}
+use Rattle.cct_model.specs.Job.{free, job, sends, puts, address_of, epoch}
+use Rattle.cct_model.specs.Rows.{row, end_of, can_halt}
 use Rattle.cct_model.specs.Refusal.{settle_refusal}
 use Rattle.cct_model.specs.Script.{IsCommand}
 use Rattle.cct_model.specs.Transcript.{doses}
@@ -39,7 +39,7 @@ pub record IsKeptHopper (d : DeviceSetup) (P : List Met → List Line → Type 0
       P past lines → P (heard asked ∷ past) lines
   pub takes : (past : List Met) (lines : List Line) (c : Command) → job lines ≡ free → address_of c ≡ d.addr →
       IsCommand c → is_for_hopper c ≡ true → IsOwed c (order lines) → P past lines → P past (taken c ∷ lines)
-  pub halts : (past : List Met) (lines : List Line) → can_halt (job lines) ≡ true →
+  pub halts : (past : List Met) (lines : List Line) → can_halt d (job lines) ≡ true →
       P past lines → P past (taken (command.Halt d.addr) ∷ lines)
   pub crashes : (past : List Met) (lines : List Line) → P past lines → P past (crashed ∷ lines)
   pub asks : (past : List Met) (lines : List Line) (c : Command) (work : List Line) (q : Request)

@@ -1,6 +1,6 @@
 -- What the rows of a job at a device send and put, and how they end: the walks over the rows that are left, and that each
 -- record is of the job's address.
-use Rattle.std.proofs.Common.{◌≡◌, ◌∙◌, ℕ, ◌-◌, ◌==◌, ◌&&◌, nat_le, zero, suc, cond, true, false, Bool, List, [], ◌∷◌, length, slice_get, arith, refl, ap, sym, Option, Some, None}
+use Rattle.std.proofs.Common.{◌≡◌, ◌∙◌, ℕ, ◌-◌, ◌==◌, ◌&&◌, nat_le, zero, suc, cond, true, false, Bool, List, [], ◌∷◌, length, slice_get, arith, refl, ap, sym, Option, Some, None, true≢false}
 use Rattle.std.specs.Prelude.{⊤}
 use Rattle.std.proofs.lemmas.Bool.{and_parts}
 use Rattle.std.proofs.lemmas.Bool.Decides.{nat_tests}
@@ -27,7 +27,7 @@ use Rattle.cct_model.specs.Line.{Line, exchange, put}
 use Rattle.cct_model.specs.Reading.{judge}
 use Rattle.cct_model.specs.Order.{close, life_between}
 use Rattle.cct_model.specs.Job.{Row, sends, puts, no_row, put_or, Payment, payment_in, state_row, open_row, close_row, ident_requests, judged_by, judged_in, credits_read, mask_read, done, address_of, end_of_reading, end_of_close}
-use Rattle.cct_model.specs.Rows.{Then, goes_on, ends_as, if_quiet, if_judged, path_told, if_posted, if_closed, Due, new_epoch, reading, epoch_end, new_order, order_end, sale, TableRow, asks_for, asks_once, waits_for_coins, puts_due, telling, rows_of, after, from, left, rest, first, due_row, row, row_at, end_by_answer, end_by_record, end_bare, end_answered, end_failed, end_kept, end_of}
+use Rattle.cct_model.specs.Rows.{Then, goes_on, ends_as, if_quiet, if_judged, path_told, if_posted, if_closed, Due, new_epoch, reading, epoch_end, new_order, order_end, sale, TableRow, asks_for, asks_once, waits_for_coins, puts_due, telling, rows_of, after, from, left, rest, first, due_row, row, row_at, end_by_answer, end_by_record, end_bare, end_answered, end_failed, end_kept, end_of, has_waits}
 use Rattle.cct_model.specs.Transcript.{owner, opened_at}
 
 -- a fact of the request that a row sends, and one of the record that it puts
@@ -301,6 +301,27 @@ told_end (x ∷ z ∷ qs) (suc n) means y then_means q is =
   where
     one_less : (a b : ℕ) → (a == b) ≡ (suc a == suc b)
     one_less a b = grind (arith, nat_tests)
+
+-- rows that wait for no payout have none to come that does
+pub waits_before : (rows : List TableRow) (n : ℕ) → has_waits (after rows n) ≡ true → has_waits rows ≡ true
+waits_before [] n waits = waits
+waits_before (r ∷ rows) zero waits = waits
+waits_before (waits_for_coins ∷ rows) (suc n) waits = refl
+waits_before (asks_for q behind ∷ rows) (suc n) waits = waits_before rows n waits
+waits_before (asks_once q behind without ∷ rows) (suc n) waits = waits_before rows n waits
+waits_before (puts_due due behind ∷ rows) (suc n) waits = waits_before rows n waits
+
+pub none_waits : (rows : List TableRow) (n : ℕ) → has_waits rows ≡ false → has_waits (after rows n) ≡ false
+none_waits rows n none = by_found (has_waits (after rows n)) refl
+  where
+    by_found : (found : Bool) → has_waits (after rows n) ≡ found → found ≡ false
+    by_found true is = absurd (true≢false (sym (waits_before rows n is) ∙ none))
+    by_found false is = refl
+
+pub told_no_waits : (qs : List Request) → has_waits (telling qs) ≡ false
+told_no_waits [] = refl
+told_no_waits (q ∷ []) = refl
+told_no_waits (q ∷ r ∷ qs) = told_no_waits (r ∷ qs)
 
 -- what a round puts
 abbrev pub round_left : List TableRow

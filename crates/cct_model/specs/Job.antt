@@ -1,6 +1,6 @@
 -- The job at an address, read off its lines: which command began it, which of its rows are done, and how it ends. And
 -- the epoch of an acceptor, read off its records.
-use Rattle.std.specs.Prelude.{ℕ, suc, ◌==◌, nat_le, nat_lt, Bool, true, false, List, [], ◌∷◌, map, if◌then◌else◌, Option, Some, None}
+use Rattle.std.specs.Prelude.{ℕ, suc, ◌==◌, nat_lt, Bool, true, false, List, [], ◌∷◌, map, if◌then◌else◌, Option, Some, None}
 use Rattle.std.specs.Option.{option_or}
 use Rattle.cct_model.specs.terms.wire.TheConstants.{BROADCAST, HOST}
 use Rattle.cct_model.specs.terms.coin.Credits.{Credits}
@@ -239,12 +239,6 @@ puts_at (command.Pay addr id count) rows next = if nat_lt rows 3 then 2 else 1
 puts_at (command.Settle addr) rows next = 1
 puts_at (command.Vend id price) rows next = 1
 puts_at c rows next = 0
-
--- The job can be halted: a payment up to the row that waits for the last coin, and a settlement at that row.
-abbrev pub can_halt : Job → Bool
-can_halt (works (command.Pay addr id count) since) = nat_le (done since) 4
-can_halt (works (command.Settle addr) since) = done since == 0
-can_halt j = false
 
 -- The end of a payment by the record that closes its order.
 abbrev pub end_of_close : Record → Option End

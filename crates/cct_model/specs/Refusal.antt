@@ -17,8 +17,8 @@ use Rattle.cct_model.specs.Device.{is_acceptor, is_hopper, value_at}
 use Rattle.cct_model.specs.Exchange.{device_at}
 use Rattle.cct_model.specs.Line.{Line}
 use Rattle.cct_model.specs.Order.{order}
-use Rattle.cct_model.specs.Job.{Job, free, works, job, done, puts_at, can_halt, coin_places, epoch}
-use Rattle.cct_model.specs.Rows.{row, row_of_sale}
+use Rattle.cct_model.specs.Job.{Job, free, works, job, done, puts_at, coin_places, epoch}
+use Rattle.cct_model.specs.Rows.{row, row_of_sale, can_halt}
 use Rattle.cct_model.specs.Records.{records, greatest_id}
 use Rattle.cct_model.specs.Money.{sum_over, coins_of, available}
 use Rattle.cct_model.specs.Transcript.{lines_of, scan_lines, sale_lines}
@@ -131,8 +131,8 @@ settle_refusal None = Some NoOrder
 settle_refusal (Some o) = None
 
 -- The test of a halt: there is no payout that could be stopped.
-abbrev pub halt_refusal : Job → Option CommandNo
-halt_refusal j = if can_halt j then None else Some NoPayout
+abbrev pub halt_refusal : DeviceSetup → Job → Option CommandNo
+halt_refusal d j = if can_halt d j then None else Some NoPayout
 
 -- The tests of what spends so much and needs so many records.
 abbrev pub spending : Setup → List Entry → ℕ → ℕ → ℕ → Option CommandNo
@@ -151,7 +151,7 @@ state_refusal setup past (command.Pay addr id count) =
 state_refusal setup past (command.Settle addr) =
     at_hopper (device_at setup.devices addr) (when_unpaid past settle_refusal)
 state_refusal setup past (command.Halt addr) =
-    at_hopper (device_at setup.devices addr) (λ d. halt_refusal (job (lines_of d past)))
+    at_hopper (device_at setup.devices addr) (λ d. halt_refusal d (job (lines_of d past)))
 state_refusal setup past command.Scan = busy (job (scan_lines past))
 state_refusal setup past (command.Ident addr) =
     at_device (device_at setup.devices addr) (λ d. busy (job (lines_of d past)))

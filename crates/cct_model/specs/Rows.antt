@@ -19,7 +19,7 @@ use Rattle.cct_model.specs.Request.{header_of}
 use Rattle.cct_model.specs.Reply.{Reply}
 use Rattle.cct_model.specs.Reply as reply
 use Rattle.cct_model.specs.Line.{Line, exchange, put}
-use Rattle.cct_model.specs.Job.{done, tries, Row, sends, puts, no_row, put_or, ident_requests, path_set, path_read, Payment, state_row, open_row, close_row, address_of, judged_in, payment_in, end_of_close, end_of_credits, end_of_reading, end_of_tries}
+use Rattle.cct_model.specs.Job.{Job, free, works, done, tries, Row, sends, puts, no_row, put_or, ident_requests, path_set, path_read, Payment, state_row, open_row, close_row, address_of, judged_in, payment_in, end_of_close, end_of_credits, end_of_reading, end_of_tries}
 
 -- How a job goes on behind a row: by its next row; it ends so; by the next row where the acceptor's counter is 0; where
 -- the reading means something, else it ends clean; with the path that was read it ends; a break ends it, and a reading
@@ -157,11 +157,16 @@ puts_in [] = 0
 puts_in (puts_due due behind ∷ rows) = suc (puts_in rows)
 puts_in (row ∷ rows) = puts_in rows
 
--- Among these rows is one that waits for a payout: a job that has it to come can be halted.
+-- Among these rows is one that waits for a payout.
 abbrev pub has_waits : List TableRow → Bool
 has_waits [] = false
 has_waits (waits_for_coins ∷ rows) = true
 has_waits (row ∷ rows) = has_waits rows
+
+-- The job at a device can be halted: it has a row to come that waits for a payout.
+abbrev pub can_halt : DeviceSetup → Job → Bool
+can_halt d free = false
+can_halt d (works c since) = has_waits (rest d c since)
 
 -- Among these rows is one that closes an order.
 abbrev pub has_closes : List TableRow → Bool
