@@ -26,6 +26,7 @@ pub mod Records
 pub mod Transcript
 pub mod Money
 pub mod Refusal
+pub mod Before
 pub mod Following
 pub mod Honest
 pub mod Legal
