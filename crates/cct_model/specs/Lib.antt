@@ -26,7 +26,6 @@ pub mod Records
 pub mod Transcript
 pub mod Money
 pub mod Refusal
-pub mod Before
 pub mod Following
 pub mod Honest
 pub mod Legal

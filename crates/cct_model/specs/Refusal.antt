@@ -57,6 +57,19 @@ tests_of (command.Ident addr) = at_a_device ∷ with_no_job ∷ []
 tests_of (command.Path addr place path) = at_a_device ∷ at_an_acceptor ∷ with_no_job ∷ []
 tests_of (command.Vend id price) = with_no_job ∷ with_new_id id ∷ with_price price ∷ with_room 1 ∷ []
 
+-- How many records these tests want room for, 0 where they want none.
+abbrev pub room_in : List Test → ℕ
+room_in [] = 0
+room_in (with_room need ∷ tests) = need
+room_in (test ∷ tests) = room_in tests
+
+-- The money that these tests want available, 0 where they want none.
+abbrev pub money_in : Setup → List Test → ℕ
+money_in setup [] = 0
+money_in setup (with_coins addr count ∷ tests) = coins_of setup addr count
+money_in setup (with_price price ∷ tests) = price
+money_in setup (test ∷ tests) = money_in setup tests
+
 -- The reason of the first of these tests that fails, or none.
 abbrev pub first_of : (Test → Option CommandNo) → List Test → Option CommandNo
 first_of fails [] = None
@@ -94,6 +107,10 @@ running_refusal (Running mask counter) = None
 abbrev pub value_refusal : ℕ → Option DeviceSetup → Option CommandNo
 value_refusal mask None = None
 value_refusal mask (Some d) = option_map NoValue (valueless d.body mask)
+
+-- The tests of a start beside the epoch.
+abbrev pub start_refusal : ℕ → DeviceSetup → EpochState → Option CommandNo
+start_refusal mask d state = option_or (epoch_refusal state) (value_refusal mask (Some d))
 
 -- The test that no order is open.
 abbrev pub order_refusal : Option OpenOrder → Option CommandNo
