@@ -37,7 +37,7 @@ use Rattle.cct_model.specs.Job.{Job, free, works, job, begun, with_line, done, e
 use Rattle.cct_model.specs.Rows.{row, row_of_sale, end_of, first, end_of_sale, end_kept, after, rows_of_sale}
 use Rattle.cct_model.specs.Money.{totals}
 use Rattle.cct_model.specs.Scan.{scan_row, end_of_scan, poll_of}
-use Rattle.cct_model.specs.Refusal.{tests_of, unless, is_busy, epoch_refusal, value_refusal, start_refusal, order_refusal, state_fails, view_of, lines_for, last_id, refusal}
+use Rattle.cct_model.specs.Refusal.{unless, is_busy, epoch_refusal, value_refusal, start_refusal, order_refusal, state_fails, view_of, lines_for, last_id, refusal, state_tests}
 use Rattle.cct_model.specs.Legal.{coin_entry, fall_entry, jam_entry, command_entry, with_end, RowEntries, NextEntries, PollEntries, ScanEntries, SaleRowEntries, SaleEntries, BareNext, OfDevice, OfAcceptor, OfHopper, OfNext, record_due, due_of, due_of_sale, due_there, due_at, bare_crash, keeping_crash, CrashEntries, EntriesOfCrash, Entries}
 use Rattle.cct_model.specs.Transcript.{met, owner, lines_of, scan_lines, scan_line, sale_lines, heard_after, heard_by_devices, pending, got_by, doses_of}
 use Rattle.cct_laws.specs.Kept.{is_for_acceptor, is_for_hopper, suits, IsTaken}
@@ -45,7 +45,7 @@ use Rattle.cct_laws.specs.KeptHopper.{IsOwed}
 use Rattle.cct_laws.specs.Law.{IsOf}
 use Rattle.cct_model.proofs.Doses.{job_undosed}
 use Rattle.cct_laws.proofs.Setups.{address_found}
-use Rattle.cct_laws.proofs.Tests.{Pass, tests_pass}
+use Rattle.cct_laws.proofs.Tests.{Pass, tests_pass, test_holds}
 use Rattle.cct_model.specs.declared.judging.Judged.TheVariants.{Nothing}
 
 -- what comes to a device that met all this without being asked, over a step: the entry, what the device then met, and
@@ -333,10 +333,6 @@ reset_brought capacity setup past news addr (Some d) was told =
     (there capacity setup past step.Reset (λ a. entry.Reset a ∷ []) addr d was (came _ _ _ _ is_reset))
 
 -- a command
-test_holds : (holds : Bool) (why : CommandNo) → unless holds why ≡ None → holds ≡ true
-test_holds true why none = refl
-test_holds false why none = absurd cc
-
 free_if : (at_work : Job) → unless (not (is_busy at_work)) Busy ≡ None → at_work ≡ free
 free_if free none = refl
 free_if (works c since) none = absurd cc
@@ -373,7 +369,7 @@ began_at capacity setup past c d was none suited is_free is_taken is_owed =
 
 taken_at : (capacity : ℕ) (setup : Setup) (past : List Entry) (c : Command) (found : Option DeviceSetup) →
     device_at setup.devices (address_of c) ≡ found → refusal capacity setup past c ≡ None →
-    Pass (state_fails (view_of found (lines_for past c found) (last_id setup past))) (tests_of c) →
+    Pass (state_fails (view_of found (lines_for past c found) (last_id setup past))) (state_tests c) →
     Brought capacity setup past (step.Command c) (entry.Taken c ∷ [])
 taken_at capacity setup past command.Scan found was none passes = began_scan (free_if (job (scan_lines past)) passes.0)
 taken_at capacity setup past (command.Vend id price) found was none passes =

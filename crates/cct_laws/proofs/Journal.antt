@@ -123,9 +123,8 @@ settle_has_room capacity setup past addr room =
     (not_full_either (unless (hopper_there v.found) WrongKind) _
     (unless_not_full (hopper_there v.found) WrongKind (λ stored many need is. cc))
     (not_full_either (unless (not v.is_busy) Busy) _ (unless_not_full (not v.is_busy) Busy (λ stored many need is. cc))
-    (not_full_either (settle_refusal v.owed) None (settle_not_full v.owed) (λ stored many need is. cc)))))
-    (not_full_either (full_refusal setup past 0 capacity) None (room_not_full capacity setup past room)
-    (λ stored many need is. cc))
+    (settle_not_full v.owed))))
+    (room_not_full capacity setup past room)
 
 -- of every legal transcript, whatever the wire does
 

@@ -57,6 +57,18 @@ tests_of (command.Ident addr) = at_a_device ∷ with_no_job ∷ []
 tests_of (command.Path addr place path) = at_a_device ∷ at_an_acceptor ∷ with_no_job ∷ []
 tests_of (command.Vend id price) = with_no_job ∷ with_new_id id ∷ with_price price ∷ with_room 1 ∷ []
 
+-- The tests of the state among these: they stand before those of the money and of the room.
+abbrev pub of_state : List Test → List Test
+of_state [] = []
+of_state (with_coins addr count ∷ tests) = []
+of_state (with_price price ∷ tests) = []
+of_state (with_room need ∷ tests) = []
+of_state (test ∷ tests) = test ∷ of_state tests
+
+-- The tests of the state of a command.
+abbrev pub state_tests : Command → List Test
+state_tests c = of_state (tests_of c)
+
 -- How many records these tests want room for, 0 where they want none.
 abbrev pub room_in : List Test → ℕ
 room_in [] = 0
@@ -73,7 +85,8 @@ money_in setup (test ∷ tests) = money_in setup tests
 -- The reason of the first of these tests that fails, or none.
 abbrev pub first_of : (Test → Option CommandNo) → List Test → Option CommandNo
 first_of fails [] = None
-first_of fails (test ∷ tests) = option_or (fails test) (first_of fails tests)
+first_of fails (test ∷ []) = fails test
+first_of fails (test ∷ next ∷ tests) = option_or (fails test) (first_of fails (next ∷ tests))
 
 -- What the tests of the state look at: the device at the address, whether a job is there, whether it can be halted, the
 -- epoch and the open order there, and the last id.
@@ -230,7 +243,7 @@ view_for setup past c =
 
 -- The first reason for which a command is refused but for the money and the room, or none.
 abbrev pub state_refusal : Setup → List Entry → Command → Option CommandNo
-state_refusal setup past c = first_of (state_fails (view_for setup past c)) (tests_of c)
+state_refusal setup past c = first_of (state_fails (view_for setup past c)) (state_tests c)
 
 -- The first reason for which a command is refused for the money or the room, or none.
 abbrev pub room_refusal : ℕ → Setup → List Entry → Command → Option CommandNo
