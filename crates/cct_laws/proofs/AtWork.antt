@@ -1,5 +1,6 @@
 -- What the running jobs reserve, after one line more, and what is spoken for by the records and the jobs together.
 use Rattle.std.proofs.Common.{◌≡◌, ◌≢◌, ℕ, zero, suc, ◌+◌, ◌≤◌, ◌<◌, nat_le, Bool, true, false, cond, List, [], ◌∷◌, refl, ap, sym, ◌∙◌, Option, Some, None, arith, leb-true, leb-false}
+use Rattle.cct_model.specs.Refusal.{tests_of, money_in}
 use Rattle.cct_model.specs.terms.device.DeviceSetup.{DeviceSetup}
 use Rattle.cct_model.specs.terms.device.Setup.{Setup}
 use Rattle.cct_model.specs.terms.request.Request.{Request}
@@ -127,9 +128,7 @@ work_opened setup d addr id count since state owed opened counted at life is =
 
 -- what a command spends is reserved as its job begins
 abbrev pub spent_by : Setup → Command → ℕ
-spent_by setup (command.Pay addr id count) = coins_of setup addr count
-spent_by setup (command.Vend id price) = price
-spent_by setup c = 0
+spent_by setup c = money_in setup (tests_of c)
 
 pub work_taken : (setup : Setup) (c : Command) → reserved_by setup (works c []) ≡ spent_by setup c
 work_taken setup (command.Pay addr id count) = refl

@@ -1,7 +1,8 @@
 -- What one step of a machine brought: the one view of a legal step by which each law goes by cases.
 use Rattle.std.proofs.Common.{◌≡◌, inl, inr, ℕ, zero, suc, ◌==◌, cond, true, false, Bool, List, [], ◌∷◌, ◌++◌, refl, ap, sym, ◌∙◌, subst, Option, Some, None, MatchBool, eqb-true}
-use Rattle.std.specs.Prelude.{⊤}
-use Rattle.std.specs.Option.{option_or}
+use Rattle.std.specs.Prelude.{⊤, not}
+use Rattle.cct_model.specs.declared.judging.EpochState.{EpochState}
+use Rattle.cct_model.specs.declared.judging.EpochState.TheVariants.{Idle, Running}
 use Rattle.cct_model.specs.terms.wire.CheckKind.{CheckKind}
 use Rattle.cct_model.specs.terms.wire.TheConstants.{BROADCAST, HOST}
 use Rattle.cct_model.specs.terms.device.DeviceBody.{DeviceBody}
@@ -14,7 +15,7 @@ use Rattle.cct_model.specs.lines.record.Record.TheVariants as record_of
 use Rattle.cct_model.specs.lines.command.Command.{Command}
 use Rattle.cct_model.specs.lines.command.Command.TheVariants as command
 use Rattle.cct_model.specs.lines.command.CommandNo.{CommandNo}
-use Rattle.cct_model.specs.lines.command.CommandNo.TheVariants.{WrongKind, NoPayout}
+use Rattle.cct_model.specs.lines.command.CommandNo.TheVariants.{NoDevice, WrongKind, Busy, NoPayout}
 use Rattle.cct_model.specs.lines.command.CrashAt.{CrashAt}
 use Rattle.cct_model.specs.lines.command.WireFault.{WireFault}
 use Rattle.cct_model.specs.lines.command.Step.{Step}
@@ -36,7 +37,7 @@ use Rattle.cct_model.specs.Job.{Job, free, works, job, begun, with_line, done, e
 use Rattle.cct_model.specs.Rows.{row, row_of_sale, end_of, first, end_of_sale, end_kept, after, rows_of_sale, can_halt}
 use Rattle.cct_model.specs.Money.{totals}
 use Rattle.cct_model.specs.Scan.{scan_row, end_of_scan, poll_of}
-use Rattle.cct_model.specs.Refusal.{at_device, at_acceptor, at_hopper, busy, pay_refusal, halt_refusal, last_id, state_refusal, refusal}
+use Rattle.cct_model.specs.Refusal.{unless, is_busy, epoch_refusal, value_refusal, start_refusal, order_refusal, state_fails, view_of, lines_for, last_id, refusal, state_tests}
 use Rattle.cct_model.specs.Legal.{coin_entry, fall_entry, jam_entry, command_entry, with_end, RowEntries, NextEntries, PollEntries, ScanEntries, SaleRowEntries, SaleEntries, BareNext, OfDevice, OfAcceptor, OfHopper, OfNext, record_due, due_of, due_of_sale, due_there, due_at, bare_crash, keeping_crash, CrashEntries, EntriesOfCrash, Entries}
 use Rattle.cct_model.specs.Transcript.{met, owner, lines_of, scan_lines, scan_line, sale_lines, heard_after, heard_by_devices, pending, got_by, doses_of}
 use Rattle.cct_laws.specs.Kept.{is_for_acceptor, is_for_hopper, suits, IsTaken}
@@ -44,7 +45,7 @@ use Rattle.cct_laws.specs.KeptHopper.{IsOwed}
 use Rattle.cct_laws.specs.Law.{IsOf}
 use Rattle.cct_model.proofs.Doses.{job_undosed}
 use Rattle.cct_laws.proofs.Setups.{address_found}
-use Rattle.cct_laws.proofs.Tests.{tests_pass}
+use Rattle.cct_laws.proofs.Tests.{Pass, tests_pass, test_holds}
 use Rattle.cct_model.specs.declared.judging.Judged.TheVariants.{Nothing}
 
 -- what comes to a device that met all this without being asked, over a step: the entry, what the device then met, and
@@ -332,64 +333,18 @@ reset_brought capacity setup past news addr (Some d) was told =
     (there capacity setup past step.Reset (λ a. entry.Reset a ∷ []) addr d was (came _ _ _ _ is_reset))
 
 -- a command
-free_by : (at_work : Job) (further : Option CommandNo) → option_or (busy at_work) further ≡ None →
-    (at_work ≡ free) × (further ≡ None)
-free_by free further none = (refl, none)
-free_by (works c since) further none = absurd cc
-
-free_if : (at_work : Job) → busy at_work ≡ None → at_work ≡ free
+free_if : (at_work : Job) → unless (not (is_busy at_work)) Busy ≡ None → at_work ≡ free
 free_if free none = refl
 free_if (works c since) none = absurd cc
 
-unowed : (id last : ℕ) (owed : Option OpenOrder) → pay_refusal id last owed ≡ None → owed ≡ None
-unowed id last None none = refl
-unowed id last (Some o) none = absurd cc
+unowed : (owed : Option OpenOrder) → order_refusal owed ≡ None → owed ≡ None
+unowed None none = refl
+unowed (Some o) none = absurd cc
 
-halting : (d : DeviceSetup) (j : Job) → halt_refusal d j ≡ None → can_halt d j ≡ true
-halting d j none = by_test (can_halt d j) none
-  where
-    by_test : (b : Bool) → cond b None (Some NoPayout) ≡ None → b ≡ true
-    by_test true none = refl
-    by_test false none = absurd cc
-
--- where it is not refused at a device there is one, of a kind that passes a test
-IsLetBy : Option DeviceSetup → (DeviceSetup → Type 0) → (DeviceSetup → Option CommandNo) → Type 0
-IsLetBy found Kind further = (d : DeviceSetup) × (found ≡ Some d) × Kind d × (further d ≡ None)
-
-device_lets : (found : Option DeviceSetup) (further : DeviceSetup → Option CommandNo) →
-    at_device found further ≡ None → IsLetBy found (λ d. ⊤) further
-unfolding IsLetBy
-device_lets None further none = absurd cc
-device_lets (Some d) further none = (d, refl, tt, none)
-
-kind_lets : (b : Bool) (further : Option CommandNo) → cond b further (Some WrongKind) ≡ None →
-    (b ≡ true) × (further ≡ None)
-kind_lets true further none = (refl, none)
-kind_lets false further none = absurd cc
-
-acceptor_lets : (found : Option DeviceSetup) (further : DeviceSetup → Option CommandNo) →
-    at_acceptor found further ≡ None → IsLetBy found (λ d. is_acceptor d.body ≡ true) further
-unfolding IsLetBy
-acceptor_lets None further none = absurd cc
-acceptor_lets (Some d) further none =
-    let is = kind_lets (is_acceptor d.body) (further d) none in (d, refl, is.0, is.1)
-
-hopper_lets : (found : Option DeviceSetup) (further : DeviceSetup → Option CommandNo) →
-    at_hopper found further ≡ None → IsLetBy found (λ d. is_hopper d.body ≡ true) further
-unfolding IsLetBy
-hopper_lets None further none = absurd cc
-hopper_lets (Some d) further none =
-    let is = kind_lets (is_hopper d.body) (further d) none in (d, refl, is.0, is.1)
-
--- a command that begins a job, told by its address
-taken_there : (capacity : ℕ) (setup : Setup) (past : List Entry) (c : ℕ → Command) (addr : ℕ) (d : DeviceSetup) →
-    device_at setup.devices addr ≡ Some d → refusal capacity setup past (c addr) ≡ None → suits d.body (c d.addr) ≡ true →
-    address_of (c d.addr) ≡ d.addr → job (lines_of d past) ≡ free → IsTaken d (c d.addr) (epoch (lines_of d past)) →
-    IsOwed (c d.addr) (order (lines_of d past)) → Brought capacity setup past (step.Command (c addr)) (entry.Taken (c addr) ∷ [])
-taken_there capacity setup past c addr d was none suited here is_free is_taken is_owed =
-    there capacity setup past (λ a. step.Command (c a)) (λ a. entry.Taken (c a) ∷ []) addr d was
-    (took (c d.addr) suited here is_free is_taken is_owed
-    (subst (λ a. refusal capacity setup past (c a) ≡ None) (sym (address_found setup addr d was)) none))
+may_start : (mask : ℕ) (d : DeviceSetup) (state : EpochState) → epoch_refusal state ≡ None →
+    value_refusal mask (Some d) ≡ None → start_refusal mask d state ≡ None
+may_start mask d Idle idle none = none
+may_start mask d (Running running counter) idle none = absurd cc
 
 suits_acceptor : (body : DeviceBody) (c : Command) → is_acceptor body ≡ true → is_for_acceptor c ≡ true → suits body c ≡ true
 suits_acceptor (Acceptor accepts values ids) c test suited = suited
@@ -403,56 +358,61 @@ suits_ident : (body : DeviceBody) (addr : ℕ) → suits body (command.Ident add
 suits_ident (Acceptor accepts values ids) addr = refl
 suits_ident (Hopper life value) addr = refl
 
-taken_brought : (capacity : ℕ) (setup : Setup) (past : List Entry) (c : Command) →
-    refusal capacity setup past c ≡ None → state_refusal setup past c ≡ None →
+-- a command that begins a job at a device
+began_at : (capacity : ℕ) (setup : Setup) (past : List Entry) (c : Command) (d : DeviceSetup) →
+    device_at setup.devices (address_of c) ≡ Some d → refusal capacity setup past c ≡ None → suits d.body c ≡ true →
+    unless (not (is_busy (job (lines_of d past)))) Busy ≡ None → IsTaken d c (epoch (lines_of d past)) →
+    IsOwed c (order (lines_of d past)) → Brought capacity setup past (step.Command c) (entry.Taken c ∷ [])
+began_at capacity setup past c d was none suited is_free is_taken is_owed =
+    of_device d (step.Command c) (entry.Taken c ∷ []) (of_found setup (address_of c) d was)
+    (took c suited (sym (address_found setup (address_of c) d was)) (free_if (job (lines_of d past)) is_free) is_taken is_owed none)
+
+taken_at : (capacity : ℕ) (setup : Setup) (past : List Entry) (c : Command) (found : Option DeviceSetup) →
+    device_at setup.devices (address_of c) ≡ found → refusal capacity setup past c ≡ None →
+    Pass (state_fails (view_of found (lines_for past c found) (last_id setup past))) (state_tests c) →
     Brought capacity setup past (step.Command c) (entry.Taken c ∷ [])
-unfolding IsLetBy
-taken_brought capacity setup past (command.Start addr mask) none lets =
-    let at_it = acceptor_lets (device_at setup.devices addr) _ lets in
-    let is = free_by (job (lines_of at_it.0 past)) _ at_it.3 in
-    taken_there capacity setup past (λ a. command.Start a mask) addr at_it.0 at_it.1 none
-    (suits_acceptor at_it.0.body (command.Start at_it.0.addr mask) at_it.2 refl) refl is.0 is.1 tt
-taken_brought capacity setup past (command.Round addr) none lets =
-    let at_it = acceptor_lets (device_at setup.devices addr) _ lets in
-    let is = free_by (job (lines_of at_it.0 past)) _ at_it.3 in
-    taken_there capacity setup past command.Round addr at_it.0 at_it.1 none
-    (suits_acceptor at_it.0.body (command.Round at_it.0.addr) at_it.2 refl) refl is.0 is.1 tt
-taken_brought capacity setup past (command.Stop addr) none lets =
-    let at_it = acceptor_lets (device_at setup.devices addr) _ lets in
-    let is = free_by (job (lines_of at_it.0 past)) _ at_it.3 in
-    taken_there capacity setup past command.Stop addr at_it.0 at_it.1 none
-    (suits_acceptor at_it.0.body (command.Stop at_it.0.addr) at_it.2 refl) refl is.0 is.1 tt
-taken_brought capacity setup past (command.Pay addr id count) none lets =
-    let at_it = hopper_lets (device_at setup.devices addr) _ lets in
-    let is = free_by (job (lines_of at_it.0 past)) _ at_it.3 in
-    taken_there capacity setup past (λ a. command.Pay a id count) addr at_it.0 at_it.1 none
-    (suits_hopper at_it.0.body (command.Pay at_it.0.addr id count) at_it.2 refl) refl is.0 tt
-    (unowed id (last_id setup past) (order (lines_of at_it.0 past)) is.1)
-taken_brought capacity setup past (command.Settle addr) none lets =
-    let at_it = hopper_lets (device_at setup.devices addr) _ lets in
-    let is = free_by (job (lines_of at_it.0 past)) _ at_it.3 in
-    taken_there capacity setup past command.Settle addr at_it.0 at_it.1 none
-    (suits_hopper at_it.0.body (command.Settle at_it.0.addr) at_it.2 refl) refl is.0 tt is.1
-taken_brought capacity setup past (command.Halt addr) none lets =
-    let at_it = hopper_lets (device_at setup.devices addr) _ lets in
-    there capacity setup past (λ a. step.Command (command.Halt a)) (λ a. entry.Taken (command.Halt a) ∷ []) addr at_it.0 at_it.1
-    (halted (paying_by at_it.0.body at_it.2) (halting at_it.0 (job (lines_of at_it.0 past)) at_it.3))
-taken_brought capacity setup past (command.Path addr place path) none lets =
-    let at_it = acceptor_lets (device_at setup.devices addr) _ lets in
-    taken_there capacity setup past (λ a. command.Path a place path) addr at_it.0 at_it.1 none
-    (suits_acceptor at_it.0.body (command.Path at_it.0.addr place path) at_it.2 refl) refl (free_if _ at_it.3) tt tt
-taken_brought capacity setup past (command.Ident addr) none lets =
-    let at_it = device_lets (device_at setup.devices addr) _ lets in
-    taken_there capacity setup past command.Ident addr at_it.0 at_it.1 none
-    (suits_ident at_it.0.body at_it.0.addr) refl (free_if _ at_it.3) tt tt
-taken_brought capacity setup past command.Scan none lets = began_scan (free_if (job (scan_lines past)) lets)
-taken_brought capacity setup past (command.Vend id price) none lets =
-    began_sale id price (free_by (job (sale_lines past)) _ lets).0 none
+taken_at capacity setup past command.Scan found was none passes = began_scan (free_if (job (scan_lines past)) passes.0)
+taken_at capacity setup past (command.Vend id price) found was none passes =
+    began_sale id price (free_if (job (sale_lines past)) passes.0) none
+taken_at capacity setup past (command.Halt addr) (Some d) was none passes =
+    there capacity setup past (λ a. step.Command (command.Halt a)) (λ a. entry.Taken (command.Halt a) ∷ []) addr d was
+    (halted (paying_by d.body (test_holds (is_hopper d.body) WrongKind passes.1.0))
+    (test_holds (can_halt d (job (lines_of d past))) NoPayout passes.1.1.0))
+taken_at capacity setup past (command.Ident addr) (Some d) was none passes =
+    began_at capacity setup past (command.Ident addr) d was none (suits_ident d.body addr) passes.1.0 tt tt
+taken_at capacity setup past (command.Path addr place path) (Some d) was none passes =
+    began_at capacity setup past (command.Path addr place path) d was none
+    (suits_acceptor d.body (command.Path addr place path) (test_holds (is_acceptor d.body) WrongKind passes.1.0) refl)
+    passes.1.1.0 tt tt
+taken_at capacity setup past (command.Start addr mask) (Some d) was none passes =
+    began_at capacity setup past (command.Start addr mask) d was none
+    (suits_acceptor d.body (command.Start addr mask) (test_holds (is_acceptor d.body) WrongKind passes.1.0) refl) passes.1.1.0
+    (may_start mask d (epoch (lines_of d past)) passes.1.1.1.0 passes.1.1.1.1.0) tt
+taken_at capacity setup past (command.Round addr) (Some d) was none passes =
+    began_at capacity setup past (command.Round addr) d was none
+    (suits_acceptor d.body (command.Round addr) (test_holds (is_acceptor d.body) WrongKind passes.1.0) refl) passes.1.1.0
+    passes.1.1.1.0 tt
+taken_at capacity setup past (command.Stop addr) (Some d) was none passes =
+    began_at capacity setup past (command.Stop addr) d was none
+    (suits_acceptor d.body (command.Stop addr) (test_holds (is_acceptor d.body) WrongKind passes.1.0) refl) passes.1.1.0
+    passes.1.1.1.0 tt
+taken_at capacity setup past (command.Pay addr id count) (Some d) was none passes =
+    began_at capacity setup past (command.Pay addr id count) d was none
+    (suits_hopper d.body (command.Pay addr id count) (test_holds (is_hopper d.body) WrongKind passes.1.0) refl) passes.1.1.0 tt
+    (unowed (order (lines_of d past)) passes.1.1.1.0)
+taken_at capacity setup past (command.Settle addr) (Some d) was none passes =
+    began_at capacity setup past (command.Settle addr) d was none
+    (suits_hopper d.body (command.Settle addr) (test_holds (is_hopper d.body) WrongKind passes.1.0) refl) passes.1.1.0 tt
+    passes.1.1.1.0
+taken_at capacity setup past c None was none passes =
+    let device : unless false NoDevice ≡ None = passes.0 in
+    absurd cc
 
 command_brought : (capacity : ℕ) (setup : Setup) (past : List Entry) (c : Command) (why : Option CommandNo) →
     refusal capacity setup past c ≡ why → Brought capacity setup past (step.Command c) (command_entry c why ∷ [])
 command_brought capacity setup past c None was =
-    taken_brought capacity setup past c was (tests_pass capacity setup past c was).state
+    taken_at capacity setup past c (device_at setup.devices (address_of c)) refl was
+    (tests_pass capacity setup past c was).state
 command_brought capacity setup past c (Some why) was = refused c why was
 
 -- a next

@@ -137,9 +137,9 @@ start_lets d mask Idle none = (refl, by_found (valueless d.body mask) none)
 start_lets d mask (Running running counter) none = absurd cc
 
 -- a round and a stop that their epoch doesn't refuse
-pub runs_by : (d : DeviceSetup) (state : EpochState) → running_refusal d state ≡ None → is_running state ≡ true
-runs_by d Idle none = absurd cc
-runs_by d (Running mask counter) none = refl
+pub runs_by : (state : EpochState) → running_refusal state ≡ None → is_running state ≡ true
+runs_by Idle none = absurd cc
+runs_by (Running mask counter) none = refl
 
 -- an epoch that begins
 begins : (setup : Setup) (before : List Record) (d : DeviceSetup) (addr mask : ℕ) (state : EpochState)

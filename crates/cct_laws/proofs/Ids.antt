@@ -294,8 +294,7 @@ took_ids : (capacity : ℕ) (setup : Setup) (past : List Entry) (d : DeviceSetup
 took_ids capacity setup past d (command.Pay addr id count) sound own suited here owed passes ids =
     let far = above_host setup d sound own in
     ids_paid setup past addr id count (omega (arith, far, here))
-    (payment_new capacity setup past d id count own owed
-    (subst (λ a. refusal capacity setup past (command.Pay a id count) ≡ None) here passes)) ids
+    (payment_new capacity setup past addr id count passes) ids
 took_ids capacity setup past d (command.Vend id price) sound own suited here owed passes ids =
     absurd (unsuited d.body id price suited)
 took_ids capacity setup past d c sound own suited here owed passes ids =

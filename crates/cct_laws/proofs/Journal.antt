@@ -2,25 +2,24 @@
 -- full journal; and what is due follows, and is allowed.
 use Rattle.std.proofs.Common.{◌≡◌, ℕ, suc, ◌+◌, ◌-◌, ◌≤◌, ◌<◌, nat_le, cond, Bool, true, false, List, [], length, ap, Option, Some, None, All, arith, le-leb}
 use Rattle.std.specs.Option.{option_or}
+use Rattle.std.specs.Prelude.{is_some, not}
 use Rattle.cct_model.specs.terms.device.DeviceSetup.{DeviceSetup}
 use Rattle.cct_model.specs.terms.device.Setup.{Setup}
 use Rattle.cct_model.specs.lines.record.Record.{Record}
 use Rattle.cct_model.specs.lines.command.Command.{Command}
 use Rattle.cct_model.specs.lines.command.Command.TheVariants as command
 use Rattle.cct_model.specs.lines.command.CommandNo.{CommandNo}
-use Rattle.cct_model.specs.lines.command.CommandNo.TheVariants.{WrongKind, JournalFull}
+use Rattle.cct_model.specs.lines.command.CommandNo.TheVariants.{WrongKind, JournalFull, NoDevice, Busy}
 use Rattle.cct_model.specs.lines.command.Step.{Step}
 use Rattle.cct_model.specs.lines.entry.Entry.{Entry}
 use Rattle.cct_model.specs.declared.judging.OpenOrder.{OpenOrder}
-use Rattle.cct_model.specs.Device.{is_hopper}
 use Rattle.cct_model.specs.Setup.{IsSoundSetup}
-use Rattle.cct_model.specs.Exchange.{device_at}
+use Rattle.cct_model.specs.Exchange.{hopper_there}
 use Rattle.cct_model.specs.Line.{Line}
-use Rattle.cct_model.specs.Order.{order}
-use Rattle.cct_model.specs.Job.{Job, free, works, job, puts}
+use Rattle.cct_model.specs.Job.{works, job, puts}
 use Rattle.cct_model.specs.Records.{records}
 use Rattle.cct_model.specs.Money.{sum_over, posted_in, reserved_at_work, freed_by, spoken_for, totals}
-use Rattle.cct_model.specs.Refusal.{busy, at_hopper, settle_refusal, holds_at, sale_holds, held, full_refusal, state_refusal, refusal}
+use Rattle.cct_model.specs.Refusal.{unless, settle_refusal, holds_at, sale_holds, held, full_refusal, view_for, state_refusal, room_refusal, refusal}
 use Rattle.cct_model.specs.Following.{follows, all_follow, is_allowed}
 use Rattle.cct_model.specs.Legal.{due_at, LegalFrom, Legal}
 use Rattle.cct_model.specs.Script.{IsInRange}
@@ -91,22 +90,13 @@ not_full_either : (first second : Option CommandNo) → IsNotFull first → IsNo
 not_full_either None second one other = other
 not_full_either (Some why) second one other = one
 
-busy_not_full : (j : Job) → IsNotFull (busy j)
-busy_not_full free = λ stored many need is. cc
-busy_not_full (works c since) = λ stored many need is. cc
+unless_not_full : (holds : Bool) (why : CommandNo) → IsNotFull (Some why) → IsNotFull (unless holds why)
+unless_not_full true why other = λ stored many need is. cc
+unless_not_full false why other = other
 
 settle_not_full : (owed : Option OpenOrder) → IsNotFull (settle_refusal owed)
 settle_not_full None = λ stored many need is. cc
 settle_not_full (Some o) = λ stored many need is. cc
-
-hopper_not_full : (found : Option DeviceSetup) (further : DeviceSetup → Option CommandNo) →
-    ((d : DeviceSetup) → IsNotFull (further d)) → IsNotFull (at_hopper found further)
-hopper_not_full None further none = λ stored many need is. cc
-hopper_not_full (Some d) further none = by_kind (is_hopper d.body)
-  where
-    by_kind : (paying : Bool) → IsNotFull (cond paying (further d) (Some WrongKind))
-    by_kind true = none d
-    by_kind false = λ stored many need is. cc
 
 room_not_full : (capacity : ℕ) (setup : Setup) (past : List Entry) →
     length (records past) + held setup past ≤ capacity → IsNotFull (full_refusal setup past 0 capacity)
@@ -127,10 +117,13 @@ settle_has_room : (capacity : ℕ) (setup : Setup) (past : List Entry) (addr : �
     length (records past) + held setup past ≤ capacity →
     IsNotFull (refusal capacity setup past (command.Settle addr))
 settle_has_room capacity setup past addr room =
-    not_full_either (state_refusal setup past (command.Settle addr)) (full_refusal setup past 0 capacity)
-    (hopper_not_full (device_at setup.devices addr) _
-    (λ d. not_full_either (busy (job (lines_of d past))) _ (busy_not_full (job (lines_of d past)))
-    (settle_not_full (order (lines_of d past)))))
+    let v = view_for setup past (command.Settle addr) in
+    not_full_either (state_refusal setup past (command.Settle addr)) (room_refusal capacity setup past (command.Settle addr))
+    (not_full_either (unless (is_some v.found) NoDevice) _ (unless_not_full (is_some v.found) NoDevice (λ stored many need is. cc))
+    (not_full_either (unless (hopper_there v.found) WrongKind) _
+    (unless_not_full (hopper_there v.found) WrongKind (λ stored many need is. cc))
+    (not_full_either (unless (not v.is_busy) Busy) _ (unless_not_full (not v.is_busy) Busy (λ stored many need is. cc))
+    (settle_not_full v.owed))))
     (room_not_full capacity setup past room)
 
 -- of every legal transcript, whatever the wire does

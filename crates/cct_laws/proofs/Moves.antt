@@ -124,14 +124,14 @@ idle_taken : (mask : ℕ) (d : DeviceSetup) (state : EpochState) → start_refus
 idle_taken mask d Idle fine = tt
 idle_taken mask d (Running running counter) fine = absurd cc
 
-running_taken : (d : DeviceSetup) (state : EpochState) → running_refusal d state ≡ None → IsRunning state
-running_taken d Idle fine = absurd cc
-running_taken d (Running mask counter) fine = tt
+running_taken : (state : EpochState) → running_refusal state ≡ None → IsRunning state
+running_taken Idle fine = absurd cc
+running_taken (Running mask counter) fine = tt
 
 taken_fits : (d : DeviceSetup) (w : World) (lines : List Line) (c : Command) → is_for_acceptor c ≡ true → IsTaken d c (epoch lines) → Fits w (book lines) (job (taken c ∷ lines))
 taken_fits d w lines (command.Start addr mask) played fine = idle_taken mask d (epoch lines) fine
-taken_fits d w lines (command.Round addr) played fine = running_taken d (epoch lines) fine
-taken_fits d w lines (command.Stop addr) played fine = running_taken d (epoch lines) fine
+taken_fits d w lines (command.Round addr) played fine = running_taken (epoch lines) fine
+taken_fits d w lines (command.Stop addr) played fine = running_taken (epoch lines) fine
 taken_fits d w lines (command.Halt addr) played fine = absurd cc
 taken_fits d w lines c played fine = tt
 

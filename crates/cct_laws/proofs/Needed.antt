@@ -104,8 +104,8 @@ needs_halted d addr lines needs = by_job (job lines) needs
 needs_begun : (d : DeviceSetup) (c : Command) (state : EpochState) (owed : Option OpenOrder) → IsTaken d c state →
     IsOwed c owed → NeedsOf d c 0 state owed
 needs_begun d (command.Start addr mask) state owed is_taken is_owed = λ few. is_taken
-needs_begun d (command.Round addr) state owed is_taken is_owed = λ few. runs_by d state is_taken
-needs_begun d (command.Stop addr) state owed is_taken is_owed = λ few. runs_by d state is_taken
+needs_begun d (command.Round addr) state owed is_taken is_owed = λ few. runs_by state is_taken
+needs_begun d (command.Stop addr) state owed is_taken is_owed = λ few. runs_by state is_taken
 needs_begun d (command.Pay addr id count) state owed is_taken is_owed = λ few. is_owed
 needs_begun d c state owed is_taken is_owed = tt
 

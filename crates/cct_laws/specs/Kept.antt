@@ -69,8 +69,8 @@ suits (Hopper life value) c = is_for_hopper c
 -- A command to an acceptor is not refused because of its epoch.
 abbrev pub IsTaken : DeviceSetup → Command → EpochState → Type 0
 IsTaken d (command.Start addr mask) state = start_refusal mask d state ≡ None
-IsTaken d (command.Round addr) state = running_refusal d state ≡ None
-IsTaken d (command.Stop addr) state = running_refusal d state ≡ None
+IsTaken d (command.Round addr) state = running_refusal state ≡ None
+IsTaken d (command.Stop addr) state = running_refusal state ≡ None
 IsTaken d c state = ⊤
 
 -- The job at a device is one of a command for it and for its kind, in its range.

@@ -1,5 +1,5 @@
 -- Why a command is refused: the tests of each, in their order.
-use Rattle.std.specs.Prelude.{ℕ, ◌+◌, max, ◌==◌, ◌&&◌, nat_le, List, [], ◌∷◌, length, find, if◌then◌else◌, Option, Some, None}
+use Rattle.std.specs.Prelude.{ℕ, ◌+◌, max, ◌==◌, ◌&&◌, nat_le, Bool, true, false, not, is_some, List, [], ◌∷◌, length, find, if◌then◌else◌, Option, Some, None}
 use Rattle.std.specs.Option.{option_map, option_or}
 use Rattle.cct_model.specs.terms.device.DeviceBody.{DeviceBody}
 use Rattle.cct_model.specs.terms.device.DeviceSetup.{DeviceSetup}
@@ -13,56 +13,146 @@ use Rattle.cct_model.specs.declared.judging.EpochState.{EpochState}
 use Rattle.cct_model.specs.declared.judging.EpochState.TheVariants.{Idle, Running}
 use Rattle.cct_model.specs.declared.judging.OpenOrder.{OpenOrder}
 use Rattle.cct_model.specs.Setting.{has_place}
-use Rattle.cct_model.specs.Device.{is_acceptor, is_hopper, value_at}
-use Rattle.cct_model.specs.Exchange.{device_at}
+use Rattle.cct_model.specs.Device.{value_at}
+use Rattle.cct_model.specs.Exchange.{acceptor_there, device_at, hopper_there}
 use Rattle.cct_model.specs.Line.{Line}
 use Rattle.cct_model.specs.Order.{order}
-use Rattle.cct_model.specs.Job.{Job, free, works, job, done, puts_at, coin_places, epoch}
+use Rattle.cct_model.specs.Job.{Job, free, works, job, done, puts_at, coin_places, epoch, address_of}
 use Rattle.cct_model.specs.Rows.{row, row_of_sale, can_halt}
 use Rattle.cct_model.specs.Records.{records, greatest_id}
 use Rattle.cct_model.specs.Money.{sum_over, coins_of, available}
 use Rattle.cct_model.specs.Transcript.{lines_of, scan_lines, sale_lines}
 
--- The test of a command that a job is at its address.
-abbrev pub busy : Job → Option CommandNo
-busy free = None
-busy (works c since) = Some Busy
+-- A test of a command: a device is at the address, an acceptor, a hopper; no job is there; no epoch runs, or one does;
+-- each place of a mask has a value; no order is open, or one is; there is a payout that could be stopped; an id is new;
+-- the value of so many coins of the hopper at an address is available, or a price is; there is room for so many records.
+pub data Test : Type 0 where
+  at_a_device : Test
+  at_an_acceptor : Test
+  at_a_hopper : Test
+  with_no_job : Test
+  with_no_epoch : Test
+  with_an_epoch : Test
+  with_values : (mask : ℕ) → Test
+  with_no_order : Test
+  with_an_order : Test
+  with_a_payout : Test
+  with_new_id : (id : ℕ) → Test
+  with_coins : (addr : ℕ) (count : ℕ) → Test
+  with_price : (price : ℕ) → Test
+  with_room : (need : ℕ) → Test
 
--- The tests of a command to a device: there is none at the address, and then further ones.
-abbrev pub at_device : Option DeviceSetup → (DeviceSetup → Option CommandNo) → Option CommandNo
-at_device None further = Some NoDevice
-at_device (Some d) further = further d
+-- The tests of a command in their order: those of the state stand before those of the money and of the room.
+abbrev pub tests_of : Command → List Test
+tests_of (command.Start addr mask) =
+    at_a_device ∷ at_an_acceptor ∷ with_no_job ∷ with_no_epoch ∷ with_values mask ∷ with_room 1 ∷ []
+tests_of (command.Round addr) = at_a_device ∷ at_an_acceptor ∷ with_no_job ∷ with_an_epoch ∷ with_room 1 ∷ []
+tests_of (command.Stop addr) = at_a_device ∷ at_an_acceptor ∷ with_no_job ∷ with_an_epoch ∷ with_room 2 ∷ []
+tests_of (command.Pay addr id count) =
+    at_a_device ∷ at_a_hopper ∷ with_no_job ∷ with_no_order ∷ with_new_id id ∷ with_coins addr count ∷ with_room 2 ∷ []
+tests_of (command.Settle addr) = at_a_device ∷ at_a_hopper ∷ with_no_job ∷ with_an_order ∷ with_room 0 ∷ []
+tests_of (command.Halt addr) = at_a_device ∷ at_a_hopper ∷ with_a_payout ∷ []
+tests_of command.Scan = with_no_job ∷ []
+tests_of (command.Ident addr) = at_a_device ∷ with_no_job ∷ []
+tests_of (command.Path addr place path) = at_a_device ∷ at_an_acceptor ∷ with_no_job ∷ []
+tests_of (command.Vend id price) = with_no_job ∷ with_new_id id ∷ with_price price ∷ with_room 1 ∷ []
 
--- The tests of a command to a coin acceptor: there is no device at the address, or it is of another kind, and then
--- further ones.
-abbrev pub at_acceptor : Option DeviceSetup → (DeviceSetup → Option CommandNo) → Option CommandNo
-at_acceptor found further = at_device found (λ d. if is_acceptor d.body then further d else Some WrongKind)
+-- The tests of the state among these: they stand before those of the money and of the room.
+abbrev pub of_state : List Test → List Test
+of_state [] = []
+of_state (with_coins addr count ∷ tests) = []
+of_state (with_price price ∷ tests) = []
+of_state (with_room need ∷ tests) = []
+of_state (test ∷ tests) = test ∷ of_state tests
 
--- The tests of a command to a hopper, likewise.
-abbrev pub at_hopper : Option DeviceSetup → (DeviceSetup → Option CommandNo) → Option CommandNo
-at_hopper found further = at_device found (λ d. if is_hopper d.body then further d else Some WrongKind)
+-- The tests of the state of a command.
+abbrev pub state_tests : Command → List Test
+state_tests c = of_state (tests_of c)
 
--- The tests of a command to a coin acceptor that no job is at, beside those of its epoch.
-abbrev pub when_free : List Entry → (DeviceSetup → EpochState → Option CommandNo) → DeviceSetup → Option CommandNo
-when_free past further d = option_or (busy (job (lines_of d past))) (further d (epoch (lines_of d past)))
+-- How many records these tests want room for, 0 where they want none.
+abbrev pub room_in : List Test → ℕ
+room_in [] = 0
+room_in (with_room need ∷ tests) = need
+room_in (test ∷ tests) = room_in tests
 
--- The tests of a command to a hopper that no job is at, beside those of its open order.
-abbrev pub when_unpaid : List Entry → (Option OpenOrder → Option CommandNo) → DeviceSetup → Option CommandNo
-when_unpaid past further d = option_or (busy (job (lines_of d past))) (further (order (lines_of d past)))
+-- The money that these tests want available, 0 where they want none.
+abbrev pub money_in : Setup → List Test → ℕ
+money_in setup [] = 0
+money_in setup (with_coins addr count ∷ tests) = coins_of setup addr count
+money_in setup (with_price price ∷ tests) = price
+money_in setup (test ∷ tests) = money_in setup tests
+
+-- The reason of the first of these tests that fails, or none.
+abbrev pub first_of : (Test → Option CommandNo) → List Test → Option CommandNo
+first_of fails [] = None
+first_of fails (test ∷ []) = fails test
+first_of fails (test ∷ next ∷ tests) = option_or (fails test) (first_of fails (next ∷ tests))
+
+-- What the tests of the state look at: the device at the address, whether a job is there, whether it can be halted, the
+-- epoch and the open order there, and the last id.
+pub record View : Type 0 where
+  pub found : Option DeviceSetup
+  pub is_busy : Bool
+  pub is_payout : Bool
+  pub state : EpochState
+  pub owed : Option OpenOrder
+  pub last : ℕ
+
+-- The reason where something does not hold.
+abbrev pub unless : Bool → CommandNo → Option CommandNo
+unless holds why = if holds then None else Some why
 
 -- The least coin place of a mask that has no value, or none.
 abbrev pub valueless : DeviceBody → ℕ → Option ℕ
 valueless body mask = find (λ place. has_place mask place && (value_at body place == 0)) coin_places
 
--- The tests of a start beside the epoch: one runs already, or a place of the mask has no value.
-abbrev pub start_refusal : ℕ → DeviceSetup → EpochState → Option CommandNo
-start_refusal mask d Idle = option_map NoValue (valueless d.body mask)
-start_refusal mask d (Running running counter) = Some EpochRuns
+-- The test that no epoch runs.
+abbrev pub epoch_refusal : EpochState → Option CommandNo
+epoch_refusal Idle = None
+epoch_refusal (Running mask counter) = Some EpochRuns
 
--- The test of a round and of a stop beside the epoch: none runs.
-abbrev pub running_refusal : DeviceSetup → EpochState → Option CommandNo
-running_refusal d Idle = Some NoEpoch
-running_refusal d (Running mask counter) = None
+-- The test that an epoch runs.
+abbrev pub running_refusal : EpochState → Option CommandNo
+running_refusal Idle = Some NoEpoch
+running_refusal (Running mask counter) = None
+
+-- The test that each place of a mask has a value at a device.
+abbrev pub value_refusal : ℕ → Option DeviceSetup → Option CommandNo
+value_refusal mask None = None
+value_refusal mask (Some d) = option_map NoValue (valueless d.body mask)
+
+-- The tests of a start beside the epoch.
+abbrev pub start_refusal : ℕ → DeviceSetup → EpochState → Option CommandNo
+start_refusal mask d state = option_or (epoch_refusal state) (value_refusal mask (Some d))
+
+-- The test that no order is open.
+abbrev pub order_refusal : Option OpenOrder → Option CommandNo
+order_refusal None = None
+order_refusal (Some o) = Some (OrderOpen o.id)
+
+-- The test that an order is open.
+abbrev pub settle_refusal : Option OpenOrder → Option CommandNo
+settle_refusal None = Some NoOrder
+settle_refusal (Some o) = None
+
+-- The test that an id is above the last one.
+abbrev pub id_refusal : ℕ → ℕ → Option CommandNo
+id_refusal id last = if nat_le id last then Some (OldId last) else None
+
+-- The reason why a test of the state fails, if it does.
+abbrev pub state_fails : View → Test → Option CommandNo
+state_fails v at_a_device = unless (is_some v.found) NoDevice
+state_fails v at_an_acceptor = unless (acceptor_there v.found) WrongKind
+state_fails v at_a_hopper = unless (hopper_there v.found) WrongKind
+state_fails v with_no_job = unless (not v.is_busy) Busy
+state_fails v with_no_epoch = epoch_refusal v.state
+state_fails v with_an_epoch = running_refusal v.state
+state_fails v (with_values mask) = value_refusal mask v.found
+state_fails v with_no_order = order_refusal v.owed
+state_fails v with_an_order = settle_refusal v.owed
+state_fails v with_a_payout = unless v.is_payout NoPayout
+state_fails v (with_new_id id) = id_refusal id v.last
+state_fails v test = None
 
 -- How many records the job at a device may still put.
 abbrev pub job_holds : DeviceSetup → List Line → Job → ℕ
@@ -116,61 +206,53 @@ abbrev pub last_id : Setup → List Entry → ℕ
 last_id setup past =
     max (greatest_id (records past)) (max (greatest_running past setup.devices) (running_id (job (sale_lines past))))
 
--- The test that an id isn't above the last one.
-abbrev pub id_refusal : ℕ → ℕ → Option CommandNo
-id_refusal id last = if nat_le id last then Some (OldId last) else None
+-- The reason why a test of the money or of the room fails over a journal that takes so many records, if it does.
+abbrev pub room_fails : ℕ → Setup → List Entry → Test → Option CommandNo
+room_fails capacity setup past (with_coins addr count) = short_refusal setup past (coins_of setup addr count)
+room_fails capacity setup past (with_price price) = short_refusal setup past price
+room_fails capacity setup past (with_room need) = full_refusal setup past need capacity
+room_fails capacity setup past test = None
 
--- The tests of a payment beside the open order: one is open, or the id isn't new.
-abbrev pub pay_refusal : ℕ → ℕ → Option OpenOrder → Option CommandNo
-pay_refusal id last None = id_refusal id last
-pay_refusal id last (Some o) = Some (OrderOpen o.id)
+-- A job is at work.
+abbrev pub is_busy : Job → Bool
+is_busy free = false
+is_busy (works c since) = true
 
--- The test of a settlement: no order is open.
-abbrev pub settle_refusal : Option OpenOrder → Option CommandNo
-settle_refusal None = Some NoOrder
-settle_refusal (Some o) = None
+-- The lines among which the job of a command is: those of the device at its address, of scans, or of sales.
+abbrev pub lines_for : List Entry → Command → Option DeviceSetup → List Line
+lines_for past command.Scan found = scan_lines past
+lines_for past (command.Vend id price) found = sale_lines past
+lines_for past c None = []
+lines_for past c (Some d) = lines_of d past
 
--- The test of a halt: there is no payout that could be stopped.
-abbrev pub halt_refusal : DeviceSetup → Job → Option CommandNo
-halt_refusal d j = if can_halt d j then None else Some NoPayout
+-- A payout that could be stopped is at work at a device.
+abbrev pub halts_at : Option DeviceSetup → Job → Bool
+halts_at None j = false
+halts_at (Some d) j = can_halt d j
 
--- The tests of what spends so much and needs so many records.
-abbrev pub spending : Setup → List Entry → ℕ → ℕ → ℕ → Option CommandNo
-spending setup past wanted need capacity = option_or (short_refusal setup past wanted) (full_refusal setup past need capacity)
+-- What the tests of the state look at beside a device and the lines of a job there.
+abbrev pub view_of : Option DeviceSetup → List Line → ℕ → View
+view_of found lines last = record {
+  found = found;
+  is_busy = is_busy (job lines);
+  is_payout = halts_at found (job lines);
+  state = epoch lines;
+  owed = order lines;
+  last = last;
+}
 
--- The tests of a command but for those of the money and of the room: its device, the jobs, the epoch and the orders.
+-- What the tests of a command look at.
+abbrev pub view_for : Setup → List Entry → Command → View
+view_for setup past c =
+    let found = device_at setup.devices (address_of c) in view_of found (lines_for past c found) (last_id setup past)
+
+-- The first reason for which a command is refused but for the money and the room, or none.
 abbrev pub state_refusal : Setup → List Entry → Command → Option CommandNo
-state_refusal setup past (command.Start addr mask) =
-    at_acceptor (device_at setup.devices addr) (when_free past (start_refusal mask))
-state_refusal setup past (command.Round addr) =
-    at_acceptor (device_at setup.devices addr) (when_free past running_refusal)
-state_refusal setup past (command.Stop addr) =
-    at_acceptor (device_at setup.devices addr) (when_free past running_refusal)
-state_refusal setup past (command.Pay addr id count) =
-    at_hopper (device_at setup.devices addr) (when_unpaid past (pay_refusal id (last_id setup past)))
-state_refusal setup past (command.Settle addr) =
-    at_hopper (device_at setup.devices addr) (when_unpaid past settle_refusal)
-state_refusal setup past (command.Halt addr) =
-    at_hopper (device_at setup.devices addr) (λ d. halt_refusal d (job (lines_of d past)))
-state_refusal setup past command.Scan = busy (job (scan_lines past))
-state_refusal setup past (command.Ident addr) =
-    at_device (device_at setup.devices addr) (λ d. busy (job (lines_of d past)))
-state_refusal setup past (command.Path addr place path) =
-    at_acceptor (device_at setup.devices addr) (λ d. busy (job (lines_of d past)))
-state_refusal setup past (command.Vend id price) =
-    option_or (busy (job (sale_lines past))) (id_refusal id (last_id setup past))
+state_refusal setup past c = first_of (state_fails (view_for setup past c)) (state_tests c)
 
--- The tests of a command behind those: what it spends is available, and a journal that takes so many records has room for
--- what it may put.
+-- The first reason for which a command is refused for the money or the room, or none.
 abbrev pub room_refusal : ℕ → Setup → List Entry → Command → Option CommandNo
-room_refusal capacity setup past (command.Start addr mask) = full_refusal setup past 1 capacity
-room_refusal capacity setup past (command.Round addr) = full_refusal setup past 1 capacity
-room_refusal capacity setup past (command.Stop addr) = full_refusal setup past 2 capacity
-room_refusal capacity setup past (command.Pay addr id count) =
-    spending setup past (coins_of setup addr count) 2 capacity
-room_refusal capacity setup past (command.Settle addr) = full_refusal setup past 0 capacity
-room_refusal capacity setup past (command.Vend id price) = spending setup past price 1 capacity
-room_refusal capacity setup past c = None
+room_refusal capacity setup past c = first_of (room_fails capacity setup past) (tests_of c)
 
 -- The first reason that holds for which a command is refused, or none, over a journal that takes so many records.
 abbrev pub refusal : ℕ → Setup → List Entry → Command → Option CommandNo
