@@ -15,7 +15,8 @@ use Rattle.cct_model.specs.Device.{is_acceptor, is_hopper}
 use Rattle.cct_model.specs.Exchange.{device_at}
 use Rattle.cct_model.specs.Line.{Line}
 use Rattle.cct_model.specs.Order.{order}
-use Rattle.cct_model.specs.Job.{Job, free, works, job, Row, sends, puts, no_row, row, row_of_sale, epoch}
+use Rattle.cct_model.specs.Job.{Job, free, works, job, Row, sends, puts, no_row, epoch}
+use Rattle.cct_model.specs.Rows.{row, row_of_sale}
 use Rattle.cct_model.specs.Legal.{Entries, Legal, LegalFrom, NextEntries, RowEntries, PollEntries, ScanEntries, SaleRowEntries, SaleEntries, BareNext, OfDevice, OfAcceptor, OfHopper, OfNext}
 use Rattle.cct_model.specs.Scan.{scan_row}
 use Rattle.cct_model.specs.Transcript.{heard_after, lines_of, onto, sale_lines, scan_lines}
@@ -76,13 +77,13 @@ one_scan : (hears : List ℕ → List ℕ) (at_work : Job) → One (ScanEntries 
 one_scan hears free = one_is _
 one_scan hears (works c since) = one_poll hears since (scan_row since)
 
-one_sale_row : (c : Command) (is : Row) → One (SaleRowEntries c is)
-one_sale_row c (puts r) = one_is _
-one_sale_row c is = none_is
+one_sale_row : (c : Command) (since : List Line) (is : Row) → One (SaleRowEntries c since is)
+one_sale_row c since (puts r) = one_is _
+one_sale_row c since is = none_is
 
 one_sale : (at_work : Job) → One (SaleEntries at_work)
 one_sale free = one_is _
-one_sale (works c since) = one_sale_row c (row_of_sale c since)
+one_sale (works c since) = one_sale_row c since (row_of_sale c since)
 
 one_bare : (hears : List ℕ → List ℕ) (past : List Entry) (addr : ℕ) → One (BareNext hears past addr)
 one_bare hears past addr =
