@@ -15,3 +15,4 @@ pub mod DeviceSet
 pub mod Text
 pub mod Grammar
 pub mod Script
+pub mod Sums

@@ -7,6 +7,7 @@ use Rattle.cct_model.specs.lines.record.Record.TheVariants as record_of
 use Rattle.cct_model.specs.lines.entry.End.TheVariants.{Clean}
 use Rattle.cct_model.specs.Line.{Line, accepted, inhibited, alien, put, ended}
 use Rattle.cct_model.specs.Job.{credits_line, mask_line}
+use Rattle.cct_model.specs.Sums.{is_item}
 
 -- The coins that were accepted, newest first.
 abbrev pub coins : List Line → List Coin
@@ -37,14 +38,16 @@ abbrev pub looking : List Line → List Line
 looking [] = []
 looking (line ∷ past) = behind (mask_line line) past (looking past)
 
--- Up to which coins a record tells, newest first: a reading, those that were accepted before the credits were read; a
--- break, those before the mask was read; the begin and the end of an epoch, all that were accepted.
+-- Up to which coins a record that is an item tells, newest first: a reading, those that were accepted before the credits
+-- were read; a break, those before the mask was read; the begin and the end of an epoch, all that were accepted.
+abbrev pub known_by : Record → List Line → List Coin
+known_by (record_of.Reading addr counter lost posted) past = coins (reading past)
+known_by (record_of.Broken addr seen counter posted) past = coins (looking past)
+known_by r past = coins past
+
+-- The same, and none where the record is no item.
 abbrev pub told_by : Record → List Line → Option (List Coin)
-told_by (record_of.Epoch addr mask) past = Some (coins past)
-told_by (record_of.Reading addr counter lost posted) past = Some (coins (reading past))
-told_by (record_of.Broken addr seen counter posted) past = Some (coins (looking past))
-told_by (record_of.EpochEnd addr) past = Some (coins past)
-told_by r past = None
+told_by r past = if is_item r then Some (known_by r past) else None
 
 -- An item is a record of an acceptor, or a clean end, which tells as a reading does. Up to which coins it tells.
 abbrev pub told : List Line → Line → Option (List Coin)

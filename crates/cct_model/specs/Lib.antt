@@ -16,6 +16,7 @@ pub use Rattle.cct_lines.specs.DeviceSet
 pub use Rattle.cct_lines.specs.Text
 pub use Rattle.cct_lines.specs.Grammar
 pub use Rattle.cct_lines.specs.Script
+pub use Rattle.cct_lines.specs.Sums
 pub mod Reading
 pub mod Line
 pub mod Order

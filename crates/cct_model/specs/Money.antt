@@ -15,7 +15,8 @@ use Rattle.cct_model.specs.Device.{value_at}
 use Rattle.cct_model.specs.Exchange.{device_at}
 use Rattle.cct_model.specs.Job.{Job, works, job, done}
 use Rattle.cct_model.specs.Rows.{Due, new_order, sale, TableRow, puts_due}
-use Rattle.cct_model.specs.Records.{records, order_named, opened_in, order_in}
+use Rattle.cct_model.specs.Records.{records, order_named, order_in, owner_in}
+use Rattle.cct_model.specs.Sums.{posts_of, coins_paid, price_sold, sum_in}
 use Rattle.cct_model.specs.Transcript.{lines_of, sale_lines}
 
 -- The value of a coin of a place at a device, 0 where there is none or the place has none; places are numbered from 1.
@@ -48,35 +49,26 @@ amount setup None = 0
 amount setup (Some o) = coins_of setup o.addr o.count
 
 -- The value of the coins that a record posts.
-abbrev pub posted_by : Setup → Record → ℕ
-posted_by setup (record_of.Reading addr counter lost posted) = coins_value (device_at setup.devices addr) posted
-posted_by setup (record_of.Broken addr seen counter posted) = coins_value (device_at setup.devices addr) posted
-posted_by setup r = 0
+abbrev pub posted_by : Setup → List Record → Record → ℕ
+posted_by setup before r = coins_value (device_at setup.devices (owner_in before r)) (posts_of r)
 
 -- The value of all coins posted.
 abbrev pub posted_in : Setup → List Record → ℕ
 posted_in setup [] = 0
-posted_in setup (r ∷ before) = posted_by setup r + posted_in setup before
+posted_in setup (r ∷ before) = posted_by setup before r + posted_in setup before
 
 -- The value that a record says was paid: of a closed order, that of the coins that fell.
 abbrev pub paid_by : Setup → List Record → Record → ℕ
-paid_by setup before (record_of.Closed id paid unpaid) = coins_of setup (opened_in id before) paid
-paid_by setup before r = 0
+paid_by setup before r = coins_of setup (owner_in before r) (coins_paid r)
 
 -- The value of all coins paid.
 abbrev pub paid_in : Setup → List Record → ℕ
 paid_in setup [] = 0
 paid_in setup (r ∷ before) = paid_by setup before r + paid_in setup before
 
--- The price of a sale.
-abbrev pub sold_by : Record → ℕ
-sold_by (record_of.Sold id price) = price
-sold_by r = 0
-
 -- The sum of all prices.
 abbrev pub sold_in : List Record → ℕ
-sold_in [] = 0
-sold_in (r ∷ before) = sold_by r + sold_in before
+sold_in before = sum_in price_sold before
 
 -- The amount of an order that was closed with counts of life that don't fit it; it stays reserved.
 abbrev pub odd_by : Setup → List Record → Record → ℕ
