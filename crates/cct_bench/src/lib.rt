@@ -177,14 +177,3 @@ fn refuse_words<K: Sink>(out: &mut K) -> Status
         Status::WordsRefused,
     )
 }
-
-#[cfg(test)]
-mod command_tests;
-#[cfg(test)]
-mod crash_tests;
-#[cfg(test)]
-mod day_tests;
-#[cfg(test)]
-mod load_tests;
-#[cfg(test)]
-mod tests;

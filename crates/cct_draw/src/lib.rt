@@ -14,6 +14,3 @@ mod words;
 pub use label::{Label, MOST_LABEL};
 pub use mark::{FaultAt, Happening, Heard, Mark};
 pub use picture::{MOST_MARKS, Picture};
-
-#[cfg(test)]
-mod tests;

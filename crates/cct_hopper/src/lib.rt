@@ -9,6 +9,3 @@ mod states;
 pub use hopper::Hopper;
 pub use register::Register;
 pub use states::{AfterFall, DispenseNo, HopperIdle, HopperOff, HopperPaying};
-
-#[cfg(test)]
-mod tests;

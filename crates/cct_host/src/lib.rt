@@ -17,6 +17,3 @@ pub use desks::Desks;
 pub use host::Host;
 pub use refusal::{CrashNo, StartNo};
 pub use restart::Crashed;
-
-#[cfg(test)]
-mod tests;

@@ -17,6 +17,3 @@ pub use format::MOST_RECORDS;
 pub use journal::Journal;
 pub use refusal::{CreateNo, JournalNo, OpenNo, ReadNo};
 pub use replay::Replay;
-
-#[cfg(test)]
-mod tests;

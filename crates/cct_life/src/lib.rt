@@ -4,6 +4,3 @@
 mod count;
 
 pub use count::{LifeCount, since};
-
-#[cfg(test)]
-mod tests;

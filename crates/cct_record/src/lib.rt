@@ -11,6 +11,3 @@ pub use cct_lines::Record;
 pub use laws::a_body_spells_one_record;
 pub use reading::read;
 pub use writing::encode;
-
-#[cfg(test)]
-mod tests;

@@ -2,8 +2,8 @@
 ghost use Rattle.std.specs.Prelude.{◌≡◌, ◌≤◌, [], ◌∷◌};
 ghost use Rattle.cct_record.specs.Body.{Encodable};
 
-use super::*;
-use cct_lines::{Coin, Coins};
+use cct_lines::{Coin, Coins, Record};
+use cct_record::{encode, read};
 use std::alloc::Global;
 use std::process::Abort;
 use std::test::Fail;

@@ -2,8 +2,8 @@
 //! against every request and event, and pieces that are damaged, cut, lengthened or for others while it pays.
 ghost use Rattle.cct_terms.specs.Device.{IsHopper, IsPrinting, IsSound, IsWord};
 
-use crate::{DispenseNo, Hopper};
 use arrayvec::ArrayVec;
+use cct_hopper::{DispenseNo, Hopper};
 use cct_terms::{CheckKind, DeviceBody, DeviceSetup, MOST_SENT, Name, Texts};
 use std::test::Fail;
 

@@ -1,6 +1,6 @@
 //! Runs over a source that gives little at a time, over a source, a sink and a disk that fail, over a disk that isn't as
 //! a journal wants it, and up to a journal that is full.
-use crate::{Status, bench};
+use cct_bench::{Status, bench};
 use cct_disk::{Disk, MemDisk};
 use cct_edge::{MemSink, MemSource};
 use cct_journal::{Journal, OpenNo};

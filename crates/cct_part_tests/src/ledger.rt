@@ -4,7 +4,7 @@ ghost use Rattle.std.specs.Prelude.{◌≡◌, ◌≤◌};
 ghost use Rattle.cct_model.specs.Device.{IsSound, IsSoundBody, IsWord};
 ghost use Rattle.cct_model.specs.Setup.{IsSoundSetup};
 
-use crate::Ledger;
+use cct_ledger::Ledger;
 use cct_model::{
     COIN_PLACES, CheckKind, Coin, Coins, DeviceBody, DeviceSetup, Devices, Name, Record, Setup,
     Texts, Totals,

@@ -1,7 +1,7 @@
 //! The words of the command line, and reports over disks of many kinds.
 
-use crate::tests::{CALLS, DISK, POSTED, disk, lines_and, play, play_posted};
-use crate::{Status, Words, WordsNo, read_words};
+use crate::runs::{CALLS, DISK, POSTED, disk, lines_and, play, play_posted};
+use cct_bench::{Status, Words, WordsNo, read_words};
 use cct_disk::{Disk, MemDisk};
 use std::alloc::Global;
 use std::test::Fail;

@@ -1,8 +1,8 @@
 //! Losses of power in the midst of a script: where a record is kept, what the host knows behind them, and disks that
 //! fail in one.
 
-use crate::Status;
-use crate::tests::{CALLS, DISK, POSTED, POSTED_TEXT, disk, left_by_a_cut, lines_and, play};
+use crate::runs::{CALLS, DISK, POSTED, POSTED_TEXT, disk, left_by_a_cut, lines_and, play};
+use cct_bench::Status;
 use std::alloc::Global;
 use std::process::Abort;
 use std::test::Fail;

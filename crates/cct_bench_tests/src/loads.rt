@@ -1,7 +1,7 @@
 //! Loads: their sums, which the generator's rule tells by hand, and the faults that end one.
 
-use crate::Status;
-use crate::tests::{CALLS_BLANK, DISK, disk, lines_and, play};
+use crate::runs::{CALLS_BLANK, DISK, disk, lines_and, play};
+use cct_bench::Status;
 use cct_disk::Disk;
 use std::alloc::Global;
 use std::test::Fail;

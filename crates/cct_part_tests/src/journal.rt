@@ -2,9 +2,9 @@
 ghost use Rattle.std.specs.Prelude.{◌≡◌, false, IfOk};
 ghost use Rattle.cct_journal.specs.Journal.{has_failed};
 
-use super::*;
 use cct_disk::{Disk, MemDisk};
 use cct_edge::Failed;
+use cct_journal::{CreateNo, Journal, JournalNo, OpenNo, Replay};
 use cct_lines::Record;
 use std::alloc::Global;
 use std::process::Abort;

@@ -5,9 +5,9 @@ ghost use Rattle.cct_model.specs.Setup.{IsSoundSetup};
 ghost use Rattle.cct_journal.specs.Journal as journals;
 ghost use Rattle.cct_host.specs.Host.{has_failed};
 
-use crate::{CrashNo, Host};
 use arrayvec::ArrayVec;
 use cct_disk::MemDisk;
+use cct_host::{CrashNo, Host};
 use cct_journal::Journal;
 use cct_model::{
     COIN_PLACES, CheckKind, Command, CommandNo, CrashAt, DeviceBody, DeviceSetup, Devices,

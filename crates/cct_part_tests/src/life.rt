@@ -1,5 +1,5 @@
 //! The life count goes from its last number to 0 within a payout.
-use crate::{LifeCount, since};
+use cct_life::{LifeCount, since};
 use std::test::Fail;
 
 #[test]

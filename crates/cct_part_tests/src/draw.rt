@@ -1,5 +1,5 @@
 //! A picture is a well-formed document, whatever its texts hold; it says what its marks are, and ends where a put fails.
-use crate::{FaultAt, Happening, Heard, Label, Mark, Picture};
+use cct_draw::{FaultAt, Happening, Heard, Label, Mark, Picture};
 use cct_edge::{Failed, MemSink};
 use cct_lines::{Coin, Coins, Record};
 use std::alloc::{AllocError, Global};

@@ -1,8 +1,9 @@
 //! A day's use, and the same day with one more loss of power: whatever is lost, the coins that were accepted, posted and
 //! paid, the balance, and the records on the disk agree at its end.
 
-use crate::Status;
-use crate::tests::{DISK, disk, play};
+use cct_bench::{Status, bench};
+use cct_disk::MemDisk;
+use cct_edge::{MemSink, MemSource};
 use std::alloc::Global;
 use std::process::Abort;
 use std::test::Fail;
@@ -289,14 +290,36 @@ fn script_of(alloc: Global, steps: &[String], crash: Option<Before>) -> Result<S
     Ok(script)
 }
 
-/// Plays a script over a blank disk, and then lists what it left there; gives what is written by both.
-fn written_by(rt: &impl Abort, alloc: Global, script: &str) -> Result<(String, String), Fail> {
-    let blank = disk(alloc, DISK, &[])?;
+/// How many bytes a disk has that a journal is created on.
+const DISK: u64 = 2_097_152;
+
+/// Plays a script by one word over a disk, with the takes of these numbers failing. A transcript has room where it is no
+/// longer than eight times its script.
+fn play(
+    alloc: Global,
+    word: &str,
+    script: &str,
+    takes: &[u64],
+    disk: MemDisk,
+) -> Result<(Status, String, MemDisk), Fail> {
+    let words = vec![in alloc; String::from_str(alloc, word)?]?;
+    let room = script.len().saturating_mul(8).saturating_add(4096);
     let script = script.as_bytes().to_vec(alloc)?;
-    let (ran, transcript, used) = play(alloc, &["run"], script, 4096, &[], &[], blank)?;
-    let (listed, report, _) = play(alloc, &["report"], Vec::new(alloc), 1, &[1], &[], used)?;
+    let mut source = MemSource::new(script, 4096, takes.to_vec(alloc)?);
+    let mut sink = MemSink::new(alloc, room, Vec::new(alloc))?;
+    let (status, disk) = bench(alloc, words.as_slice(), &mut source, &mut sink, disk);
+    let written = String::from_utf8(sink.bytes().to_vec(alloc)?)?;
+    Ok((status, written, disk))
+}
+
+/// Plays a script over a blank disk, and then lists what it left there, where any take would fail; gives what is written
+/// by both.
+fn written_by(rt: &impl Abort, alloc: Global, script: &str) -> Result<(String, String), Fail> {
+    let blank = MemDisk::new(alloc, DISK, Vec::new(alloc))?;
+    let (ran, transcript, used) = play(alloc, "run", script, &[], blank)?;
+    let (listed, report, _) = play(alloc, "report", "", &[1], used)?;
     assert_eq!(rt; (ran, listed), (Status::Done, Status::Done));
-    Ok((String::from_utf8(transcript)?, String::from_utf8(report)?))
+    Ok((transcript, report))
 }
 
 /// Plays the day with a loss of power more, up to which and by which this is told, and holds its end against its lines.

@@ -1,0 +1,7 @@
+//! Tests of a host by itself, and of days of use with one more loss of power.
+#![tactic(auto)]
+
+#[cfg(test)]
+mod day;
+#[cfg(test)]
+mod host;

@@ -1,0 +1,15 @@
+//! Tests of the parts by themselves: a life count, a hopper, the bodies of records, a journal, a ledger and a picture.
+#![tactic(auto)]
+
+#[cfg(test)]
+mod draw;
+#[cfg(test)]
+mod hopper;
+#[cfg(test)]
+mod journal;
+#[cfg(test)]
+mod ledger;
+#[cfg(test)]
+mod life;
+#[cfg(test)]
+mod record;
