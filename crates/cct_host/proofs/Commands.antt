@@ -8,7 +8,7 @@ use Rattle.cct_model.specs.terms.device.Setup.{Setup}
 use Rattle.cct_model.specs.lines.command.Command.{Command}
 use Rattle.cct_model.specs.lines.command.Command.TheVariants as command
 use Rattle.cct_model.specs.lines.command.CommandNo.{CommandNo}
-use Rattle.cct_model.specs.lines.command.CommandNo.TheVariants.{NoDevice, NoPayout, WrongKind}
+use Rattle.cct_model.specs.lines.command.CommandNo.TheVariants.{Busy, NoDevice, WrongKind}
 use Rattle.cct_model.specs.lines.entry.End.{End}
 use Rattle.cct_model.specs.lines.entry.Entry.{Entry}
 use Rattle.cct_model.specs.lines.entry.Entry.TheVariants as entry
@@ -20,8 +20,9 @@ use Rattle.cct_model.specs.Exchange.{acceptor_there, device_at, hopper_there}
 use Rattle.cct_model.specs.Job as model
 use Rattle.cct_model.specs.Rows as table
 use Rattle.cct_model.specs.Job.{address_of}
+use Rattle.cct_model.specs.Line.{Line}
 use Rattle.cct_model.specs.Order.{order}
-use Rattle.cct_model.specs.Refusal.{at_acceptor, at_device, at_hopper, busy, halt_refusal, id_refusal, last_id, pay_refusal, state_refusal, running_id, running_refusal, settle_refusal, start_refusal, when_free, when_unpaid}
+use Rattle.cct_model.specs.Refusal.{View, first_of, id_refusal, is_busy, last_id, lines_for, running_id, running_refusal, settle_refusal, state_fails, state_refusal, state_tests, unless, view_of}
 use Rattle.cct_model.specs.Transcript.{lines_of, sale_lines, scan_lines}
 use Rattle.cct_jobs.specs.declared.job.Job.{Job}
 use Rattle.cct_host.specs.declared.dues.Dues.{Dues}
@@ -30,55 +31,20 @@ use Rattle.cct_jobs.specs.Sales.{StandsSale}
 use Rattle.cct_jobs.specs.Scans.{StandsScan}
 use Rattle.cct_host.specs.Desk.{Keeps, Works}
 use Rattle.cct_host.specs.Place.{Place, device, sales, scans}
-use Rattle.cct_host.specs.Running.{acceptor_refusal, busy_by, halting_refusal, halts_in, hopper_refusal, is_halt, is_running, refusal_beside, sale_refusal}
+use Rattle.cct_host.specs.Running.{busy_by, halting_refusal, halts_in, is_halt, is_running, refusal_beside, sale_refusal, seen_at}
+use Rattle.cct_laws.proofs.Tests.{Pass, all_pass, test_holds}
 use Rattle.cct_jobs.proofs.Halts.{halts_known}
 use Rattle.cct_jobs.proofs.Needs.{end_known}
 use Rattle.cct_host.proofs.Keeps.{GoesByHalt, halt_keeps, keeps_quiet, taken_keeps}
 use Rattle.cct_host.proofs.Lines.{refused_quiet}
 
 -- a job there
-pub busy_is : (place : Place) (job : Option Job) (j : model.Job) (state : EpochState) (owed : Option OpenOrder)
-    → Works place job j state owed → busy_by job ≡ busy j
+busy_is : (place : Place) (job : Option Job) (j : model.Job) (state : EpochState) (owed : Option OpenOrder)
+    → Works place job j state owed → is_some job ≡ is_busy j
 busy_is place None model.free state owed works = refl
 busy_is place (Some job) (model.works c since) state owed works = refl
 busy_is place None (model.works c since) state owed works = absurd works
 busy_is place (Some job) model.free state owed works = absurd works
-
-no_more : (why : Option CommandNo) → option_or why None ≡ why
-no_more None = refl
-no_more (Some why) = refl
-
--- the tests at an acceptor
-free_refusal : (found : Option DeviceSetup) (d : DeviceSetup) (job : Option Job) (state : EpochState)
-    (owed : Dues) (past : List Entry) (further : DeviceSetup → EpochState → Option CommandNo) → found ≡ Some d
-    → Keeps (device d) job state owed (lines_of d past)
-    → acceptor_refusal d job (further d state) ≡ at_acceptor found (when_free past further)
-free_refusal found d job state owed past further is keeps =
-    ap (λ b. cond (is_acceptor d.body) (option_or b (further d state)) (Some WrongKind))
-    (busy_is (device d) job _ _ _ keeps.works)
-    ∙ ap (λ n. cond (is_acceptor d.body) (option_or (busy (model.job (lines_of d past))) (further d n))
-    (Some WrongKind)) keeps.knows.0
-    ∙ sym (ap (λ f. at_acceptor f (when_free past further)) is)
-
-plain_refusal : (found : Option DeviceSetup) (d : DeviceSetup) (job : Option Job) (state : EpochState)
-    (owed : Dues) (past : List Entry) → found ≡ Some d → Keeps (device d) job state owed (lines_of d past)
-    → acceptor_refusal d job None ≡ at_acceptor found (λ e. busy (model.job (lines_of e past)))
-plain_refusal found d job state owed past is keeps =
-    ap (λ b. cond (is_acceptor d.body) b (Some WrongKind))
-    (no_more (busy_by job) ∙ busy_is (device d) job _ _ _ keeps.works)
-    ∙ sym (ap (λ f. at_acceptor f (λ e. busy (model.job (lines_of e past)))) is)
-
--- the tests at a hopper
-unpaid_refusal : (found : Option DeviceSetup) (d : DeviceSetup) (job : Option Job) (state : EpochState)
-    (owed : Dues) (past : List Entry) (further : Option OpenOrder → Option CommandNo) → found ≡ Some d
-    → Keeps (device d) job state owed (lines_of d past)
-    → hopper_refusal d job (further (order_of owed.order)) ≡ at_hopper found (when_unpaid past further)
-unpaid_refusal found d job state owed past further is keeps =
-    ap (λ b. cond (is_hopper d.body) (option_or b (further (order_of owed.order))) (Some WrongKind))
-    (busy_is (device d) job _ _ _ keeps.works)
-    ∙ ap (λ o. cond (is_hopper d.body) (option_or (busy (model.job (lines_of d past))) (further o)) (Some WrongKind))
-    keeps.knows.1
-    ∙ sym (ap (λ f. at_hopper f (when_unpaid past further)) is)
 
 none_of : (end : Option End) → not (is_some end) ≡ true → end ≡ None
 none_of None runs = refl
@@ -94,49 +60,54 @@ halts_is d (Some job) (model.works c since) state owed runs works =
 halts_is d None (model.works c since) state owed runs works = absurd works
 halts_is d (Some job) model.free state owed runs works = absurd works
 
+-- the tests of a command at a device look at what its lines tell
+abbrev seen : DeviceSetup → ℕ → Bool → Bool → EpochState → Option OpenOrder → View
+seen d last busy payout state owed = record {
+  found = Some d;
+  is_busy = busy;
+  is_payout = payout;
+  state = state;
+  owed = owed;
+  last = last;
+}
+
+seen_is : (d : DeviceSetup) (job : Option Job) (state : EpochState) (owed : Dues) (last : ℕ) (lines : List Line)
+    → is_running job ≡ true → Keeps (device d) job state owed lines
+    → seen_at d job state owed last ≡ view_of (Some d) lines last
+seen_is d job state owed last lines runs keeps =
+    ap (λ b. seen d last b (halts_in job) state (order_of owed.order)) (busy_is (device d) job _ _ _ keeps.works)
+    ∙ ap (λ p. seen d last (is_busy (model.job lines)) p state (order_of owed.order))
+    (halts_is d job _ _ _ runs keeps.works)
+    ∙ ap (λ n. seen d last (is_busy (model.job lines)) (model.can_halt (model.job lines)) n (order_of owed.order))
+    keeps.knows.0
+    ∙ ap (seen d last (is_busy (model.job lines)) (model.can_halt (model.job lines)) (model.epoch lines)) keeps.knows.1
+
+lines_there : (past : List Entry) (c : Command) (d : DeviceSetup) → is_of_device c ≡ true
+    → lines_for past c (Some d) ≡ lines_of d past
+lines_there past command.Scan d of_device = absurd cc
+lines_there past (command.Vend id price) d of_device = absurd cc
+lines_there past c d of_device = refl
+
+pub refusal_is : (setup : Setup) (d : DeviceSetup) (job : Option Job) (state : EpochState) (owed : Dues) (last : ℕ)
+    (past : List Entry) (c : Command) → last ≡ last_id setup past → is_running job ≡ true → is_of_device c ≡ true
+    → device_at setup.devices (address_of c) ≡ Some d → Keeps (device d) job state owed (lines_of d past)
+    → refusal_beside d job state owed last c ≡ state_refusal setup past c
+refusal_is setup d job state owed last past c is_last runs of_device there keeps =
+    ap (λ v. first_of (state_fails v) (state_tests c)) (
+    seen_is d job state owed last (lines_of d past) runs keeps
+    ∙ ap (view_of (Some d) (lines_of d past)) is_last
+    ∙ ap (λ lines. view_of (Some d) lines (last_id setup past)) (sym (lines_there past c d of_device))
+    ∙ ap (λ f. view_of f (lines_for past c f) (last_id setup past)) (sym there))
+
 pub halting_is : (setup : Setup) (d : DeviceSetup) (job : Option Job) (state : EpochState) (owed : Dues)
     (past : List Entry) (c : Command) → is_running job ≡ true → is_halt c ≡ true
     → device_at setup.devices (address_of c) ≡ Some d → Keeps (device d) job state owed (lines_of d past)
     → halting_refusal d job ≡ state_refusal setup past c
 halting_is setup d job state owed past (command.Halt addr) runs halt there keeps =
-    ap (λ b. cond (is_hopper d.body) (cond b None (Some NoPayout)) (Some WrongKind))
-    (halts_is d job _ _ _ runs keeps.works)
-    ∙ sym (ap (λ f. at_hopper f (λ e. halt_refusal e (model.job (lines_of e past)))) there)
+    refusal_is setup d job state owed (last_id setup past) past (command.Halt addr) refl runs refl there keeps
 halting_is setup d job state owed past c runs halt there keeps = absurd cc
 
--- the tests of a command that begins a job at a device
-pub refusal_is : (setup : Setup) (d : DeviceSetup) (job : Option Job) (state : EpochState) (owed : Dues) (last : ℕ)
-    (past : List Entry) (c : Command) → last ≡ last_id setup past → is_of_device c ≡ true → is_halt c ≡ false
-    → device_at setup.devices (address_of c) ≡ Some d
-    → Keeps (device d) job state owed (lines_of d past) → refusal_beside d job state owed last c ≡ state_refusal setup
-    past c
-refusal_is setup d job state owed last past (command.Start addr mask) is_last of_device no_halt there keeps =
-    free_refusal _ d job state owed past (start_refusal mask) there keeps
-refusal_is setup d job state owed last past (command.Round addr) is_last of_device no_halt there keeps =
-    free_refusal _ d job state owed past running_refusal there keeps
-refusal_is setup d job state owed last past (command.Stop addr) is_last of_device no_halt there keeps =
-    free_refusal _ d job state owed past running_refusal there keeps
-refusal_is setup d job state owed last past (command.Path addr place path) is_last of_device no_halt there keeps =
-    plain_refusal _ d job state owed past there keeps
-refusal_is setup d job state owed last past (command.Ident addr) is_last of_device no_halt there keeps =
-    busy_is (device d) job _ _ _ keeps.works ∙ sym (ap (λ f. at_device f (λ e. busy (model.job (lines_of e past))))
-    there)
-refusal_is setup d job state owed last past (command.Pay addr id count) is_last of_device no_halt there keeps =
-    ap (λ l. hopper_refusal d job (pay_refusal id l (order_of owed.order))) is_last
-    ∙ unpaid_refusal _ d job state owed past (pay_refusal id (last_id setup past)) there keeps
-refusal_is setup d job state owed last past (command.Settle addr) is_last of_device no_halt there keeps =
-    unpaid_refusal _ d job state owed past settle_refusal there keeps
-refusal_is setup d job state owed last past (command.Halt addr) is_last of_device no_halt there keeps = absurd cc
-refusal_is setup d job state owed last past command.Scan is_last of_device no_halt there keeps = absurd cc
-refusal_is setup d job state owed last past c is_last of_device no_halt there keeps = absurd cc
-
 -- what isn't refused may begin
-free_by : (kind : Bool) (job further : Option CommandNo) → cond kind (option_or job further) (Some WrongKind) ≡ None
-    → (kind ≡ true) × (further ≡ None)
-free_by true None further e = (refl, e)
-free_by true (Some why) further e = absurd cc
-free_by false job further e = absurd cc
-
 acceptor_is_there : (found : Option DeviceSetup) (d : DeviceSetup) → found ≡ Some d → is_acceptor d.body ≡ true
     → IsTrue (acceptor_there found)
 acceptor_is_there found d is kind = subst (λ f. IsTrue (acceptor_there f)) (sym is) kind
@@ -149,33 +120,38 @@ pub owed_where_free : (owed : Option OpenOrder) → settle_refusal owed ≡ None
 owed_where_free None free = absurd cc
 owed_where_free (Some o) free = refl
 
-runs_where_free : (d : DeviceSetup) (state : EpochState) → running_refusal d state ≡ None → IsRunning state
-runs_where_free d Idle free = absurd cc
-runs_where_free d (Running mask counter) free = tt
+runs_where_free : (state : EpochState) → running_refusal state ≡ None → IsRunning state
+runs_where_free Idle free = absurd cc
+runs_where_free (Running mask counter) free = tt
 
 pub may_begin : (devices : List DeviceSetup) (d : DeviceSetup) (job : Option Job) (state : EpochState)
     (owed : Dues) (last : ℕ) (c : Command) → is_halt c ≡ false → is_of_device c ≡ true
     → device_at devices (address_of c) ≡ Some d → refusal_beside d job state owed last c ≡ None
     → MayBegin c devices state (order_of owed.order)
-may_begin devices d job state owed last (command.Start addr mask) no_halt of_device there free =
-    acceptor_is_there _ d there (free_by _ (busy_by job) (start_refusal mask d state) free).0
-may_begin devices d job state owed last (command.Round addr) no_halt of_device there free =
-    let parts = free_by _ (busy_by job) (running_refusal d state) free in
-    (acceptor_is_there _ d there parts.0, runs_where_free d state parts.1)
-may_begin devices d job state owed last (command.Stop addr) no_halt of_device there free =
-    let parts = free_by _ (busy_by job) (running_refusal d state) free in
-    (acceptor_is_there _ d there parts.0, runs_where_free d state parts.1)
-may_begin devices d job state owed last (command.Path addr place path) no_halt of_device there free =
-    acceptor_is_there _ d there (free_by _ (busy_by job) None free).0
-may_begin devices d job state owed last (command.Ident addr) no_halt of_device there free =
-    subst (λ f. IsTrue (is_some f)) (sym there) refl
-may_begin devices d job state owed last (command.Pay addr id count) no_halt of_device there free =
-    hopper_is_there _ d there (free_by _ (busy_by job) (pay_refusal id last (order_of owed.order)) free).0
-may_begin devices d job state owed last (command.Settle addr) no_halt of_device there free =
-    let parts = free_by _ (busy_by job) (settle_refusal (order_of owed.order)) free in
-    (hopper_is_there _ d there parts.0, owed_where_free (order_of owed.order) parts.1)
-may_begin devices d job state owed last (command.Halt addr) no_halt of_device there free = absurd cc
-may_begin devices d job state owed last c no_halt of_device there free = absurd cc
+may_begin devices d job state owed last c no_halt of_device there free =
+    by_command c no_halt of_device there (all_pass (state_fails (seen_at d job state owed last)) (state_tests c) free)
+  where
+    at_acceptor : (addr : ℕ) → device_at devices addr ≡ Some d → unless (is_acceptor d.body) WrongKind ≡ None
+        → IsTrue (acceptor_there (device_at devices addr))
+    at_acceptor addr there kind = acceptor_is_there _ d there (test_holds (is_acceptor d.body) WrongKind kind)
+
+    at_hopper : (addr : ℕ) → device_at devices addr ≡ Some d → unless (is_hopper d.body) WrongKind ≡ None
+        → IsTrue (hopper_there (device_at devices addr))
+    at_hopper addr there kind = hopper_is_there _ d there (test_holds (is_hopper d.body) WrongKind kind)
+
+    by_command : (c : Command) → is_halt c ≡ false → is_of_device c ≡ true → device_at devices (address_of c) ≡ Some d
+        → Pass (state_fails (seen_at d job state owed last)) (state_tests c) → MayBegin c devices state (order_of owed.order)
+    by_command (command.Start addr mask) no_halt of_device there passes = at_acceptor addr there passes.1.0
+    by_command (command.Path addr place path) no_halt of_device there passes = at_acceptor addr there passes.1.0
+    by_command (command.Round addr) no_halt of_device there passes =
+        (at_acceptor addr there passes.1.0, runs_where_free state passes.1.1.1.0)
+    by_command (command.Stop addr) no_halt of_device there passes =
+        (at_acceptor addr there passes.1.0, runs_where_free state passes.1.1.1.0)
+    by_command (command.Ident addr) no_halt of_device there passes = subst (λ f. IsTrue (is_some f)) (sym there) refl
+    by_command (command.Pay addr id count) no_halt of_device there passes = at_hopper addr there passes.1.0
+    by_command (command.Settle addr) no_halt of_device there passes =
+        (at_hopper addr there passes.1.0, owed_where_free (order_of owed.order) passes.1.1.1.0)
+    by_command c no_halt of_device there passes = absurd cc
 
 -- a command that begins a job begins its own
 begins_own : (c : Command) (devices : List DeviceSetup) (state : EpochState) (owed : Option OpenOrder)
@@ -207,15 +183,15 @@ address_there (e ∷ es) addr d is = there_by (e.addr == addr) e d (device_at es
 -- a command at a device
 pub command_taken : (setup : Setup) (d : DeviceSetup) (c : Command) (before : Option Job) (job : Job)
     (state : EpochState) (owed after : Dues) (last : ℕ) (past : List Entry) → last ≡ last_id setup past
-    → is_of_device c ≡ true → is_halt c ≡ false → after.order ≡ owed.order
+    → is_of_device c ≡ true → is_running before ≡ true → after.order ≡ owed.order
     → after.id ≡ running_id (model.works c [])
     → device_at setup.devices (address_of c) ≡ Some d → refusal_beside d before state owed last c ≡ None
     → MayBegin c setup.devices state (order_of owed.order) → Stands d job c [] state (order_of owed.order)
     → Keeps (device d) before state owed (lines_of d past)
     → (None ≡ state_refusal setup past c) × Keeps (device d) (Some job) state after (lines_of d (entry.Taken c ∷ past))
-command_taken setup d c before job state owed after last past is_last of_device no_halt ordered named there free may
+command_taken setup d c before job state owed after last past is_last of_device runs ordered named there free may
     stands keeps = (
-      sym free ∙ refusal_is setup d before state owed last past c is_last of_device no_halt there keeps,
+      sym free ∙ refusal_is setup d before state owed last past c is_last runs of_device there keeps,
       taken_keeps (device d) c job state after past (sym (address_there setup.devices (address_of c) d there))
           (begins_own c setup.devices state (order_of owed.order) _ may)
           (subst (λ n. Stands d job c [] n (order (lines_of d past))) keeps.knows.0
@@ -228,12 +204,12 @@ command_taken setup d c before job state owed after last past is_last of_device 
 
 pub command_refused : (setup : Setup) (d : DeviceSetup) (c : Command) (job : Option Job) (state : EpochState)
     (owed : Dues) (last : ℕ) (past : List Entry) (why : CommandNo) → last ≡ last_id setup past
-    → is_of_device c ≡ true → is_halt c ≡ false
+    → is_of_device c ≡ true → is_running job ≡ true
     → device_at setup.devices (address_of c) ≡ Some d → refusal_beside d job state owed last c ≡ Some why
     → Keeps (device d) job state owed (lines_of d past)
     → (Some why ≡ state_refusal setup past c) × Keeps (device d) job state owed (lines_of d (entry.No c why ∷ past))
-command_refused setup d c job state owed last past why is_last of_device no_halt there is keeps = (
-  sym is ∙ refusal_is setup d job state owed last past c is_last of_device no_halt there keeps,
+command_refused setup d c job state owed last past why is_last of_device runs there is keeps = (
+  sym is ∙ refusal_is setup d job state owed last past c is_last runs of_device there keeps,
   keeps_quiet (device d) job state owed past
       (entry.No c why) (refused_quiet past c why) keeps,
 )
@@ -261,10 +237,14 @@ halt_refused setup d c job state owed past why runs halt there is keeps = (
 )
 
 -- a scan
-scan_refusal : (setup : Setup) (c : Command) (job : Option Job) (state : EpochState) (owed : Dues)
+busy_same : (place : Place) (job : Option Job) (j : model.Job) (state : EpochState) (owed : Option OpenOrder)
+    → Works place job j state owed → busy_by job ≡ unless (not (is_busy j)) Busy
+busy_same place job j state owed works = ap (λ b. unless (not b) Busy) (busy_is place job j state owed works)
+
+pub scan_refusal : (setup : Setup) (c : Command) (job : Option Job) (state : EpochState) (owed : Dues)
     (past : List Entry) → c ≡ command.Scan → Keeps scans job state owed (scan_lines past)
     → busy_by job ≡ state_refusal setup past c
-scan_refusal setup c job state owed past is keeps = busy_is scans job _ _ _ keeps.works
+scan_refusal setup c job state owed past is keeps = busy_same scans job _ _ _ keeps.works
     ∙ sym (ap (state_refusal setup past) is)
 
 pub scan_taken : (setup : Setup) (c : Command) (before : Option Job) (job : Job) (state : EpochState)
@@ -294,8 +274,8 @@ pub sale_refusal_is : (setup : Setup) (id price : ℕ) (job : Option Job) (state
     (past : List Entry) → last ≡ last_id setup past → Keeps sales job state owed (sale_lines past)
     → sale_refusal job id last ≡ state_refusal setup past (command.Vend id price)
 sale_refusal_is setup id price job state owed last past is_last keeps =
-    ap (λ b. option_or b (id_refusal id last)) (busy_is sales job _ _ _ keeps.works)
-    ∙ ap (λ l. option_or (busy (model.job (sale_lines past))) (id_refusal id l)) is_last
+    ap (λ b. option_or b (id_refusal id last)) (busy_same sales job _ _ _ keeps.works)
+    ∙ ap (λ l. option_or (unless (not (is_busy (model.job (sale_lines past)))) Busy) (id_refusal id l)) is_last
 
 pub sale_taken : (setup : Setup) (id price : ℕ) (before : Option Job) (job : Job) (state : EpochState)
     (owed after : Dues) (last : ℕ) (past : List Entry) → last ≡ last_id setup past → after.order ≡ owed.order
@@ -321,23 +301,10 @@ sale_refused setup id price job state owed last past why is_last is keeps = (
 -- no device
 pub absent_refused : (setup : Setup) (past : List Entry) (c : Command) → is_of_device c ≡ true
     → device_at setup.devices (address_of c) ≡ None → Some NoDevice ≡ state_refusal setup past c
-absent_refused setup past (command.Start addr mask) of_device none =
-    sym (ap (λ f. at_acceptor f (when_free past (start_refusal mask))) none)
-absent_refused setup past (command.Round addr) of_device none =
-    sym (ap (λ f. at_acceptor f (when_free past running_refusal)) none)
-absent_refused setup past (command.Stop addr) of_device none =
-    sym (ap (λ f. at_acceptor f (when_free past running_refusal)) none)
-absent_refused setup past (command.Path addr place path) of_device none =
-    sym (ap (λ f. at_acceptor f (λ d. busy (model.job (lines_of d past)))) none)
-absent_refused setup past (command.Pay addr id count) of_device none =
-    sym (ap (λ f. at_hopper f (when_unpaid past (pay_refusal id (last_id setup past)))) none)
-absent_refused setup past (command.Settle addr) of_device none =
-    sym (ap (λ f. at_hopper f (when_unpaid past settle_refusal)) none)
-absent_refused setup past (command.Halt addr) of_device none =
-    sym (ap (λ f. at_hopper f (λ d. halt_refusal d (model.job (lines_of d past)))) none)
-absent_refused setup past (command.Ident addr) of_device none =
-    sym (ap (λ f. at_device f (λ d. busy (model.job (lines_of d past)))) none)
-absent_refused setup past c of_device none = absurd cc
+absent_refused setup past command.Scan of_device none = absurd cc
+absent_refused setup past (command.Vend id price) of_device none = absurd cc
+absent_refused setup past c of_device none =
+    sym (ap (λ f. first_of (state_fails (view_of f (lines_for past c f) (last_id setup past))) (state_tests c)) none)
 
 -- what a refused command leaves, part by part
 pub stays_by : {A B C D E : Type 0} (r : Result Unit CommandNo) (P : Type 0) (a : A) (b old_b : B) (c old_c : C)

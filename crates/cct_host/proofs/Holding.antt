@@ -1,21 +1,18 @@
 -- How what a desk holds and reserves changes, whatever happened before.
-use Rattle.std.proofs.Common.{◌≡◌, ℕ, ◌+◌, ◌≤◌, Bool, true, false, cond, List, [], ◌∷◌, refl, sym, ap, subst, ◌∙◌, Option, Some, None, arith}
+use Rattle.std.proofs.Common.{◌≡◌, ℕ, ◌+◌, ◌≤◌, true, false, cond, List, [], ◌∷◌, refl, sym, ap, subst, ◌∙◌, Option, Some, None, arith}
 use Rattle.std.specs.Prelude.{IsTrue, is_some}
 use Rattle.cct_model.specs.terms.device.DeviceSetup.{DeviceSetup}
 use Rattle.cct_model.specs.lines.command.Command.{Command}
 use Rattle.cct_model.specs.lines.command.Command.TheVariants as command
-use Rattle.cct_model.specs.lines.command.CommandNo.{CommandNo}
-use Rattle.cct_model.specs.lines.command.CommandNo.TheVariants.{WrongKind}
 use Rattle.cct_model.specs.lines.entry.End.{End}
 use Rattle.cct_model.specs.lines.entry.Entry.{Entry}
 use Rattle.cct_model.specs.lines.record.Record.{Record}
 use Rattle.cct_model.specs.lines.record.Record.TheVariants as record_of
 use Rattle.cct_model.specs.declared.judging.EpochState.{EpochState}
 use Rattle.cct_model.specs.declared.judging.OpenOrder.{OpenOrder}
-use Rattle.cct_model.specs.Device.{is_acceptor, is_hopper}
 use Rattle.cct_model.specs.Line.{put}
-use Rattle.std.specs.Option.{IfSome, option_or}
-use Rattle.cct_model.specs.Refusal.{pay_refusal, running_refusal, settle_refusal, start_refusal}
+use Rattle.std.specs.Option.{IfSome}
+use Rattle.cct_model.specs.Refusal.{state_fails, state_tests}
 use Rattle.cct_jobs.specs.declared.job.Job.{Job}
 use Rattle.cct_jobs.specs.declared.job.Job.TheVariants.{StartPuts, RoundPuts, StopPuts, StopEnds, OrderOpens, OrderCloses, SalePuts, Done}
 use Rattle.cct_jobs.specs.declared.job.Need.{Need}
@@ -25,7 +22,8 @@ use Rattle.cct_jobs.specs.Sales.{StandsSale}
 use Rattle.cct_host.specs.declared.dues.Dues.{Dues}
 use Rattle.cct_host.specs.Exchange.{HoldsLess}
 use Rattle.cct_host.specs.Held.{coins_by, due_by, held_by, order_left, price_by, put_in, puts_left, sells_only}
-use Rattle.cct_host.specs.Running.{Settles, busy_by, is_halt, needed, refusal_beside, sale_refusal}
+use Rattle.cct_host.specs.Running.{Settles, busy_by, is_halt, needed, refusal_beside, sale_refusal, seen_at}
+use Rattle.cct_laws.proofs.Tests.{Pass, all_pass}
 use Rattle.cct_host.proofs.Commands.{owed_where_free}
 
 -- what a job that went on or is gone may put
@@ -117,33 +115,22 @@ due_left (Some job) = due_puts job
 
 -- a job that begins
 
-free_by : (kind : Bool) (job : Option Job) (further : Option CommandNo)
-    → cond kind (option_or (busy_by job) further) (Some WrongKind) ≡ None → (job ≡ None) × (further ≡ None)
-free_by true None further e = (refl, e)
-free_by true (Some job) further e = absurd cc
-free_by false job further e = absurd cc
-
 just_free : (job : Option Job) → busy_by job ≡ None → job ≡ None
 just_free None e = refl
 just_free (Some job) e = absurd cc
 
+passes : (d : DeviceSetup) (job : Option Job) (state : EpochState) (owed : Dues) (last : ℕ) (c : Command)
+    → refusal_beside d job state owed last c ≡ None → Pass (state_fails (seen_at d job state owed last)) (state_tests c)
+passes d job state owed last c free = all_pass (state_fails (seen_at d job state owed last)) (state_tests c) free
+
 pub free_job : (d : DeviceSetup) (job : Option Job) (state : EpochState) (owed : Dues) (last : ℕ) (c : Command)
     → is_halt c ≡ false → is_of_device c ≡ true → refusal_beside d job state owed last c ≡ None → job ≡ None
-free_job d job state owed last (command.Start addr mask) no_halt of_device free =
-    (free_by (is_acceptor d.body) job (start_refusal mask d state) free).0
-free_job d job state owed last (command.Round addr) no_halt of_device free =
-    (free_by (is_acceptor d.body) job (running_refusal d state) free).0
-free_job d job state owed last (command.Stop addr) no_halt of_device free =
-    (free_by (is_acceptor d.body) job (running_refusal d state) free).0
-free_job d job state owed last (command.Path addr place path) no_halt of_device free =
-    (free_by (is_acceptor d.body) job None free).0
-free_job d job state owed last (command.Ident addr) no_halt of_device free = just_free job free
-free_job d job state owed last (command.Pay addr id count) no_halt of_device free =
-    (free_by (is_hopper d.body) job (pay_refusal id last (order_of owed.order)) free).0
-free_job d job state owed last (command.Settle addr) no_halt of_device free =
-    (free_by (is_hopper d.body) job (settle_refusal (order_of owed.order)) free).0
+free_job d job state owed last command.Scan no_halt of_device free = absurd cc
+free_job d job state owed last (command.Vend id price) no_halt of_device free = absurd cc
 free_job d job state owed last (command.Halt addr) no_halt of_device free = absurd cc
-free_job d job state owed last c no_halt of_device free = absurd cc
+free_job d job state owed last (command.Ident addr) no_halt of_device free =
+    just_free job (passes d job state owed last (command.Ident addr) free).1.0
+free_job d job state owed last c no_halt of_device free = just_free job (passes d job state owed last c free).1.1.0
 
 -- the room that its command needs
 plain_room : (new : Job) (owed : Option OpenOrder) (n : ℕ) → closes_order new ≡ false → may_put_of new ≡ n
@@ -171,7 +158,7 @@ room_by d job state owed last (command.Pay addr id count) new free puts closes =
     omega (arith, room)
 room_by d job state owed last (command.Settle addr) new free puts closes =
     settles_room new (order_of owed.order) (owed_where_free (order_of owed.order)
-    (free_by (is_hopper d.body) job (settle_refusal (order_of owed.order)) free).1) closes puts
+    (passes d job state owed last (command.Settle addr) free).1.1.1.0) closes puts
 room_by d job state owed last (command.Vend id price) new free puts closes = plain_room new _ 1 closes puts
 room_by d job state owed last (command.Start addr mask) new free puts closes = plain_room new _ 1 closes puts
 room_by d job state owed last (command.Round addr) new free puts closes = plain_room new _ 1 closes puts

@@ -1,6 +1,6 @@
 //! The host's desk for one place: a device, the address of all devices, where scans are, or that of sales.
 ghost use Rattle.std.specs.Prelude.{◌≡◌, ◌<◌, ◌≤◌, ◌^◌, ℕ, List, [], ◌∷◌, ◌++◌, ◌*◌, ◌+◌, length, Option, Some, None, true, false, max, IfSome, IsTrue, OnErr, OnOk};
-ghost use Rattle.std.specs.Option.{option_map};
+ghost use Rattle.std.specs.Option.{option_map, option_or};
 ghost use Rattle.arrayvec.specs.ArrayVec.{array_vec_len};
 ghost use Rattle.cct_model.specs.declared.judging.OpenOrder.{OpenOrder};
 ghost use Rattle.cct_model.specs.lines.entry.Entry.{Entry};
@@ -10,7 +10,7 @@ ghost use Rattle.cct_model.specs.Following as following;
 ghost use Rattle.cct_model.specs.Job.{address_of, counted, epoch_by, works};
 ghost use Rattle.cct_model.specs.Order.{order_by};
 ghost use Rattle.cct_model.specs.Records.{id_of};
-ghost use Rattle.cct_model.specs.Refusal.{id_refusal, pay_refusal, running_id, running_refusal, settle_refusal, start_refusal};
+ghost use Rattle.cct_model.specs.Refusal.{id_refusal, order_refusal, running_id, running_refusal, settle_refusal, start_refusal};
 ghost use Rattle.cct_record.specs.Body.{Encodable};
 ghost use Rattle.cct_jobs.specs.Jobs.{MayBegin, coins_asked, is_of_device, order_of, records_of};
 ghost use Rattle.cct_ledger.specs.Orders.{has_id};
@@ -93,11 +93,7 @@ impl JobDesk {
         ensures { (setup : Setup) → device_at setup.devices (address_of command.now) ≡ Some device.now
             → RefusesAbove setup last (places.device device.now) self.now command.now result }
     {
-        if is_halt(command) {
-            self.halting_refusal(device)
-        } else {
-            self.refusal(command, device, last)
-        }
+        self.refusal(command, device, last)
     }
 
     /// A halt is taken, or refused where no payout could be stopped; a refused one changes nothing.
@@ -286,7 +282,7 @@ impl JobDesk {
         }
     }
 
-    /// Why a command to a device is refused, if it is.
+    /// Why a command is refused, if it is.
     fn refusal(&self, command: &Command, device: &DeviceSetup, last: u32) -> Option<CommandNo>
         ensures { result ≡ refusal_beside device.now self.now.job self.now.epoch self.now.dues last command.now }
     {
@@ -295,13 +291,15 @@ impl JobDesk {
                 device,
                 self.start_refusal(device, mask),
             ),
-            Command::Round { .. } => self.acceptor_refusal(device, self.running_refusal(device)),
-            Command::Stop { .. } => self.acceptor_refusal(device, self.running_refusal(device)),
+            Command::Round { .. } => self.acceptor_refusal(device, self.running_refusal()),
+            Command::Stop { .. } => self.acceptor_refusal(device, self.running_refusal()),
             Command::Path { .. } => self.acceptor_refusal(device, None),
             Command::Pay { id, .. } => self.hopper_refusal(device, self.pay_refusal(id, last)),
             Command::Settle { .. } => self.hopper_refusal(device, self.settle_refusal()),
+            Command::Halt { .. } => self.halting_refusal(device),
             Command::Ident { .. } => self.busy(),
-            _ => None,
+            Command::Scan => self.busy(),
+            Command::Vend { id, .. } => self.sale_refusal(id, last),
         }
     }
 
@@ -339,7 +337,7 @@ impl JobDesk {
 
     /// Why a payment is refused beside the open order and the last id: an order is open, or its id isn't new.
     fn pay_refusal(&self, id: u32, last: u32) -> Option<CommandNo>
-        ensures { result ≡ pay_refusal id last (order_of self.now.dues.order) }
+        ensures { result ≡ option_or (order_refusal (order_of self.now.dues.order)) (id_refusal id last) }
     {
         match &self.dues.order {
             None => id_refusal(id, last),
@@ -371,8 +369,8 @@ impl JobDesk {
     }
 
     /// Why a round or a stop is refused beside the epoch: none runs.
-    fn running_refusal(&self, device: &DeviceSetup) -> Option<CommandNo>
-        ensures { result ≡ running_refusal device.now self.now.epoch }
+    fn running_refusal(&self) -> Option<CommandNo>
+        ensures { result ≡ running_refusal self.now.epoch }
     {
         match self.epoch {
             EpochState::Idle => Some(CommandNo::NoEpoch),

@@ -358,55 +358,64 @@ suits_ident : (body : DeviceBody) (addr : ℕ) → suits body (command.Ident add
 suits_ident (Acceptor accepts values ids) addr = refl
 suits_ident (Hopper life value) addr = refl
 
+-- what the tests of a command at a device tell of its epoch and of its open order
+PassesAt : DeviceSetup → List Line → ℕ → Command → Type 0
+PassesAt d lines last c = Pass (state_fails (view_of (Some d) lines last)) (state_tests c)
+
+taken_by : (d : DeviceSetup) (lines : List Line) (last : ℕ) (c : Command) → PassesAt d lines last c →
+    IsTaken d c (epoch lines)
+unfolding PassesAt
+taken_by d lines last (command.Start addr mask) passes =
+    may_start mask d (epoch lines) passes.1.1.1.0 passes.1.1.1.1.0
+taken_by d lines last (command.Round addr) passes = passes.1.1.1.0
+taken_by d lines last (command.Stop addr) passes = passes.1.1.1.0
+taken_by d lines last c passes = tt
+
+owed_by : (d : DeviceSetup) (lines : List Line) (last : ℕ) (c : Command) → PassesAt d lines last c →
+    IsOwed c (order lines)
+unfolding PassesAt
+owed_by d lines last (command.Pay addr id count) passes = unowed (order lines) passes.1.1.1.0
+owed_by d lines last (command.Settle addr) passes = passes.1.1.1.0
+owed_by d lines last c passes = tt
+
 -- a command that begins a job at a device
 began_at : (capacity : ℕ) (setup : Setup) (past : List Entry) (c : Command) (d : DeviceSetup) →
     device_at setup.devices (address_of c) ≡ Some d → refusal capacity setup past c ≡ None → suits d.body c ≡ true →
-    unless (not (is_busy (job (lines_of d past)))) Busy ≡ None → IsTaken d c (epoch (lines_of d past)) →
-    IsOwed c (order (lines_of d past)) → Brought capacity setup past (step.Command c) (entry.Taken c ∷ [])
-began_at capacity setup past c d was none suited is_free is_taken is_owed =
+    unless (not (is_busy (job (lines_of d past)))) Busy ≡ None → PassesAt d (lines_of d past) (last_id setup past) c →
+    Brought capacity setup past (step.Command c) (entry.Taken c ∷ [])
+began_at capacity setup past c d was none suited is_free passes =
     of_device d (step.Command c) (entry.Taken c ∷ []) (of_found setup (address_of c) d was)
-    (took c suited (sym (address_found setup (address_of c) d was)) (free_if (job (lines_of d past)) is_free) is_taken is_owed none)
+    (took c suited (sym (address_found setup (address_of c) d was)) (free_if (job (lines_of d past)) is_free)
+    (taken_by d (lines_of d past) (last_id setup past) c passes)
+    (owed_by d (lines_of d past) (last_id setup past) c passes) none)
 
 taken_at : (capacity : ℕ) (setup : Setup) (past : List Entry) (c : Command) (found : Option DeviceSetup) →
     device_at setup.devices (address_of c) ≡ found → refusal capacity setup past c ≡ None →
     Pass (state_fails (view_of found (lines_for past c found) (last_id setup past))) (state_tests c) →
     Brought capacity setup past (step.Command c) (entry.Taken c ∷ [])
+unfolding PassesAt
 taken_at capacity setup past command.Scan found was none passes = began_scan (free_if (job (scan_lines past)) passes.0)
 taken_at capacity setup past (command.Vend id price) found was none passes =
     began_sale id price (free_if (job (sale_lines past)) passes.0) none
+taken_at capacity setup past c None was none passes =
+    let device : unless false NoDevice ≡ None = passes.0 in
+    absurd cc
 taken_at capacity setup past (command.Halt addr) (Some d) was none passes =
     there capacity setup past (λ a. step.Command (command.Halt a)) (λ a. entry.Taken (command.Halt a) ∷ []) addr d was
     (halted (paying_by d.body (test_holds (is_hopper d.body) WrongKind passes.1.0))
     (test_holds (can_halt d (job (lines_of d past))) NoPayout passes.1.1.0))
 taken_at capacity setup past (command.Ident addr) (Some d) was none passes =
-    began_at capacity setup past (command.Ident addr) d was none (suits_ident d.body addr) passes.1.0 tt tt
-taken_at capacity setup past (command.Path addr place path) (Some d) was none passes =
-    began_at capacity setup past (command.Path addr place path) d was none
-    (suits_acceptor d.body (command.Path addr place path) (test_holds (is_acceptor d.body) WrongKind passes.1.0) refl)
-    passes.1.1.0 tt tt
-taken_at capacity setup past (command.Start addr mask) (Some d) was none passes =
-    began_at capacity setup past (command.Start addr mask) d was none
-    (suits_acceptor d.body (command.Start addr mask) (test_holds (is_acceptor d.body) WrongKind passes.1.0) refl) passes.1.1.0
-    (may_start mask d (epoch (lines_of d past)) passes.1.1.1.0 passes.1.1.1.1.0) tt
-taken_at capacity setup past (command.Round addr) (Some d) was none passes =
-    began_at capacity setup past (command.Round addr) d was none
-    (suits_acceptor d.body (command.Round addr) (test_holds (is_acceptor d.body) WrongKind passes.1.0) refl) passes.1.1.0
-    passes.1.1.1.0 tt
-taken_at capacity setup past (command.Stop addr) (Some d) was none passes =
-    began_at capacity setup past (command.Stop addr) d was none
-    (suits_acceptor d.body (command.Stop addr) (test_holds (is_acceptor d.body) WrongKind passes.1.0) refl) passes.1.1.0
-    passes.1.1.1.0 tt
+    began_at capacity setup past (command.Ident addr) d was none (suits_ident d.body addr) passes.1.0 passes
 taken_at capacity setup past (command.Pay addr id count) (Some d) was none passes =
     began_at capacity setup past (command.Pay addr id count) d was none
-    (suits_hopper d.body (command.Pay addr id count) (test_holds (is_hopper d.body) WrongKind passes.1.0) refl) passes.1.1.0 tt
-    (unowed (order (lines_of d past)) passes.1.1.1.0)
+    (suits_hopper d.body (command.Pay addr id count) (test_holds (is_hopper d.body) WrongKind passes.1.0) refl)
+    passes.1.1.0 passes
 taken_at capacity setup past (command.Settle addr) (Some d) was none passes =
     began_at capacity setup past (command.Settle addr) d was none
-    (suits_hopper d.body (command.Settle addr) (test_holds (is_hopper d.body) WrongKind passes.1.0) refl) passes.1.1.0 tt
-    passes.1.1.1.0
-taken_at capacity setup past c None was none passes =
-    let device : unless false NoDevice ≡ None = passes.0 in
-    absurd cc
+    (suits_hopper d.body (command.Settle addr) (test_holds (is_hopper d.body) WrongKind passes.1.0) refl) passes.1.1.0 passes
+taken_at capacity setup past c (Some d) was none passes =
+    began_at capacity setup past c d was none
+    (suits_acceptor d.body c (test_holds (is_acceptor d.body) WrongKind passes.1.0) refl) passes.1.1.0 passes
 
 command_brought : (capacity : ℕ) (setup : Setup) (past : List Entry) (c : Command) (why : Option CommandNo) →
     refusal capacity setup past c ≡ why → Brought capacity setup past (step.Command c) (command_entry c why ∷ [])

@@ -7,7 +7,7 @@ use Rattle.cct_host.proofs.desk.JobDesk.begin.Goals as goal
 pub returns-in-Some-clause-commands : goal.returns-in-Some-clause-commands
 returns-in-Some-clause-commands c fits past is_last sits =
     command_refused c.args.setup.now c.args.device.now c.args.command.now c.args.self.now.job c.args.self.now.epoch
-    c.args.self.now.dues c.args.last past c.in-Some.why is_last c.requires.of_device c.requires.no_halt
+    c.args.self.now.dues c.args.last past c.in-Some.why is_last c.requires.of_device c.args.self.now.runs
     c.requires.there (sym c.refusal.ensures ∙ c.in-Some.is) sits
 
 pub returns-in-None-clause-commands : goal.returns-in-None-clause-commands
@@ -15,7 +15,7 @@ returns-in-None-clause-commands c fits past is_last sits =
     let free = sym c.refusal.ensures ∙ c.in-None.is in
     command_taken c.args.setup.now c.args.device.now c.args.command.now c.args.self.now.job c.begin.result
     c.args.self.now.epoch c.args.self.now.dues _ c.args.last past is_last
-    c.requires.of_device c.requires.no_halt refl c.id_begun-self.ensures c.requires.there free
+    c.requires.of_device c.args.self.now.runs refl c.id_begun-self.ensures c.requires.there free
     (may_begin c.args.setup.now.devices c.args.device.now c.args.self.now.job c.args.self.now.epoch
     c.args.self.now.dues c.args.last c.args.command.now
     c.requires.no_halt c.requires.of_device c.requires.there free)

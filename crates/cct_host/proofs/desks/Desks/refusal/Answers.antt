@@ -1,15 +1,14 @@
 use Rattle.std.proofs.Common.{◌∙◌, ap, sym}
 use Rattle.cct_model.specs.Refusal.{state_refusal}
-use Rattle.cct_host.specs.Place.{scans}
-use Rattle.cct_host.proofs.Commands.{busy_is, sale_refusal_is}
+use Rattle.cct_host.proofs.Commands.{scan_refusal, sale_refusal_is}
 use Rattle.cct_host.proofs.Places.{last_is}
 use Rattle.cct_host.proofs.desks.Desks.refusal.Goals as goal
 
 pub returns-in-Scan : goal.returns-in-Scan
 returns-in-Scan c past stands =
     let scan = c.args.self.now.scan in
-    c.busy.ensures ∙ busy_is scans scan.job _ _ _ stands.scan.works
-    ∙ sym (ap (state_refusal c.args.self.now.setup.now past) c.in-Scan.is)
+    c.busy.ensures
+    ∙ scan_refusal c.args.self.now.setup.now c.args.command.now scan.job _ _ past c.in-Scan.is stands.scan
 
 pub returns-in-Vend : goal.returns-in-Vend
 returns-in-Vend c past stands =
