@@ -1,6 +1,5 @@
 -- Each balance that is told is conserved.
 use Rattle.std.proofs.Common.{ℕ, List, [], ◌∷◌, ◌++◌, All}
-use Rattle.std.proofs.Math.Nat.{le_refl}
 use Rattle.cct_model.specs.terms.wire.TheConstants.{BROADCAST}
 use Rattle.cct_model.specs.terms.device.DeviceSetup.{DeviceSetup}
 use Rattle.cct_model.specs.terms.device.Setup.{Setup}
@@ -77,7 +76,7 @@ pub legal_balances : (capacity : ℕ) (setup : Setup) (steps : List Step) (trans
 legal_balances capacity setup steps transcript sound in_range legal =
     (along capacity setup IsInRange (λ past. Books capacity setup past × AllBalanced setup past) sound
     (λ past news s range ids told both. (
-      books_step capacity capacity setup past news s (le_refl capacity) sound range ids told both.0,
+      books_step capacity setup past news s sound range ids told both.0,
       step_balanced capacity setup past news s told both.0 both.1,
     ))
     steps (onto [] transcript) in_range legal (books_start capacity setup sound, tt)).1

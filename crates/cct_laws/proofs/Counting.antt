@@ -1,5 +1,5 @@
 -- The sums of the books: each record follows those before it, what is posted covers what is spoken for, and the records
--- and those that are held are no more than a limit. And how these change where one job changes.
+-- and those that are held are no more than the capacity. And how these change where one job changes.
 use Rattle.std.proofs.Common.{◌≡◌, ◌≢◌, ℕ, ◌+◌, ◌≤◌, true, List, length, ap, sym, ◌∙◌, arith, le_of_eq}
 use Rattle.cct_model.specs.terms.device.DeviceSetup.{DeviceSetup}
 use Rattle.cct_model.specs.terms.device.Setup.{Setup}
@@ -21,10 +21,10 @@ use Rattle.cct_laws.proofs.Sums.{sum_same_each, all_found}
 use Rattle.cct_laws.proofs.Unmoved.{AreSame}
 
 -- what the records and the sums over them and over the jobs keep
-pub record Counts (limit : ℕ) (setup : Setup) (past : List Entry) : Type 0 where
+pub record Counts (capacity : ℕ) (setup : Setup) (past : List Entry) : Type 0 where
   pub follow : all_follow setup (records past) ≡ true
   pub covered : spoken_for setup past ≤ posted_in setup (records past)
-  pub room : length (records past) + held setup past ≤ limit
+  pub room : length (records past) + held setup past ≤ capacity
 
 -- what changes where something came to one device: what the others do stays, and what is spoken for and what is held
 -- grow by no more than they have room for
@@ -49,19 +49,19 @@ covered_moved all all_later spoken spoken_later at_work at_work_later here here_
     both_later moved spends covered =
     omega (arith, both, both_later, moved, spends, covered)
 
-room_moved : (many many_later holds holds_later here here_later need limit : ℕ) →
+room_moved : (many many_later holds holds_later here here_later need capacity : ℕ) →
     holds_later + here ≤ holds + here_later → many_later + here_later ≤ many + here + need →
-    many + holds + need ≤ limit →
-    many_later + holds_later ≤ limit
-room_moved many many_later holds holds_later here here_later need limit moved grows full =
+    many + holds + need ≤ capacity →
+    many_later + holds_later ≤ capacity
+room_moved many many_later holds holds_later here here_later need capacity moved grows full =
     omega (arith, moved, grows, full)
 
-pub counts_moved : (limit : ℕ) (setup : Setup) (d : DeviceSetup) (past later : List Entry) (spent need : ℕ) →
-    IsSoundSetup setup → IsOf setup d → Counts limit setup past →
+pub counts_moved : (capacity : ℕ) (setup : Setup) (d : DeviceSetup) (past later : List Entry) (spent need : ℕ) →
+    IsSoundSetup setup → IsOf setup d → Counts capacity setup past →
     spoken_for setup past + spent ≤ posted_in setup (records past) →
-    length (records past) + held setup past + need ≤ limit → Moves setup d past later spent need →
-    Counts limit setup later
-counts_moved limit setup d past later spent need sound own counts covered full m = record {
+    length (records past) + held setup past + need ≤ capacity → Moves setup d past later spent need →
+    Counts capacity setup later
+counts_moved capacity setup d past later spent need sound own counts covered full m = record {
   follow = m.follow;
   covered =
       covered_moved (spoken_for setup past) (spoken_for setup later) (spoken_in setup (records past))
@@ -75,7 +75,7 @@ counts_moved limit setup d past later spent need sound own counts covered full m
       m.spends covered;
   room =
       room_moved (length (records past)) (length (records later)) (held setup past) (held setup later)
-      (holds_of d (lines_of d past)) (holds_of d (lines_of d later)) need limit
+      (holds_of d (lines_of d past)) (holds_of d (lines_of d later)) need capacity
       (held_moved setup d past later sound.distinct own
       (λ e other. le_of_eq (holds_same e (lines_of e later) (lines_of e past) (apart e other).jobs
       (apart e other).epochs (apart e other).orders))
@@ -98,11 +98,11 @@ pub record Sells (setup : Setup) (past later : List Entry) (spent need : ℕ) : 
       length (records later) + sale_holds (job (sale_lines later))
       ≤ length (records past) + sale_holds (job (sale_lines past)) + need
 
-pub counts_sold : (limit : ℕ) (setup : Setup) (past later : List Entry) (spent need : ℕ) → IsSoundSetup setup →
+pub counts_sold : (capacity : ℕ) (setup : Setup) (past later : List Entry) (spent need : ℕ) → IsSoundSetup setup →
     spoken_for setup past + spent ≤ posted_in setup (records past) →
-    length (records past) + held setup past + need ≤ limit → Sells setup past later spent need →
-    Counts limit setup later
-counts_sold limit setup past later spent need sound covered full s = record {
+    length (records past) + held setup past + need ≤ capacity → Sells setup past later spent need →
+    Counts capacity setup later
+counts_sold capacity setup past later spent need sound covered full s = record {
   follow = s.follow;
   covered =
       covered_moved (spoken_for setup past) (spoken_for setup later) (spoken_in setup (records past))
@@ -114,7 +114,7 @@ counts_sold limit setup past later spent need sound covered full s = record {
       s.spends covered;
   room =
       room_moved (length (records past)) (length (records later)) (held setup past) (held setup later)
-      (sale_holds (job (sale_lines past))) (sale_holds (job (sale_lines later))) need limit
+      (sale_holds (job (sale_lines past))) (sale_holds (job (sale_lines later))) need capacity
       (same_apart _ _ (sale_holds (job (sale_lines past))) (sale_holds (job (sale_lines later))) many) s.holds full;
 }
   where
@@ -138,12 +138,12 @@ counts_sold limit setup past later spent need sound covered full s = record {
     same_apart few few_later here here_later same = omega (arith, same)
 
 -- nothing changed but that there are entries more
-pub counts_same : (limit : ℕ) (setup : Setup) (past later : List Entry) → IsSoundSetup setup →
+pub counts_same : (capacity : ℕ) (setup : Setup) (past later : List Entry) → IsSoundSetup setup →
     ((e : DeviceSetup) → IsOf setup e → AreSame (lines_of e later) (lines_of e past)) →
-    job (sale_lines later) ≡ job (sale_lines past) → records later ≡ records past → Counts limit setup past →
-    Counts limit setup later
-counts_same limit setup past later sound same sale same_records counts =
-    counts_sold limit setup past later 0 0 sound (nothing_more _ _ counts.covered) (nothing_more _ _ counts.room)
+    job (sale_lines later) ≡ job (sale_lines past) → records later ≡ records past → Counts capacity setup past →
+    Counts capacity setup later
+counts_same capacity setup past later sound same sale same_records counts =
+    counts_sold capacity setup past later 0 0 sound (nothing_more _ _ counts.covered) (nothing_more _ _ counts.room)
     (record {
       devices = same;
       follow = ap (all_follow setup) same_records ∙ counts.follow;
@@ -171,10 +171,10 @@ counts_same limit setup past later sound same sale same_records counts =
     unheld many many_later here here_later first second = omega (arith, first, second)
 
 -- where no job runs, what is covered is what the records tell
-pub counts_lost : (limit : ℕ) (setup : Setup) (later : List Entry) → IsSoundSetup setup → HasNoJob later →
-    all_follow setup (records later) ≡ true → length (records later) + held setup later ≤ limit →
-    Counts limit setup later
-counts_lost limit setup later sound none follow room = record {
+pub counts_lost : (capacity : ℕ) (setup : Setup) (later : List Entry) → IsSoundSetup setup → HasNoJob later →
+    all_follow setup (records later) ≡ true → length (records later) + held setup later ≤ capacity →
+    Counts capacity setup later
+counts_lost capacity setup later sound none follow room = record {
   follow = follow;
   covered =
       let nothing = nothing_at_work setup later none in

@@ -23,7 +23,6 @@ use Rattle.cct_model.specs.Script.{IsCommand, IsInRange}
 use Rattle.cct_model.specs.Transcript.{lines_of, sale_own, sale_lines}
 use Rattle.cct_laws.specs.Ids.{waiting, Ids}
 use Rattle.cct_laws.specs.Law.{IsOf}
-use Rattle.cct_laws.specs.Recorded.{HasNoJob}
 use Rattle.cct_laws.proofs.Brought.{AtWork, row_after, poll_wire, poll_end, Selling, Due, from_job, from_sale, Brought, of_device, faulted, refused, began_scan, began_sale, nobody, polled, sold, balanced, lost_power, lost_in_put, lost_in_sale}
 use Rattle.cct_laws.proofs.Keeping.{IsRanged, ranged_step, works_at}
 use Rattle.cct_laws.proofs.Needed.{NeedsIn, needs_as, needs_at, needs_step}
@@ -43,12 +42,12 @@ pub record Base (setup : Setup) (past : List Entry) : Type 0 where
   pub ranged : (e : DeviceSetup) → IsOf setup e → IsRanged e (job (lines_of e past))
   pub needs : (e : DeviceSetup) → IsOf setup e → NeedsIn e (lines_of e past)
 
--- where no job runs
-pub base_over : (setup : Setup) (past : List Entry) → HasNoJob past → Base setup past
-base_over setup past none = record {
-  sells = subst IsSold (sym none.sale) tt;
-  ranged = λ e own. subst (IsRanged e) (sym (none.devices e)) tt;
-  needs = λ e own. needs_as e (lines_of e past) free (none.devices e) tt;
+-- before any entry no job runs
+pub base_start : (setup : Setup) → Base setup []
+base_start setup = record {
+  sells = tt;
+  ranged = λ e own. tt;
+  needs = λ e own. needs_as e [] free refl tt;
 }
 
 -- what a job at a device puts fits

@@ -26,9 +26,8 @@ use Rattle.cct_model.specs.Setup.{IsSoundSetup}
 use Rattle.cct_model.specs.History.{Met}
 use Rattle.cct_model.specs.Line.{Line, put, taken}
 use Rattle.cct_model.specs.Order.{order}
-use Rattle.cct_model.specs.Job.{Job, free, job, with_line, done, epoch, puts, address_of}
+use Rattle.cct_model.specs.Job.{Job, job, with_line, done, epoch, puts, address_of}
 use Rattle.cct_model.specs.Records.{records, hopper_of}
-use Rattle.cct_model.specs.Following.{all_follow}
 use Rattle.cct_model.specs.Legal.{with_end, keeping_crash}
 use Rattle.cct_model.specs.Refusal.{refusal}
 use Rattle.cct_model.specs.Transcript.{met, owner, opened_at, lines_of, sale_lines}
@@ -41,7 +40,6 @@ use Rattle.cct_laws.specs.Recorded.{HasNoJob}
 use Rattle.cct_laws.proofs.Setups.{same_some, found_in}
 use Rattle.cct_model.proofs.Rows.{RowHolds, IsOwned, row_owned}
 use Rattle.cct_laws.proofs.Brought.{Comes, takes_coin, leaves_coin, leaves_alien, drops_coin, drops_none, jams, jams_none, is_reset, AtWork, row_after, wire_of, wire_end, record_end, poll_wire, poll_end, AtDevice, came, took, halted, idled, made_exchange, made_put, Selling, Brought, of_device, faulted, refused, began_scan, began_sale, nobody, polled, sold, balanced, lost_power, lost_in_put, lost_in_sale}
-use Rattle.cct_laws.proofs.Orders.{belongs_all}
 use Rattle.cct_laws.proofs.Recorded.{order_recorded, restart_frees}
 use Rattle.cct_laws.proofs.Waits.{BeginsNone, device_waits_less, sale_waits_less}
 use Rattle.cct_laws.proofs.Used.{Unused, Grows, same_records, one_more, grows_owned, more_unused}
@@ -317,24 +315,15 @@ device_ids capacity setup past d s news sound own (made_put c since r work is) i
     ids_ended setup past d.addr (entry.Put r) (record_end d past c since r)
     (ids_put setup past r (row_new setup past d c since r own ids work is) ids)
 
--- where no job runs, over records that follow one another
-pub ids_over : (setup : Setup) (past : List Entry) → HasNoJob past → all_follow setup (records past) ≡ true →
-    Ids setup past
-ids_over setup past none follow = record {
-  waits = λ e id own is. none_waits (job (lines_of e past)) id (none.devices e) is;
-  sale_waits = λ id is. none_waits (job (sale_lines past)) id none.sale is;
-  apart = λ d e id own other first second. none_waits (job (lines_of d past)) id (none.devices d) first;
-  sale_apart = λ e id own first second. none_waits (job (lines_of e past)) id (none.devices e) first;
-  owned = λ e o own is.
-      let at = (belongs_all setup (records past) follow).owned e.addr o (sym (order_recorded e past) ∙ is) in
-      (at.named, at.here);
-}
-  where
-    none_waits : {A : Type 0} (j : Job) (id : ℕ) → j ≡ free → waiting j ≡ Some id → A
-    none_waits j id is waits = absurd (none-some id (sym (ap waiting is) ∙ waits))
-
+-- before any entry no job waits and no order is open
 pub ids_start : (setup : Setup) → Ids setup []
-ids_start setup = ids_over setup [] (record { devices = λ d. refl; scan = refl; sale = refl }) refl
+ids_start setup = record {
+  waits = λ e id own is. absurd (none-some id is);
+  sale_waits = λ id is. absurd (none-some id is);
+  apart = λ d e id own other first second. absurd (none-some id first);
+  sale_apart = λ e id own first second. none-some id first;
+  owned = λ e o own is. absurd (none-some o is);
+}
 
 pub ids_step : (capacity : ℕ) (setup : Setup) (past news : List Entry) (s : Step) → IsSoundSetup setup →
     Brought capacity setup past s news → Ids setup past → Ids setup (news ++ past)

@@ -175,19 +175,19 @@ legal_settle capacity setup steps transcript addr stored many need sound in_rang
 
 -- where ids are in order and the books are kept, a record that a job at any address is about to put follows those before
 -- it
-pub kept_due_follows : (limit : ℕ) (setup : Setup) (past : List Entry) (addr : ℕ) (r : Record) → Ids setup past →
-    Books limit setup past → due_at setup past addr ≡ Some r → follows setup (records past) r ≡ true
-kept_due_follows limit setup past addr r ids books due =
-    due_follows limit setup past r ids books (is_due setup past addr r due)
+pub kept_due_follows : (capacity : ℕ) (setup : Setup) (past : List Entry) (addr : ℕ) (r : Record) → Ids setup past →
+    Books capacity setup past → due_at setup past addr ≡ Some r → follows setup (records past) r ≡ true
+kept_due_follows capacity setup past addr r ids books due =
+    due_follows capacity setup past r ids books (is_due setup past addr r due)
 
 -- and a ledger takes it beside what the other jobs reserve
-pub kept_due_allowed : (limit : ℕ) (setup : Setup) (past : List Entry) (addr : ℕ) (r : Record) → Ids setup past →
-    Books limit setup past → due_at setup past addr ≡ Some r → (freed_by setup r ≤ reserved_at_work setup past)
+pub kept_due_allowed : (capacity : ℕ) (setup : Setup) (past : List Entry) (addr : ℕ) (r : Record) → Ids setup past →
+    Books capacity setup past → due_at setup past addr ≡ Some r → (freed_by setup r ≤ reserved_at_work setup past)
     × (is_allowed setup (records past) (reserved_at_work setup past - freed_by setup r) r ≡ true)
-kept_due_allowed limit setup past addr r ids books due =
+kept_due_allowed capacity setup past addr r ids books due =
     let told = is_due setup past addr r due in
     let frees = due_frees setup past r told in
-    (frees, allows setup past r (due_follows limit setup past r ids books told) frees books.counts.covered)
+    (frees, allows setup past r (due_follows capacity setup past r ids books told) frees books.counts.covered)
 
 -- so in every legal past, whatever the wire does
 pub legal_due_follows : (capacity : ℕ) (setup : Setup) (steps : List Step) (past : List Entry) (addr : ℕ) (r : Record) →

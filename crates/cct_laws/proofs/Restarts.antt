@@ -65,9 +65,9 @@ pub crash_frees : (setup : Setup) (past : List Entry) (at : Option CrashAt) (new
 crash_frees setup past at news told = frees_left setup past at news (crash_leaves setup past at news told)
 
 -- a past suits a loss of power where ids are in order and the books are kept
-pub kept_crash_suits : (limit : ℕ) (setup : Setup) (past : List Entry) (at : Option CrashAt) → Ids setup past →
-    Books limit setup past → CrashSuits setup past at
-kept_crash_suits limit setup past at ids books = record { follow = books.counts.follow; due = due_suits at }
+pub kept_crash_suits : (capacity : ℕ) (setup : Setup) (past : List Entry) (at : Option CrashAt) → Ids setup past →
+    Books capacity setup past → CrashSuits setup past at
+kept_crash_suits capacity setup past at ids books = record { follow = books.counts.follow; due = due_suits at }
   where
     each_suits : (due : Option Record) → ((r : Record) → due ≡ Some r → follows setup (records past) r ≡ true) →
         IfSome due (λ r. follows setup (records past) r ≡ true)
@@ -77,4 +77,4 @@ kept_crash_suits limit setup past at ids books = record { follow = books.counts.
     due_suits : (at : Option CrashAt) → IfSome (due_in setup past at) (λ r. follows setup (records past) r ≡ true)
     due_suits None = tt
     due_suits (Some at) =
-        each_suits (due_at setup past at.addr) (λ r. kept_due_follows limit setup past at.addr r ids books)
+        each_suits (due_at setup past at.addr) (λ r. kept_due_follows capacity setup past at.addr r ids books)

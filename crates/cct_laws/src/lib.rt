@@ -13,10 +13,9 @@
 //! `played_paid` and `played_fresh`, which say four laws of the front of a script; and `legal_written` of
 //! `proofs/Texts.antt`. For a host that starts again over its records there are `proofs/Recalling.antt`, which says
 //! what each record more tells, and `proofs/Restarts.antt`, which says what entries a loss of power leaves.
-//! `books_legal` and `books_behind` of `proofs/Books.antt` say of every legal past, and of every one that goes on by
-//! legal steps behind a past without a job whose records follow one another, that ids are in order and the books are
-//! kept; and `kept_due_allowed` of `proofs/Journal.antt` and `kept_crash_suits` of `proofs/Restarts.antt`, that a
-//! ledger then takes what a job is about to put, and that a loss of power is survived.
+//! `books_legal` of `proofs/Books.antt` says of every legal past that ids are in order and the books are kept; and
+//! `kept_due_allowed` of `proofs/Journal.antt` and `kept_crash_suits` of `proofs/Restarts.antt`, that a ledger then takes
+//! what a job is about to put, and that a loss of power is survived.
 #![tactic(auto)]
 
 ghost use Rattle.std.specs.Prelude.{ℕ, ◌≡◌, ◌<◌, ◌≤◌, ◌⊎◌, false, List, [], ◌++◌, None, true, Option, Some, ◌≢◌, ◌+◌, ◌-◌, length};

@@ -1,9 +1,9 @@
 -- What a ledger tells, by the records that it took before, newest first, and by how much is reserved beside them.
-use Rattle.std.specs.Prelude.{ℕ, ◌+◌, Bool, true, false, List}
+use Rattle.std.specs.Prelude.{ℕ, ◌+◌, Bool, not, List}
 use Rattle.cct_model.specs.terms.device.Setup.{Setup}
 use Rattle.cct_model.specs.lines.record.Record.{Record}
-use Rattle.cct_model.specs.lines.record.Record.TheVariants as record_of
 use Rattle.cct_model.specs.lines.entry.Totals.{Totals}
+use Rattle.cct_model.specs.Sums.{is_item}
 use Rattle.cct_model.specs.Money.{available_beside, reserved_in, paid_in, sold_in}
 
 -- What the operator has.
@@ -15,10 +15,6 @@ totals_beside setup before beside = record {
   sold = sold_in before;
 }
 
--- A record is one of an order or of a sale.
+-- A record is one of an order or of a sale, which is no item.
 abbrev pub is_of_money : Record → Bool
-is_of_money (record_of.Opened id addr count life) = true
-is_of_money (record_of.Closed id paid unpaid) = true
-is_of_money (record_of.Odd id life_before life_after) = true
-is_of_money (record_of.Sold id price) = true
-is_of_money r = false
+is_of_money r = not (is_item r)

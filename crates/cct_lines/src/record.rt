@@ -1,6 +1,8 @@
 //! The records of the host's journal.
+ghost use Rattle.std.specs.Prelude.{◌≡◌, ◌≤◌, length};
+ghost use Rattle.cct_lines.specs.Sums.{events_lost, posts_of};
 
-use crate::Coins;
+use crate::{Coin, Coins, EVENTS};
 
 /// A record of the host's journal. A record is the post: the coins in it are those that the machine counts.
 #[derive(Clone, Debug, Drop)]
@@ -54,4 +56,28 @@ pub enum Record {
         id: u32,
         price: u32,
     },
+}
+
+impl Record {
+    /// The coins that it posts, oldest first.
+    pub fn posted(&self) -> &[Coin]
+        ensures coins { result.now ≡ posts_of self.now }
+        ensures few { length result.now ≤ EVENTS }
+    {
+        match self {
+            Record::Reading { posted, .. } => posted.as_slice(),
+            Record::Broken { posted, .. } => posted.as_slice(),
+            _ => &[],
+        }
+    }
+
+    /// How many events it tells to be lost.
+    pub fn lost(&self) -> u8
+        ensures { result ≡ events_lost self.now }
+    {
+        match self {
+            Record::Reading { lost, .. } => *lost,
+            _ => 0,
+        }
+    }
 }

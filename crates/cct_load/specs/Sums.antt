@@ -1,12 +1,11 @@
 -- What a transcript sums up to, newest entry first.
 use Rattle.std.specs.Prelude.{◌≡◌, ℕ, suc, ◌+◌, List, [], ◌∷◌, length}
 use Rattle.cct_model.specs.lines.command.Step.{Step}
-use Rattle.cct_model.specs.lines.record.Record.{Record}
-use Rattle.cct_model.specs.lines.record.Record.TheVariants as record_of
 use Rattle.cct_model.specs.lines.entry.Entry.{Entry}
 use Rattle.cct_model.specs.lines.entry.Entry.TheVariants as entry
 use Rattle.cct_model.specs.lines.entry.SumOf.TheVariants as sum_of
 use Rattle.cct_model.specs.Records.{records}
+use Rattle.cct_model.specs.Sums.{coins_posted, events_lost, orders_closed, sum_in}
 use Rattle.cct_load.specs.declared.sums.LoadSums.{LoadSums}
 
 -- How many coins acceptors took.
@@ -21,32 +20,13 @@ coins_fallen [] = 0
 coins_fallen (entry.Fell addr ∷ past) = suc (coins_fallen past)
 coins_fallen (e ∷ past) = coins_fallen past
 
--- How many coins the records post.
-abbrev pub coins_posted : List Record → ℕ
-coins_posted [] = 0
-coins_posted (record_of.Reading addr counter lost posted ∷ before) = length posted + coins_posted before
-coins_posted (record_of.Broken addr seen counter posted ∷ before) = length posted + coins_posted before
-coins_posted (r ∷ before) = coins_posted before
-
--- How many events the records tell to be lost.
-abbrev pub events_lost : List Record → ℕ
-events_lost [] = 0
-events_lost (record_of.Reading addr counter lost posted ∷ before) = lost + events_lost before
-events_lost (r ∷ before) = events_lost before
-
--- How many orders the records close.
-abbrev pub orders_closed : List Record → ℕ
-orders_closed [] = 0
-orders_closed (record_of.Closed id paid unpaid ∷ before) = suc (orders_closed before)
-orders_closed (r ∷ before) = orders_closed before
-
 -- What is counted of a past, whatever the steps were.
 pub record Counts (sums : LoadSums) (past : List Entry) : Type 0 where
   pub accepted : sums.accepted ≡ coins_accepted past
-  pub posted : sums.posted ≡ coins_posted (records past)
-  pub lost : sums.lost ≡ events_lost (records past)
+  pub posted : sums.posted ≡ sum_in coins_posted (records past)
+  pub lost : sums.lost ≡ sum_in events_lost (records past)
   pub fell : sums.fell ≡ coins_fallen past
-  pub closed : sums.closed ≡ orders_closed (records past)
+  pub closed : sums.closed ≡ sum_in orders_closed (records past)
 
 -- Sums are those of the steps played and of their past.
 pub record SumsUp (sums : LoadSums) (played : List Step) (past : List Entry) : Type 0 where
@@ -58,10 +38,10 @@ abbrev pub sums_of : List Step → List Entry → List Entry
 sums_of played past =
     entry.Sum sum_of.Steps (length played)
     ∷ entry.Sum sum_of.Accepted (coins_accepted past)
-    ∷ entry.Sum sum_of.Posted (coins_posted (records past))
-    ∷ entry.Sum sum_of.Lost (events_lost (records past))
+    ∷ entry.Sum sum_of.Posted (sum_in coins_posted (records past))
+    ∷ entry.Sum sum_of.Lost (sum_in events_lost (records past))
     ∷ entry.Sum sum_of.Fell (coins_fallen past)
-    ∷ entry.Sum sum_of.Closed (orders_closed (records past))
+    ∷ entry.Sum sum_of.Closed (sum_in orders_closed (records past))
     ∷ []
 
 -- All sums but that of the steps, together.

@@ -3,7 +3,6 @@ ghost use Rattle.std.specs.Prelude.{◌≡◌, ◌+◌, ◌*◌, ◌^◌, ◌<�
 ghost use Rattle.cct_model.specs.lines.command.Step.{Step};
 ghost use Rattle.cct_model.specs.lines.entry.Entry.{Entry};
 ghost use Rattle.cct_model.specs.lines.entry.Entry.TheVariants.{Sum};
-ghost use Rattle.cct_model.specs.lines.record.Record.{Record};
 
 use arrayvec::ArrayVec;
 use cct_model::{Entry, Record, SumOf};
@@ -24,7 +23,8 @@ pub struct LoadSums {
 }
 
 impl LoadSums {
-    ghost use Rattle.cct_load.specs.Sums.{Counts, SumsUp, coins_posted, events_lost, orders_closed, sums_of, together};
+    ghost use Rattle.cct_model.specs.Sums.{coins_posted, events_lost, orders_closed};
+    ghost use Rattle.cct_load.specs.Sums.{Counts, SumsUp, sums_of, together};
 
     /// The sums before the first step.
     pub fn new() -> Self
@@ -74,25 +74,18 @@ impl LoadSums {
     fn add_record(&mut self, entry: &Record)
         requires few { together self.old + 512 ≤ 4096 * self.old.steps }
         requires steps { self.old.steps ≤ 2 ^ 32 }
-        ensures posted { (before : List Record) → self.old.posted ≡ coins_posted before
-            → self.new.posted ≡ coins_posted (entry.now ∷ before) }
-        ensures lost { (before : List Record) → self.old.lost ≡ events_lost before
-            → self.new.lost ≡ events_lost (entry.now ∷ before) }
-        ensures closed { (before : List Record) → self.old.closed ≡ orders_closed before
-            → self.new.closed ≡ orders_closed (entry.now ∷ before) }
+        ensures posted { self.new.posted ≡ coins_posted entry.now + self.old.posted }
+        ensures lost { self.new.lost ≡ events_lost entry.now + self.old.lost }
+        ensures closed { self.new.closed ≡ orders_closed entry.now + self.old.closed }
         ensures accepted { self.new.accepted ≡ self.old.accepted }
         ensures fell { self.new.fell ≡ self.old.fell }
         ensures steps { self.new.steps ≡ self.old.steps }
         ensures few { together self.new ≤ together self.old + 512 }
     {
-        match entry {
-            Record::Reading { lost, posted, .. } => {
-                self.posted += posted.as_slice().len() as u64;
-                self.lost += u64::from(*lost);
-            }
-            Record::Broken { posted, .. } => self.posted += posted.as_slice().len() as u64,
-            Record::Closed { .. } => self.closed += 1,
-            _ => {}
+        self.posted += entry.posted().len() as u64;
+        self.lost += u64::from(entry.lost());
+        if let Record::Closed { .. } = entry {
+            self.closed += 1;
         }
     }
 

@@ -22,12 +22,9 @@ impl Sums {
         ensures added { self.new ≡ with_record entry.now self.old }
         ensures grows { together self.new ≤ together self.old + 2 ^ 32 }
     {
+        self.posted += entry.posted().len() as u64;
+        self.lost += u64::from(entry.lost());
         match entry {
-            Record::Reading { lost, posted, .. } => {
-                self.lost += u64::from(*lost);
-                self.posted += posted.as_slice().len() as u64;
-            }
-            Record::Broken { posted, .. } => self.posted += posted.as_slice().len() as u64,
             Record::Closed { paid, unpaid, .. } => {
                 self.paid += u64::from(*paid);
                 self.unpaid += u64::from(*unpaid);

@@ -21,11 +21,11 @@ use Rattle.cct_world.proofs.Suited.{step_suits}
 owned_by : (setup : Setup) (past : List Entry) → Ids setup past → AreOwned setup past
 owned_by setup past ids d there o is = let own = ids.owned d o there is in ap hopper_of own.0 ∙ own.1
 
-kept_suits : (limit : ℕ) (setup : Setup) (past : List Entry) (s : Step) → Ids setup past → Books limit setup past
+kept_suits : (capacity : ℕ) (setup : Setup) (past : List Entry) (s : Step) → Ids setup past → Books capacity setup past
     → StepSuits setup past s
-kept_suits limit setup past s ids books =
-    step_suits setup past s (owned_by setup past ids) (λ addr r. kept_due_allowed limit setup past addr r ids books)
-    (λ at. kept_crash_suits limit setup past at ids books)
+kept_suits capacity setup past s ids books =
+    step_suits setup past s (owned_by setup past ids) (λ addr r. kept_due_allowed capacity setup past addr r ids books)
+    (λ at. kept_crash_suits capacity setup past at ids books)
 
 pub legal_suits : (capacity : ℕ) (setup : Setup) (played : List Step) (transcript : List Entry) (s : Step)
     → IsSoundSetup setup → All IsInRange played → Legal capacity setup played transcript
