@@ -78,9 +78,9 @@ seen_is d job state owed last lines runs keeps =
     ap (λ b. seen d last b (halts_in job) state (order_of owed.order)) (busy_is (device d) job _ _ _ keeps.works)
     ∙ ap (λ p. seen d last (is_busy (model.job lines)) p state (order_of owed.order))
     (halts_is d job _ _ _ runs keeps.works)
-    ∙ ap (λ n. seen d last (is_busy (model.job lines)) (model.can_halt (model.job lines)) n (order_of owed.order))
+    ∙ ap (λ n. seen d last (is_busy (model.job lines)) (table.can_halt d (model.job lines)) n (order_of owed.order))
     keeps.knows.0
-    ∙ ap (seen d last (is_busy (model.job lines)) (model.can_halt (model.job lines)) (model.epoch lines)) keeps.knows.1
+    ∙ ap (seen d last (is_busy (model.job lines)) (table.can_halt d (model.job lines)) (model.epoch lines)) keeps.knows.1
 
 lines_there : (past : List Entry) (c : Command) (d : DeviceSetup) → is_of_device c ≡ true
     → lines_for past c (Some d) ≡ lines_of d past
