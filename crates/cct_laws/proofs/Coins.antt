@@ -7,7 +7,8 @@ use Rattle.cct_model.specs.declared.judging.OpenOrder.{OpenOrder}
 use Rattle.cct_model.specs.Line.{Line, fell, put}
 use Rattle.cct_model.specs.Order.{order_by, order}
 use Rattle.cct_model.specs.Paid.{fallen, OfOrder, PaidBy, Paid, anew_by}
-use Rattle.cct_laws.specs.Coins.{all_fallen, coins_paid, all_paid}
+use Rattle.cct_model.specs.Sums.{coins_paid}
+use Rattle.cct_laws.specs.Coins.{all_fallen, all_paid}
 
 -- a fact of an order that isn't there
 of_none : (owed : Option OpenOrder) (P : OpenOrder → Type 0) → owed ≡ None → OfOrder owed P → ⊥

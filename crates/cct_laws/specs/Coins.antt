@@ -1,19 +1,13 @@
 -- All coins that fell out of a hopper, and all that the records of its closed orders say were paid.
 use Rattle.std.specs.Prelude.{ℕ, suc, ◌+◌, List, [], ◌∷◌}
-use Rattle.cct_model.specs.lines.record.Record.{Record}
-use Rattle.cct_model.specs.lines.record.Record.TheVariants as record_of
 use Rattle.cct_model.specs.Line.{Line, fell, put}
+use Rattle.cct_model.specs.Sums.{coins_paid}
 
 -- How many coins ever fell.
 abbrev pub all_fallen : List Line → ℕ
 all_fallen [] = 0
 all_fallen (fell ∷ past) = suc (all_fallen past)
 all_fallen (line ∷ past) = all_fallen past
-
--- How many coins a record says were paid: those of a closed order, and none of another record.
-abbrev pub coins_paid : Record → ℕ
-coins_paid (record_of.Closed id paid unpaid) = paid
-coins_paid r = 0
 
 -- How many coins all closed orders were paid.
 abbrev pub all_paid : List Line → ℕ
