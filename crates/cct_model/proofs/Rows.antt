@@ -26,8 +26,8 @@ use Rattle.cct_model.specs.Reply as reply
 use Rattle.cct_model.specs.Line.{Line, exchange, put}
 use Rattle.cct_model.specs.Reading.{judge}
 use Rattle.cct_model.specs.Order.{close, life_between}
-use Rattle.cct_model.specs.Job.{Row, sends, puts, no_row, put_or, Payment, payment_in, state_row, open_row, close_row, ident_requests, judged_by, judged_in, credits_read, mask_read, done, address_of, end_of_reading, end_of_close}
-use Rattle.cct_model.specs.Rows.{Then, goes_on, ends_as, if_quiet, if_judged, path_told, if_posted, if_closed, Due, new_epoch, reading, epoch_end, new_order, order_end, sale, TableRow, asks_for, asks_once, waits_for_coins, puts_due, telling, rows_of, after, from, left, rest, first, due_row, row, row_at, end_by_answer, end_by_record, end_bare, end_answered, end_failed, end_kept, end_of, has_waits}
+use Rattle.cct_model.specs.Job.{Row, sends, puts, no_row, put_or, Payment, payment_in, state_row, open_row, close_row, ident_requests, judged_by, judged_in, credits_read, mask_read, address_of, end_of_reading, end_of_close}
+use Rattle.cct_model.specs.Rows.{done, Then, goes_on, ends_as, if_quiet, if_judged, path_told, if_posted, if_closed, Due, new_epoch, reading, epoch_end, new_order, order_end, sale, TableRow, asks_for, asks_once, waits_for_coins, puts_due, telling, rows_of, after, from, left, rest, first, due_row, row, row_at, end_by_answer, end_by_record, end_bare, end_answered, end_failed, end_kept, end_of, has_waits}
 use Rattle.cct_model.specs.Transcript.{owner, opened_at}
 
 -- a fact of the request that a row sends, and one of the record that it puts
@@ -106,7 +106,7 @@ each_from F [] means each = each
 pub each_left : (F : TableRow → Type 0) (d : DeviceSetup) (c : Command) (since : List Line) (state : EpochState) →
     EachRow F (rows_of d c) → EachRow F (left d c since state)
 each_left F d c since state each =
-    each_from F (after (rows_of d c) (done since)) (judged_in c since state) (each_after F (rows_of d c) (done since) each)
+    each_from F (rest d c since) (judged_in c since state) (each_after F (rows_of d c) (done (rows_of d c) since) each)
 
 -- of the rows that ask for one thing after the other
 pub each_told : (F : TableRow → Type 0) → ((q : Request) → F (asks_for q goes_on)) →
@@ -473,7 +473,7 @@ kept_end P (waits_for_coins ∷ rows) r each = tt
 
 pub put_end : (P : End → Type 0) (d : DeviceSetup) (c : Command) (r : Record) (since : List Line)
     (state : EpochState) → EachRow (PutEnds P) (rows_of d c) → IfEnd P (end_of d c (put r) since state)
-put_end P d c r since state each = kept_end P (rest d c since) r (each_after (PutEnds P) (rows_of d c) (done since) each)
+put_end P d c r since state each = kept_end P (rest d c since) r (each_after (PutEnds P) (rows_of d c) (done (rows_of d c) since) each)
 
 -- a record is of an address after a past, and so is what a row puts
 abbrev IsRecordOf : List Entry → ℕ → Record → Type 0
@@ -503,7 +503,7 @@ pub row_owned : (past : List Entry) (d : DeviceSetup) (c : Command) (since : Lis
     (owed : Option OpenOrder) → ((o : OpenOrder) → owed ≡ Some o → opened_at o.id past ≡ address_of c) →
     IsOwned past (address_of c) (row d c since state owed)
 row_owned past d c since state owed owned =
-    each_put (IsRecordOf past (address_of c)) is_at_device d c (done since) (judged_in c since state) (payment_in since owed)
+    each_put (IsRecordOf past (address_of c)) is_at_device d c (done (rows_of d c) since) (judged_in c since state) (payment_in since owed)
     (device_puts d c) due_owned
   where
     due_owned : (due : Due) → is_at_device due ≡ true →
