@@ -18,3 +18,4 @@ mod Refusals
 mod Ledger
 mod Forged
 mod Day
+mod SameRows
