@@ -18,4 +18,3 @@ mod Refusals
 mod Ledger
 mod Forged
 mod Day
-mod SameRows
