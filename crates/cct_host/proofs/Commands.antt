@@ -184,7 +184,7 @@ address_there (e ∷ es) addr d is = there_by (e.addr == addr) e d (device_at es
 pub command_taken : (setup : Setup) (d : DeviceSetup) (c : Command) (before : Option Job) (job : Job)
     (state : EpochState) (owed after : Dues) (last : ℕ) (past : List Entry) → last ≡ last_id setup past
     → is_of_device c ≡ true → is_running before ≡ true → after.order ≡ owed.order
-    → after.id ≡ running_id (model.works c [])
+    → after.id ≡ running_id d (model.works c [])
     → device_at setup.devices (address_of c) ≡ Some d → refusal_beside d before state owed last c ≡ None
     → MayBegin c setup.devices state (order_of owed.order) → Stands d job c [] state (order_of owed.order)
     → Keeps (device d) before state owed (lines_of d past)
@@ -198,7 +198,7 @@ command_taken setup d c before job state owed after last past is_last of_device 
           (subst (Stands d job c [] state) keeps.knows.1 stands)) (
             keeps.knows.0,
             ap order_of ordered ∙ keeps.knows.1,
-            named ∙ ap running_id (sym (begins_own c setup.devices state (order_of owed.order) _ may)),
+            named ∙ ap (running_id d) (sym (begins_own c setup.devices state (order_of owed.order) _ may)),
           ),
     )
 

@@ -2,6 +2,9 @@
 use Rattle.std.proofs.Common.{◌≡◌, ℕ, ◌+◌, ◌≤◌, true, false, cond, List, [], ◌∷◌, refl, sym, ap, subst, ◌∙◌, Option, Some, None, arith}
 use Rattle.std.specs.Prelude.{IsTrue, is_some}
 use Rattle.cct_model.specs.terms.device.DeviceSetup.{DeviceSetup}
+use Rattle.cct_model.specs.terms.device.Setup.{Setup}
+use Rattle.cct_model.specs.Exchange.{device_at}
+use Rattle.cct_model.specs.Job.{address_of}
 use Rattle.cct_model.specs.lines.command.Command.{Command}
 use Rattle.cct_model.specs.lines.command.Command.TheVariants as command
 use Rattle.cct_model.specs.lines.entry.End.{End}
@@ -12,7 +15,7 @@ use Rattle.cct_model.specs.declared.judging.EpochState.{EpochState}
 use Rattle.cct_model.specs.declared.judging.OpenOrder.{OpenOrder}
 use Rattle.cct_model.specs.Line.{put}
 use Rattle.std.specs.Option.{IfSome}
-use Rattle.cct_model.specs.Refusal.{state_fails, state_tests}
+use Rattle.cct_model.specs.Refusal.{need_for, state_fails, state_tests}
 use Rattle.cct_jobs.specs.declared.job.Job.{Job}
 use Rattle.cct_jobs.specs.declared.job.Job.TheVariants.{StartPuts, RoundPuts, StopPuts, StopEnds, OrderOpens, OrderCloses, SalePuts, Done}
 use Rattle.cct_jobs.specs.declared.job.Need.{Need}
@@ -152,7 +155,7 @@ settles_room new (Some o) there is puts = closing_room new (Some o) (0 + 1 + 0) 
 
 room_by : (d : DeviceSetup) (job : Option Job) (state : EpochState) (owed : Dues) (last : ℕ) (c : Command) (new : Job)
     → refusal_beside d job state owed last c ≡ None → may_put_of new ≡ records_of c → closes_order new ≡ is_closing c
-    → held_by (Some new) (order_of owed.order) ≤ held_by None (order_of owed.order) + needed c
+    → held_by (Some new) (order_of owed.order) ≤ held_by None (order_of owed.order) + need_for (Some d) c
 room_by d job state owed last (command.Pay addr id count) new free puts closes =
     let room = closing_room new (order_of owed.order) 2 closes (omega (arith, puts)) in
     omega (arith, room)
@@ -163,16 +166,20 @@ room_by d job state owed last (command.Vend id price) new free puts closes = pla
 room_by d job state owed last (command.Start addr mask) new free puts closes = plain_room new _ 1 closes puts
 room_by d job state owed last (command.Round addr) new free puts closes = plain_room new _ 1 closes puts
 room_by d job state owed last (command.Stop addr) new free puts closes = plain_room new _ 2 closes puts
-room_by d job state owed last c new free puts closes = plain_room new _ 0 closes puts
+room_by d job state owed last c new free puts closes =
+    let room = plain_room new (order_of owed.order) 0 closes puts in
+    omega (arith, room)
 
-pub begun_holds : (d : DeviceSetup) (job : Option Job) (state : EpochState) (owed : Dues) (last : ℕ) (c : Command)
+pub begun_holds : (setup : Setup) (d : DeviceSetup) (job : Option Job) (state : EpochState) (owed : Dues) (last : ℕ) (c : Command)
     (new : Job) → is_halt c ≡ false → is_of_device c ≡ true → refusal_beside d job state owed last c ≡ None
+    → device_at setup.devices (address_of c) ≡ Some d
     → may_put_of new ≡ records_of c → closes_order new ≡ is_closing c
-    → held_by (Some new) (order_of owed.order) ≤ held_by job (order_of owed.order) + needed c
-begun_holds d job state owed last c new no_halt of_device free puts closes =
-    subst (λ j. held_by (Some new) (order_of owed.order) ≤ held_by j (order_of owed.order) + needed c)
+    → held_by (Some new) (order_of owed.order) ≤ held_by job (order_of owed.order) + needed setup c
+begun_holds setup d job state owed last c new no_halt of_device free there puts closes =
+    subst (λ j. held_by (Some new) (order_of owed.order) ≤ held_by j (order_of owed.order) + needed setup c)
     (sym (free_job d job state owed last c no_halt of_device free))
-    (room_by d job state owed last c new free puts closes)
+    (subst (λ found. held_by (Some new) (order_of owed.order) ≤ held_by None (order_of owed.order) + need_for found c)
+    (sym there) (room_by d job state owed last c new free puts closes))
 
 pub begun_reserves : (d : DeviceSetup) (job : Option Job) (state : EpochState) (owed : Dues) (last : ℕ) (c : Command)
     (new : Job) → is_halt c ≡ false → is_of_device c ≡ true → refusal_beside d job state owed last c ≡ None
@@ -207,9 +214,10 @@ sells_begun (Done end) c stands =
 sells_begun job c stands = absurd stands
 
 -- a halt
-halt_needs : (c : Command) → is_halt c ≡ true → needed c ≡ 0
-halt_needs (command.Halt addr) is = refl
-halt_needs c is = absurd cc
+halt_needs : (found : Option DeviceSetup) (c : Command) → is_halt c ≡ true → need_for found c ≡ 0
+halt_needs None (command.Halt addr) is = refl
+halt_needs (Some d) (command.Halt addr) is = refl
+halt_needs found c is = absurd cc
 
 halt_asks : (c : Command) → is_halt c ≡ true → coins_asked c ≡ 0
 halt_asks (command.Halt addr) is = refl
@@ -220,13 +228,13 @@ same_left : (old new : Job) (owed : Option OpenOrder) → closes_order new ≡ c
 same_left old new None is = refl
 same_left old new (Some o) is = ap (λ b. cond b 0 1) is
 
-pub halt_holds : (c : Command) (job : Option Job) (old new : Job) (owed : Option OpenOrder) → is_halt c ≡ true
+pub halt_holds : (setup : Setup) (c : Command) (job : Option Job) (old new : Job) (owed : Option OpenOrder) → is_halt c ≡ true
     → job ≡ Some old → may_put_of new ≡ may_put_of old → closes_order new ≡ closes_order old
-    → held_by (Some new) owed ≤ held_by job owed + needed c
-halt_holds c job old new owed halt was puts closes =
+    → held_by (Some new) owed ≤ held_by job owed + needed setup c
+halt_holds setup c job old new owed halt was puts closes =
     let same = same_left old new owed closes in
-    let none = halt_needs c halt in
-    subst (λ j. held_by (Some new) owed ≤ held_by j owed + needed c) (sym was) (omega (arith, same, none, puts))
+    let none = halt_needs (device_at setup.devices (address_of c)) c halt in
+    subst (λ j. held_by (Some new) owed ≤ held_by j owed + needed setup c) (sym was) (omega (arith, same, none, puts))
 
 pub halt_reserves : (c : Command) (job : Option Job) (old new : Job) → is_halt c ≡ true → job ≡ Some old
     → coins_reserved new ≡ coins_reserved old → coins_by (Some new) ≡ coins_by job + coins_asked c

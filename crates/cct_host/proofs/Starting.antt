@@ -44,7 +44,7 @@ recalled_sits d k past before free same unused recalls = record {
   knows = (
     recalls.epoch_is ∙ ap (epoch_in d.addr) (sym same) ∙ sym (epoch_recorded d past),
     recalls.order_is ∙ ap (order_in d.addr) (sym same) ∙ sym (order_recorded d past),
-    recalls.id_is ∙ sym (ap running_id free),
+    recalls.id_is ∙ sym (ap (running_id d) free),
   );
 }
 
@@ -73,7 +73,7 @@ free_sale k past none free = record {
       (subst (λ j. Works sales j model.free (model.epoch (sale_lines past)) (order (sale_lines past))) (sym free.0) tt);
   knows = (
     ap (λ (x : Dues). x.order) free.2,
-    ap (λ (x : Dues). x.id) free.2 ∙ sym (ap running_id none),
+    ap (λ (x : Dues). x.id) free.2 ∙ sym (ap sale_id none),
   );
 }
 

@@ -12,7 +12,7 @@ use Rattle.cct_model.specs.lines.entry.Entry.{Entry}
 use Rattle.cct_model.specs.lines.entry.Entry.TheVariants as entry
 use Rattle.cct_model.specs.declared.judging.EpochState.{EpochState}
 use Rattle.cct_model.specs.Device.{is_acceptor, is_hopper}
-use Rattle.cct_model.specs.Refusal.{View, first_of, id_refusal, money_in, room_in, state_fails, state_tests, tests_of, unless}
+use Rattle.cct_model.specs.Refusal.{View, first_of, id_refusal, money_in, need_for, state_fails, state_tests, tests_of, unless}
 use Rattle.cct_jobs.specs.declared.job.Job.{Job}
 use Rattle.cct_host.specs.declared.dues.Dues.{Dues}
 use Rattle.cct_jobs.specs.Jobs.{end_of_job, halts, order_of}
@@ -67,10 +67,9 @@ refusal_beside d job state owed last c = first_of (state_fails (seen_at d job st
 abbrev pub sale_refusal : Option Job → ℕ → ℕ → Option CommandNo
 sale_refusal job id last = option_or (busy_by job) (id_refusal id last)
 
--- How many records a command needs room for beside those that are held. A settlement needs none, since one is held for
--- its order.
-abbrev pub needed : Command → ℕ
-needed c = room_in (tests_of c)
+-- How many records a command needs room for beside those that are held.
+abbrev pub needed : Setup → Command → ℕ
+needed setup c = need_for (device_at setup.devices (address_of c)) c
 
 -- What a command reserves until its order is opened or its sale is put.
 abbrev pub amount_of : Setup → Command → ℕ

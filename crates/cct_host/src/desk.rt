@@ -68,7 +68,7 @@ impl JobDesk {
         requires there { device_at setup.now.devices (address_of command.now) ≡ Some device.now }
         requires of_device { is_of_device command.now ≡ true }
         ensures stays { OnErr result (self.new ≡ self.old) }
-        ensures holds { OnOk result (held_at self.new ≤ held_at self.old + needed command.now) }
+        ensures holds { OnOk result (held_at self.new ≤ held_at self.old + needed setup.now command.now) }
         ensures puts { OnOk result (puts_at self.new ≤ puts_at self.old + records_of command.now) }
         ensures reserves { OnOk result (coins_by self.new.job ≡ coins_by self.old.job + coins_asked command.now) }
         ensures commands { device.now.serial < 2 ^ 24
@@ -106,7 +106,7 @@ impl JobDesk {
         requires there { device_at setup.now.devices (address_of command.now) ≡ Some device.now }
         requires halt { is_halt command.now ≡ true }
         ensures stays { OnErr result (self.new ≡ self.old) }
-        ensures holds { OnOk result (held_at self.new ≤ held_at self.old + needed command.now) }
+        ensures holds { OnOk result (held_at self.new ≤ held_at self.old + needed setup.now command.now) }
         ensures puts { OnOk result (puts_at self.new ≤ puts_at self.old + records_of command.now) }
         ensures reserves { OnOk result (coins_by self.new.job ≡ coins_by self.old.job + coins_asked command.now) }
         ensures commands { Commands setup.now (places.device device.now) self.old self.new command.now result }
@@ -160,7 +160,7 @@ impl JobDesk {
         requires no_halt { is_halt command.now ≡ false }
         requires of_device { is_of_device command.now ≡ true }
         ensures stays { OnErr result (self.new ≡ self.old) }
-        ensures holds { OnOk result (held_at self.new ≤ held_at self.old + needed command.now) }
+        ensures holds { OnOk result (held_at self.new ≤ held_at self.old + needed setup.now command.now) }
         ensures puts { OnOk result (puts_at self.new ≤ puts_at self.old + records_of command.now) }
         ensures reserves { OnOk result (coins_by self.new.job ≡ coins_by self.old.job + coins_asked command.now) }
         ensures commands { device.now.serial < 2 ^ 24
@@ -578,8 +578,10 @@ fn is_halt(command: &Command) -> bool
 }
 
 /// The id of the payment or the sale that a command begins, or 0.
+#[tactic(auto, using(crate::proofs::Keeps::no_order_begun))]
 fn id_begun(command: &Command) -> u32
-    ensures { result ≡ running_id (works command.now []) }
+    ensures order { (d : DeviceSetup) → is_of_device command.now ≡ true → result ≡ running_id d (works command.now []) }
+    ensures sale { is_of_device command.now ≡ false → result ≡ sale_id (works command.now []) }
 {
     match *command {
         Command::Pay { id, .. } => id,

@@ -78,7 +78,7 @@ impl<'s> Desks<'s> {
     pub fn command(&mut self, command: &Command) -> Result<(), CommandNo>
         ensures setup { setup_of self.new ≡ setup_of self.old }
         ensures stays { OnErr result (Stays self.old self.new) }
-        ensures holds { OnOk result (held_of self.new ≤ held_of self.old + needed command.now) }
+        ensures holds { OnOk result (held_of self.new ≤ held_of self.old + needed (setup_of self.old) command.now) }
         ensures puts { OnOk result (puts_of self.new ≤ puts_of self.old + records_of command.now) }
         ensures reserves { OnOk result (reserved_of self.new
             ≡ reserved_of self.old + amount_of (setup_of self.old) command.now) }
@@ -107,7 +107,7 @@ impl<'s> Desks<'s> {
         requires address { address_of command.now ≡ addr }
         ensures setup { setup_of self.new ≡ setup_of self.old }
         ensures stays { OnErr result (Stays self.old self.new) }
-        ensures holds { OnOk result (held_of self.new ≤ held_of self.old + needed command.now) }
+        ensures holds { OnOk result (held_of self.new ≤ held_of self.old + needed (setup_of self.old) command.now) }
         ensures puts { OnOk result (puts_of self.new ≤ puts_of self.old + records_of command.now) }
         ensures reserves { OnOk result (reserved_of self.new
             ≡ reserved_of self.old + amount_of (setup_of self.old) command.now) }

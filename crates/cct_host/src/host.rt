@@ -1,5 +1,6 @@
 //! The host over its journal: a record is put before its entry is told, and no put finds the journal full.
 ghost use Rattle.std.specs.Prelude.{◌≡◌, ◌≢◌, ◌≤◌, ◌+◌, length, List, [], Option, Some, None, Err, IfErr, IfOk, IfSome, MatchResult, OnErr, OnOk, IsTrue, false, is_ok, reverse};
+ghost use Rattle.std.specs.Option.{option_or};
 ghost use Rattle.arrayvec.specs.ArrayVec.{array_vec_len};
 ghost use Rattle.cct_edge.specs.Faults.{Rose};
 ghost use Rattle.cct_model.specs.lines.entry.Entry.{Entry};
@@ -124,9 +125,10 @@ impl<'s, D: Disk> Host<'s, D> {
         ensures affords { result ≡ None → amount_of (setup_of self.now) command.now
             ≤ ledgers.available_of self.now.ledger }
         ensures fits { result ≡ None → 1 ≤ records_of command.now → journals.used_of self.now.journal
-            + all_desks.held_of self.now.desks + needed command.now ≤ capacity_in self.now }
+            + all_desks.held_of self.now.desks + needed (setup_of self.now) command.now ≤ capacity_in self.now }
         ensures stands { (past : List Entry) → Keeps self.now past
-            → result ≡ refusals.room_refusal (capacity_in self.now) (setup_of self.now) past command.now }
+            → option_or (refusals.state_refusal (setup_of self.now) past command.now) result
+            ≡ refusals.refusal (capacity_in self.now) (setup_of self.now) past command.now }
     {
         match *command {
             Command::Start { .. } => self.full_refusal(1),
@@ -346,7 +348,7 @@ fn take(desks: &mut Desks<'_>, ledger: &mut Ledger<'_>, command: &Command) -> Re
     ensures same { ledgers.setup_of ledger.new ≡ ledgers.setup_of ledger.old }
     ensures reserved { ledgers.reserved_of ledger.new ≡ all_desks.reserved_of desks.new }
     ensures counted { ledgers.applied ledger.new ≡ ledgers.applied ledger.old }
-    ensures holds { all_desks.held_of desks.new ≤ all_desks.held_of desks.old + needed command.now }
+    ensures holds { all_desks.held_of desks.new ≤ all_desks.held_of desks.old + needed (all_desks.setup_of desks.old) command.now }
     ensures puts { all_desks.puts_of desks.new ≤ all_desks.puts_of desks.old + records_of command.now }
     ensures stays { OnErr result (all_desks.Stays desks.old desks.new × (ledger.new ≡ ledger.old)) }
     ensures answers { all_desks.Answers desks.old desks.new command.now result }

@@ -15,7 +15,7 @@ returns-in-None-clause-commands c fits past is_last sits =
     let free = sym c.refusal.ensures ∙ c.in-None.is in
     command_taken c.args.setup.now c.args.device.now c.args.command.now c.args.self.now.job c.begin.result
     c.args.self.now.epoch c.args.self.now.dues _ c.args.last past is_last
-    c.requires.of_device c.args.self.now.runs refl c.id_begun-self.ensures c.requires.there free
+    c.requires.of_device c.args.self.now.runs refl (c.id_begun-self.ensures.order c.args.device.now c.requires.of_device) c.requires.there free
     (may_begin c.args.setup.now.devices c.args.device.now c.args.self.now.job c.args.self.now.epoch
     c.args.self.now.dues c.args.last c.args.command.now
     c.requires.no_halt c.requires.of_device c.requires.there free)
@@ -25,8 +25,8 @@ returns-in-None-clause-commands c fits past is_last sits =
 pub returns-in-None-clause-holds : goal.returns-in-None-clause-holds
 returns-in-None-clause-holds c =
     let desk = c.args.self.now in
-    begun_holds c.args.device.now desk.job desk.epoch desk.dues c.args.last c.args.command.now c.begin.result
-    c.requires.no_halt c.requires.of_device (sym c.refusal.ensures ∙ c.in-None.is)
+    begun_holds c.args.setup.now c.args.device.now desk.job desk.epoch desk.dues c.args.last c.args.command.now c.begin.result
+    c.requires.no_halt c.requires.of_device (sym c.refusal.ensures ∙ c.in-None.is) c.requires.there
     c.begin.ensures.may_put c.begin.ensures.closes
 
 pub returns-in-None-clause-reserves : goal.returns-in-None-clause-reserves

@@ -20,7 +20,7 @@ returns-in-Some-take-clause-commands c past sits =
 pub returns-in-Some-take-clause-holds : goal.returns-in-Some-take-clause-holds
 returns-in-Some-take-clause-holds c =
     let desk = c.args.self.now in
-    halt_holds c.args.command.now desk.job c.in-Some-take.job c.halt.result (order_of desk.dues.order) c.requires.halt
+    halt_holds c.args.setup.now c.args.command.now desk.job c.in-Some-take.job c.halt.result (order_of desk.dues.order) c.requires.halt
     (sym c.take.ensures.value ∙ c.in-Some-take.is) c.halt.ensures.may_put c.halt.ensures.closes
 
 pub returns-in-Some-take-clause-reserves : goal.returns-in-Some-take-clause-reserves

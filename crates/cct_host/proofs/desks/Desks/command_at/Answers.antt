@@ -82,7 +82,7 @@ returns-in-Some-clause-holds c =
     let lent = c.as_slice-devices.ensures.value in
     let within : i < length c.args.self.now.setup.now.devices = subst (λ ds. i < length ds) lent c.in-Some.ensures.within in
     ok_by c.command.result _ _ c.command.ensures.holds
-    (sum_turn held_at ks _ i c.index-deref_mut-index.result c.command.new.self _ (needed c.args.command.now) c.deref_mut.ensures.value
+    (sum_turn held_at ks _ i c.index-deref_mut-index.result c.command.new.self _ (needed c.args.self.now.setup.now c.args.command.now) c.deref_mut.ensures.value
     (subst (λ n. i < n) (sym c.args.self.now.many) within))
 
 pub returns-in-Some-clause-puts : goal.returns-in-Some-clause-puts
