@@ -1,6 +1,7 @@
 -- What an exchange of a job's own request does to the row that asked it: what is sent once it ends, whatever is heard; a
 -- row that waits for a payout ends by a state with no coin left; any other ends by its answer, and stays without one.
 use Rattle.std.proofs.Common.{◌≡◌, suc, true, false, cond, List, [], ◌∷◌, ◌⊎◌, inl, inr, refl, ap, sym, ◌∙◌, subst, ℕ, zero, Bool, true≢false, Option, Some, None}
+use Rattle.std.specs.Prelude.{⊤}
 use Rattle.cct_model.specs.terms.device.DeviceSetup.{DeviceSetup}
 use Rattle.cct_model.specs.terms.request.Request.{Request}
 use Rattle.cct_model.specs.declared.judging.Judged.{Judged}
@@ -13,7 +14,8 @@ use Rattle.cct_model.specs.Line.{Line, exchange}
 use Rattle.cct_model.specs.Order.{is_marked}
 use Rattle.cct_model.specs.Job.{sends, Payment, payment_in, judged_in, address_of, state_row}
 use Rattle.cct_model.specs.Rows.{TableRow, asks_for, asks_once, waits_for_coins, puts_due, rows_of, after, done, rest, left, first, row, sent_once, ends_first, has_waits}
-use Rattle.cct_model.proofs.Tries.{IsAgain, is_asked_again, FailsAs, fails_as, left_asks, due_sends}
+use Rattle.cct_model.proofs.Tries.{IsAgain, is_asked_again, FailsAs, fails_as, left_asks, due_sends, same_request}
+use Rattle.cct_model.proofs.Rows.{EachRow}
 
 -- without an answer only what is sent once ends
 pub unanswered_ends : (rows : List TableRow) → ends_first rows None ≡ sent_once rows
@@ -43,7 +45,15 @@ pub once_goes : (rows : List TableRow) (asked : Option Request) (got : Option Re
 once_goes rows asked got since once =
     ap (λ ends. cond ends (suc (done rows since)) (done rows since)) (once_ends (after rows (done rows since)) got once)
 
--- an answer ends the row, or that waits for a payout, and asked what such a row asks
+-- a row that asks is the first that isn't done
+pub rest_asks : (d : DeviceSetup) (c : Command) (since : List Line) (state : EpochState) (owed : Option OpenOrder)
+    (q : Request) → row d c since state owed ≡ sends q →
+    first (address_of c) (judged_in c since state) (payment_in since owed) (rest d c since) ≡ sends q
+rest_asks d c since state owed q is =
+    subst (λ rows. first (address_of c) (judged_in c since state) (payment_in since owed) rows ≡ sends q)
+    (left_asks d c since state owed q is) is
+
+-- an answer ends the row, or the row waits for a payout
 abbrev pub AnswersAs : List TableRow → Bool → Request → Type 0
 AnswersAs rows marked q =
     ((y : Reply) → ends_first rows (Some y) ≡ true)
@@ -65,8 +75,8 @@ answers_first addr means p (puts_due due behind ∷ rows) q is = absurd (due_sen
 pub answers_as : (d : DeviceSetup) (c : Command) (since : List Line) (state : EpochState) (owed : Option OpenOrder)
     (q : Request) → row d c since state owed ≡ sends q → AnswersAs (rest d c since) (is_marked since) q
 answers_as d c since state owed q is =
-    subst (λ rows. AnswersAs rows (is_marked since) q) (left_asks d c since state owed q is)
-    (answers_first (address_of c) (judged_in c since state) (payment_in since owed) (left d c since state) q is)
+    answers_first (address_of c) (judged_in c since state) (payment_in since owed) (rest d c since) q
+    (rest_asks d c since state owed q is)
 
 -- whether the row that asks is sent once is told by its request, and tells it
 pub fails_rest : (d : DeviceSetup) (c : Command) (since : List Line) (state : EpochState) (owed : Option OpenOrder)
@@ -98,8 +108,29 @@ pub again_row : (d : DeviceSetup) (c : Command) (since : List Line) (state : Epo
     (q : Request) → row d c since state owed ≡ sends q → sent_once (rest d c since) ≡ false → IsAgain q
 again_row d c since state owed q is again = asks_again_by (rest d c since) q (fails_rest d c since state owed q is) again
 
--- the rows behind one more
-pub after_more : (rows : List TableRow) (n : ℕ) → after rows (suc n) ≡ after (after rows n) 1
+-- the rows behind the first
+abbrev pub next_rows : List TableRow → List TableRow
+next_rows [] = []
+next_rows (r ∷ rows) = rows
+
+after_none : (rows : List TableRow) → after rows 0 ≡ rows
+after_none [] = refl
+after_none (r ∷ rows) = refl
+
+pub after_more : (rows : List TableRow) (n : ℕ) → after rows (suc n) ≡ next_rows (after rows n)
 after_more [] n = refl
-after_more (r ∷ rows) zero = refl
+after_more (r ∷ rows) zero = after_none rows
 after_more (r ∷ rows) (suc n) = after_more rows n
+
+-- a fact of each request that is sent once
+abbrev pub IfOnce : (Request → Type 0) → TableRow → Type 0
+IfOnce P (asks_once q behind without) = P q
+IfOnce P r = ⊤
+
+pub once_sent : (P : Request → Type 0) (addr : ℕ) (means : Judged) (p : Payment) (rows : List TableRow) (q : Request) →
+    first addr means p rows ≡ sends q → sent_once rows ≡ true → EachRow (IfOnce P) rows → P q
+once_sent P addr means p [] q is once each = absurd cc
+once_sent P addr means p (asks_for x behind ∷ rows) q is once each = absurd cc
+once_sent P addr means p (asks_once x behind without ∷ rows) q is once each = subst P (same_request x q is) each.0
+once_sent P addr means p (waits_for_coins ∷ rows) q is once each = absurd cc
+once_sent P addr means p (puts_due due behind ∷ rows) q is once each = absurd cc
