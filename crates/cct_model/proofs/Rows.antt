@@ -1,6 +1,6 @@
 -- What the rows of a job at a device send and put, and how they end: the walks over the rows that are left, and that each
 -- record is of the job's address.
-use Rattle.std.proofs.Common.{◌≡◌, ◌∙◌, ℕ, ◌-◌, ◌==◌, ◌&&◌, nat_le, zero, suc, cond, true, false, Bool, List, [], ◌∷◌, length, slice_get, arith, refl, ap, sym, Option, Some, None, true≢false}
+use Rattle.std.proofs.Common.{◌≡◌, ◌∙◌, ℕ, ◌≤◌, ◌-◌, ◌==◌, ◌&&◌, nat_le, zero, suc, cond, true, false, Bool, List, [], ◌∷◌, length, slice_get, arith, refl, ap, sym, subst, Option, Some, None, true≢false}
 use Rattle.std.specs.Prelude.{⊤}
 use Rattle.std.proofs.lemmas.Bool.{and_parts}
 use Rattle.std.proofs.lemmas.Bool.Decides.{nat_tests}
@@ -27,7 +27,7 @@ use Rattle.cct_model.specs.Line.{Line, exchange, put}
 use Rattle.cct_model.specs.Reading.{judge}
 use Rattle.cct_model.specs.Order.{close, life_between}
 use Rattle.cct_model.specs.Job.{Row, sends, puts, no_row, put_or, Payment, payment_in, state_row, open_row, close_row, ident_requests, judged_by, judged_in, credits_read, mask_read, address_of, end_of_reading, end_of_close}
-use Rattle.cct_model.specs.Rows.{done, Then, goes_on, ends_as, if_quiet, if_judged, path_told, if_posted, if_closed, Due, new_epoch, reading, epoch_end, new_order, order_end, sale, TableRow, asks_for, asks_once, waits_for_coins, puts_due, telling, rows_of, after, from, left, rest, first, due_row, row, row_at, end_by_answer, end_by_record, end_bare, end_answered, end_failed, end_kept, end_of, has_waits}
+use Rattle.cct_model.specs.Rows.{done, Then, goes_on, ends_as, if_quiet, if_judged, path_told, if_posted, if_closed, Due, new_epoch, reading, epoch_end, new_order, order_end, sale, TableRow, asks_for, asks_once, waits_for_coins, puts_due, telling, rows_of, after, from, left, rest, first, due_row, row, row_at, end_by_answer, end_by_record, end_bare, end_answered, end_failed, end_kept, end_of, has_waits, ends_first}
 use Rattle.cct_model.specs.Transcript.{owner, opened_at}
 
 -- a fact of the request that a row sends, and one of the record that it puts
@@ -107,6 +107,44 @@ pub each_left : (F : TableRow → Type 0) (d : DeviceSetup) (c : Command) (since
     EachRow F (rows_of d c) → EachRow F (left d c since state)
 each_left F d c since state each =
     each_from F (rest d c since) (judged_in c since state) (each_after F (rows_of d c) (done (rows_of d c) since) each)
+
+-- these rows but the first
+abbrev pub but_first : List TableRow → List TableRow
+but_first [] = []
+but_first (r ∷ rows) = rows
+
+-- where none is done, and where one more is
+pub after_none : (rows : List TableRow) → after rows 0 ≡ rows
+after_none [] = refl
+after_none (r ∷ rows) = refl
+
+pub after_next : (rows : List TableRow) (n : ℕ) → after rows (suc n) ≡ but_first (after rows n)
+after_next [] n = refl
+after_next (r ∷ []) zero = refl
+after_next (r ∷ s ∷ rows) zero = refl
+after_next (r ∷ rows) (suc n) = after_next rows n
+
+-- a line of a job leaves the rows that were left, or these but the first
+pub after_line : (P : List TableRow → Type 0) (rows : List TableRow) (l : Line) (since : List Line) →
+    P (after rows (done rows since)) → P (but_first (after rows (done rows since))) →
+    P (after rows (done rows (l ∷ since)))
+after_line P rows (put r) since same less = subst P (sym (after_next rows (done rows since))) less
+after_line P rows (exchange q y) since same less = by_end (ends_first (after rows (done rows since)) y)
+  where
+    by_end : (over : Bool) → P (after rows (cond over (suc (done rows since)) (done rows since)))
+    by_end true = subst P (sym (after_next rows (done rows since))) less
+    by_end false = same
+after_line P rows l since same less = same
+
+-- so it takes back none that was done
+pub done_grows : (rows : List TableRow) (l : Line) (since : List Line) → done rows since ≤ done rows (l ∷ since)
+done_grows rows (put r) since = omega arith
+done_grows rows (exchange q y) since = by_end (ends_first (after rows (done rows since)) y)
+  where
+    by_end : (over : Bool) → done rows since ≤ cond over (suc (done rows since)) (done rows since)
+    by_end true = omega arith
+    by_end false = omega arith
+done_grows rows l since = omega arith
 
 -- of the rows that ask for one thing after the other
 pub each_told : (F : TableRow → Type 0) → ((q : Request) → F (asks_for q goes_on)) →
