@@ -41,10 +41,10 @@ use Rattle.cct_model.proofs.Doses.{AreDoses, doses_are, job_undosed}
 use Rattle.cct_laws.proofs.Ids.{put_owned}
 use Rattle.cct_laws.proofs.HopperReplies.{serial_fits}
 use Rattle.cct_laws.proofs.Setups.{found_in}
-use Rattle.cct_model.proofs.Rows.{IfEnd, RowHolds, EachRow, answer_end, put_end, Asks, AnswerEnds, PutEnds, each_told, each_after, state_holds}
+use Rattle.cct_model.proofs.Rows.{IfEnd, RowHolds, EachRow, answer_end, put_end, Asks, AnswerEnds, PutEnds, each_told, each_after, state_holds, but_first, after_next}
 use Rattle.cct_laws.proofs.Seen.{ArePassed, loose, loose_line, Lost, bare, kept_here, kept_elsewhere, seen_here, seen_aside, seen_lost, seen_from, along, any_steps, lines_wire, lines_with_end, lines_put, lines_taken, lines_kept, lines_kept_elsewhere}
 use Rattle.cct_model.proofs.Tries.{is_asked_again, IfHeard, fails_as, IsHeardEnd, answers_heard, puts_heard, due_sends, same_request, left_asks, asked_fails}
-use Rattle.cct_model.proofs.RowEnds.{IfOnce, once_sent, next_rows, after_more, failed_stays, once_goes, rest_asks, fails_rest}
+use Rattle.cct_model.proofs.RowEnds.{IfOnce, once_sent, failed_stays, once_goes, rest_asks, fails_rest}
 use Rattle.cct_model.specs.declared.judging.OpenOrder.{OpenOrder}
 
 -- what is asked again has a header that what is sent once doesn't have
@@ -112,7 +112,7 @@ apart_after (r ∷ rows) zero each = each
 apart_after (r ∷ rows) (suc n) each = apart_after rows n each.1
 
 apart_first : (addr : ℕ) (means : Judged) (p : Payment) (rows : List TableRow) (q : Request) → AreApart rows →
-    first addr means p rows ≡ sends q → IsApart (next_rows rows) q
+    first addr means p rows ≡ sends q → IsApart (but_first rows) q
 apart_first addr means p [] q each is = absurd cc
 apart_first addr means p (asks_for x behind ∷ rows) q each is = subst (IsApart rows) (same_request x q is) each.0
 apart_first addr means p (asks_once x behind without ∷ rows) q each is =
@@ -145,7 +145,7 @@ other_tried since q (waits_for_coins ∷ rows) apart = (tt, other_tried since q 
 other_tried since q (puts_due due behind ∷ rows) apart = (tt, other_tried since q rows apart.1)
 
 -- a first row that isn't sent once asks for no such fact
-first_tried : (since : List Line) (rows : List TableRow) → sent_once rows ≡ false → Untried since (next_rows rows) →
+first_tried : (since : List Line) (rows : List TableRow) → sent_once rows ≡ false → Untried since (but_first rows) →
     Untried since rows
 first_tried since [] again later = tt
 first_tried since (asks_for q behind ∷ rows) again later = (tt, later)
@@ -291,7 +291,7 @@ same_tries q since = rw (eq-eqb (header_of q) (header_of q) refl) refl
 
 -- what a job asks under its own header leaves what it has still to send once
 apart_row : (d : DeviceSetup) (c : Command) (since : List Line) (state : EpochState) (owed : Option OpenOrder)
-    (q : Request) → row d c since state owed ≡ sends q → IsApart (next_rows (rest d c since)) q
+    (q : Request) → row d c since state owed ≡ sends q → IsApart (but_first (rest d c since)) q
 apart_row d c since state owed q is =
     apart_first (address_of c) (judged_in c since state) (payment_in since owed) (rest d c since) q
     (apart_after (rows_of d c) (done (rows_of d c) since) (rows_apart d c)) (rest_asks d c since state owed q is)
@@ -303,7 +303,7 @@ again_none d c since state owed q is again =
     let work = exchange (Some q) None ∷ since in
     subst (λ n. Untried work (after (rows_of d c) n)) (sym (failed_stays (rows_of d c) (Some q) since again))
     (first_tried work (rest d c since) again
-    (other_tried since q (next_rows (rest d c since)) (apart_row d c since state owed q is)))
+    (other_tried since q (but_first (rest d c since)) (apart_row d c since state owed q is)))
 
 once_none : (d : DeviceSetup) (c : Command) (since : List Line) (state : EpochState) (owed : Option OpenOrder)
     (q : Request) → row d c since state owed ≡ sends q → sent_once (rest d c since) ≡ true →
@@ -311,8 +311,8 @@ once_none : (d : DeviceSetup) (c : Command) (since : List Line) (state : EpochSt
 once_none d c since state owed q is once =
     let work = exchange (Some q) None ∷ since in
     subst (λ n. Untried work (after (rows_of d c) n)) (sym (once_goes (rows_of d c) (Some q) None since once))
-    (subst (Untried work) (sym (after_more (rows_of d c) (done (rows_of d c) since)))
-    (other_tried since q (next_rows (rest d c since)) (apart_row d c since state owed q is)))
+    (subst (Untried work) (sym (after_next (rows_of d c) (done (rows_of d c) since)))
+    (other_tried since q (but_first (rest d c since)) (apart_row d c since state owed q is)))
 
 -- what is sent once has no failed try before
 once_tries : (d : DeviceSetup) (lines since : List Line) (c : Command) (state : EpochState) (owed : Option OpenOrder)

@@ -1,6 +1,6 @@
 -- What an exchange of a job's own request does to the row that asked it: what is sent once it ends, whatever is heard; a
 -- row that waits for a payout ends by a state with no coin left; any other ends by its answer, and stays without one.
-use Rattle.std.proofs.Common.{◌≡◌, suc, true, false, cond, List, [], ◌∷◌, ◌⊎◌, inl, inr, refl, ap, sym, ◌∙◌, subst, ℕ, zero, Bool, true≢false, Option, Some, None}
+use Rattle.std.proofs.Common.{◌≡◌, suc, true, false, cond, List, [], ◌∷◌, ◌⊎◌, inl, inr, refl, ap, sym, ◌∙◌, subst, ℕ, Bool, true≢false, Option, Some, None}
 use Rattle.std.specs.Prelude.{⊤}
 use Rattle.cct_model.specs.terms.device.DeviceSetup.{DeviceSetup}
 use Rattle.cct_model.specs.terms.request.Request.{Request}
@@ -13,7 +13,7 @@ use Rattle.cct_model.specs.Reply as reply
 use Rattle.cct_model.specs.Line.{Line, exchange}
 use Rattle.cct_model.specs.Order.{is_marked}
 use Rattle.cct_model.specs.Job.{sends, Payment, payment_in, judged_in, address_of, state_row}
-use Rattle.cct_model.specs.Rows.{TableRow, asks_for, asks_once, waits_for_coins, puts_due, rows_of, after, done, rest, left, first, row, sent_once, ends_first, has_waits}
+use Rattle.cct_model.specs.Rows.{TableRow, asks_for, asks_once, waits_for_coins, puts_due, after, done, rest, left, first, row, sent_once, ends_first, has_waits}
 use Rattle.cct_model.proofs.Tries.{IsAgain, is_asked_again, FailsAs, fails_as, left_asks, due_sends, same_request}
 use Rattle.cct_model.proofs.Rows.{EachRow}
 
@@ -107,20 +107,6 @@ row_once d c since state owed q is once = once_by (rest d c since) q (fails_rest
 pub again_row : (d : DeviceSetup) (c : Command) (since : List Line) (state : EpochState) (owed : Option OpenOrder)
     (q : Request) → row d c since state owed ≡ sends q → sent_once (rest d c since) ≡ false → IsAgain q
 again_row d c since state owed q is again = asks_again_by (rest d c since) q (fails_rest d c since state owed q is) again
-
--- the rows behind the first
-abbrev pub next_rows : List TableRow → List TableRow
-next_rows [] = []
-next_rows (r ∷ rows) = rows
-
-after_none : (rows : List TableRow) → after rows 0 ≡ rows
-after_none [] = refl
-after_none (r ∷ rows) = refl
-
-pub after_more : (rows : List TableRow) (n : ℕ) → after rows (suc n) ≡ next_rows (after rows n)
-after_more [] n = refl
-after_more (r ∷ rows) zero = after_none rows
-after_more (r ∷ rows) (suc n) = after_more rows n
 
 -- a fact of each request that is sent once
 abbrev pub IfOnce : (Request → Type 0) → TableRow → Type 0
