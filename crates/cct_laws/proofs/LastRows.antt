@@ -16,8 +16,8 @@ use Rattle.cct_model.specs.lines.entry.End.{End}
 use Rattle.cct_model.specs.Request.{form_of}
 use Rattle.cct_model.specs.Reply.{Reply}
 use Rattle.cct_model.specs.Reply as reply
-use Rattle.cct_model.specs.Job.{sends, puts, Payment, state_row, ident_requests, address_of, done, judged_in}
-use Rattle.cct_model.specs.Rows.{Then, ends_as, path_told, if_posted, if_closed, Due, new_epoch, reading, epoch_end, new_order, order_end, sale, TableRow, asks_for, asks_once, waits_for_coins, puts_due, telling, rows_of, after, from, left_at, first, row_at, end_by_answer, end_answered, end_failed, end_kept, end_bare, end_of, left}
+use Rattle.cct_model.specs.Job.{sends, puts, Payment, state_row, ident_requests, address_of, judged_in}
+use Rattle.cct_model.specs.Rows.{Then, ends_as, path_told, if_posted, if_closed, Due, new_epoch, reading, epoch_end, new_order, order_end, sale, TableRow, asks_for, asks_once, waits_for_coins, puts_due, telling, rows_of, after, from, left_at, first, row_at, end_by_answer, end_answered, end_failed, end_kept, end_bare, end_of, left, done}
 use Rattle.cct_msg.specs.Forms.{form_shown}
 use Rattle.cct_laws.proofs.Held.{IsReading, close_row_closes, same_record}
 use Rattle.cct_model.proofs.Rows.{EachRow, each_told, each_after, each_left}
@@ -223,7 +223,7 @@ first_dispenses addr means p (puts_due due behind ∷ rows) serial count failed 
     absurd (due_sends addr means p due (Dispense serial count) is)
 
 pub dispensed_ends : (d : DeviceSetup) (c : Command) (since : List Line) (state : EpochState) (p : Payment)
-    (serial count : ℕ) → row_at d c (done since) (judged_in c since state) p ≡ sends (Dispense serial count) →
+    (serial count : ℕ) → row_at d c (done (rows_of d c) since) (judged_in c since state) p ≡ sends (Dispense serial count) →
     end_of d c (exchange (Some (Dispense serial count)) None) since state ≡ None
 dispensed_ends d c since state p serial count is =
     first_dispenses (address_of c) (judged_in c since state) p (left d c since state) serial count _
