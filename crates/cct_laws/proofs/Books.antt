@@ -1,6 +1,6 @@
 -- Every legal step, whatever the wire does, keeps the books: each record follows those before it, what is posted covers
 -- what is spoken for, and there is room for all records that are held.
-use Rattle.std.proofs.Common.{◌≡◌, ◌≢◌, ℕ, zero, suc, ◌+◌, ◌-◌, ◌≤◌, cond, List, [], ◌∷◌, ◌++◌, length, refl, ap, sym, subst, Some, None, All, inl, inr, arith}
+use Rattle.std.proofs.Common.{◌≡◌, ◌≢◌, ℕ, suc, ◌+◌, ◌-◌, ◌≤◌, cond, List, [], ◌∷◌, ◌++◌, length, refl, ap, sym, ◌∙◌, subst, Option, Some, None, All, inl, inr, arith}
 use Rattle.std.proofs.lemmas.Bool.{and_from, ne_eqb}
 use Rattle.cct_model.specs.terms.wire.TheConstants.{BROADCAST, HOST}
 use Rattle.cct_model.specs.terms.device.DeviceSetup.{DeviceSetup}
@@ -14,22 +14,22 @@ use Rattle.cct_model.specs.lines.entry.End.TheVariants.{Sold}
 use Rattle.cct_model.specs.lines.entry.Entry.{Entry}
 use Rattle.cct_model.specs.lines.entry.Entry.TheVariants as entry
 use Rattle.cct_model.specs.Setup.{IsSoundSetup}
+use Rattle.cct_model.specs.Exchange.{device_at}
 use Rattle.cct_model.specs.Line.{Line, put, crashed}
-use Rattle.cct_model.specs.Job.{job}
+use Rattle.cct_model.specs.Job.{job, address_of}
 use Rattle.cct_model.specs.Records.{records}
-use Rattle.cct_model.specs.Money.{totals, sum_over, posted_in, reserved_by, spoken_for}
-use Rattle.cct_model.specs.Refusal.{holds_at, sale_holds, held, refusal}
+use Rattle.cct_model.specs.Money.{totals, sum_over, posted_in, reserved_by_sale, spoken_for}
+use Rattle.cct_model.specs.Refusal.{holds_of, holds_at, sale_holds, held, need_for, refusal}
 use Rattle.cct_model.specs.Legal.{with_end, keeping_crash, LegalFrom}
 use Rattle.cct_model.specs.Script.{IsInRange}
 use Rattle.cct_model.specs.Transcript.{met, lines_of, sale_lines}
 use Rattle.cct_laws.specs.Ids.{Ids}
 use Rattle.cct_laws.specs.Law.{IsOf}
-use Rattle.cct_laws.specs.Recorded.{need_of}
+use Rattle.cct_laws.proofs.AllHeld.{holds_crashed, held_crashed, held_kept}
 use Rattle.cct_laws.proofs.AtWork.{spent_by}
 use Rattle.cct_laws.proofs.Brought.{wire_of, wire_end, record_end, poll_wire, poll_end, AtDevice, came, took, halted, idled, made_exchange, made_put, Selling, Due, from_job, from_sale, Brought, of_device, faulted, refused, began_scan, began_sale, nobody, polled, sold, balanced, lost_power, lost_in_put, lost_in_sale}
 use Rattle.cct_laws.proofs.Covered.{spoken_in, sold_spoken}
 use Rattle.cct_laws.proofs.Follow.{Follows, follows_by}
-use Rattle.cct_laws.proofs.Held.{holds_of, holds_crashed, held_crashed, held_kept}
 use Rattle.cct_laws.proofs.Ids.{ids_start, put_owned}
 use Rattle.cct_laws.proofs.Keeping.{works_at}
 use Rattle.cct_laws.proofs.Orders.{belongs_all}
@@ -66,23 +66,25 @@ as_is few many le = omega (arith, le)
 one_kept : (many later now capacity : ℕ) → suc later ≤ now → many + now ≤ capacity → suc many + later ≤ capacity
 one_kept many later now capacity le room = omega (arith, le, room)
 
--- a command that is taken has room for its records, and what it spends is available
-full_taken : (capacity : ℕ) (setup : Setup) (past : List Entry) (c : Command) →
-    refusal capacity setup past c ≡ None → Counts capacity setup past →
-    length (records past) + held setup past + need_of c ≤ capacity
-full_taken capacity setup past c lets counts = by_need (need_of c) refl
-  where
-    by_need : (n : ℕ) → need_of c ≡ n → length (records past) + held setup past + need_of c ≤ capacity
-    by_need zero is =
-        let room = counts.room in
-        unneeded (length (records past) + held setup past) (need_of c) is room
-      where
-        unneeded : (many need : ℕ) → need ≡ 0 → many ≤ capacity → many + need ≤ capacity
-        unneeded many need none le = omega (arith, none, le)
-    by_need (suc n) is = room_for capacity setup past c lets (needed (need_of c) n is)
-      where
-        needed : (need n : ℕ) → need ≡ suc n → 1 ≤ need
-        needed need n same = omega (arith, same)
+-- a command that is taken has room for its records, at a device and of a sale, and what it spends is available
+full_taken : (capacity : ℕ) (setup : Setup) (d : DeviceSetup) (past : List Entry) (c : Command) →
+    refusal capacity setup past c ≡ None → IsOf setup d → address_of c ≡ d.addr → Counts capacity setup past →
+    length (records past) + held setup past + need_for (Some d) c ≤ capacity
+full_taken capacity setup d past c lets own here counts =
+    subst (λ found. length (records past) + held setup past + need_for found c ≤ capacity)
+    (ap (device_at setup.devices) here ∙ own) (room_for capacity setup past c lets counts.room)
+
+sale_needs : (found : Option DeviceSetup) (id price : ℕ) → need_for found (command.Vend id price) ≡ 1
+sale_needs None id price = refl
+sale_needs (Some d) id price = refl
+
+full_sale : (capacity : ℕ) (setup : Setup) (past : List Entry) (id price : ℕ) →
+    refusal capacity setup past (command.Vend id price) ≡ None → Counts capacity setup past →
+    length (records past) + held setup past + 1 ≤ capacity
+full_sale capacity setup past id price lets counts =
+    subst (λ need. length (records past) + held setup past + need ≤ capacity)
+    (sale_needs (device_at setup.devices HOST) id price)
+    (room_for capacity setup past (command.Vend id price) lets counts.room)
 
 afford : (wanted all posted : ℕ) → wanted ≤ posted - all → all ≤ posted → all + wanted ≤ posted
 afford wanted all posted le covered = omega (arith, le, covered)
@@ -117,8 +119,9 @@ counts_there capacity setup d past _ _ sound ids own books (came s x m ls comes)
     ])
     (ap (λ front. job (front ++ sale_lines past)) is_quiet.no_sale) (is_quiet.no_record past) books.counts
 counts_there capacity setup d past _ _ sound ids own books (took c suited here is_free is_taken is_owed lets) =
-    counts_moved capacity setup d past (entry.Taken c ∷ past) (spent_by setup c) (need_of c) sound own books.counts
-    (paid_taken capacity setup past c lets books.counts) (full_taken capacity setup past c lets books.counts)
+    counts_moved capacity setup d past (entry.Taken c ∷ past) (spent_by setup c) (need_for (Some d) c) sound own
+    books.counts (paid_taken capacity setup past c lets books.counts)
+    (full_taken capacity setup d past c lets own here books.counts)
     (moves_taken capacity setup d past c sound ids own books.counts.follow suited here is_free is_owed
     (took c suited here is_free is_taken is_owed lets))
 counts_there capacity setup d past _ _ sound ids own books (halted paying can) =
@@ -176,11 +179,11 @@ counts_step capacity setup past _ _ sound ids (began_scan is_free) books =
 counts_step capacity setup past _ _ sound ids (began_sale id price is_free lets) books =
     counts_sold capacity setup past (entry.Taken (command.Vend id price) ∷ past) price 1 sound
     (paid_taken capacity setup past (command.Vend id price) lets books.counts)
-    (full_taken capacity setup past (command.Vend id price) lets books.counts)
+    (full_sale capacity setup past id price lets books.counts)
     (record {
       devices = λ e own. same_taken e past (command.Vend id price) (off_host setup e sound own);
       follow = books.counts.follow;
-      spends = reserved_more (spoken_in setup (records past)) (reserved_by setup (job (sale_lines past)))
+      spends = reserved_more (spoken_in setup (records past)) (reserved_by_sale setup (job (sale_lines past)))
           (posted_in setup (records past));
       holds = held_more (length (records past)) (sale_holds (job (sale_lines past)));
     })
@@ -203,7 +206,7 @@ counts_step capacity setup past _ _ sound ids (polled c since check addr none is
 counts_step capacity setup past _ _ sound ids (sold id price since none selling) books =
     let r = record_of.Sold id price in
     let later = entry.Ended HOST Sold ∷ entry.Put r ∷ past in
-    let reserves : reserved_by setup (job (sale_lines past)) ≡ price = ap (reserved_by setup) selling.job_is in
+    let reserves : reserved_by_sale setup (job (sale_lines past)) ≡ price = ap (reserved_by_sale setup) selling.job_is in
     let one : sale_holds (job (sale_lines past)) ≡ 1 = ap sale_holds selling.job_is in
     counts_sold capacity setup past later 0 0 sound (as_is _ _ books.counts.covered) (as_is _ _ books.counts.room)
     (record {
@@ -213,7 +216,7 @@ counts_step capacity setup past _ _ sound ids (sold id price since none selling)
       follow = and_from _ _ (due_follows capacity setup past r ids books (from_sale id price since none selling))
           books.counts.follow;
       spends = sold_spends (spoken_in setup (records past)) (spoken_in setup (r ∷ records past))
-          (reserved_by setup (job (sale_lines past))) (posted_in setup (records past))
+          (reserved_by_sale setup (job (sale_lines past))) (posted_in setup (records past))
           (sold_spoken setup (records past) id price)
           reserves;
       holds = sold_holds (length (records past)) (sale_holds (job (sale_lines past))) one;

@@ -1,6 +1,8 @@
 pub mod AcceptorReplies
 pub mod Acceptors
+pub mod Ahead
 pub mod Alike
+pub mod AllHeld
 pub mod Answering
 pub mod Asked
 pub mod AtWork
