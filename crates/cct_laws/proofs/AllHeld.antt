@@ -89,8 +89,7 @@ holds_asked d c since q got None lines between is asks jobs epochs orders =
     omega arith
 holds_asked d c since q got (Some end) lines between is asks jobs epochs orders =
     let least = holds_least d lines in
-    let after : holds_of d (ended end ∷ exchange (Some q) got ∷ between) ≡ order_holds false (order lines) =
-    holds_as d (ended end ∷ exchange (Some q) got ∷ between) free refl ∙ ap (order_holds false) orders in
+    let same : order_holds false (order between) ≡ order_holds false (order lines) = ap (order_holds false) orders in
     omega arith
 
 -- a put and its end

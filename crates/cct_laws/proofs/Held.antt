@@ -20,11 +20,11 @@ use Rattle.cct_model.specs.Line.{Line, exchange, put, taken}
 use Rattle.cct_model.specs.Order.{order_by, life_between, close}
 use Rattle.cct_model.specs.Reading.{judge, shows_break, distance, posted_of}
 use Rattle.cct_model.specs.Job.{Job, free, works, with_line, sends, puts, no_row, put_or, close_row, Payment, end_of_close, judged_by, judged_in, payment_in, credits_read, mask_read, address_of, epoch_by, ident_requests}
-use Rattle.cct_model.specs.Rows.{Then, ends_as, Due, new_epoch, reading, epoch_end, new_order, order_end, sale, TableRow, asks_for, asks_once, waits_for_coins, puts_due, telling, rows_of, rows_of_sale, from, rest, left, first, due_row, row, end_kept, end_of, puts_in, has_closes, closes_order, need_in}
+use Rattle.cct_model.specs.Rows.{Then, ends_as, Due, new_epoch, reading, epoch_end, new_order, order_end, sale, TableRow, asks_for, asks_once, waits_for_coins, puts_due, telling, rows_of, rows_of_sale, from, done, rest, left, first, due_row, row, end_kept, end_of, puts_in, has_closes, closes_order, need_in}
 use Rattle.cct_model.specs.Refusal.{job_holds, order_holds, need_for}
+use Rattle.cct_model.proofs.Rows.{but_first, after_none, after_next, after_line, fact_after, fact_from, EachBefore, before_on}
 use Rattle.cct_model.proofs.Tries.{due_sends, left_asks}
 use Rattle.cct_laws.specs.KeptHopper.{IsOwed}
-use Rattle.cct_laws.proofs.Ahead.{next_rows, IsPassedOn, fact_after, fact_from, EachBefore, before_on, begun_ahead, asked_ahead, put_ahead}
 
 -- what a reading was judged to be is a reading or a break
 abbrev pub IsReading : Judged → Type 0
@@ -109,7 +109,7 @@ close_row_closes None life r is = absurd cc
 close_row_closes (Some o) None r is = absurd cc
 close_row_closes (Some o) (Some life) r is = subst ClosesOrder (same_record (close o life) r is) (close_closes o life)
 
--- what stands behind the rows of the table
+-- what stands after the rows of the table
 
 -- a row that ends the epoch and its job, or none
 abbrev EndsNext : List TableRow → Type 0
@@ -117,7 +117,7 @@ EndsNext [] = ⊤
 EndsNext (puts_due epoch_end (ends_as end) ∷ rows) = ⊤
 EndsNext rows = ⊥
 
--- behind one that opens an order one that closes it, behind that none that puts, and behind one that may be passed over
+-- after one that opens an order stands one that closes it, after that none that puts, and after one that may be passed over
 -- one that ends its job
 abbrev HoldsWell : TableRow → List TableRow → Type 0
 HoldsWell (puts_due (new_order id count) behind) rows = has_closes rows ≡ true
@@ -140,7 +140,7 @@ rows_well d c = search rules
 pub rest_well : (d : DeviceSetup) (c : Command) (since : List Line) → HoldWell (rest d c since)
 rest_well d c since = fact_after HoldWell (before_on HoldsWell) (rows_of d c) _ (rows_well d c)
 
--- what a row that was passed over has behind it puts no record that goes on
+-- the record of the row after one that was passed over ends its job
 pub passed_ends : (addr : ℕ) (p : Payment) (behind : Then) (rows : List TableRow) (r : Record) → EndsNext rows →
     first addr Nothing p rows ≡ puts r → end_kept (puts_due reading behind ∷ rows) r ≡ None → ⊥
 passed_ends addr p behind [] r ends is none = cc
@@ -197,7 +197,7 @@ free_least d c since state owed =
 -- an exchange brings no more to come
 
 asked_same : (addr : ℕ) (means : Judged) (p : Payment) (rows : List TableRow) (q : Request) (owed : Option OpenOrder) →
-    first addr means p rows ≡ sends q → held_by (next_rows rows) owed ≡ held_by rows owed
+    first addr means p rows ≡ sends q → held_by (but_first rows) owed ≡ held_by rows owed
 asked_same addr means p [] q owed is = refl
 asked_same addr means p (asks_for x behind ∷ rows) q owed is = refl
 asked_same addr means p (asks_once x behind without ∷ rows) q owed is = refl
@@ -218,7 +218,8 @@ asked_no_more d c since state owed q got is =
     let before : holds_with d (works c since) state owed ≡ held_by rows owed =
     ap (λ rs. puts_in rs + order_holds (has_closes rows) owed) all in
     let fewer =
-    asked_ahead (λ rs. held_by rs owed ≤ held_by rows owed) d c (Some q) got since (omega arith) (omega (arith, same)) in
+    after_line (λ rs. held_by rs owed ≤ held_by rows owed) (rows_of d c) (exchange (Some q) got) since (omega arith)
+    (omega (arith, same)) in
     let most = from_puts (rest d c (exchange (Some q) got ∷ since)) later in
     omega (arith, before, fewer, most)
 
@@ -276,7 +277,7 @@ leaves_less rows later owed r leaves =
 
 goes_first : (addr : ℕ) (means later : Judged) (p : Payment) (rows : List TableRow) (r : Record) → IsReading means →
     HoldWell rows → first addr means p (from rows means) ≡ puts r → end_kept rows r ≡ None →
-    suc (puts_in (from (next_rows rows) later) + order_holds (has_closes (next_rows rows)) (order_by r p.owed))
+    suc (puts_in (from (but_first rows) later) + order_holds (has_closes (but_first rows)) (order_by r p.owed))
     ≤ puts_in (from rows means) + order_holds (has_closes rows) p.owed
 goes_first addr means later p [] r reads well is none = absurd cc
 goes_first addr means later p (asks_for q behind ∷ rows) r reads well is none = absurd cc
@@ -307,10 +308,10 @@ pub put_goes_on : (d : DeviceSetup) (c : Command) (since : List Line) (state : E
     ≤ holds_with d (works c since) state owed
 put_goes_on d c since state owed r is none =
     let later = judged_in c (put r ∷ since) (epoch_by r state) in
-    put_ahead
+    subst
     (λ rs. suc (puts_in (from rs later) + order_holds (has_closes rs) (order_by r owed))
     ≤ holds_with d (works c since) state owed)
-    d c r since
+    (sym (after_next (rows_of d c) (done (rows_of d c) since)))
     (goes_first (address_of c) (judged_in c since state) later (payment_in since owed) (rest d c since) r
     (judged_reads (address_of c) state (credits_read since) (mask_read since)) (rest_well d c since) is none)
 
@@ -363,8 +364,8 @@ taken_holds d c state owed is_owed =
     let most = from_puts rows means in
     let needs = rows_need rows owed (rows_well d c) (closes_owed d c owed is_owed) in
     let all = need_least c rows in
-    begun_ahead
-    (λ rs. puts_in (from rs means) + order_holds (has_closes rs) owed ≤ order_holds false owed + need_for (Some d) c) d c
+    subst (λ rs. puts_in (from rs means) + order_holds (has_closes rs) owed ≤ order_holds false owed + need_for (Some d) c)
+    (sym (after_none rows))
     (omega (arith, most, needs, all))
 
 -- a halt

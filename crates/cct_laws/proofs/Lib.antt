@@ -1,6 +1,5 @@
 pub mod AcceptorReplies
 pub mod Acceptors
-pub mod Ahead
 pub mod Alike
 pub mod AllHeld
 pub mod Answering

@@ -19,7 +19,7 @@ use Rattle.cct_model.specs.Rows.{Due, new_epoch, reading, epoch_end, new_order, 
 use Rattle.cct_model.specs.Transcript.{met, owner, lines_of, sale_lines, sold_line, heard_by_devices, pending, got_by, doses_of}
 use Rattle.cct_laws.specs.Ids.{waiting_in, waiting}
 use Rattle.cct_model.proofs.Doses.{job_undosed}
-use Rattle.cct_model.proofs.Rows.{but_first, after_none, after_line}
+use Rattle.cct_model.proofs.Rows.{but_first, after_none, after_line, fact_after, EachBefore, before_on}
 
 -- after a row that records an id, and after one that may be passed over, none records one
 abbrev IdLast : TableRow → List TableRow → Type 0
@@ -29,8 +29,7 @@ IdLast (puts_due reading behind) rows = waiting_in rows ≡ None
 IdLast r rows = ⊤
 
 abbrev pub OneId : List TableRow → Type 0
-OneId [] = ⊤
-OneId (r ∷ rows) = IdLast r rows × OneId rows
+OneId rows = EachBefore IdLast rows
 
 told_one : (qs : List Request) → OneId (telling qs)
 told_one [] = tt
@@ -46,9 +45,7 @@ one_id_of_sale (command.Vend id price) = (refl, tt)
 one_id_of_sale c = tt
 
 pub one_after : (rows : List TableRow) (n : ℕ) → OneId rows → OneId (after rows n)
-one_after [] n one = tt
-one_after (r ∷ rows) zero one = one
-one_after (r ∷ rows) (suc n) one = one_after rows n one.1
+one_after = fact_after OneId (before_on IdLast)
 
 -- what is asked one after the other records none
 pub told_waits : (qs : List Request) → waiting_in (telling qs) ≡ None

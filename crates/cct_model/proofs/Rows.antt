@@ -86,21 +86,43 @@ abbrev pub EachRow : (TableRow → Type 0) → List TableRow → Type 0
 EachRow F [] = ⊤
 EachRow F (r ∷ rows) = F r × EachRow F rows
 
-pub each_after : (F : TableRow → Type 0) (rows : List TableRow) (n : ℕ) → EachRow F rows → EachRow F (after rows n)
-each_after F [] n each = tt
-each_after F (r ∷ rows) zero each = each
-each_after F (r ∷ rows) (suc n) each = each_after F rows n each.1
+-- a fact of rows that holds of them without the first too
+abbrev pub IsPassedOn : (List TableRow → Type 0) → Type 0
+IsPassedOn F = (r : TableRow) (rows : List TableRow) → F (r ∷ rows) → F rows
 
-each_from : (F : TableRow → Type 0) (rows : List TableRow) (means : Judged) → EachRow F rows →
+pub fact_after : (F : List TableRow → Type 0) → IsPassedOn F → (rows : List TableRow) (n : ℕ) → F rows →
+    F (after rows n)
+fact_after F on [] n fact = fact
+fact_after F on (r ∷ rows) zero fact = fact
+fact_after F on (r ∷ rows) (suc n) fact = fact_after F on rows n (on r rows fact)
+
+-- and one that holds of them without a row that puts what was judged
+pub fact_from : (F : List TableRow → Type 0) →
+    ((behind : Then) (rows : List TableRow) → F (puts_due reading behind ∷ rows) → F rows) →
+    (rows : List TableRow) (means : Judged) → F rows → F (from rows means)
+fact_from F over (puts_due reading behind ∷ rows) Nothing fact = over behind rows fact
+fact_from F over (puts_due reading behind ∷ rows) (Reading r) fact = fact
+fact_from F over (puts_due reading behind ∷ rows) (Broken r) fact = fact
+fact_from F over (puts_due due behind ∷ rows) means fact = fact
+fact_from F over (asks_for q behind ∷ rows) means fact = fact
+fact_from F over (asks_once q behind without ∷ rows) means fact = fact
+fact_from F over (waits_for_coins ∷ rows) means fact = fact
+fact_from F over [] means fact = fact
+
+-- a fact of each row of the table and of those after it
+abbrev pub EachBefore : (TableRow → List TableRow → Type 0) → List TableRow → Type 0
+EachBefore F [] = ⊤
+EachBefore F (r ∷ rows) = F r rows × EachBefore F rows
+
+pub before_on : (F : TableRow → List TableRow → Type 0) → IsPassedOn (EachBefore F)
+before_on F r rows each = each.1
+
+pub each_after : (F : TableRow → Type 0) (rows : List TableRow) (n : ℕ) → EachRow F rows → EachRow F (after rows n)
+each_after F = fact_after (EachRow F) (λ r rows each. each.1)
+
+pub each_from : (F : TableRow → Type 0) (rows : List TableRow) (means : Judged) → EachRow F rows →
     EachRow F (from rows means)
-each_from F (puts_due reading behind ∷ rows) Nothing each = each.1
-each_from F (puts_due reading behind ∷ rows) (Reading r) each = each
-each_from F (puts_due reading behind ∷ rows) (Broken r) each = each
-each_from F (puts_due due behind ∷ rows) means each = each
-each_from F (asks_for q behind ∷ rows) means each = each
-each_from F (asks_once q behind without ∷ rows) means each = each
-each_from F (waits_for_coins ∷ rows) means each = each
-each_from F [] means each = each
+each_from F = fact_from (EachRow F) (λ behind rows each. each.1)
 
 -- of the rows that are left
 pub each_left : (F : TableRow → Type 0) (d : DeviceSetup) (c : Command) (since : List Line) (state : EpochState) →
