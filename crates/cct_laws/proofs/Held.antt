@@ -20,9 +20,9 @@ use Rattle.cct_model.specs.Line.{Line, exchange, put, taken}
 use Rattle.cct_model.specs.Order.{order_by, life_between, close}
 use Rattle.cct_model.specs.Reading.{judge, shows_break, distance, posted_of}
 use Rattle.cct_model.specs.Job.{Job, free, works, with_line, sends, puts, no_row, put_or, close_row, Payment, end_of_close, judged_by, judged_in, payment_in, credits_read, mask_read, address_of, epoch_by, ident_requests}
-use Rattle.cct_model.specs.Rows.{Then, ends_as, Due, new_epoch, reading, epoch_end, new_order, order_end, sale, TableRow, asks_for, asks_once, waits_for_coins, puts_due, telling, rows_of, rows_of_sale, from, done, rest, left, first, due_row, row, end_kept, end_of, puts_in, has_closes, closes_order, need_in}
+use Rattle.cct_model.specs.Rows.{Then, ends_as, Due, new_epoch, reading, epoch_end, new_order, order_end, sale, TableRow, asks_for, asks_once, waits_for_coins, puts_due, rows_of, rows_of_sale, from, done, rest, left, first, due_row, row, end_kept, end_of, puts_in, has_closes, closes_order, need_in}
 use Rattle.cct_model.specs.Refusal.{job_holds, order_holds, need_for}
-use Rattle.cct_model.proofs.Rows.{but_first, after_none, after_next, after_line, fact_after, fact_from, EachBefore, before_on}
+use Rattle.cct_model.proofs.Rows.{but_first, after_none, after_next, after_line, fact_after, fact_from, EachBefore, before_on, told_fact}
 use Rattle.cct_model.proofs.Tries.{due_sends, left_asks}
 use Rattle.cct_laws.specs.KeptHopper.{IsOwed}
 
@@ -128,13 +128,8 @@ HoldsWell r rows = ⊤
 abbrev pub HoldWell : List TableRow → Type 0
 HoldWell rows = EachBefore HoldsWell rows
 
-told_well : (qs : List Request) → HoldWell (telling qs)
-told_well [] = tt
-told_well (q ∷ []) = (tt, tt)
-told_well (q ∷ r ∷ qs) = (tt, told_well (r ∷ qs))
-
 rows_well : (d : DeviceSetup) (c : Command) → HoldWell (rows_of d c)
-rows_well d (command.Ident addr) = told_well (ident_requests d.body)
+rows_well d (command.Ident addr) = told_fact HoldWell tt (λ q behind rows each. (tt, each)) (ident_requests d.body)
 rows_well d c = search rules
 
 pub rest_well : (d : DeviceSetup) (c : Command) (since : List Line) → HoldWell (rest d c since)
@@ -324,15 +319,11 @@ ClosesOwed owed (puts_due (new_order id count) behind ∷ rows) = ⊤
 ClosesOwed owed (puts_due order_end behind ∷ rows) = is_some owed ≡ true
 ClosesOwed owed (r ∷ rows) = ClosesOwed owed rows
 
-told_owed : (owed : Option OpenOrder) (qs : List Request) → ClosesOwed owed (telling qs)
-told_owed owed [] = tt
-told_owed owed (q ∷ []) = tt
-told_owed owed (q ∷ r ∷ qs) = told_owed owed (r ∷ qs)
-
 closes_owed : (d : DeviceSetup) (c : Command) (owed : Option OpenOrder) → IsOwed c owed → ClosesOwed owed (rows_of d c)
 closes_owed d (command.Settle addr) None is_owed = absurd cc
 closes_owed d (command.Settle addr) (Some o) is_owed = refl
-closes_owed d (command.Ident addr) owed is_owed = told_owed owed (ident_requests d.body)
+closes_owed d (command.Ident addr) owed is_owed =
+    told_fact (ClosesOwed owed) tt (λ q behind rows opened. opened) (ident_requests d.body)
 closes_owed d c owed is_owed = tt
 
 rows_need : (rows : List TableRow) (owed : Option OpenOrder) → HoldWell rows → ClosesOwed owed rows →

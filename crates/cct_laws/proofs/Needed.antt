@@ -26,10 +26,10 @@ use Rattle.cct_model.specs.Line.{Line, exchange, put, taken}
 use Rattle.cct_model.specs.Order.{order_by, order}
 use Rattle.cct_model.specs.Job.{Job, free, works, with_line, job, puts, counted, epoch_by, epoch, Payment, payment_in, judged_in, credits_read, mask_read, address_of, ident_requests}
 use Rattle.cct_model.specs.Refusal.{start_refusal}
-use Rattle.cct_model.specs.Rows.{Then, if_posted, Due, new_epoch, reading, epoch_end, new_order, order_end, sale, TableRow, asks_for, asks_once, waits_for_coins, puts_due, telling, rows_of, from, done, rest, first, row, end_kept, end_of}
+use Rattle.cct_model.specs.Rows.{Then, if_posted, Due, new_epoch, reading, epoch_end, new_order, order_end, sale, TableRow, asks_for, asks_once, waits_for_coins, puts_due, rows_of, from, done, rest, first, row, end_kept, end_of}
 use Rattle.cct_model.specs.Following.{is_running}
 use Rattle.cct_model.specs.Transcript.{lines_of, heard_after, got_by, doses_of}
-use Rattle.cct_model.proofs.Rows.{but_first, after_none, after_next, after_line, fact_after, EachBefore, before_on, each_told, puts_only}
+use Rattle.cct_model.proofs.Rows.{but_first, after_none, after_next, after_line, fact_after, EachBefore, before_on, told_fact, each_told, puts_only}
 use Rattle.cct_laws.specs.Ids.{Ids}
 use Rattle.cct_laws.specs.Kept.{IsTaken, with_ended}
 use Rattle.cct_laws.specs.KeptHopper.{IsOwed}
@@ -144,13 +144,9 @@ NeedsWell (puts_due reading behind) rows = BreakEnds behind
 NeedsWell (puts_due due behind) rows = puts_only needs_none rows ≡ true
 NeedsWell r rows = ⊤
 
-told_needs : (qs : List Request) → EachBefore NeedsWell (telling qs)
-told_needs [] = tt
-told_needs (q ∷ []) = (tt, tt)
-told_needs (q ∷ r ∷ qs) = (tt, told_needs (r ∷ qs))
-
 needs_well : (d : DeviceSetup) (c : Command) → EachBefore NeedsWell (rows_of d c)
-needs_well d (command.Ident addr) = told_needs (ident_requests d.body)
+needs_well d (command.Ident addr) =
+    told_fact (EachBefore NeedsWell) tt (λ q behind rows each. (tt, each)) (ident_requests d.body)
 needs_well d c = search rules
 
 -- a reading leaves an epoch as it is, but for its counter
