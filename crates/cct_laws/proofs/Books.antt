@@ -16,6 +16,7 @@ use Rattle.cct_model.specs.lines.entry.Entry.TheVariants as entry
 use Rattle.cct_model.specs.Setup.{IsSoundSetup}
 use Rattle.cct_model.specs.Exchange.{device_at}
 use Rattle.cct_model.specs.Line.{Line, put, crashed}
+use Rattle.cct_model.specs.Rows.{puts_in}
 use Rattle.cct_model.specs.Job.{job, address_of}
 use Rattle.cct_model.specs.Records.{records}
 use Rattle.cct_model.specs.Money.{totals, sum_over, posted_in, reserved_by_sale, spoken_for}
@@ -42,7 +43,7 @@ use Rattle.cct_laws.proofs.Unmoved.{off_host, AreSame, same_lines, came_quiet, s
 use Rattle.cct_laws.proofs.Counting.{Counts, counts_moved, counts_sold, counts_same, counts_lost}
 use Rattle.cct_laws.proofs.Spending.{moves_taken, moves_halted, moves_asked, moves_put}
 use Rattle.cct_laws.proofs.Fitted.{Base, base_start, base_step, due_fits, scan_unsold}
-use Rattle.cct_laws.proofs.Freed.{affords, due_frees}
+use Rattle.cct_laws.proofs.Freed.{sale_reserves, affords, due_frees}
 
 -- the books: what the records and the sums over them keep, beside what running jobs need; the records and those that are
 -- held are no more than the capacity
@@ -127,7 +128,7 @@ counts_there capacity setup d past _ _ sound ids own books (took c suited here i
 counts_there capacity setup d past _ _ sound ids own books (halted paying can) =
     counts_moved capacity setup d past (entry.Taken (command.Halt d.addr) ∷ past) 0 0 sound own books.counts
     (as_is _ _ books.counts.covered) (as_is _ _ books.counts.room)
-    (moves_halted capacity setup d past sound ids own books.counts.follow can (halted paying can))
+    (moves_halted capacity setup d past sound ids own books.counts.follow (halted paying can))
 counts_there capacity setup d past _ _ sound ids own books (idled is_free) =
     counts_same capacity setup past (entry.Idle d.addr ∷ past) sound (λ e is_of. same_lines _ _ refl) refl refl
     books.counts
@@ -143,6 +144,11 @@ counts_there capacity setup d past _ _ sound ids own books (made_put c since r a
     (moves_put capacity setup d past c since r sound ids own books.counts.follow at_work is_row
     (due_follows capacity setup past r ids books (from_job d c since r own at_work is_row)))
 
+-- one record is held for a sale
+pub selling_holds : (past : List Entry) (id price : ℕ) (since : List Line) → Selling past id price since →
+    sale_holds (job (sale_lines past)) ≡ 1
+selling_holds past id price since selling = ap sale_holds selling.job_is ∙ ap puts_in selling.first
+
 -- the host loses its power with the record of a sale kept
 held_sale_kept : (setup : Setup) (past : List Entry) (n id price : ℕ) (since : List Line) → IsSoundSetup setup →
     Selling past id price since →
@@ -156,7 +162,7 @@ held_sale_kept setup past n id price since sound selling =
     subst (λ b. holds_of e (cond b (put (record_of.Sold id price) ∷ []) [] ++ crashed ∷ lines_of e past)
     ≤ holds_of e (lines_of e past))
     (sym (ne_eqb HOST e.addr (off_host setup e sound own))) (holds_crashed e (lines_of e past)))) in
-    let before : sale_holds (job (sale_lines past)) ≡ 1 = ap sale_holds selling.job_is in
+    let before = selling_holds past id price since selling in
     one_sold (sum_over (holds_at later) setup.devices) (sum_over (holds_at past) setup.devices)
     (sale_holds (job (sale_lines past))) devices before
   where
@@ -206,8 +212,8 @@ counts_step capacity setup past _ _ sound ids (polled c since check addr none is
 counts_step capacity setup past _ _ sound ids (sold id price since none selling) books =
     let r = record_of.Sold id price in
     let later = entry.Ended HOST Sold ∷ entry.Put r ∷ past in
-    let reserves : reserved_by_sale setup (job (sale_lines past)) ≡ price = ap (reserved_by_sale setup) selling.job_is in
-    let one : sale_holds (job (sale_lines past)) ≡ 1 = ap sale_holds selling.job_is in
+    let reserves = sale_reserves setup past id price since selling in
+    let one = selling_holds past id price since selling in
     counts_sold capacity setup past later 0 0 sound (as_is _ _ books.counts.covered) (as_is _ _ books.counts.room)
     (record {
       devices = λ e own.

@@ -29,7 +29,7 @@ use Rattle.cct_laws.specs.Ids.{Ids}
 use Rattle.cct_laws.specs.Law.{IsOf}
 use Rattle.cct_laws.proofs.AllHeld.{holds_put}
 use Rattle.cct_laws.proofs.AtWork.{available_both}
-use Rattle.cct_laws.proofs.Books.{Books, due_follows, books_legal}
+use Rattle.cct_laws.proofs.Books.{Books, selling_holds, due_follows, books_legal}
 use Rattle.cct_laws.proofs.Brought.{row_after, Selling, Due, from_job, from_sale, is_due}
 use Rattle.cct_laws.proofs.Freed.{due_frees, allows}
 use Rattle.cct_laws.proofs.Sums.{sum_holds}
@@ -63,7 +63,7 @@ row_has_room capacity setup d past c since r room own is row_is =
 sale_has_room : (capacity : ℕ) (setup : Setup) (past : List Entry) (id price : ℕ) (since : List Line) →
     length (records past) + held setup past ≤ capacity → Selling past id price since → length (records past) < capacity
 sale_has_room capacity setup past id price since room selling =
-    let one : sale_holds (job (sale_lines past)) ≡ 1 = ap sale_holds selling.job_is in
+    let one = selling_holds past id price since selling in
     has_room capacity (length (records past)) (sale_holds (job (sale_lines past))) (held setup past) room
     (part (sum_over (holds_at past) setup.devices) (sale_holds (job (sale_lines past)))) (some one)
   where

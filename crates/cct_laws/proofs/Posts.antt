@@ -21,7 +21,7 @@ use Rattle.cct_laws.proofs.Whole.{kept_legal}
 pub legal_keeps : (capacity : ℕ) (setup : Setup) (steps : List Step) (transcript : List Entry) (d : DeviceSetup) → IsSoundSetup setup → IsOf setup d → IsAcceptor d.body → All IsInRange steps →
     Legal capacity setup steps transcript → Honest transcript → Keeps d (met d (onto [] transcript)) (lines_in d transcript)
 legal_keeps capacity setup steps transcript d sound own accepting in_range legal honest =
-    kept_legal capacity setup steps transcript d Keeps d sound own accepting in_range legal honest (keeps_kept d accepting)
+    kept_legal capacity setup steps transcript d (Keeps d) sound own accepting in_range legal honest (keeps_kept d accepting)
 
 -- posts are accepted coins in their order, none twice
 pub legal_in_order : (capacity : ℕ) (setup : Setup) (steps : List Step) (transcript : List Entry) (d : DeviceSetup) → IsSoundSetup setup → IsOf setup d → IsAcceptor d.body → All IsInRange steps →

@@ -21,7 +21,7 @@ use Rattle.cct_model.specs.Exchange.{ask, asked}
 use Rattle.cct_model.specs.Line.{Line, exchange, put, taken}
 use Rattle.cct_model.specs.Order.{order}
 use Rattle.cct_model.specs.Job.{free, works, with_line, job, puts, sends, address_of}
-use Rattle.cct_model.specs.Rows.{rest, can_halt}
+use Rattle.cct_model.specs.Rows.{rest}
 use Rattle.cct_model.specs.Refusal.{need_for, holds_of}
 use Rattle.cct_model.specs.Records.{records}
 use Rattle.cct_model.specs.Money.{posted_in, reserved_by}
@@ -37,7 +37,7 @@ use Rattle.cct_laws.proofs.AtWork.{work_with, work_put, spent_by, work_taken}
 use Rattle.cct_laws.proofs.Brought.{AtWork, row_after, wire_of, wire_end, record_end, AtDevice, made_exchange, made_put, begun_at_work}
 use Rattle.cct_laws.proofs.Covered.{spoken_in, opened_spoken, closed_spoken, odd_spoken, closes_at, closed_counts}
 use Rattle.cct_laws.proofs.Follow.{Follows}
-use Rattle.cct_laws.proofs.Held.{holds_taken, holds_halted, holds_asked, holds_put}
+use Rattle.cct_laws.proofs.AllHeld.{holds_taken, holds_halted, holds_asked, holds_put}
 use Rattle.cct_laws.proofs.Ids.{put_owned}
 use Rattle.cct_laws.proofs.Opening.{UsesOwn}
 use Rattle.cct_laws.proofs.Orders.{Belongs, belongs_all, opens_at}
@@ -138,10 +138,9 @@ moves_taken capacity setup d past c sound ids own follow suited here is_free is_
 -- a payment is halted
 pub moves_halted : (capacity : ℕ) (setup : Setup) (d : DeviceSetup) (past : List Entry) →
     IsSoundSetup setup → Ids setup past → IsOf setup d → all_follow setup (records past) ≡ true →
-    can_halt d (job (lines_of d past)) ≡ true →
     AtDevice capacity setup d past (step.Command (command.Halt d.addr)) (entry.Taken (command.Halt d.addr) ∷ []) →
     Moves setup d past (entry.Taken (command.Halt d.addr) ∷ past) 0 0
-moves_halted capacity setup d past sound ids own follow can at =
+moves_halted capacity setup d past sound ids own follow at =
     let lines_are = lines_taken d past (command.Halt d.addr) refl in
     moves_by capacity setup d past (entry.Taken (command.Halt d.addr) ∷ []) (step.Command (command.Halt d.addr)) 0 0
     sound ids own at
@@ -154,7 +153,7 @@ moves_halted capacity setup d past sound ids own follow can at =
     (same_holds (length (records past)) _ (holds_of d (lines_of d past)) 0
     (no_more _ _
     (subst (λ ls. holds_of d ls ≤ holds_of d (lines_of d past)) (sym lines_are)
-    (le_of_eq (holds_halted d d.addr (lines_of d past) can)))))
+    (le_of_eq (holds_halted d d.addr (lines_of d past))))))
 
 -- an exchange of its job
 pub moves_asked : (capacity : ℕ) (setup : Setup) (d : DeviceSetup) (past : List Entry) (c : Command)
