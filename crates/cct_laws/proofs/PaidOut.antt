@@ -1,6 +1,6 @@
 -- Where a hopper has shown that nothing is left to pay, nothing is left to fall until the next order is opened: a
 -- payment lets it dispense only right behind the record that opens its order.
-use Rattle.std.proofs.Common.{◌≡◌, ℕ, zero, suc, ◌==◌, ◌||◌, not, cond, Bool, true, false, List, [], ◌∷◌, ◌++◌, refl, ap, sym, ◌∙◌, subst, Option, Some, None, All, arith, eqb-true, rules, true≢false}
+use Rattle.std.proofs.Common.{◌≡◌, ℕ, suc, ◌==◌, ◌||◌, not, cond, Bool, true, false, List, [], ◌∷◌, ◌++◌, refl, ap, sym, ◌∙◌, subst, Option, Some, None, All, arith, eqb-true, rules, true≢false}
 use Rattle.std.specs.Prelude.{⊤}
 use Rattle.cct_model.specs.terms.request.TheConstants.{ENABLE_CODE}
 use Rattle.cct_model.specs.terms.device.DeviceSetup.{DeviceSetup}
@@ -36,7 +36,7 @@ use Rattle.cct_laws.specs.Law.{IsOf, lines_in}
 use Rattle.cct_laws.specs.PaidOut.{shows_none, paid_out_by, is_paid_out}
 use Rattle.cct_laws.proofs.EitherKind.{for_hopper}
 use Rattle.cct_laws.proofs.Payouts.{replied_status}
-use Rattle.cct_model.proofs.Rows.{but_first, after_none, after_next}
+use Rattle.cct_model.proofs.Rows.{but_first, after_none, after_next, EachBefore, before_on, fact_after}
 use Rattle.cct_laws.proofs.Whole.{kept_hopper_legal}
 use Rattle.cct_model.proofs.Tries.{IsAgain, due_sends}
 use Rattle.cct_model.proofs.RowEnds.{rest_asks, again_row, stays_again}
@@ -68,8 +68,7 @@ OpensFirst (puts_due (new_order id count) behind) rows = ⊤
 OpensFirst r rows = sent_once rows ≡ false
 
 abbrev AreOpened : List TableRow → Type 0
-AreOpened [] = ⊤
-AreOpened (r ∷ rows) = OpensFirst r rows × AreOpened rows
+AreOpened rows = EachBefore OpensFirst rows
 
 told_opened : (qs : List Request) → AreOpened (telling qs)
 told_opened [] = tt
@@ -82,11 +81,6 @@ rows_opened d (command.Pay addr id count) played = search rules
 rows_opened d (command.Settle addr) played = search rules
 rows_opened d (command.Ident addr) played = told_opened (ident_requests d.body)
 rows_opened d c played = absurd cc
-
-opened_after : (rows : List TableRow) (n : ℕ) → AreOpened rows → AreOpened (after rows n)
-opened_after [] n each = tt
-opened_after (r ∷ rows) zero each = each
-opened_after (r ∷ rows) (suc n) each = opened_after rows n each.1
 
 -- so the row behind one that asks isn't sent once
 asked_opened : (addr : ℕ) (means : Judged) (p : Payment) (rows : List TableRow) (q : Request) → AreOpened rows →
@@ -122,7 +116,8 @@ put_opened addr means p (puts_due (sale id price) behind ∷ rows) r before each
 
 -- so it is at the rows of the hopper's job
 left_opened : (d : DeviceSetup) (c : Command) (work : List Line) → is_for_hopper c ≡ true → AreOpened (rest d c work)
-left_opened d c work played = opened_after (rows_of d c) (done (rows_of d c) work) (rows_opened d c played)
+left_opened d c work played =
+    fact_after AreOpened (before_on OpensFirst) (rows_of d c) (done (rows_of d c) work) (rows_opened d c played)
 
 -- behind an exchange it stands at no row that is sent once
 asked_aside : (d : DeviceSetup) (c : Command) (work : List Line) (state : EpochState) (owed : Option OpenOrder)
@@ -282,7 +277,7 @@ rests_kept d paying = record {
   resets = λ past lines rests. rests_less d past (reset ∷ past) lines (λ none. refl) rests;
   elsewhere = λ past lines asked others rests. rests_less d past (heard asked ∷ past) lines
       (λ none. rests_heard d.serial past asked (others_untaken d.serial past asked others) none) rests;
-  takes = λ past lines c no_job here in_range played fine rests out.  ((rests out).0, taken_aside d c (job lines) played);
+  takes = λ past lines c no_job here in_range played fine rests out. ((rests out).0, taken_aside d c (job lines) played);
   halts = λ past lines can rests out. ((rests out).0, halted_aside d d.addr (job lines) (rests out).1);
   crashes = λ past lines rests out. ((rests out).0, tt);
   asks = λ past lines c work q asked got at row_is fate rests.
