@@ -18,7 +18,7 @@ use Rattle.cct_model.specs.lines.command.Step.TheVariants as step
 use Rattle.cct_model.specs.lines.entry.End.{End}
 use Rattle.cct_model.specs.lines.entry.Entry.{Entry}
 use Rattle.cct_model.specs.lines.entry.Entry.TheVariants as entry
-use Rattle.cct_model.specs.Request.{form_of}
+use Rattle.cct_model.specs.Request.{form_of, header_of}
 use Rattle.cct_model.specs.Reply.{Reply}
 use Rattle.cct_model.specs.History.{Met}
 use Rattle.cct_model.specs.Hopper.{remaining, status_of}
@@ -27,8 +27,8 @@ use Rattle.cct_model.specs.Setup.{IsSoundSetup}
 use Rattle.cct_model.specs.Exchange.{ask, asked, asks_of}
 use Rattle.cct_model.specs.Line.{Line, exchange, put, taken}
 use Rattle.cct_model.specs.Order.{order, is_marked, is_stopped}
-use Rattle.cct_model.specs.Job.{free, works, job, with_line, epoch, credits_read, mask_read, sends, puts, Payment, payment_in, state_row, ident_requests, judged_in, address_of}
-use Rattle.cct_model.specs.Rows.{row_at, end_of, end_answered, rows_of, first, left_at, waits_for_coins, can_halt, has_waits, rest, done, ends_first}
+use Rattle.cct_model.specs.Job.{free, works, job, with_line, epoch, credits_read, mask_read, sends, puts, Payment, payment_in, state_row, ident_requests, judged_in, address_of, tries}
+use Rattle.cct_model.specs.Rows.{end_of, end_answered, rows_of, first, waits_for_coins, can_halt, has_waits, rest, done, ends_first, after, end_failed}
 use Rattle.cct_model.specs.Script.{IsCommand}
 use Rattle.cct_model.specs.Legal.{with_end, LegalFrom}
 use Rattle.cct_model.specs.Transcript.{pending, met, lines_of, heard_by_devices, heard_after, doses_of, got_by}
@@ -48,8 +48,8 @@ use Rattle.cct_laws.proofs.Seen.{ArePassed, loose, loose_line, Lost, bare, kept_
 use Rattle.cct_laws.proofs.Tries.{IfEndOf, ends_of_answer, ends_of_put}
 use Rattle.cct_laws.proofs.LastRows.{dispensed_ends, few_failed, few_put, few_answered}
 use Rattle.cct_laws.proofs.Held.{judged_reads}
-use Rattle.cct_model.proofs.Tries.{same_request}
-use Rattle.cct_model.proofs.RowEnds.{AnswersAs, answers_as, once_ends, once_goes, row_once}
+use Rattle.cct_model.proofs.Tries.{same_request, left_asks}
+use Rattle.cct_model.proofs.RowEnds.{AnswersAs, answers_as, once_ends, once_goes, row_once, rest_asks}
 use Rattle.cct_laws.proofs.Payouts.{replied_status}
 
 -- a job that is to end within so many `next`: one for each of its rows that aren't done, and one for a halt
@@ -189,8 +189,9 @@ exchanged setup d c nexts past since q found is_job asks_it got_is ends few enou
 
 -- an answered one brings it on
 few_left : (ended : Bool) (d : DeviceSetup) (c : Command) (rows : ℕ) (judged means : Judged) (p : Payment)
-    (q : Request) (y : Reply) (wanted : ReplyForm) → row_at d c rows judged p ≡ sends q → form_of q ≡ Some wanted →
-    form_shown y ≡ Some wanted → rows < row_count d c → end_answered (left_at d c rows judged) y means ≡ None →
+    (q : Request) (y : Reply) (wanted : ReplyForm) →
+    first (address_of c) judged p (after (rows_of d c) rows) ≡ sends q → form_of q ≡ Some wanted →
+    form_shown y ≡ Some wanted → rows < row_count d c → end_answered (after (rows_of d c) rows) y means ≡ None →
     cond ended (suc rows) rows < row_count d c
 few_left true d c rows judged means p q y wanted is wants shown few none =
     few_answered d c rows judged means p q y wanted is wants shown few none
@@ -205,15 +206,17 @@ answered_there : (setup : Setup) (d : DeviceSetup) (c : Command) (nexts : ℕ) (
     Goes d c nexts past (with_end d.addr (wire_of setup d past q) (wire_end setup d past c since q))
 answered_there setup d c nexts past since q sound own suited is_job few enough is_row clear found is =
     let state = epoch (lines_of d past) in
-    let judged = judged_in c since state in
-    let p = payment_in since (order (lines_of d past)) in
+    let owed = order (lines_of d past) in
     let means = judged_in c (exchange (Some q) (Some is.y) ∷ since) state in
-    let ends = answers_as d c since state (order (lines_of d past)) q is_row in
     exchanged setup d c nexts past since q (Some is.y) is_job (asked_back d.kind d.addr q is.fits)
     (undisturbed_got setup d past q is sound own clear)
     (ends_of_answer d c (Some q) is.y since state)
-    (few_left (ends_first (rest d c since) (Some is.y)) d c (done (rows_of d c) since) judged means p q is.y is.form is_row is.wants is.shown few)
-    (answer_brings d (met d past) c since q is.y nexts suited ends is.replied found enough)
+    (λ no_end.
+    few_left (ends_first (rest d c since) (Some is.y)) d c (done (rows_of d c) since) (judged_in c since state) means
+    (payment_in since owed) q is.y is.form (rest_asks d c since state owed q is_row) is.wants is.shown few
+    (subst (λ rows. end_answered rows is.y means ≡ None) (left_asks d c since state owed q is_row) no_end))
+    (answer_brings d (met d past) c since q is.y nexts suited (answers_as d c since state owed q is_row) is.replied found
+    enough)
 
 -- and so does a dispense that the hopper refuses
 refused_there : (setup : Setup) (d : DeviceSetup) (c : Command) (nexts : ℕ) (past : List Entry) (since : List Line)
@@ -225,19 +228,19 @@ refused_there : (setup : Setup) (d : DeviceSetup) (c : Command) (nexts : ℕ) (p
 refused_there setup d c nexts past since (Dispense serial count) sound own is_job few enough is_row clear refuses is =
     let q = Dispense serial count in
     let state = epoch (lines_of d past) in
-    let judged = judged_in c since state in
-    let p = payment_in since (order (lines_of d past)) in
+    let owed = order (lines_of d past) in
     let none : end_of d c (exchange (Some q) None) since state ≡ None =
-    dispensed_ends d c since state p serial count is_row in
-    let once = row_once d c since state (order (lines_of d past)) q is_row refl in
-    let ends = once_ends (rest d c since) None once in
+    dispensed_ends d c since state owed serial count is_row in
+    let once = row_once d c since state owed q is_row refl in
+    let failed = tries (header_of q) (exchange (Some q) None ∷ since) in
     exchanged setup d c nexts past since q None is_job (asked_back d.kind d.addr q is.fits)
     (undisturbed_refused setup d past q is sound own clear) (subst (IfEndOf c) (sym none) tt)
     (λ no_end.
     subst (λ n. n < row_count d c) (sym (once_goes (rows_of d c) (Some q) None since once))
-    (few_failed d c (done (rows_of d c) since) judged p q _ is_row refl few no_end))
-    (on_by (ends_first (rest d c since) None) false (is_marked since) (row_count d c) (done (rows_of d c) since) nexts ends
-    enough)
+    (few_failed d c (done (rows_of d c) since) failed once few
+    (subst (λ rows. end_failed rows failed ≡ None) (left_asks d c since state owed q is_row) no_end)))
+    (on_by (ends_first (rest d c since) None) false (is_marked since) (row_count d c) (done (rows_of d c) since) nexts
+    (once_ends (rest d c since) None once) enough)
 refused_there setup d c nexts past since q sound own is_job few enough is_row clear refuses is = absurd refuses
 
 asks_there : (setup : Setup) (d : DeviceSetup) (c : Command) (nexts : ℕ) (past : List Entry) (since : List Line)
