@@ -1,5 +1,5 @@
 -- How each row of a stop keeps what holds of an acceptor.
-use Rattle.std.proofs.Common.{◌≡◌, ℕ, zero, suc, List, ◌∷◌, length, refl, sym, ◌∙◌, subst, Option, Some, arith, None, [], ap, cond, false}
+use Rattle.std.proofs.Common.{◌≡◌, ℕ, zero, suc, List, ◌∷◌, length, refl, sym, ◌∙◌, subst, Option, Some, arith, None, [], ap, cond}
 use Rattle.cct_model.specs.terms.device.DeviceSetup.{DeviceSetup}
 use Rattle.cct_model.specs.terms.request.Request.{Request}
 use Rattle.cct_model.specs.terms.request.Request.TheVariants.{SetMaster, ReadCredits, GetMask}
