@@ -17,8 +17,8 @@ use Rattle.cct_model.specs.lines.entry.End.{End}
 use Rattle.cct_model.specs.Reply.{Reply}
 use Rattle.cct_model.specs.Reply as reply
 use Rattle.cct_model.specs.History.{Met, heard}
-use Rattle.cct_model.specs.Hopper.{remaining, dropped, taken_of, life_count, status_of, hopper_reply}
-use Rattle.cct_model.specs.Device.{IsHopper, common_reply, reply_of}
+use Rattle.cct_model.specs.Hopper.{remaining, dropped, taken_of, life_count, status_of}
+use Rattle.cct_model.specs.Device.{IsHopper, reply_of}
 use Rattle.cct_model.specs.Line.{Line, dispensed, exchange, put}
 use Rattle.cct_model.specs.Order.{order, is_marked, life_read, close, life_line}
 use Rattle.cct_model.specs.Job.{Row, works, job, with_line, epoch, sends, puts, Payment, payment_in, state_row, open_row, close_row, judged_in, address_of}
@@ -31,7 +31,7 @@ use Rattle.cct_model.proofs.Rows.{RowHolds, EachRow, each_after, but_first, afte
 use Rattle.cct_laws.proofs.Owing.{View, StateOf, Less, Takes, state_less, IsFresh, state_takes, state_opens, close_is, IsOpen, IsLife, FitsJob, fits_less, FitsLeft, FitsRows, Follows, AreLinked, Needs, needs_less}
 use Rattle.cct_model.proofs.Tries.{IsAgain, AsksWell, asks_well, due_sends, same_request}
 use Rattle.cct_model.proofs.RowEnds.{failed_stays, once_goes, row_again, row_once, rest_asks}
-use Rattle.cct_laws.proofs.Replies.{start_of, hopper_is}
+use Rattle.cct_laws.proofs.Replies.{start_of, replied_status, replied_stop, replied_life, same_reply}
 
 -- what is counted of a hopper
 abbrev pub view : DeviceSetup → List Met → List Line → View
@@ -181,26 +181,6 @@ asks_many d past lines c work q asked got many again is_job pays replied silence
     failed_exchange d past lines c work q (Some q) many again is_job pays
 asks_many d past lines c work q asked got many again is_job pays replied (answered y gives) =
     many_exchange d past lines c work q (Some q) (Some y) many is_job pays (replied y gives)
-
--- what a hopper replies
-
-pub replied_status : (d : DeviceSetup) (past : List Met) → IsHopper d.body →
-    reply_of d past GetStatus ≡ Some (status_of d.serial past)
-unfolding reply_of common_reply hopper_reply
-replied_status d past paying = hopper_is d.serial d.body past GetStatus paying
-
-replied_stop : (d : DeviceSetup) (past : List Met) → IsHopper d.body →
-    reply_of d past StopNow ≡ Some (reply.remaining (remaining d.serial past))
-unfolding reply_of common_reply hopper_reply
-replied_stop d past paying = hopper_is d.serial d.body past StopNow paying
-
-pub replied_life : (d : DeviceSetup) (past : List Met) → IsHopper d.body →
-    reply_of d past GetLife ≡ Some (reply.life (life_count d.serial (start_of d.body) past))
-unfolding reply_of common_reply hopper_reply
-replied_life d past paying = hopper_is d.serial d.body past GetLife paying
-
-same_reply : (x y : Reply) → Some x ≡ Some y → x ≡ y
-same_reply x y e = cc
 
 -- its life count is that of now
 life_next : (d : DeviceSetup) (past : List Met) (lines : List Line) (w : View) (work : List Line) (y : Reply) →
