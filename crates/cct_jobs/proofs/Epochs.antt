@@ -1,5 +1,5 @@
 -- The credits and masks that a start, a round and a stop read, and what their puts leave.
-use Rattle.std.proofs.Common.{◌≡◌, ℕ, suc, ◌==◌, Bool, true, false, cond, List, ◌∷◌, refl, sym, ap, ap₂, subst, ◌∙◌, Option, Some, None, arith, []}
+use Rattle.std.proofs.Common.{◌≡◌, ℕ, ◌==◌, Bool, true, false, cond, List, ◌∷◌, refl, sym, ap, ap₂, subst, ◌∙◌, Option, Some, None, arith, []}
 use Rattle.cct_model.specs.terms.coin.Credits.{Credits}
 use Rattle.cct_model.specs.terms.device.DeviceSetup.{DeviceSetup}
 use Rattle.cct_model.specs.terms.request.Request.TheVariants.{GetMask, ReadCredits}
@@ -177,13 +177,13 @@ stop_judges {d} {device} {read = read} at seen (Reading entry) e = (
   at.device_is,
   looked_rest at seen (Reading entry) e,
   put_at at seen (Reading entry) e (StopPuts device entry None) entry None refl (λ p. refl) refl
-  (reading_posts None (puts_due epoch_end (ends_as Stopped) ∷ []) _ _ _ read seen entry e),
+      (reading_posts None (puts_due epoch_end (ends_as Stopped) ∷ []) _ _ _ read seen entry e),
 )
 stop_judges {d} {device} {read = read} at seen (Broken entry) e = (
   at.device_is,
   looked_rest at seen (Broken entry) e,
   put_at at seen (Broken entry) e (StopPuts device entry (Some Broke)) entry (Some Broke) refl (λ p. refl) refl
-  (break_ends None (puts_due epoch_end (ends_as Stopped) ∷ []) _ _ _ read seen entry e),
+      (break_ends None (puts_due epoch_end (ends_as Stopped) ∷ []) _ _ _ read seen entry e),
 )
 
 -- what a put leaves, whatever the epoch is then

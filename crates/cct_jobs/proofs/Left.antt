@@ -33,7 +33,7 @@ from_payout (Waits closing own) device means = refl
 from_payout (Stops closing own) device means = refl
 from_payout (Recounts closing own) device means = refl
 
-from_stage : (stage : Stage) (device : Target) (means : Judged) → from (stage_ahead device stage) means ≡ stage_ahead device stage
+pub from_stage : (stage : Stage) (device : Target) (means : Judged) → from (stage_ahead device stage) means ≡ stage_ahead device stage
 from_stage (StartResets mask) device means = refl
 from_stage (StartReads mask) device means = refl
 from_stage (StartSets mask) device means = refl

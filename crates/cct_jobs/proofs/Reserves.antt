@@ -12,7 +12,7 @@ use Rattle.cct_model.specs.Rows.{has_closes, puts_in, rest}
 use Rattle.cct_model.specs.Line.{Line}
 use Rattle.cct_model.specs.Money.{coins_of, freed_by, hopper_value, reserved_for}
 use Rattle.cct_jobs.specs.declared.job.Job.{Job}
-use Rattle.cct_jobs.specs.declared.job.Job.TheVariants.{Asks, StartPuts, RoundPuts, StopPuts, StopEnds, OrderOpens, OrderCloses, SalePuts, Done}
+use Rattle.cct_jobs.specs.declared.job.Job.TheVariants.{Asks, StartPuts, RoundPuts, StopPuts, StopEnds, OrderOpens, OrderCloses, SalePuts}
 use Rattle.cct_jobs.specs.declared.job.Need.TheVariants as need
 use Rattle.cct_jobs.specs.declared.payout.Payout.{Payout}
 use Rattle.cct_jobs.specs.declared.payout.Payout.TheVariants.{Enables, Counts, Dispenses, Waits, Stops, Recounts}

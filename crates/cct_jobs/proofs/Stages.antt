@@ -1,5 +1,5 @@
 -- The stages of a job at a device: what an exchange makes of them.
-use Rattle.std.proofs.Common.{◌≡◌, ℕ, suc, zero, ◌<◌, ◌==◌, Bool, true, false, cond, List, [], ◌∷◌, length, refl, sym, ap, subst, ◌∙◌, Option, Some, None, arith, eq-eqb}
+use Rattle.std.proofs.Common.{◌≡◌, ℕ, suc, ◌<◌, ◌==◌, Bool, true, false, cond, List, [], ◌∷◌, length, refl, sym, ap, subst, ◌∙◌, Option, Some, None, arith, eq-eqb}
 use Rattle.std.specs.Prelude.{⊤, slice_get}
 use Rattle.std.proofs.lemmas.Bool.{eqb-true}
 use Rattle.std.proofs.lemmas.Bool.Decides.{nat_tests}
@@ -15,23 +15,21 @@ use Rattle.cct_model.specs.Request.{header_of}
 use Rattle.cct_model.specs.Reply.{Reply}
 use Rattle.cct_model.specs.Line.{Line, exchange}
 use Rattle.cct_model.specs.Job.{sends, Payment, address_of, payment_in, judged_in, end_of_tries, tries}
-use Rattle.cct_model.specs.Rows.{TableRow, after, end_answered, end_failed, first, from, left, rest, row, telling}
+use Rattle.cct_model.specs.Rows.{TableRow, asks_for, asks_once, waits_for_coins, puts_due, after, end_answered, end_failed, first, from, left, rest, row, telling}
 use Rattle.cct_msg.specs.Forms.{FitsItsBytes}
 use Rattle.cct_jobs.specs.declared.job.Job.{Job}
 use Rattle.cct_jobs.specs.declared.job.Job.TheVariants.{Asks}
-use Rattle.cct_jobs.specs.declared.payout.Payout.{Payout}
-use Rattle.cct_jobs.specs.declared.payout.Payout.TheVariants.{Enables, Counts, Dispenses, Waits, Stops, Recounts}
 use Rattle.cct_jobs.specs.declared.stage.Stage.{Stage}
 use Rattle.cct_jobs.specs.declared.stage.Stage.TheVariants.{StartResets, StartReads, StartSets, StopInhibits, Reads, Looks, IdentAsks, PathSets, PathReads, Pays}
 use Rattle.cct_jobs.specs.declared.stage.Visit.{Visit}
 use Rattle.cct_jobs.specs.declared.stage.Visit.TheVariants.{Round, Stop}
 use Rattle.cct_jobs.specs.declared.target.Target.{Target}
-use Rattle.cct_jobs.specs.Ahead.{payout_ahead, place_of, questions_of, sent_once, stage_ahead, visit_ahead}
+use Rattle.cct_jobs.specs.Ahead.{place_of, questions_of, sent_once, stage_ahead, visit_ahead}
 use Rattle.cct_jobs.specs.Jobs.{Asking, Knows, Stands, Suits, Trying, after_failed, newest_end, question_after, request_of}
 use Rattle.cct_jobs.proofs.Moves.{IsSettled, after_next, answer_ends_first, exchange_moves, exchange_stays, failed_stays}
 use Rattle.cct_jobs.proofs.Payouts.{MarkedFor, first_of_payout, marked_for, payout_fits, payout_knows}
 use Rattle.cct_jobs.proofs.Questions.{next_question, last_question, placed, question_again, question_within, again_fits, read_again, set_again}
-use Rattle.cct_jobs.proofs.Told.{told_is}
+use Rattle.cct_jobs.proofs.Left.{from_stage}
 use Rattle.cct_model.proofs.Rows.{told_first, told_end}
 
 -- the row of a stage
@@ -75,33 +73,14 @@ fits_of (PathReads place path) device suits = again_fits _ (read_again place)
 fits_of (Pays row) device suits = payout_fits row device suits
 fits_of stage device suits = again_fits (request_of stage) refl
 
--- what is tried again ends a job by its tries
-
-tries_payout : (row : Payout) (device : Target) (means : Judged) (n : ℕ) → sent_once (payout_ahead device row) ≡ false
-    → end_failed (from (payout_ahead device row) means) n ≡ end_of_tries n
-tries_payout (Dispenses serial own halted) device means n again = absurd cc
-tries_payout (Enables id count halted) device means n again = refl
-tries_payout (Counts id count halted) device means n again = refl
-tries_payout (Waits closing own) device means n again = refl
-tries_payout (Stops closing own) device means n again = refl
-tries_payout (Recounts closing own) device means n again = refl
-
-tries_end : (stage : Stage) (device : Target) (means : Judged) (n : ℕ) → sent_once (stage_ahead device stage) ≡ false
-    → end_failed (from (stage_ahead device stage) means) n ≡ end_of_tries n
-tries_end (StartSets mask) device means n again = absurd cc
-tries_end (StartResets mask) device means n again = refl
-tries_end (StartReads mask) device means n again = refl
-tries_end (StopInhibits recorded) device means n again = refl
-tries_end (Reads Round recorded) device means n again = refl
-tries_end (Reads Stop recorded) device means n again = refl
-tries_end (Looks Round recorded read) device means n again = refl
-tries_end (Looks Stop recorded read) device means n again = refl
-tries_end (IdentAsks question) device means n again =
-    told_is (λ rows. end_failed (from rows means) n ≡ end_of_tries n) refl (λ q behind rows. refl) (questions_of device)
-    (place_of question (questions_of device))
-tries_end (PathSets place path) device means n again = refl
-tries_end (PathReads place path) device means n again = refl
-tries_end (Pays row) device means n again = tries_payout row device means n again
+-- what isn't sent once ends a job by its tries
+fails_by_tries : (rows : List TableRow) (failed : ℕ) → sent_once rows ≡ false
+    → end_failed rows failed ≡ end_of_tries failed
+fails_by_tries [] failed again = refl
+fails_by_tries (asks_for q behind ∷ rows) failed again = refl
+fails_by_tries (asks_once q behind without ∷ rows) failed again = absurd cc
+fails_by_tries (waits_for_coins ∷ rows) failed again = refl
+fails_by_tries (puts_due due behind ∷ rows) failed again = refl
 
 -- failed tries
 
@@ -162,8 +141,8 @@ module _ {d : DeviceSetup} {device : Target} {stage : Stage} {failed : ℕ} {c :
       (tries (header_of (request_of stage)) (exchange (Some (request_of stage)) None ∷ since))
   failed_end again =
       ap (λ rows. end_failed rows (tries (header_of (request_of stage)) (exchange (Some (request_of stage)) None ∷ since)))
-      left_is
-      ∙ tries_end stage device (judged_in c since state) _ again
+      (left_is ∙ from_stage stage device (judged_in c since state))
+      ∙ fails_by_tries (stage_ahead device stage) _ again
 
   -- it is tried again
   pub stage_again : (n : ℕ) → sent_once (stage_ahead device stage) ≡ false → after_failed failed ≡ Some n

@@ -1,5 +1,5 @@
 -- What a job sends or puts, and the lines of a device that it stands for, newest first.
-use Rattle.std.specs.Prelude.{◌≡◌, ◌≢◌, ◌<◌, ◌==◌, ◌^◌, nat_lt, ℕ, suc, ⊤, Bool, true, false, List, [], ◌∷◌, if◌then◌else◌, Option, Some, None, is_some, IsTrue, option_and_then, slice_get}
+use Rattle.std.specs.Prelude.{◌≡◌, ◌<◌, ◌==◌, ◌^◌, nat_lt, ℕ, suc, ⊤, Bool, true, false, List, [], ◌∷◌, if◌then◌else◌, Option, Some, None, is_some, IsTrue, option_and_then, slice_get}
 use Rattle.std.specs.Option.{option_map}
 use Rattle.cct_model.specs.terms.wire.CheckKind.{CheckKind}
 use Rattle.cct_model.specs.terms.wire.CheckKind.TheVariants.{Simple, Crc}
@@ -36,12 +36,9 @@ use Rattle.cct_record.specs.Body.{Encodable}
 use Rattle.cct_jobs.specs.declared.target.Target.{Target}
 use Rattle.cct_jobs.specs.declared.owed.Owed.{Owed}
 use Rattle.cct_jobs.specs.declared.payout.Closing.{Closing}
-use Rattle.cct_jobs.specs.declared.payout.Closing.TheVariants as closing_of
 use Rattle.cct_jobs.specs.declared.payout.Payout.{Payout}
 use Rattle.cct_jobs.specs.declared.payout.Payout.TheVariants.{Enables, Counts, Dispenses, Waits, Stops, Recounts}
 use Rattle.cct_jobs.specs.declared.stage.Recorded.{Recorded}
-use Rattle.cct_jobs.specs.declared.stage.Visit.{Visit}
-use Rattle.cct_jobs.specs.declared.stage.Visit.TheVariants as visit_of
 use Rattle.cct_jobs.specs.declared.stage.Stage.{Stage}
 use Rattle.cct_jobs.specs.declared.stage.Stage.TheVariants.{StartResets, StartReads, StartSets, StopInhibits, Reads, Looks, IdentAsks, PathSets, PathReads, Pays}
 use Rattle.cct_jobs.specs.declared.job.Sending.{Sending}
