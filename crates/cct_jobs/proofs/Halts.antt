@@ -22,7 +22,7 @@ use Rattle.cct_jobs.specs.Jobs.{Asking, KnowsPayout, Opening, Stands, SuitsPayou
 use Rattle.cct_jobs.specs.Scans.{StandsScan}
 use Rattle.cct_jobs.proofs.Left.{waits_known}
 use Rattle.cct_jobs.proofs.Puts.{open_row_is}
-use Rattle.cct_jobs.proofs.Told.{told_none}
+use Rattle.cct_jobs.proofs.Told.{ident_none}
 
 -- which can
 
@@ -56,27 +56,18 @@ waits_pays (Reads Stop recorded) device waits = absurd cc
 waits_pays (Looks Round recorded read) device waits = absurd cc
 waits_pays (Looks Stop recorded read) device waits = absurd cc
 waits_pays (IdentAsks question) device waits =
-    let none = told_none has_waits (λ q behind rows. refl) (questions_of device) (place_of question (questions_of device)) in
-    absurd (true≢false (sym waits ∙ none))
+    absurd (true≢false (sym waits ∙ ident_none has_waits (λ q behind rows. refl) device question))
 waits_pays stage device waits = absurd cc
 
 -- what it leaves
 
 same_ahead : (row : Payout) (device : Target) → payout_ahead device (halted_row row) ≡ payout_ahead device row
-same_ahead (Enables id count halted) device = refl
-same_ahead (Counts id count halted) device = refl
-same_ahead (Dispenses serial own halted) device = refl
 same_ahead (Waits closing own) device = refl
-same_ahead (Stops closing own) device = refl
-same_ahead (Recounts closing own) device = refl
+same_ahead row device = refl
 
 still_suits : (row : Payout) (device : Target) → SuitsPayout row device → SuitsPayout (halted_row row) device
-still_suits (Enables id count halted) device suits = suits
-still_suits (Counts id count halted) device suits = suits
-still_suits (Dispenses serial own halted) device suits = suits
 still_suits (Waits closing own) device suits = tt
-still_suits (Stops closing own) device suits = tt
-still_suits (Recounts closing own) device suits = tt
+still_suits row device suits = suits
 
 knows_halt : (row : Payout) (k : Command) (since : List Line) (owed : Option OpenOrder) → KnowsPayout row since owed
     → KnowsPayout (halted_row row) (taken k ∷ since) owed

@@ -26,18 +26,10 @@ use Rattle.cct_jobs.proofs.Told.{told_is}
 -- a job that asks passes over no row
 
 from_payout : (row : Payout) (device : Target) (means : Judged) → from (payout_ahead device row) means ≡ payout_ahead device row
-from_payout (Enables id count halted) device means = refl
-from_payout (Counts id count halted) device means = refl
 from_payout (Dispenses serial own halted) device means = refl
-from_payout (Waits closing own) device means = refl
-from_payout (Stops closing own) device means = refl
-from_payout (Recounts closing own) device means = refl
+from_payout row device means = refl
 
 pub from_stage : (stage : Stage) (device : Target) (means : Judged) → from (stage_ahead device stage) means ≡ stage_ahead device stage
-from_stage (StartResets mask) device means = refl
-from_stage (StartReads mask) device means = refl
-from_stage (StartSets mask) device means = refl
-from_stage (StopInhibits recorded) device means = refl
 from_stage (Reads Round recorded) device means = refl
 from_stage (Reads Stop recorded) device means = refl
 from_stage (Looks Round recorded read) device means = refl
@@ -45,37 +37,25 @@ from_stage (Looks Stop recorded read) device means = refl
 from_stage (IdentAsks question) device means =
     told_is (λ rows. from rows means ≡ rows) refl (λ q behind rows. refl) (questions_of device)
     (place_of question (questions_of device))
-from_stage (PathSets place path) device means = refl
-from_stage (PathReads place path) device means = refl
 from_stage (Pays row) device means = from_payout row device means
+from_stage stage device means = refl
 
+-- a job that runs is at its command's device, and has the rows ahead that are left
 pub left_known : (d : DeviceSetup) (job : Job) (c : Command) (since : List Line) (state : EpochState)
     (owed : Option OpenOrder) → Stands d job c since state owed → newest_end d c since state ≡ None
-    → ahead job ≡ left d c since state
-left_known d (Asks device stage failed) c since state owed at on =
-    sym (ap (λ rows. from rows (judged_in c since state)) at.ahead_is ∙ from_stage stage device (judged_in c since state))
-left_known d (StartPuts device mask) c since state owed (device_is, rest_is, at) on = sym at.ahead_is
-left_known d (RoundPuts entry end) c since state owed at on = sym at.ahead_is
-left_known d (StopPuts device entry end) c since state owed (device_is, rest_is, at) on = sym at.ahead_is
-left_known d (StopEnds device) c since state owed (device_is, at) on = sym at.ahead_is
-left_known d (OrderOpens device own halted) c since state owed at on = sym at.at.ahead_is
-left_known d (OrderCloses entry end) c since state owed at on = sym at.at.ahead_is
+    → (ahead job ≡ left d c since state) × (address_of c ≡ d.addr)
+left_known d (Asks device stage failed) c since state owed at on = (
+  sym (ap (λ rows. from rows (judged_in c since state)) at.ahead_is ∙ from_stage stage device (judged_in c since state)),
+  at.is_here,
+)
+left_known d (StartPuts device mask) c since state owed (device_is, rest_is, at) on = (sym at.ahead_is, at.is_here)
+left_known d (RoundPuts entry end) c since state owed at on = (sym at.ahead_is, at.is_here)
+left_known d (StopPuts device entry end) c since state owed (device_is, rest_is, at) on = (sym at.ahead_is, at.is_here)
+left_known d (StopEnds device) c since state owed (device_is, at) on = (sym at.ahead_is, at.is_here)
+left_known d (OrderOpens device own halted) c since state owed at on = (sym at.at.ahead_is, at.at.is_here)
+left_known d (OrderCloses entry end) c since state owed at on = (sym at.at.ahead_is, at.at.is_here)
 left_known d (Done end) c since state owed at on = absurd cc
 left_known d job c since state owed at on = absurd at
-
--- and the command is at the device
-pub is_here : (d : DeviceSetup) (job : Job) (c : Command) (since : List Line) (state : EpochState)
-    (owed : Option OpenOrder) → Stands d job c since state owed → newest_end d c since state ≡ None
-    → address_of c ≡ d.addr
-is_here d (Asks device stage failed) c since state owed at on = at.is_here
-is_here d (StartPuts device mask) c since state owed (device_is, rest_is, at) on = at.is_here
-is_here d (RoundPuts entry end) c since state owed at on = at.is_here
-is_here d (StopPuts device entry end) c since state owed (device_is, rest_is, at) on = at.is_here
-is_here d (StopEnds device) c since state owed (device_is, at) on = at.is_here
-is_here d (OrderOpens device own halted) c since state owed at on = at.at.is_here
-is_here d (OrderCloses entry end) c since state owed at on = at.at.is_here
-is_here d (Done end) c since state owed at on = absurd cc
-is_here d job c since state owed at on = absurd at
 
 -- what is read off rows that doesn't look at one that puts what was judged is the same without it
 from_same : {A : Type 0} (f : List TableRow → A)
@@ -98,13 +78,16 @@ module _ (d : DeviceSetup) (job : Job) (c : Command) (since : List Line) (state 
   off_rest : {A : Type 0} (f : List TableRow → A)
       → ((behind : Then) (rows : List TableRow) → f (puts_due reading behind ∷ rows) ≡ f rows)
       → f (ahead job) ≡ f (rest d c since)
-  off_rest f passed = ap f (left_known d job c since state owed at on) ∙ from_same f passed (rest d c since) (judged_in c since state)
+  off_rest f passed = ap f (left_known d job c since state owed at on).0 ∙ from_same f passed (rest d c since) (judged_in c since state)
 
   pub waits_known : has_waits (ahead job) ≡ has_waits (rest d c since)
   waits_known = off_rest has_waits (λ behind rows. refl)
 
   pub closes_known : has_closes (ahead job) ≡ has_closes (rest d c since)
   closes_known = off_rest has_closes (λ behind rows. refl)
+
+  pub here_known : address_of c ≡ d.addr
+  here_known = (left_known d job c since state owed at on).1
 
   pub reserves_known : (setup : Setup) (addr : ℕ) → reserved_for setup addr (ahead job) ≡ reserved_for setup addr (rest d c since)
   reserves_known setup addr = off_rest (reserved_for setup addr) (λ behind rows. none_and (reserved_for setup addr rows))

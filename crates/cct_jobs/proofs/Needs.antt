@@ -169,7 +169,7 @@ pub may_put_known : (d : DeviceSetup) (job : Job) (c : Command) (since : List Li
     (owed : Option OpenOrder) (n : ℕ)
     → n ≡ puts_in (ahead job) → Stands d job c since state owed → newest_end d c since state ≡ None
     → n ≡ puts_in (left d c since state)
-may_put_known d job c since state owed n is at on = is ∙ ap puts_in (left_known d job c since state owed at on)
+may_put_known d job c since state owed n is at on = is ∙ ap puts_in (left_known d job c since state owed at on).0
 
 -- what is sent
 

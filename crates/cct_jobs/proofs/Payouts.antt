@@ -33,41 +33,27 @@ marked_for row since owed knows = tt
 pub first_of_payout : (row : Payout) (device : Target) (addr : ℕ) (means : Judged) (p : Payment)
     → SuitsPayout row device → MarkedFor row p.is_marked
     → first addr means p (from (payout_ahead device row) means) ≡ sends (payout_request row)
-first_of_payout (Enables id count halted) device addr means p suits marked = refl
-first_of_payout (Counts id count halted) device addr means p suits marked = refl
 first_of_payout (Dispenses serial own halted) device addr means p suits marked =
     ap (λ n. sends (Dispense n own.order.count)) (sym suits.1)
 first_of_payout (Waits closing own) device addr means p suits marked = ap state_row marked
 first_of_payout (Stops closing own) device addr means p suits marked = ap state_row marked
-first_of_payout (Recounts closing own) device addr means p suits marked = refl
+first_of_payout row device addr means p suits marked = refl
 
 -- its request fits its bytes
 pub payout_fits : (row : Payout) (device : Target) → SuitsPayout row device → FitsItsBytes (payout_request row)
 payout_fits (Dispenses serial own halted) device suits = λ number count e.
     let is : serial ≡ number = cc in
     subst (λ n. n < 2 ^ 24) (sym suits.1 ∙ is) suits.0
-payout_fits (Enables id count halted) device suits = again_fits _ refl
-payout_fits (Counts id count halted) device suits = again_fits _ refl
-payout_fits (Waits closing own) device suits = again_fits _ refl
-payout_fits (Stops closing own) device suits = again_fits _ refl
-payout_fits (Recounts closing own) device suits = again_fits _ refl
+payout_fits row device suits = again_fits (payout_request row) refl
 
 -- a failed try tells nothing
 pub payout_knows : (row : Payout) (since : List Line) (owed : Option OpenOrder) → KnowsPayout row since owed
     → KnowsPayout row (exchange (Some (payout_request row)) None ∷ since) owed
-payout_knows (Enables id count halted) since owed knows = knows
-payout_knows (Counts id count halted) since owed knows = knows
-payout_knows (Dispenses serial own halted) since owed knows = knows
 payout_knows (Waits closing own) since owed knows = (knows.0, knows.1, refl)
-payout_knows (Stops closing own) since owed knows = knows
-payout_knows (Recounts closing own) since owed knows = knows
+payout_knows row since owed knows = knows
 
 -- no answer ends the job
 pub payout_goes_on : (row : Payout) (device : Target) (y : Reply) (meant means : Judged)
     → end_answered (from (payout_ahead device row) meant) y means ≡ None
-payout_goes_on (Enables id count halted) device y meant means = refl
-payout_goes_on (Counts id count halted) device y meant means = refl
 payout_goes_on (Dispenses serial own halted) device y meant means = refl
-payout_goes_on (Waits closing own) device y meant means = refl
-payout_goes_on (Stops closing own) device y meant means = refl
-payout_goes_on (Recounts closing own) device y meant means = refl
+payout_goes_on row device y meant means = refl

@@ -25,7 +25,7 @@ use Rattle.cct_jobs.specs.Jobs.{Stands, need_of, newest_end, opened_by}
 use Rattle.cct_jobs.proofs.Left as left
 use Rattle.cct_jobs.proofs.Owners.{close_frees, reading_frees}
 use Rattle.cct_jobs.proofs.Puts.{round_row, stop_row}
-use Rattle.cct_jobs.proofs.Told.{told_none}
+use Rattle.cct_jobs.proofs.Told.{ident_none}
 
 -- what puts one record at the most reserves nothing
 
@@ -38,8 +38,7 @@ few_in_stage (Reads Round recorded) device n few at = refl
 few_in_stage (Reads Stop recorded) device n few at = refl
 few_in_stage (Looks Round recorded read) device n few at = refl
 few_in_stage (Looks Stop recorded read) device n few at = refl
-few_in_stage (IdentAsks question) device n few at =
-    told_none coins_in (λ q behind rows. refl) (questions_of device) (place_of question (questions_of device))
+few_in_stage (IdentAsks question) device n few at = ident_none coins_in (λ q behind rows. refl) device question
 few_in_stage stage device n few at = refl
 
 pub few_reserve_none : (job : Job) (n : ℕ) → n ≤ 1 → puts_in (ahead job) ≤ n → coins_in (ahead job) ≡ 0
@@ -68,10 +67,7 @@ payout_reserves : (setup : Setup) (addr : ℕ) (row : Payout) (device : Target)
     → coins_of setup addr (coins_in (payout_ahead device row)) ≡ reserved_for setup addr (payout_ahead device row)
 payout_reserves setup addr (Enables id count halted) device = and_none (coins_of setup addr count)
 payout_reserves setup addr (Counts id count halted) device = and_none (coins_of setup addr count)
-payout_reserves setup addr (Dispenses serial own halted) device = nothing setup addr
-payout_reserves setup addr (Waits closing own) device = nothing setup addr
-payout_reserves setup addr (Stops closing own) device = nothing setup addr
-payout_reserves setup addr (Recounts closing own) device = nothing setup addr
+payout_reserves setup addr row device = nothing setup addr
 
 stage_reserves : (setup : Setup) (addr : ℕ) (stage : Stage) (device : Target)
     → coins_of setup addr (coins_in (stage_ahead device stage)) ≡ reserved_for setup addr (stage_ahead device stage)
@@ -81,11 +77,9 @@ stage_reserves setup addr (Reads Stop recorded) device = nothing setup addr
 stage_reserves setup addr (Looks Round recorded read) device = nothing setup addr
 stage_reserves setup addr (Looks Stop recorded read) device = nothing setup addr
 stage_reserves setup addr (IdentAsks question) device =
-    ap (coins_of setup addr)
-    (told_none coins_in (λ q behind rows. refl) (questions_of device) (place_of question (questions_of device)))
+    ap (coins_of setup addr) (ident_none coins_in (λ q behind rows. refl) device question)
     ∙ nothing setup addr
-    ∙ sym (told_none (reserved_for setup addr) (λ q behind rows. refl) (questions_of device)
-    (place_of question (questions_of device)))
+    ∙ sym (ident_none (reserved_for setup addr) (λ q behind rows. refl) device question)
 stage_reserves setup addr stage device = nothing setup addr
 
 ahead_reserves : (setup : Setup) (addr : ℕ) (d : DeviceSetup) (job : Job) (c : Command) (since : List Line)
@@ -102,7 +96,7 @@ pub reserves_known : (setup : Setup) (d : DeviceSetup) (job : Job) (c : Command)
     → newest_end d c since state ≡ None → coins_of setup d.addr n ≡ reserved_for setup (address_of c) (rest d c since)
 reserves_known setup d job c since state owed n is at on =
     ap (coins_of setup d.addr) is
-    ∙ ap (λ addr. coins_of setup addr (coins_in (ahead job))) (sym (left.is_here d job c since state owed at on))
+    ∙ ap (λ addr. coins_of setup addr (coins_in (ahead job))) (sym (left.here_known d job c since state owed at on))
     ∙ ahead_reserves setup (address_of c) d job c since state owed at
     ∙ left.reserves_known d job c since state owed at on setup (address_of c)
 

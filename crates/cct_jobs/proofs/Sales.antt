@@ -25,7 +25,7 @@ use Rattle.cct_jobs.specs.declared.target.Target.{Target}
 use Rattle.cct_jobs.specs.Ahead.{ahead, coins_in, place_of, price_in, questions_of, stage_ahead}
 use Rattle.cct_jobs.specs.Jobs.{Stands, after_put, end_of_job, need_of, owed_after}
 use Rattle.cct_jobs.specs.Sales.{NeedsSale, StandsSale, newest_sale_end}
-use Rattle.cct_jobs.proofs.Told.{told_none}
+use Rattle.cct_jobs.proofs.Told.{ident_none}
 
 -- what it needs, and how it ended
 
@@ -94,10 +94,8 @@ price_of_stage (Reads Round recorded) device = refl
 price_of_stage (Reads Stop recorded) device = refl
 price_of_stage (Looks Round recorded read) device = refl
 price_of_stage (Looks Stop recorded read) device = refl
-price_of_stage (IdentAsks question) device =
-    told_none price_in (λ q behind rows. refl) (questions_of device) (place_of question (questions_of device))
+price_of_stage (IdentAsks question) device = ident_none price_in (λ q behind rows. refl) device question
 price_of_stage (Pays (Enables id count halted)) device = refl
-price_of_stage (Pays (Counts id count halted)) device = refl
 price_of_stage (Pays row) device = refl
 price_of_stage stage device = refl
 

@@ -45,19 +45,14 @@ row_knows stage since state owed knows = tt
 
 pub first_of_stage : (stage : Stage) (device : Target) (addr : ℕ) (means : Judged) (p : Payment) → RowKnows stage p
     → Suits stage device → first addr means p (from (stage_ahead device stage) means) ≡ sends (request_of stage)
-first_of_stage (StartResets mask) device addr means p knows suits = refl
-first_of_stage (StartReads mask) device addr means p knows suits = refl
-first_of_stage (StartSets mask) device addr means p knows suits = refl
-first_of_stage (StopInhibits recorded) device addr means p knows suits = refl
 first_of_stage (Reads Round recorded) device addr means p knows suits = refl
 first_of_stage (Reads Stop recorded) device addr means p knows suits = refl
 first_of_stage (Looks Round recorded read) device addr means p knows suits = refl
 first_of_stage (Looks Stop recorded read) device addr means p knows suits = refl
 first_of_stage (IdentAsks question) device addr means p knows suits =
     told_first addr (questions_of device) (place_of question (questions_of device)) means p question suits
-first_of_stage (PathSets place path) device addr means p knows suits = refl
-first_of_stage (PathReads place path) device addr means p knows suits = refl
 first_of_stage (Pays row) device addr means p knows suits = first_of_payout row device addr means p suits knows
+first_of_stage stage device addr means p knows suits = refl
 
 -- its request fits its bytes
 
