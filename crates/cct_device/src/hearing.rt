@@ -1,6 +1,7 @@
 //! What a piece that a device hears asks of it.
 ghost use Rattle.std.specs.Prelude.{◌≡◌, None, Some, MatchOption};
 ghost use Rattle.cct_frame.specs.Frame.{message_of};
+ghost use Rattle.cct_device.specs.Elsewhere.{begins_for};
 ghost use Rattle.cct_terms.specs.Exchange.{asked_of, asker, asks_of, to_all, to_one};
 
 use cct_frame::{FrameView, read};
@@ -16,8 +17,32 @@ pub struct Asked {
 
 /// What a piece asks of the device of a setup, or nothing where it is no message under the device's check, or none that
 /// asks something of it.
-#[tactic(auto, unfolding(cct_terms::specs::Exchange::asks_of, cct_terms::specs::Exchange::asker))]
+#[tactic(auto, using(crate::proofs::Elsewhere::asks_nothing))]
 pub fn listen(setup: &DeviceSetup, piece: &[u8]) -> Option<Asked>
+    ensures { MatchOption result (asks_of setup.now piece.now ≡ None)
+        (λ asked. (asks_of setup.now piece.now ≡ Some asked.request) × (asker setup.now.kind piece.now ≡ asked.asker)) }
+{
+    if begins_for(setup.addr, piece) {
+        asked_in(setup, piece)
+    } else {
+        None
+    }
+}
+
+/// Whether bytes begin with an address or with that of all devices. What begins with another asks nothing, so its check
+/// needn't be summed.
+fn begins_for(address: u8, bytes: &[u8]) -> bool
+    ensures { result ≡ begins_for address bytes.now }
+{
+    match bytes.first() {
+        Some(&to) => to == address || to == BROADCAST,
+        None => false,
+    }
+}
+
+/// What a piece asks of the device of a setup, by its check.
+#[tactic(auto, unfolding(cct_terms::specs::Exchange::asks_of, cct_terms::specs::Exchange::asker))]
+fn asked_in(setup: &DeviceSetup, piece: &[u8]) -> Option<Asked>
     ensures { MatchOption result (asks_of setup.now piece.now ≡ None)
         (λ asked. (asks_of setup.now piece.now ≡ Some asked.request) × (asker setup.now.kind piece.now ≡ asked.asker)) }
 {

@@ -6,4 +6,5 @@ pub mod Calls
 mod Walks
 mod Blanks
 mod Opens
+mod Gathered
 mod Losses

@@ -18,7 +18,19 @@ use cct_edge::Failed;
 fn first_byte(bytes: &[u8]) -> Option<usize>
     ensures { MatchOption result (IsBlank bytes.now) (IsFirstByteFrom 0 bytes.now) }
 {
-    bytes.iter().position(|byte| *byte != 0)
+    if is_blank(bytes) {
+        None
+    } else {
+        bytes.iter().position(|byte| *byte != 0)
+    }
+}
+
+/// Whether each byte is 0. It gathers the bits of all of them, and so tests once.
+#[tactic(auto, using(crate::proofs::Gathered::blank_gathered))]
+fn is_blank(bytes: &[u8]) -> bool
+    ensures { result ≡ true → IsBlank bytes.now }
+{
+    bytes.iter().fold(0, |bits, byte| bits | byte) == 0
 }
 
 /// Reads as many bytes as the room has, and tells where among them the first stands that isn't 0.

@@ -9,6 +9,7 @@ pub mod Doses
 pub mod OpenOrders
 pub mod Rows
 pub mod Tries
+pub mod RowEnds
 mod Vectors
 mod Machine
 mod Payments
