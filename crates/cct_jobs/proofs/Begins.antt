@@ -18,7 +18,8 @@ use Rattle.cct_jobs.specs.declared.stage.Stage.TheVariants.{IdentAsks}
 use Rattle.cct_jobs.specs.declared.target.Target.{Target}
 use Rattle.cct_jobs.specs.Ahead.{place_of, questions_of, stage_ahead, table_of}
 use Rattle.cct_jobs.specs.Jobs.{Knows, Stands, Suits, target_of}
-use Rattle.cct_jobs.proofs.Moves.{after_none, begun_rest}
+use Rattle.cct_model.proofs.Rows.{after_none}
+use Rattle.cct_jobs.proofs.Moves.{begun_rest}
 use Rattle.cct_jobs.proofs.Questions.{same_questions}
 
 address_by : (b : Bool) (x : DeviceSetup) (devices : List DeviceSetup) (addr : ℕ) (d : DeviceSetup)

@@ -30,6 +30,7 @@ use Rattle.cct_jobs.specs.declared.job.Need.TheVariants as need
 use Rattle.cct_jobs.specs.declared.job.Job.TheVariants.{Asks, StartPuts, RoundPuts, StopPuts, StopEnds, OrderOpens, OrderCloses, Done}
 use Rattle.cct_jobs.specs.Ahead.{ahead, visit_ahead}
 use Rattle.cct_jobs.specs.Jobs.{Asking, Opening, Putting, Stands, after_put, need_of, newest_end, opened_by, round_after, runs, stop_after, target_of}
+use Rattle.cct_model.proofs.Rows.{but_first}
 use Rattle.cct_jobs.proofs.Moves.{put_moves}
 use Rattle.cct_jobs.proofs.Puts.{end_row, start_row}
 use Rattle.cct_jobs.proofs.Stages.{answered_rest, end_after}
@@ -130,14 +131,14 @@ module _ {d : DeviceSetup} {device : Target} {visit : Visit} {recorded : Recorde
       ∙ ap (end_of_visit visit) judged_is
 
   -- the rows that are left then
-  looked_rest : rest d c (looked seen ∷ since) ≡ after (after (visit_ahead device visit) 1) 1
+  looked_rest : rest d c (looked seen ∷ since) ≡ but_first (after (visit_ahead device visit) 1)
   looked_rest = answered_rest at tt (reply.mask seen)
 
   -- a record that is put
   put_at : (job : Job) (entry : Record) (end : Option End)
-      → from (after (after (visit_ahead device visit) 1) 1) means ≡ ahead job
+      → from (but_first (after (visit_ahead device visit) 1)) means ≡ ahead job
       → ((p : Payment) → first d.addr means p (ahead job) ≡ puts entry) → end_of_visit visit means ≡ None
-      → end_kept (after (after (visit_ahead device visit) 1) 1) entry ≡ end
+      → end_kept (but_first (after (visit_ahead device visit) 1)) entry ≡ end
       → Putting d job entry end c (looked seen ∷ since) state owed
   put_at job entry end rows_are is_row on ends =
       let left_is : left d c (looked seen ∷ since) state ≡ ahead job = ap₂ from looked_rest judged_is ∙ rows_are in

@@ -1,27 +1,27 @@
 -- The rows of a job's command that are left are those that it has ahead.
-use Rattle.std.proofs.Common.{◌≡◌, ℕ, ◌+◌, List, [], ◌∷◌, refl, sym, ap, ◌∙◌, Option, None, arith}
+use Rattle.std.proofs.Common.{◌≡◌, ℕ, ◌+◌, List, ◌∷◌, refl, sym, ap, ◌∙◌, Option, None, arith}
 use Rattle.cct_model.specs.terms.device.DeviceSetup.{DeviceSetup}
 use Rattle.cct_model.specs.terms.device.Setup.{Setup}
 use Rattle.cct_model.specs.declared.judging.EpochState.{EpochState}
 use Rattle.cct_model.specs.declared.judging.Judged.{Judged}
-use Rattle.cct_model.specs.declared.judging.Judged.TheVariants.{Nothing, Reading, Broken}
 use Rattle.cct_model.specs.declared.judging.OpenOrder.{OpenOrder}
 use Rattle.cct_model.specs.lines.command.Command.{Command}
 use Rattle.cct_model.specs.Line.{Line}
 use Rattle.cct_model.specs.Job.{address_of, judged_in}
-use Rattle.cct_model.specs.Rows.{Then, TableRow, asks_for, asks_once, waits_for_coins, puts_due, reading, from, has_closes, has_waits, left, rest}
+use Rattle.cct_model.specs.Rows.{Then, TableRow, puts_due, reading, from, has_closes, has_waits, left, rest}
 use Rattle.cct_model.specs.Money.{reserved_for}
 use Rattle.cct_jobs.specs.declared.job.Job.{Job}
 use Rattle.cct_jobs.specs.declared.job.Job.TheVariants.{Asks, StartPuts, RoundPuts, StopPuts, StopEnds, OrderOpens, OrderCloses, Done}
 use Rattle.cct_jobs.specs.declared.payout.Payout.{Payout}
-use Rattle.cct_jobs.specs.declared.payout.Payout.TheVariants.{Enables, Counts, Dispenses, Waits, Stops, Recounts}
+use Rattle.cct_jobs.specs.declared.payout.Payout.TheVariants.{Dispenses}
 use Rattle.cct_jobs.specs.declared.stage.Stage.{Stage}
-use Rattle.cct_jobs.specs.declared.stage.Stage.TheVariants.{StartResets, StartReads, StartSets, StopInhibits, Reads, Looks, IdentAsks, PathSets, PathReads, Pays}
+use Rattle.cct_jobs.specs.declared.stage.Stage.TheVariants.{Reads, Looks, IdentAsks, Pays}
 use Rattle.cct_jobs.specs.declared.stage.Visit.TheVariants.{Round, Stop}
 use Rattle.cct_jobs.specs.declared.target.Target.{Target}
 use Rattle.cct_jobs.specs.Ahead.{ahead, payout_ahead, place_of, questions_of, stage_ahead}
 use Rattle.cct_jobs.specs.Jobs.{Stands, newest_end}
 use Rattle.cct_jobs.proofs.Told.{told_is}
+use Rattle.cct_model.proofs.Rows.{fact_from}
 
 -- a job that asks passes over no row
 
@@ -61,14 +61,8 @@ left_known d job c since state owed at on = absurd at
 from_same : {A : Type 0} (f : List TableRow → A)
     → ((behind : Then) (rows : List TableRow) → f (puts_due reading behind ∷ rows) ≡ f rows) → (rows : List TableRow)
     (means : Judged) → f (from rows means) ≡ f rows
-from_same f passed (puts_due reading behind ∷ rows) Nothing = sym (passed behind rows)
-from_same f passed (puts_due reading behind ∷ rows) (Reading r) = refl
-from_same f passed (puts_due reading behind ∷ rows) (Broken r) = refl
-from_same f passed (puts_due due behind ∷ rows) means = refl
-from_same f passed (asks_for q behind ∷ rows) means = refl
-from_same f passed (asks_once q behind without ∷ rows) means = refl
-from_same f passed (waits_for_coins ∷ rows) means = refl
-from_same f passed [] means = refl
+from_same f passed rows means =
+    fact_from (λ left. f left ≡ f rows) (λ behind left same. sym (passed behind left) ∙ same) rows means refl
 
 none_and : (n : ℕ) → 0 + n ≡ n
 none_and n = omega arith

@@ -15,8 +15,8 @@ use Rattle.cct_model.specs.declared.judging.OpenOrder.{OpenOrder}
 use Rattle.cct_model.specs.declared.judging.EpochState.{EpochState}
 use Rattle.cct_model.specs.declared.judging.Judged.{Judged}
 use Rattle.cct_model.specs.declared.judging.Judged.TheVariants.{Nothing, Reading, Broken}
-use Rattle.cct_model.specs.Job.{Row, address_of, credits_read, done, judged_by, judged_in, mask_read, no_row, payment_in, put_or, puts}
-use Rattle.cct_model.specs.Rows.{row, Due, reading, epoch_end, new_epoch, new_order, sale, order_end}
+use Rattle.cct_model.specs.Job.{Row, address_of, credits_read, judged_by, judged_in, mask_read, no_row, payment_in, put_or, puts}
+use Rattle.cct_model.specs.Rows.{done, rows_of, row, Due, reading, epoch_end, new_epoch, new_order, sale, order_end}
 use Rattle.cct_model.specs.Legal.{record_due}
 use Rattle.cct_model.specs.Line.{Line}
 use Rattle.cct_model.specs.Money.{freed_by}
@@ -130,7 +130,7 @@ pub row_owns : (past : List Entry) (addr : ℕ) (d : DeviceSetup) (c : Command) 
     → IfSome (record_due (row d c since state owed)) (ClosesItsOwn past addr)
 row_owns past addr d c since state owed opened =
     if_due (ClosesItsOwn past addr) (row d c since state owed)
-    (each_put (ClosesItsOwn past addr) is_at_device d c (done since) (judged_in c since state) (payment_in since owed)
+    (each_put (ClosesItsOwn past addr) is_at_device d c (done (rows_of d c) since) (judged_in c since state) (payment_in since owed)
     (device_puts d c) due_owns)
   where
     due_owns : (due : Due) → is_at_device due ≡ true

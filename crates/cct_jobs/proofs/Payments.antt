@@ -25,9 +25,11 @@ use Rattle.cct_jobs.specs.declared.payout.Payout.{Payout}
 use Rattle.cct_jobs.specs.declared.payout.Payout.TheVariants.{Enables, Counts, Dispenses, Waits, Stops, Recounts}
 use Rattle.cct_jobs.specs.declared.stage.Stage.TheVariants.{Pays}
 use Rattle.cct_jobs.specs.declared.target.Target.{Target}
-use Rattle.cct_jobs.specs.Ahead.{ahead, table_of}
-use Rattle.cct_jobs.specs.Jobs.{Asking, Stands, closing_end, newest_end, nothing_left, opened_by, settling}
-use Rattle.cct_jobs.proofs.Moves.{dispense_ends, exchange_moves, exchange_stays, stop_stays, wait_ends}
+use Rattle.cct_model.specs.terms.request.ReplyForm.TheVariants as form
+use Rattle.cct_msg.specs.Forms.{form_shown}
+use Rattle.cct_jobs.specs.Ahead.{ahead, nothing_left, table_of}
+use Rattle.cct_jobs.specs.Jobs.{Asking, Stands, closing_end, newest_end, opened_by, settling}
+use Rattle.cct_jobs.proofs.Moves.{exchange_moves, exchange_stays, stop_stays}
 use Rattle.cct_jobs.proofs.Payouts.{payout_goes_on}
 use Rattle.cct_jobs.proofs.Puts.{close_row_is, open_row_is}
 use Rattle.cct_jobs.proofs.Stages.{end_after}
@@ -110,7 +112,7 @@ module _ {d : DeviceSetup} {device : Target} {own : Owed} {serial failed : ℕ} 
     is_here = at.is_here;
     ahead_is =
         exchange_moves d c since (Dispense serial own.order.count) None _ at.ahead_is
-        (dispense_ends device serial own false None);
+        refl;
     suits = tt;
     knows = (at.knows.0, at.knows.1, refl);
     trying = record { counted = refl; few = omega arith };
@@ -121,7 +123,7 @@ module _ {d : DeviceSetup} {device : Target} {own : Owed} {serial failed : ℕ} 
     is_here = at.is_here;
     ahead_is =
         exchange_moves d c since (Dispense serial own.order.count) (Some y) _ at.ahead_is
-        (dispense_ends device serial own false (Some y));
+        refl;
     suits = tt;
     knows = (at.knows.0, at.knows.1, refl);
     trying = record { counted = refl; few = omega arith };
@@ -137,7 +139,7 @@ module _ {d : DeviceSetup} {device : Target} {own : Owed} {serial failed : ℕ} 
     is_here = at.is_here;
     ahead_is =
         exchange_moves d c since (Dispense serial own.order.count) None _ at.ahead_is
-        (dispense_ends device serial own true None);
+        refl;
     suits = tt;
     knows = at.knows;
     trying = record { counted = refl; few = omega arith };
@@ -148,7 +150,7 @@ module _ {d : DeviceSetup} {device : Target} {own : Owed} {serial failed : ℕ} 
     is_here = at.is_here;
     ahead_is =
         exchange_moves d c since (Dispense serial own.order.count) (Some y) _ at.ahead_is
-        (dispense_ends device serial own true (Some y));
+        refl;
     suits = tt;
     knows = at.knows;
     trying = record { counted = refl; few = omega arith };
@@ -174,7 +176,7 @@ module _ {d : DeviceSetup} {device : Target} {closing : Closing} {own : Owed} {f
   status_paid y paid told is at = record {
     device_is = at.device_is;
     is_here = at.is_here;
-    ahead_is = exchange_moves d c since GetStatus (Some y) _ at.ahead_is (wait_ends y ∙ sym told ∙ is);
+    ahead_is = exchange_moves d c since GetStatus (Some y) _ at.ahead_is (sym told ∙ is);
     suits = tt;
     knows = at.knows.1;
     trying = record { counted = refl; few = omega arith };
@@ -187,7 +189,7 @@ module _ {d : DeviceSetup} {device : Target} {closing : Closing} {own : Owed} {f
   status_goes_on y paid told is at = record {
     device_is = at.device_is;
     is_here = at.is_here;
-    ahead_is = exchange_stays d c since GetStatus (Some y) _ at.ahead_is (wait_ends y ∙ sym told ∙ is);
+    ahead_is = exchange_stays d c since GetStatus (Some y) _ at.ahead_is (sym told ∙ is);
     suits = tt;
     knows = (at.knows.0, at.knows.1, refl);
     trying = record { counted = refl; few = omega arith };
@@ -195,12 +197,13 @@ module _ {d : DeviceSetup} {device : Target} {closing : Closing} {own : Owed} {f
   }
 
   -- the hopper is stopped
-  pub stop_waits : (y : Reply) → Asking d device (Pays (Stops closing own)) failed c since state owed
+  pub stop_waits : (y : Reply) → form_shown y ≡ Some form.Remaining
+      → Asking d device (Pays (Stops closing own)) failed c since state owed
       → Asking d device (Pays (Waits closing own)) 0 c (exchange (Some StopNow) (Some y) ∷ since) state owed
-  stop_waits y at = record {
+  stop_waits y wanted at = record {
     device_is = at.device_is;
     is_here = at.is_here;
-    ahead_is = exchange_stays d c since StopNow (Some y) _ at.ahead_is (stop_stays y);
+    ahead_is = exchange_stays d c since StopNow (Some y) _ at.ahead_is (stop_stays y wanted);
     suits = tt;
     knows = (refl, at.knows.1, refl);
     trying = record { counted = refl; few = omega arith };

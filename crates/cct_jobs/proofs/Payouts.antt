@@ -11,7 +11,7 @@ use Rattle.cct_model.specs.Job.{Payment, sends, state_row}
 use Rattle.cct_model.specs.Rows.{end_answered, first, from}
 use Rattle.cct_msg.specs.Forms.{FitsItsBytes}
 use Rattle.cct_jobs.specs.declared.payout.Payout.{Payout}
-use Rattle.cct_jobs.specs.declared.payout.Payout.TheVariants.{Enables, Counts, Dispenses, Waits, Stops, Recounts}
+use Rattle.cct_jobs.specs.declared.payout.Payout.TheVariants.{Dispenses, Waits, Stops}
 use Rattle.cct_jobs.specs.declared.target.Target.{Target}
 use Rattle.cct_jobs.specs.Ahead.{payout_ahead}
 use Rattle.cct_jobs.specs.Jobs.{KnowsPayout, SuitsPayout, payout_request}

@@ -6,13 +6,12 @@ use Rattle.std.specs.List.{list_all}
 use Rattle.cct_model.specs.terms.device.DeviceBody.{DeviceBody}
 use Rattle.cct_model.specs.terms.device.DeviceBody.TheVariants.{Acceptor, Hopper}
 use Rattle.cct_model.specs.terms.request.Request.{Request}
-use Rattle.cct_model.specs.terms.request.Request.TheVariants.{SetDefault, SetPath, GetDefault, GetPath, GetStatus, StopNow}
-use Rattle.cct_model.specs.Job.{ident_requests, is_once, answer_ends, path_set, path_read}
+use Rattle.cct_model.specs.terms.request.Request.TheVariants.{SetDefault, SetPath, GetDefault, GetPath}
+use Rattle.cct_model.specs.Job.{ident_requests, path_set, path_read}
 use Rattle.cct_model.specs.Device.{is_acceptor}
-use Rattle.cct_model.specs.Reply.{Reply}
 use Rattle.cct_msg.specs.Forms.{FitsItsBytes}
 use Rattle.cct_jobs.specs.Ahead.{body_of, place_of}
-use Rattle.cct_jobs.specs.Jobs.{question_after}
+use Rattle.cct_jobs.specs.Jobs.{is_once, question_after}
 
 -- what stands behind each element
 abbrev behind_each : List Request → List (Option Request)
@@ -128,46 +127,11 @@ each_again false = refl
 pub question_again : (kind : Bool) (n : ℕ) (q : Request) → slice_get (questions kind) n ≡ Some q → is_once q ≡ false
 question_again kind n q at = not_true (is_once q) (all_at is_again (questions kind) n q (each_again kind) at)
 
--- a request whose row any answer ends
-abbrev is_settled : Request → Bool
-is_settled GetStatus = false
-is_settled StopNow = false
-is_settled q = true
-
-settled_ends : (q : Request) (y : Reply) → is_settled q ≡ true → answer_ends q y ≡ true
-settled_ends GetStatus y settled = absurd cc
-settled_ends StopNow y settled = absurd cc
-settled_ends q y settled = refl
-
-each_settled : (kind : Bool) → list_all is_settled (questions kind) ≡ true
-each_settled true = refl
-each_settled false = refl
-
--- the answer to a question ends its row
-pub question_ends : (kind : Bool) (n : ℕ) (q : Request) (y : Reply) → slice_get (questions kind) n ≡ Some q
-    → answer_ends q y ≡ true
-question_ends kind n q y at = settled_ends q y (all_at is_settled (questions kind) n q (each_settled kind) at)
-
-set_settles : (b : Bool) (place path : ℕ) → is_settled (cond b (SetDefault path) (SetPath place path)) ≡ true
-set_settles true place path = refl
-set_settles false place path = refl
-
-read_settles : (b : Bool) (place : ℕ) → is_settled (cond b GetDefault (GetPath place)) ≡ true
-read_settles true place = refl
-read_settles false place = refl
-
--- and so do those to a path that is set and to one that is read back
-pub set_ends : (place path : ℕ) (y : Reply) → answer_ends (path_set place path) y ≡ true
-set_ends place path y = settled_ends (path_set place path) y (set_settles (place == 0) place path)
-
-pub read_ends : (place : ℕ) (y : Reply) → answer_ends (path_read place) y ≡ true
-read_ends place y = settled_ends (path_read place) y (read_settles (place == 0) place)
-
 set_by : (b : Bool) (place path : ℕ) → is_once (cond b (SetDefault path) (SetPath place path)) ≡ false
 set_by true place path = refl
 set_by false place path = refl
 
--- and so are a path that is set
+-- so is a path that is set
 pub set_again : (place path : ℕ) → is_once (path_set place path) ≡ false
 set_again place path = set_by (place == 0) place path
 

@@ -7,20 +7,20 @@ use Rattle.cct_model.specs.terms.device.Setup.{Setup}
 use Rattle.cct_model.specs.declared.judging.EpochState.{EpochState}
 use Rattle.cct_model.specs.declared.judging.OpenOrder.{OpenOrder}
 use Rattle.cct_model.specs.Exchange.{device_at}
-use Rattle.cct_model.specs.Job.{address_of, credits_read, mask_read}
-use Rattle.cct_model.specs.Rows.{has_closes, puts_in, rest}
+use Rattle.cct_model.specs.Job.{address_of, works, credits_read, mask_read}
+use Rattle.cct_model.specs.Rows.{closes_order, has_closes, puts_in}
 use Rattle.cct_model.specs.Line.{Line}
-use Rattle.cct_model.specs.Money.{coins_of, freed_by, hopper_value, reserved_for}
+use Rattle.cct_model.specs.Money.{coins_of, freed_by, hopper_value, reserved_by, reserved_for}
 use Rattle.cct_jobs.specs.declared.job.Job.{Job}
 use Rattle.cct_jobs.specs.declared.job.Job.TheVariants.{Asks, StartPuts, RoundPuts, StopPuts, StopEnds, OrderOpens, OrderCloses, SalePuts}
 use Rattle.cct_jobs.specs.declared.job.Need.TheVariants as need
 use Rattle.cct_jobs.specs.declared.payout.Payout.{Payout}
-use Rattle.cct_jobs.specs.declared.payout.Payout.TheVariants.{Enables, Counts, Dispenses, Waits, Stops, Recounts}
+use Rattle.cct_jobs.specs.declared.payout.Payout.TheVariants.{Enables, Counts}
 use Rattle.cct_jobs.specs.declared.stage.Stage.{Stage}
 use Rattle.cct_jobs.specs.declared.stage.Stage.TheVariants.{IdentAsks, Reads, Looks, Pays}
 use Rattle.cct_jobs.specs.declared.stage.Visit.TheVariants.{Round, Stop}
 use Rattle.cct_jobs.specs.declared.target.Target.{Target}
-use Rattle.cct_jobs.specs.Ahead.{ahead, coins_in, payout_ahead, place_of, questions_of, stage_ahead}
+use Rattle.cct_jobs.specs.Ahead.{ahead, coins_in, payout_ahead, stage_ahead}
 use Rattle.cct_jobs.specs.Jobs.{Stands, need_of, newest_end, opened_by}
 use Rattle.cct_jobs.proofs.Left as left
 use Rattle.cct_jobs.proofs.Owners.{close_frees, reading_frees}
@@ -49,7 +49,7 @@ few_reserve_none job n few at = refl
 -- which jobs are at work to close an order
 pub closes_known : (d : DeviceSetup) (job : Job) (c : Command) (since : List Line) (state : EpochState)
     (owed : Option OpenOrder) (b : Bool) → b ≡ has_closes (ahead job) → Stands d job c since state owed
-    → newest_end d c since state ≡ None → b ≡ has_closes (rest d c since)
+    → newest_end d c since state ≡ None → b ≡ closes_order d (works c since)
 closes_known d job c since state owed b is at on = is ∙ left.closes_known d job c since state owed at on
 
 -- what they reserve
@@ -93,7 +93,7 @@ ahead_reserves setup addr d job c since state owed at = nothing setup addr
 
 pub reserves_known : (setup : Setup) (d : DeviceSetup) (job : Job) (c : Command) (since : List Line)
     (state : EpochState) (owed : Option OpenOrder) (n : ℕ) → n ≡ coins_in (ahead job) → Stands d job c since state owed
-    → newest_end d c since state ≡ None → coins_of setup d.addr n ≡ reserved_for setup (address_of c) (rest d c since)
+    → newest_end d c since state ≡ None → coins_of setup d.addr n ≡ reserved_by setup d (works c since)
 reserves_known setup d job c since state owed n is at on =
     ap (coins_of setup d.addr) is
     ∙ ap (λ addr. coins_of setup addr (coins_in (ahead job))) (sym (left.here_known d job c since state owed at on))

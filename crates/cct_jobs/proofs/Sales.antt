@@ -8,21 +8,21 @@ use Rattle.cct_model.specs.terms.device.DeviceSetup.{DeviceSetup}
 use Rattle.cct_model.specs.terms.device.Setup.{Setup}
 use Rattle.cct_model.specs.declared.judging.EpochState.{EpochState}
 use Rattle.cct_model.specs.declared.judging.OpenOrder.{OpenOrder}
-use Rattle.cct_model.specs.Job.{address_of}
+use Rattle.cct_model.specs.Job.{works}
 use Rattle.cct_model.specs.Rows.{has_closes, has_waits, left_of_sale, puts_in, row_of_sale}
 use Rattle.cct_model.specs.Line.{Line, put}
-use Rattle.cct_model.specs.Money.{freed_by, reserved_for}
+use Rattle.cct_model.specs.Money.{freed_by, reserved_by_sale}
 use Rattle.cct_jobs.specs.declared.job.Job.{Job}
 use Rattle.cct_jobs.specs.declared.job.Job.TheVariants.{Asks, SalePuts, Done}
 use Rattle.cct_jobs.specs.declared.job.Need.{Need}
 use Rattle.cct_jobs.specs.declared.job.Need.TheVariants as need
 use Rattle.cct_jobs.specs.declared.owed.Owed.{Owed}
-use Rattle.cct_jobs.specs.declared.payout.Payout.TheVariants.{Enables, Counts}
+use Rattle.cct_jobs.specs.declared.payout.Payout.TheVariants.{Enables}
 use Rattle.cct_jobs.specs.declared.stage.Stage.{Stage}
 use Rattle.cct_jobs.specs.declared.stage.Stage.TheVariants.{IdentAsks, Reads, Looks, Pays}
 use Rattle.cct_jobs.specs.declared.stage.Visit.TheVariants.{Round, Stop}
 use Rattle.cct_jobs.specs.declared.target.Target.{Target}
-use Rattle.cct_jobs.specs.Ahead.{ahead, coins_in, place_of, price_in, questions_of, stage_ahead}
+use Rattle.cct_jobs.specs.Ahead.{ahead, coins_in, price_in, stage_ahead}
 use Rattle.cct_jobs.specs.Jobs.{Stands, after_put, end_of_job, need_of, owed_after}
 use Rattle.cct_jobs.specs.Sales.{NeedsSale, StandsSale, newest_sale_end}
 use Rattle.cct_jobs.proofs.Told.{ident_none}
@@ -66,17 +66,17 @@ and_none : (n : ℕ) → n ≡ n + 0
 and_none n = omega arith
 
 price_by : (setup : Setup) (job : Job) (c : Command) (since : List Line) → StandsSale job c since
-    → newest_sale_end c since ≡ None → price_in (ahead job) ≡ reserved_for setup (address_of c) (left_of_sale c since)
+    → newest_sale_end c since ≡ None → price_in (ahead job) ≡ reserved_by_sale setup (works c since)
 price_by setup (SalePuts id price) c since at on =
     and_none price
-    ∙ sym (ap₂ (λ k lines. reserved_for setup (address_of k) (left_of_sale k lines)) at.command_is at.unsold)
+    ∙ sym (ap₂ (λ k lines. reserved_by_sale setup (works k lines)) at.command_is at.unsold)
 price_by setup (Done end) c since at on =
     let ended : newest_sale_end c since ≡ Some end = needs_by (Done end) c since at in
     absurd cc
 price_by setup job c since at on = absurd at
 
 pub sale_price : (setup : Setup) (job : Job) (c : Command) (since : List Line) (n : ℕ) → n ≡ price_in (ahead job)
-    → StandsSale job c since → newest_sale_end c since ≡ None → n ≡ reserved_for setup (address_of c) (left_of_sale c since)
+    → StandsSale job c since → newest_sale_end c since ≡ None → n ≡ reserved_by_sale setup (works c since)
 sale_price setup job c since n is at on = is ∙ price_by setup job c since at on
 
 -- the record that it is about to put frees just that

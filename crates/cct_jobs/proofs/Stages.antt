@@ -1,5 +1,5 @@
 -- The stages of a job at a device: what an exchange makes of them.
-use Rattle.std.proofs.Common.{◌≡◌, ℕ, suc, ◌<◌, ◌==◌, Bool, true, false, cond, List, [], ◌∷◌, length, refl, sym, ap, subst, ◌∙◌, Option, Some, None, arith, eq-eqb}
+use Rattle.std.proofs.Common.{◌≡◌, ℕ, suc, ◌<◌, ◌==◌, Bool, true, false, cond, List, ◌∷◌, length, refl, sym, ap, subst, ◌∙◌, Option, Some, None, arith, eq-eqb}
 use Rattle.std.specs.Prelude.{⊤, slice_get}
 use Rattle.std.proofs.lemmas.Bool.{eqb-true}
 use Rattle.std.proofs.lemmas.Bool.Decides.{nat_tests}
@@ -15,22 +15,24 @@ use Rattle.cct_model.specs.Request.{header_of}
 use Rattle.cct_model.specs.Reply.{Reply}
 use Rattle.cct_model.specs.Line.{Line, exchange}
 use Rattle.cct_model.specs.Job.{sends, Payment, address_of, payment_in, judged_in, end_of_tries, tries}
-use Rattle.cct_model.specs.Rows.{TableRow, asks_for, asks_once, waits_for_coins, puts_due, after, end_answered, end_failed, first, from, left, rest, row, telling}
+use Rattle.cct_model.specs.Rows.{after, end_answered, end_failed, first, from, left, rest, row, telling, sent_once}
 use Rattle.cct_msg.specs.Forms.{FitsItsBytes}
 use Rattle.cct_jobs.specs.declared.job.Job.{Job}
 use Rattle.cct_jobs.specs.declared.job.Job.TheVariants.{Asks}
 use Rattle.cct_jobs.specs.declared.stage.Stage.{Stage}
-use Rattle.cct_jobs.specs.declared.stage.Stage.TheVariants.{StartResets, StartReads, StartSets, StopInhibits, Reads, Looks, IdentAsks, PathSets, PathReads, Pays}
+use Rattle.cct_jobs.specs.declared.stage.Stage.TheVariants.{StartSets, StopInhibits, Reads, Looks, IdentAsks, PathSets, PathReads, Pays}
 use Rattle.cct_jobs.specs.declared.stage.Visit.{Visit}
 use Rattle.cct_jobs.specs.declared.stage.Visit.TheVariants.{Round, Stop}
 use Rattle.cct_jobs.specs.declared.target.Target.{Target}
-use Rattle.cct_jobs.specs.Ahead.{place_of, questions_of, sent_once, stage_ahead, visit_ahead}
+use Rattle.cct_jobs.specs.Ahead.{place_of, questions_of, stage_ahead, visit_ahead}
 use Rattle.cct_jobs.specs.Jobs.{Asking, Knows, Stands, Suits, Trying, after_failed, newest_end, question_after, request_of}
-use Rattle.cct_jobs.proofs.Moves.{IsSettled, after_next, answer_ends_first, exchange_moves, exchange_stays, failed_stays}
+use Rattle.cct_jobs.proofs.Moves.{IsSettled, answer_ends_first, exchange_moves, exchange_stays}
 use Rattle.cct_jobs.proofs.Payouts.{MarkedFor, first_of_payout, marked_for, payout_fits, payout_knows}
 use Rattle.cct_jobs.proofs.Questions.{next_question, last_question, placed, question_again, question_within, again_fits, read_again, set_again}
 use Rattle.cct_jobs.proofs.Left.{from_stage}
-use Rattle.cct_model.proofs.Rows.{told_first, told_end}
+use Rattle.cct_model.proofs.RowEnds.{unanswered_ends}
+use Rattle.cct_model.proofs.Rows.{after_next, but_first, told_first, told_end}
+use Rattle.cct_model.proofs.Tries.{asked_fails}
 
 -- the row of a stage
 
@@ -67,15 +69,6 @@ fits_of (PathSets place path) device suits = again_fits _ (set_again place path)
 fits_of (PathReads place path) device suits = again_fits _ (read_again place)
 fits_of (Pays row) device suits = payout_fits row device suits
 fits_of stage device suits = again_fits (request_of stage) refl
-
--- what isn't sent once ends a job by its tries
-fails_by_tries : (rows : List TableRow) (failed : ℕ) → sent_once rows ≡ false
-    → end_failed rows failed ≡ end_of_tries failed
-fails_by_tries [] failed again = refl
-fails_by_tries (asks_for q behind ∷ rows) failed again = refl
-fails_by_tries (asks_once q behind without ∷ rows) failed again = absurd cc
-fails_by_tries (waits_for_coins ∷ rows) failed again = refl
-fails_by_tries (puts_due due behind ∷ rows) failed again = refl
 
 -- failed tries
 
@@ -137,7 +130,7 @@ module _ {d : DeviceSetup} {device : Target} {stage : Stage} {failed : ℕ} {c :
   failed_end again =
       ap (λ rows. end_failed rows (tries (header_of (request_of stage)) (exchange (Some (request_of stage)) None ∷ since)))
       (left_is ∙ from_stage stage device (judged_in c since state))
-      ∙ fails_by_tries (stage_ahead device stage) _ again
+      ∙ asked_fails (stage_ahead device stage) _ again
 
   -- it is tried again
   pub stage_again : (n : ℕ) → sent_once (stage_ahead device stage) ≡ false → after_failed failed ≡ Some n
@@ -149,7 +142,7 @@ module _ {d : DeviceSetup} {device : Target} {stage : Stage} {failed : ℕ} {c :
       record {
         device_is = at.device_is;
         is_here = at.is_here;
-        ahead_is = exchange_stays d c since (request_of stage) None _ at.ahead_is (failed_stays stage device again at.suits);
+        ahead_is = exchange_stays d c since (request_of stage) None _ at.ahead_is (unanswered_ends (stage_ahead device stage) ∙ again);
         suits = at.suits;
         knows = still_knows stage since state owed at.knows;
         trying = record { counted = now; few = count.1 };
@@ -165,7 +158,7 @@ module _ {d : DeviceSetup} {device : Target} {stage : Stage} {failed : ℕ} {c :
 
   -- the rows that are left then
   pub answered_rest : IsSettled stage → (y : Reply)
-      → rest d c (exchange (Some (request_of stage)) (Some y) ∷ since) ≡ after (stage_ahead device stage) 1
+      → rest d c (exchange (Some (request_of stage)) (Some y) ∷ since) ≡ but_first (stage_ahead device stage)
   answered_rest settled y =
       exchange_moves d c since (request_of stage) (Some y) _ at.ahead_is (answer_ends_first stage device y settled at.suits)
 
@@ -176,7 +169,7 @@ module _ {d : DeviceSetup} {device : Target} {stage : Stage} {failed : ℕ} {c :
 
   -- an answer leads on to the next stage
   pub stage_on : (job : Job) (next : Stage) → job ≡ Asks device next 0 → IsSettled stage → (y : Reply)
-      → after (stage_ahead device stage) 1 ≡ stage_ahead device next → Suits next device
+      → but_first (stage_ahead device stage) ≡ stage_ahead device next → Suits next device
       → Knows next (exchange (Some (request_of stage)) (Some y) ∷ since) state owed
       → end_answered (from (stage_ahead device stage) (judged_in c since state)) y
       (judged_in c (exchange (Some (request_of stage)) (Some y) ∷ since) state) ≡ None
@@ -198,6 +191,11 @@ pub read_on : (visit : Visit) (device : Target) (y : Reply) (meant means : Judge
     → end_answered (from (visit_ahead device visit) meant) y means ≡ None
 read_on Round device y meant means = refl
 read_on Stop device y meant means = refl
+
+-- after them it looks at its inhibit mask
+pub look_next : (visit : Visit) (device : Target) → but_first (visit_ahead device visit) ≡ after (visit_ahead device visit) 1
+look_next Round device = refl
+look_next Stop device = refl
 
 -- the questions of an identification
 

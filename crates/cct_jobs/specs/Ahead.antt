@@ -1,5 +1,5 @@
 -- Where in the table of jobs a job stands: the rows that it has ahead, the one at which it stands first.
-use Rattle.std.specs.Prelude.{ℕ, suc, ◌==◌, Bool, true, false, List, [], ◌∷◌, if◌then◌else◌, Some}
+use Rattle.std.specs.Prelude.{ℕ, suc, ◌==◌, Bool, false, List, [], ◌∷◌, if◌then◌else◌, Some}
 use Rattle.cct_model.specs.terms.device.DeviceBody.{DeviceBody}
 use Rattle.cct_model.specs.terms.device.DeviceBody.TheVariants.{Acceptor, Hopper}
 use Rattle.cct_model.specs.terms.device.DeviceSetup.{DeviceSetup}
@@ -10,7 +10,8 @@ use Rattle.cct_model.specs.lines.command.Command.TheVariants as command
 use Rattle.cct_model.specs.lines.entry.End.TheVariants.{Posted}
 use Rattle.cct_model.specs.Request.{header_of}
 use Rattle.cct_model.specs.Job.{ident_requests}
-use Rattle.cct_model.specs.Rows.{TableRow, asks_once, puts_due, new_order, sale, reading, if_posted, settling, rows_of, rows_of_sale, after}
+use Rattle.cct_model.specs.Reply.{Reply}
+use Rattle.cct_model.specs.Rows.{TableRow, puts_due, new_order, sale, reading, if_posted, settling, rows_of, rows_of_sale, after, ends_first}
 use Rattle.cct_jobs.specs.declared.target.Target.{Target}
 use Rattle.cct_jobs.specs.declared.payout.Payout.{Payout}
 use Rattle.cct_jobs.specs.declared.payout.Payout.TheVariants.{Enables, Counts, Dispenses, Waits, Stops, Recounts}
@@ -96,10 +97,9 @@ ahead (OrderCloses entry end) = after settling 2
 ahead (SalePuts id price) = rows_of_sale (command.Vend id price)
 ahead job = []
 
--- The first of these rows is sent once, whatever is heard of it.
-abbrev pub sent_once : List TableRow → Bool
-sent_once (asks_once q behind without ∷ rows) = true
-sent_once rows = false
+-- A reply tells that nothing is left to pay: a wait for coins is over.
+abbrev pub nothing_left : Reply → Bool
+nothing_left y = ends_first settling (Some y)
 
 -- How many coins these rows reserve: those of the order that they open.
 abbrev pub coins_in : List TableRow → ℕ

@@ -27,7 +27,7 @@ use Rattle.cct_model.specs.Reply as reply
 use Rattle.cct_model.specs.Exchange.{asked, device_at, got, acceptor_there, hopper_there}
 use Rattle.cct_model.specs.Device.{is_acceptor}
 use Rattle.cct_model.specs.Line.{Line, exchange}
-use Rattle.cct_model.specs.Job.{address_of, answer_ends, sends, puts, credits_read, tries, path_set, path_read}
+use Rattle.cct_model.specs.Job.{address_of, sends, puts, credits_read, tries, path_set, path_read}
 use Rattle.cct_model.specs.Rows.{end_kept, end_of, left, rest, row}
 use Rattle.cct_model.specs.Order.{close, is_marked, life_read}
 use Rattle.cct_model.specs.Scan.{poll_of}
@@ -60,6 +60,12 @@ payout_request (Dispenses serial own halted) = Dispense serial own.order.count
 payout_request (Waits closing own) = GetStatus
 payout_request (Stops closing own) = StopNow
 payout_request (Recounts closing own) = GetLife
+
+-- A request that is sent once, whatever is heard of it: one that lets coins in, and one that pays coins out.
+abbrev pub is_once : Request → Bool
+is_once (SetMask mask) = true
+is_once (Dispense serial count) = true
+is_once q = false
 
 -- The request that a stage sends.
 abbrev pub request_of : Stage → Request
@@ -269,10 +275,6 @@ replied kind addr q sent heard = reply_wanted kind addr (form_of q) sent heard
 -- A life count that a reply is fits its three bytes.
 abbrev pub FitsLife : Reply → Type 0
 FitsLife y = (count : ℕ) → y ≡ reply.life count → count < 2 ^ 24
-
--- The reply to the question how a payout goes tells that nothing is left to pay.
-abbrev pub nothing_left : Reply → Bool
-nothing_left y = answer_ends GetStatus y
 
 -- The line of a device that an exchange with it is.
 abbrev pub line_heard : DeviceSetup → List ℕ → List ℕ → Line

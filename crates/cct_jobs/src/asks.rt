@@ -10,8 +10,8 @@ ghost use Rattle.cct_model.specs.Reply.{reply_shown};
 ghost use Rattle.cct_model.specs.Request.{form_of};
 ghost use Rattle.cct_msg.specs.Forms.{form_shown};
 ghost use Rattle.cct_jobs.specs.declared.stage.Stage.TheVariants.{Pays};
-ghost use Rattle.cct_model.specs.Rows.{has_closes, puts_in};
-ghost use Rattle.cct_jobs.specs.Ahead.{ahead, coins_in, payout_ahead, sent_once, stage_ahead};
+ghost use Rattle.cct_model.specs.Rows.{has_closes, puts_in, sent_once};
+ghost use Rattle.cct_jobs.specs.Ahead.{ahead, coins_in, payout_ahead, stage_ahead};
 ghost use Rattle.cct_jobs.specs.Jobs.{Asking, FitsLife, PutsFit, Stands, line_heard, payout_request, request_of};
 
 use crate::job::Job;

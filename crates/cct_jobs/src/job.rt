@@ -12,9 +12,9 @@ ghost use Rattle.cct_model.specs.terms.wire.CheckKind.{CheckKind};
 ghost use Rattle.cct_model.specs.Exchange.{ask, device_at};
 ghost use Rattle.cct_model.specs.declared.judging.OpenOrder.{OpenOrder};
 ghost use Rattle.cct_model.specs.Job.{address_of, sends, works};
-ghost use Rattle.cct_model.specs.Rows.{can_halt, has_closes, has_waits, left, left_of_sale, puts_in, rest, row, rows_of, rows_of_sale};
+ghost use Rattle.cct_model.specs.Rows.{can_halt, closes_order, has_closes, has_waits, left, left_of_sale, puts_in, row, rows_of, rows_of_sale};
 ghost use Rattle.cct_model.specs.Line.{Line, put, taken};
-ghost use Rattle.cct_model.specs.Money.{coins_of, reserved_for};
+ghost use Rattle.cct_model.specs.Money.{coins_of, reserved_by, reserved_by_sale};
 ghost use Rattle.cct_model.specs.Order.{order_by};
 ghost use Rattle.cct_model.specs.Scan.{end_of_scan, poll_of, scan_row};
 ghost use Rattle.cct_model.specs.Transcript.{scan_line};
@@ -298,7 +298,7 @@ impl Job {
         ensures value { result ≡ has_closes (ahead self.now) }
         ensures row { (d : DeviceSetup) (c : Command) (since : List Line) (state : EpochState)
             (owed : Option OpenOrder) → Stands d self.now c since state owed → newest_end d c since state ≡ None
-            → result ≡ has_closes (rest d c since) }
+            → result ≡ closes_order d (works c since) }
         ensures sale { (c : Command) (since : List Line) → StandsSale self.now c since → result ≡ false }
     {
         self.closes()
@@ -323,7 +323,7 @@ impl Job {
         ensures row { (d : DeviceSetup) (c : Command) (since : List Line) (state : EpochState)
             (owed : Option OpenOrder) → Stands d self.now c since state owed → result ≡ 0 }
         ensures sale { (setup : Setup) (c : Command) (since : List Line) → StandsSale self.now c since
-            → newest_sale_end c since ≡ None → result ≡ reserved_for setup (address_of c) (left_of_sale c since) }
+            → newest_sale_end c since ≡ None → result ≡ reserved_by_sale setup (works c since) }
     {
         match self {
             Job::SalePuts { price, .. } => *price,
@@ -337,7 +337,7 @@ impl Job {
         ensures value { result ≡ coins_in (ahead self.now) }
         ensures row { (setup : Setup) (d : DeviceSetup) (c : Command) (since : List Line) (state : EpochState)
             (owed : Option OpenOrder) → Stands d self.now c since state owed → newest_end d c since state ≡ None
-            → coins_of setup d.addr result ≡ reserved_for setup (address_of c) (rest d c since) }
+            → coins_of setup d.addr result ≡ reserved_by setup d (works c since) }
         ensures sale { (c : Command) (since : List Line) → StandsSale self.now c since → result ≡ 0 }
     {
         self.coins()

@@ -16,8 +16,8 @@ ghost use Rattle.cct_msg.specs.Forms.{form_shown};
 ghost use Rattle.cct_jobs.specs.declared.stage.Stage.TheVariants.{Pays};
 ghost use Rattle.cct_jobs.specs.declared.payout.Payout.TheVariants.{Counts, Dispenses, Recounts, Waits};
 ghost use Rattle.cct_model.specs.Rows.{has_closes, puts_in};
-ghost use Rattle.cct_jobs.specs.Ahead.{ahead, coins_in, payout_ahead};
-ghost use Rattle.cct_jobs.specs.Jobs.{Asking, FitsLife, PutsFit, Stands, closing_end, halted_row, halted_tries, nothing_left, payout_request, settling};
+ghost use Rattle.cct_jobs.specs.Ahead.{ahead, coins_in, nothing_left, payout_ahead};
+ghost use Rattle.cct_jobs.specs.Jobs.{Asking, FitsLife, PutsFit, Stands, closing_end, halted_row, halted_tries, payout_request, settling};
 ghost use Rattle.cct_jobs.specs.declared.payout.Closing.{Closing};
 ghost use Rattle.cct_jobs.specs.declared.target.Target.{Target};
 

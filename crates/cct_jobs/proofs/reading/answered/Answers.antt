@@ -4,7 +4,7 @@ use Rattle.cct_jobs.specs.declared.stage.Stage.{Stage}
 use Rattle.cct_jobs.specs.declared.stage.Stage.TheVariants.{Looks, Reads}
 use Rattle.cct_jobs.specs.declared.stage.Visit.TheVariants.{Stop}
 use Rattle.cct_jobs.specs.Jobs.{Asking, request_of}
-use Rattle.cct_jobs.proofs.Stages.{as_answered, read_on, stage_on}
+use Rattle.cct_jobs.proofs.Stages.{as_answered, look_next, read_on, stage_on}
 use Rattle.cct_jobs.proofs.reading.answered.Goals as goal
 
 pub credits_in-requires : goal.credits_in-requires
@@ -33,5 +33,5 @@ returns-in-Reads-clause-device c = λ d command since state owed failed at.
     let a = c.in-Reads in
     let here = subst (λ (s : Stage). Asking d c.args.device s failed command since state owed) a.is at in
     as_answered d _ command since state owed _ _ _ _ (ap request_of a.is) c.credits_in.ensures
-    (stage_on here _ (Looks a.visit a.recorded c.credits_in.result) c.first_try-in-Reads.ensures tt _ refl tt
+    (stage_on here _ (Looks a.visit a.recorded c.credits_in.result) c.first_try-in-Reads.ensures tt _ (look_next a.visit c.args.device) tt
     (here.knows, refl) (read_on a.visit c.args.device _ _ _))
