@@ -8,7 +8,9 @@ ghost use Rattle.cct_model.specs.declared.judging.OpenOrder.{OpenOrder};
 ghost use Rattle.cct_model.specs.Line.{Line, exchange};
 ghost use Rattle.cct_model.specs.Reply.{Reply};
 ghost use Rattle.cct_jobs.specs.declared.stage.Stage.TheVariants.{IdentAsks};
-ghost use Rattle.cct_jobs.specs.Jobs.{Asking, PutsFit, Stands, may_put_of, question_after};
+ghost use Rattle.cct_model.specs.Rows.{puts_in};
+ghost use Rattle.cct_jobs.specs.Ahead.{ahead};
+ghost use Rattle.cct_jobs.specs.Jobs.{Asking, PutsFit, Stands, question_after};
 
 use crate::asks::first_try;
 use crate::job::Job;
@@ -22,7 +24,7 @@ pub(crate) fn told(device: Target, question: Request) -> Job
         (owed : Option OpenOrder) (failed : ℕ) (y : Reply)
         → Asking d device (IdentAsks question) failed c since state owed
         → Stands d result c (exchange (Some question) (Some y) ∷ since) state owed }
-    ensures may_put { may_put_of result ≤ 0 }
+    ensures may_put { puts_in (ahead result) ≤ 0 }
     ensures fits { PutsFit result }
 {
     match question_after(question, device.is_acceptor) {
