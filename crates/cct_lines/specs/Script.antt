@@ -17,7 +17,7 @@ use Rattle.cct_lines.specs.declared.command.Step.{Step}
 use Rattle.cct_lines.specs.declared.command.Step.TheVariants as step
 use Rattle.cct_lines.specs.declared.entry.LineKind.{LineKind}
 use Rattle.cct_lines.specs.declared.entry.LineKind.TheVariants as kind
-use Rattle.cct_lines.specs.Exchange.{device_at, knows_there}
+use Rattle.cct_lines.specs.Exchange.{device_at, known_there}
 use Rattle.cct_lines.specs.Grammar.{is_space, setup_line, step_line, added}
 
 -- The byte is a line feed.
@@ -59,11 +59,11 @@ read_setup_line setup (Ok line) = opened (added setup line)
 
 -- Where a step befalls a device, the setup has that device, and its family knows this.
 abbrev pub is_known : Setup → Step → Bool
-is_known setup (step.Coin addr place) = knows_there (happening.Coin place) (device_at setup.devices addr)
-is_known setup (step.Alien addr) = knows_there happening.Alien (device_at setup.devices addr)
-is_known setup (step.Fall addr) = knows_there happening.Fall (device_at setup.devices addr)
-is_known setup (step.Jam addr) = knows_there happening.Jam (device_at setup.devices addr)
-is_known setup (step.Reset addr) = knows_there happening.Reset (device_at setup.devices addr)
+is_known setup (step.Coin addr place) = known_there (happening.Coin place) (device_at setup.devices addr)
+is_known setup (step.Alien addr) = known_there happening.Alien (device_at setup.devices addr)
+is_known setup (step.Fall addr) = known_there happening.Fall (device_at setup.devices addr)
+is_known setup (step.Jam addr) = known_there happening.Jam (device_at setup.devices addr)
+is_known setup (step.Reset addr) = known_there happening.Reset (device_at setup.devices addr)
 is_known setup s = true
 
 -- A step of a script: one that names a device that isn't there is refused.

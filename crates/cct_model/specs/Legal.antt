@@ -16,7 +16,7 @@ use Rattle.cct_model.specs.lines.entry.End.{End}
 use Rattle.cct_model.specs.lines.entry.Entry.{Entry}
 use Rattle.cct_model.specs.lines.entry.Entry.TheVariants as entry
 use Rattle.cct_model.specs.Acceptor.{accepts, path_of}
-use Rattle.cct_model.specs.Family.{family_of, knows}
+use Rattle.cct_model.specs.Family.{family_of, known_to}
 use Rattle.cct_model.specs.Device.{is_acceptor, is_hopper}
 use Rattle.cct_model.specs.Hopper.{remaining}
 use Rattle.cct_model.specs.Exchange.{ask, asked, device_at}
@@ -114,9 +114,9 @@ abbrev pub OfDevice : Option DeviceSetup → (DeviceSetup → Type 0) → Type 0
 OfDevice None P = ⊥
 OfDevice (Some d) P = P d
 
--- A fact of the device at an address that this befalls; there has to be one, and its family has to know this.
+-- A fact of the device at an address; there has to be one, of a family that knows this.
 abbrev pub OfKnowing : Happening → Option DeviceSetup → (DeviceSetup → Type 0) → Type 0
-OfKnowing what found P = OfDevice found (λ d. MatchBool (knows (family_of d.body) what) (P d) ⊥)
+OfKnowing what found P = OfDevice found (λ d. MatchBool (known_to what (family_of d.body)) (P d) ⊥)
 
 -- A fact of the acceptor at an address; there has to be one.
 abbrev pub OfAcceptor : Option DeviceSetup → (DeviceSetup → Type 0) → Type 0

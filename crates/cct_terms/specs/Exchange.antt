@@ -11,7 +11,7 @@ use Rattle.cct_terms.specs.declared.request.ReplyForm.{ReplyForm}
 use Rattle.cct_terms.specs.Message.{Message, message, spelling}
 use Rattle.cct_terms.specs.Request.{header_of, data_of, request_of}
 use Rattle.cct_terms.specs.Reply.{Reply, reply_header, reply_data, reply_in}
-use Rattle.cct_terms.specs.Family.{family_of, knows}
+use Rattle.cct_terms.specs.Family.{family_of, known_to}
 use Rattle.cct_terms.specs.History.{Met}
 use Rattle.cct_terms.specs.Device.{is_acceptor, is_hopper, reply_of}
 
@@ -115,10 +115,10 @@ abbrev pub device_at : List DeviceSetup → ℕ → Option DeviceSetup
 device_at [] addr = None
 device_at (d ∷ ds) addr = if d.addr == addr then Some d else device_at ds addr
 
--- Whether there is a device that this can befall.
-abbrev pub knows_there : Happening → Option DeviceSetup → Bool
-knows_there what (Some d) = knows (family_of d.body) what
-knows_there what None = false
+-- Whether there is a device, of a family that knows this.
+abbrev pub known_there : Happening → Option DeviceSetup → Bool
+known_there what (Some d) = known_to what (family_of d.body)
+known_there what None = false
 
 -- Whether the device at an address is a coin acceptor.
 abbrev pub acceptor_there : Option DeviceSetup → Bool

@@ -22,18 +22,18 @@ is_same Acceptor Hopper = false
 is_same Hopper Acceptor = false
 is_same Hopper Hopper = true
 
--- Whether this can befall a device of a family: any is reset, coins and other pieces fall into an acceptor, and coins
--- fall out of a hopper or get stuck there.
-abbrev pub knows : Family → Happening → Bool
-knows family Reset = true
-knows Acceptor (Coin place) = true
-knows Acceptor Alien = true
-knows Acceptor Fall = false
-knows Acceptor Jam = false
-knows Hopper (Coin place) = false
-knows Hopper Alien = false
-knows Hopper Fall = true
-knows Hopper Jam = true
+-- Whether a family knows this, so that it can befall a device of it: coins and other pieces fall into an acceptor,
+-- coins fall out of a hopper or get stuck there, and any device is reset.
+abbrev pub known_to : Happening → Family → Bool
+known_to (Coin place) Acceptor = true
+known_to (Coin place) Hopper = false
+known_to Alien Acceptor = true
+known_to Alien Hopper = false
+known_to Fall Acceptor = false
+known_to Fall Hopper = true
+known_to Jam Acceptor = false
+known_to Jam Hopper = true
+known_to Reset family = true
 
 -- A coin place is one.
 abbrev pub IsPlaced : Happening → Type 0

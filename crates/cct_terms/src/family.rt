@@ -1,6 +1,6 @@
 //! The families of devices, and what befalls a device.
 ghost use Rattle.std.specs.Prelude.{◌≡◌};
-ghost use Rattle.cct_terms.specs.Family.{knows};
+ghost use Rattle.cct_terms.specs.Family.{known_to};
 
 /// What befalls a device besides the pieces that it hears.
 #[derive(Clone, Copy, Debug, PartialEq, Eq)]
@@ -27,9 +27,9 @@ pub enum Family {
 }
 
 impl Family {
-    /// Whether this can befall a device of the family. A coin place is not looked at.
+    /// Whether the family knows this, so that it can befall a device of it. A coin place is not looked at.
     pub fn knows(self, what: Happening) -> bool
-        ensures { result ≡ knows self what }
+        ensures { result ≡ known_to what self }
     {
         match self {
             Family::Acceptor => match what {
