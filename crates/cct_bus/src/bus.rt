@@ -118,6 +118,7 @@ impl<'s> Bus<'s> {
     }
 
     /// A coin of a place, 1 to 16, falls into the acceptor at an address.
+    #[tactic(auto, using(crate::proofs::Buses::told_as, crate::proofs::Buses::inserted_back))]
     pub fn coin(&mut self, addr: u8, place: u8) -> Inserted
         requires there { IsTrue (known_there (happening.Coin place) (device_at (setup_of self.old).devices addr)) }
         requires low { 1 ≤ place }
@@ -131,6 +132,7 @@ impl<'s> Bus<'s> {
     }
 
     /// A piece that is no coin falls into the acceptor at an address.
+    #[tactic(auto, using(crate::proofs::Buses::stands_by))]
     pub fn alien(&mut self, addr: u8)
         requires there { IsTrue (known_there happening.Alien (device_at (setup_of self.old).devices addr)) }
         ensures setup { setup_of self.new ≡ setup_of self.old }
@@ -141,6 +143,7 @@ impl<'s> Bus<'s> {
 
     /// A coin falls out of the hopper at an address, and is paid where that is paying: true then, and false where it is
     /// nothing to it.
+    #[tactic(auto, using(crate::proofs::Buses::told_as, crate::proofs::Buses::effect_back))]
     pub fn fall(&mut self, addr: u8) -> bool
         requires there { IsTrue (known_there happening.Fall (device_at (setup_of self.old).devices addr)) }
         ensures setup { setup_of self.new ≡ setup_of self.old }
@@ -154,6 +157,7 @@ impl<'s> Bus<'s> {
 
     /// A coin is stuck in the hopper at an address, and ends the payout where that is paying: true then, and false where
     /// it is nothing to it.
+    #[tactic(auto, using(crate::proofs::Buses::told_as, crate::proofs::Buses::effect_back))]
     pub fn jam(&mut self, addr: u8) -> bool
         requires there { IsTrue (known_there happening.Jam (device_at (setup_of self.old).devices addr)) }
         ensures setup { setup_of self.new ≡ setup_of self.old }
@@ -166,6 +170,7 @@ impl<'s> Bus<'s> {
     }
 
     /// The device at an address starts again as after power-up.
+    #[tactic(auto, using(crate::proofs::Buses::stands_by))]
     pub fn reset(&mut self, addr: u8)
         requires there { IsTrue (known_there happening.Reset (device_at (setup_of self.old).devices addr)) }
         ensures setup { setup_of self.new ≡ setup_of self.old }
