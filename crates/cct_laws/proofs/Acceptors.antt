@@ -19,8 +19,8 @@ use Rattle.cct_model.specs.History.{Met, heard}
 use Rattle.cct_model.specs.Device.{IsAcceptor}
 use Rattle.cct_model.specs.Line.{Line, exchange, put, crashed}
 use Rattle.cct_model.specs.Order.{order}
-use Rattle.cct_model.specs.Job.{works, job, sends, puts, ident_requests, Payment, payment_in, done, epoch, credits_read, judged_in, is_once}
-use Rattle.cct_model.specs.Rows.{row, row_at, end_of, rows_of}
+use Rattle.cct_model.specs.Job.{works, job, sends, puts, ident_requests, Payment, payment_in, epoch, credits_read, judged_in}
+use Rattle.cct_model.specs.Rows.{row, row_at, end_of, rows_of, done}
 use Rattle.cct_model.proofs.Rows.{IfSends, Each, EachRow, puts_only, both_hold, each_ask, AnswerEnds, answer_end, PutEnds, each_asked, told_only, each_put, each_told, Asks, puts_none, put_end}
 use Rattle.cct_laws.specs.Kept.{Fate, IsForOthers, is_for_acceptor, with_ended}
 use Rattle.cct_laws.proofs.EitherKind.{for_acceptor}
@@ -33,6 +33,8 @@ use Rattle.cct_laws.proofs.Starts.{start_asks, start_puts}
 use Rattle.cct_laws.proofs.Rounds.{round_asks, round_puts}
 use Rattle.cct_laws.proofs.Stops.{stop_asks, stop_puts}
 use Rattle.cct_model.specs.declared.judging.EpochState.{EpochState}
+use Rattle.cct_model.proofs.Tries.{IsAgain}
+use Rattle.cct_model.proofs.RowEnds.{row_again}
 
 -- a job without records
 
@@ -43,7 +45,7 @@ IsPlain c = ⊥
 
 -- what it asks is tried again, and opens no place
 abbrev pub IsPlainRequest : Request → Type 0
-IsPlainRequest q = (is_once q ≡ false) × IsMild q
+IsPlainRequest q = IsAgain q × IsMild q
 
 plain_ident : (body : DeviceBody) → Each IsPlainRequest (ident_requests body)
 plain_ident (Acceptor accepts values ids) = search rules
@@ -73,11 +75,11 @@ plain_row d c rows judged p plain =
     (each_put (λ r. ⊥) puts_none d c rows judged p (plain_puts_none d c plain) (λ due none. absurd cc))
 
 -- it needs nothing, and its ends are no items
-plain_fits : (now : List Met) (lines : List Line) (c : Command) (since : List Line) → IsPlain c →
-    FitsBehind now lines c since
-plain_fits now lines (command.Ident addr) since plain = tt
-plain_fits now lines (command.Path addr place path) since plain = tt
-plain_fits now lines c since plain = absurd plain
+plain_fits : (d : DeviceSetup) (now : List Met) (lines : List Line) (c : Command) (since : List Line) → IsPlain c →
+    FitsBehind d now lines c since
+plain_fits d now lines (command.Ident addr) since plain = tt
+plain_fits d now lines (command.Path addr place path) since plain = tt
+plain_fits d now lines c since plain = absurd plain
 
 plain_ends : (d : DeviceSetup) (c : Command) → IsPlain c → EachRow (AnswerEnds IsOtherEnd) (rows_of d c)
 plain_ends d (command.Ident addr) plain =
@@ -91,37 +93,37 @@ plain_end d c asked y since state plain = answer_end IsOtherEnd d c asked y sinc
 
 plain_asks : (d : DeviceSetup) (past : List Met) (lines : List Line) (c : Command) (since : List Line) (q : Request)
     (asked : Option Request) (got : Option Reply) → IsPlain c → job lines ≡ works c since →
-    row d c since (epoch lines) (order lines) ≡ sends q → Keeps past lines → Fate d past q asked got →
+    row d c since (epoch lines) (order lines) ≡ sends q → Keeps d past lines → Fate d past q asked got →
     KeepsAsk d past lines c since q asked got
 plain_asks d past lines c since q asked got plain is_job row_is keeps fate =
     let now = heard (Some q) ∷ past in
     let judged = judged_in c since (epoch lines) in
     let asks : IsPlainRequest q =
-    subst (IfSends IsPlainRequest) row_is (plain_row d c (done since) judged (payment_in since (order lines)) plain) in
-    by_fate d past lines c since q asked got asks.0 asks.1 is_job keeps (λ y gives.
+    subst (IfSends IsPlainRequest) row_is (plain_row d c (done (rows_of d c) since) judged (payment_in since (order lines)) plain) in
+    by_fate d past lines c since q asked got (row_again d c since (epoch lines) (order lines) q row_is asks.0) asks.1 is_job keeps (λ y gives.
     let line = exchange (Some q) (Some y) in
-    keeps_with_ended now (line ∷ lines) _ (plain_end d c (Some q) y since (epoch lines) plain)
-    (keeps_exchange past now lines c since (Some q) (Some y) is_job (on_heard past lines q asks.1) keeps.sound
-    (plain_fits now (line ∷ lines) c (line ∷ since) plain))) fate
+    keeps_with_ended d now (line ∷ lines) _ (plain_end d c (Some q) y since (epoch lines) plain)
+    (keeps_exchange d past now lines c since (Some q) (Some y) is_job (on_heard past lines q asks.1) keeps.sound
+    (plain_fits d now (line ∷ lines) c (line ∷ since) plain))) fate
 
 -- a job at the acceptor asks something
 
 keeps_asks : (d : DeviceSetup) (past : List Met) (lines : List Line) (c : Command) (since : List Line) (q : Request)
     (asked : Option Request) (got : Option Reply) → IsAcceptor d.body → is_for_acceptor c ≡ true → IsCommand c →
     job lines ≡ works c since → row d c since (epoch lines) (order lines) ≡ sends q → Fate d past q asked got →
-    Keeps past lines → KeepsAsk d past lines c since q asked got
+    Keeps d past lines → KeepsAsk d past lines c since q asked got
 keeps_asks d past lines (command.Start addr mask) since q asked got accepting suited in_range is_job row_is fate keeps =
     let c = command.Start addr mask in
-    start_asks d past lines addr mask since q asked got (judged_in c since (epoch lines)) (payment_in since (order lines)) (done since) accepting in_range is_job refl
-    (fits_at past lines (command.Start addr mask) since is_job keeps) row_is keeps fate
+    start_asks d past lines addr mask since q asked got (judged_in c since (epoch lines)) (payment_in since (order lines)) (done (rows_of d c) since) accepting in_range is_job refl
+    (fits_at d past lines (command.Start addr mask) since is_job keeps) row_is keeps fate
 keeps_asks d past lines (command.Round addr) since q asked got accepting suited in_range is_job row_is fate keeps =
     let c = command.Round addr in
-    round_asks d past lines addr since (judged_in c since (epoch lines)) q asked got (payment_in since (order lines)) (done since) accepting is_job refl
-    (fits_at past lines c since is_job keeps) row_is keeps fate
+    round_asks d past lines addr since (judged_in c since (epoch lines)) q asked got (payment_in since (order lines)) (done (rows_of d c) since) accepting is_job refl
+    (fits_at d past lines c since is_job keeps) row_is keeps fate
 keeps_asks d past lines (command.Stop addr) since q asked got accepting suited in_range is_job row_is fate keeps =
     let c = command.Stop addr in
-    stop_asks d past lines addr since (judged_in c since (epoch lines)) q asked got (payment_in since (order lines)) (done since) accepting is_job refl
-    (fits_at past lines c since is_job keeps) row_is keeps fate
+    stop_asks d past lines addr since (judged_in c since (epoch lines)) q asked got (payment_in since (order lines)) (done (rows_of d c) since) accepting is_job refl
+    (fits_at d past lines c since is_job keeps) row_is keeps fate
 keeps_asks d past lines (command.Ident addr) since q asked got accepting suited in_range is_job row_is fate keeps =
     plain_asks d past lines (command.Ident addr) since q asked got tt is_job row_is keeps fate
 keeps_asks d past lines (command.Path addr place path) since q asked got accepting suited in_range is_job row_is fate
@@ -134,24 +136,24 @@ pub plain_puts : (d : DeviceSetup) (lines : List Line) (c : Command) (since : Li
     row d c since (epoch lines) (order lines) ≡ puts r → ⊥
 plain_puts d lines c since r plain row_is =
     subst (IfSends IsPlainRequest) row_is
-    (plain_row d c (done since) (judged_in c since (epoch lines)) (payment_in since (order lines)) plain)
+    (plain_row d c (done (rows_of d c) since) (judged_in c since (epoch lines)) (payment_in since (order lines)) plain)
 
 keeps_puts : (d : DeviceSetup) (past : List Met) (lines : List Line) (c : Command) (since : List Line) (r : Record) →
     is_for_acceptor c ≡ true → IsCommand c →
-    job lines ≡ works c since → row d c since (epoch lines) (order lines) ≡ puts r → Keeps past lines →
-    Keeps past (with_ended (end_of d c (put r) since (epoch lines)) (put r ∷ lines))
+    job lines ≡ works c since → row d c since (epoch lines) (order lines) ≡ puts r → Keeps d past lines →
+    Keeps d past (with_ended (end_of d c (put r) since (epoch lines)) (put r ∷ lines))
 keeps_puts d past lines (command.Start addr mask) since r suited in_range is_job row_is keeps =
     let c = command.Start addr mask in
-    start_puts d past lines addr mask since r (judged_in c since (epoch lines)) (payment_in since (order lines)) (done since) in_range is_job refl
-    (fits_at past lines (command.Start addr mask) since is_job keeps) row_is keeps
+    start_puts d past lines addr mask since r (judged_in c since (epoch lines)) (payment_in since (order lines)) (done (rows_of d c) since) in_range is_job refl
+    (fits_at d past lines (command.Start addr mask) since is_job keeps) row_is keeps
 keeps_puts d past lines (command.Round addr) since r suited in_range is_job row_is keeps =
     let c = command.Round addr in
-    round_puts d past lines addr (credits_read since) (judged_in c since (epoch lines)) r (payment_in since (order lines)) (done since)
-    (fits_at past lines c since is_job keeps) row_is keeps
+    round_puts d past lines addr (credits_read since) (judged_in c since (epoch lines)) r (payment_in since (order lines)) (done (rows_of d c) since)
+    (fits_at d past lines c since is_job keeps) row_is keeps
 keeps_puts d past lines (command.Stop addr) since r suited in_range is_job row_is keeps =
     let c = command.Stop addr in
-    stop_puts d past lines addr since (judged_in c since (epoch lines)) r (payment_in since (order lines)) (done since) is_job refl
-    (fits_at past lines c since is_job keeps) row_is keeps
+    stop_puts d past lines addr since (judged_in c since (epoch lines)) r (payment_in since (order lines)) (done (rows_of d c) since) is_job refl
+    (fits_at d past lines c since is_job keeps) row_is keeps
 keeps_puts d past lines (command.Ident addr) since r suited in_range is_job row_is keeps =
     absurd (plain_puts d lines (command.Ident addr) since r tt row_is)
 keeps_puts d past lines (command.Path addr place path) since r suited in_range is_job row_is keeps =
@@ -159,8 +161,8 @@ keeps_puts d past lines (command.Path addr place path) since r suited in_range i
 keeps_puts d past lines c since r suited in_range is_job row_is keeps = absurd cc
 
 -- the host loses its power
-keeps_crashed : (past : List Met) (lines : List Line) → Keeps past lines → Keeps past (crashed ∷ lines)
-keeps_crashed past lines keeps = record {
+keeps_crashed : (d : DeviceSetup) (past : List Met) (lines : List Line) → Keeps d past lines → Keeps d past (crashed ∷ lines)
+keeps_crashed d past lines keeps = record {
   sound = sound_line past past lines crashed tt (λ _. tt) keeps.sound.marked keeps.sound.state keeps.sound;
   fits = tt;
 }
@@ -175,11 +177,11 @@ pub put_other : (d : DeviceSetup) (c : Command) (r : Record) (since : List Line)
 put_other d c r since state = put_end IsOtherEnd d c r since state (other_puts d c)
 
 -- what holds behind another end held before it
-unended : (past : List Met) (lines : List Line) (end : Option End) → IfOther end → Keeps past (with_ended end lines) →
+unended : (d : DeviceSetup) (past : List Met) (lines : List Line) (end : Option End) → IfOther end → Keeps d past (with_ended end lines) →
     Sound past lines
-unended past lines None other keeps = keeps.sound
-unended past lines (Some Clean) other keeps = absurd other
-unended past lines (Some end) other keeps = record {
+unended d past lines None other keeps = keeps.sound
+unended d past lines (Some Clean) other keeps = absurd other
+unended d past lines (Some end) other keeps = record {
   in_order = keeps.sound.in_order.1;
   covers = λ pace. (keeps.sound.covers (tt, pace)).1;
   marked = keeps.sound.marked;
@@ -215,35 +217,35 @@ sound_kept past lines r sound = record {
 }
 
 keeps_kept_record : (d : DeviceSetup) (past : List Met) (lines : List Line) (c : Command) (since : List Line)
-    (r : Record) → Keeps past (with_ended (end_of d c (put r) since (epoch lines)) (put r ∷ lines)) →
-    Keeps past (put r ∷ crashed ∷ lines)
+    (r : Record) → Keeps d past (with_ended (end_of d c (put r) since (epoch lines)) (put r ∷ lines)) →
+    Keeps d past (put r ∷ crashed ∷ lines)
 keeps_kept_record d past lines c since r keeps = record {
-  sound = sound_kept past lines r (unended past (put r ∷ lines) _ (put_other d c r since (epoch lines)) keeps);
+  sound = sound_kept past lines r (unended d past (put r ∷ lines) _ (put_other d c r since (epoch lines)) keeps);
   fits = tt;
 }
 
 -- a piece that changes nothing
 
-keeps_same : (past now : List Met) (lines : List Line) → world now lines ≡ world past lines → Keeps past lines → Keeps now lines
-keeps_same past now lines same keeps = record {
+keeps_same : (d : DeviceSetup) (past now : List Met) (lines : List Line) → world now lines ≡ world past lines → Keeps d past lines → Keeps d now lines
+keeps_same d past now lines same keeps = record {
   sound = record {
     in_order = keeps.sound.in_order;
     covers = keeps.sound.covers;
     marked = keeps.sound.marked;
     state = subst (λ w. StateOf w (mark lines) (base lines) (epoch lines)) (sym same) keeps.sound.state;
   };
-  fits = subst (λ w. Fits w (book lines) (job lines)) (sym same) keeps.fits;
+  fits = subst (λ w. Fits d w (book lines) (job lines)) (sym same) keeps.fits;
 }
 
-keeps_passed : (past : List Met) (lines : List Line) (asked : Option Request) → IsForOthers asked → Keeps past lines → Keeps (heard asked ∷ past) lines
-keeps_passed past lines None others keeps = keeps_same past (heard None ∷ past) lines refl keeps
-keeps_passed past lines (Some AddressPoll) others keeps = keeps_same past (heard (Some AddressPoll) ∷ past) lines refl keeps
-keeps_passed past lines (Some SimplePoll) others keeps = keeps_same past (heard (Some SimplePoll) ∷ past) lines refl keeps
-keeps_passed past lines (Some q) others keeps = absurd others
+keeps_passed : (d : DeviceSetup) (past : List Met) (lines : List Line) (asked : Option Request) → IsForOthers asked → Keeps d past lines → Keeps d (heard asked ∷ past) lines
+keeps_passed d past lines None others keeps = keeps_same d past (heard None ∷ past) lines refl keeps
+keeps_passed d past lines (Some AddressPoll) others keeps = keeps_same d past (heard (Some AddressPoll) ∷ past) lines refl keeps
+keeps_passed d past lines (Some SimplePoll) others keeps = keeps_same d past (heard (Some SimplePoll) ∷ past) lines refl keeps
+keeps_passed d past lines (Some q) others keeps = absurd others
 
 -- before anything came
-keeps_start : Keeps [] []
-keeps_start = record {
+keeps_start : (d : DeviceSetup) → Keeps d [] []
+keeps_start d = record {
   sound = record {
     in_order = tt;
     covers = λ _. tt;
@@ -254,19 +256,19 @@ keeps_start = record {
 }
 
 -- it holds after all that can come
-pub keeps_kept : (d : DeviceSetup) → IsAcceptor d.body → IsKept d Keeps
+pub keeps_kept : (d : DeviceSetup) → IsAcceptor d.body → IsKept d (Keeps d)
 keeps_kept d accepting = record {
-  starts = keeps_start;
-  accepts = λ since past lines place least most is keeps. keeps_accepted past lines place least is keeps;
-  inhibits = λ since past lines place is keeps. keeps_inhibited past lines place is keeps;
-  aliens = λ since past lines keeps. keeps_alien past lines keeps;
-  resets = λ since past lines keeps. keeps_reset past lines keeps;
-  elsewhere = λ since past lines asked others keeps. keeps_passed past lines asked others keeps;
+  starts = keeps_start d;
+  accepts = λ since past lines place least most is keeps. keeps_accepted d past lines place least is keeps;
+  inhibits = λ since past lines place is keeps. keeps_inhibited d past lines place is keeps;
+  aliens = λ since past lines keeps. keeps_alien d past lines keeps;
+  resets = λ since past lines keeps. keeps_reset d past lines keeps;
+  elsewhere = λ since past lines asked others keeps. keeps_passed d past lines asked others keeps;
   takes = λ since past lines c no_job here in_range suited fine keeps. keeps_taken d past lines c suited fine keeps;
   asks = λ since past lines c work q asked got at row_is fate keeps.
       keeps_asks d past lines c work q asked got accepting (for_acceptor d.body c accepting at.suited) at.in_range at.job_is
       row_is fate keeps;
-  crashes = λ since past lines keeps. keeps_crashed past lines keeps;
+  crashes = λ since past lines keeps. keeps_crashed d past lines keeps;
   keeps = λ since past lines c work r at row_is keeps.
       keeps_kept_record d past lines c work r
       (keeps_puts d past lines c work r (for_acceptor d.body c accepting at.suited) at.in_range at.job_is row_is keeps);
@@ -275,9 +277,9 @@ keeps_kept d accepting = record {
 }
 
 -- posts are accepted coins in their order, none twice
-pub kept_in_order : (past : List Met) (lines : List Line) → Keeps past lines → InOrder lines
-kept_in_order past lines keeps = keeps.sound.in_order
+pub kept_in_order : (d : DeviceSetup) (past : List Met) (lines : List Line) → Keeps d past lines → InOrder lines
+kept_in_order d past lines keeps = keeps.sound.in_order
 
 -- under the pace no coin is lost in silence
-pub kept_covers : (past : List Met) (lines : List Line) → Keeps past lines → Pace lines → Covers lines
-kept_covers past lines keeps = keeps.sound.covers
+pub kept_covers : (d : DeviceSetup) (past : List Met) (lines : List Line) → Keeps d past lines → Pace lines → Covers lines
+kept_covers d past lines keeps = keeps.sound.covers

@@ -15,8 +15,8 @@ use Rattle.cct_model.specs.Line.{Line}
 use Rattle.cct_model.specs.Device.{IsSound, IsAcceptor, IsHopper, reply_of}
 use Rattle.cct_model.specs.Setup.{IsSoundSetup}
 use Rattle.cct_model.specs.Order.{order}
-use Rattle.cct_model.specs.Job.{sends, Payment, done, epoch, judged_in, payment_in}
-use Rattle.cct_model.specs.Rows.{row_at}
+use Rattle.cct_model.specs.Job.{sends, Payment, epoch, judged_in, payment_in}
+use Rattle.cct_model.specs.Rows.{row_at, done, rows_of}
 use Rattle.cct_model.specs.Script.{IsCommand}
 use Rattle.cct_model.specs.Exchange.{ask, asked, asks_of}
 use Rattle.cct_model.specs.Transcript.{pending, met, lines_of, heard_by_devices, heard_after, got_by}
@@ -68,7 +68,7 @@ works_answers : (setup : Setup) (past : List Entry) (d : DeviceSetup) (c : Comma
     IsSoundSetup setup → IsOf setup d → WorksAt d (lines_of d past) c since → row_after d past c since ≡ sends q →
     Answers d (met d past) q
 works_answers setup past d c since q sound own works is_row =
-    answers_at setup past d c (done since) (judged_in c since (epoch (lines_of d past)))
+    answers_at setup past d c (done (rows_of d c) since) (judged_in c since (epoch (lines_of d past)))
     (payment_in since (order (lines_of d past))) q sound own works.suited works.in_range is_row
 
 -- the line of an exchange says what the job asked

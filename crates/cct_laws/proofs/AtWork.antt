@@ -1,31 +1,25 @@
 -- What the running jobs reserve, after one line more, and what is spoken for by the records and the jobs together.
-use Rattle.std.proofs.Common.{◌≡◌, ◌≢◌, ℕ, zero, suc, ◌+◌, ◌≤◌, ◌<◌, nat_le, Bool, true, false, cond, List, [], ◌∷◌, refl, ap, sym, ◌∙◌, Option, Some, None, arith, leb-true, leb-false}
+use Rattle.std.proofs.Common.{◌≡◌, ◌≢◌, ℕ, ◌+◌, ◌≤◌, List, [], ◌∷◌, refl, ap, sym, ◌∙◌, subst, arith}
 use Rattle.cct_model.specs.Refusal.{tests_of, money_in}
 use Rattle.cct_model.specs.terms.device.DeviceSetup.{DeviceSetup}
 use Rattle.cct_model.specs.terms.device.Setup.{Setup}
-use Rattle.cct_model.specs.terms.request.Request.{Request}
 use Rattle.cct_model.specs.lines.record.Record.{Record}
 use Rattle.cct_model.specs.lines.record.Record.TheVariants as record_of
 use Rattle.cct_model.specs.lines.command.Command.{Command}
 use Rattle.cct_model.specs.lines.command.Command.TheVariants as command
 use Rattle.cct_model.specs.lines.entry.Entry.{Entry}
-use Rattle.cct_model.specs.declared.judging.EpochState.{EpochState}
-use Rattle.cct_model.specs.declared.judging.OpenOrder.{OpenOrder}
-use Rattle.cct_model.specs.Reply.{Reply}
 use Rattle.cct_model.specs.Setup.{AreDistinct}
-use Rattle.cct_model.specs.Line.{Line, exchange, put}
-use Rattle.cct_model.specs.Order.{order_by}
-use Rattle.cct_model.specs.Job.{works, job, done, puts, open_row, Payment, payment_in, judged_in}
-use Rattle.cct_model.specs.Rows.{row, row_at}
+use Rattle.cct_model.specs.Line.{Line, put}
+use Rattle.cct_model.specs.Job.{Job, free, works, with_line, job, address_of, ident_requests}
+use Rattle.cct_model.specs.Rows.{new_order, TableRow, asks_for, asks_once, waits_for_coins, puts_due, rows_of, rest, done}
 use Rattle.cct_model.specs.Records.{records}
-use Rattle.cct_model.specs.Money.{coins_of, posted_in, reserved_by, reserved_at_work, spoken_for, available}
+use Rattle.cct_model.specs.Money.{coins_of, posted_in, reserves, reserved_for, reserved_by, reserved_by_sale, reserved_at_work, freed_by, spoken_for, available}
 use Rattle.cct_model.specs.Transcript.{lines_of, sale_lines}
+use Rattle.cct_model.proofs.Rows.{but_first, after_none, after_next, after_line, told_fact}
 use Rattle.cct_laws.specs.Law.{IsOf}
 use Rattle.cct_laws.proofs.Sums.{sum_moved}
-use Rattle.cct_laws.proofs.Orders.{order_as}
 use Rattle.cct_laws.proofs.Covered.{spoken_in}
-use Rattle.cct_laws.proofs.Held.{done_grows, same_record, settle_row_closes}
-use Rattle.cct_model.specs.declared.judging.Judged.{Judged}
+use Rattle.cct_laws.proofs.Opening.{Opens, UsesOwn}
 
 -- what is spoken for is so by the records or by the jobs
 pub spoken_both : (setup : Setup) (past : List Entry) →
@@ -41,96 +35,78 @@ available_both setup past covered = omega arith
 pub at_work_moved : (setup : Setup) (d : DeviceSetup) (past after : List Entry) → AreDistinct setup.devices →
     IsOf setup d →
     ((e : DeviceSetup) → e.addr ≢ d.addr →
-    reserved_by setup (job (lines_of e after)) ≤ reserved_by setup (job (lines_of e past))) →
-    reserved_by setup (job (sale_lines after)) ≤ reserved_by setup (job (sale_lines past)) →
-    reserved_at_work setup after + reserved_by setup (job (lines_of d past))
-    ≤ reserved_at_work setup past + reserved_by setup (job (lines_of d after))
+    reserved_by setup e (job (lines_of e after)) ≤ reserved_by setup e (job (lines_of e past))) →
+    reserved_by_sale setup (job (sale_lines after)) ≤ reserved_by_sale setup (job (sale_lines past)) →
+    reserved_at_work setup after + reserved_by setup d (job (lines_of d past))
+    ≤ reserved_at_work setup past + reserved_by setup d (job (lines_of d after))
 at_work_moved setup d past after distinct is_of others sale =
     let moved =
-    sum_moved (λ e. reserved_by setup (job (lines_of e after))) (λ e. reserved_by setup (job (lines_of e past)))
+    sum_moved (λ e. reserved_by setup e (job (lines_of e after))) (λ e. reserved_by setup e (job (lines_of e past)))
     setup.devices d distinct is_of others in
     omega arith
 
--- a payment of which more rows are done reserves no more
-pay_later : (coins few many : ℕ) → few ≤ many → cond (nat_le many 2) coins 0 ≤ cond (nat_le few 2) coins 0
-pay_later coins few many le = by_tests (nat_le few 2) (nat_le many 2) refl refl
-  where
-    by_tests : (first second : Bool) → nat_le few 2 ≡ first → nat_le many 2 ≡ second →
-        cond second coins 0 ≤ cond first coins 0
-    by_tests true true one other = omega arith
-    by_tests first false one other = omega arith
-    by_tests false true one other =
-        let small : many ≤ 2 = leb-true many 2 other in
-        let large : 2 < few = leb-false few 2 one in
-        absurd (omega arith)
+-- what the first of these rows reserves, and those after it
+abbrev reserves_first : Setup → ℕ → List TableRow → ℕ
+reserves_first setup addr (puts_due due behind ∷ rows) = reserves setup addr due
+reserves_first setup addr rows = 0
 
--- so does any job
-pub work_later : (setup : Setup) (c : Command) (one other : List Line) → done one ≤ done other →
-    reserved_by setup (works c other) ≤ reserved_by setup (works c one)
-work_later setup (command.Pay addr id count) one other le =
-    pay_later (coins_of setup addr count) (done one) (done other) le
-work_later setup (command.Vend id price) one other le = omega arith
-work_later setup c one other le = omega arith
+reserved_split : (setup : Setup) (addr : ℕ) (rows : List TableRow) →
+    reserved_for setup addr rows ≡ reserves_first setup addr rows + reserved_for setup addr (but_first rows)
+reserved_split setup addr [] = refl
+reserved_split setup addr (puts_due due behind ∷ rows) = refl
+reserved_split setup addr (asks_for q behind ∷ rows) = omega arith
+reserved_split setup addr (asks_once q behind without ∷ rows) = omega arith
+reserved_split setup addr (waits_for_coins ∷ rows) = omega arith
 
-pub work_asked : (setup : Setup) (c : Command) (since : List Line) (q : Option Request) (got : Option Reply) →
-    reserved_by setup (works c (exchange q got ∷ since)) ≤ reserved_by setup (works c since)
-work_asked setup c since q got = work_later setup c since (exchange q got ∷ since) (done_grows q got since)
+-- a line more reserves no more
+work_line : (setup : Setup) (d : DeviceSetup) (c : Command) (l : Line) (since : List Line) →
+    reserved_by setup d (works c (l ∷ since)) ≤ reserved_by setup d (works c since)
+work_line setup d c l since =
+    let now = reserved_for setup (address_of c) (rest d c since) in
+    let split = reserved_split setup (address_of c) (rest d c since) in
+    after_line (λ rows. reserved_for setup (address_of c) rows ≤ now) (rows_of d c) l since (omega arith)
+    (omega (arith, split))
 
-pub work_put : (setup : Setup) (c : Command) (since : List Line) (r : Record) →
-    reserved_by setup (works c (put r ∷ since)) ≤ reserved_by setup (works c since)
-work_put setup c since r = work_later setup c since (put r ∷ since) (omega arith)
+pub work_with : (setup : Setup) (d : DeviceSetup) (l : Line) (j : Job) →
+    reserved_by setup d (with_line l j) ≤ reserved_by setup d j
+work_with setup d l free = omega arith
+work_with setup d l (works c since) = work_line setup d c l since
 
--- the record that opens an order frees what its payment reserved
-pub record OpensWork (setup : Setup) (addr id count : ℕ) (since : List Line) (r : Record) : Type 0 where
-  pub reserved_before : reserved_by setup (works (command.Pay addr id count) since) ≡ coins_of setup addr count
-  pub reserved_after : reserved_by setup (works (command.Pay addr id count) (put r ∷ since)) ≡ 0
+-- a put frees what its row reserved
+opens_reserves : (setup : Setup) (addr id count : ℕ) (rows : List TableRow) → Opens id count rows →
+    reserves_first setup addr rows ≡ coins_of setup addr count
+opens_reserves setup addr id count (puts_due (new_order own many) behind ∷ rows) opens =
+    ap (coins_of setup addr) opens.1
+opens_reserves setup addr id count rows opens = absurd opens
 
-some_none : (o : OpenOrder) → Some o ≡ None → ⊥
-some_none o is = cc
-
-opened_rows : (setup : Setup) (d : DeviceSetup) (addr id count : ℕ) (since : List Line) (r : Record) (rows : ℕ)
-    (judged : Judged) (p : Payment) → done since ≡ rows → row_at d (command.Pay addr id count) rows judged p ≡ puts r →
-    (opened counted at life : ℕ) → r ≡ record_of.Opened opened at counted life →
-    (opened ≡ id) × (at ≡ addr) × (counted ≡ count) × OpensWork setup addr id count since r
-opened_rows setup d addr id count since r zero judged p rows_are is opened counted at life opens = absurd cc
-opened_rows setup d addr id count since r (suc zero) judged p rows_are is opened counted at life opens = absurd cc
-opened_rows setup d addr id count since r (suc (suc zero)) judged p rows_are is opened counted at life opens =
-    by_life p.life is
-  where
-    by_life : (read : Option ℕ) → open_row addr id count read ≡ puts r →
-        (opened ≡ id) × (at ≡ addr) × (counted ≡ count) × OpensWork setup addr id count since r
-    by_life None own = absurd cc
-    by_life (Some found) own =
-        let same : record_of.Opened id addr count found ≡ record_of.Opened opened at counted life =
-        same_record (record_of.Opened id addr count found) r own ∙ opens in (
-          cc,
-          cc,
-          cc,
-          record {
-            reserved_before = ap (λ n. cond (nat_le n 2) (coins_of setup addr count) 0) rows_are;
-            reserved_after = ap (λ n. cond (nat_le (suc n) 2) (coins_of setup addr count) 0) rows_are;
-          },
-        )
-opened_rows setup d addr id count since r (suc (suc (suc zero))) judged p rows_are is opened counted at life opens =
-    absurd cc
-opened_rows setup d addr id count since r (suc (suc (suc (suc rows)))) judged p rows_are is opened counted at life opens =
-    let closes = settle_row_closes d addr rows judged p r is in
-    absurd (some_none (order_as opened at counted life) (sym (ap (λ x. order_by x None) opens) ∙ closes.none None))
-
-pub work_opened : (setup : Setup) (d : DeviceSetup) (addr id count : ℕ) (since : List Line) (state : EpochState)
-    (owed : Option OpenOrder) (opened counted at life : ℕ) →
-    row d (command.Pay addr id count) since state owed ≡ puts (record_of.Opened opened at counted life) →
-    (opened ≡ id) × (at ≡ addr) × (counted ≡ count)
-    × OpensWork setup addr id count since (record_of.Opened opened at counted life)
-work_opened setup d addr id count since state owed opened counted at life is =
-    opened_rows setup d addr id count since (record_of.Opened opened at counted life) (done since)
-    (judged_in (command.Pay addr id count) since state) (payment_in since owed) refl is opened counted at life refl
+pub work_put : (setup : Setup) (d : DeviceSetup) (c : Command) (since : List Line) (r : Record) →
+    UsesOwn r (address_of c) (rest d c since) →
+    freed_by setup r + reserved_by setup d (works c (put r ∷ since)) ≤ reserved_by setup d (works c since)
+work_put setup d c since (record_of.Opened id at count life) own =
+    let rows = rest d c since in
+    let split = reserved_split setup (address_of c) rows in
+    let frees : reserves_first setup (address_of c) rows ≡ coins_of setup at count =
+    opens_reserves setup (address_of c) id count rows own.1 ∙ ap (λ a. coins_of setup a count) own.0 in
+    let later = ap (reserved_for setup (address_of c)) (after_next (rows_of d c) (done (rows_of d c) since)) in
+    omega (arith, split, frees, later)
+work_put setup d c since (record_of.Sold id price) own = absurd own
+work_put setup d c since r own =
+    let fewer = work_line setup d c (put r) since in
+    omega (arith, fewer)
 
 -- what a command spends is reserved as its job begins
 abbrev pub spent_by : Setup → Command → ℕ
 spent_by setup c = money_in setup (tests_of c)
 
-pub work_taken : (setup : Setup) (c : Command) → reserved_by setup (works c []) ≡ spent_by setup c
-work_taken setup (command.Pay addr id count) = refl
-work_taken setup (command.Vend id price) = refl
-work_taken setup c = refl
+rows_spend : (setup : Setup) (d : DeviceSetup) (c : Command) →
+    reserved_for setup (address_of c) (rows_of d c) ≤ spent_by setup c
+rows_spend setup d (command.Ident addr) =
+    let none =
+    told_fact (λ rows. reserved_for setup addr rows ≡ 0) refl (λ q behind rows same. same) (ident_requests d.body) in
+    omega (arith, none)
+rows_spend setup d c = omega arith
+
+pub work_taken : (setup : Setup) (d : DeviceSetup) (c : Command) → reserved_by setup d (works c []) ≤ spent_by setup c
+work_taken setup d c =
+    subst (λ rows. reserved_for setup (address_of c) rows ≤ spent_by setup c) (sym (after_none (rows_of d c)))
+    (rows_spend setup d c)

@@ -1,6 +1,6 @@
 -- Every legal step, whatever the wire does, keeps the books: each record follows those before it, what is posted covers
 -- what is spoken for, and there is room for all records that are held.
-use Rattle.std.proofs.Common.{◌≡◌, ◌≢◌, ℕ, zero, suc, ◌+◌, ◌-◌, ◌≤◌, cond, List, [], ◌∷◌, ◌++◌, length, refl, ap, sym, subst, Some, None, All, inl, inr, arith}
+use Rattle.std.proofs.Common.{◌≡◌, ◌≢◌, ℕ, suc, ◌+◌, ◌-◌, ◌≤◌, cond, List, [], ◌∷◌, ◌++◌, length, refl, ap, sym, ◌∙◌, subst, Option, Some, None, All, inl, inr, arith}
 use Rattle.std.proofs.lemmas.Bool.{and_from, ne_eqb}
 use Rattle.cct_model.specs.terms.wire.TheConstants.{BROADCAST, HOST}
 use Rattle.cct_model.specs.terms.device.DeviceSetup.{DeviceSetup}
@@ -14,22 +14,23 @@ use Rattle.cct_model.specs.lines.entry.End.TheVariants.{Sold}
 use Rattle.cct_model.specs.lines.entry.Entry.{Entry}
 use Rattle.cct_model.specs.lines.entry.Entry.TheVariants as entry
 use Rattle.cct_model.specs.Setup.{IsSoundSetup}
+use Rattle.cct_model.specs.Exchange.{device_at}
 use Rattle.cct_model.specs.Line.{Line, put, crashed}
-use Rattle.cct_model.specs.Job.{job}
+use Rattle.cct_model.specs.Rows.{puts_in}
+use Rattle.cct_model.specs.Job.{job, address_of}
 use Rattle.cct_model.specs.Records.{records}
-use Rattle.cct_model.specs.Money.{totals, sum_over, posted_in, reserved_by, spoken_for}
-use Rattle.cct_model.specs.Refusal.{holds_at, sale_holds, held, refusal}
+use Rattle.cct_model.specs.Money.{totals, sum_over, posted_in, reserved_by_sale, spoken_for}
+use Rattle.cct_model.specs.Refusal.{holds_of, holds_at, sale_holds, held, need_for, refusal}
 use Rattle.cct_model.specs.Legal.{with_end, keeping_crash, LegalFrom}
 use Rattle.cct_model.specs.Script.{IsInRange}
 use Rattle.cct_model.specs.Transcript.{met, lines_of, sale_lines}
 use Rattle.cct_laws.specs.Ids.{Ids}
 use Rattle.cct_laws.specs.Law.{IsOf}
-use Rattle.cct_laws.specs.Recorded.{need_of}
+use Rattle.cct_laws.proofs.AllHeld.{holds_crashed, held_crashed, held_kept}
 use Rattle.cct_laws.proofs.AtWork.{spent_by}
 use Rattle.cct_laws.proofs.Brought.{wire_of, wire_end, record_end, poll_wire, poll_end, AtDevice, came, took, halted, idled, made_exchange, made_put, Selling, Due, from_job, from_sale, Brought, of_device, faulted, refused, began_scan, began_sale, nobody, polled, sold, balanced, lost_power, lost_in_put, lost_in_sale}
 use Rattle.cct_laws.proofs.Covered.{spoken_in, sold_spoken}
 use Rattle.cct_laws.proofs.Follow.{Follows, follows_by}
-use Rattle.cct_laws.proofs.Held.{holds_of, holds_crashed, held_crashed, held_kept}
 use Rattle.cct_laws.proofs.Ids.{ids_start, put_owned}
 use Rattle.cct_laws.proofs.Keeping.{works_at}
 use Rattle.cct_laws.proofs.Orders.{belongs_all}
@@ -42,7 +43,7 @@ use Rattle.cct_laws.proofs.Unmoved.{off_host, AreSame, same_lines, came_quiet, s
 use Rattle.cct_laws.proofs.Counting.{Counts, counts_moved, counts_sold, counts_same, counts_lost}
 use Rattle.cct_laws.proofs.Spending.{moves_taken, moves_halted, moves_asked, moves_put}
 use Rattle.cct_laws.proofs.Fitted.{Base, base_start, base_step, due_fits, scan_unsold}
-use Rattle.cct_laws.proofs.Freed.{affords, due_frees}
+use Rattle.cct_laws.proofs.Freed.{sale_reserves, affords, due_frees}
 
 -- the books: what the records and the sums over them keep, beside what running jobs need; the records and those that are
 -- held are no more than the capacity
@@ -66,23 +67,25 @@ as_is few many le = omega (arith, le)
 one_kept : (many later now capacity : ℕ) → suc later ≤ now → many + now ≤ capacity → suc many + later ≤ capacity
 one_kept many later now capacity le room = omega (arith, le, room)
 
--- a command that is taken has room for its records, and what it spends is available
-full_taken : (capacity : ℕ) (setup : Setup) (past : List Entry) (c : Command) →
-    refusal capacity setup past c ≡ None → Counts capacity setup past →
-    length (records past) + held setup past + need_of c ≤ capacity
-full_taken capacity setup past c lets counts = by_need (need_of c) refl
-  where
-    by_need : (n : ℕ) → need_of c ≡ n → length (records past) + held setup past + need_of c ≤ capacity
-    by_need zero is =
-        let room = counts.room in
-        unneeded (length (records past) + held setup past) (need_of c) is room
-      where
-        unneeded : (many need : ℕ) → need ≡ 0 → many ≤ capacity → many + need ≤ capacity
-        unneeded many need none le = omega (arith, none, le)
-    by_need (suc n) is = room_for capacity setup past c lets (needed (need_of c) n is)
-      where
-        needed : (need n : ℕ) → need ≡ suc n → 1 ≤ need
-        needed need n same = omega (arith, same)
+-- a command that is taken has room for its records, at a device and of a sale, and what it spends is available
+full_taken : (capacity : ℕ) (setup : Setup) (d : DeviceSetup) (past : List Entry) (c : Command) →
+    refusal capacity setup past c ≡ None → IsOf setup d → address_of c ≡ d.addr → Counts capacity setup past →
+    length (records past) + held setup past + need_for (Some d) c ≤ capacity
+full_taken capacity setup d past c lets own here counts =
+    subst (λ found. length (records past) + held setup past + need_for found c ≤ capacity)
+    (ap (device_at setup.devices) here ∙ own) (room_for capacity setup past c lets counts.room)
+
+sale_needs : (found : Option DeviceSetup) (id price : ℕ) → need_for found (command.Vend id price) ≡ 1
+sale_needs None id price = refl
+sale_needs (Some d) id price = refl
+
+full_sale : (capacity : ℕ) (setup : Setup) (past : List Entry) (id price : ℕ) →
+    refusal capacity setup past (command.Vend id price) ≡ None → Counts capacity setup past →
+    length (records past) + held setup past + 1 ≤ capacity
+full_sale capacity setup past id price lets counts =
+    subst (λ need. length (records past) + held setup past + need ≤ capacity)
+    (sale_needs (device_at setup.devices HOST) id price)
+    (room_for capacity setup past (command.Vend id price) lets counts.room)
 
 afford : (wanted all posted : ℕ) → wanted ≤ posted - all → all ≤ posted → all + wanted ≤ posted
 afford wanted all posted le covered = omega (arith, le, covered)
@@ -117,14 +120,15 @@ counts_there capacity setup d past _ _ sound ids own books (came s x m ls comes)
     ])
     (ap (λ front. job (front ++ sale_lines past)) is_quiet.no_sale) (is_quiet.no_record past) books.counts
 counts_there capacity setup d past _ _ sound ids own books (took c suited here is_free is_taken is_owed lets) =
-    counts_moved capacity setup d past (entry.Taken c ∷ past) (spent_by setup c) (need_of c) sound own books.counts
-    (paid_taken capacity setup past c lets books.counts) (full_taken capacity setup past c lets books.counts)
+    counts_moved capacity setup d past (entry.Taken c ∷ past) (spent_by setup c) (need_for (Some d) c) sound own
+    books.counts (paid_taken capacity setup past c lets books.counts)
+    (full_taken capacity setup d past c lets own here books.counts)
     (moves_taken capacity setup d past c sound ids own books.counts.follow suited here is_free is_owed
     (took c suited here is_free is_taken is_owed lets))
 counts_there capacity setup d past _ _ sound ids own books (halted paying can) =
     counts_moved capacity setup d past (entry.Taken (command.Halt d.addr) ∷ past) 0 0 sound own books.counts
     (as_is _ _ books.counts.covered) (as_is _ _ books.counts.room)
-    (moves_halted capacity setup d past sound ids own books.counts.follow can (halted paying can))
+    (moves_halted capacity setup d past sound ids own books.counts.follow (halted paying can))
 counts_there capacity setup d past _ _ sound ids own books (idled is_free) =
     counts_same capacity setup past (entry.Idle d.addr ∷ past) sound (λ e is_of. same_lines _ _ refl) refl refl
     books.counts
@@ -140,6 +144,11 @@ counts_there capacity setup d past _ _ sound ids own books (made_put c since r a
     (moves_put capacity setup d past c since r sound ids own books.counts.follow at_work is_row
     (due_follows capacity setup past r ids books (from_job d c since r own at_work is_row)))
 
+-- one record is held for a sale
+pub selling_holds : (past : List Entry) (id price : ℕ) (since : List Line) → Selling past id price since →
+    sale_holds (job (sale_lines past)) ≡ 1
+selling_holds past id price since selling = ap sale_holds selling.job_is ∙ ap puts_in selling.first
+
 -- the host loses its power with the record of a sale kept
 held_sale_kept : (setup : Setup) (past : List Entry) (n id price : ℕ) (since : List Line) → IsSoundSetup setup →
     Selling past id price since →
@@ -153,7 +162,7 @@ held_sale_kept setup past n id price since sound selling =
     subst (λ b. holds_of e (cond b (put (record_of.Sold id price) ∷ []) [] ++ crashed ∷ lines_of e past)
     ≤ holds_of e (lines_of e past))
     (sym (ne_eqb HOST e.addr (off_host setup e sound own))) (holds_crashed e (lines_of e past)))) in
-    let before : sale_holds (job (sale_lines past)) ≡ 1 = ap sale_holds selling.job_is in
+    let before = selling_holds past id price since selling in
     one_sold (sum_over (holds_at later) setup.devices) (sum_over (holds_at past) setup.devices)
     (sale_holds (job (sale_lines past))) devices before
   where
@@ -176,16 +185,16 @@ counts_step capacity setup past _ _ sound ids (began_scan is_free) books =
 counts_step capacity setup past _ _ sound ids (began_sale id price is_free lets) books =
     counts_sold capacity setup past (entry.Taken (command.Vend id price) ∷ past) price 1 sound
     (paid_taken capacity setup past (command.Vend id price) lets books.counts)
-    (full_taken capacity setup past (command.Vend id price) lets books.counts)
+    (full_sale capacity setup past id price lets books.counts)
     (record {
       devices = λ e own. same_taken e past (command.Vend id price) (off_host setup e sound own);
       follow = books.counts.follow;
-      spends = reserved_more (spoken_in setup (records past)) (reserved_by setup (job (sale_lines past)))
+      spends = reserved_more (spoken_in setup (records past)) (reserved_by_sale setup (job (sale_lines past)))
           (posted_in setup (records past));
       holds = held_more (length (records past)) (sale_holds (job (sale_lines past)));
     })
   where
-    reserved_more : (spoken now posted : ℕ) → spoken + price + posted ≤ spoken + now + price + posted
+    reserved_more : (spoken now posted : ℕ) → spoken + (price + 0) + posted ≤ spoken + now + price + posted
     reserved_more spoken now posted = omega arith
 
     held_more : (many now : ℕ) → many + 1 ≤ many + now + 1
@@ -203,8 +212,8 @@ counts_step capacity setup past _ _ sound ids (polled c since check addr none is
 counts_step capacity setup past _ _ sound ids (sold id price since none selling) books =
     let r = record_of.Sold id price in
     let later = entry.Ended HOST Sold ∷ entry.Put r ∷ past in
-    let reserves : reserved_by setup (job (sale_lines past)) ≡ price = ap (reserved_by setup) selling.job_is in
-    let one : sale_holds (job (sale_lines past)) ≡ 1 = ap sale_holds selling.job_is in
+    let reserves = sale_reserves setup past id price since selling in
+    let one = selling_holds past id price since selling in
     counts_sold capacity setup past later 0 0 sound (as_is _ _ books.counts.covered) (as_is _ _ books.counts.room)
     (record {
       devices = λ e own.
@@ -213,7 +222,7 @@ counts_step capacity setup past _ _ sound ids (sold id price since none selling)
       follow = and_from _ _ (due_follows capacity setup past r ids books (from_sale id price since none selling))
           books.counts.follow;
       spends = sold_spends (spoken_in setup (records past)) (spoken_in setup (r ∷ records past))
-          (reserved_by setup (job (sale_lines past))) (posted_in setup (records past))
+          (reserved_by_sale setup (job (sale_lines past))) (posted_in setup (records past))
           (sold_spoken setup (records past) id price)
           reserves;
       holds = sold_holds (length (records past)) (sale_holds (job (sale_lines past))) one;

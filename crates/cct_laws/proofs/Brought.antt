@@ -33,8 +33,8 @@ use Rattle.cct_model.specs.Hopper.{remaining}
 use Rattle.cct_model.specs.Exchange.{ask, asked, asks_of, device_at}
 use Rattle.cct_model.specs.Line.{Line, accepted, inhibited, alien, fell, reset, exchange, scanned, put, taken, ended, crashed}
 use Rattle.cct_model.specs.Order.{order}
-use Rattle.cct_model.specs.Job.{Job, free, works, job, begun, with_line, done, epoch, Row, sends, puts, no_row, address_of, payment_in}
-use Rattle.cct_model.specs.Rows.{row, row_of_sale, end_of, first, end_of_sale, end_kept, after, rows_of_sale, can_halt}
+use Rattle.cct_model.specs.Job.{Job, free, works, job, begun, with_line, epoch, Row, sends, puts, no_row, address_of, payment_in}
+use Rattle.cct_model.specs.Rows.{TableRow, row, row_of_sale, left_of_sale, end_of, first, end_of_sale, end_kept, after, done, rows_of_sale, can_halt}
 use Rattle.cct_model.specs.Money.{totals}
 use Rattle.cct_model.specs.Scan.{scan_row, end_of_scan, poll_of}
 use Rattle.cct_model.specs.Refusal.{unless, is_busy, epoch_refusal, value_refusal, start_refusal, order_refusal, state_fails, view_of, lines_for, last_id, refusal, state_tests}
@@ -119,7 +119,7 @@ pub data AtDevice (capacity : ℕ) (setup : Setup) (d : DeviceSetup) (past : Lis
 -- a sale is about to put its record
 pub record Selling (past : List Entry) (id price : ℕ) (since : List Line) : Type 0 where
   pub job_is : job (sale_lines past) ≡ works (command.Vend id price) since
-  pub first : done since ≡ 0
+  pub first : left_of_sale (command.Vend id price) since ≡ rows_of_sale (command.Vend id price)
 
 -- a record is due: a job at a device of the setup is about to put it, or a sale is
 pub data Due (setup : Setup) (past : List Entry) : Record → Type 0 where
@@ -465,30 +465,45 @@ scan_brought capacity setup past news (works c since) none is told =
     poll_brought capacity setup past news c since (scan_row since) none is refl told
 
 -- a sale has one row, its put
-sale_puts : (c : Command) (since : List Line) (r : Record) → row_of_sale c since ≡ puts r →
-    (id : ℕ) × (price : ℕ) × (c ≡ command.Vend id price) × (done since ≡ 0) × (r ≡ record_of.Sold id price)
-sale_puts (command.Vend id price) since r is = by_rows (done since) is
+abbrev PutsSale : Command → List Line → Record → Type 0
+PutsSale c since r =
+    (id : ℕ) × (price : ℕ) × (c ≡ command.Vend id price) × (left_of_sale c since ≡ rows_of_sale c)
+    × (r ≡ record_of.Sold id price)
+
+sale_puts : (c : Command) (since : List Line) (r : Record) → row_of_sale c since ≡ puts r → PutsSale c since r
+sale_puts (command.Vend id price) since r is = by_rows (done (rows_of_sale (command.Vend id price)) since) is
   where
-    by_rows : (rows : ℕ) → first HOST Nothing (payment_in since None) (after (rows_of_sale (command.Vend id price)) rows) ≡ puts r →
-        (i : ℕ) × (p : ℕ) × (command.Vend id price ≡ command.Vend i p) × (rows ≡ 0) × (r ≡ record_of.Sold i p)
+    rows : List TableRow
+    rows = rows_of_sale (command.Vend id price)
+
+    by_rows : (n : ℕ) → first HOST Nothing (payment_in since None) (after rows n) ≡ puts r →
+        (i : ℕ) × (p : ℕ) × (command.Vend id price ≡ command.Vend i p) × (after rows n ≡ rows)
+        × (r ≡ record_of.Sold i p)
     by_rows zero is = (id, price, refl, refl, cc)
-    by_rows (suc rows) is = absurd cc
+    by_rows (suc n) is = absurd cc
 sale_puts c since r is = absurd cc
 
+sells_now : (past : List Entry) (c : Command) (since : List Line) (r : Record) → job (sale_lines past) ≡ works c since →
+    (made : PutsSale c since r) → Selling past made.0 made.1 since
+sells_now past c since r is made = record {
+  job_is = is ∙ ap (λ x. works x since) made.2;
+  first = subst (λ x. left_of_sale x since ≡ rows_of_sale x) made.2 made.3;
+}
+
 -- it ends the sale
-sale_ends : (id price : ℕ) (since : List Line) (r : Record) → done since ≡ 0 →
+sale_ends : (id price : ℕ) (since : List Line) (r : Record) →
+    left_of_sale (command.Vend id price) since ≡ rows_of_sale (command.Vend id price) →
     end_of_sale (command.Vend id price) r since ≡ Some Sold
-sale_ends id price since r none = ap (λ n. end_kept (after (rows_of_sale (command.Vend id price)) n) r) none
+sale_ends id price since r left_is = ap (λ rows. end_kept rows r) left_is
 
 sale_row_brought : (capacity : ℕ) (setup : Setup) (past news : List Entry) (c : Command) (since : List Line) (r : Row) →
     device_at setup.devices HOST ≡ None → job (sale_lines past) ≡ works c since → row_of_sale c since ≡ r →
     SaleRowEntries c since r news → Brought capacity setup past (step.Next HOST) news
 sale_row_brought capacity setup past news c since (puts r) none is row_is told =
     let made = sale_puts c since r row_is in
-    let selling : Selling past made.0 made.1 since =
-    record { job_is = is ∙ ap (λ x. works x since) made.2; first = made.3 } in
+    let selling = sells_now past c since r is made in
     let ends : end_of_sale c r since ≡ Some Sold =
-    ap (λ x. end_of_sale x r since) made.2 ∙ sale_ends made.0 made.1 since r made.3 in
+    ap (λ x. end_of_sale x r since) made.2 ∙ sale_ends made.0 made.1 since r selling.first in
     subst (Brought capacity setup past (step.Next HOST))
     (sym (told ∙ ap (with_end HOST (entry.Put r)) ends ∙ ap (λ x. with_end HOST (entry.Put x) (Some Sold)) made.4))
     (sold made.0 made.1 since none selling)
@@ -548,8 +563,7 @@ sale_due : (setup : Setup) (past : List Entry) (r : Record) (at_work : Job) → 
 sale_due setup past r free none is due = absurd cc
 sale_due setup past r (works c since) none is due =
     let made = sale_puts c since r (due_row r _ due) in
-    let selling : Selling past made.0 made.1 since =
-    record { job_is = is ∙ ap (λ x. works x since) made.2; first = made.3 } in
+    let selling = sells_now past c since r is made in
     subst (Due setup past) (sym made.4) (from_sale made.0 made.1 since none selling)
 
 bare_due : (setup : Setup) (past : List Entry) (addr : ℕ) (r : Record) (sells : Bool) → (addr == HOST) ≡ sells →

@@ -25,7 +25,7 @@ use Rattle.cct_laws.proofs.Seen.{each_aside, each_with_end, loose, Lost, bare, k
 
 -- a record that the device's job puts
 put_caused : (d : DeviceSetup) (past : List Entry) (c : Command) (since : List Line) (r : Record) → IsAcceptor d.body →
-    IsRanged d (job (lines_of d past)) → AtWork d past c since → row_after d past c since ≡ puts r → HoldsAt d Masks past →
+    IsRanged d (job (lines_of d past)) → AtWork d past c since → row_after d past c since ≡ puts r → HoldsAt d (Masks d) past →
     HasCause d past r
 put_caused d past c since (record_of.Broken addr seen counter posted) accepting ranged at_work is_row masks =
     λ here. masks_break d (since_epoch d past) (met d past) (lines_of d past) c since addr seen counter posted
@@ -34,7 +34,7 @@ put_caused d past c since (record_of.Broken addr seen counter posted) accepting 
 put_caused d past c since r accepting ranged at_work is_row masks = tt
 
 causes_there : (capacity : ℕ) (setup : Setup) (d : DeviceSetup) (past news : List Entry) (s : Step) →
-    IsAcceptor d.body → IsRanged d (job (lines_of d past)) → AtDevice capacity setup d past s news → HoldsAt d Masks past →
+    IsAcceptor d.body → IsRanged d (job (lines_of d past)) → AtDevice capacity setup d past s news → HoldsAt d (Masks d) past →
     HaveCauses d past → HaveCauses d (news ++ past)
 causes_there capacity setup d past _ _ accepting ranged (came s e m ls comes) masks before =
     ((loose d (met d past) s e m ls comes).no_break d past, before)
@@ -57,7 +57,7 @@ cause_behind d past records (record_of.Broken addr seen counter posted) caused =
 cause_behind d past records r caused = tt
 
 causes_lost : (d : DeviceSetup) (past news : List Entry) → IsAcceptor d.body → IsRanged d (job (lines_of d past)) →
-    Lost d past news → HoldsAt d Masks past → HaveCauses d past → HaveCauses d (news ++ past)
+    Lost d past news → HoldsAt d (Masks d) past → HaveCauses d past → HaveCauses d (news ++ past)
 causes_lost d past _ accepting ranged bare masks before = (tt, before)
 causes_lost d past _ accepting ranged (kept_here c since r at_work is_row owned) masks before =
     (cause_behind d past (suc (length (records past))) r (put_caused d past c since r accepting ranged at_work is_row masks), (tt, before))
@@ -66,7 +66,7 @@ causes_lost d past _ accepting ranged (kept_elsewhere r away caused) masks befor
 
 pub causes_go_on : (capacity : ℕ) (setup : Setup) (d : DeviceSetup) (past news : List Entry) (s : Step) →
     IsSoundSetup setup → IsOf setup d → IsAcceptor d.body → IsRanged d (job (lines_of d past)) → Ids setup past →
-    Brought capacity setup past s news → HoldsAt d Masks past → HaveCauses d past → HaveCauses d (news ++ past)
+    Brought capacity setup past s news → HoldsAt d (Masks d) past → HaveCauses d past → HaveCauses d (news ++ past)
 causes_go_on capacity setup d past news s sound own accepting ranged ids told masks before =
     elim (seen_from capacity setup d past news s sound own ids told) [
       | seen_here at ↦ causes_there capacity setup d past news s accepting ranged at masks before

@@ -24,8 +24,8 @@ use Rattle.cct_model.specs.Reply.{Reply}
 use Rattle.cct_model.specs.History.{Met}
 use Rattle.cct_model.specs.Hopper.{taken_of}
 use Rattle.cct_model.specs.Honest.{Honest}
-use Rattle.cct_model.specs.Job.{Payment, payment_in, judged_in, done, epoch, puts, ident_requests, address_of}
-use Rattle.cct_model.specs.Rows.{row, end_of, Due, new_order, rows_of, order_end}
+use Rattle.cct_model.specs.Job.{Payment, payment_in, judged_in, epoch, puts, ident_requests, address_of}
+use Rattle.cct_model.specs.Rows.{row, end_of, done, Due, new_order, rows_of, order_end}
 use Rattle.cct_model.specs.Legal.{Legal}
 use Rattle.cct_model.specs.Line.{Line, exchange, put, crashed}
 use Rattle.cct_model.specs.Order.{order, close, life_between}
@@ -97,7 +97,7 @@ puts_of_order d c work state owed r suited is_row =
     let only : puts_only is_order_due (rows_of d c) ≡ true =
     sym (ap (λ b. cond b (puts_only is_order_due (rows_of d c)) true) suited) ∙ hopper_dues d c in
     subst (RowHolds (λ q. ⊤) IsOfOrder) is_row
-    (each_put IsOfOrder is_order_due d c (done work) judged p only (due_of_order (address_of c) judged p))
+    (each_put IsOfOrder is_order_due d c (done (rows_of d c) work) judged p only (due_of_order (address_of c) judged p))
 
 -- and end in no clean end
 coinless_ended : (lines : List Line) (end : Option End) → IfOther end → Coinless lines → Coinless (with_ended end lines)

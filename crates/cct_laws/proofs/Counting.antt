@@ -7,15 +7,15 @@ use Rattle.cct_model.specs.lines.entry.Entry.{Entry}
 use Rattle.cct_model.specs.Setup.{IsSoundSetup}
 use Rattle.cct_model.specs.Job.{job}
 use Rattle.cct_model.specs.Records.{records}
-use Rattle.cct_model.specs.Money.{sum_over, posted_in, reserved_by, reserved_at_work, spoken_for}
-use Rattle.cct_model.specs.Refusal.{holds_at, sale_holds, held}
+use Rattle.cct_model.specs.Money.{sum_over, posted_in, reserved_by, reserved_by_sale, reserved_at_work, spoken_for}
+use Rattle.cct_model.specs.Refusal.{holds_of, holds_at, sale_holds, held}
 use Rattle.cct_model.specs.Following.{all_follow}
 use Rattle.cct_model.specs.Transcript.{lines_of, sale_lines}
 use Rattle.cct_laws.specs.Law.{IsOf}
 use Rattle.cct_laws.specs.Recorded.{HasNoJob}
+use Rattle.cct_laws.proofs.AllHeld.{holds_same, held_moved}
 use Rattle.cct_laws.proofs.AtWork.{spoken_both, at_work_moved}
 use Rattle.cct_laws.proofs.Covered.{covered_all, spoken_in}
-use Rattle.cct_laws.proofs.Held.{holds_of, holds_same, held_moved}
 use Rattle.cct_laws.proofs.Recorded.{nothing_at_work}
 use Rattle.cct_laws.proofs.Sums.{sum_same_each, all_found}
 use Rattle.cct_laws.proofs.Unmoved.{AreSame}
@@ -33,8 +33,8 @@ pub record Moves (setup : Setup) (d : DeviceSetup) (past later : List Entry) (sp
   pub sale : job (sale_lines later) ≡ job (sale_lines past)
   pub follow : all_follow setup (records later) ≡ true
   pub spends :
-      spoken_in setup (records later) + reserved_by setup (job (lines_of d later)) + posted_in setup (records past)
-      ≤ spoken_in setup (records past) + reserved_by setup (job (lines_of d past)) + spent
+      spoken_in setup (records later) + reserved_by setup d (job (lines_of d later)) + posted_in setup (records past)
+      ≤ spoken_in setup (records past) + reserved_by setup d (job (lines_of d past)) + spent
       + posted_in setup (records later)
   pub holds :
       length (records later) + holds_of d (lines_of d later)
@@ -66,12 +66,12 @@ counts_moved capacity setup d past later spent need sound own counts covered ful
   covered =
       covered_moved (spoken_for setup past) (spoken_for setup later) (spoken_in setup (records past))
       (spoken_in setup (records later)) (reserved_at_work setup past)
-      (reserved_at_work setup later) (reserved_by setup (job (lines_of d past)))
-      (reserved_by setup (job (lines_of d later)))
+      (reserved_at_work setup later) (reserved_by setup d (job (lines_of d past)))
+      (reserved_by setup d (job (lines_of d later)))
       (posted_in setup (records past)) (posted_in setup (records later)) spent (spoken_both setup past)
       (spoken_both setup later)
       (at_work_moved setup d past later sound.distinct own
-      (λ e other. le_of_eq (ap (reserved_by setup) (apart e other).jobs)) (le_of_eq (ap (reserved_by setup) m.sale)))
+      (λ e other. le_of_eq (ap (reserved_by setup e) (apart e other).jobs)) (le_of_eq (ap (reserved_by_sale setup) m.sale)))
       m.spends covered;
   room =
       room_moved (length (records past)) (length (records later)) (held setup past) (held setup later)
@@ -91,8 +91,8 @@ pub record Sells (setup : Setup) (past later : List Entry) (spent need : ℕ) : 
   pub devices : (e : DeviceSetup) → IsOf setup e → AreSame (lines_of e later) (lines_of e past)
   pub follow : all_follow setup (records later) ≡ true
   pub spends :
-      spoken_in setup (records later) + reserved_by setup (job (sale_lines later)) + posted_in setup (records past)
-      ≤ spoken_in setup (records past) + reserved_by setup (job (sale_lines past)) + spent
+      spoken_in setup (records later) + reserved_by_sale setup (job (sale_lines later)) + posted_in setup (records past)
+      ≤ spoken_in setup (records past) + reserved_by_sale setup (job (sale_lines past)) + spent
       + posted_in setup (records later)
   pub holds :
       length (records later) + sale_holds (job (sale_lines later))
@@ -107,10 +107,10 @@ counts_sold capacity setup past later spent need sound covered full s = record {
   covered =
       covered_moved (spoken_for setup past) (spoken_for setup later) (spoken_in setup (records past))
       (spoken_in setup (records later)) (reserved_at_work setup past)
-      (reserved_at_work setup later) (reserved_by setup (job (sale_lines past)))
-      (reserved_by setup (job (sale_lines later))) (posted_in setup (records past)) (posted_in setup (records later))
+      (reserved_at_work setup later) (reserved_by_sale setup (job (sale_lines past)))
+      (reserved_by_sale setup (job (sale_lines later))) (posted_in setup (records past)) (posted_in setup (records later))
       spent (spoken_both setup past) (spoken_both setup later)
-      (same_apart _ _ (reserved_by setup (job (sale_lines past))) (reserved_by setup (job (sale_lines later))) work)
+      (same_apart _ _ (reserved_by_sale setup (job (sale_lines past))) (reserved_by_sale setup (job (sale_lines later))) work)
       s.spends covered;
   room =
       room_moved (length (records past)) (length (records later)) (held setup past) (held setup later)
@@ -118,13 +118,13 @@ counts_sold capacity setup past later spent need sound covered full s = record {
       (same_apart _ _ (sale_holds (job (sale_lines past))) (sale_holds (job (sale_lines later))) many) s.holds full;
 }
   where
-    work : sum_over (λ e. reserved_by setup (job (lines_of e later))) setup.devices
-        ≡ sum_over (λ e. reserved_by setup (job (lines_of e past))) setup.devices
+    work : sum_over (λ e. reserved_by setup e (job (lines_of e later))) setup.devices
+        ≡ sum_over (λ e. reserved_by setup e (job (lines_of e past))) setup.devices
     work =
-        sum_same_each (λ e. reserved_by setup (job (lines_of e later)))
-        (λ e. reserved_by setup (job (lines_of e past))) setup.devices
-        (all_found (λ e. reserved_by setup (job (lines_of e later)) ≡ reserved_by setup (job (lines_of e past)))
-        setup.devices sound.distinct (λ e own. ap (reserved_by setup) (s.devices e own).jobs))
+        sum_same_each (λ e. reserved_by setup e (job (lines_of e later)))
+        (λ e. reserved_by setup e (job (lines_of e past))) setup.devices
+        (all_found (λ e. reserved_by setup e (job (lines_of e later)) ≡ reserved_by setup e (job (lines_of e past)))
+        setup.devices sound.distinct (λ e own. ap (reserved_by setup e) (s.devices e own).jobs))
 
     many : sum_over (holds_at later) setup.devices ≡ sum_over (holds_at past) setup.devices
     many =
@@ -149,9 +149,9 @@ counts_same capacity setup past later sound same sale same_records counts =
       follow = ap (all_follow setup) same_records ∙ counts.follow;
       spends =
           unspent (spoken_in setup (records past)) (spoken_in setup (records later))
-          (reserved_by setup (job (sale_lines past))) (reserved_by setup (job (sale_lines later)))
+          (reserved_by_sale setup (job (sale_lines past))) (reserved_by_sale setup (job (sale_lines later)))
           (posted_in setup (records past)) (posted_in setup (records later))
-          (ap (spoken_in setup) same_records) (ap (reserved_by setup) sale) (ap (posted_in setup) same_records);
+          (ap (spoken_in setup) same_records) (ap (reserved_by_sale setup) sale) (ap (posted_in setup) same_records);
       holds =
           unheld (length (records past)) (length (records later)) (sale_holds (job (sale_lines past)))
           (sale_holds (job (sale_lines later))) (ap length same_records) (ap sale_holds sale);

@@ -13,10 +13,12 @@ use Rattle.cct_model.specs.declared.judging.EpochState.TheVariants.{Idle, Runnin
 use Rattle.cct_model.specs.lines.command.Command.{Command}
 use Rattle.cct_model.specs.lines.command.Command.TheVariants as command
 use Rattle.cct_model.specs.Line.{Line}
-use Rattle.cct_model.specs.Job.{Job, free, works, done, epoch, credits_read, judged_in}
+use Rattle.cct_model.specs.Job.{Job, free, works, epoch, credits_read, judged_in}
 use Rattle.cct_model.specs.Reading.{distance, posted_of}
 use Rattle.cct_model.specs.Claims.{coins, arrivals, reading, looking, mark, base, fewer, AreNewest, IsNear}
 use Rattle.cct_laws.proofs.World.{World, Shut, Silent, IsLive, Tracks, On, mask_at, tracks_on, closed}
+use Rattle.cct_model.specs.Rows.{done, rows_of}
+use Rattle.cct_model.specs.terms.device.DeviceSetup.{DeviceSetup}
 
 -- what the lines tell that no piece changes: the mark, the base and the epoch, the coins and the number of pieces before
 -- the last reading, and the coins before the last look at the mask
@@ -160,9 +162,9 @@ FitsFor w b (command.Stop addr) rows credits judged = FitsStop w b rows credits 
 FitsFor w b c rows credits judged = ⊤
 
 -- what a job needs
-abbrev pub Fits : World → Book → Job → Type 0
-Fits w b free = ⊤
-Fits w b (works c since) = FitsFor w b c (done since) (credits_read since) (judged_in c since b.epoch)
+abbrev pub Fits : DeviceSetup → World → Book → Job → Type 0
+Fits d w b free = ⊤
+Fits d w b (works c since) = FitsFor w b c (done (rows_of d c) since) (credits_read since) (judged_in c since b.epoch)
 
 -- a move of the acceptor keeps it all
 
@@ -250,6 +252,6 @@ for_on w v b (command.Round addr) rows credits judged on fits = round_on w v b r
 for_on w v b (command.Stop addr) rows credits judged on fits = stop_on w v b rows credits judged on fits
 for_on w v b c rows credits judged on fits = tt
 
-pub fits_on : (w v : World) (b : Book) (at_work : Job) → On w v → Fits w b at_work → Fits v b at_work
-fits_on w v b free on fits = tt
-fits_on w v b (works c since) on fits = for_on w v b c (done since) (credits_read since) (judged_in c since b.epoch) on fits
+pub fits_on : (d : DeviceSetup) (w v : World) (b : Book) (at_work : Job) → On w v → Fits d w b at_work → Fits d v b at_work
+fits_on d w v b free on fits = tt
+fits_on d w v b (works c since) on fits = for_on w v b c (done (rows_of d c) since) (credits_read since) (judged_in c since b.epoch) on fits

@@ -1,10 +1,11 @@
 -- What a row of a job at a device puts fits the records before it, where the job has what it needs, and follows them
 -- where its money is available.
-use Rattle.std.proofs.Common.{◌≡◌, ℕ, zero, suc, ◌+◌, ◌-◌, ◌≤◌, ◌==◌, ◌&&◌, not, nat_le, Bool, true, false, cond, List, [], ◌∷◌, refl, ap, sym, ◌∙◌, subst, Option, Some, None, is_none, arith, le-leb, eq-eqb, leb-true}
+use Rattle.std.proofs.Common.{◌≡◌, ℕ, ◌+◌, ◌-◌, ◌≤◌, ◌==◌, ◌&&◌, not, nat_le, Bool, true, false, cond, List, [], ◌∷◌, refl, ap, sym, ◌∙◌, subst, Option, Some, None, is_none, arith, rules, le-leb, eq-eqb, leb-true}
 use Rattle.std.specs.Prelude.{⊤}
 use Rattle.std.specs.List.{list_any}
 use Rattle.std.specs.Option.{option_map}
 use Rattle.std.proofs.lemmas.Bool.{and_from, or_parts, ne_eqb, not_from_false}
+use Rattle.cct_model.specs.terms.coin.Credits.{Credits}
 use Rattle.cct_model.specs.terms.device.DeviceBody.{DeviceBody}
 use Rattle.cct_model.specs.terms.device.DeviceBody.TheVariants.{Acceptor, Hopper}
 use Rattle.cct_model.specs.terms.device.DeviceSetup.{DeviceSetup}
@@ -21,19 +22,18 @@ use Rattle.cct_model.specs.Device.{is_acceptor, is_hopper}
 use Rattle.cct_model.specs.Exchange.{device_at, acceptor_there, hopper_there}
 use Rattle.cct_model.specs.Line.{Line}
 use Rattle.cct_model.specs.Order.{close, life_between}
-use Rattle.cct_model.specs.Job.{puts, done, address_of, credits_read, mask_read, judged_in, payment_in, Payment, ident_requests}
-use Rattle.cct_model.specs.Rows.{row, row_at, settling, new_order}
+use Rattle.cct_model.specs.Job.{puts, address_of, credits_read, mask_read, judged_by, judged_in, payment_in, Payment, ident_requests}
+use Rattle.cct_model.specs.Rows.{Then, Due, new_epoch, reading, epoch_end, new_order, order_end, sale, TableRow, asks_for, asks_once, waits_for_coins, puts_due, rows_of, from, rest, first, row}
 use Rattle.cct_model.specs.Records.{is_open, epoch_in, order_in}
 use Rattle.cct_model.specs.Money.{coins_of, available_in}
 use Rattle.cct_model.specs.Refusal.{valueless, start_refusal, running_refusal}
 use Rattle.cct_model.specs.Following.{is_running, has_values, count_of, follows}
 use Rattle.cct_model.specs.Paid.{uses}
 use Rattle.cct_model.specs.Script.{IsCommand}
+use Rattle.cct_laws.specs.Ids.{waiting_in}
 use Rattle.cct_laws.specs.Kept.{suits}
-use Rattle.cct_laws.proofs.Held.{same_record}
 use Rattle.cct_laws.proofs.Orders.{Belongs}
-use Rattle.cct_model.proofs.Rows.{Puts, RowHolds, JudgedHolds, judged_holds, each_due, EachRow, each_put, puts_none, told_only, due_holds}
-use Rattle.cct_model.specs.declared.judging.Judged.{Judged}
+use Rattle.cct_model.proofs.Rows.{RowHolds, DueHolds, JudgedHolds, judged_holds, EachRow, each_from, each_left, each_told, fact_from, state_holds, due_holds}
 
 -- a record fits those before it: it follows them, but for the money that the coins of an order and the price of a sale
 -- take
@@ -67,19 +67,34 @@ follows_by setup before (record_of.Sold id price) fit affords =
     and_from _ _ fit (le-leb price (available_in setup before) affords)
 follows_by setup before r fit affords = fit
 
--- what a job at a device needs after so many rows, up to the last one that puts by it: a start no epoch and a value for
--- each place of its mask, a round and a stop a running epoch, and a payment no open order
-abbrev pub NeedsOf : DeviceSetup → Command → ℕ → EpochState → Option OpenOrder → Type 0
-NeedsOf d (command.Start addr mask) rows state owed = rows ≤ 2 → start_refusal mask d state ≡ None
-NeedsOf d (command.Round addr) rows state owed = rows ≤ 2 → is_running state ≡ true
-NeedsOf d (command.Stop addr) rows state owed = rows ≤ 4 → is_running state ≡ true
-NeedsOf d (command.Pay addr id count) rows state owed = rows ≤ 2 → owed ≡ None
-NeedsOf d c rows state owed = ⊤
+-- what a record that is still to be put needs: that an epoch begins, that none runs and that each place of its mask has a
+-- value; a reading and the end of an epoch, that one runs; that an order is opened, that none is open
+abbrev pub DueNeeds : DeviceSetup → EpochState → Option OpenOrder → Due → Type 0
+DueNeeds d state owed (new_epoch mask) = start_refusal mask d state ≡ None
+DueNeeds d state owed reading = is_running state ≡ true
+DueNeeds d state owed epoch_end = is_running state ≡ true
+DueNeeds d state owed (new_order id count) = owed ≡ None
+DueNeeds d state owed due = ⊤
 
--- and of the records: no order of a payment's id is open
-abbrev pub NewOf : List Record → Command → ℕ → Type 0
-NewOf before (command.Pay addr id count) rows = rows ≤ 2 → is_open id before ≡ false
-NewOf before c rows = ⊤
+-- a fact of what a row of the table puts
+abbrev pub IfPuts : (Due → Type 0) → TableRow → Type 0
+IfPuts P (puts_due due behind) = P due
+IfPuts P r = ⊤
+
+-- what the rows that a job has ahead need
+abbrev pub NeedsOf : DeviceSetup → List TableRow → EpochState → Option OpenOrder → Type 0
+NeedsOf d rows state owed = EachRow (IfPuts (DueNeeds d state owed)) rows
+
+-- and of the records: no order of the id that they are yet to record is open
+abbrev pub NewOf : List Record → List TableRow → Type 0
+NewOf before rows = (id : ℕ) → waiting_in rows ≡ Some id → is_open id before ≡ false
+
+-- what is put is in its range, and for the kind of the device
+abbrev IsRanged : DeviceSetup → Due → Type 0
+IsRanged d (new_epoch mask) = (is_acceptor d.body ≡ true) × (1 ≤ mask)
+IsRanged d (new_order id count) = (is_hopper d.body ≡ true) × (1 ≤ id) × (1 ≤ count)
+IsRanged d (sale id price) = ⊥
+IsRanged d due = ⊤
 
 -- the device at an address, whose epoch and open order the records tell
 pub record Stands (setup : Setup) (before : List Record) (d : DeviceSetup) (addr : ℕ) (state : EpochState)
@@ -186,115 +201,66 @@ closes setup before addr o life belongs is =
         and_from _ _ own.is_open (eq-eqb _ _ (all ∙ sym (ap count_of own.named)))
     by_test false test = (belongs.owned addr o is).is_open
 
-settles : (setup : Setup) (before : List Record) (d : DeviceSetup) (addr at_addr : ℕ) (state : EpochState)
-    (judged : Judged) (p : Payment) → Stands setup before d addr state p.owed →
-    EachRow (Puts (Fits setup before) at_addr judged p) settling
-settles setup before d addr at_addr state judged p at =
-    (tt, (tt, ((λ o life owed read. closes setup before addr o life at.belongs (at.order_is ∙ owed)), tt)))
+-- a reading and a break
+judged_fits : (setup : Setup) (before : List Record) (addr : ℕ) (state : EpochState) (credits : Option Credits)
+    (seen : Option ℕ) → is_running (epoch_in addr before) ≡ true →
+    JudgedHolds (Fits setup before) (judged_by addr state credits seen)
+judged_fits setup before addr state credits seen runs =
+    judged_holds (Fits setup before) addr state credits seen (λ counter lost posted. runs) (λ mask counter posted. runs)
 
--- a reading, a break and the end of an epoch
-judged_fits : (setup : Setup) (before : List Record) (addr : ℕ) (state : EpochState) (since : List Line) →
-    is_running (epoch_in addr before) ≡ true →
-    JudgedHolds (Fits setup before) (judged_in (command.Round addr) since state)
-judged_fits setup before addr state since runs =
-    judged_holds (Fits setup before) addr state (credits_read since) (mask_read since) (λ counter lost posted. runs)
-    (λ mask counter posted. runs)
+-- the rows of a command put what is in its range
+ranged_rows : (d : DeviceSetup) (c : Command) → IsCommand c → suits d.body c ≡ true →
+    EachRow (IfPuts (IsRanged d)) (rows_of d c)
+ranged_rows d (command.Start addr mask) range suited =
+    let kind = start_kind d.body addr mask suited in search rules
+ranged_rows d (command.Pay addr id count) range suited =
+    let kind = pay_kind d.body addr id count suited in search rules
+ranged_rows d (command.Ident addr) range suited =
+    each_told (IfPuts (IsRanged d)) (λ q. tt) (λ q. tt) (ident_requests d.body)
+ranged_rows d c range suited = search rules
 
--- a fact of the record that a row puts
-put_by : (Q : Record → Type 0) (d : DeviceSetup) (c : Command) (since : List Line) (state : EpochState)
-    (owed : Option OpenOrder) (r : Record) → row d c since state owed ≡ puts r →
-    RowHolds (λ q. ⊤) Q (row d c since state owed) → Q r
-put_by Q d c since state owed r is holds = subst (RowHolds (λ q. ⊤) Q) is holds
+-- what is put fits, where it is in its range and has what it needs
+due_fits : (setup : Setup) (before : List Record) (d : DeviceSetup) (addr : ℕ) (state : EpochState)
+    (credits : Option Credits) (seen : Option ℕ) (p : Payment) (behind : Then) (rows : List TableRow) (due : Due) →
+    Stands setup before d addr state p.owed → IsRanged d due → DueNeeds d state p.owed due →
+    NewOf before (puts_due due behind ∷ rows) →
+    DueHolds (Fits setup before) addr (judged_by addr state credits seen) p due
+due_fits setup before d addr state credits seen p behind rows (new_epoch mask) at range needs new =
+    begins setup before d addr mask state p.owed at range.0 range.1 needs
+due_fits setup before d addr state credits seen p behind rows reading at range needs new =
+    judged_fits setup before addr state credits seen (ap is_running at.epoch_is ∙ needs)
+due_fits setup before d addr state credits seen p behind rows epoch_end at range needs new =
+    ap is_running at.epoch_is ∙ needs
+due_fits setup before d addr state credits seen p behind rows (new_order id count) at range needs new = λ life read.
+    opens setup before d addr id count life state p.owed at range.0 range.1 range.2 needs (new id refl)
+due_fits setup before d addr state credits seen p behind rows order_end at range needs new = λ o life owed read.
+    closes setup before addr o life at.belongs (at.order_is ∙ owed)
+due_fits setup before d addr state credits seen p behind rows (sale id price) at range needs new = absurd range
 
-start_fits : (setup : Setup) (before : List Record) (d : DeviceSetup) (addr mask rows : ℕ) (judged : Judged)
-    (p : Payment) (r : Record) → (rows ≤ 2 → Fits setup before (record_of.Epoch addr mask)) →
-    row_at d (command.Start addr mask) rows judged p ≡ puts r →
-    Fits setup before r
-start_fits setup before d addr mask zero judged p r begun is = absurd cc
-start_fits setup before d addr mask (suc zero) judged p r begun is = absurd cc
-start_fits setup before d addr mask (suc (suc zero)) judged p r begun is =
-    subst (Fits setup before) (same_record (record_of.Epoch addr mask) r is) (begun (omega arith))
-start_fits setup before d addr mask (suc (suc (suc zero))) judged p r begun is = absurd cc
-start_fits setup before d addr mask (suc (suc (suc (suc rows)))) judged p r begun is = absurd cc
-
--- a round puts after two rows, a stop after three or four, and a payment opens its order after two
-round_early : (d : DeviceSetup) (addr : ℕ) (since : List Line) (state : EpochState) (owed : Option OpenOrder)
-    (r : Record) → row d (command.Round addr) since state owed ≡ puts r → done since ≤ 2
-round_early d addr since state owed r is = by_rows (done since) is
-  where
-    by_rows : (rows : ℕ) → row_at d (command.Round addr) rows (judged_in (command.Round addr) since state) (payment_in since owed) ≡ puts r → rows ≤ 2
-    by_rows zero same = omega arith
-    by_rows (suc zero) same = omega arith
-    by_rows (suc (suc zero)) same = omega arith
-    by_rows (suc (suc (suc rows))) same = absurd cc
-
-pub stop_early : (d : DeviceSetup) (addr : ℕ) (since : List Line) (state : EpochState) (owed : Option OpenOrder)
-    (r : Record) → row d (command.Stop addr) since state owed ≡ puts r → done since ≤ 4
-stop_early d addr since state owed r is = by_rows (done since) is
-  where
-    by_rows : (rows : ℕ) → row_at d (command.Stop addr) rows (judged_in (command.Stop addr) since state) (payment_in since owed) ≡ puts r → rows ≤ 4
-    by_rows zero same = omega arith
-    by_rows (suc zero) same = omega arith
-    by_rows (suc (suc zero)) same = omega arith
-    by_rows (suc (suc (suc zero))) same = omega arith
-    by_rows (suc (suc (suc (suc zero)))) same = omega arith
-    by_rows (suc (suc (suc (suc (suc rows))))) same = absurd cc
-
-pay_fits : (setup : Setup) (before : List Record) (d : DeviceSetup) (addr id count rows : ℕ) (judged : Judged)
-    (p : Payment) (r : Record) →
-    (rows ≤ 2 → (life : ℕ) → Fits setup before (record_of.Opened id addr count life)) →
-    EachRow (Puts (Fits setup before) addr judged p) settling →
-    row_at d (command.Pay addr id count) rows judged p ≡ puts r → Fits setup before r
-pay_fits setup before d addr id count zero judged p r opened settled is = absurd cc
-pay_fits setup before d addr id count (suc zero) judged p r opened settled is = absurd cc
-pay_fits setup before d addr id count (suc (suc zero)) judged p r opened settled is =
-    subst (RowHolds (λ q. ⊤) (Fits setup before)) is
-    (due_holds (λ q. ⊤) (Fits setup before) addr judged p (new_order id count) (λ life read. opened (omega arith) life))
-pay_fits setup before d addr id count (suc (suc (suc zero))) judged p r opened settled is = absurd cc
-pay_fits setup before d addr id count (suc (suc (suc (suc rows)))) judged p r opened settled is =
-    subst (RowHolds (λ q. ⊤) (Fits setup before)) is
-    (each_due (Fits setup before) d (command.Settle addr) rows judged p settled)
+first_fits : (setup : Setup) (before : List Record) (d : DeviceSetup) (addr : ℕ) (state : EpochState)
+    (credits : Option Credits) (seen : Option ℕ) (p : Payment) (rows : List TableRow) →
+    Stands setup before d addr state p.owed → EachRow (IfPuts (IsRanged d)) rows → NeedsOf d rows state p.owed →
+    NewOf before rows → RowHolds (λ q. ⊤) (Fits setup before) (first addr (judged_by addr state credits seen) p rows)
+first_fits setup before d addr state credits seen p [] at range needs new = tt
+first_fits setup before d addr state credits seen p (asks_for q behind ∷ rows) at range needs new = tt
+first_fits setup before d addr state credits seen p (asks_once q behind without ∷ rows) at range needs new = tt
+first_fits setup before d addr state credits seen p (waits_for_coins ∷ rows) at range needs new =
+    state_holds (λ q. ⊤) (Fits setup before) p.is_marked tt tt
+first_fits setup before d addr state credits seen p (puts_due due behind ∷ rows) at range needs new =
+    due_holds (λ q. ⊤) (Fits setup before) addr (judged_by addr state credits seen) p due
+    (due_fits setup before d addr state credits seen p behind rows due at range.0 needs.0 new)
 
 -- what any job at a device puts fits
 pub row_fits : (setup : Setup) (before : List Record) (d : DeviceSetup) (c : Command) (since : List Line)
     (state : EpochState) (owed : Option OpenOrder) (r : Record) →
     Stands setup before d (address_of c) state owed → IsCommand c → suits d.body c ≡ true →
-    NeedsOf d c (done since) state owed → NewOf before c (done since) → row d c since state owed ≡ puts r →
+    NeedsOf d (rest d c since) state owed → NewOf before (rest d c since) → row d c since state owed ≡ puts r →
     Fits setup before r
-row_fits setup before d (command.Start addr mask) since state owed r at range suited needs new is =
-    start_fits setup before d addr mask (done since) (judged_in (command.Start addr mask) since state)
-    (payment_in since owed) r
-    (λ few. begins setup before d addr mask state owed at (start_kind d.body addr mask suited) range (needs few)) is
-row_fits setup before d (command.Round addr) since state owed r at range suited needs new is =
-    let runs = ap is_running at.epoch_is ∙ needs (round_early d addr since state owed r is) in
-    put_by (Fits setup before) d (command.Round addr) since state owed r is
-    (each_due (Fits setup before) d (command.Round addr) (done since)
-    (judged_in (command.Round addr) since state) (payment_in since owed)
-    (tt, (tt, (judged_fits setup before addr state since runs, tt))))
-row_fits setup before d (command.Stop addr) since state owed r at range suited needs new is =
-    let runs = ap is_running at.epoch_is ∙ needs (stop_early d addr since state owed r is) in
-    put_by (Fits setup before) d (command.Stop addr) since state owed r is
-    (each_due (Fits setup before) d (command.Stop addr) (done since)
-    (judged_in (command.Stop addr) since state) (payment_in since owed)
-    (tt, (tt, (tt, (judged_fits setup before addr state since runs, (runs, tt))))))
-row_fits setup before d (command.Pay addr id count) since state owed r at range suited needs new is =
-    let judged = judged_in (command.Pay addr id count) since state in
-    pay_fits setup before d addr id count (done since) judged (payment_in since owed) r
-    (λ few life.
-    opens setup before d addr id count life state owed at (pay_kind d.body addr id count suited) range.0 range.1
-    (needs few) (new few))
-    (settles setup before d addr addr state judged (payment_in since owed) at) is
-row_fits setup before d (command.Settle addr) since state owed r at range suited needs new is =
-    let judged = judged_in (command.Settle addr) since state in
-    put_by (Fits setup before) d (command.Settle addr) since state owed r is
-    (each_due (Fits setup before) d (command.Settle addr) (done since) judged (payment_in since owed)
-    (settles setup before d addr addr state judged (payment_in since owed) at))
-row_fits setup before d (command.Ident addr) since state owed r at range suited needs new is =
-    put_by (Fits setup before) d (command.Ident addr) since state owed r is
-    (each_put (Fits setup before) puts_none d (command.Ident addr) (done since)
-    (judged_in (command.Ident addr) since state) (payment_in since owed)
-    (told_only puts_none (ident_requests d.body)) (λ due none. absurd cc))
 row_fits setup before d c since state owed r at range suited needs new is =
-    put_by (Fits setup before) d c since state owed r is
-    (each_put (Fits setup before) puts_none d c (done since) (judged_in c since state) (payment_in since owed) refl
-    (λ due none. absurd cc))
+    let rows = rest d c since in
+    let means = judged_in c since state in
+    subst (RowHolds (λ q. ⊤) (Fits setup before)) is
+    (first_fits setup before d (address_of c) state (credits_read since) (mask_read since) (payment_in since owed)
+    (from rows means) at (each_left (IfPuts (IsRanged d)) d c since state (ranged_rows d c range suited))
+    (each_from (IfPuts (DueNeeds d state owed)) rows means needs)
+    (fact_from (NewOf before) (λ behind later fact. fact) rows means new))

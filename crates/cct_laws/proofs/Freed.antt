@@ -1,62 +1,59 @@
 -- What running jobs reserve no more once a record that is due is put: until then they reserve it, so it is available
 -- beside the records, and beside what the other jobs reserve.
-use Rattle.std.proofs.Common.{ap₂, ◌≡◌, ℕ, ◌+◌, ◌-◌, ◌≤◌, true, List, refl, ap, sym, ◌∙◌, arith, le-leb}
+use Rattle.std.proofs.Common.{◌≡◌, ℕ, ◌+◌, ◌-◌, ◌≤◌, true, List, ◌∷◌, refl, ap, ◌∙◌, arith, le-leb}
+use Rattle.cct_model.specs.terms.wire.TheConstants.{HOST}
 use Rattle.std.proofs.lemmas.Bool.{and_from}
 use Rattle.cct_model.specs.terms.device.DeviceSetup.{DeviceSetup}
 use Rattle.cct_model.specs.terms.device.Setup.{Setup}
 use Rattle.cct_model.specs.lines.record.Record.{Record}
 use Rattle.cct_model.specs.lines.record.Record.TheVariants as record_of
 use Rattle.cct_model.specs.lines.command.Command.{Command}
-use Rattle.cct_model.specs.lines.command.Command.TheVariants as command
 use Rattle.cct_model.specs.lines.entry.Entry.{Entry}
-use Rattle.cct_model.specs.Line.{Line}
-use Rattle.cct_model.specs.Order.{order}
-use Rattle.cct_model.specs.Job.{works, job, done, epoch, puts}
+use Rattle.cct_model.specs.Line.{Line, put}
+use Rattle.cct_model.specs.Job.{works, job, address_of}
+use Rattle.cct_model.specs.Rows.{rest}
 use Rattle.cct_model.specs.Records.{records}
-use Rattle.cct_model.specs.Money.{sum_over, coins_of, posted_in, reserved_in, paid_in, sold_in, reserved_by, reserved_at_work, freed_by, spoken_for}
+use Rattle.cct_model.specs.Money.{sum_over, coins_of, posted_in, reserved_in, paid_in, sold_in, reserved_for, reserved_by, reserved_by_sale, reserved_at_work, freed_by, spoken_for}
 use Rattle.cct_model.specs.Following.{is_allowed}
 use Rattle.cct_model.specs.Transcript.{lines_of, sale_lines}
 use Rattle.cct_laws.specs.Law.{IsOf}
-use Rattle.cct_laws.proofs.AtWork.{spoken_both, work_opened}
-use Rattle.cct_laws.proofs.Brought.{row_after, Selling, Due, from_job, from_sale}
+use Rattle.cct_laws.proofs.AtWork.{spoken_both, work_put}
+use Rattle.cct_laws.proofs.Brought.{Selling, Due, from_job, from_sale}
 use Rattle.cct_laws.proofs.Covered.{spoken_in}
 use Rattle.cct_laws.proofs.Follow.{Follows, IsAffordable}
 use Rattle.cct_laws.proofs.Opening.{UsesOwn}
 use Rattle.cct_laws.proofs.Sums.{sum_holds}
 use Rattle.cct_laws.proofs.Unmoved.{row_uses}
 
--- what the job at a device reserves is among what all jobs do
-there_reserves : (setup : Setup) (d : DeviceSetup) (past : List Entry) (wanted : ℕ) → IsOf setup d →
-    reserved_by setup (job (lines_of d past)) ≡ wanted → wanted ≤ reserved_at_work setup past
-there_reserves setup d past wanted own reserves =
-    within (sum_over (λ e. reserved_by setup (job (lines_of e past))) setup.devices)
-    (reserved_by setup (job (lines_of d past))) (reserved_by setup (job (sale_lines past))) reserves
-    (sum_holds (λ e. reserved_by setup (job (lines_of e past))) setup.devices d d.addr own)
-  where
-    within : (devices here sale : ℕ) → here ≡ wanted → here ≤ devices → wanted ≤ devices + sale
-    within devices here sale same le = omega (arith, same, le)
-
--- what the job at a device is about to put: the order that a payment opens frees its coins
+-- what the job at a device is about to put: the order that it opens frees its coins
 put_frees : (setup : Setup) (d : DeviceSetup) (past : List Entry) (c : Command) (since : List Line) (r : Record) →
-    IsOf setup d → job (lines_of d past) ≡ works c since → row_after d past c since ≡ puts r →
-    UsesOwn r c (done since) → freed_by setup r ≤ reserved_at_work setup past
-put_frees setup d past (command.Pay addr id count) since (record_of.Opened opened at counted life) own is row_is
-    uses_own =
-    let opens =
-    work_opened setup d addr id count since (epoch (lines_of d past)) (order (lines_of d past)) opened counted at life
-    row_is in
-    there_reserves setup d past (coins_of setup at counted) own
-    (ap (reserved_by setup) is ∙ opens.3.reserved_before ∙ sym (ap₂ (coins_of setup) opens.1 opens.2))
-put_frees setup d past c since (record_of.Opened opened at counted life) own is row_is uses_own = absurd uses_own
-put_frees setup d past c since (record_of.Sold id price) own is row_is uses_own = absurd uses_own
-put_frees setup d past c since r own is row_is uses_own = omega arith
+    IsOf setup d → job (lines_of d past) ≡ works c since → UsesOwn r (address_of c) (rest d c since) →
+    freed_by setup r ≤ reserved_at_work setup past
+put_frees setup d past c since r own is uses_own =
+    within (freed_by setup r) (reserved_by setup d (works c (put r ∷ since))) (reserved_by setup d (works c since))
+    (reserved_by setup d (job (lines_of d past)))
+    (sum_over (λ e. reserved_by setup e (job (lines_of e past))) setup.devices)
+    (reserved_by_sale setup (job (sale_lines past))) (work_put setup d c since r uses_own) (ap (reserved_by setup d) is)
+    (sum_holds (λ e. reserved_by setup e (job (lines_of e past))) setup.devices d d.addr own)
+  where
+    within : (freed later now here devices sale : ℕ) → freed + later ≤ now → here ≡ now → here ≤ devices →
+        freed ≤ devices + sale
+    within freed later now here devices sale frees same le = omega (arith, frees, same, le)
 
 -- and a sale its price
+pub sale_reserves : (setup : Setup) (past : List Entry) (id price : ℕ) (since : List Line) →
+    Selling past id price since → reserved_by_sale setup (job (sale_lines past)) ≡ price
+sale_reserves setup past id price since selling =
+    just _ (ap (reserved_by_sale setup) selling.job_is ∙ ap (reserved_for setup HOST) selling.first)
+  where
+    just : (much : ℕ) → much ≡ price + 0 → much ≡ price
+    just much is = omega (arith, is)
+
 sale_frees : (setup : Setup) (past : List Entry) (id price : ℕ) (since : List Line) → Selling past id price since →
     price ≤ reserved_at_work setup past
 sale_frees setup past id price since selling =
-    within (sum_over (λ e. reserved_by setup (job (lines_of e past))) setup.devices)
-    (reserved_by setup (job (sale_lines past))) (ap (reserved_by setup) selling.job_is)
+    within (sum_over (λ e. reserved_by setup e (job (lines_of e past))) setup.devices)
+    (reserved_by_sale setup (job (sale_lines past))) (sale_reserves setup past id price since selling)
   where
     within : (devices here : ℕ) → here ≡ price → price ≤ devices + here
     within devices here same = omega (arith, same)
@@ -64,7 +61,7 @@ sale_frees setup past id price since selling =
 pub due_frees : (setup : Setup) (past : List Entry) (r : Record) → Due setup past r →
     freed_by setup r ≤ reserved_at_work setup past
 due_frees setup past _ (from_job d c since r own at_work is_row) =
-    put_frees setup d past c since r own at_work.job_is is_row (row_uses d past c since r is_row)
+    put_frees setup d past c since r own at_work.job_is (row_uses d past c since r is_row)
 due_frees setup past _ (from_sale id price since none selling) = sale_frees setup past id price since selling
 
 -- over plain numbers

@@ -1,41 +1,30 @@
--- How many records are held, after one line more: a put brings fewer to come, and nothing else but a command more.
-use Rattle.std.specs.Prelude.{⊤}
-use Rattle.std.proofs.Common.{◌≡◌, ◌≢◌, ℕ, zero, suc, ◌+◌, ◌-◌, ◌≤◌, ◌<◌, ◌==◌, nat_lt, nat_le, Bool, true, false, cond, List, [], ◌∷◌, ◌++◌, refl, ap, ap₂, sym, ◌∙◌, subst, Option, Some, None, arith, le_of_eq, zero-add, true≢false, ltb-true, ltb-false, eq-eqb}
-use Rattle.std.proofs.lemmas.Bool.{ne_eqb}
+-- How many records the rows of a job hold, after one line more: a put leaves one less, an exchange and a halt no more, and
+-- a command brings no more than it wants room for.
+use Rattle.std.proofs.Common.{◌≡◌, ◌≢◌, ℕ, suc, ◌+◌, ◌-◌, ◌≤◌, ◌==◌, nat_le, Bool, true, false, cond, List, [], ◌∷◌, ◌++◌, refl, ap, sym, ◌∙◌, subst, Option, Some, None, arith, rules}
+use Rattle.std.specs.Prelude.{⊤, is_some}
 use Rattle.cct_model.specs.terms.coin.TheConstants.{EVENTS}
 use Rattle.cct_model.specs.terms.coin.Credits.{Credits}
 use Rattle.cct_model.specs.terms.device.DeviceSetup.{DeviceSetup}
-use Rattle.cct_model.specs.terms.device.Setup.{Setup}
 use Rattle.cct_model.specs.terms.request.Request.{Request}
 use Rattle.cct_model.specs.lines.record.Record.{Record}
 use Rattle.cct_model.specs.lines.record.Record.TheVariants as record_of
 use Rattle.cct_model.specs.lines.command.Command.{Command}
 use Rattle.cct_model.specs.lines.command.Command.TheVariants as command
-use Rattle.cct_model.specs.lines.entry.End.{End}
-use Rattle.cct_model.specs.lines.entry.Entry.{Entry}
-use Rattle.cct_model.specs.lines.entry.Entry.TheVariants as entry
 use Rattle.cct_model.specs.declared.judging.Judged.{Judged}
 use Rattle.cct_model.specs.declared.judging.Judged.TheVariants.{Nothing, Reading, Broken}
 use Rattle.cct_model.specs.declared.judging.EpochState.{EpochState}
 use Rattle.cct_model.specs.declared.judging.EpochState.TheVariants.{Running}
 use Rattle.cct_model.specs.declared.judging.OpenOrder.{OpenOrder}
 use Rattle.cct_model.specs.Reply.{Reply}
-use Rattle.cct_model.specs.Setup.{AreDistinct}
-use Rattle.cct_model.specs.Line.{Line, exchange, put, taken, ended, crashed}
-use Rattle.cct_model.specs.Order.{order_by, order, life_between, close}
+use Rattle.cct_model.specs.Line.{Line, exchange, put, taken}
+use Rattle.cct_model.specs.Order.{order_by, life_between, close}
 use Rattle.cct_model.specs.Reading.{judge, shows_break, distance, posted_of}
-use Rattle.cct_model.specs.Job.{Job, free, works, with_line, job, done, ends_row, Row, sends, puts, no_row, put_or, open_row, close_row, Payment, puts_at, end_of_close, judged_by, judged_in, payment_in, credits_read, mask_read, address_of, epoch_by, epoch, ident_requests}
-use Rattle.cct_model.specs.Rows.{row_at, row, end_kept, end_of, if_posted, after, puts_due, TableRow, rows_of, reading, epoch_end, ends_as, can_halt}
-use Rattle.cct_model.specs.Refusal.{job_holds, order_holds, holds_at, sale_holds, held}
-use Rattle.cct_model.specs.Transcript.{owner, lines_of, sale_lines}
-use Rattle.cct_laws.specs.Kept.{with_ended}
+use Rattle.cct_model.specs.Job.{Job, free, works, with_line, sends, puts, no_row, put_or, close_row, Payment, end_of_close, judged_by, judged_in, payment_in, credits_read, mask_read, address_of, epoch_by, ident_requests}
+use Rattle.cct_model.specs.Rows.{Then, ends_as, Due, new_epoch, reading, epoch_end, new_order, order_end, sale, TableRow, asks_for, asks_once, waits_for_coins, puts_due, rows_of, rows_of_sale, from, done, rest, left, first, due_row, row, end_kept, end_of, puts_in, has_closes, closes_order, need_in}
+use Rattle.cct_model.specs.Refusal.{job_holds, order_holds, need_for}
+use Rattle.cct_model.proofs.Rows.{but_first, after_none, after_next, after_line, fact_after, fact_from, EachBefore, before_on, told_fact}
+use Rattle.cct_model.proofs.Tries.{due_sends, left_asks}
 use Rattle.cct_laws.specs.KeptHopper.{IsOwed}
-use Rattle.cct_laws.specs.Law.{IsOf}
-use Rattle.cct_laws.specs.Recorded.{need_of}
-use Rattle.cct_laws.proofs.Sums.{sum_grows, sum_moved}
-use Rattle.cct_laws.proofs.Recorded.{restart_frees}
-use Rattle.cct_model.proofs.Rows.{stop_at, round_at, RowHolds, each_put, puts_none, told_only, waits_before, told_no_waits}
-use Rattle.cct_model.specs.lines.entry.End.TheVariants.{Posted, Stopped}
 
 -- what a reading was judged to be is a reading or a break
 abbrev pub IsReading : Judged → Type 0
@@ -65,113 +54,12 @@ pub judged_reads : (addr : ℕ) (state : EpochState) (credits : Option Credits) 
 judged_reads addr (Running mask counter) (Some c) (Some seen) = judge_reads addr mask counter c seen
 judged_reads addr state credits seen = tt
 
--- what is held, over plain values
-
--- for a job, beside the epoch and the open order
-abbrev pub holds_with : DeviceSetup → Job → EpochState → Option OpenOrder → ℕ
-holds_with d free state owed = order_holds free owed
-holds_with d (works c since) state owed =
-    puts_at c (done since) (row d c since state owed) + order_holds (works c since) owed
-
--- for the lines of a device
-abbrev pub holds_of : DeviceSetup → List Line → ℕ
-holds_of d lines = job_holds d lines (job lines) + order_holds (job lines) (order lines)
-
-holds_by : (d : DeviceSetup) (lines : List Line) (j : Job) →
-    job_holds d lines j + order_holds j (order lines) ≡ holds_with d j (epoch lines) (order lines)
-holds_by d lines free = zero-add (order_holds free (order lines))
-holds_by d lines (works c since) = refl
-
-pub holds_as : (d : DeviceSetup) (lines : List Line) (j : Job) → job lines ≡ j →
-    holds_of d lines ≡ holds_with d j (epoch lines) (order lines)
-holds_as d lines j is =
-    ap (λ x. job_holds d lines x + order_holds x (order lines)) is ∙ holds_by d lines j
-
--- which line of a job is newest changes nothing that is held for its order
-order_same : (c : Command) (one other : List Line) (owed : Option OpenOrder) →
-    order_holds (works c one) owed ≡ order_holds (works c other) owed
-order_same c one other None = refl
-order_same (command.Pay addr id count) one other (Some o) = refl
-order_same (command.Settle addr) one other (Some o) = refl
-order_same c one other (Some o) = refl
-
-pay_holds_none : (addr id count : ℕ) (since : List Line) (owed : Option OpenOrder) →
-    order_holds (works (command.Pay addr id count) since) owed ≡ 0
-pay_holds_none addr id count since None = refl
-pay_holds_none addr id count since (Some o) = refl
-
--- a payment may always put the record that closes its order
-pay_puts : (addr id count rows : ℕ) (next : Row) → 1 ≤ puts_at (command.Pay addr id count) rows next
-pay_puts addr id count rows next = by_rows (nat_lt rows 3)
-  where
-    by_rows : (few : Bool) → 1 ≤ cond few 2 1
-    by_rows true = omega arith
-    by_rows false = omega arith
-
--- without its job a device holds no more
-pub free_least : (d : DeviceSetup) (c : Command) (since : List Line) (state : EpochState) (owed : Option OpenOrder) →
-    order_holds free owed ≤ holds_with d (works c since) state owed
-free_least d c since state None = omega arith
-free_least d (command.Pay addr id count) since state (Some o) =
-    let one = pay_puts addr id count (done since) (row d (command.Pay addr id count) since state (Some o)) in
-    omega arith
-free_least d (command.Settle addr) since state (Some o) = omega arith
-free_least d c since state (Some o) = omega arith
-
--- an exchange brings no more to come
-
-pub done_grows : (asked : Option Request) (got : Option Reply) (since : List Line) →
-    done since ≤ done (exchange asked got ∷ since)
-done_grows asked got since = by_end (ends_row asked got)
-  where
-    by_end : (ends : Bool) → done since ≤ cond ends (suc (done since)) (done since)
-    by_end true = omega arith
-    by_end false = omega arith
-
-later_fewer : (few many low high : ℕ) → few ≤ many → low ≤ high →
-    cond (nat_lt many 3) high low ≤ cond (nat_lt few 3) high low
-later_fewer few many low high le holds = by_tests (nat_lt few 3) (nat_lt many 3) refl refl
-  where
-    by_tests : (first second : Bool) → nat_lt few 3 ≡ first → nat_lt many 3 ≡ second →
-        cond second high low ≤ cond first high low
-    by_tests true true one other = omega arith
-    by_tests true false one other = omega arith
-    by_tests false false one other = omega arith
-    by_tests false true one other =
-        let small : many < 3 = ltb-true many 3 other in
-        let large : 3 ≤ few = ltb-false few 3 one in
-        absurd (omega arith)
-
-stop_most : (addr rows : ℕ) (next : Row) → puts_at (command.Stop addr) rows next ≤ 2
-stop_most addr rows (puts (record_of.EpochEnd at)) = omega arith
-stop_most addr rows (puts r) = omega arith
-stop_most addr rows next = omega arith
-
-puts_fewer : (c : Command) (few many : ℕ) (before after : Row) (q : Request) → few ≤ many → before ≡ sends q →
-    puts_at c many after ≤ puts_at c few before
-puts_fewer (command.Start addr mask) few many before after q le is = later_fewer few many 0 1 le (omega arith)
-puts_fewer (command.Pay addr id count) few many before after q le is = later_fewer few many 1 2 le (omega arith)
-puts_fewer (command.Stop addr) few many before after q le is =
-    subst (λ r. puts_at (command.Stop addr) many after ≤ puts_at (command.Stop addr) few r) (sym is)
-    (stop_most addr many after)
-puts_fewer c few many before after q le is = omega arith
-
-pub asked_no_more : (d : DeviceSetup) (c : Command) (since : List Line) (state : EpochState) (owed : Option OpenOrder)
-    (q : Request) (got : Option Reply) → row d c since state owed ≡ sends q →
-    holds_with d (works c (exchange (Some q) got ∷ since)) state owed ≤ holds_with d (works c since) state owed
-asked_no_more d c since state owed q got is =
-    let fewer =
-    puts_fewer c (done since) (done (exchange (Some q) got ∷ since)) (row d c since state owed)
-    (row d c (exchange (Some q) got ∷ since) state owed) q (done_grows (Some q) got since) is in
-    let same = order_same c (exchange (Some q) got ∷ since) since owed in
-    omega arith
-
--- what a row puts
+-- what the record that a row puts does to the open order
 
 pub same_record : (r s : Record) → puts r ≡ puts s → r ≡ s
 same_record r s e = cc
 
--- a record that was judged opens and closes no order
+-- it opens and closes none
 abbrev pub LeavesOrders : Record → Type 0
 LeavesOrders r = (owed : Option OpenOrder) → order_by r owed ≡ owed
 
@@ -184,34 +72,23 @@ judged_leaves (Broken (record_of.Broken addr seen counter posted)) r reads is =
     subst LeavesOrders (same_record (record_of.Broken addr seen counter posted) r is) (λ owed. refl)
 judged_leaves (Broken other) r reads is = absurd reads
 
-end_leaves : (addr : ℕ) (r : Record) → puts (record_of.EpochEnd addr) ≡ puts r → LeavesOrders r
-end_leaves addr r is = subst LeavesOrders (same_record (record_of.EpochEnd addr) r is) (λ owed. refl)
+abbrev leaves_orders : Due → Bool
+leaves_orders (new_order id count) = false
+leaves_orders order_end = false
+leaves_orders due = true
 
-stop_leaves : (addr : ℕ) (judged : Judged) (r : Record) → IsReading judged →
-    put_or (puts (record_of.EpochEnd addr)) judged ≡ puts r → LeavesOrders r
-stop_leaves addr Nothing r reads is = end_leaves addr r is
-stop_leaves addr (Reading entry) r reads is = judged_leaves (Reading entry) r reads is
-stop_leaves addr (Broken entry) r reads is = judged_leaves (Broken entry) r reads is
+due_leaves : (addr : ℕ) (means : Judged) (p : Payment) (due : Due) (r : Record) → IsReading means →
+    leaves_orders due ≡ true → due_row addr means p due ≡ puts r → LeavesOrders r
+due_leaves addr means p (new_epoch mask) r reads leaves is =
+    subst LeavesOrders (same_record (record_of.Epoch addr mask) r is) (λ owed. refl)
+due_leaves addr means p reading r reads leaves is = judged_leaves means r reads is
+due_leaves addr means p epoch_end r reads leaves is =
+    subst LeavesOrders (same_record (record_of.EpochEnd addr) r is) (λ owed. refl)
+due_leaves addr means p (sale id price) r reads leaves is =
+    subst LeavesOrders (same_record (record_of.Sold id price) r is) (λ owed. refl)
+due_leaves addr means p due r reads leaves is = absurd cc
 
-stop_row_leaves : (d : DeviceSetup) (addr rows : ℕ) (judged : Judged) (p : Payment) (r : Record) → IsReading judged →
-    row_at d (command.Stop addr) rows judged p ≡ puts r →
-    LeavesOrders r
-stop_row_leaves d addr zero judged p r reads is = absurd cc
-stop_row_leaves d addr (suc zero) judged p r reads is = absurd cc
-stop_row_leaves d addr (suc (suc zero)) judged p r reads is = absurd cc
-stop_row_leaves d addr (suc (suc (suc zero))) judged p r reads is = stop_leaves addr judged r reads (sym (stop_at d addr judged p) ∙ is)
-stop_row_leaves d addr (suc (suc (suc (suc zero)))) judged p r reads is = end_leaves addr r is
-stop_row_leaves d addr (suc (suc (suc (suc (suc rows))))) judged p r reads is = absurd cc
-
-round_row_leaves : (d : DeviceSetup) (addr rows : ℕ) (judged : Judged) (p : Payment) (r : Record) →
-    IsReading judged → row_at d (command.Round addr) rows judged p ≡ puts r →
-    LeavesOrders r
-round_row_leaves d addr zero judged p r reads is = absurd cc
-round_row_leaves d addr (suc zero) judged p r reads is = absurd cc
-round_row_leaves d addr (suc (suc zero)) judged p r reads is = judged_leaves judged r reads (sym (round_at d addr judged p) ∙ is)
-round_row_leaves d addr (suc (suc (suc rows))) judged p r reads is = absurd cc
-
--- a record that closes an order leaves none open, and ends its job
+-- it closes an order: it leaves none open, and ends its job
 pub record ClosesOrder (r : Record) : Type 0 where
   pub none : (owed : Option OpenOrder) → order_by r owed ≡ None
   pub ends : end_of_close r ≢ None
@@ -232,458 +109,258 @@ close_row_closes None life r is = absurd cc
 close_row_closes (Some o) None r is = absurd cc
 close_row_closes (Some o) (Some life) r is = subst ClosesOrder (same_record (close o life) r is) (close_closes o life)
 
-pub settle_row_closes : (d : DeviceSetup) (addr rows : ℕ) (judged : Judged) (p : Payment) (r : Record) →
-    row_at d (command.Settle addr) rows judged p ≡ puts r → ClosesOrder r
-settle_row_closes d addr zero judged p r is = absurd cc
-settle_row_closes d addr (suc zero) judged p r is = absurd cc
-settle_row_closes d addr (suc (suc zero)) judged p r is = close_row_closes p.owed p.life r is
-settle_row_closes d addr (suc (suc (suc rows))) judged p r is = absurd cc
+-- what stands after the rows of the table
 
-settle_row_ends : (d : DeviceSetup) (addr rows : ℕ) (judged : Judged) (p : Payment) (r : Record) →
-    row_at d (command.Settle addr) rows judged p ≡ puts r →
-    end_kept (after (rows_of d (command.Settle addr)) rows) r ≢ None
-settle_row_ends d addr zero judged p r is none = absurd cc
-settle_row_ends d addr (suc zero) judged p r is none = absurd cc
-settle_row_ends d addr (suc (suc zero)) judged p r is none =
-    (close_row_closes p.owed p.life r is).ends none
-settle_row_ends d addr (suc (suc (suc rows))) judged p r is none = absurd cc
+-- a row that ends the epoch and its job, or none
+abbrev EndsNext : List TableRow → Type 0
+EndsNext [] = ⊤
+EndsNext (puts_due epoch_end (ends_as end) ∷ rows) = ⊤
+EndsNext rows = ⊥
 
-opens_one : (addr id count : ℕ) (life : Option ℕ) (r : Record) → open_row addr id count life ≡ puts r →
-    (end_of_close r ≡ None) × ((owed : Option OpenOrder) → order_holds free (order_by r owed) ≤ 1)
-opens_one addr id count None r is = absurd cc
-opens_one addr id count (Some life) r is =
-    subst (λ x. (end_of_close x ≡ None) × ((owed : Option OpenOrder) → order_holds free (order_by x owed) ≤ 1))
-    (same_record (record_of.Opened id addr count life) r is) (refl, λ owed. omega arith)
+-- after one that opens an order stands one that closes it, after that none that puts, and after one that may be passed over
+-- one that ends its job
+abbrev HoldsWell : TableRow → List TableRow → Type 0
+HoldsWell (puts_due (new_order id count) behind) rows = has_closes rows ≡ true
+HoldsWell (puts_due order_end behind) rows = puts_in rows ≡ 0
+HoldsWell (puts_due reading behind) rows = EndsNext rows
+HoldsWell r rows = ⊤
+
+abbrev pub HoldWell : List TableRow → Type 0
+HoldWell rows = EachBefore HoldsWell rows
+
+rows_well : (d : DeviceSetup) (c : Command) → HoldWell (rows_of d c)
+rows_well d (command.Ident addr) = told_fact HoldWell tt (λ q behind rows each. (tt, each)) (ident_requests d.body)
+rows_well d c = search rules
+
+pub rest_well : (d : DeviceSetup) (c : Command) (since : List Line) → HoldWell (rest d c since)
+rest_well d c since = fact_after HoldWell (before_on HoldsWell) (rows_of d c) _ (rows_well d c)
+
+-- the record of the row after one that was passed over ends its job
+pub passed_ends : (addr : ℕ) (p : Payment) (behind : Then) (rows : List TableRow) (r : Record) → EndsNext rows →
+    first addr Nothing p rows ≡ puts r → end_kept (puts_due reading behind ∷ rows) r ≡ None → ⊥
+passed_ends addr p behind [] r ends is none = cc
+passed_ends addr p behind (puts_due epoch_end (ends_as end) ∷ rows) r ends is none =
+    let over : end_kept (puts_due reading behind ∷ puts_due epoch_end (ends_as end) ∷ rows) (record_of.EpochEnd addr) ≡ None =
+    ap (end_kept (puts_due reading behind ∷ puts_due epoch_end (ends_as end) ∷ rows))
+    (same_record (record_of.EpochEnd addr) r is) ∙ none in
+    cc
+passed_ends addr p behind rows r ends is none = ends
+
+-- how many records rows hold: those that they put, and one for an open order that none of them closes
+abbrev held_by : List TableRow → Option OpenOrder → ℕ
+held_by rows owed = puts_in rows + order_holds (has_closes rows) owed
+
+-- so many a job holds, beside the epoch and the open order
+abbrev pub holds_with : DeviceSetup → Job → EpochState → Option OpenOrder → ℕ
+holds_with d j state owed = job_holds d state j + order_holds (closes_order d j) owed
+
+closing : (owed : Option OpenOrder) → order_holds true owed ≡ 0
+closing None = refl
+closing (Some o) = refl
+
+order_most : (closes : Bool) (owed : Option OpenOrder) → order_holds closes owed ≤ order_holds false owed
+order_most true None = omega arith
+order_most true (Some o) = omega arith
+order_most false owed = omega arith
+
+-- a row that is passed over closes no order, and without it no more is put
+from_closes : (rows : List TableRow) (means : Judged) → has_closes (from rows means) ≡ has_closes rows
+from_closes rows means = fact_from (λ later. has_closes later ≡ has_closes rows) (λ behind later same. same) rows means refl
+
+from_puts : (rows : List TableRow) (means : Judged) → puts_in (from rows means) ≤ puts_in rows
+from_puts rows means =
+    fact_from (λ later. puts_in later ≤ puts_in rows) (λ behind later fewer. omega (arith, fewer)) rows means (omega arith)
+
+-- without its rows a job holds no more
+least : (rows : List TableRow) (owed : Option OpenOrder) → order_holds false owed ≤ held_by rows owed
+least [] owed = omega arith
+least (puts_due order_end behind ∷ rows) None = omega arith
+least (puts_due order_end behind ∷ rows) (Some o) = omega arith
+least (puts_due due behind ∷ rows) owed = let one = least rows owed in omega (arith, one)
+least (asks_for q behind ∷ rows) owed = least rows owed
+least (asks_once q behind without ∷ rows) owed = least rows owed
+least (waits_for_coins ∷ rows) owed = least rows owed
+
+pub free_least : (d : DeviceSetup) (c : Command) (since : List Line) (state : EpochState) (owed : Option OpenOrder) →
+    order_holds false owed ≤ holds_with d (works c since) state owed
+free_least d c since state owed =
+    let rows = rest d c since in
+    let means = judged_in c since state in
+    subst (λ b. order_holds false owed ≤ puts_in (from rows means) + order_holds b owed) (from_closes rows means)
+    (least (from rows means) owed)
+
+-- an exchange brings no more to come
+
+asked_same : (addr : ℕ) (means : Judged) (p : Payment) (rows : List TableRow) (q : Request) (owed : Option OpenOrder) →
+    first addr means p rows ≡ sends q → held_by (but_first rows) owed ≡ held_by rows owed
+asked_same addr means p [] q owed is = refl
+asked_same addr means p (asks_for x behind ∷ rows) q owed is = refl
+asked_same addr means p (asks_once x behind without ∷ rows) q owed is = refl
+asked_same addr means p (waits_for_coins ∷ rows) q owed is = refl
+asked_same addr means p (puts_due due behind ∷ rows) q owed is = absurd (due_sends addr means p due q is)
+
+pub asked_no_more : (d : DeviceSetup) (c : Command) (since : List Line) (state : EpochState) (owed : Option OpenOrder)
+    (q : Request) (got : Option Reply) → row d c since state owed ≡ sends q →
+    holds_with d (works c (exchange (Some q) got ∷ since)) state owed ≤ holds_with d (works c since) state owed
+asked_no_more d c since state owed q got is =
+    let rows = rest d c since in
+    let p = payment_in since owed in
+    let means = judged_in c since state in
+    let later = judged_in c (exchange (Some q) got ∷ since) state in
+    let all : left d c since state ≡ rows = left_asks d c since state owed q is in
+    let same =
+    asked_same (address_of c) means p rows q owed (subst (λ rs. first (address_of c) means p rs ≡ sends q) all is) in
+    let before : holds_with d (works c since) state owed ≡ held_by rows owed =
+    ap (λ rs. puts_in rs + order_holds (has_closes rows) owed) all in
+    let fewer =
+    after_line (λ rs. held_by rs owed ≤ held_by rows owed) (rows_of d c) (exchange (Some q) got) since (omega arith)
+    (omega (arith, same)) in
+    let most = from_puts (rest d c (exchange (Some q) got ∷ since)) later in
+    omega (arith, before, fewer, most)
 
 -- a job that puts a record and is then lost leaves one less held
-free_same : (c : Command) (since : List Line) (owed : Option OpenOrder) (r : Record) (many : ℕ) → 1 ≤ many →
-    LeavesOrders r → order_holds (works c since) owed ≡ order_holds free owed →
-    suc (order_holds free (order_by r owed)) ≤ many + order_holds (works c since) owed
-free_same c since owed r many one leaves same =
-    let kept : order_holds free (order_by r owed) ≡ order_holds free owed = ap (order_holds free) (leaves owed) in
-    omega arith
 
-closed_least : (j : Job) (owed : Option OpenOrder) (r : Record) (many : ℕ) → 1 ≤ many → ClosesOrder r →
-    suc (order_holds free (order_by r owed)) ≤ many + order_holds j owed
-closed_least j owed r many one closes =
-    let none : order_holds free (order_by r owed) ≡ 0 = ap (order_holds free) (closes.none owed) in
-    omega arith
+opens_least : (rows : List TableRow) (later : Option OpenOrder) → has_closes rows ≡ true →
+    order_holds false later ≤ puts_in rows
+opens_least rows later closes =
+    let some = least rows later in
+    let none : order_holds (has_closes rows) later ≡ 0 = ap (λ b. order_holds b later) closes ∙ closing later in
+    omega (arith, some, none)
 
-start_holds : (addr mask : ℕ) (since : List Line) (owed : Option OpenOrder) →
-    order_holds (works (command.Start addr mask) since) owed ≡ order_holds free owed
-start_holds addr mask since None = refl
-start_holds addr mask since (Some o) = refl
-
-round_holds : (addr : ℕ) (since : List Line) (owed : Option OpenOrder) →
-    order_holds (works (command.Round addr) since) owed ≡ order_holds free owed
-round_holds addr since None = refl
-round_holds addr since (Some o) = refl
-
-stop_holds : (addr : ℕ) (since : List Line) (owed : Option OpenOrder) →
-    order_holds (works (command.Stop addr) since) owed ≡ order_holds free owed
-stop_holds addr since None = refl
-stop_holds addr since (Some o) = refl
-
-stop_least : (addr rows : ℕ) (r : Record) → 1 ≤ puts_at (command.Stop addr) rows (puts r)
-stop_least addr rows (record_of.EpochEnd at) = omega arith
-stop_least addr rows r = omega arith
-
-start_puts_once : (d : DeviceSetup) (addr mask : ℕ) (since : List Line) (owed : Option OpenOrder) (r : Record)
-    (rows : ℕ) (judged : Judged) (p : Payment) → row_at d (command.Start addr mask) rows judged p ≡ puts r →
-    suc (order_holds free (order_by r owed))
-    ≤ puts_at (command.Start addr mask) rows (row_at d (command.Start addr mask) rows judged p)
-    + order_holds (works (command.Start addr mask) since) owed
-start_puts_once d addr mask since owed r zero judged p is = absurd cc
-start_puts_once d addr mask since owed r (suc zero) judged p is = absurd cc
-start_puts_once d addr mask since owed r (suc (suc zero)) judged p is =
-    free_same (command.Start addr mask) since owed r 1 (omega arith)
-    (subst LeavesOrders (same_record (record_of.Epoch addr mask) r is) (λ o. refl)) (start_holds addr mask since owed)
-start_puts_once d addr mask since owed r (suc (suc (suc zero))) judged p is = absurd cc
-start_puts_once d addr mask since owed r (suc (suc (suc (suc rows)))) judged p is = absurd cc
-
-pay_puts_once : (d : DeviceSetup) (addr id count : ℕ) (since : List Line) (r : Record) (rows : ℕ) (judged : Judged)
-    (p : Payment) → row_at d (command.Pay addr id count) rows judged p ≡ puts r →
-    suc (order_holds free (order_by r p.owed))
-    ≤ puts_at (command.Pay addr id count) rows (row_at d (command.Pay addr id count) rows judged p)
-    + order_holds (works (command.Pay addr id count) since) p.owed
-pay_puts_once d addr id count since r zero judged p is = absurd cc
-pay_puts_once d addr id count since r (suc zero) judged p is = absurd cc
-pay_puts_once d addr id count since r (suc (suc zero)) judged p is =
-    let few = (opens_one addr id count p.life r is).1 p.owed in
-    omega arith
-pay_puts_once d addr id count since r (suc (suc (suc zero))) judged p is = absurd cc
-pay_puts_once d addr id count since r (suc (suc (suc (suc rows)))) judged p is =
-    closed_least (works (command.Pay addr id count) since) p.owed r
-    (puts_at (command.Pay addr id count) (suc (suc (suc (suc rows)))) (row_at d (command.Settle addr) rows judged p))
-    (pay_puts addr id count (suc (suc (suc (suc rows)))) (row_at d (command.Settle addr) rows judged p)) (settle_row_closes d addr rows judged p r is)
-
--- a job that only asks puts nothing
-abbrev nothing_put : Record → Type 0
-nothing_put r = ⊥
-
-ident_puts_none : (d : DeviceSetup) (addr rows : ℕ) (judged : Judged) (p : Payment) (r : Record) →
-    row_at d (command.Ident addr) rows judged p ≡ puts r → ⊥
-ident_puts_none d addr rows judged p r is =
-    subst (RowHolds (λ q. ⊤) nothing_put) is
-    (each_put nothing_put puts_none d (command.Ident addr) rows judged p
-    (told_only puts_none (ident_requests d.body)) (λ due none. absurd cc))
-
-path_puts_none : (d : DeviceSetup) (addr place path rows : ℕ) (judged : Judged) (p : Payment) (r : Record) →
-    row_at d (command.Path addr place path) rows judged p ≡ puts r → ⊥
-path_puts_none d addr place path rows judged p r is =
-    subst (RowHolds (λ q. ⊤) nothing_put) is
-    (each_put nothing_put puts_none d (command.Path addr place path) rows judged p refl (λ due none. absurd cc))
-
-least_at : (d : DeviceSetup) (c : Command) (since : List Line) (rows : ℕ) (judged : Judged) (p : Payment) (r : Record) →
-    IsReading judged → row_at d c rows judged p ≡ puts r →
-    suc (order_holds free (order_by r p.owed))
-    ≤ puts_at c rows (row_at d c rows judged p) + order_holds (works c since) p.owed
-least_at d (command.Start addr mask) since rows judged p r reads is = start_puts_once d addr mask since p.owed r rows judged p is
-least_at d (command.Round addr) since rows judged p r reads is =
-    free_same (command.Round addr) since p.owed r 1 (omega arith) (round_row_leaves d addr rows judged p r reads is)
-    (round_holds addr since p.owed)
-least_at d (command.Stop addr) since rows judged p r reads is =
-    subst (λ x. suc (order_holds free (order_by r p.owed)) ≤ puts_at (command.Stop addr) rows x
-    + order_holds (works (command.Stop addr) since) p.owed)
-    (sym is)
-    (free_same (command.Stop addr) since p.owed r (puts_at (command.Stop addr) rows (puts r)) (stop_least addr rows r)
-    (stop_row_leaves d addr rows judged p r reads is) (stop_holds addr since p.owed))
-least_at d (command.Pay addr id count) since rows judged p r reads is =
-    pay_puts_once d addr id count since r rows judged p is
-least_at d (command.Settle addr) since rows judged p r reads is =
-    closed_least (works (command.Settle addr) since) p.owed r 1 (omega arith) (settle_row_closes d addr rows judged p r is)
-least_at d (command.Ident addr) since rows judged p r reads is = absurd (ident_puts_none d addr rows judged p r is)
-least_at d (command.Path addr place path) since rows judged p r reads is = absurd (path_puts_none d addr place path rows judged p r is)
-least_at d c since rows judged p r reads is = absurd cc
+least_first : (addr : ℕ) (means : Judged) (p : Payment) (rows : List TableRow) (r : Record) → IsReading means →
+    HoldWell rows → first addr means p rows ≡ puts r →
+    suc (order_holds false (order_by r p.owed)) ≤ held_by rows p.owed
+least_first addr means p [] r reads well is = absurd cc
+least_first addr means p (asks_for q behind ∷ rows) r reads well is = absurd cc
+least_first addr means p (asks_once q behind without ∷ rows) r reads well is = absurd cc
+least_first addr means p (waits_for_coins ∷ rows) r reads well is = absurd cc
+least_first addr means p (puts_due (new_order id count) behind ∷ rows) r reads well is =
+    let few = opens_least rows (order_by r p.owed) well.0 in
+    omega (arith, few)
+least_first addr means p (puts_due order_end behind ∷ rows) r reads well is =
+    let none : order_holds false (order_by r p.owed) ≡ 0 =
+    ap (order_holds false) ((close_row_closes p.owed p.life r is).none p.owed) in
+    omega (arith, none)
+least_first addr means p (puts_due due behind ∷ rows) r reads well is =
+    let same : order_holds false (order_by r p.owed) ≡ order_holds false p.owed =
+    ap (order_holds false) (due_leaves addr means p due r reads refl is p.owed) in
+    let few = least rows p.owed in
+    omega (arith, same, few)
 
 pub put_least : (d : DeviceSetup) (c : Command) (since : List Line) (state : EpochState) (owed : Option OpenOrder)
     (r : Record) → row d c since state owed ≡ puts r →
-    suc (order_holds free (order_by r owed)) ≤ holds_with d (works c since) state owed
+    suc (order_holds false (order_by r owed)) ≤ holds_with d (works c since) state owed
 put_least d c since state owed r is =
-    least_at d c since (done since) (judged_in c since state) (payment_in since owed) r
-    (judged_reads (address_of c) state (credits_read since) (mask_read since)) is
-
-start_row_leaves : (d : DeviceSetup) (addr mask rows : ℕ) (judged : Judged) (p : Payment) (r : Record) →
-    row_at d (command.Start addr mask) rows judged p ≡ puts r → LeavesOrders r
-start_row_leaves d addr mask zero judged p r is = absurd cc
-start_row_leaves d addr mask (suc zero) judged p r is = absurd cc
-start_row_leaves d addr mask (suc (suc zero)) judged p r is =
-    subst LeavesOrders (same_record (record_of.Epoch addr mask) r is) (λ o. refl)
-start_row_leaves d addr mask (suc (suc (suc zero))) judged p r is = absurd cc
-start_row_leaves d addr mask (suc (suc (suc (suc rows)))) judged p r is = absurd cc
+    let rows = rest d c since in
+    let means = judged_in c since state in
+    subst (λ b. suc (order_holds false (order_by r owed)) ≤ puts_in (from rows means) + order_holds b owed)
+    (from_closes rows means)
+    (least_first (address_of c) means (payment_in since owed) (from rows means) r
+    (judged_reads (address_of c) state (credits_read since) (mask_read since))
+    (fact_from HoldWell (λ behind later each. each.1) rows means (rest_well d c since)) is)
 
 -- a job that puts a record and goes on leaves one less held
 
--- a judged record that isn't a break doesn't end a stop, and any ends a round
-posted_ends : (e r : Record) → e ≡ r → IsReading (Reading e) → end_kept (puts_due reading (if_posted (Some Posted)) ∷ []) r ≢ None
-posted_ends (record_of.Reading a counter lost posted) r same reads none =
-    let none_end : end_kept (puts_due reading (if_posted (Some Posted)) ∷ []) (record_of.Reading a counter lost posted) ≡ None =
-    ap (end_kept (puts_due reading (if_posted (Some Posted)) ∷ [])) same ∙ none in
-    absurd cc
-posted_ends e r same reads none = absurd reads
+leaves_less : (rows : List TableRow) (later : Judged) (owed : Option OpenOrder) (r : Record) → LeavesOrders r →
+    suc (puts_in (from rows later) + order_holds (has_closes rows) (order_by r owed))
+    ≤ suc (puts_in rows) + order_holds (has_closes rows) owed
+leaves_less rows later owed r leaves =
+    let same : order_holds (has_closes rows) (order_by r owed) ≡ order_holds (has_closes rows) owed =
+    ap (order_holds (has_closes rows)) (leaves owed) in
+    let most = from_puts rows later in
+    omega (arith, same, most)
 
-broken_ends : (of_reading : Option End) (rows : List TableRow) (e r : Record) → e ≡ r → IsReading (Broken e) →
-    end_kept (puts_due reading (if_posted of_reading) ∷ rows) r ≢ None
-broken_ends of_reading rows (record_of.Broken a seen counter posted) r same reads none =
-    let none_end : end_kept (puts_due reading (if_posted of_reading) ∷ rows) (record_of.Broken a seen counter posted) ≡ None =
-    ap (end_kept (puts_due reading (if_posted of_reading) ∷ rows)) same ∙ none in
-    absurd cc
-broken_ends of_reading rows e r same reads none = absurd reads
-
-round_row_ends : (d : DeviceSetup) (addr rows : ℕ) (judged : Judged) (p : Payment) (r : Record) → IsReading judged →
-    row_at d (command.Round addr) rows judged p ≡ puts r →
-    end_kept (after (rows_of d (command.Round addr)) rows) r ≢ None
-round_row_ends d addr zero judged p r reads is none = absurd cc
-round_row_ends d addr (suc zero) judged p r reads is none = absurd cc
-round_row_ends d addr (suc (suc zero)) Nothing p r reads is none = absurd cc
-round_row_ends d addr (suc (suc zero)) (Reading e) p r reads is none = posted_ends e r (same_record e r is) reads none
-round_row_ends d addr (suc (suc zero)) (Broken e) p r reads is none =
-    broken_ends (Some Posted) [] e r (same_record e r is) reads none
-round_row_ends d addr (suc (suc (suc rows))) judged p r reads is none = absurd cc
-
-stop_puts_reading : (addr : ℕ) (e r : Record) → e ≡ r → IsReading (Reading e) →
-    puts_at (command.Stop addr) 3 (puts r) ≡ 2
-stop_puts_reading addr (record_of.Reading a counter lost posted) r same reads =
-    ap (λ x. puts_at (command.Stop addr) 3 (puts x)) (sym same)
-stop_puts_reading addr e r same reads = absurd reads
-
-abbrev rows_after_three : DeviceSetup → ℕ → List TableRow
-rows_after_three d addr = after (rows_of d (command.Stop addr)) 3
-
-stop_falls : (d : DeviceSetup) (addr rows : ℕ) (judged then_means : Judged) (p q : Payment) (r : Record) →
-    IsReading judged → row_at d (command.Stop addr) rows judged p ≡ puts r →
-    end_kept (after (rows_of d (command.Stop addr)) rows) r ≡ None →
-    suc (puts_at (command.Stop addr) (suc rows) (row_at d (command.Stop addr) (suc rows) then_means q))
-    ≤ puts_at (command.Stop addr) rows (row_at d (command.Stop addr) rows judged p)
-stop_falls d addr zero judged then_means p q r reads is none = absurd cc
-stop_falls d addr (suc zero) judged then_means p q r reads is none = absurd cc
-stop_falls d addr (suc (suc zero)) judged then_means p q r reads is none = absurd cc
-stop_falls d addr (suc (suc (suc zero))) Nothing then_means p q r reads is none =
-    let over : end_kept (rows_after_three d addr) (record_of.EpochEnd addr) ≡ None =
-    ap (end_kept (rows_after_three d addr)) (same_record (record_of.EpochEnd addr) r is) ∙ none in
-    absurd cc
-stop_falls d addr (suc (suc (suc zero))) (Reading e) then_means p q r reads is none =
-    let two : puts_at (command.Stop addr) 3 (puts e) ≡ 2 =
-    ap (puts_at (command.Stop addr) 3) is ∙ stop_puts_reading addr e r (same_record e r is) reads in
-    omega arith
-stop_falls d addr (suc (suc (suc zero))) (Broken e) then_means p q r reads is none =
-    absurd (broken_ends None (puts_due epoch_end (ends_as Stopped) ∷ []) e r (same_record e r is) reads none)
-stop_falls d addr (suc (suc (suc (suc zero)))) judged then_means p q r reads is none = absurd cc
-stop_falls d addr (suc (suc (suc (suc (suc rows))))) judged then_means p q r reads is none = absurd cc
-
-start_falls : (d : DeviceSetup) (addr mask rows : ℕ) (judged : Judged) (p : Payment) (next : Row) (r : Record) →
-    row_at d (command.Start addr mask) rows judged p ≡ puts r →
-    suc (puts_at (command.Start addr mask) (suc rows) next)
-    ≤ puts_at (command.Start addr mask) rows (row_at d (command.Start addr mask) rows judged p)
-start_falls d addr mask zero judged p next r is = absurd cc
-start_falls d addr mask (suc zero) judged p next r is = absurd cc
-start_falls d addr mask (suc (suc zero)) judged p next r is = omega arith
-start_falls d addr mask (suc (suc (suc zero))) judged p next r is = absurd cc
-start_falls d addr mask (suc (suc (suc (suc rows)))) judged p next r is = absurd cc
-
-pay_falls : (d : DeviceSetup) (addr id count rows : ℕ) (judged : Judged) (p : Payment) (next : Row) (r : Record) →
-    row_at d (command.Pay addr id count) rows judged p ≡ puts r →
-    end_kept (after (rows_of d (command.Pay addr id count)) rows) r ≡ None →
-    suc (puts_at (command.Pay addr id count) (suc rows) next)
-    ≤ puts_at (command.Pay addr id count) rows (row_at d (command.Pay addr id count) rows judged p)
-pay_falls d addr id count zero judged p next r is none = absurd cc
-pay_falls d addr id count (suc zero) judged p next r is none = absurd cc
-pay_falls d addr id count (suc (suc zero)) judged p next r is none = omega arith
-pay_falls d addr id count (suc (suc (suc zero))) judged p next r is none = absurd cc
-pay_falls d addr id count (suc (suc (suc (suc rows)))) judged p next r is none =
-    absurd (settle_row_ends d addr rows judged p r is none)
-
--- a put that ends no job leaves one less to put
-pub put_falls : (d : DeviceSetup) (c : Command) (rows : ℕ) (judged then_means : Judged) (p q : Payment) (r : Record) →
-    IsReading judged → row_at d c rows judged p ≡ puts r → end_kept (after (rows_of d c) rows) r ≡ None →
-    suc (puts_at c (suc rows) (row_at d c (suc rows) then_means q)) ≤ puts_at c rows (row_at d c rows judged p)
-put_falls d (command.Start addr mask) rows judged then_means p q r reads is none =
-    start_falls d addr mask rows judged p (row_at d (command.Start addr mask) (suc rows) then_means q) r is
-put_falls d (command.Round addr) rows judged then_means p q r reads is none =
-    absurd (round_row_ends d addr rows judged p r reads is none)
-put_falls d (command.Stop addr) rows judged then_means p q r reads is none =
-    stop_falls d addr rows judged then_means p q r reads is none
-put_falls d (command.Pay addr id count) rows judged then_means p q r reads is none =
-    pay_falls d addr id count rows judged p (row_at d (command.Pay addr id count) (suc rows) then_means q) r is none
-put_falls d (command.Settle addr) rows judged then_means p q r reads is none =
-    absurd (settle_row_ends d addr rows judged p r is none)
-put_falls d (command.Ident addr) rows judged then_means p q r reads is none = absurd (ident_puts_none d addr rows judged p r is)
-put_falls d (command.Path addr place path) rows judged then_means p q r reads is none =
-    absurd (path_puts_none d addr place path rows judged p r is)
-put_falls d c rows judged then_means p q r reads is none = absurd cc
-
--- what is held for the order of a job that goes on doesn't rise at its put
-order_falls : (d : DeviceSetup) (c : Command) (since : List Line) (rows : ℕ) (judged : Judged) (p : Payment)
-    (r : Record) →
-    IsReading judged → row_at d c rows judged p ≡ puts r → end_kept (after (rows_of d c) rows) r ≡ None →
-    order_holds (works c (put r ∷ since)) (order_by r p.owed) ≤ order_holds (works c since) p.owed
-order_falls d (command.Start addr mask) since rows judged p r reads is none =
-    le_of_eq (ap (order_holds (works (command.Start addr mask) (put r ∷ since)))
-    (start_row_leaves d addr mask rows judged p r is p.owed)
-    ∙ order_same (command.Start addr mask) (put r ∷ since) since p.owed)
-order_falls d (command.Round addr) since rows judged p r reads is none =
-    absurd (round_row_ends d addr rows judged p r reads is none)
-order_falls d (command.Stop addr) since rows judged p r reads is none =
-    le_of_eq (ap (order_holds (works (command.Stop addr) (put r ∷ since)))
-    (stop_row_leaves d addr rows judged p r reads is p.owed)
-    ∙ order_same (command.Stop addr) (put r ∷ since) since p.owed)
-order_falls d (command.Pay addr id count) since rows judged p r reads is none =
-    let nothing = pay_holds_none addr id count (put r ∷ since) (order_by r p.owed) in
-    omega arith
-order_falls d (command.Settle addr) since rows judged p r reads is none =
-    absurd (settle_row_ends d addr rows judged p r is none)
-order_falls d (command.Ident addr) since rows judged p r reads is none = absurd (ident_puts_none d addr rows judged p r is)
-order_falls d (command.Path addr place path) since rows judged p r reads is none =
-    absurd (path_puts_none d addr place path rows judged p r is)
-order_falls d c since rows judged p r reads is none = absurd cc
+goes_first : (addr : ℕ) (means later : Judged) (p : Payment) (rows : List TableRow) (r : Record) → IsReading means →
+    HoldWell rows → first addr means p (from rows means) ≡ puts r → end_kept rows r ≡ None →
+    suc (puts_in (from (but_first rows) later) + order_holds (has_closes (but_first rows)) (order_by r p.owed))
+    ≤ puts_in (from rows means) + order_holds (has_closes rows) p.owed
+goes_first addr means later p [] r reads well is none = absurd cc
+goes_first addr means later p (asks_for q behind ∷ rows) r reads well is none = absurd cc
+goes_first addr means later p (asks_once q behind without ∷ rows) r reads well is none = absurd cc
+goes_first addr means later p (waits_for_coins ∷ rows) r reads well is none = absurd cc
+goes_first addr means later p (puts_due (new_order id count) behind ∷ rows) r reads well is none =
+    let closed : order_holds (has_closes rows) (order_by r p.owed) ≡ 0 =
+    ap (λ b. order_holds b (order_by r p.owed)) well.0 ∙ closing (order_by r p.owed) in
+    let most = from_puts rows later in
+    omega (arith, closed, most)
+goes_first addr means later p (puts_due order_end behind ∷ rows) r reads well is none =
+    let closed : order_holds (has_closes rows) (order_by r p.owed) ≡ 0 =
+    ap (order_holds (has_closes rows)) ((close_row_closes p.owed p.life r is).none p.owed) in
+    let most = from_puts rows later in
+    omega (arith, closed, most)
+goes_first addr Nothing later p (puts_due reading behind ∷ rows) r reads well is none =
+    absurd (passed_ends addr p behind rows r well.0 is none)
+goes_first addr (Reading e) later p (puts_due reading behind ∷ rows) r reads well is none =
+    leaves_less rows later p.owed r (judged_leaves (Reading e) r reads is)
+goes_first addr (Broken e) later p (puts_due reading behind ∷ rows) r reads well is none =
+    leaves_less rows later p.owed r (judged_leaves (Broken e) r reads is)
+goes_first addr means later p (puts_due due behind ∷ rows) r reads well is none =
+    leaves_less rows later p.owed r (due_leaves addr means p due r reads refl is)
 
 pub put_goes_on : (d : DeviceSetup) (c : Command) (since : List Line) (state : EpochState) (owed : Option OpenOrder)
     (r : Record) → row d c since state owed ≡ puts r → end_of d c (put r) since state ≡ None →
     suc (holds_with d (works c (put r ∷ since)) (epoch_by r state) (order_by r owed))
     ≤ holds_with d (works c since) state owed
 put_goes_on d c since state owed r is none =
-    let judged = judged_in c since state in
-    let then_means = judged_in c (put r ∷ since) (epoch_by r state) in
-    let reads = judged_reads (address_of c) state (credits_read since) (mask_read since) in
-    let p = payment_in since owed in
-    let q = payment_in (put r ∷ since) (order_by r owed) in
-    let falls = put_falls d c (done since) judged then_means p q r reads is none in
-    let orders = order_falls d c since (done since) judged p r reads is none in
-    omega arith
+    let later = judged_in c (put r ∷ since) (epoch_by r state) in
+    subst
+    (λ rs. suc (puts_in (from rs later) + order_holds (has_closes rs) (order_by r owed))
+    ≤ holds_with d (works c since) state owed)
+    (sym (after_next (rows_of d c) (done (rows_of d c) since)))
+    (goes_first (address_of c) (judged_in c since state) later (payment_in since owed) (rest d c since) r
+    (judged_reads (address_of c) state (credits_read since) (mask_read since)) (rest_well d c since) is none)
 
--- a command and a halt
+-- a command
+
+-- an order is open that rows close and don't open before
+abbrev ClosesOwed : Option OpenOrder → List TableRow → Type 0
+ClosesOwed owed [] = ⊤
+ClosesOwed owed (puts_due (new_order id count) behind ∷ rows) = ⊤
+ClosesOwed owed (puts_due order_end behind ∷ rows) = is_some owed ≡ true
+ClosesOwed owed (r ∷ rows) = ClosesOwed owed rows
+
+closes_owed : (d : DeviceSetup) (c : Command) (owed : Option OpenOrder) → IsOwed c owed → ClosesOwed owed (rows_of d c)
+closes_owed d (command.Settle addr) None is_owed = absurd cc
+closes_owed d (command.Settle addr) (Some o) is_owed = refl
+closes_owed d (command.Ident addr) owed is_owed =
+    told_fact (ClosesOwed owed) tt (λ q behind rows opened. opened) (ident_requests d.body)
+closes_owed d c owed is_owed = tt
+
+rows_need : (rows : List TableRow) (owed : Option OpenOrder) → HoldWell rows → ClosesOwed owed rows →
+    held_by rows owed ≤ order_holds false owed + need_in rows
+rows_need [] owed well opened = omega arith
+rows_need (puts_due (new_order id count) behind ∷ rows) owed well opened =
+    let most = order_most (has_closes rows) owed in
+    omega (arith, most)
+rows_need (puts_due order_end behind ∷ rows) None well opened = absurd cc
+rows_need (puts_due order_end behind ∷ rows) (Some o) well opened =
+    let none : puts_in rows ≡ 0 = well.0 in
+    omega (arith, none)
+rows_need (puts_due due behind ∷ rows) owed well opened =
+    let more = rows_need rows owed well.1 opened in
+    omega (arith, more)
+rows_need (asks_for q behind ∷ rows) owed well opened = rows_need rows owed well.1 opened
+rows_need (asks_once q behind without ∷ rows) owed well opened = rows_need rows owed well.1 opened
+rows_need (waits_for_coins ∷ rows) owed well opened = rows_need rows owed well.1 opened
+
+need_least : (c : Command) (rows : List TableRow) → need_in rows ≤ need_in (rows_of_sale c ++ rows)
+need_least (command.Vend id price) rows = omega arith
+need_least c rows = omega arith
 
 pub taken_holds : (d : DeviceSetup) (c : Command) (state : EpochState) (owed : Option OpenOrder) → IsOwed c owed →
-    holds_with d (works c []) state owed ≤ order_holds free owed + need_of c
-taken_holds d (command.Start addr mask) state owed is_owed =
-    let same = start_holds addr mask [] owed in
-    omega arith
-taken_holds d (command.Round addr) state owed is_owed =
-    let same = round_holds addr [] owed in
-    omega arith
-taken_holds d (command.Stop addr) state owed is_owed =
-    let same = stop_holds addr [] owed in
-    omega arith
-taken_holds d (command.Pay addr id count) state owed is_owed =
-    let nothing = pay_holds_none addr id count [] owed in
-    omega arith
-taken_holds d (command.Settle addr) state None is_owed = absurd cc
-taken_holds d (command.Settle addr) state (Some o) is_owed = omega arith
-taken_holds d (command.Vend id price) state None is_owed = omega arith
-taken_holds d (command.Vend id price) state (Some o) is_owed = omega arith
-taken_holds d c state None is_owed = omega arith
-taken_holds d c state (Some o) is_owed = omega arith
+    holds_with d (works c []) state owed ≤ order_holds false owed + need_for (Some d) c
+taken_holds d c state owed is_owed =
+    let rows = rows_of d c in
+    let means = judged_in c [] state in
+    let most = from_puts rows means in
+    let needs = rows_need rows owed (rows_well d c) (closes_owed d c owed is_owed) in
+    let all = need_least c rows in
+    subst (λ rs. puts_in (from rs means) + order_holds (has_closes rs) owed ≤ order_holds false owed + need_for (Some d) c)
+    (sym (after_none rows))
+    (omega (arith, most, needs, all))
 
-pub halted_holds : (d : DeviceSetup) (c stop : Command) (since : List Line) (state : EpochState)
-    (owed : Option OpenOrder) →
-    can_halt d (works c since) ≡ true →
-    holds_with d (works c (taken stop ∷ since)) state owed ≡ holds_with d (works c since) state owed
-halted_holds d (command.Pay addr id count) stop since state owed can =
-    ap (λ n. puts_at (command.Pay addr id count) (done since) (row d (command.Pay addr id count) since state owed) + n)
-    (order_same (command.Pay addr id count) (taken stop ∷ since) since owed)
-halted_holds d (command.Settle addr) stop since state owed can =
-    ap (λ n. 1 + n) (order_same (command.Settle addr) (taken stop ∷ since) since owed)
-halted_holds d (command.Ident addr) stop since state owed can =
-    absurd (true≢false (sym (waits_before (rows_of d (command.Ident addr)) (done since) can)
-    ∙ told_no_waits (ident_requests d.body)))
-halted_holds d c stop since state owed can = absurd (true≢false (sym (waits_before (rows_of d c) (done since) can)))
-
--- the lines of a device
-
--- lines that tell the same job, epoch and order hold the same
-pub holds_same : (d : DeviceSetup) (one other : List Line) → job one ≡ job other → epoch one ≡ epoch other →
-    order one ≡ order other → holds_of d one ≡ holds_of d other
-holds_same d one other jobs epochs orders =
-    holds_as d one (job other) jobs
-    ∙ ap₂ (λ e o. holds_with d (job other) e o) epochs orders
-    ∙ sym (holds_as d other (job other) refl)
-
--- a device without a job holds no more than with one
-holds_least : (d : DeviceSetup) (lines : List Line) → order_holds free (order lines) ≤ holds_of d lines
-holds_least d lines = by_job (job lines) refl
-  where
-    by_job : (j : Job) → job lines ≡ j → order_holds free (order lines) ≤ holds_of d lines
-    by_job free is =
-        let same = holds_as d lines free is in
-        omega arith
-    by_job (works c since) is =
-        let same = holds_as d lines (works c since) is in
-        let least = free_least d c since (epoch lines) (order lines) in
-        omega arith
-
--- a loss of power
-pub holds_crashed : (d : DeviceSetup) (lines : List Line) → holds_of d (crashed ∷ lines) ≤ holds_of d lines
-holds_crashed d lines =
-    let least = holds_least d lines in
-    omega arith
-
--- a command, and a halt
-pub holds_taken : (d : DeviceSetup) (c : Command) (lines : List Line) → job lines ≡ free →
-    job (taken c ∷ lines) ≡ works c [] →
-    IsOwed c (order lines) → holds_of d (taken c ∷ lines) ≤ holds_of d lines + need_of c
-holds_taken d c lines none begins is_owed =
-    let before = holds_as d lines free none in
-    let after = holds_as d (taken c ∷ lines) (works c []) begins in
-    let more = taken_holds d c (epoch lines) (order lines) is_owed in
-    omega arith
-
-pub holds_halted : (d : DeviceSetup) (addr : ℕ) (lines : List Line) → can_halt d (job lines) ≡ true →
-    holds_of d (taken (command.Halt addr) ∷ lines) ≡ holds_of d lines
-holds_halted d addr lines can = by_job (job lines) refl can
-  where
-    by_job : (j : Job) → job lines ≡ j → can_halt d j ≡ true →
-        holds_of d (taken (command.Halt addr) ∷ lines) ≡ holds_of d lines
-    by_job free is at = absurd (true≢false (sym at))
-    by_job (works c since) is at =
-        holds_as d (taken (command.Halt addr) ∷ lines) (works c (taken (command.Halt addr) ∷ since))
-        (ap (with_line (taken (command.Halt addr))) is)
-        ∙ halted_holds d c (command.Halt addr) since (epoch lines) (order lines) at
-        ∙ sym (holds_as d lines (works c since) is)
-
--- an exchange and its end, over lines that may have a dispense more than those before
-pub holds_asked : (d : DeviceSetup) (c : Command) (since : List Line) (q : Request) (got : Option Reply)
-    (end : Option End)
-    (lines between : List Line) → job lines ≡ works c since → row d c since (epoch lines) (order lines) ≡ sends q →
-    job between ≡ job lines → epoch between ≡ epoch lines → order between ≡ order lines →
-    holds_of d (with_ended end (exchange (Some q) got ∷ between)) ≤ holds_of d lines
-holds_asked d c since q got None lines between is asks jobs epochs orders =
-    let before = holds_as d lines (works c since) is in
-    let after =
-    holds_as d (exchange (Some q) got ∷ between) (works c (exchange (Some q) got ∷ since))
-    (ap (with_line (exchange (Some q) got)) (jobs ∙ is)) in
-    let same : holds_with d (works c (exchange (Some q) got ∷ since)) (epoch between) (order between)
-    ≡ holds_with d (works c (exchange (Some q) got ∷ since)) (epoch lines) (order lines) =
-    ap₂ (λ e o. holds_with d (works c (exchange (Some q) got ∷ since)) e o) epochs orders in
-    let fewer = asked_no_more d c since (epoch lines) (order lines) q got asks in
-    omega arith
-holds_asked d c since q got (Some end) lines between is asks jobs epochs orders =
-    let least = holds_least d lines in
-    let after : holds_of d (ended end ∷ exchange (Some q) got ∷ between) ≡ order_holds free (order lines) =
-    holds_as d (ended end ∷ exchange (Some q) got ∷ between) free refl ∙ ap (order_holds free) orders in
-    omega arith
-
--- a put and its end
-pub holds_put : (d : DeviceSetup) (c : Command) (since : List Line) (r : Record) (lines : List Line) →
-    job lines ≡ works c since → row d c since (epoch lines) (order lines) ≡ puts r →
-    suc (holds_of d (with_ended (end_of d c (put r) since (epoch lines)) (put r ∷ lines))) ≤ holds_of d lines
-holds_put d c since r lines is puts_it = by_end (end_of d c (put r) since (epoch lines)) refl
-  where
-    by_end : (end : Option End) → end_of d c (put r) since (epoch lines) ≡ end →
-        suc (holds_of d (with_ended end (put r ∷ lines))) ≤ holds_of d lines
-    by_end None none =
-        let before = holds_as d lines (works c since) is in
-        let after = holds_as d (put r ∷ lines) (works c (put r ∷ since)) (ap (with_line (put r)) is) in
-        let fewer = put_goes_on d c since (epoch lines) (order lines) r puts_it none in
-        omega arith
-    by_end (Some end) some =
-        let before = holds_as d lines (works c since) is in
-        let fewer = put_least d c since (epoch lines) (order lines) r puts_it in
-        omega arith
-
--- a record that was kept when the host lost its power
-pub holds_kept : (d : DeviceSetup) (c : Command) (since : List Line) (r : Record) (lines : List Line) →
-    job lines ≡ works c since → row d c since (epoch lines) (order lines) ≡ puts r →
-    suc (holds_of d (put r ∷ crashed ∷ lines)) ≤ holds_of d lines
-holds_kept d c since r lines is puts_it =
-    let before = holds_as d lines (works c since) is in
-    let fewer = put_least d c since (epoch lines) (order lines) r puts_it in
-    omega arith
-
--- all devices and the sale
-
--- what is held of one device changes, and no more of the others
-pub held_moved : (setup : Setup) (d : DeviceSetup) (past after : List Entry) → AreDistinct setup.devices →
-    IsOf setup d →
-    ((e : DeviceSetup) → e.addr ≢ d.addr → holds_of e (lines_of e after) ≤ holds_of e (lines_of e past)) →
-    sale_holds (job (sale_lines after)) ≤ sale_holds (job (sale_lines past)) →
-    held setup after + holds_of d (lines_of d past) ≤ held setup past + holds_of d (lines_of d after)
-held_moved setup d past after distinct is_of others sale =
-    let moved = sum_moved (holds_at after) (holds_at past) setup.devices d distinct is_of others in
-    omega arith
-
--- a loss of power leaves no more held
-pub held_crashed : (setup : Setup) (past : List Entry) (n : ℕ) → held setup (entry.Crash n ∷ past) ≤ held setup past
-held_crashed setup past n =
-    let grows =
-    sum_grows (holds_at (entry.Crash n ∷ past)) (holds_at past) setup.devices
-    (λ e. holds_crashed e (lines_of e past)) in
-    omega arith
-
--- nor does one that kept a record: it leaves one less
-pub held_kept : (setup : Setup) (d : DeviceSetup) (past : List Entry) (n : ℕ) (c : Command) (since : List Line)
-    (r : Record) →
-    AreDistinct setup.devices → IsOf setup d → owner past r ≡ d.addr → job (lines_of d past) ≡ works c since →
-    row d c since (epoch (lines_of d past)) (order (lines_of d past)) ≡ puts r →
-    suc (held setup (entry.Kept r ∷ entry.Crash n ∷ past)) ≤ held setup past
-held_kept setup d past n c since r distinct is_of own is puts_it =
-    let moved =
-    held_moved setup d past (entry.Kept r ∷ entry.Crash n ∷ past) distinct is_of
-    (λ e other.
-    subst (λ b. holds_of e (cond b (put r ∷ []) [] ++ crashed ∷ lines_of e past) ≤ holds_of e (lines_of e past))
-    (sym (ne_eqb (owner past r) e.addr (λ same. other (sym same ∙ own)))) (holds_crashed e (lines_of e past)))
-    (subst (λ j. sale_holds j ≤ sale_holds (job (sale_lines past)))
-    (sym ((restart_frees (entry.Kept r ∷ entry.Crash n ∷ past) tt).sale)) (omega arith)) in
-    let here : suc (holds_of d (lines_of d (entry.Kept r ∷ entry.Crash n ∷ past))) ≤ holds_of d (lines_of d past) =
-    subst (λ b. suc (holds_of d (cond b (put r ∷ []) [] ++ crashed ∷ lines_of d past)) ≤ holds_of d (lines_of d past))
-    (sym (eq-eqb (owner past r) d.addr own)) (holds_kept d c since r (lines_of d past) is puts_it) in
-    omega arith
+-- a halt
+pub halted_holds : (d : DeviceSetup) (stop : Command) (j : Job) (state : EpochState) (owed : Option OpenOrder) →
+    holds_with d (with_line (taken stop) j) state owed ≡ holds_with d j state owed
+halted_holds d stop free state owed = refl
+halted_holds d stop (works c since) state owed = refl

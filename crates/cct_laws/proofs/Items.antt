@@ -12,6 +12,7 @@ use Rattle.cct_model.specs.Claims.{coins, arrivals, reading, behind, mark, base,
 use Rattle.cct_laws.proofs.World.{World, world, Shut, Silent, closed}
 use Rattle.cct_laws.proofs.Fits.{book, StateOf, TracksIn, Posts, Breaks, Nears, IsIdle}
 use Rattle.cct_laws.proofs.Moves.{Sound, Keeps, sound_line}
+use Rattle.cct_model.specs.terms.device.DeviceSetup.{DeviceSetup}
 
 -- no more coins came before the reading than before now
 
@@ -41,8 +42,8 @@ part_none cs m few =
     ap (λ i. take i cs) none
 
 -- a clean end
-pub keeps_clean : (past : List Met) (lines : List Line) → Sound past lines → Nears (world past lines) (book lines) → Keeps past (ended Clean ∷ lines)
-keeps_clean past lines sound nears = record {
+pub keeps_clean : (d : DeviceSetup) (past : List Met) (lines : List Line) → Sound past lines → Nears (world past lines) (book lines) → Keeps d past (ended Clean ∷ lines)
+keeps_clean d past lines sound nears = record {
   sound = sound_line past past lines (ended Clean) nears.goes_on (λ near. part_none (coins (reading lines)) (mark lines) (nears.none near)) (reading_fewer lines) nears.state sound;
   fits = tt;
 }

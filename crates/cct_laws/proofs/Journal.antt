@@ -1,6 +1,6 @@
 -- What the books say of every legal transcript: its records follow one another, money is conserved, and no put meets a
 -- full journal; and what is due follows, and is allowed.
-use Rattle.std.proofs.Common.{◌≡◌, ℕ, suc, ◌+◌, ◌-◌, ◌≤◌, ◌<◌, nat_le, cond, Bool, true, false, List, [], length, ap, Option, Some, None, All, arith, le-leb}
+use Rattle.std.proofs.Common.{◌≡◌, ℕ, suc, ◌+◌, ◌-◌, ◌≤◌, ◌<◌, nat_le, cond, Bool, true, false, List, [], length, refl, Option, Some, None, All, arith, le-leb}
 use Rattle.std.specs.Option.{option_or}
 use Rattle.std.specs.Prelude.{is_some, not}
 use Rattle.cct_model.specs.terms.device.DeviceSetup.{DeviceSetup}
@@ -14,12 +14,12 @@ use Rattle.cct_model.specs.lines.command.Step.{Step}
 use Rattle.cct_model.specs.lines.entry.Entry.{Entry}
 use Rattle.cct_model.specs.declared.judging.OpenOrder.{OpenOrder}
 use Rattle.cct_model.specs.Setup.{IsSoundSetup}
-use Rattle.cct_model.specs.Exchange.{hopper_there}
+use Rattle.cct_model.specs.Exchange.{device_at, hopper_there}
 use Rattle.cct_model.specs.Line.{Line}
 use Rattle.cct_model.specs.Job.{works, job, puts}
 use Rattle.cct_model.specs.Records.{records}
 use Rattle.cct_model.specs.Money.{sum_over, posted_in, reserved_at_work, freed_by, spoken_for, totals}
-use Rattle.cct_model.specs.Refusal.{unless, settle_refusal, holds_at, sale_holds, held, full_refusal, view_for, state_refusal, room_refusal, refusal}
+use Rattle.cct_model.specs.Refusal.{unless, settle_refusal, holds_of, holds_at, sale_holds, held, need_for, full_refusal, view_for, state_refusal, room_refusal, refusal}
 use Rattle.cct_model.specs.Following.{follows, all_follow, is_allowed}
 use Rattle.cct_model.specs.Legal.{due_at, LegalFrom, Legal}
 use Rattle.cct_model.specs.Script.{IsInRange}
@@ -27,11 +27,11 @@ use Rattle.cct_model.specs.Transcript.{lines_of, sale_lines, onto}
 use Rattle.cct_laws.specs.Balanced.{IsConserved}
 use Rattle.cct_laws.specs.Ids.{Ids}
 use Rattle.cct_laws.specs.Law.{IsOf}
+use Rattle.cct_laws.proofs.AllHeld.{holds_put}
 use Rattle.cct_laws.proofs.AtWork.{available_both}
-use Rattle.cct_laws.proofs.Books.{Books, due_follows, books_legal}
+use Rattle.cct_laws.proofs.Books.{Books, selling_holds, due_follows, books_legal}
 use Rattle.cct_laws.proofs.Brought.{row_after, Selling, Due, from_job, from_sale, is_due}
 use Rattle.cct_laws.proofs.Freed.{due_frees, allows}
-use Rattle.cct_laws.proofs.Held.{holds_of, holds_put}
 use Rattle.cct_laws.proofs.Sums.{sum_holds}
 
 -- what is available, reserved, paid and sold is what was posted
@@ -63,7 +63,7 @@ row_has_room capacity setup d past c since r room own is row_is =
 sale_has_room : (capacity : ℕ) (setup : Setup) (past : List Entry) (id price : ℕ) (since : List Line) →
     length (records past) + held setup past ≤ capacity → Selling past id price since → length (records past) < capacity
 sale_has_room capacity setup past id price since room selling =
-    let one : sale_holds (job (sale_lines past)) ≡ 1 = ap sale_holds selling.job_is in
+    let one = selling_holds past id price since selling in
     has_room capacity (length (records past)) (sale_holds (job (sale_lines past))) (held setup past) room
     (part (sum_over (holds_at past) setup.devices) (sale_holds (job (sale_lines past)))) (some one)
   where
@@ -98,20 +98,25 @@ settle_not_full : (owed : Option OpenOrder) → IsNotFull (settle_refusal owed)
 settle_not_full None = λ stored many need is. cc
 settle_not_full (Some o) = λ stored many need is. cc
 
-room_not_full : (capacity : ℕ) (setup : Setup) (past : List Entry) →
-    length (records past) + held setup past ≤ capacity → IsNotFull (full_refusal setup past 0 capacity)
-room_not_full capacity setup past room =
-    by_test (nat_le (length (records past) + held setup past + 0) capacity)
-    (le-leb (length (records past) + held setup past + 0) capacity
+room_not_full : (capacity : ℕ) (setup : Setup) (past : List Entry) (need : ℕ) → need ≡ 0 →
+    length (records past) + held setup past ≤ capacity → IsNotFull (full_refusal setup past need capacity)
+room_not_full capacity setup past need none room =
+    by_test (nat_le (length (records past) + held setup past + need) capacity)
+    (le-leb (length (records past) + held setup past + need) capacity
     (none_more (length (records past) + held setup past) room))
   where
-    none_more : (many : ℕ) → many ≤ capacity → many + 0 ≤ capacity
-    none_more many le = omega (arith, le)
+    none_more : (many : ℕ) → many ≤ capacity → many + need ≤ capacity
+    none_more many le = omega (arith, none, le)
 
     by_test : (fits : Bool) → fits ≡ true →
-        IsNotFull (cond fits None (Some (JournalFull (length (records past)) (held setup past) 0)))
-    by_test true test = λ stored many need is. cc
+        IsNotFull (cond fits None (Some (JournalFull (length (records past)) (held setup past) need)))
+    by_test true test = λ stored many wanted is. cc
     by_test false test = absurd cc
+
+-- the one record that a settlement puts was held already
+settle_needs : (found : Option DeviceSetup) (addr : ℕ) → need_for found (command.Settle addr) ≡ 0
+settle_needs None addr = refl
+settle_needs (Some d) addr = refl
 
 settle_has_room : (capacity : ℕ) (setup : Setup) (past : List Entry) (addr : ℕ) →
     length (records past) + held setup past ≤ capacity →
@@ -124,7 +129,8 @@ settle_has_room capacity setup past addr room =
     (unless_not_full (hopper_there v.found) WrongKind (λ stored many need is. cc))
     (not_full_either (unless (not v.is_busy) Busy) _ (unless_not_full (not v.is_busy) Busy (λ stored many need is. cc))
     (settle_not_full v.owed))))
-    (room_not_full capacity setup past room)
+    (room_not_full capacity setup past (need_for (device_at setup.devices addr) (command.Settle addr))
+    (settle_needs (device_at setup.devices addr) addr) room)
 
 -- of every legal transcript, whatever the wire does
 

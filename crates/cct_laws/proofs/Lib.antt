@@ -1,6 +1,7 @@
 pub mod AcceptorReplies
 pub mod Acceptors
 pub mod Alike
+pub mod AllHeld
 pub mod Answering
 pub mod Asked
 pub mod AtWork

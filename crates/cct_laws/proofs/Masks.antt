@@ -21,8 +21,8 @@ use Rattle.cct_model.specs.terms.coin.Coin.{Coin}
 use Rattle.cct_model.specs.Device.{IsAcceptor}
 use Rattle.cct_model.specs.Line.{Line, exchange, put}
 use Rattle.cct_model.specs.Order.{order}
-use Rattle.cct_model.specs.Job.{works, job, Row, sends, puts, no_row, payment_in, done, epoch, counted, epoch_by, address_of, judged_in, Payment}
-use Rattle.cct_model.specs.Rows.{row, row_at}
+use Rattle.cct_model.specs.Job.{works, job, Row, sends, puts, no_row, payment_in, epoch, counted, epoch_by, address_of, judged_in, Payment}
+use Rattle.cct_model.specs.Rows.{row, row_at, done, rows_of}
 use Rattle.cct_laws.proofs.EitherKind.{for_acceptor}
 use Rattle.cct_laws.specs.Kept.{is_for_acceptor, Fate, unheard, silenced, answered, IsForOthers, with_ended}
 use Rattle.cct_laws.specs.Since.{since_record, mask_set_in, IsMaskedBy, MayBreak, IsKeptSince}
@@ -39,8 +39,8 @@ MaskedIn Idle since past = ⊤
 MaskedIn (Running mask counter) since past = IsMaskedBy mask since past
 
 -- what holds after every step
-pub record Masks (since past : List Met) (lines : List Line) : Type 0 where
-  pub keeps : Keeps past lines
+pub record Masks (d : DeviceSetup) (since past : List Met) (lines : List Line) : Type 0 where
+  pub keeps : Keeps d past lines
   pub masked : MaskedIn (epoch lines) since past
 
 -- a request sets no mask, but the epoch's own before its first reading
@@ -101,27 +101,27 @@ plain_asks state (puts r) plain = absurd plain
 plain_asks state no_row plain = tt
 
 row_asks : (d : DeviceSetup) (past : List Met) (lines : List Line) (c : Command) (work : List Line) →
-    is_for_acceptor c ≡ true → job lines ≡ works c work → Keeps past lines →
+    is_for_acceptor c ≡ true → job lines ≡ works c work → Keeps d past lines →
     IfAsks (epoch lines) (row d c work (epoch lines) (order lines))
 row_asks d past lines (command.Start addr mask) work suited is_job keeps =
     let c = command.Start addr mask in
     start_asks d (world past lines) (book lines) addr mask (judged_in c work (epoch lines)) (payment_in work (order lines))
-    (done work)
-    (fits_at past lines (command.Start addr mask) work is_job keeps)
+    (done (rows_of d c) work)
+    (fits_at d past lines (command.Start addr mask) work is_job keeps)
 row_asks d past lines (command.Round addr) work suited is_job keeps =
     let judged = judged_in (command.Round addr) work (epoch lines) in
-    each_ask (Asks (epoch lines)) d (command.Round addr) (done work) judged (payment_in work (order lines)) (search rules)
+    each_ask (Asks (epoch lines)) d (command.Round addr) (done (rows_of d (command.Round addr)) work) judged (payment_in work (order lines)) (search rules)
 row_asks d past lines (command.Stop addr) work suited is_job keeps =
     let judged = judged_in (command.Stop addr) work (epoch lines) in
-    each_ask (Asks (epoch lines)) d (command.Stop addr) (done work) judged (payment_in work (order lines)) (search rules)
+    each_ask (Asks (epoch lines)) d (command.Stop addr) (done (rows_of d (command.Stop addr)) work) judged (payment_in work (order lines)) (search rules)
 row_asks d past lines (command.Ident addr) work suited is_job keeps =
     let c = command.Ident addr in
     plain_asks (epoch lines) (row d c work (epoch lines) (order lines))
-    (plain_row d c (done work) (judged_in c work (epoch lines)) (payment_in work (order lines)) tt)
+    (plain_row d c (done (rows_of d c) work) (judged_in c work (epoch lines)) (payment_in work (order lines)) tt)
 row_asks d past lines (command.Path addr place path) work suited is_job keeps =
     let c = command.Path addr place path in
     plain_asks (epoch lines) (row d c work (epoch lines) (order lines))
-    (plain_row d c (done work) (judged_in c work (epoch lines)) (payment_in work (order lines)) tt)
+    (plain_row d c (done (rows_of d c) work) (judged_in c work (epoch lines)) (payment_in work (order lines)) tt)
 row_asks d past lines c work suited is_job keeps = absurd cc
 
 -- an exchange of a job, and its end if there is one
@@ -151,7 +151,7 @@ put_masked d state (record_of.EpochEnd addr) since past lines puts_it masked = t
 put_masked d state r since past lines puts_it masked = masked
 
 -- all that can come keeps it
-pub masks_kept : (d : DeviceSetup) → IsAcceptor d.body → IsKeptSince d Masks
+pub masks_kept : (d : DeviceSetup) → IsAcceptor d.body → IsKeptSince d (Masks d)
 masks_kept d accepting =
     let kept = keeps_kept d accepting in
     record {
@@ -198,8 +198,8 @@ live_silent : (w : World) (mask : ℕ) → mask ≢ 0 → mask_at w ≡ 0 → Is
 live_silent w mask some none (inl set) = absurd (some (sym set ∙ none))
 live_silent w mask some none (inr silent) = silent
 
-pub masks_silent : (since past : List Met) (lines : List Line) (mask counter : ℕ) → epoch lines ≡ Running mask counter → mask_set_in since ≡ None → Masks since past lines → coins_among (events past) ≡ []
-masks_silent since past lines mask counter running none holds =
+pub masks_silent : (d : DeviceSetup) (since past : List Met) (lines : List Line) (mask counter : ℕ) → epoch lines ≡ Running mask counter → mask_set_in since ≡ None → Masks d since past lines → coins_among (events past) ≡ []
+masks_silent d since past lines mask counter running none holds =
     let w = world past lines in
     let runs = subst (StateOf w (mark lines) (base lines)) running holds.keeps.sound.state in
     let masked : IsMaskedBy mask since past = subst (λ s. MaskedIn s since past) running holds.masked in
@@ -223,7 +223,7 @@ unset_cause (m ∷ since) none = unset_cause since none
 -- a job that has a break to put
 pub masks_break : (d : DeviceSetup) (since past : List Met) (lines : List Line) (c : Command) (work : List Line)
     (addr seen counter : ℕ) (posted : List Coin) → is_for_acceptor c ≡ true → job lines ≡ works c work → address_of c ≡ d.addr →
-    row d c work (epoch lines) (order lines) ≡ puts (record_of.Broken addr seen counter posted) → Masks since past lines → MayBreak since
+    row d c work (epoch lines) (order lines) ≡ puts (record_of.Broken addr seen counter posted) → Masks d since past lines → MayBreak since
 masks_break d since past lines c work addr seen counter posted suited is_job here is_row holds =
     let puts_it = row_puts d past lines c work (record_of.Broken addr seen counter posted) suited is_job here is_row holds.keeps in
     unset_cause since (silent_unset (epoch lines) since past lines puts_it.1 puts_it.0 holds.keeps.sound.state holds.masked)

@@ -4,7 +4,7 @@ use Rattle.std.specs.Prelude.{⊤}
 use Rattle.cct_model.specs.terms.coin.Coin.{Coin}
 use Rattle.cct_model.specs.terms.device.DeviceSetup.{DeviceSetup}
 use Rattle.cct_model.specs.terms.request.Request.{Request}
-use Rattle.cct_model.specs.terms.request.Request.TheVariants.{ResetDevice, SetMask, SetMaster, SetPath, SetDefault, Dispense}
+use Rattle.cct_model.specs.terms.request.Request.TheVariants.{ResetDevice, SetMask, SetMaster, SetPath, SetDefault, ReadCredits, GetMask}
 use Rattle.cct_model.specs.lines.record.Record.{Record}
 use Rattle.cct_model.specs.declared.judging.EpochState.{EpochState}
 use Rattle.cct_model.specs.declared.judging.EpochState.TheVariants.{Idle, Running}
@@ -19,14 +19,15 @@ use Rattle.cct_model.specs.Acceptor.{accepts, path_of}
 use Rattle.cct_model.specs.Device.{reply_of}
 use Rattle.cct_model.specs.Line.{Line, accepted, inhibited, exchange, taken, ended}
 use Rattle.cct_model.specs.Line as line
-use Rattle.cct_model.specs.Job.{works, job, with_line, is_once, done, epoch, credits_read, judged_in, sends, puts, ident_requests}
-use Rattle.cct_model.specs.Rows.{rows_of, end_of}
+use Rattle.cct_model.specs.Job.{works, job, with_line, epoch, credits_read, judged_in, sends, puts, ident_requests}
+use Rattle.cct_model.specs.Rows.{rows_of, end_of, done, rest, sent_once}
 use Rattle.cct_model.proofs.Rows.{IfEnd, EachRow, BareEnds, each_told, failed_end}
 use Rattle.cct_model.specs.Refusal.{start_refusal, running_refusal}
 use Rattle.cct_model.specs.Claims.{coins, mark, base, OrderAt, CoverAt, PaceAt, InOrder, Covers, Pace}
 use Rattle.cct_laws.specs.Kept.{is_for_acceptor, Fate, unheard, silenced, answered, with_ended, IsTaken}
 use Rattle.cct_laws.proofs.World.{World, world, On, on_coin, on_piece, on_reset, on_master, on_path, on_default, on_nothing}
 use Rattle.cct_laws.proofs.Fits.{Book, book, StateOf, IsIdle, IsRunning, FitsFor, Fits, state_on, for_on, fits_on}
+use Rattle.cct_model.proofs.RowEnds.{failed_stays}
 
 -- what holds after every line
 pub record Sound (past : List Met) (lines : List Line) : Type 0 where
@@ -36,9 +37,9 @@ pub record Sound (past : List Met) (lines : List Line) : Type 0 where
   pub state : StateOf (world past lines) (mark lines) (base lines) (epoch lines)
 
 -- what holds after every step
-pub record Keeps (past : List Met) (lines : List Line) : Type 0 where
+pub record Keeps (d : DeviceSetup) (past : List Met) (lines : List Line) : Type 0 where
   pub sound : Sound past lines
-  pub fits : Fits (world past lines) (book lines) (job lines)
+  pub fits : Fits d (world past lines) (book lines) (job lines)
 
 -- what a line has to show
 pub sound_line : (past now : List Met) (lines : List Line) (line : Line) → OrderAt lines line → (PaceAt lines line → CoverAt lines line) →
@@ -59,43 +60,43 @@ record IsPiece (lines : List Line) (line : Line) : Type 0 where
   book_stays : book (line ∷ lines) ≡ book lines
   job_stays : job (line ∷ lines) ≡ job lines
 
-keeps_piece : (past now : List Met) (lines : List Line) (line : Line) → IsPiece lines line → On (world past lines) (world now (line ∷ lines)) → Keeps past lines → Keeps now (line ∷ lines)
-keeps_piece past now lines line piece on keeps =
+keeps_piece : (d : DeviceSetup) (past now : List Met) (lines : List Line) (line : Line) → IsPiece lines line → On (world past lines) (world now (line ∷ lines)) → Keeps d past lines → Keeps d now (line ∷ lines)
+keeps_piece d past now lines line piece on keeps =
     let v = world now (line ∷ lines) in
     let same = sym piece.book_stays in
     let state = state_on (world past lines) v (mark lines) (base lines) (epoch lines) on keeps.sound.state in
-    let fits = fits_on (world past lines) v (book lines) (job lines) on keeps.fits in
+    let fits = fits_on d (world past lines) v (book lines) (job lines) on keeps.fits in
     record {
       sound = sound_line past now lines line piece.orders (λ _. piece.covers)
           (subst (λ (b : Book). b.mark ≤ length (coins (line ∷ lines))) same (omega (arith, keeps.sound.marked, on.longer)))
           (subst (λ (b : Book). StateOf v b.mark b.base b.epoch) same state) keeps.sound;
-      fits = subst (Fits v (book (line ∷ lines))) (sym piece.job_stays) (subst (λ (b : Book). Fits v b (job lines)) same fits);
+      fits = subst (Fits d v (book (line ∷ lines))) (sym piece.job_stays) (subst (λ (b : Book). Fits d v b (job lines)) same fits);
     }
 
-pub keeps_accepted : (past : List Met) (lines : List Line) (place : ℕ) → 1 ≤ place → accepts past place ≡ true →
-    Keeps past lines → Keeps (met.coin place ∷ past) (accepted (record { place = place; path = path_of past place }) ∷ lines)
-keeps_accepted past lines place has_place is keeps =
+pub keeps_accepted : (d : DeviceSetup) (past : List Met) (lines : List Line) (place : ℕ) → 1 ≤ place → accepts past place ≡ true →
+    Keeps d past lines → Keeps d (met.coin place ∷ past) (accepted (record { place = place; path = path_of past place }) ∷ lines)
+keeps_accepted d past lines place has_place is keeps =
     let w = world past lines in
     let coin : Coin = record { place = place; path = path_of past place } in
     let on = subst (λ b. On w (record { events = cond b (record { a = place; b = path_of past place }) (record { a = 0; b = 2 }) ∷ w.events; settings = w.settings; coins = coin ∷ w.coins; arrivals = suc w.arrivals }))
     (sym is) (on_coin w coin has_place is) in
-    keeps_piece past (met.coin place ∷ past) lines (accepted coin) (record { orders = tt; covers = tt; book_stays = refl; job_stays = refl }) on keeps
+    keeps_piece d past (met.coin place ∷ past) lines (accepted coin) (record { orders = tt; covers = tt; book_stays = refl; job_stays = refl }) on keeps
 
-pub keeps_inhibited : (past : List Met) (lines : List Line) (place : ℕ) → accepts past place ≡ false →
-    Keeps past lines → Keeps (met.coin place ∷ past) (inhibited place ∷ lines)
-keeps_inhibited past lines place is keeps =
+pub keeps_inhibited : (d : DeviceSetup) (past : List Met) (lines : List Line) (place : ℕ) → accepts past place ≡ false →
+    Keeps d past lines → Keeps d (met.coin place ∷ past) (inhibited place ∷ lines)
+keeps_inhibited d past lines place is keeps =
     let w = world past lines in
     let on = subst (λ b. On w (record { events = cond b (record { a = place; b = path_of past place }) (record { a = 0; b = 2 }) ∷ w.events; settings = w.settings; coins = w.coins; arrivals = suc w.arrivals }))
     (sym is) (on_piece w 2) in
-    keeps_piece past (met.coin place ∷ past) lines (inhibited place) (record { orders = tt; covers = tt; book_stays = refl; job_stays = refl }) on keeps
+    keeps_piece d past (met.coin place ∷ past) lines (inhibited place) (record { orders = tt; covers = tt; book_stays = refl; job_stays = refl }) on keeps
 
-pub keeps_alien : (past : List Met) (lines : List Line) → Keeps past lines → Keeps (met.alien ∷ past) (line.alien ∷ lines)
-keeps_alien past lines keeps =
-    keeps_piece past (met.alien ∷ past) lines line.alien (record { orders = tt; covers = tt; book_stays = refl; job_stays = refl }) (on_piece (world past lines) 1) keeps
+pub keeps_alien : (d : DeviceSetup) (past : List Met) (lines : List Line) → Keeps d past lines → Keeps d (met.alien ∷ past) (line.alien ∷ lines)
+keeps_alien d past lines keeps =
+    keeps_piece d past (met.alien ∷ past) lines line.alien (record { orders = tt; covers = tt; book_stays = refl; job_stays = refl }) (on_piece (world past lines) 1) keeps
 
-pub keeps_reset : (past : List Met) (lines : List Line) → Keeps past lines → Keeps (met.reset ∷ past) (line.reset ∷ lines)
-keeps_reset past lines keeps =
-    keeps_piece past (met.reset ∷ past) lines line.reset (record { orders = tt; covers = tt; book_stays = refl; job_stays = refl }) (on_reset (world past lines)) keeps
+pub keeps_reset : (d : DeviceSetup) (past : List Met) (lines : List Line) → Keeps d past lines → Keeps d (met.reset ∷ past) (line.reset ∷ lines)
+keeps_reset d past lines keeps =
+    keeps_piece d past (met.reset ∷ past) lines line.reset (record { orders = tt; covers = tt; book_stays = refl; job_stays = refl }) (on_reset (world past lines)) keeps
 
 -- the end of a job
 
@@ -111,12 +112,12 @@ sound_ended : (past : List Met) (lines : List Line) (end : End) → IsOtherEnd e
 sound_ended past lines Clean other sound = absurd other
 sound_ended past lines end other sound = sound_line past past lines (ended end) tt (λ _. tt) sound.marked sound.state sound
 
-pub keeps_ended : (past : List Met) (lines : List Line) (end : End) → IsOtherEnd end → Sound past lines → Keeps past (ended end ∷ lines)
-keeps_ended past lines end other sound = record { sound = sound_ended past lines end other sound; fits = tt }
+pub keeps_ended : (d : DeviceSetup) (past : List Met) (lines : List Line) (end : End) → IsOtherEnd end → Sound past lines → Keeps d past (ended end ∷ lines)
+keeps_ended d past lines end other sound = record { sound = sound_ended past lines end other sound; fits = tt }
 
-pub keeps_with_ended : (past : List Met) (lines : List Line) (end : Option End) → IfOther end → Keeps past lines → Keeps past (with_ended end lines)
-keeps_with_ended past lines None other keeps = keeps
-keeps_with_ended past lines (Some end) other keeps = keeps_ended past lines end other keeps.sound
+pub keeps_with_ended : (d : DeviceSetup) (past : List Met) (lines : List Line) (end : Option End) → IfOther end → Keeps d past lines → Keeps d past (with_ended end lines)
+keeps_with_ended d past lines None other keeps = keeps
+keeps_with_ended d past lines (Some end) other keeps = keeps_ended d past lines end other keeps.sound
 
 -- a command is taken
 
@@ -128,7 +129,7 @@ running_taken : (state : EpochState) → running_refusal state ≡ None → IsRu
 running_taken Idle fine = absurd cc
 running_taken (Running mask counter) fine = tt
 
-taken_fits : (d : DeviceSetup) (w : World) (lines : List Line) (c : Command) → is_for_acceptor c ≡ true → IsTaken d c (epoch lines) → Fits w (book lines) (job (taken c ∷ lines))
+taken_fits : (d : DeviceSetup) (w : World) (lines : List Line) (c : Command) → is_for_acceptor c ≡ true → IsTaken d c (epoch lines) → Fits d w (book lines) (job (taken c ∷ lines))
 taken_fits d w lines (command.Start addr mask) played fine = idle_taken mask d (epoch lines) fine
 taken_fits d w lines (command.Round addr) played fine = running_taken (epoch lines) fine
 taken_fits d w lines (command.Stop addr) played fine = running_taken (epoch lines) fine
@@ -136,7 +137,7 @@ taken_fits d w lines (command.Halt addr) played fine = absurd cc
 taken_fits d w lines c played fine = tt
 
 pub keeps_taken : (d : DeviceSetup) (past : List Met) (lines : List Line) (c : Command) → is_for_acceptor c ≡ true → IsTaken d c (epoch lines) →
-    Keeps past lines → Keeps past (taken c ∷ lines)
+    Keeps d past lines → Keeps d past (taken c ∷ lines)
 keeps_taken d past lines c played fine keeps = record {
   sound = sound_line past past lines (taken c) tt (λ _. tt) keeps.sound.marked keeps.sound.state keeps.sound;
   fits = taken_fits d (world past lines) lines c played fine;
@@ -151,23 +152,23 @@ sound_exchange past now lines asked got on sound =
     (state_on (world past lines) (world now lines) (mark lines) (base lines) (epoch lines) on sound.state) sound
 
 -- what a job needs after an exchange
-abbrev pub FitsBehind : List Met → List Line → Command → List Line → Type 0
-FitsBehind now lines c since = FitsFor (world now lines) (book lines) c (done since) (credits_read since) (judged_in c since (epoch lines))
+abbrev pub FitsBehind : DeviceSetup → List Met → List Line → Command → List Line → Type 0
+FitsBehind d now lines c since = FitsFor (world now lines) (book lines) c (done (rows_of d c) since) (credits_read since) (judged_in c since (epoch lines))
 
-pub keeps_exchange : (past now : List Met) (lines : List Line) (c : Command) (since : List Line) (asked : Option Request) (got : Option Reply) → job lines ≡ works c since →
-    On (world past lines) (world now lines) → Sound past lines → FitsBehind now (exchange asked got ∷ lines) c (exchange asked got ∷ since) → Keeps now (exchange asked got ∷ lines)
-keeps_exchange past now lines c since asked got is_job on sound fits = record {
+pub keeps_exchange : (d : DeviceSetup) (past now : List Met) (lines : List Line) (c : Command) (since : List Line) (asked : Option Request) (got : Option Reply) → job lines ≡ works c since →
+    On (world past lines) (world now lines) → Sound past lines → FitsBehind d now (exchange asked got ∷ lines) c (exchange asked got ∷ since) → Keeps d now (exchange asked got ∷ lines)
+keeps_exchange d past now lines c since asked got is_job on sound fits = record {
   sound = sound_exchange past now lines asked got on sound;
-  fits = subst (λ j. Fits (world now lines) (book (exchange asked got ∷ lines)) (with_line (exchange asked got) j)) (sym is_job) fits;
+  fits = subst (λ j. Fits d (world now lines) (book (exchange asked got ∷ lines)) (with_line (exchange asked got) j)) (sym is_job) fits;
 }
 
-pub fits_at : (past : List Met) (lines : List Line) (c : Command) (since : List Line) → job lines ≡ works c since → Keeps past lines → FitsBehind past lines c since
-fits_at past lines c since is_job keeps = subst (Fits (world past lines) (book lines)) is_job keeps.fits
+pub fits_at : (d : DeviceSetup) (past : List Met) (lines : List Line) (c : Command) (since : List Line) → job lines ≡ works c since → Keeps d past lines → FitsBehind d past lines c since
+fits_at d past lines c since is_job keeps = subst (Fits d (world past lines) (book lines)) is_job keeps.fits
 
 -- what comes of an exchange
 abbrev pub KeepsAsk : DeviceSetup → List Met → List Line → Command → List Line → Request → Option Request → Option Reply → Type 0
 KeepsAsk d past lines c since q asked got =
-    Keeps (heard asked ∷ past) (with_ended (end_of d c (exchange (Some q) got) since (epoch lines)) (exchange (Some q) got ∷ lines))
+    Keeps d (heard asked ∷ past) (with_ended (end_of d c (exchange (Some q) got) since (epoch lines)) (exchange (Some q) got ∷ lines))
 
 bare_other : (d : DeviceSetup) (c : Command) → EachRow (BareEnds IsOtherEnd) (rows_of d c)
 bare_other d (command.Ident addr) = each_told (BareEnds IsOtherEnd) (λ q. tt) (λ q. tt) (ident_requests d.body)
@@ -177,16 +178,24 @@ pub failure_other : (d : DeviceSetup) (c : Command) (q : Request) (since : List 
     IfOther (end_of d c (exchange (Some q) None) since state)
 failure_other d c q since state = failed_end IsOtherEnd d c q since state (bare_other d c) tt
 
+-- it tells nothing of credits, a mask or a reading
+unanswered_fits : (d : DeviceSetup) (now : List Met) (lines : List Line) (c : Command) (since : List Line) (q : Request) →
+    FitsFor (world now lines) (book lines) c (done (rows_of d c) (exchange (Some q) None ∷ since)) (credits_read since) (judged_in c since (epoch lines)) →
+    FitsBehind d now (exchange (Some q) None ∷ lines) c (exchange (Some q) None ∷ since)
+unanswered_fits d now lines c since ReadCredits fits = fits
+unanswered_fits d now lines c since GetMask fits = fits
+unanswered_fits d now lines c since q fits = fits
+
 -- an exchange without its reply is tried again, or ends the job
-keeps_failed : (d : DeviceSetup) (past now : List Met) (lines : List Line) (c : Command) (since : List Line) (q : Request) → is_once q ≡ false → job lines ≡ works c since →
-    On (world past lines) (world now lines) → Keeps past lines →
-    Keeps now (with_ended (end_of d c (exchange (Some q) None) since (epoch lines)) (exchange (Some q) None ∷ lines))
-keeps_failed d past now lines c since (SetMask mask) many is_job on keeps = absurd cc
-keeps_failed d past now lines c since (Dispense serial count) many is_job on keeps = absurd cc
-keeps_failed d past now lines c since q many is_job on keeps =
-    keeps_with_ended now (exchange (Some q) None ∷ lines) _ (failure_other d c q since (epoch lines))
-    (keeps_exchange past now lines c since (Some q) None is_job on keeps.sound
-    (for_on (world past lines) (world now lines) (book lines) c (done since) (credits_read since) (judged_in c since (epoch lines)) on (fits_at past lines c since is_job keeps)))
+keeps_failed : (d : DeviceSetup) (past now : List Met) (lines : List Line) (c : Command) (since : List Line) (q : Request) → sent_once (rest d c since) ≡ false → job lines ≡ works c since →
+    On (world past lines) (world now lines) → Keeps d past lines →
+    Keeps d now (with_ended (end_of d c (exchange (Some q) None) since (epoch lines)) (exchange (Some q) None ∷ lines))
+keeps_failed d past now lines c since q again is_job on keeps =
+    let line = exchange (Some q) None in
+    let before = for_on (world past lines) (world now lines) (book lines) c (done (rows_of d c) since) (credits_read since) (judged_in c since (epoch lines)) on (fits_at d past lines c since is_job keeps) in
+    let stays = subst (λ n. FitsFor (world now lines) (book lines) c n (credits_read since) (judged_in c since (epoch lines))) (sym (failed_stays (rows_of d c) (Some q) since again)) before in
+    keeps_with_ended d now (line ∷ lines) _ (failure_other d c q since (epoch lines))
+    (keeps_exchange d past now lines c since (Some q) None is_job on keeps.sound (unanswered_fits d now lines c since q stays))
 
 -- a request that opens no place
 abbrev pub IsMild : Request → Type 0
@@ -204,13 +213,13 @@ on_heard past lines q mild = on_nothing (world past lines)
 
 -- so what is left to show is what the reply brings
 pub by_fate : (d : DeviceSetup) (past : List Met) (lines : List Line) (c : Command) (since : List Line) (q : Request) (asked : Option Request) (got : Option Reply) →
-    is_once q ≡ false → IsMild q → job lines ≡ works c since → Keeps past lines →
+    sent_once (rest d c since) ≡ false → IsMild q → job lines ≡ works c since → Keeps d past lines →
     ((y : Reply) → reply_of d past q ≡ Some y → KeepsAsk d past lines c since q (Some q) (Some y)) → Fate d past q asked got → KeepsAsk d past lines c since q asked got
-by_fate d past lines c since q asked got many mild is_job keeps replied unheard =
-    keeps_failed d past (heard None ∷ past) lines c since q many is_job (on_nothing (world past lines)) keeps
-by_fate d past lines c since q asked got many mild is_job keeps replied silenced =
-    keeps_failed d past (heard (Some q) ∷ past) lines c since q many is_job (on_heard past lines q mild) keeps
-by_fate d past lines c since q asked got many mild is_job keeps replied (answered y gives) = replied y gives
+by_fate d past lines c since q asked got again mild is_job keeps replied unheard =
+    keeps_failed d past (heard None ∷ past) lines c since q again is_job (on_nothing (world past lines)) keeps
+by_fate d past lines c since q asked got again mild is_job keeps replied silenced =
+    keeps_failed d past (heard (Some q) ∷ past) lines c since q again is_job (on_heard past lines q mild) keeps
+by_fate d past lines c since q asked got again mild is_job keeps replied (answered y gives) = replied y gives
 
 -- a row tells its request or its record
 pub request_is : (q r : Request) → sends q ≡ sends r → q ≡ r

@@ -1,13 +1,15 @@
 -- What the job at each device needs of its epoch and its open order is kept by each step, whatever the wire does: they
 -- change only by the puts of that job.
-use Rattle.std.proofs.Common.{◌≡◌, ℕ, zero, suc, ◌≤◌, List, [], ◌∷◌, ◌++◌, refl, ap, sym, ◌∙◌, subst, subst₂, Option, Some, None, arith}
+use Rattle.std.proofs.Common.{◌≡◌, ℕ, Bool, true, false, List, [], ◌∷◌, ◌++◌, refl, ap, sym, ◌∙◌, subst, subst₂, Option, Some, None, rules}
 use Rattle.std.specs.Prelude.{⊤}
+use Rattle.std.proofs.lemmas.Bool.{and_parts}
 use Rattle.cct_model.specs.terms.device.DeviceSetup.{DeviceSetup}
 use Rattle.cct_model.specs.terms.device.Setup.{Setup}
 use Rattle.cct_model.specs.terms.request.Request.{Request}
 use Rattle.cct_model.specs.lines.record.Record.{Record}
 use Rattle.cct_model.specs.lines.command.Command.{Command}
 use Rattle.cct_model.specs.lines.record.Record.TheVariants as record_of
+use Rattle.cct_model.specs.declared.judging.Judged.{Judged}
 use Rattle.cct_model.specs.declared.judging.Judged.TheVariants.{Nothing, Reading, Broken}
 use Rattle.cct_model.specs.lines.command.Command.TheVariants as command
 use Rattle.cct_model.specs.lines.command.Step.{Step}
@@ -22,28 +24,27 @@ use Rattle.cct_model.specs.Setup.{IsSoundSetup}
 use Rattle.cct_model.specs.Exchange.{ask, asked}
 use Rattle.cct_model.specs.Line.{Line, exchange, put, taken}
 use Rattle.cct_model.specs.Order.{order_by, order}
-use Rattle.cct_model.specs.Job.{Job, free, works, with_line, job, done, puts, counted, epoch_by, epoch, Payment, payment_in, judged_in, credits_read, mask_read}
-use Rattle.cct_model.specs.Rows.{row, end_of, row_at, end_kept, if_posted, puts_due, after, reading, rows_of, epoch_end, ends_as}
+use Rattle.cct_model.specs.Job.{Job, free, works, with_line, job, puts, counted, epoch_by, epoch, Payment, payment_in, judged_in, credits_read, mask_read, address_of, ident_requests}
+use Rattle.cct_model.specs.Refusal.{start_refusal}
+use Rattle.cct_model.specs.Rows.{Then, if_posted, Due, new_epoch, reading, epoch_end, new_order, order_end, sale, TableRow, asks_for, asks_once, waits_for_coins, puts_due, rows_of, from, done, rest, first, row, end_kept, end_of}
 use Rattle.cct_model.specs.Following.{is_running}
 use Rattle.cct_model.specs.Transcript.{lines_of, heard_after, got_by, doses_of}
+use Rattle.cct_model.proofs.Rows.{but_first, after_none, after_next, after_line, fact_after, EachBefore, before_on, told_fact, each_told, puts_only}
 use Rattle.cct_laws.specs.Ids.{Ids}
 use Rattle.cct_laws.specs.Kept.{IsTaken, with_ended}
 use Rattle.cct_laws.specs.KeptHopper.{IsOwed}
 use Rattle.cct_laws.specs.Law.{IsOf}
 use Rattle.cct_laws.proofs.Brought.{wire_of, wire_end, record_end, AtDevice, came, took, halted, idled, made_exchange, made_put, Brought, begun_at_work}
-use Rattle.cct_laws.proofs.Follow.{NeedsOf, runs_by}
-use Rattle.cct_laws.proofs.Held.{done_grows, IsReading, judged_reads, same_record}
+use Rattle.cct_laws.proofs.Follow.{DueNeeds, IfPuts, NeedsOf, runs_by}
+use Rattle.cct_laws.proofs.Held.{IsReading, judged_reads, same_record, HoldWell, rest_well, passed_ends}
 use Rattle.cct_laws.proofs.Ids.{put_owned}
 use Rattle.cct_laws.proofs.Seen.{Lost, bare, kept_here, kept_elsewhere, seen_here, seen_aside, seen_lost, seen_from, passed_same, lines_wire, lines_put, lines_taken, lines_kept, lines_kept_elsewhere, lines_with_end}
 use Rattle.cct_laws.proofs.Unmoved.{AreSame, same_came, same_dosed}
-use Rattle.cct_model.specs.declared.judging.Judged.{Judged}
-use Rattle.cct_model.specs.declared.judging.Judged.TheVariants.{Reading, Broken, Nothing}
-use Rattle.cct_model.specs.lines.entry.End.TheVariants.{Stopped}
 
 -- what the job of lines needs
 abbrev pub Needs : DeviceSetup → Job → EpochState → Option OpenOrder → Type 0
 Needs d free state owed = ⊤
-Needs d (works c since) state owed = NeedsOf d c (done since) state owed
+Needs d (works c since) state owed = NeedsOf d (rest d c since) state owed
 
 abbrev pub NeedsIn : DeviceSetup → List Line → Type 0
 NeedsIn d lines = Needs d (job lines) (epoch lines) (order lines)
@@ -60,23 +61,20 @@ pub needs_as : (d : DeviceSetup) (lines : List Line) (j : Job) → job lines ≡
 needs_as d lines j is needs = subst (λ x. Needs d x (epoch lines) (order lines)) (sym is) needs
 
 pub needs_at : (d : DeviceSetup) (lines : List Line) (c : Command) (since : List Line) → job lines ≡ works c since →
-    NeedsIn d lines → NeedsOf d c (done since) (epoch lines) (order lines)
+    NeedsIn d lines → NeedsOf d (rest d c since) (epoch lines) (order lines)
 needs_at d lines c since is needs = subst (λ x. Needs d x (epoch lines) (order lines)) is needs
-
--- after more rows a job needs no more
-needs_later : (d : DeviceSetup) (c : Command) (few many : ℕ) (state : EpochState) (owed : Option OpenOrder) →
-    few ≤ many → NeedsOf d c few state owed → NeedsOf d c many state owed
-needs_later d (command.Start addr mask) few many state owed le needs = λ small. needs (omega (arith, le, small))
-needs_later d (command.Round addr) few many state owed le needs = λ small. needs (omega (arith, le, small))
-needs_later d (command.Stop addr) few many state owed le needs = λ small. needs (omega (arith, le, small))
-needs_later d (command.Pay addr id count) few many state owed le needs = λ small. needs (omega (arith, le, small))
-needs_later d c few many state owed le needs = tt
 
 -- an end
 needs_ended : (d : DeviceSetup) (end : Option End) (lines : List Line) → NeedsIn d lines →
     NeedsIn d (with_ended end lines)
 needs_ended d None lines needs = needs
 needs_ended d (Some end) lines needs = tt
+
+-- without the first of its rows a job needs no more
+needs_next : (d : DeviceSetup) (rows : List TableRow) (state : EpochState) (owed : Option OpenOrder) →
+    NeedsOf d rows state owed → NeedsOf d (but_first rows) state owed
+needs_next d [] state owed needs = tt
+needs_next d (r ∷ rows) state owed needs = needs.1
 
 -- an exchange
 needs_asked : (d : DeviceSetup) (q : Option Request) (got : Option Reply) (lines : List Line) → NeedsIn d lines →
@@ -87,8 +85,8 @@ needs_asked d q got lines needs = by_job (job lines) needs
         Needs d (with_line (exchange q got) j) (epoch lines) (order lines)
     by_job free holds = tt
     by_job (works c since) holds =
-        needs_later d c (done since) (done (exchange q got ∷ since)) (epoch lines) (order lines)
-        (done_grows q got since) holds
+        after_line (λ rows. NeedsOf d rows (epoch lines) (order lines)) (rows_of d c) (exchange q got) since holds
+        (needs_next d (rest d c since) (epoch lines) (order lines) holds)
 
 -- a halt
 needs_halted : (d : DeviceSetup) (addr : ℕ) (lines : List Line) → NeedsIn d lines →
@@ -102,92 +100,127 @@ needs_halted d addr lines needs = by_job (job lines) needs
 
 -- a command
 needs_begun : (d : DeviceSetup) (c : Command) (state : EpochState) (owed : Option OpenOrder) → IsTaken d c state →
-    IsOwed c owed → NeedsOf d c 0 state owed
-needs_begun d (command.Start addr mask) state owed is_taken is_owed = λ few. is_taken
-needs_begun d (command.Round addr) state owed is_taken is_owed = λ few. runs_by state is_taken
-needs_begun d (command.Stop addr) state owed is_taken is_owed = λ few. runs_by state is_taken
-needs_begun d (command.Pay addr id count) state owed is_taken is_owed = λ few. is_owed
-needs_begun d c state owed is_taken is_owed = tt
+    IsOwed c owed → NeedsOf d (rows_of d c) state owed
+needs_begun d (command.Round addr) state owed is_taken is_owed =
+    let runs = runs_by state is_taken in search rules
+needs_begun d (command.Stop addr) state owed is_taken is_owed =
+    let runs = runs_by state is_taken in search rules
+needs_begun d (command.Ident addr) state owed is_taken is_owed =
+    each_told (IfPuts (DueNeeds d state owed)) (λ q. tt) (λ q. tt) (ident_requests d.body)
+needs_begun d c state owed is_taken is_owed = search rules
 
--- a put that ends no job: of a stop it is a reading, behind which the epoch still runs, and each other job then needs
--- nothing
+-- what a put that ends no job leaves
+
+-- a record that needs nothing
+abbrev needs_none : Due → Bool
+needs_none order_end = true
+needs_none (sale id price) = true
+needs_none due = false
+
+none_needed : (d : DeviceSetup) (state : EpochState) (owed : Option OpenOrder) (due : Due) → needs_none due ≡ true →
+    DueNeeds d state owed due
+none_needed d state owed order_end none = tt
+none_needed d state owed (sale id price) none = tt
+none_needed d state owed due none = absurd cc
+
+no_needs : (d : DeviceSetup) (state : EpochState) (owed : Option OpenOrder) (rows : List TableRow) →
+    puts_only needs_none rows ≡ true → NeedsOf d rows state owed
+no_needs d state owed [] only = tt
+no_needs d state owed (puts_due due behind ∷ rows) only =
+    let parts = and_parts (needs_none due) (puts_only needs_none rows) only in
+    (none_needed d state owed due parts.0, no_needs d state owed rows parts.1)
+no_needs d state owed (asks_for q behind ∷ rows) only = (tt, no_needs d state owed rows only)
+no_needs d state owed (asks_once q behind without ∷ rows) only = (tt, no_needs d state owed rows only)
+no_needs d state owed (waits_for_coins ∷ rows) only = (tt, no_needs d state owed rows only)
+
+-- a break ends its job
+abbrev BreakEnds : Then → Type 0
+BreakEnds (if_posted of_reading) = ⊤
+BreakEnds behind = ⊥
+
+-- so it does after a reading, and after any other put nothing more is needed
+abbrev NeedsWell : TableRow → List TableRow → Type 0
+NeedsWell (puts_due reading behind) rows = BreakEnds behind
+NeedsWell (puts_due due behind) rows = puts_only needs_none rows ≡ true
+NeedsWell r rows = ⊤
+
+needs_well : (d : DeviceSetup) (c : Command) → EachBefore NeedsWell (rows_of d c)
+needs_well d (command.Ident addr) =
+    told_fact (EachBefore NeedsWell) tt (λ q behind rows each. (tt, each)) (ident_requests d.body)
+needs_well d c = search rules
+
+-- a reading leaves an epoch as it is, but for its counter
 counted_runs : (counter : ℕ) (state : EpochState) → is_running (counted counter state) ≡ is_running state
 counted_runs counter Idle = refl
 counted_runs counter (Running mask before) = refl
 
-start_put : (d : DeviceSetup) (addr mask rows : ℕ) (judged : Judged) (p : Payment) (state : EpochState)
-    (owed : Option OpenOrder) (r : Record) → row_at d (command.Start addr mask) rows judged p ≡ puts r →
-    NeedsOf d (command.Start addr mask) (suc rows) state owed
-start_put d addr mask zero judged p state owed r is = absurd cc
-start_put d addr mask (suc zero) judged p state owed r is = absurd cc
-start_put d addr mask (suc (suc rows)) judged p state owed r is = λ few. absurd (omega (arith, few))
+counted_starts : (d : DeviceSetup) (mask counter : ℕ) (state : EpochState) →
+    start_refusal mask d (counted counter state) ≡ start_refusal mask d state
+counted_starts d mask counter Idle = refl
+counted_starts d mask counter (Running running before) = refl
 
-round_put : (d : DeviceSetup) (addr rows : ℕ) (judged : Judged) (p : Payment) (state : EpochState)
-    (owed : Option OpenOrder) (r : Record) → row_at d (command.Round addr) rows judged p ≡ puts r →
-    NeedsOf d (command.Round addr) (suc rows) state owed
-round_put d addr zero judged p state owed r is = absurd cc
-round_put d addr (suc zero) judged p state owed r is = absurd cc
-round_put d addr (suc (suc rows)) judged p state owed r is = λ few. absurd (omega (arith, few))
+due_counted : (d : DeviceSetup) (counter : ℕ) (state : EpochState) (owed : Option OpenOrder) (due : Due) →
+    DueNeeds d state owed due → DueNeeds d (counted counter state) owed due
+due_counted d counter state owed (new_epoch mask) needs = counted_starts d mask counter state ∙ needs
+due_counted d counter state owed reading needs = counted_runs counter state ∙ needs
+due_counted d counter state owed epoch_end needs = counted_runs counter state ∙ needs
+due_counted d counter state owed (new_order id count) needs = needs
+due_counted d counter state owed due needs = tt
 
-pay_put : (d : DeviceSetup) (addr id count rows : ℕ) (judged : Judged) (p : Payment) (state : EpochState)
-    (owed : Option OpenOrder) (r : Record) → row_at d (command.Pay addr id count) rows judged p ≡ puts r →
-    NeedsOf d (command.Pay addr id count) (suc rows) state owed
-pay_put d addr id count zero judged p state owed r is = absurd cc
-pay_put d addr id count (suc zero) judged p state owed r is = absurd cc
-pay_put d addr id count (suc (suc rows)) judged p state owed r is = λ few. absurd (omega (arith, few))
+needs_counted : (d : DeviceSetup) (counter : ℕ) (state : EpochState) (owed : Option OpenOrder) (rows : List TableRow) →
+    NeedsOf d rows state owed → NeedsOf d rows (counted counter state) owed
+needs_counted d counter state owed [] needs = tt
+needs_counted d counter state owed (puts_due due behind ∷ rows) needs =
+    (due_counted d counter state owed due needs.0, needs_counted d counter state owed rows needs.1)
+needs_counted d counter state owed (asks_for q behind ∷ rows) needs = (tt, needs_counted d counter state owed rows needs.1)
+needs_counted d counter state owed (asks_once q behind without ∷ rows) needs =
+    (tt, needs_counted d counter state owed rows needs.1)
+needs_counted d counter state owed (waits_for_coins ∷ rows) needs =
+    (tt, needs_counted d counter state owed rows needs.1)
 
--- an epoch still runs behind a record that doesn't end a stop
-StillRuns : EpochState → Record → Type 0
-StillRuns state r = is_running (epoch_by r state) ≡ is_running state
+needs_read : (d : DeviceSetup) (state : EpochState) (owed : Option OpenOrder) (rows : List TableRow) (e r : Record) →
+    e ≡ r → IsReading (Reading e) → NeedsOf d rows state owed → NeedsOf d rows (epoch_by r state) (order_by r owed)
+needs_read d state owed rows (record_of.Reading addr counter lost posted) r same reads needs =
+    subst (λ x. NeedsOf d rows (epoch_by x state) (order_by x owed)) same (needs_counted d counter state owed rows needs)
+needs_read d state owed rows e r same reads needs = absurd reads
 
-stop_posts : (state : EpochState) (r e : Record) → e ≡ r → IsReading (Reading e) → StillRuns state r
-unfolding StillRuns
-stop_posts state r (record_of.Reading addr counter lost posted) same reads =
-    subst (λ x. is_running (epoch_by x state) ≡ is_running state) same (counted_runs counter state)
-stop_posts state r e same reads = absurd reads
+break_ends : (behind : Then) (rows : List TableRow) (e r : Record) → e ≡ r → IsReading (Broken e) → BreakEnds behind →
+    end_kept (puts_due reading behind ∷ rows) r ≡ None → ⊥
+break_ends (if_posted of_reading) rows (record_of.Broken addr seen counter posted) r same reads breaks none =
+    let over : end_kept (puts_due reading (if_posted of_reading) ∷ rows) (record_of.Broken addr seen counter posted) ≡ None =
+    ap (end_kept (puts_due reading (if_posted of_reading) ∷ rows)) same ∙ none in
+    cc
+break_ends (if_posted of_reading) rows e r same reads breaks none = reads
+break_ends behind rows e r same reads breaks none = breaks
 
-stop_breaks : (state : EpochState) (r e : Record) → e ≡ r → IsReading (Broken e) →
-    end_kept (puts_due reading (if_posted None) ∷ puts_due epoch_end (ends_as Stopped) ∷ []) r ≡ None → StillRuns state r
-stop_breaks state r (record_of.Broken addr seen counter posted) same reads none =
-    let broke : end_kept (puts_due reading (if_posted None) ∷ puts_due epoch_end (ends_as Stopped) ∷ []) (record_of.Broken addr seen counter posted) ≡ None =
-    ap (end_kept (puts_due reading (if_posted None) ∷ puts_due epoch_end (ends_as Stopped) ∷ [])) same ∙ none in
-    absurd cc
-stop_breaks state r e same reads none = absurd reads
-
-stop_put : (d : DeviceSetup) (addr rows : ℕ) (judged : Judged) (p : Payment) (state : EpochState) (r : Record) →
-    IsReading judged → row_at d (command.Stop addr) rows judged p ≡ puts r →
-    end_kept (after (rows_of d (command.Stop addr)) rows) r ≡ None → StillRuns state r
-stop_put d addr zero judged p state r reads is none = absurd cc
-stop_put d addr (suc zero) judged p state r reads is none = absurd cc
-stop_put d addr (suc (suc zero)) judged p state r reads is none = absurd cc
-stop_put d addr (suc (suc (suc zero))) Nothing p state r reads is none =
-    let over : end_kept (after (rows_of d (command.Stop addr)) 3) (record_of.EpochEnd addr) ≡ None =
-    ap (end_kept (after (rows_of d (command.Stop addr)) 3)) (same_record (record_of.EpochEnd addr) r is) ∙ none in
-    absurd cc
-stop_put d addr (suc (suc (suc zero))) (Reading e) p state r reads is none = stop_posts state r e (same_record e r is) reads
-stop_put d addr (suc (suc (suc zero))) (Broken e) p state r reads is none =
-    stop_breaks state r e (same_record e r is) reads none
-stop_put d addr (suc (suc (suc (suc zero)))) judged p state r reads is none = absurd cc
-stop_put d addr (suc (suc (suc (suc (suc rows))))) judged p state r reads is none = absurd cc
+first_needs : (d : DeviceSetup) (addr : ℕ) (means : Judged) (p : Payment) (state : EpochState) (rows : List TableRow)
+    (r : Record) → IsReading means → EachBefore NeedsWell rows → HoldWell rows →
+    first addr means p (from rows means) ≡ puts r → end_kept rows r ≡ None → NeedsOf d rows state p.owed →
+    NeedsOf d (but_first rows) (epoch_by r state) (order_by r p.owed)
+first_needs d addr means p state [] r reads well held is none needs = tt
+first_needs d addr means p state (asks_for q behind ∷ rows) r reads well held is none needs = absurd cc
+first_needs d addr means p state (asks_once q behind without ∷ rows) r reads well held is none needs = absurd cc
+first_needs d addr means p state (waits_for_coins ∷ rows) r reads well held is none needs = absurd cc
+first_needs d addr Nothing p state (puts_due reading behind ∷ rows) r reads well held is none needs =
+    absurd (passed_ends addr p behind rows r held.0 is none)
+first_needs d addr (Reading e) p state (puts_due reading behind ∷ rows) r reads well held is none needs =
+    needs_read d state p.owed rows e r (same_record e r is) reads needs.1
+first_needs d addr (Broken e) p state (puts_due reading behind ∷ rows) r reads well held is none needs =
+    absurd (break_ends behind rows e r (same_record e r is) reads well.0 none)
+first_needs d addr means p state (puts_due due behind ∷ rows) r reads well held is none needs =
+    no_needs d (epoch_by r state) (order_by r p.owed) rows well.0
 
 needs_put : (d : DeviceSetup) (c : Command) (since : List Line) (state : EpochState) (owed : Option OpenOrder)
     (r : Record) → row d c since state owed ≡ puts r → end_of d c (put r) since state ≡ None →
-    NeedsOf d c (done since) state owed → NeedsOf d c (suc (done since)) (epoch_by r state) (order_by r owed)
-unfolding StillRuns
-needs_put d (command.Start addr mask) since state owed r is none needs =
-    start_put d addr mask (done since) (judged_in (command.Start addr mask) since state) (payment_in since owed)
-    (epoch_by r state) (order_by r owed) r is
-needs_put d (command.Round addr) since state owed r is none needs =
-    round_put d addr (done since) (judged_in (command.Round addr) since state) (payment_in since owed) (epoch_by r state)
-    (order_by r owed) r is
-needs_put d (command.Stop addr) since state owed r is none needs =
-    λ few. stop_put d addr (done since) (judged_in (command.Stop addr) since state) (payment_in since owed) state r
-    (judged_reads addr state (credits_read since) (mask_read since)) is none
-    ∙ needs (omega (arith, few))
-needs_put d (command.Pay addr id count) since state owed r is none needs =
-    pay_put d addr id count (done since) (judged_in (command.Pay addr id count) since state) (payment_in since owed)
-    (epoch_by r state) (order_by r owed) r is
-needs_put d c since state owed r is none needs = tt
+    NeedsOf d (rest d c since) state owed →
+    NeedsOf d (rest d c (put r ∷ since)) (epoch_by r state) (order_by r owed)
+needs_put d c since state owed r is none needs =
+    let n = done (rows_of d c) since in
+    subst (λ rows. NeedsOf d rows (epoch_by r state) (order_by r owed)) (sym (after_next (rows_of d c) n))
+    (first_needs d (address_of c) (judged_in c since state) (payment_in since owed) state (rest d c since) r
+    (judged_reads (address_of c) state (credits_read since) (mask_read since))
+    (fact_after (EachBefore NeedsWell) (before_on NeedsWell) (rows_of d c) n (needs_well d c)) (rest_well d c since) is
+    none needs)
 
 needs_record : (d : DeviceSetup) (c : Command) (since : List Line) (r : Record) (lines : List Line) →
     job lines ≡ works c since → row d c since (epoch lines) (order lines) ≡ puts r → NeedsIn d lines →
@@ -209,7 +242,8 @@ needs_there capacity setup d past _ _ ids own (came s x m ls comes) needs =
 needs_there capacity setup d past _ _ ids own (took c suited here is_free is_taken is_owed lets) needs =
     subst (NeedsIn d) (sym (lines_taken d past c here))
     (needs_as d (taken c ∷ lines_of d past) (works c []) (begun_at_work d.body c (lines_of d past) suited)
-    (needs_begun d c (epoch (lines_of d past)) (order (lines_of d past)) is_taken is_owed))
+    (subst (λ rows. NeedsOf d rows (epoch (lines_of d past)) (order (lines_of d past))) (sym (after_none (rows_of d c)))
+    (needs_begun d c (epoch (lines_of d past)) (order (lines_of d past)) is_taken is_owed)))
 needs_there capacity setup d past _ _ ids own (halted paying can) needs =
     subst (NeedsIn d) (sym (lines_taken d past (command.Halt d.addr) refl))
     (needs_halted d d.addr (lines_of d past) needs)

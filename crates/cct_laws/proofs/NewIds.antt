@@ -1,48 +1,64 @@
 -- That the id of a payment or of a sale that is not refused is a new one.
-use Rattle.std.proofs.Common.{◌≡◌, ◌≢◌, ℕ, ◌<◌, nat_le, cond, Bool, true, false, List, refl, Some, None, arith}
+use Rattle.std.proofs.Common.{◌≡◌, ◌≢◌, ℕ, ◌<◌, nat_le, cond, Bool, true, false, List, [], ◌∷◌, refl, Some, None, arith}
 use Rattle.std.proofs.lemmas.Bool.Decides.{nat_tests}
 use Rattle.cct_model.specs.terms.device.DeviceSetup.{DeviceSetup}
 use Rattle.cct_model.specs.terms.device.Setup.{Setup}
 use Rattle.cct_model.specs.lines.command.Command.TheVariants as command
 use Rattle.cct_model.specs.lines.command.CommandNo.TheVariants.{OldId}
 use Rattle.cct_model.specs.lines.entry.Entry.{Entry}
-use Rattle.cct_model.specs.Job.{Job, free, works, job, done}
+use Rattle.cct_model.specs.Job.{Job, free, works, job}
+use Rattle.cct_model.specs.Rows.{new_epoch, reading, epoch_end, new_order, order_end, sale, TableRow, asks_for, asks_once, waits_for_coins, puts_due, rows_of, rows_of_sale, after, done, id_in}
 use Rattle.cct_model.specs.Records.{records}
-use Rattle.cct_model.specs.Refusal.{id_refusal, running_id, last_id, refusal}
+use Rattle.cct_model.specs.Refusal.{id_refusal, running_id, sale_id, last_id, refusal}
 use Rattle.cct_model.specs.Transcript.{lines_of, sale_lines}
-use Rattle.cct_laws.specs.Ids.{waiting}
+use Rattle.cct_laws.specs.Ids.{waiting_in, waiting, waiting_at, waiting_sale}
 use Rattle.cct_laws.specs.Law.{IsOf}
 use Rattle.cct_laws.proofs.Setups.{same_some}
 use Rattle.cct_laws.proofs.Sums.{greatest_holds}
 use Rattle.cct_laws.proofs.Tests.{tests_pass}
 use Rattle.cct_laws.proofs.Orders.{unused_above}
 use Rattle.cct_laws.proofs.Used.{Unused}
+use Rattle.cct_laws.proofs.Waits.{OneId, one_id, one_id_of_sale, after_waits}
 
 -- no record uses an id, and no job waits with it
 pub record IsNew (setup : Setup) (past : List Entry) (id : ℕ) : Type 0 where
   pub unused : Unused id (records past)
-  pub devices : (e : DeviceSetup) (other : ℕ) → IsOf setup e → waiting (job (lines_of e past)) ≡ Some other → id ≢ other
-  pub sale : (other : ℕ) → waiting (job (sale_lines past)) ≡ Some other → id ≢ other
+  pub devices : (e : DeviceSetup) (other : ℕ) → IsOf setup e → waiting_at past e ≡ Some other → id ≢ other
+  pub sale : (other : ℕ) → waiting_sale past ≡ Some other → id ≢ other
 
-waits_run : (j : Job) (id : ℕ) → waiting j ≡ Some id → running_id j ≡ id
-waits_run (works (command.Pay addr id count) since) n is = by_test (nat_le (done since) 2) is
-  where
-    by_test : (early : Bool) → cond early (Some id) None ≡ Some n → id ≡ n
-    by_test true same = same_some id n same
-    by_test false same = absurd cc
-waits_run (works (command.Vend id price) since) n is = same_some id n is
-waits_run (works c since) n is = absurd cc
-waits_run free n is = absurd cc
+-- the id that rows wait to record is theirs
+waits_own : (rows : List TableRow) (id : ℕ) → waiting_in rows ≡ Some id → id_in rows ≡ id
+waits_own [] id is = absurd cc
+waits_own (puts_due (new_order own count) behind ∷ rows) id is = same_some own id is
+waits_own (puts_due (sale own price) behind ∷ rows) id is = same_some own id is
+waits_own (puts_due (new_epoch mask) behind ∷ rows) id is = waits_own rows id is
+waits_own (puts_due reading behind ∷ rows) id is = waits_own rows id is
+waits_own (puts_due epoch_end behind ∷ rows) id is = waits_own rows id is
+waits_own (puts_due order_end behind ∷ rows) id is = waits_own rows id is
+waits_own (asks_for q behind ∷ rows) id is = waits_own rows id is
+waits_own (asks_once q behind without ∷ rows) id is = waits_own rows id is
+waits_own (waits_for_coins ∷ rows) id is = waits_own rows id is
+
+left_own : (rows : List TableRow) (n id : ℕ) → OneId rows → waiting_in (after rows n) ≡ Some id → id_in rows ≡ id
+left_own rows n id one is = waits_own rows id (after_waits rows n id one is)
+
+waits_run : (d : DeviceSetup) (j : Job) (id : ℕ) → waiting (rows_of d) j ≡ Some id → running_id d j ≡ id
+waits_run d free id is = absurd cc
+waits_run d (works c since) id is = left_own (rows_of d c) (done (rows_of d c) since) id (one_id d c) is
+
+sale_run : (j : Job) (id : ℕ) → waiting rows_of_sale j ≡ Some id → sale_id j ≡ id
+sale_run free id is = absurd cc
+sale_run (works c since) id is = left_own (rows_of_sale c) (done (rows_of_sale c) since) id (one_id_of_sale c) is
 
 new_by : (setup : Setup) (past : List Entry) (id : ℕ) → id_refusal id (last_id setup past) ≡ None → IsNew setup past id
 new_by setup past id none = record {
   unused = unused_above id (records past) (omega (arith, above));
   devices = λ e other own is same.
-      let runs = waits_run (job (lines_of e past)) other is in
+      let runs = waits_run e (job (lines_of e past)) other is in
       let below = greatest_holds past setup.devices e e.addr own in
       omega (arith, above);
   sale = λ other is same.
-      let runs = waits_run (job (sale_lines past)) other is in
+      let runs = sale_run (job (sale_lines past)) other is in
       omega (arith, above);
 }
   where

@@ -8,8 +8,10 @@ use Rattle.cct_model.specs.declared.judging.OpenOrder.{OpenOrder}
 use Rattle.cct_model.specs.lines.command.Command.{Command}
 use Rattle.cct_model.specs.lines.command.Command.TheVariants as command
 use Rattle.cct_model.specs.Order.{life_between, close, life_read}
-use Rattle.cct_model.specs.Job.{Job, free, works, done}
+use Rattle.cct_model.specs.Job.{Job, free, works}
 use Rattle.cct_model.specs.Paid.{OfOrder}
+use Rattle.cct_model.specs.Rows.{done, rows_of}
+use Rattle.cct_model.specs.terms.device.DeviceSetup.{DeviceSetup}
 
 -- what is counted: the coins that are left to fall and those that ever fell, and the dispenses that were taken and the
 -- coins that fell since an order was opened or closed
@@ -164,9 +166,9 @@ FitsFor start v owed life (command.Ident addr) rows = ⊤
 FitsFor start v owed life c rows = ⊥
 
 -- what a job needs
-abbrev pub FitsJob : ℕ → View → Option OpenOrder → Job → Type 0
-FitsJob start v owed free = ⊤
-FitsJob start v owed (works c since) = FitsFor start v owed (life_read since) c (done since)
+abbrev pub FitsJob : DeviceSetup → ℕ → View → Option OpenOrder → Job → Type 0
+FitsJob d start v owed free = ⊤
+FitsJob d start v owed (works c since) = FitsFor start v owed (life_read since) c (done (rows_of d c) since)
 
 life_on : (start : ℕ) (v w : View) (life : Option ℕ) → w.drops ≡ v.drops → IsLife start v life → IsLife start w life
 life_on start v w life same is = rw same is
@@ -202,10 +204,11 @@ for_less start v w owed life (command.Settle addr) rows less fits = settle_less 
 for_less start v w owed life (command.Ident addr) rows less fits = tt
 for_less start v w owed life c rows less fits = absurd fits
 
-pub fits_less : (start : ℕ) (v w : View) (owed : Option OpenOrder) (at_work : Job) → Less v w →
-    FitsJob start v owed at_work → FitsJob start w owed at_work
-fits_less start v w owed free less fits = tt
-fits_less start v w owed (works c since) less fits = for_less start v w owed (life_read since) c (done since) less fits
+pub fits_less : (d : DeviceSetup) (start : ℕ) (v w : View) (owed : Option OpenOrder) (at_work : Job) → Less v w →
+    FitsJob d start v owed at_work → FitsJob d start w owed at_work
+fits_less d start v w owed free less fits = tt
+fits_less d start v w owed (works c since) less fits =
+    for_less start v w owed (life_read since) c (done (rows_of d c) since) less fits
 
 -- a coin falls before nothing is left, so at no row of a payment or a settlement but those that wait for it
 settle_falls : (start : ℕ) (v w : View) (owed : Option OpenOrder) (life : Option ℕ) (rows : ℕ) → Falls v w →
@@ -244,8 +247,8 @@ for_falls start v w owed life (command.Settle addr) rows falls state fits =
 for_falls start v w owed life (command.Ident addr) rows falls state fits = tt
 for_falls start v w owed life c rows falls state fits = absurd fits
 
-pub fits_falls : (start : ℕ) (v w : View) (owed : Option OpenOrder) (at_work : Job) → Falls v w →
-    StateOf start v owed → FitsJob start v owed at_work → FitsJob start w owed at_work
-fits_falls start v w owed free falls state fits = tt
-fits_falls start v w owed (works c since) falls state fits =
-    for_falls start v w owed (life_read since) c (done since) falls state fits
+pub fits_falls : (d : DeviceSetup) (start : ℕ) (v w : View) (owed : Option OpenOrder) (at_work : Job) → Falls v w →
+    StateOf start v owed → FitsJob d start v owed at_work → FitsJob d start w owed at_work
+fits_falls d start v w owed free falls state fits = tt
+fits_falls d start v w owed (works c since) falls state fits =
+    for_falls start v w owed (life_read since) c (done (rows_of d c) since) falls state fits

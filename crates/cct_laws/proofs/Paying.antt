@@ -26,7 +26,8 @@ use Rattle.cct_laws.specs.Kept.{IsForOthers, is_for_hopper}
 use Rattle.cct_laws.specs.Odd.{IsNotOdd}
 use Rattle.cct_laws.specs.KeptHopper.{IsOwed, IsKeptHopper}
 use Rattle.cct_laws.proofs.Owing.{View, StateOf, Falls, state_falls, falls_of_order, IsOpen, FitsJob, fits_falls}
-use Rattle.cct_laws.proofs.Payouts.{life_of, view, Pays, pays_less, less_rest, IsMany, less_heard, sent_fits, put_fits, pays_asks, pays_ended, pays_puts}
+use Rattle.cct_laws.proofs.Payouts.{view, Pays, pays_less, less_rest, IsMany, less_heard, sent_fits, put_fits, pays_asks, pays_ended, pays_puts}
+use Rattle.cct_laws.proofs.Replies.{start_of}
 
 -- before anything came
 pays_start : (d : DeviceSetup) → Pays d [] []
@@ -39,7 +40,7 @@ positive n test = grind (arith, nat_tests)
 pays_fall : (d : DeviceSetup) (past : List Met) (lines : List Line) → (remaining d.serial past == 0) ≡ false →
     Pays d past lines → Pays d (fall ∷ past) (fell ∷ lines)
 pays_fall d past lines test pays =
-    let start = life_of d.body in
+    let start = start_of d.body in
     let v = view d past lines in
     let w = view d (fall ∷ past) (fell ∷ lines) in
     let some = positive (remaining d.serial past) test in
@@ -52,7 +53,7 @@ pays_fall d past lines test pays =
     record {
       paid = (falls_of_order start v w (order lines) falls pays.state, pays.paid);
       state = state_falls start v w (order lines) falls pays.state;
-      fits = fits_falls start v w (order lines) (job lines) falls pays.state pays.fits;
+      fits = fits_falls d start v w (order lines) (job lines) falls pays.state pays.fits;
     }
 
 -- none falls, or one sticks
@@ -91,33 +92,33 @@ settle_open : (owed : Option OpenOrder) → settle_refusal owed ≡ None → IsO
 settle_open None fine = absurd cc
 settle_open (Some o) fine = tt
 
-taken_fits : (start : ℕ) (v : View) (owed : Option OpenOrder) (c : Command) (before : Job) → is_for_hopper c ≡ true →
-    IsCommand c → IsOwed c owed → FitsJob start v owed (begun c before)
-taken_fits start v owed (command.Pay addr id count) before played in_range fine = (fine, in_range.2)
-taken_fits start v owed (command.Settle addr) before played in_range fine = settle_open owed fine
-taken_fits start v owed (command.Ident addr) before played in_range fine = tt
-taken_fits start v owed c before played in_range fine = absurd cc
+taken_fits : (d : DeviceSetup) (start : ℕ) (v : View) (owed : Option OpenOrder) (c : Command) (before : Job) → is_for_hopper c ≡ true →
+    IsCommand c → IsOwed c owed → FitsJob d start v owed (begun c before)
+taken_fits d start v owed (command.Pay addr id count) before played in_range fine = (fine, in_range.2)
+taken_fits d start v owed (command.Settle addr) before played in_range fine = settle_open owed fine
+taken_fits d start v owed (command.Ident addr) before played in_range fine = tt
+taken_fits d start v owed c before played in_range fine = absurd cc
 
 pays_taken : (d : DeviceSetup) (past : List Met) (lines : List Line) (c : Command) → is_for_hopper c ≡ true →
     IsCommand c → IsOwed c (order lines) → Pays d past lines → Pays d past (taken c ∷ lines)
 pays_taken d past lines c played in_range fine pays = record {
   paid = (tt, pays.paid);
   state = pays.state;
-  fits = taken_fits (life_of d.body) (view d past lines) (order lines) c (job lines) played in_range fine;
+  fits = taken_fits d (start_of d.body) (view d past lines) (order lines) c (job lines) played in_range fine;
 }
 
 -- a halt is taken, which changes no row
-halted_fits : (start : ℕ) (v : View) (owed : Option OpenOrder) (addr : ℕ) (at_work : Job) →
-    FitsJob start v owed at_work → FitsJob start v owed (with_line (taken (command.Halt addr)) at_work)
-halted_fits start v owed addr free fits = tt
-halted_fits start v owed addr (works c work) fits = fits
+halted_fits : (d : DeviceSetup) (start : ℕ) (v : View) (owed : Option OpenOrder) (addr : ℕ) (at_work : Job) →
+    FitsJob d start v owed at_work → FitsJob d start v owed (with_line (taken (command.Halt addr)) at_work)
+halted_fits d start v owed addr free fits = tt
+halted_fits d start v owed addr (works c work) fits = fits
 
 pays_halted : (d : DeviceSetup) (past : List Met) (lines : List Line) (addr : ℕ) → Pays d past lines →
     Pays d past (taken (command.Halt addr) ∷ lines)
 pays_halted d past lines addr pays = record {
   paid = (tt, pays.paid);
   state = pays.state;
-  fits = halted_fits (life_of d.body) (view d past lines) (order lines) addr (job lines) pays.fits;
+  fits = halted_fits d (start_of d.body) (view d past lines) (order lines) addr (job lines) pays.fits;
 }
 
 -- the host loses its power, before the record of its job is in the journal or behind that
@@ -164,7 +165,7 @@ pays_paid d past lines pays = pays.paid
 -- without an open order nothing is left to fall
 pub rests_unowed : (d : DeviceSetup) (past : List Met) (lines : List Line) → Pays d past lines → order lines ≡ None →
     remaining d.serial past ≡ 0
-rests_unowed d past lines pays none = subst (StateOf (life_of d.body) (view d past lines)) none pays.state
+rests_unowed d past lines pays none = subst (StateOf (start_of d.body) (view d past lines)) none pays.state
 
 -- a dispense is sent only where an order of just its coins is open that none was taken for, and to the hopper itself
 pub dispense_fresh : (d : DeviceSetup) (past : List Met) (lines : List Line) (c : Command) (work : List Line)

@@ -19,18 +19,18 @@ use Rattle.cct_laws.proofs.Whole.{kept_legal}
 
 -- what holds of the lines holds in every legal transcript
 pub legal_keeps : (capacity : ℕ) (setup : Setup) (steps : List Step) (transcript : List Entry) (d : DeviceSetup) → IsSoundSetup setup → IsOf setup d → IsAcceptor d.body → All IsInRange steps →
-    Legal capacity setup steps transcript → Honest transcript → Keeps (met d (onto [] transcript)) (lines_in d transcript)
+    Legal capacity setup steps transcript → Honest transcript → Keeps d (met d (onto [] transcript)) (lines_in d transcript)
 legal_keeps capacity setup steps transcript d sound own accepting in_range legal honest =
-    kept_legal capacity setup steps transcript d Keeps sound own accepting in_range legal honest (keeps_kept d accepting)
+    kept_legal capacity setup steps transcript d (Keeps d) sound own accepting in_range legal honest (keeps_kept d accepting)
 
 -- posts are accepted coins in their order, none twice
 pub legal_in_order : (capacity : ℕ) (setup : Setup) (steps : List Step) (transcript : List Entry) (d : DeviceSetup) → IsSoundSetup setup → IsOf setup d → IsAcceptor d.body → All IsInRange steps →
     Legal capacity setup steps transcript → Honest transcript → InOrder (lines_in d transcript)
 legal_in_order capacity setup steps transcript d sound own accepting in_range legal honest =
-    kept_in_order _ _ (legal_keeps capacity setup steps transcript d sound own accepting in_range legal honest)
+    kept_in_order d _ _ (legal_keeps capacity setup steps transcript d sound own accepting in_range legal honest)
 
 -- under the pace no coin is lost in silence
 pub legal_covers : (capacity : ℕ) (setup : Setup) (steps : List Step) (transcript : List Entry) (d : DeviceSetup) → IsSoundSetup setup → IsOf setup d → IsAcceptor d.body → All IsInRange steps →
     Legal capacity setup steps transcript → Honest transcript → Pace (lines_in d transcript) → Covers (lines_in d transcript)
 legal_covers capacity setup steps transcript d sound own accepting in_range legal honest =
-    kept_covers _ _ (legal_keeps capacity setup steps transcript d sound own accepting in_range legal honest)
+    kept_covers d _ _ (legal_keeps capacity setup steps transcript d sound own accepting in_range legal honest)

@@ -13,8 +13,8 @@ use Rattle.cct_model.specs.lines.command.Command.{Command}
 use Rattle.cct_model.specs.lines.command.Command.TheVariants as command
 use Rattle.cct_model.specs.History.{Met}
 use Rattle.cct_model.specs.Line.{Line}
-use Rattle.cct_model.specs.Job.{works, job, Row, puts, no_row, put_or, done, epoch, credits_read, mask_read, address_of, judged_by, judged_in, Payment, payment_in}
-use Rattle.cct_model.specs.Rows.{row, row_at}
+use Rattle.cct_model.specs.Job.{works, job, Row, puts, no_row, put_or, epoch, credits_read, mask_read, address_of, judged_by, judged_in, Payment, payment_in}
+use Rattle.cct_model.specs.Rows.{row, row_at, done, rows_of}
 use Rattle.cct_model.specs.Order.{order}
 use Rattle.cct_laws.specs.Kept.{is_for_acceptor}
 use Rattle.cct_laws.proofs.World.{World, Silent, world}
@@ -91,19 +91,19 @@ stop_row_puts d w b addr r credits judged p (suc (suc (suc (suc (suc rows))))) r
 -- the row of any job at an acceptor
 pub row_puts : (d : DeviceSetup) (past : List Met) (lines : List Line) (c : Command) (since : List Line) (r : Record) →
     is_for_acceptor c ≡ true → job lines ≡ works c since → address_of c ≡ d.addr →
-    row d c since (epoch lines) (order lines) ≡ puts r → Keeps past lines → Puts d (world past lines) (epoch lines) r
+    row d c since (epoch lines) (order lines) ≡ puts r → Keeps d past lines → Puts d (world past lines) (epoch lines) r
 row_puts d past lines (command.Start addr mask) since r suited is_job here row_is keeps =
-    start_row_puts d (world past lines) (book lines) addr mask r (judged_in (command.Start addr mask) since (epoch lines)) (payment_in since (order lines)) (done since) here
-    (fits_at past lines (command.Start addr mask) since is_job keeps) row_is
+    start_row_puts d (world past lines) (book lines) addr mask r (judged_in (command.Start addr mask) since (epoch lines)) (payment_in since (order lines)) (done (rows_of d (command.Start addr mask)) since) here
+    (fits_at d past lines (command.Start addr mask) since is_job keeps) row_is
 row_puts d past lines (command.Round addr) since r suited is_job here row_is keeps =
     let c = command.Round addr in
-    round_row_puts d (world past lines) (book lines) addr r (credits_read since) (judged_in c since (epoch lines)) (payment_in since (order lines)) (done since)
-    (judged_runs addr (epoch lines) (credits_read since) (mask_read since)) (fits_at past lines c since is_job keeps) row_is
+    round_row_puts d (world past lines) (book lines) addr r (credits_read since) (judged_in c since (epoch lines)) (payment_in since (order lines)) (done (rows_of d c) since)
+    (judged_runs addr (epoch lines) (credits_read since) (mask_read since)) (fits_at d past lines c since is_job keeps) row_is
 row_puts d past lines (command.Stop addr) since r suited is_job here row_is keeps =
     let c = command.Stop addr in
     stop_row_puts d (world past lines) (book lines) addr r (credits_read since) (judged_in c since (epoch lines))
-    (payment_in since (order lines)) (done since) (judged_runs addr (epoch lines) (credits_read since) (mask_read since))
-    (fits_at past lines c since is_job keeps) row_is
+    (payment_in since (order lines)) (done (rows_of d c) since) (judged_runs addr (epoch lines) (credits_read since) (mask_read since))
+    (fits_at d past lines c since is_job keeps) row_is
 row_puts d past lines (command.Ident addr) since r suited is_job here row_is keeps =
     absurd (plain_puts d lines (command.Ident addr) since r tt row_is)
 row_puts d past lines (command.Path addr place path) since r suited is_job here row_is keeps =

@@ -10,16 +10,18 @@ use Rattle.cct_model.specs.lines.record.Record.TheVariants as record_of
 use Rattle.cct_model.specs.lines.entry.Entry.{Entry}
 use Rattle.cct_model.specs.lines.entry.Entry.TheVariants as entry
 use Rattle.cct_model.specs.lines.entry.Totals.{Totals}
+use Rattle.cct_model.specs.declared.judging.EpochState.{EpochState}
 use Rattle.cct_model.specs.declared.judging.OpenOrder.{OpenOrder}
 use Rattle.cct_model.specs.History.{Met}
 use Rattle.cct_model.specs.Line as line
-use Rattle.cct_model.specs.Line.{Line, accepted, inhibited, alien, fell, reset, dispensed, exchange, scanned, put, taken, ended, crashed}
+use Rattle.cct_model.specs.Line.{Line, accepted, inhibited, alien, fell, reset, exchange, put, taken, ended, crashed}
 use Rattle.cct_model.specs.Order.{order_by, order}
 use Rattle.cct_model.specs.Exchange.{asked}
 use Rattle.cct_model.specs.Job.{Job, free, works, job, epoch_by, epoch, address_of}
+use Rattle.cct_model.specs.Rows.{closes_order}
 use Rattle.cct_model.specs.Records.{records, records_at, epoch_of, epoch_in, order_of, order_in, greatest_id}
-use Rattle.cct_model.specs.Money.{sum_over, posted_in, paid_in, sold_in, reserved_in, reserved_by, reserved_at_work, reserved, totals}
-use Rattle.cct_model.specs.Refusal.{job_holds, order_holds, holds_at, sale_holds, held, running_id, greatest_running, last_id}
+use Rattle.cct_model.specs.Money.{sum_over, posted_in, paid_in, sold_in, reserved_in, reserved_by, reserved_by_sale, reserved_at_work, reserved, totals}
+use Rattle.cct_model.specs.Refusal.{job_holds, order_holds, holds_at, sale_holds, held, running_id, sale_id, greatest_running, last_id}
 use Rattle.cct_model.specs.Transcript.{owner, lines_of, dispensed_by, doses, doses_of, got_by, sold_line, sale_lines}
 use Rattle.cct_laws.specs.Recorded.{put_in, IsRestart, HasNoJob, many_open, open_orders, totals_in}
 use Rattle.cct_laws.proofs.Sums.{sum_none, sum_same}
@@ -118,10 +120,10 @@ restart_frees past at = absurd at
 -- where no job runs, nothing is reserved for one
 pub nothing_at_work : (setup : Setup) (past : List Entry) → HasNoJob past → reserved_at_work setup past ≡ 0
 nothing_at_work setup past none =
-    let devices : sum_over (λ d. reserved_by setup (job (lines_of d past))) setup.devices ≡ 0 =
-    sum_none (λ d. reserved_by setup (job (lines_of d past))) setup.devices
-    (λ d. ap (reserved_by setup) (none.devices d)) in
-    let sale : reserved_by setup (job (sale_lines past)) ≡ 0 = ap (reserved_by setup) none.sale in
+    let devices : sum_over (λ d. reserved_by setup d (job (lines_of d past))) setup.devices ≡ 0 =
+    sum_none (λ d. reserved_by setup d (job (lines_of d past))) setup.devices
+    (λ d. ap (reserved_by setup d) (none.devices d)) in
+    let sale : reserved_by_sale setup (job (sale_lines past)) ≡ 0 = ap (reserved_by_sale setup) none.sale in
     omega arith
 
 pub reserved_recorded : (setup : Setup) (past : List Entry) → HasNoJob past →
@@ -131,19 +133,18 @@ reserved_recorded setup past none =
     omega arith
 
 -- one record is held for each open order
-held_for : (j : Job) (lines : List Line) (d : DeviceSetup) (owed order_is : Option OpenOrder) → j ≡ free →
-    owed ≡ order_is →
-    job_holds d lines j + order_holds j owed ≡ many_open order_is
-held_for (works c since) lines d owed order_is none same = absurd cc
-held_for free lines d None order_is none same = ap many_open same
-held_for free lines d (Some o) order_is none same = ap many_open same
+held_for : (d : DeviceSetup) (j : Job) (state : EpochState) (owed order_is : Option OpenOrder) → j ≡ free →
+    owed ≡ order_is → job_holds d state j + order_holds (closes_order d j) owed ≡ many_open order_is
+held_for d (works c since) state owed order_is none same = absurd cc
+held_for d free state None order_is none same = ap many_open same
+held_for d free state (Some o) order_is none same = ap many_open same
 
 pub held_recorded : (setup : Setup) (past : List Entry) → HasNoJob past →
     held setup past ≡ open_orders setup (records past)
 held_recorded setup past none =
     let devices : sum_over (holds_at past) setup.devices ≡ open_orders setup (records past) =
     sum_same (holds_at past) (λ d. many_open (order_in d.addr (records past))) setup.devices
-    (λ d. held_for (job (lines_of d past)) (lines_of d past) d (order (lines_of d past))
+    (λ d. held_for d (job (lines_of d past)) (epoch (lines_of d past)) (order (lines_of d past))
     (order_in d.addr (records past)) (none.devices d) (order_recorded d past)) in
     let sale : sale_holds (job (sale_lines past)) ≡ 0 = ap sale_holds none.sale in
     omega arith
@@ -152,7 +153,7 @@ held_recorded setup past none =
 greatest_none : (past : List Entry) (ds : List DeviceSetup) → HasNoJob past → greatest_running past ds ≡ 0
 greatest_none past [] none = refl
 greatest_none past (d ∷ ds) none =
-    let here : running_id (job (lines_of d past)) ≡ 0 = ap running_id (none.devices d) in
+    let here : running_id d (job (lines_of d past)) ≡ 0 = ap (running_id d) (none.devices d) in
     let rest = greatest_none past ds none in
     omega arith
 
@@ -160,7 +161,7 @@ pub last_recorded : (setup : Setup) (past : List Entry) → HasNoJob past →
     last_id setup past ≡ greatest_id (records past)
 last_recorded setup past none =
     let devices = greatest_none past setup.devices none in
-    let sale : running_id (job (sale_lines past)) ≡ 0 = ap running_id none.sale in
+    let sale : sale_id (job (sale_lines past)) ≡ 0 = ap sale_id none.sale in
     omega arith
 
 -- what the operator has is what the records tell

@@ -1,5 +1,5 @@
 -- How each row of a round keeps what holds of an acceptor.
-use Rattle.std.proofs.Common.{◌≡◌, ℕ, zero, suc, List, ◌∷◌, refl, sym, ◌∙◌, subst, Option, Some}
+use Rattle.std.proofs.Common.{◌≡◌, ℕ, zero, suc, List, ◌∷◌, sym, ◌∙◌, subst, Option, Some, ap, cond}
 use Rattle.cct_model.specs.terms.coin.Credits.{Credits}
 use Rattle.cct_model.specs.terms.device.DeviceSetup.{DeviceSetup}
 use Rattle.cct_model.specs.terms.request.Request.{Request}
@@ -16,7 +16,7 @@ use Rattle.cct_model.specs.History.{Met, heard}
 use Rattle.cct_model.specs.Acceptor.{credits_of, mask_of}
 use Rattle.cct_model.specs.Device.{IsAcceptor}
 use Rattle.cct_model.specs.Line.{Line, exchange, put}
-use Rattle.cct_model.specs.Job.{works, job, sends, puts, no_row, put_or, done, epoch, credits_read, judged_in, judged_by, end_of_reading, Payment}
+use Rattle.cct_model.specs.Job.{works, job, sends, puts, no_row, put_or, epoch, credits_read, judged_in, judged_by, end_of_reading, Payment}
 use Rattle.cct_model.specs.Claims.{coins, arrivals, reading, looking, mark, base}
 use Rattle.cct_laws.specs.Kept.{Fate, with_ended}
 use Rattle.cct_laws.proofs.World.{world, on_nothing}
@@ -25,7 +25,7 @@ use Rattle.cct_laws.proofs.Moves.{Sound, Keeps, KeepsAsk, keeps_ended, keeps_exc
 use Rattle.cct_laws.proofs.Readings.{held_now, ready_now}
 use Rattle.cct_laws.proofs.Items.{reading_fewer, keeps_clean, sound_reading, sound_broken}
 use Rattle.cct_laws.proofs.Replies.{replied_credits, replied_mask}
-use Rattle.cct_model.specs.Rows.{end_answered, end_kept, left_at, row_at, after, rows_of}
+use Rattle.cct_model.specs.Rows.{end_answered, end_kept, left_at, row_at, after, rows_of, done, sent_once, ends_first}
 use Rattle.cct_model.proofs.Rows.{round_at, round_left}
 
 -- what an acceptor's credits tell an epoch
@@ -35,7 +35,7 @@ held_at past lines running sound = held_now (world past lines) (mark lines) (bas
 
 -- the credits are read
 round_reads : (d : DeviceSetup) (past : List Met) (lines : List Line) (addr : ℕ) (since : List Line) (asked : Option Request) (got : Option Reply) → IsAcceptor d.body →
-    job lines ≡ works (command.Round addr) since → done since ≡ 0 → IsRunning (epoch lines) → Keeps past lines →
+    job lines ≡ works (command.Round addr) since → done (rows_of d (command.Round addr)) since ≡ 0 → IsRunning (epoch lines) → Keeps d past lines →
     Fate d past ReadCredits asked got → KeepsAsk d past lines (command.Round addr) since ReadCredits asked got
 round_reads d past lines addr since asked got accepting is_job rows running keeps fate =
     let w = world past lines in
@@ -44,11 +44,11 @@ round_reads d past lines addr since asked got accepting is_job rows running keep
     let y = reply.credits (credits_of past) in
     let line = exchange (Some ReadCredits) (Some y) in
     let judged = judged_in c (line ∷ since) (epoch lines) in
-    let kept = keeps_exchange past now lines c since (Some ReadCredits) (Some y) is_job (on_nothing w) keeps.sound
-    (subst (λ n. FitsRound w (book (line ∷ lines)) (suc n) (Some (credits_of past)) judged) (sym rows) (held_at past lines running keeps.sound)) in
+    let kept = keeps_exchange d past now lines c since (Some ReadCredits) (Some y) is_job (on_nothing w) keeps.sound
+    (subst (λ n. FitsRound w (book (line ∷ lines)) (cond (ends_first (after (rows_of d (command.Round addr)) n) (Some y)) (suc n) n) (Some (credits_of past)) judged) (sym rows) (held_at past lines running keeps.sound)) in
     let replied : KeepsAsk d past lines c since ReadCredits (Some ReadCredits) (Some y) =
-    subst (λ n. Keeps now (with_ended (end_answered (left_at d c n (judged_in c since (epoch lines))) y judged) (line ∷ lines))) (sym rows) kept in
-    by_fate d past lines c since ReadCredits asked got refl tt is_job keeps
+    subst (λ n. Keeps d now (with_ended (end_answered (left_at d c n (judged_in c since (epoch lines))) y judged) (line ∷ lines))) (sym rows) kept in
+    by_fate d past lines c since ReadCredits asked got (ap (λ n. sent_once (after (rows_of d (command.Round addr)) n)) rows) tt is_job keeps
     (λ z gives. subst (λ found. KeepsAsk d past lines c since ReadCredits (Some ReadCredits) found) (sym (replied_credits d past accepting) ∙ gives) replied) fate
 
 -- what the mask tells besides
@@ -59,14 +59,14 @@ ready_at past lines addr credits sound held =
     sound.marked (reading_fewer lines) sound.state held
 
 -- a reading that means nothing ends the round clean
-round_judged : (now : List Met) (lines : List Line) (judged : Judged) → Ready (world now lines) (book lines) judged → Keeps now lines → Keeps now (with_ended (end_of_reading judged) lines)
-round_judged now lines Nothing ready keeps = keeps_clean now lines keeps.sound ready
-round_judged now lines (Reading entry) ready keeps = keeps
-round_judged now lines (Broken entry) ready keeps = keeps
+round_judged : (d : DeviceSetup) (now : List Met) (lines : List Line) (judged : Judged) → Ready (world now lines) (book lines) judged → Keeps d now lines → Keeps d now (with_ended (end_of_reading judged) lines)
+round_judged d now lines Nothing ready keeps = keeps_clean d now lines keeps.sound ready
+round_judged d now lines (Reading entry) ready keeps = keeps
+round_judged d now lines (Broken entry) ready keeps = keeps
 
 -- the mask is read
 round_looks : (d : DeviceSetup) (past : List Met) (lines : List Line) (addr : ℕ) (since : List Line) (asked : Option Request) (got : Option Reply) → IsAcceptor d.body →
-    job lines ≡ works (command.Round addr) since → done since ≡ 1 → HeldIn (world past lines) (book lines) (epoch lines) (credits_read since) → Keeps past lines →
+    job lines ≡ works (command.Round addr) since → done (rows_of d (command.Round addr)) since ≡ 1 → HeldIn (world past lines) (book lines) (epoch lines) (credits_read since) → Keeps d past lines →
     Fate d past GetMask asked got → KeepsAsk d past lines (command.Round addr) since GetMask asked got
 round_looks d past lines addr since asked got accepting is_job rows held keeps fate =
     let w = world past lines in
@@ -76,11 +76,11 @@ round_looks d past lines addr since asked got accepting is_job rows held keeps f
     let line = exchange (Some GetMask) (Some y) in
     let judged = judged_by addr (epoch lines) (credits_read since) (Some (mask_of past)) in
     let ready : Ready w (book (line ∷ lines)) judged = ready_at past lines addr (credits_read since) keeps.sound held in
-    let kept = keeps_exchange past now lines c since (Some GetMask) (Some y) is_job (on_nothing w) keeps.sound
-    (subst (λ n. FitsRound w (book (line ∷ lines)) (suc n) (credits_read since) judged) (sym rows) ready) in
+    let kept = keeps_exchange d past now lines c since (Some GetMask) (Some y) is_job (on_nothing w) keeps.sound
+    (subst (λ n. FitsRound w (book (line ∷ lines)) (cond (ends_first (after (rows_of d (command.Round addr)) n) (Some y)) (suc n) n) (credits_read since) judged) (sym rows) ready) in
     let replied : KeepsAsk d past lines c since GetMask (Some GetMask) (Some y) =
-    subst (λ n. Keeps now (with_ended (end_answered (left_at d c n (judged_in c since (epoch lines))) y judged) (line ∷ lines))) (sym rows) (round_judged now (line ∷ lines) judged ready kept) in
-    by_fate d past lines c since GetMask asked got refl tt is_job keeps
+    subst (λ n. Keeps d now (with_ended (end_answered (left_at d c n (judged_in c since (epoch lines))) y judged) (line ∷ lines))) (sym rows) (round_judged d now (line ∷ lines) judged ready kept) in
+    by_fate d past lines c since GetMask asked got (ap (λ n. sent_once (after (rows_of d (command.Round addr)) n)) rows) tt is_job keeps
     (λ z gives. subst (λ found. KeepsAsk d past lines c since GetMask (Some GetMask) found) (sym (replied_mask d past accepting) ∙ gives) replied) fate
 
 -- what a round sends
@@ -91,7 +91,7 @@ judged_sends (Reading entry) q row = absurd cc
 judged_sends (Broken entry) q row = absurd cc
 
 pub round_asks : (d : DeviceSetup) (past : List Met) (lines : List Line) (addr : ℕ) (since : List Line) (judged : Judged) (q : Request) (asked : Option Request) (got : Option Reply) (p : Payment) (rows : ℕ) → IsAcceptor d.body →
-    job lines ≡ works (command.Round addr) since → done since ≡ rows → FitsRound (world past lines) (book lines) rows (credits_read since) judged → row_at d (command.Round addr) rows judged p ≡ sends q → Keeps past lines →
+    job lines ≡ works (command.Round addr) since → done (rows_of d (command.Round addr)) since ≡ rows → FitsRound (world past lines) (book lines) rows (credits_read since) judged → row_at d (command.Round addr) rows judged p ≡ sends q → Keeps d past lines →
     Fate d past q asked got → KeepsAsk d past lines (command.Round addr) since q asked got
 round_asks d past lines addr since judged q asked got p zero accepting is_job rows fits row keeps =
     subst (λ r. Fate d past r asked got → KeepsAsk d past lines (command.Round addr) since r asked got) (request_is ReadCredits q row)
@@ -104,27 +104,27 @@ round_asks d past lines addr since judged q asked got p (suc (suc (suc rest))) a
 
 -- what a round puts ends it
 
-posts_end : (past : List Met) (lines : List Line) (entry : Record) → PostsAs (world past lines) (book lines) entry → Sound past lines →
-    Keeps past (with_ended (end_kept round_left entry) (put entry ∷ lines))
-posts_end past lines (record_of.Reading a k lost posted) posts sound = keeps_ended past _ Posted tt (sound_reading past lines a k lost posted posts sound)
-posts_end past lines entry posts sound = absurd posts
+posts_end : (d : DeviceSetup) (past : List Met) (lines : List Line) (entry : Record) → PostsAs (world past lines) (book lines) entry → Sound past lines →
+    Keeps d past (with_ended (end_kept round_left entry) (put entry ∷ lines))
+posts_end d past lines (record_of.Reading a k lost posted) posts sound = keeps_ended d past _ Posted tt (sound_reading past lines a k lost posted posts sound)
+posts_end d past lines entry posts sound = absurd posts
 
-breaks_end : (past : List Met) (lines : List Line) (entry : Record) → BreaksAs (world past lines) (book lines) entry → Sound past lines →
-    Keeps past (with_ended (end_kept round_left entry) (put entry ∷ lines))
-breaks_end past lines (record_of.Broken a seen k posted) breaks sound = keeps_ended past _ Broke tt (sound_broken past lines a seen k posted breaks sound)
-breaks_end past lines entry breaks sound = absurd breaks
+breaks_end : (d : DeviceSetup) (past : List Met) (lines : List Line) (entry : Record) → BreaksAs (world past lines) (book lines) entry → Sound past lines →
+    Keeps d past (with_ended (end_kept round_left entry) (put entry ∷ lines))
+breaks_end d past lines (record_of.Broken a seen k posted) breaks sound = keeps_ended d past _ Broke tt (sound_broken past lines a seen k posted breaks sound)
+breaks_end d past lines entry breaks sound = absurd breaks
 
 judged_puts : (d : DeviceSetup) (past : List Met) (lines : List Line) (addr : ℕ) (judged : Judged) (r : Record) → put_or no_row judged ≡ puts r → Ready (world past lines) (book lines) judged → Sound past lines →
-    Keeps past (with_ended (end_kept (after (rows_of d (command.Round addr)) 2) r) (put r ∷ lines))
+    Keeps d past (with_ended (end_kept (after (rows_of d (command.Round addr)) 2) r) (put r ∷ lines))
 judged_puts d past lines addr Nothing r row ready sound = absurd cc
 judged_puts d past lines addr (Reading entry) r row ready sound =
-    subst (λ e. Keeps past (with_ended (end_kept round_left e) (put e ∷ lines))) (entry_is entry r row) (posts_end past lines entry ready sound)
+    subst (λ e. Keeps d past (with_ended (end_kept round_left e) (put e ∷ lines))) (entry_is entry r row) (posts_end d past lines entry ready sound)
 judged_puts d past lines addr (Broken entry) r row ready sound =
-    subst (λ e. Keeps past (with_ended (end_kept round_left e) (put e ∷ lines))) (entry_is entry r row) (breaks_end past lines entry ready sound)
+    subst (λ e. Keeps d past (with_ended (end_kept round_left e) (put e ∷ lines))) (entry_is entry r row) (breaks_end d past lines entry ready sound)
 
 pub round_puts : (d : DeviceSetup) (past : List Met) (lines : List Line) (addr : ℕ) (credits : Option Credits) (judged : Judged) (r : Record) (p : Payment) (rows : ℕ) →
-    FitsRound (world past lines) (book lines) rows credits judged → row_at d (command.Round addr) rows judged p ≡ puts r → Keeps past lines →
-    Keeps past (with_ended (end_kept (after (rows_of d (command.Round addr)) rows) r) (put r ∷ lines))
+    FitsRound (world past lines) (book lines) rows credits judged → row_at d (command.Round addr) rows judged p ≡ puts r → Keeps d past lines →
+    Keeps d past (with_ended (end_kept (after (rows_of d (command.Round addr)) rows) r) (put r ∷ lines))
 round_puts d past lines addr credits judged r p zero fits row keeps = absurd cc
 round_puts d past lines addr credits judged r p (suc zero) fits row keeps = absurd cc
 round_puts d past lines addr credits judged r p (suc (suc zero)) fits row keeps = judged_puts d past lines addr judged r (sym (round_at d addr judged p) ∙ row) fits keeps.sound

@@ -49,9 +49,9 @@ buffer_none newest none =
     (sym (coins_among-append (take 5 all) (drop 5 all)) ∙ ap coins_among (take-append-drop 5 all) ∙ nothing)
 
 legal_masks : (capacity : ℕ) (setup : Setup) (steps : List Step) (transcript : List Entry) (d : DeviceSetup) → IsSoundSetup setup → IsOf setup d → IsAcceptor d.body → All IsInRange steps →
-    Legal capacity setup steps transcript → Honest transcript → Masks (since_epoch_in d transcript) (met d (onto [] transcript)) (lines_in d transcript)
+    Legal capacity setup steps transcript → Honest transcript → Masks d (since_epoch_in d transcript) (met d (onto [] transcript)) (lines_in d transcript)
 legal_masks capacity setup steps transcript d sound own accepting in_range legal honest =
-    kept_since_legal capacity setup steps transcript d Masks sound own accepting in_range legal honest (masks_kept d accepting)
+    kept_since_legal capacity setup steps transcript d (Masks d) sound own accepting in_range legal honest (masks_kept d accepting)
 
 -- without an epoch no coin is accepted
 pub legal_shut : (capacity : ℕ) (setup : Setup) (steps : List Step) (transcript : List Entry) (d : DeviceSetup) → IsSoundSetup setup → IsOf setup d → IsAcceptor d.body → All IsInRange steps →
@@ -72,7 +72,7 @@ pub legal_silent : (capacity : ℕ) (setup : Setup) (steps : List Step) (transcr
     Legal capacity setup steps transcript → Honest transcript → epoch (lines_in d transcript) ≡ Running mask counter → mask_set_in (since_epoch_in d transcript) ≡ None →
     coins_among (events (met d (onto [] transcript))) ≡ []
 legal_silent capacity setup steps transcript d mask counter sound own accepting in_range legal honest running none =
-    masks_silent (since_epoch_in d transcript) (met d (onto [] transcript)) (lines_in d transcript) mask counter running none (legal_masks capacity setup steps transcript d sound own accepting in_range legal honest)
+    masks_silent d (since_epoch_in d transcript) (met d (onto [] transcript)) (lines_in d transcript) mask counter running none (legal_masks capacity setup steps transcript d sound own accepting in_range legal honest)
 
 pub legal_unread : (capacity : ℕ) (setup : Setup) (steps : List Step) (transcript : List Entry) (d : DeviceSetup) (mask counter : ℕ) → IsSoundSetup setup → IsOf setup d → IsAcceptor d.body → All IsInRange steps →
     Legal capacity setup steps transcript → Honest transcript → epoch (lines_in d transcript) ≡ Running mask counter → mask_set_in (since_epoch_in d transcript) ≡ None →
@@ -94,5 +94,5 @@ legal_caused capacity setup steps transcript d c since addr seen counter posted 
 pub legal_causes : (capacity : ℕ) (setup : Setup) (steps : List Step) (transcript : List Entry) (d : DeviceSetup) → IsSoundSetup setup → IsOf setup d → IsAcceptor d.body → All IsInRange steps →
     Legal capacity setup steps transcript → Honest transcript → HaveCauses d (onto [] transcript)
 legal_causes capacity setup steps transcript d sound own accepting in_range legal honest =
-    goes_on_legal capacity setup steps transcript d Masks (HaveCauses d) sound own accepting in_range legal honest (masks_kept d accepting)
+    goes_on_legal capacity setup steps transcript d (Masks d) (HaveCauses d) sound own accepting in_range legal honest (masks_kept d accepting)
     (λ past news s ranged ids told masks before. causes_go_on capacity setup d past news s sound own accepting ranged ids told masks before) tt

@@ -1,6 +1,6 @@
 -- How the books change by what a step brought at a device: what a command spends and how many records it needs have
 -- room, an exchange takes nothing more, and a put takes over what its job had reserved and held.
-use Rattle.std.proofs.Common.{◌≡◌, ℕ, suc, ◌+◌, ◌≤◌, true, List, [], ◌∷◌, ◌++◌, length, refl, ap, ap₂, sym, ◌∙◌, subst, Option, Some, None, arith, le_of_eq}
+use Rattle.std.proofs.Common.{◌≡◌, ℕ, suc, ◌+◌, ◌≤◌, true, List, [], ◌∷◌, ◌++◌, length, refl, ap, sym, ◌∙◌, subst, Option, Some, None, arith, le_of_eq}
 use Rattle.std.proofs.lemmas.Bool.{and_from, and_parts}
 use Rattle.cct_model.specs.terms.device.DeviceSetup.{DeviceSetup}
 use Rattle.cct_model.specs.terms.device.Setup.{Setup}
@@ -13,17 +13,15 @@ use Rattle.cct_model.specs.lines.command.Step.{Step}
 use Rattle.cct_model.specs.lines.entry.End.{End}
 use Rattle.cct_model.specs.lines.entry.Entry.{Entry}
 use Rattle.cct_model.specs.lines.entry.Entry.TheVariants as entry
-use Rattle.cct_model.specs.declared.judging.EpochState.{EpochState}
-use Rattle.cct_model.specs.declared.judging.OpenOrder.{OpenOrder}
-use Rattle.cct_model.specs.Reply.{Reply}
 use Rattle.cct_model.specs.Setup.{AreDistinct, IsSoundSetup}
 use Rattle.cct_model.specs.Exchange.{ask, asked}
 use Rattle.cct_model.specs.Line.{Line, exchange, put, taken}
 use Rattle.cct_model.specs.Order.{order}
-use Rattle.cct_model.specs.Job.{Job, free, works, with_line, job, done, epoch, puts, sends, address_of}
-use Rattle.cct_model.specs.Rows.{row, can_halt}
+use Rattle.cct_model.specs.Job.{free, works, with_line, job, puts, sends, address_of}
+use Rattle.cct_model.specs.Rows.{rest}
+use Rattle.cct_model.specs.Refusal.{need_for, holds_of}
 use Rattle.cct_model.specs.Records.{records}
-use Rattle.cct_model.specs.Money.{coins_of, posted_in, reserved_by}
+use Rattle.cct_model.specs.Money.{posted_in, reserved_by}
 use Rattle.cct_model.specs.Following.{all_follow}
 use Rattle.cct_model.specs.Legal.{with_end}
 use Rattle.cct_model.specs.Transcript.{lines_of, heard_after, got_by, doses_of}
@@ -31,13 +29,12 @@ use Rattle.cct_laws.specs.Ids.{Ids}
 use Rattle.cct_laws.specs.Kept.{suits, with_ended}
 use Rattle.cct_laws.specs.KeptHopper.{IsOwed}
 use Rattle.cct_laws.specs.Law.{IsOf}
-use Rattle.cct_laws.specs.Recorded.{need_of}
 use Rattle.cct_laws.proofs.Asked.{asked_at}
-use Rattle.cct_laws.proofs.AtWork.{work_later, work_asked, work_put, work_opened, spent_by, work_taken}
+use Rattle.cct_laws.proofs.AtWork.{work_with, work_put, spent_by, work_taken}
 use Rattle.cct_laws.proofs.Brought.{AtWork, row_after, wire_of, wire_end, record_end, AtDevice, made_exchange, made_put, begun_at_work}
 use Rattle.cct_laws.proofs.Covered.{spoken_in, opened_spoken, closed_spoken, odd_spoken, closes_at, closed_counts}
 use Rattle.cct_laws.proofs.Follow.{Follows}
-use Rattle.cct_laws.proofs.Held.{holds_of, holds_taken, holds_halted, holds_asked, holds_put}
+use Rattle.cct_laws.proofs.AllHeld.{holds_taken, holds_halted, holds_asked, holds_put}
 use Rattle.cct_laws.proofs.Ids.{put_owned}
 use Rattle.cct_laws.proofs.Opening.{UsesOwn}
 use Rattle.cct_laws.proofs.Orders.{Belongs, belongs_all, opens_at}
@@ -48,69 +45,46 @@ use Rattle.cct_model.specs.lines.command.Step.TheVariants as step
 use Rattle.cct_laws.proofs.Counting.{Moves}
 use Rattle.cct_laws.specs.Kept.{WorksAt}
 
--- what a job reserves
-
--- an end frees it
-ended_reserves : (setup : Setup) (end : Option End) (lines : List Line) →
-    reserved_by setup (job (with_ended end lines)) ≤ reserved_by setup (job lines)
-ended_reserves setup None lines = omega arith
-ended_reserves setup (Some end) lines = omega arith
-
-asked_reserves : (setup : Setup) (q : Option Request) (got : Option Reply) (j : Job) →
-    reserved_by setup (with_line (exchange q got) j) ≤ reserved_by setup j
-asked_reserves setup q got free = omega arith
-asked_reserves setup q got (works c since) = work_asked setup c since q got
-
-halted_reserves : (setup : Setup) (addr : ℕ) (j : Job) →
-    reserved_by setup (with_line (taken (command.Halt addr)) j) ≤ reserved_by setup j
-halted_reserves setup addr free = omega arith
-halted_reserves setup addr (works c since) =
-    work_later setup c since (taken (command.Halt addr) ∷ since) (omega arith)
+-- an end frees what a job reserves
+ended_reserves : (setup : Setup) (d : DeviceSetup) (end : Option End) (lines : List Line) →
+    reserved_by setup d (job (with_ended end lines)) ≤ reserved_by setup d (job lines)
+ended_reserves setup d None lines = omega arith
+ended_reserves setup d (Some end) lines = omega arith
 
 -- what a put takes over: with its record no more is spoken for than its job had reserved besides, and what it posts
-put_spends : (setup : Setup) (before : List Record) (d : DeviceSetup) (c : Command) (since : List Line)
-    (state : EpochState) (owed : Option OpenOrder) (r : Record) (after : ℕ) → AreDistinct setup.devices →
-    Belongs setup before → Follows setup before r → row d c since state owed ≡ puts r → UsesOwn r c (done since) →
-    after ≤ reserved_by setup (works c (put r ∷ since)) →
+put_spends : (setup : Setup) (before : List Record) (d : DeviceSetup) (c : Command) (since : List Line) (r : Record)
+    (after : ℕ) → AreDistinct setup.devices → Belongs setup before → Follows setup before r →
+    UsesOwn r (address_of c) (rest d c since) → after ≤ reserved_by setup d (works c (put r ∷ since)) →
     spoken_in setup (r ∷ before) + after + posted_in setup before
-    ≤ spoken_in setup before + reserved_by setup (works c since) + 0 + posted_in setup (r ∷ before)
-put_spends setup before d (command.Pay addr id count) since state owed (record_of.Opened opened at counted life) after
-    distinct belongs ok is uses_own less =
-    let own = work_opened setup d addr id count since state owed opened counted at life is in
+    ≤ spoken_in setup before + reserved_by setup d (works c since) + 0 + posted_in setup (r ∷ before)
+put_spends setup before d c since (record_of.Opened opened at counted life) after distinct belongs ok own less =
+    let frees = work_put setup d c since (record_of.Opened opened at counted life) own in
     let spoken =
     opened_spoken setup before opened at counted life distinct (opens_at setup before opened at counted life ok) in
-    let coins : coins_of setup at counted ≡ coins_of setup addr count = ap₂ (coins_of setup) own.1 own.2 in
-    let was = own.3.reserved_before in
-    let none = own.3.reserved_after in
-    omega (arith, spoken, coins, was, none, less)
-put_spends setup before d c since state owed (record_of.Opened opened at counted life) after distinct belongs ok is
-    uses_own less = absurd uses_own
-put_spends setup before d c since state owed (record_of.Closed id paid unpaid) after distinct belongs ok is uses_own
-    less =
+    omega (arith, spoken, frees, less)
+put_spends setup before d c since (record_of.Closed id paid unpaid) after distinct belongs ok own less =
     let at = closes_at setup before id (and_parts _ _ ok).0 belongs in
     let spoken =
     closed_spoken setup before id paid unpaid distinct at (closed_counts setup before id paid unpaid ok at) in
-    let fewer = work_put setup c since (record_of.Closed id paid unpaid) in
+    let fewer = work_put setup d c since (record_of.Closed id paid unpaid) own in
     omega (arith, spoken, fewer, less)
-put_spends setup before d c since state owed (record_of.Odd id life_before life_after) after distinct belongs ok is
-    uses_own less =
+put_spends setup before d c since (record_of.Odd id life_before life_after) after distinct belongs ok own less =
     let spoken = odd_spoken setup before id life_before life_after distinct (closes_at setup before id ok belongs) in
-    let fewer = work_put setup c since (record_of.Odd id life_before life_after) in
+    let fewer = work_put setup d c since (record_of.Odd id life_before life_after) own in
     omega (arith, spoken, fewer, less)
-put_spends setup before d c since state owed (record_of.Sold id price) after distinct belongs ok is uses_own less =
-    absurd uses_own
-put_spends setup before d c since state owed r after distinct belongs ok is uses_own less =
+put_spends setup before d c since (record_of.Sold id price) after distinct belongs ok own less = absurd own
+put_spends setup before d c since r after distinct belongs ok own less =
     let kept = owed_kept setup r before (λ o. refl) in
-    let fewer = work_put setup c since r in
+    let fewer = work_put setup d c since r own in
     omega (arith, kept, fewer, less)
 
 -- what changes at a device by what a step brought there
 moves_by : (capacity : ℕ) (setup : Setup) (d : DeviceSetup) (past news : List Entry) (s : Step)
     (spent need : ℕ) → IsSoundSetup setup → Ids setup past → IsOf setup d → AtDevice capacity setup d past s news →
     all_follow setup (records (news ++ past)) ≡ true →
-    spoken_in setup (records (news ++ past)) + reserved_by setup (job (lines_of d (news ++ past)))
+    spoken_in setup (records (news ++ past)) + reserved_by setup d (job (lines_of d (news ++ past)))
     + posted_in setup (records past)
-    ≤ spoken_in setup (records past) + reserved_by setup (job (lines_of d past)) + spent
+    ≤ spoken_in setup (records past) + reserved_by setup d (job (lines_of d past)) + spent
     + posted_in setup (records (news ++ past)) →
     length (records (news ++ past)) + holds_of d (lines_of d (news ++ past))
     ≤ length (records past) + holds_of d (lines_of d past) + need → Moves setup d past (news ++ past) spent need
@@ -141,43 +115,42 @@ pub moves_taken : (capacity : ℕ) (setup : Setup) (d : DeviceSetup) (past : Lis
     IsSoundSetup setup → Ids setup past → IsOf setup d → all_follow setup (records past) ≡ true →
     suits d.body c ≡ true → address_of c ≡ d.addr → job (lines_of d past) ≡ free → IsOwed c (order (lines_of d past)) →
     AtDevice capacity setup d past (step.Command c) (entry.Taken c ∷ []) →
-    Moves setup d past (entry.Taken c ∷ past) (spent_by setup c) (need_of c)
+    Moves setup d past (entry.Taken c ∷ past) (spent_by setup c) (need_for (Some d) c)
 moves_taken capacity setup d past c sound ids own follow suited here is_free is_owed at =
     let begun : job (taken c ∷ lines_of d past) ≡ works c [] = begun_at_work d.body c (lines_of d past) suited in
-    let reserves : reserved_by setup (job (lines_of d (entry.Taken c ∷ past))) ≡ spent_by setup c =
-    ap (λ ls. reserved_by setup (job ls)) (lines_taken d past c here) ∙ ap (reserved_by setup) begun
-    ∙ work_taken setup c in
-    let fewer : reserved_by setup (job (lines_of d (entry.Taken c ∷ past)))
-    ≤ reserved_by setup (job (lines_of d past)) + spent_by setup c = omega (arith, reserves) in
-    moves_by capacity setup d past (entry.Taken c ∷ []) (step.Command c) (spent_by setup c) (need_of c) sound ids own at
+    let reserves : reserved_by setup d (job (lines_of d (entry.Taken c ∷ past))) ≡ reserved_by setup d (works c []) =
+    ap (λ ls. reserved_by setup d (job ls)) (lines_taken d past c here) ∙ ap (reserved_by setup d) begun in
+    let spends = work_taken setup d c in
+    let fewer : reserved_by setup d (job (lines_of d (entry.Taken c ∷ past)))
+    ≤ reserved_by setup d (job (lines_of d past)) + spent_by setup c = omega (arith, reserves, spends) in
+    moves_by capacity setup d past (entry.Taken c ∷ []) (step.Command c) (spent_by setup c) (need_for (Some d) c) sound ids own at
     follow
-    (same_spends (spoken_in setup (records past)) (reserved_by setup (job (lines_of d (entry.Taken c ∷ past))))
-    (reserved_by setup (job (lines_of d past))) (spent_by setup c) (posted_in setup (records past)) fewer)
+    (same_spends (spoken_in setup (records past)) (reserved_by setup d (job (lines_of d (entry.Taken c ∷ past))))
+    (reserved_by setup d (job (lines_of d past))) (spent_by setup c) (posted_in setup (records past)) fewer)
     (same_holds (length (records past)) (holds_of d (lines_of d (entry.Taken c ∷ past))) (holds_of d (lines_of d past))
-    (need_of c)
-    (subst (λ ls. holds_of d ls ≤ holds_of d (lines_of d past) + need_of c) (sym (lines_taken d past c here))
+    (need_for (Some d) c)
+    (subst (λ ls. holds_of d ls ≤ holds_of d (lines_of d past) + need_for (Some d) c) (sym (lines_taken d past c here))
     (holds_taken d c (lines_of d past) is_free begun is_owed)))
 
 -- a payment is halted
 pub moves_halted : (capacity : ℕ) (setup : Setup) (d : DeviceSetup) (past : List Entry) →
     IsSoundSetup setup → Ids setup past → IsOf setup d → all_follow setup (records past) ≡ true →
-    can_halt d (job (lines_of d past)) ≡ true →
     AtDevice capacity setup d past (step.Command (command.Halt d.addr)) (entry.Taken (command.Halt d.addr) ∷ []) →
     Moves setup d past (entry.Taken (command.Halt d.addr) ∷ past) 0 0
-moves_halted capacity setup d past sound ids own follow can at =
+moves_halted capacity setup d past sound ids own follow at =
     let lines_are = lines_taken d past (command.Halt d.addr) refl in
     moves_by capacity setup d past (entry.Taken (command.Halt d.addr) ∷ []) (step.Command (command.Halt d.addr)) 0 0
     sound ids own at
     follow
-    (same_spends (spoken_in setup (records past)) _ (reserved_by setup (job (lines_of d past))) 0
+    (same_spends (spoken_in setup (records past)) _ (reserved_by setup d (job (lines_of d past))) 0
     (posted_in setup (records past))
     (no_more _ _
-    (subst (λ ls. reserved_by setup (job ls) ≤ reserved_by setup (job (lines_of d past))) (sym lines_are)
-    (halted_reserves setup d.addr (job (lines_of d past))))))
+    (subst (λ ls. reserved_by setup d (job ls) ≤ reserved_by setup d (job (lines_of d past))) (sym lines_are)
+    (work_with setup d (taken (command.Halt d.addr)) (job (lines_of d past))))))
     (same_holds (length (records past)) _ (holds_of d (lines_of d past)) 0
     (no_more _ _
     (subst (λ ls. holds_of d ls ≤ holds_of d (lines_of d past)) (sym lines_are)
-    (le_of_eq (holds_halted d d.addr (lines_of d past) can)))))
+    (le_of_eq (holds_halted d d.addr (lines_of d past))))))
 
 -- an exchange of its job
 pub moves_asked : (capacity : ℕ) (setup : Setup) (d : DeviceSetup) (past : List Entry) (c : Command)
@@ -198,20 +171,20 @@ moves_asked capacity setup d past c since q sound ids own follow at_work is_row 
     lines_with_end d past wire end (line ∷ dosed) (lines_wire d past sent (heard_after setup past sent)) in
     let records_are : records (with_end d.addr wire end ++ past) ≡ records past = records_end past d.addr wire end in
     let asks_it : asked d.kind sent ≡ Some q = asked_at setup past d c since q sound own in_range is_row in
-    let first = ended_reserves setup end (line ∷ dosed) in
-    let second = asked_reserves setup (asked d.kind sent) got (job dosed) in
-    let third : reserved_by setup (job dosed) ≡ reserved_by setup (job lines) = ap (reserved_by setup) same.jobs in
-    let reserves : reserved_by setup (job (with_ended end (line ∷ dosed))) ≤ reserved_by setup (job lines) =
+    let first = ended_reserves setup d end (line ∷ dosed) in
+    let second = work_with setup d line (job dosed) in
+    let third : reserved_by setup d (job dosed) ≡ reserved_by setup d (job lines) = ap (reserved_by setup d) same.jobs in
+    let reserves : reserved_by setup d (job (with_ended end (line ∷ dosed))) ≤ reserved_by setup d (job lines) =
     no_more_through _ _ _ _ first second third in
     moves_by capacity setup d past (with_end d.addr wire end) (step.Next d.addr) 0 0 sound ids own
     (made_exchange c since q at_work is_row) (ap (all_follow setup) records_are ∙ follow)
-    (subst (λ rs. spoken_in setup rs + reserved_by setup (job (lines_of d (with_end d.addr wire end ++ past)))
+    (subst (λ rs. spoken_in setup rs + reserved_by setup d (job (lines_of d (with_end d.addr wire end ++ past)))
     + posted_in setup (records past)
-    ≤ spoken_in setup (records past) + reserved_by setup (job lines) + 0 + posted_in setup rs)
+    ≤ spoken_in setup (records past) + reserved_by setup d (job lines) + 0 + posted_in setup rs)
     (sym records_are)
-    (same_spends (spoken_in setup (records past)) _ (reserved_by setup (job lines)) 0 (posted_in setup (records past))
+    (same_spends (spoken_in setup (records past)) _ (reserved_by setup d (job lines)) 0 (posted_in setup (records past))
     (no_more _ _
-    (subst (λ ls. reserved_by setup (job ls) ≤ reserved_by setup (job lines)) (sym lines_are) reserves))))
+    (subst (λ ls. reserved_by setup d (job ls) ≤ reserved_by setup d (job lines)) (sym lines_are) reserves))))
     (subst (λ rs. length rs + holds_of d (lines_of d (with_end d.addr wire end ++ past))
     ≤ length (records past) + holds_of d lines + 0) (sym records_are)
     (same_holds (length (records past)) _ (holds_of d lines) 0
@@ -238,22 +211,21 @@ moves_put capacity setup d past c since r sound ids own follow at_work is_row fo
     (lines_put d past r (put_owned setup past d c since r own ids at_work is_row)) in
     let records_are : records later ≡ r ∷ records past = records_end past d.addr (entry.Put r) end in
     let jobs : job (put r ∷ lines) ≡ works c (put r ∷ since) = ap (with_line (put r)) at_work.job_is in
-    let reserves : reserved_by setup (job (lines_of d later)) ≤ reserved_by setup (works c (put r ∷ since)) =
-    subst (λ ls. reserved_by setup (job ls) ≤ reserved_by setup (works c (put r ∷ since))) (sym lines_are)
-    (subst (λ j. reserved_by setup (job (with_ended end (put r ∷ lines))) ≤ reserved_by setup j) jobs
-    (ended_reserves setup end (put r ∷ lines))) in
+    let reserves : reserved_by setup d (job (lines_of d later)) ≤ reserved_by setup d (works c (put r ∷ since)) =
+    subst (λ ls. reserved_by setup d (job ls) ≤ reserved_by setup d (works c (put r ∷ since))) (sym lines_are)
+    (subst (λ j. reserved_by setup d (job (with_ended end (put r ∷ lines))) ≤ reserved_by setup d j) jobs
+    (ended_reserves setup d end (put r ∷ lines))) in
     moves_by capacity setup d past (with_end d.addr (entry.Put r) end) (step.Next d.addr) 0 0 sound ids own
     (made_put c since r at_work is_row)
     (ap (all_follow setup) records_are ∙ and_from _ _ follows_it follow)
-    (subst (λ rs. spoken_in setup rs + reserved_by setup (job (lines_of d later)) + posted_in setup (records past)
-    ≤ spoken_in setup (records past) + reserved_by setup (job lines) + 0 + posted_in setup rs) (sym records_are)
-    (subst (λ j. spoken_in setup (r ∷ records past) + reserved_by setup (job (lines_of d later))
+    (subst (λ rs. spoken_in setup rs + reserved_by setup d (job (lines_of d later)) + posted_in setup (records past)
+    ≤ spoken_in setup (records past) + reserved_by setup d (job lines) + 0 + posted_in setup rs) (sym records_are)
+    (subst (λ j. spoken_in setup (r ∷ records past) + reserved_by setup d (job (lines_of d later))
     + posted_in setup (records past)
-    ≤ spoken_in setup (records past) + reserved_by setup j + 0 + posted_in setup (r ∷ records past))
+    ≤ spoken_in setup (records past) + reserved_by setup d j + 0 + posted_in setup (r ∷ records past))
     (sym at_work.job_is)
-    (put_spends setup (records past) d c since (epoch lines) (order lines) r
-    (reserved_by setup (job (lines_of d later))) sound.distinct (belongs_all setup (records past) follow) follows_it
-    is_row (row_uses d past c since r is_row) reserves)))
+    (put_spends setup (records past) d c since r (reserved_by setup d (job (lines_of d later))) sound.distinct
+    (belongs_all setup (records past) follow) follows_it (row_uses d past c since r is_row) reserves)))
     (subst (λ rs. length rs + holds_of d (lines_of d later) ≤ length (records past) + holds_of d lines + 0)
     (sym records_are)
     (one_less (length (records past)) (holds_of d (lines_of d later)) (holds_of d lines)

@@ -135,17 +135,17 @@ all_found P (e ∷ ds) distinct each =
 
 -- the id of a device's job is at most the greatest, and a bound of all is one of the greatest
 pub greatest_holds : (past : List Entry) (ds : List DeviceSetup) (d : DeviceSetup) (addr : ℕ) →
-    device_at ds addr ≡ Some d → running_id (job (lines_of d past)) ≤ greatest_running past ds
+    device_at ds addr ≡ Some d → running_id d (job (lines_of d past)) ≤ greatest_running past ds
 greatest_holds past [] d addr found = absurd cc
 greatest_holds past (e ∷ ds) d addr found = by_here (e.addr == addr) found (λ at. greatest_holds past ds d addr at)
   where
     by_here : (here : Bool) → cond here (Some e) (device_at ds addr) ≡ Some d →
-        (device_at ds addr ≡ Some d → running_id (job (lines_of d past)) ≤ greatest_running past ds) →
-        running_id (job (lines_of d past)) ≤ greatest_running past (e ∷ ds)
+        (device_at ds addr ≡ Some d → running_id d (job (lines_of d past)) ≤ greatest_running past ds) →
+        running_id d (job (lines_of d past)) ≤ greatest_running past (e ∷ ds)
     by_here true at later =
-        let own : running_id (job (lines_of e past)) ≡ running_id (job (lines_of d past)) =
-        ap (λ x. running_id (job (lines_of x past))) (same_some e d at) in
+        let own : running_id e (job (lines_of e past)) ≡ running_id d (job (lines_of d past)) =
+        ap (λ x. running_id x (job (lines_of x past))) (same_some e d at) in
         omega arith
     by_here false at later =
-        let rest : running_id (job (lines_of d past)) ≤ greatest_running past ds = later at in
+        let rest : running_id d (job (lines_of d past)) ≤ greatest_running past ds = later at in
         omega arith

@@ -6,7 +6,9 @@ use Rattle.cct_model.specs.terms.device.Setup.{Setup}
 use Rattle.cct_model.specs.lines.command.Command.{Command}
 use Rattle.cct_model.specs.lines.command.CommandNo.{CommandNo}
 use Rattle.cct_model.specs.lines.entry.Entry.{Entry}
-use Rattle.cct_model.specs.Refusal.{Test, first_of, tests_of, view_for, state_fails, room_fails, state_refusal, room_refusal, refusal, state_tests, unless}
+use Rattle.cct_model.specs.Exchange.{device_at}
+use Rattle.cct_model.specs.Job.{address_of}
+use Rattle.cct_model.specs.Refusal.{Test, first_of, tests_of, view_for, state_fails, room_fails, state_refusal, room_refusal, refusal, state_tests, unless, need_for}
 
 -- each of these tests passes
 abbrev pub Pass : (Test → Option CommandNo) → List Test → Type 0
@@ -30,7 +32,8 @@ test_holds false why none = absurd cc
 
 pub record Passes (capacity : ℕ) (setup : Setup) (past : List Entry) (c : Command) : Type 0 where
   pub state : Pass (state_fails (view_for setup past c)) (state_tests c)
-  pub room : Pass (room_fails capacity setup past) (tests_of c)
+  pub room :
+      Pass (room_fails capacity setup past (need_for (device_at setup.devices (address_of c)) c)) (tests_of c)
 
 pub tests_pass : (capacity : ℕ) (setup : Setup) (past : List Entry) (c : Command) →
     refusal capacity setup past c ≡ None → Passes capacity setup past c

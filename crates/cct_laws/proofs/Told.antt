@@ -34,8 +34,8 @@ use Rattle.cct_model.specs.Line.{Line, accepted, inhibited, fell, exchange, scan
 use Rattle.cct_model.specs.Line as line
 use Rattle.cct_model.specs.Reading.{judge}
 use Rattle.cct_model.specs.Order.{close, life_between}
-use Rattle.cct_model.specs.Job.{Job, free, works, job, begun, with_line, done, credits_read, mask_reply, mask_line, mask_read, judged_by, judged_in, Row, payment_in, ident_requests, address_of}
-use Rattle.cct_model.specs.Rows.{row, end_of, rows_of}
+use Rattle.cct_model.specs.Job.{Job, free, works, job, begun, with_line, credits_read, mask_reply, mask_line, mask_read, judged_by, judged_in, Row, payment_in, ident_requests, address_of}
+use Rattle.cct_model.specs.Rows.{row, end_of, rows_of, done}
 use Rattle.cct_model.specs.Transcript.{pending, heard_by_devices, heard_by_host, met, answers, heard_after, got_by, dispensed_by, doses, doses_of, owner, lines_of}
 use Rattle.cct_model.proofs.Requests.{request_short}
 use Rattle.cct_text.specs.Written.{IsMask, IsCommand, IsRecord, IsFault, IsEnd, IsWritten}
@@ -364,8 +364,8 @@ row_fits d c since state owed h =
     let judged = judged_in c since state in
     let p = payment_in since owed in
     both_hold FitsAsk IsRecord (row d c since state owed)
-    (each_ask FitsAsk d c (done since) judged p (command_asks d c since h))
-    (each_due IsRecord d c (done since) judged p (command_puts d c since state owed h))
+    (each_ask FitsAsk d c (done (rows_of d c) since) judged p (command_asks d c since h))
+    (each_due IsRecord d c (done (rows_of d c) since) judged p (command_puts d c since state owed h))
 
 -- the end that a line brings
 answer_ends_at : (addr : ℕ) (d : DeviceSetup) (c : Command) → EachRow (AnswerEnds (IsEnd addr)) (rows_of d c)

@@ -17,7 +17,8 @@ use Rattle.cct_model.specs.Setup.{IsSoundSetup}
 use Rattle.cct_model.specs.Exchange.{asked, asks_of}
 use Rattle.cct_model.specs.Line.{Line, exchange, put, taken, ended}
 use Rattle.cct_model.specs.Order.{order}
-use Rattle.cct_model.specs.Job.{job, epoch, done, puts, address_of}
+use Rattle.cct_model.specs.Job.{job, epoch, puts, address_of}
+use Rattle.cct_model.specs.Rows.{TableRow, rest}
 use Rattle.cct_model.specs.Legal.{with_end}
 use Rattle.cct_model.specs.Records.{records}
 use Rattle.cct_model.specs.Transcript.{met, owner, lines_of, sale_own, sale_lines, sold_line, heard_by_devices, pending, got_by, doses_of}
@@ -161,14 +162,14 @@ pub off_host : (setup : Setup) (e : DeviceSetup) → IsSoundSetup setup → IsOf
 off_host setup e sound own = λ same. let far = above_host setup e sound own in omega (arith, far, same)
 
 -- and the sale
-unsold_record : (r : Record) (c : Command) (rows : ℕ) → UsesOwn r c rows → sold_line r ≡ []
-unsold_record (record_of.Sold id price) c rows uses_own = absurd uses_own
-unsold_record r c rows uses_own = refl
+unsold_record : (r : Record) (addr : ℕ) (rows : List TableRow) → UsesOwn r addr rows → sold_line r ≡ []
+unsold_record (record_of.Sold id price) addr rows uses_own = absurd uses_own
+unsold_record r addr rows uses_own = refl
 
 pub row_uses : (d : DeviceSetup) (past : List Entry) (c : Command) (since : List Line) (r : Record) →
-    row_after d past c since ≡ puts r → UsesOwn r c (done since)
+    row_after d past c since ≡ puts r → UsesOwn r (address_of c) (rest d c since)
 row_uses d past c since r is =
-    subst (RowHolds (λ q. ⊤) (λ x. UsesOwn x c (done since))) is
+    subst (RowHolds (λ q. ⊤) (λ x. UsesOwn x (address_of c) (rest d c since))) is
     (row_own d c since (epoch (lines_of d past)) (order (lines_of d past)))
 
 unsold_end : (past : List Entry) (addr : ℕ) (x : Entry) (end : Option End) → addr ≢ HOST → sale_own x ≡ [] →
@@ -190,7 +191,7 @@ unsold capacity setup d past _ _ other (made_exchange c since q at_work is_row) 
     unsold_end past d.addr (wire_of setup d past q) (wire_end setup d past c since q) other refl
 unsold capacity setup d past _ _ other (made_put c since r at_work is_row) =
     unsold_end past d.addr (entry.Put r) (record_end d past c since r) other
-    (unsold_record r c (done since) (row_uses d past c since r is_row))
+    (unsold_record r (address_of c) (rest d c since) (row_uses d past c since r is_row))
 
 -- the records behind an entry and the end of a job
 pub records_end : (past : List Entry) (addr : ℕ) (x : Entry) (end : Option End) →

@@ -26,8 +26,8 @@ use Rattle.cct_model.specs.Device.{IsHopper}
 use Rattle.cct_model.specs.Setup.{IsSoundSetup}
 use Rattle.cct_model.specs.Line.{Line, exchange, put}
 use Rattle.cct_model.specs.Order.{order}
-use Rattle.cct_model.specs.Job.{job, epoch, puts, done, judged_in, judged_by, credits_read, mask_read, payment_in, ident_requests, end_of_close, address_of}
-use Rattle.cct_model.specs.Rows.{row, end_of, TableRow, Due, puts_due, rows_of, Then, end_kept, new_epoch, ends_as, end_by_record, if_posted, if_closed, reading, asks_for, epoch_end, asks_once, waits_for_coins, new_order, rest, sale, order_end}
+use Rattle.cct_model.specs.Job.{job, epoch, puts, judged_in, judged_by, credits_read, mask_read, payment_in, ident_requests, end_of_close, address_of}
+use Rattle.cct_model.specs.Rows.{row, end_of, TableRow, Due, puts_due, rows_of, Then, end_kept, new_epoch, ends_as, end_by_record, if_posted, if_closed, reading, asks_for, epoch_end, asks_once, waits_for_coins, new_order, rest, sale, order_end, done}
 use Rattle.cct_model.specs.Scan.{end_of_scan, end_by_row, scan_row, scan_tries}
 use Rattle.cct_model.specs.Legal.{with_end, Legal}
 use Rattle.cct_model.specs.Script.{IsInRange}
@@ -124,7 +124,7 @@ kept_fit (waits_for_coins ∷ rows) r each fine = tt
 put_fit : (d : DeviceSetup) (c : Command) (r : Record) (since : List Line) (state : EpochState) → IsNotOdd r →
     IsFit (end_of d c (put r) since state)
 put_fit d c r since state fine =
-    kept_fit (rest d c since) r (each_after PutsFit (rows_of d c) (done since) (puts_fit d c)) fine
+    kept_fit (rest d c since) r (each_after PutsFit (rows_of d c) (done (rows_of d c) since) (puts_fit d c)) fine
 
 -- an entry, and an end behind it
 entries_fit : (past : List Entry) (addr : ℕ) (e : Entry) (end : Option End) → FitsLife past e → IsFit end →
@@ -158,7 +158,7 @@ acceptor_fit d c since state owed r suited is_row =
     let only : puts_only is_reading_due (rows_of d c) ≡ true =
     sym (ap (λ b. cond b (puts_only is_reading_due (rows_of d c)) true) suited) ∙ acceptor_dues d c in
     subst (RowHolds (λ q. ⊤) IsNotOdd) is_row
-    (each_put IsNotOdd is_reading_due d c (done since) judged p only due_fit)
+    (each_put IsNotOdd is_reading_due d c (done (rows_of d c) since) judged p only due_fit)
   where
     due_fit : (due : Due) → is_reading_due due ≡ true →
         DueHolds IsNotOdd (address_of c) (judged_in c since state) (payment_in since owed) due

@@ -1,11 +1,9 @@
 -- What records alone tell: those among the lines of an address, what the operator has, and how many are held where no job
 -- runs.
 use Rattle.std.specs.Prelude.{◌≡◌, ℕ, List, [], ◌∷◌, Option, Some, None, ⊤}
-use Rattle.cct_model.specs.Refusal.{tests_of, room_in}
 use Rattle.cct_model.specs.terms.device.DeviceSetup.{DeviceSetup}
 use Rattle.cct_model.specs.terms.device.Setup.{Setup}
 use Rattle.cct_model.specs.lines.record.Record.{Record}
-use Rattle.cct_model.specs.lines.command.Command.{Command}
 use Rattle.cct_model.specs.lines.entry.Entry.{Entry}
 use Rattle.cct_model.specs.lines.entry.Entry.TheVariants as entry
 use Rattle.cct_model.specs.lines.entry.Totals.{Totals}
@@ -51,8 +49,3 @@ totals_in setup before = record {
   paid = paid_in setup before;
   sold = sold_in before;
 }
-
--- How many records a command takes of the room that no record is held for: those that its job may put, less the one that
--- was held for an open order, which a settlement is to close.
-abbrev pub need_of : Command → ℕ
-need_of c = room_in (tests_of c)

@@ -10,6 +10,7 @@ pub mod OpenOrders
 pub mod Knowing
 pub mod Rows
 pub mod Tries
+pub mod RowEnds
 mod Vectors
 mod Machine
 mod Payments

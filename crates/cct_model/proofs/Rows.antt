@@ -1,6 +1,6 @@
 -- What the rows of a job at a device send and put, and how they end: the walks over the rows that are left, and that each
 -- record is of the job's address.
-use Rattle.std.proofs.Common.{◌≡◌, ◌∙◌, ℕ, ◌-◌, ◌==◌, ◌&&◌, nat_le, zero, suc, cond, true, false, Bool, List, [], ◌∷◌, length, slice_get, arith, refl, ap, sym, Option, Some, None, true≢false}
+use Rattle.std.proofs.Common.{◌≡◌, ◌∙◌, ℕ, ◌≤◌, ◌-◌, ◌==◌, ◌&&◌, nat_le, zero, suc, cond, true, false, Bool, List, [], ◌∷◌, length, slice_get, arith, refl, ap, sym, subst, Option, Some, None, true≢false}
 use Rattle.std.specs.Prelude.{⊤}
 use Rattle.std.proofs.lemmas.Bool.{and_parts}
 use Rattle.std.proofs.lemmas.Bool.Decides.{nat_tests}
@@ -26,8 +26,8 @@ use Rattle.cct_model.specs.Reply as reply
 use Rattle.cct_model.specs.Line.{Line, exchange, put}
 use Rattle.cct_model.specs.Reading.{judge}
 use Rattle.cct_model.specs.Order.{close, life_between}
-use Rattle.cct_model.specs.Job.{Row, sends, puts, no_row, put_or, Payment, payment_in, state_row, open_row, close_row, ident_requests, judged_by, judged_in, credits_read, mask_read, done, address_of, end_of_reading, end_of_close}
-use Rattle.cct_model.specs.Rows.{Then, goes_on, ends_as, if_quiet, if_judged, path_told, if_posted, if_closed, Due, new_epoch, reading, epoch_end, new_order, order_end, sale, TableRow, asks_for, asks_once, waits_for_coins, puts_due, telling, rows_of, after, from, left, rest, first, due_row, row, row_at, end_by_answer, end_by_record, end_bare, end_answered, end_failed, end_kept, end_of, has_waits}
+use Rattle.cct_model.specs.Job.{Row, sends, puts, no_row, put_or, Payment, payment_in, state_row, open_row, close_row, ident_requests, judged_by, judged_in, credits_read, mask_read, address_of, end_of_reading, end_of_close}
+use Rattle.cct_model.specs.Rows.{done, Then, goes_on, ends_as, if_quiet, if_judged, path_told, if_posted, if_closed, Due, new_epoch, reading, epoch_end, new_order, order_end, sale, TableRow, asks_for, asks_once, waits_for_coins, puts_due, telling, rows_of, after, from, left, rest, first, due_row, row, row_at, end_by_answer, end_by_record, end_bare, end_answered, end_failed, end_kept, end_of, has_waits, ends_first}
 use Rattle.cct_model.specs.Transcript.{owner, opened_at}
 
 -- a fact of the request that a row sends, and one of the record that it puts
@@ -86,29 +86,97 @@ abbrev pub EachRow : (TableRow → Type 0) → List TableRow → Type 0
 EachRow F [] = ⊤
 EachRow F (r ∷ rows) = F r × EachRow F rows
 
-pub each_after : (F : TableRow → Type 0) (rows : List TableRow) (n : ℕ) → EachRow F rows → EachRow F (after rows n)
-each_after F [] n each = tt
-each_after F (r ∷ rows) zero each = each
-each_after F (r ∷ rows) (suc n) each = each_after F rows n each.1
+-- a fact of rows that holds of them without the first too
+abbrev pub IsPassedOn : (List TableRow → Type 0) → Type 0
+IsPassedOn F = (r : TableRow) (rows : List TableRow) → F (r ∷ rows) → F rows
 
-each_from : (F : TableRow → Type 0) (rows : List TableRow) (means : Judged) → EachRow F rows →
+pub fact_after : (F : List TableRow → Type 0) → IsPassedOn F → (rows : List TableRow) (n : ℕ) → F rows →
+    F (after rows n)
+fact_after F on [] n fact = fact
+fact_after F on (r ∷ rows) zero fact = fact
+fact_after F on (r ∷ rows) (suc n) fact = fact_after F on rows n (on r rows fact)
+
+-- and one that holds of them without a row that puts what was judged
+pub fact_from : (F : List TableRow → Type 0) →
+    ((behind : Then) (rows : List TableRow) → F (puts_due reading behind ∷ rows) → F rows) →
+    (rows : List TableRow) (means : Judged) → F rows → F (from rows means)
+fact_from F over (puts_due reading behind ∷ rows) Nothing fact = over behind rows fact
+fact_from F over (puts_due reading behind ∷ rows) (Reading r) fact = fact
+fact_from F over (puts_due reading behind ∷ rows) (Broken r) fact = fact
+fact_from F over (puts_due due behind ∷ rows) means fact = fact
+fact_from F over (asks_for q behind ∷ rows) means fact = fact
+fact_from F over (asks_once q behind without ∷ rows) means fact = fact
+fact_from F over (waits_for_coins ∷ rows) means fact = fact
+fact_from F over [] means fact = fact
+
+-- a fact of each row of the table and of those after it
+abbrev pub EachBefore : (TableRow → List TableRow → Type 0) → List TableRow → Type 0
+EachBefore F [] = ⊤
+EachBefore F (r ∷ rows) = F r rows × EachBefore F rows
+
+pub before_on : (F : TableRow → List TableRow → Type 0) → IsPassedOn (EachBefore F)
+before_on F r rows each = each.1
+
+pub each_after : (F : TableRow → Type 0) (rows : List TableRow) (n : ℕ) → EachRow F rows → EachRow F (after rows n)
+each_after F = fact_after (EachRow F) (λ r rows each. each.1)
+
+pub each_from : (F : TableRow → Type 0) (rows : List TableRow) (means : Judged) → EachRow F rows →
     EachRow F (from rows means)
-each_from F (puts_due reading behind ∷ rows) Nothing each = each.1
-each_from F (puts_due reading behind ∷ rows) (Reading r) each = each
-each_from F (puts_due reading behind ∷ rows) (Broken r) each = each
-each_from F (puts_due due behind ∷ rows) means each = each
-each_from F (asks_for q behind ∷ rows) means each = each
-each_from F (asks_once q behind without ∷ rows) means each = each
-each_from F (waits_for_coins ∷ rows) means each = each
-each_from F [] means each = each
+each_from F = fact_from (EachRow F) (λ behind rows each. each.1)
 
 -- of the rows that are left
 pub each_left : (F : TableRow → Type 0) (d : DeviceSetup) (c : Command) (since : List Line) (state : EpochState) →
     EachRow F (rows_of d c) → EachRow F (left d c since state)
 each_left F d c since state each =
-    each_from F (after (rows_of d c) (done since)) (judged_in c since state) (each_after F (rows_of d c) (done since) each)
+    each_from F (rest d c since) (judged_in c since state) (each_after F (rows_of d c) (done (rows_of d c) since) each)
 
--- of the rows that ask for one thing after the other
+-- these rows but the first
+abbrev pub but_first : List TableRow → List TableRow
+but_first [] = []
+but_first (r ∷ rows) = rows
+
+-- where none is done, and where one more is
+pub after_none : (rows : List TableRow) → after rows 0 ≡ rows
+after_none [] = refl
+after_none (r ∷ rows) = refl
+
+pub after_next : (rows : List TableRow) (n : ℕ) → after rows (suc n) ≡ but_first (after rows n)
+after_next [] n = refl
+after_next (r ∷ []) zero = refl
+after_next (r ∷ s ∷ rows) zero = refl
+after_next (r ∷ rows) (suc n) = after_next rows n
+
+-- a line of a job leaves the rows that were left, or these but the first
+pub after_line : (P : List TableRow → Type 0) (rows : List TableRow) (l : Line) (since : List Line) →
+    P (after rows (done rows since)) → P (but_first (after rows (done rows since))) →
+    P (after rows (done rows (l ∷ since)))
+after_line P rows (put r) since same less = subst P (sym (after_next rows (done rows since))) less
+after_line P rows (exchange q y) since same less = by_end (ends_first (after rows (done rows since)) y)
+  where
+    by_end : (over : Bool) → P (after rows (cond over (suc (done rows since)) (done rows since)))
+    by_end true = subst P (sym (after_next rows (done rows since))) less
+    by_end false = same
+after_line P rows l since same less = same
+
+-- so it takes back none that was done
+pub done_grows : (rows : List TableRow) (l : Line) (since : List Line) → done rows since ≤ done rows (l ∷ since)
+done_grows rows (put r) since = omega arith
+done_grows rows (exchange q y) since = by_end (ends_first (after rows (done rows since)) y)
+  where
+    by_end : (over : Bool) → done rows since ≤ cond over (suc (done rows since)) (done rows since)
+    by_end true = omega arith
+    by_end false = omega arith
+done_grows rows l since = omega arith
+
+-- a fact of the rows that ask for one thing after the other, which holds before any
+pub told_fact : (F : List TableRow → Type 0) → F [] →
+    ((q : Request) (behind : Then) (rows : List TableRow) → F rows → F (asks_for q behind ∷ rows)) →
+    (qs : List Request) → F (telling qs)
+told_fact F none more [] = none
+told_fact F none more (q ∷ []) = more q (ends_as Told) [] none
+told_fact F none more (q ∷ r ∷ qs) = more q goes_on (telling (r ∷ qs)) (told_fact F none more (r ∷ qs))
+
+-- of each of these rows
 pub each_told : (F : TableRow → Type 0) → ((q : Request) → F (asks_for q goes_on)) →
     ((q : Request) → F (asks_for q (ends_as Told))) → (qs : List Request) → EachRow F (telling qs)
 each_told F goes last [] = tt
@@ -201,10 +269,15 @@ each_ask P d c n means p each = walk (Asks P) (RowHolds P (λ r. ⊤)) d c n mea
         due_holds P (λ r. ⊤) (address_of c) means p due (any_due (address_of c) means p due)
 
 -- a fact of what is asked one after the other
+pub told_each : (P : Request → Type 0) (F : TableRow → Type 0) →
+    ((q : Request) (behind : Then) → P q → F (asks_for q behind)) → (qs : List Request) → Each P qs →
+    EachRow F (telling qs)
+told_each P F row [] each = tt
+told_each P F row (q ∷ []) each = (row q (ends_as Told) each.0, tt)
+told_each P F row (q ∷ r ∷ qs) each = (row q goes_on each.0, told_each P F row (r ∷ qs) each.1)
+
 pub each_asked : (P : Request → Type 0) (qs : List Request) → Each P qs → EachRow (Asks P) (telling qs)
-each_asked P [] each = tt
-each_asked P (q ∷ []) each = (each.0, tt)
-each_asked P (q ∷ r ∷ qs) each = (each.0, each_asked P (r ∷ qs) each.1)
+each_asked P = told_each P (Asks P) (λ q behind holds. holds)
 
 -- of what these rows put, each passes a test
 abbrev pub puts_only : (Due → Bool) → List TableRow → Bool
@@ -213,9 +286,7 @@ puts_only test (puts_due due behind ∷ rows) = test due && puts_only test rows
 puts_only test (r ∷ rows) = puts_only test rows
 
 pub told_only : (test : Due → Bool) (qs : List Request) → puts_only test (telling qs) ≡ true
-told_only test [] = refl
-told_only test (q ∷ []) = refl
-told_only test (q ∷ r ∷ qs) = told_only test (r ∷ qs)
+told_only test = told_fact (λ rows. puts_only test rows ≡ true) refl (λ q behind rows only. only)
 
 -- no job at a device sells
 abbrev pub is_at_device : Due → Bool
@@ -319,9 +390,7 @@ none_waits rows n none = by_found (has_waits (after rows n)) refl
     by_found false is = refl
 
 pub told_no_waits : (qs : List Request) → has_waits (telling qs) ≡ false
-told_no_waits [] = refl
-told_no_waits (q ∷ []) = refl
-told_no_waits (q ∷ r ∷ qs) = told_no_waits (r ∷ qs)
+told_no_waits = told_fact (λ rows. has_waits rows ≡ false) refl (λ q behind rows none. none)
 
 -- what a round puts
 abbrev pub round_left : List TableRow
@@ -473,7 +542,7 @@ kept_end P (waits_for_coins ∷ rows) r each = tt
 
 pub put_end : (P : End → Type 0) (d : DeviceSetup) (c : Command) (r : Record) (since : List Line)
     (state : EpochState) → EachRow (PutEnds P) (rows_of d c) → IfEnd P (end_of d c (put r) since state)
-put_end P d c r since state each = kept_end P (rest d c since) r (each_after (PutEnds P) (rows_of d c) (done since) each)
+put_end P d c r since state each = kept_end P (rest d c since) r (each_after (PutEnds P) (rows_of d c) (done (rows_of d c) since) each)
 
 -- a record is of an address after a past, and so is what a row puts
 abbrev IsRecordOf : List Entry → ℕ → Record → Type 0
@@ -503,7 +572,7 @@ pub row_owned : (past : List Entry) (d : DeviceSetup) (c : Command) (since : Lis
     (owed : Option OpenOrder) → ((o : OpenOrder) → owed ≡ Some o → opened_at o.id past ≡ address_of c) →
     IsOwned past (address_of c) (row d c since state owed)
 row_owned past d c since state owed owned =
-    each_put (IsRecordOf past (address_of c)) is_at_device d c (done since) (judged_in c since state) (payment_in since owed)
+    each_put (IsRecordOf past (address_of c)) is_at_device d c (done (rows_of d c) since) (judged_in c since state) (payment_in since owed)
     (device_puts d c) due_owned
   where
     due_owned : (due : Due) → is_at_device due ≡ true →

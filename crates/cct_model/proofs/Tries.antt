@@ -7,6 +7,7 @@ use Rattle.cct_model.specs.terms.device.DeviceSetup.{DeviceSetup}
 use Rattle.cct_model.specs.terms.request.Request.{Request}
 use Rattle.cct_model.specs.terms.request.Request.TheVariants.{SetMask, Dispense, CipherDispense, SetDefault, SetPath, GetDefault, GetPath, StopNow, GetStatus}
 use Rattle.cct_model.specs.declared.judging.Judged.{Judged}
+use Rattle.cct_model.specs.declared.judging.Judged.TheVariants.{Nothing, Reading, Broken}
 use Rattle.cct_model.specs.declared.judging.EpochState.{EpochState}
 use Rattle.cct_model.specs.declared.judging.OpenOrder.{OpenOrder}
 use Rattle.cct_model.specs.lines.command.Command.{Command}
@@ -14,9 +15,9 @@ use Rattle.cct_model.specs.lines.command.Command.TheVariants as command
 use Rattle.cct_model.specs.lines.entry.End.{End}
 use Rattle.cct_model.specs.lines.entry.End.TheVariants.{NoAnswer}
 use Rattle.cct_model.specs.Line.{Line}
-use Rattle.cct_model.specs.Job.{is_once, sends, Payment, payment_in, judged_in, address_of, ident_requests, state_row, end_of_tries}
-use Rattle.cct_model.specs.Rows.{Due, TableRow, asks_for, asks_once, waits_for_coins, puts_due, telling, rows_of, left, first, due_row, row, end_failed}
-use Rattle.cct_model.proofs.Rows.{IfEnd, RowHolds, Each, EachRow, AnswerEnds, PutEnds, Behind, each_left, each_told, due_holds, any_due, behind_bare}
+use Rattle.cct_model.specs.Job.{sends, Payment, payment_in, judged_in, address_of, ident_requests, state_row, end_of_tries}
+use Rattle.cct_model.specs.Rows.{Due, reading, TableRow, asks_for, asks_once, waits_for_coins, puts_due, telling, rows_of, from, done, rest, left, first, due_row, row, sent_once, end_failed}
+use Rattle.cct_model.proofs.Rows.{IfEnd, RowHolds, Each, EachRow, fact_after, EachBefore, before_on, told_fact, told_each, AnswerEnds, PutEnds, Behind, each_left, each_told, due_holds, any_due, behind_bare}
 
 -- a request that a job asks again, under a header that what is sent once doesn't have
 abbrev pub is_asked_again : Request → Bool
@@ -60,13 +61,11 @@ puts_heard d c = search rules
 -- what the table asks until it is answered is asked again; of what it asks once no third failed try is counted
 abbrev pub AsksWell : TableRow → Type 0
 AsksWell (asks_for q behind) = IsAgain q
-AsksWell (asks_once q behind without) = (is_asked_again q ≡ false) × (is_once q ≡ true) × Behind IsHeardEnd without
+AsksWell (asks_once q behind without) = (is_asked_again q ≡ false) × Behind IsHeardEnd without
 AsksWell r = ⊤
 
 pub told_well : (qs : List Request) → Each IsAgain qs → EachRow AsksWell (telling qs)
-told_well [] each = tt
-told_well (q ∷ []) each = (each.0, tt)
-told_well (q ∷ r ∷ qs) each = (each.0, told_well (r ∷ qs) each.1)
+told_well = told_each IsAgain AsksWell (λ q behind again. again)
 
 pub asks_well : (d : DeviceSetup) (c : Command) → EachRow AsksWell (rows_of d c)
 asks_well d (command.Ident addr) = told_well (ident_requests d.body) (ident_again d.body)
@@ -80,8 +79,17 @@ same_request q r e = cc
 -- what a failed try brings to the row that asked
 abbrev pub FailsAs : List TableRow → Request → Type 0
 FailsAs rows q =
-    ((is_asked_again q ≡ true) × ((failed : ℕ) → end_failed rows failed ≡ end_of_tries failed))
-    ⊎ ((is_asked_again q ≡ false) × (is_once q ≡ true) × ((failed : ℕ) → IfHeard (end_failed rows failed)))
+    ((is_asked_again q ≡ true) × (sent_once rows ≡ false))
+    ⊎ ((is_asked_again q ≡ false) × (sent_once rows ≡ true) × ((failed : ℕ) → IfHeard (end_failed rows failed)))
+
+-- what isn't sent once fails by its tries
+pub asked_fails : (rows : List TableRow) (failed : ℕ) → sent_once rows ≡ false →
+    end_failed rows failed ≡ end_of_tries failed
+asked_fails [] failed again = refl
+asked_fails (asks_for q behind ∷ rows) failed again = refl
+asked_fails (asks_once q behind without ∷ rows) failed again = absurd (true≢false again)
+asked_fails (waits_for_coins ∷ rows) failed again = refl
+asked_fails (puts_due due behind ∷ rows) failed again = refl
 
 pub state_again : (marked : Bool) (q : Request) → state_row marked ≡ sends q → IsAgain q
 state_again true q is = subst IsAgain (same_request StopNow q is) refl
@@ -95,14 +103,14 @@ pub fails_first : (addr : ℕ) (means : Judged) (p : Payment) (rows : List Table
     first addr means p rows ≡ sends q → FailsAs rows q
 fails_first addr means p [] q each is = absurd cc
 fails_first addr means p (asks_for x behind ∷ rows) q each is =
-    inl (subst IsAgain (same_request x q is) each.0, λ failed. refl)
+    inl (subst IsAgain (same_request x q is) each.0, refl)
 fails_first addr means p (asks_once x behind without ∷ rows) q each is =
     inr (
       subst (λ y. is_asked_again y ≡ false) (same_request x q is) each.0.0,
-      subst (λ y. is_once y ≡ true) (same_request x q is) each.0.1,
-      λ failed. behind_bare IsHeardEnd without each.0.2,
+      refl,
+      λ failed. behind_bare IsHeardEnd without each.0.1,
     )
-fails_first addr means p (waits_for_coins ∷ rows) q each is = inl (state_again p.is_marked q is, λ failed. refl)
+fails_first addr means p (waits_for_coins ∷ rows) q each is = inl (state_again p.is_marked q is, refl)
 fails_first addr means p (puts_due due behind ∷ rows) q each is = absurd (due_sends addr means p due q is)
 
 pub fails_as : (d : DeviceSetup) (c : Command) (since : List Line) (state : EpochState) (owed : Option OpenOrder)
@@ -111,12 +119,46 @@ fails_as d c since state owed q is =
     fails_first (address_of c) (judged_in c since state) (payment_in since owed) (left d c since state) q
     (each_left AsksWell d c since state (asks_well d c)) is
 
--- what isn't sent once fails by its tries
-pub asked_fails : (d : DeviceSetup) (c : Command) (since : List Line) (state : EpochState) (owed : Option OpenOrder)
-    (q : Request) → row d c since state owed ≡ sends q → is_once q ≡ false → (failed : ℕ) →
-    end_failed (left d c since state) failed ≡ end_of_tries failed
-asked_fails d c since state owed q is again failed =
-    elim (fails_as d c since state owed q is) [
-      | inl asked ↦ asked.1 failed
-      | inr once ↦ absurd (true≢false (sym once.1 ∙ again))
-    ]
+-- a row that asks is the first that isn't done: none stands right after one that puts a reading
+abbrev pub asks_first : List TableRow → Bool
+asks_first (asks_for q behind ∷ rows) = true
+asks_first (asks_once q behind without ∷ rows) = true
+asks_first (waits_for_coins ∷ rows) = true
+asks_first rows = false
+
+abbrev pub ReadsLast : TableRow → List TableRow → Type 0
+ReadsLast (puts_due reading behind) rows = asks_first rows ≡ false
+ReadsLast r rows = ⊤
+
+abbrev pub ReadsWell : List TableRow → Type 0
+ReadsWell rows = EachBefore ReadsLast rows
+
+reads_well : (d : DeviceSetup) (c : Command) → ReadsWell (rows_of d c)
+reads_well d (command.Ident addr) = told_fact ReadsWell tt (λ q behind rows each. (tt, each)) (ident_requests d.body)
+reads_well d c = search rules
+
+sends_asks : (addr : ℕ) (means : Judged) (p : Payment) (rows : List TableRow) (q : Request) →
+    first addr means p rows ≡ sends q → asks_first rows ≡ true
+sends_asks addr means p [] q is = absurd cc
+sends_asks addr means p (asks_for x behind ∷ rows) q is = refl
+sends_asks addr means p (asks_once x behind without ∷ rows) q is = refl
+sends_asks addr means p (waits_for_coins ∷ rows) q is = refl
+sends_asks addr means p (puts_due due behind ∷ rows) q is = absurd (due_sends addr means p due q is)
+
+from_asks : (rows : List TableRow) (means : Judged) → ReadsWell rows → asks_first (from rows means) ≡ true →
+    from rows means ≡ rows
+from_asks (puts_due reading behind ∷ rows) Nothing each asks = absurd (true≢false (sym asks ∙ each.0))
+from_asks (puts_due reading behind ∷ rows) (Reading r) each asks = refl
+from_asks (puts_due reading behind ∷ rows) (Broken r) each asks = refl
+from_asks (puts_due due behind ∷ rows) means each asks = refl
+from_asks (asks_for q behind ∷ rows) means each asks = refl
+from_asks (asks_once q behind without ∷ rows) means each asks = refl
+from_asks (waits_for_coins ∷ rows) means each asks = refl
+from_asks [] means each asks = refl
+
+pub left_asks : (d : DeviceSetup) (c : Command) (since : List Line) (state : EpochState) (owed : Option OpenOrder)
+    (q : Request) → row d c since state owed ≡ sends q → left d c since state ≡ rest d c since
+left_asks d c since state owed q is =
+    from_asks (rest d c since) (judged_in c since state)
+    (fact_after ReadsWell (before_on ReadsLast) (rows_of d c) (done (rows_of d c) since) (reads_well d c))
+    (sends_asks (address_of c) (judged_in c since state) (payment_in since owed) (left d c since state) q is)

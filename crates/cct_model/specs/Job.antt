@@ -1,13 +1,13 @@
 -- The job at an address, read off its lines: which command began it, which of its rows are done, and how it ends. And
 -- the epoch of an acceptor, read off its records.
-use Rattle.std.specs.Prelude.{ℕ, suc, ◌==◌, nat_lt, Bool, true, false, List, [], ◌∷◌, map, if◌then◌else◌, Option, Some, None}
+use Rattle.std.specs.Prelude.{ℕ, suc, ◌==◌, Bool, List, [], ◌∷◌, map, if◌then◌else◌, Option, Some, None}
 use Rattle.std.specs.Option.{option_or}
 use Rattle.cct_model.specs.terms.wire.TheConstants.{BROADCAST, HOST}
 use Rattle.cct_model.specs.terms.coin.Credits.{Credits}
 use Rattle.cct_model.specs.terms.device.DeviceBody.{DeviceBody}
 use Rattle.cct_model.specs.terms.device.DeviceBody.TheVariants.{Acceptor, Hopper}
 use Rattle.cct_model.specs.terms.request.Request.{Request}
-use Rattle.cct_model.specs.terms.request.Request.TheVariants.{MakerId, Category, ProductCode, SerialNumber, SoftwareRevision, BuildCode, CommsRevision, SetMask, GetMask, GetMaster, ReadCredits, SetPath, GetPath, SetDefault, GetDefault, CoinId, AcceptCount, TestHopper, Dispense, GetStatus, StopNow}
+use Rattle.cct_model.specs.terms.request.Request.TheVariants.{MakerId, Category, ProductCode, SerialNumber, SoftwareRevision, BuildCode, CommsRevision, GetMask, GetMaster, ReadCredits, SetPath, GetPath, SetDefault, GetDefault, CoinId, AcceptCount, TestHopper, GetStatus, StopNow}
 use Rattle.cct_model.specs.lines.record.Record.{Record}
 use Rattle.cct_model.specs.lines.record.Record.TheVariants as record_of
 use Rattle.cct_model.specs.declared.judging.Judged.{Judged}
@@ -56,32 +56,6 @@ job (alien ∷ past) = job past
 job (fell ∷ past) = job past
 job (reset ∷ past) = job past
 job (dispensed count ∷ past) = job past
-
--- A request that is sent once, whatever is heard of it: one that lets coins in, and one that pays coins out.
-abbrev pub is_once : Request → Bool
-is_once (SetMask mask) = true
-is_once (Dispense serial count) = true
-is_once q = false
-
--- An answer ends the row that asked for it, but for two: that a payout was stopped is no row of a payment, and a payout
--- that goes on is asked for again.
-abbrev pub answer_ends : Request → Reply → Bool
-answer_ends StopNow got = false
-answer_ends GetStatus (reply.status events left_to_pay paid unpaid) = left_to_pay == 0
-answer_ends q got = true
-
--- An exchange ends its row: by its answer, or without one where it asks what is sent once.
-abbrev pub ends_row : Option Request → Option Reply → Bool
-ends_row (Some q) (Some got) = answer_ends q got
-ends_row (Some q) None = is_once q
-ends_row None got = false
-
--- How many rows of a job are done: its exchanges that ended their row, and its puts.
-abbrev pub done : List Line → ℕ
-done [] = 0
-done (put entry ∷ since) = suc (done since)
-done (exchange asked got ∷ since) = if ends_row asked got then suc (done since) else done since
-done (line ∷ since) = done since
 
 -- One failed try more, where an exchange asked this header and was not answered; an exchange that was answered, or asked
 -- another header, ends what is counted.
@@ -227,18 +201,6 @@ judged_in c since state = judged_by (address_of c) state (credits_read since) (m
 -- What the lines of a job tell of a payment, beside the open order.
 abbrev pub payment_in : List Line → Option OpenOrder → Payment
 payment_in since owed = record { is_marked = is_marked since; life = life_read since; owed = owed }
-
--- How many records a job may still put after so many rows, at a row: a start one up to its put, a round and a settlement
--- one, a stop the epoch's end too, a payment its opened and its closed order, and a sale one.
-abbrev pub puts_at : Command → ℕ → Row → ℕ
-puts_at (command.Start addr mask) rows next = if nat_lt rows 3 then 1 else 0
-puts_at (command.Round addr) rows next = 1
-puts_at (command.Stop addr) rows (puts (record_of.EpochEnd at)) = 1
-puts_at (command.Stop addr) rows next = 2
-puts_at (command.Pay addr id count) rows next = if nat_lt rows 3 then 2 else 1
-puts_at (command.Settle addr) rows next = 1
-puts_at (command.Vend id price) rows next = 1
-puts_at c rows next = 0
 
 -- The end of a payment by the record that closes its order.
 abbrev pub end_of_close : Record → Option End

@@ -1,5 +1,5 @@
 -- What the operator has, as sums over all records and over the jobs that run.
-use Rattle.std.specs.Prelude.{ℕ, ◌+◌, ◌-◌, ◌*◌, ◌==◌, nat_le, List, [], ◌∷◌, if◌then◌else◌, Option, Some, None}
+use Rattle.std.specs.Prelude.{ℕ, ◌+◌, ◌-◌, ◌*◌, ◌==◌, List, [], ◌∷◌, if◌then◌else◌, Option, Some, None}
 use Rattle.cct_model.specs.terms.coin.Coin.{Coin}
 use Rattle.cct_model.specs.terms.device.DeviceBody.{DeviceBody}
 use Rattle.cct_model.specs.terms.device.DeviceBody.TheVariants.{Acceptor, Hopper}
@@ -7,14 +7,13 @@ use Rattle.cct_model.specs.terms.device.DeviceSetup.{DeviceSetup}
 use Rattle.cct_model.specs.terms.device.Setup.{Setup}
 use Rattle.cct_model.specs.lines.record.Record.{Record}
 use Rattle.cct_model.specs.lines.record.Record.TheVariants as record_of
-use Rattle.cct_model.specs.lines.command.Command.TheVariants as command
 use Rattle.cct_model.specs.lines.entry.Entry.{Entry}
 use Rattle.cct_model.specs.lines.entry.Totals.{Totals}
 use Rattle.cct_model.specs.declared.judging.OpenOrder.{OpenOrder}
 use Rattle.cct_model.specs.Device.{value_at}
 use Rattle.cct_model.specs.Exchange.{device_at}
-use Rattle.cct_model.specs.Job.{Job, works, job, done}
-use Rattle.cct_model.specs.Rows.{Due, new_order, sale, TableRow, puts_due}
+use Rattle.cct_model.specs.Job.{Job, free, works, job, address_of}
+use Rattle.cct_model.specs.Rows.{Due, new_order, sale, TableRow, puts_due, rest, left_of_sale}
 use Rattle.cct_model.specs.Records.{records, order_named, order_in, owner_in}
 use Rattle.cct_model.specs.Sums.{posts_of, coins_paid, price_sold, sum_in}
 use Rattle.cct_model.specs.Transcript.{lines_of, sale_lines}
@@ -115,16 +114,21 @@ reserved_for setup addr [] = 0
 reserved_for setup addr (puts_due due behind ∷ rows) = reserves setup addr due + reserved_for setup addr rows
 reserved_for setup addr (row ∷ rows) = reserved_for setup addr rows
 
--- What a running job reserves until it puts its record: a payment the amount of its order, and a sale its price.
-abbrev pub reserved_by : Setup → Job → ℕ
-reserved_by setup (works (command.Pay addr id count) since) = if nat_le (done since) 2 then coins_of setup addr count else 0
-reserved_by setup (works (command.Vend id price) since) = price
-reserved_by setup j = 0
+-- What the job at a device reserves until it puts its record: the amount of an order that it opens.
+abbrev pub reserved_by : Setup → DeviceSetup → Job → ℕ
+reserved_by setup d free = 0
+reserved_by setup d (works c since) = reserved_for setup (address_of c) (rest d c since)
+
+-- What a sale reserves until it is put: its price.
+abbrev pub reserved_by_sale : Setup → Job → ℕ
+reserved_by_sale setup free = 0
+reserved_by_sale setup (works c since) = reserved_for setup (address_of c) (left_of_sale c since)
 
 -- What all running jobs reserve.
 abbrev pub reserved_at_work : Setup → List Entry → ℕ
 reserved_at_work setup past =
-    sum_over (λ d. reserved_by setup (job (lines_of d past))) setup.devices + reserved_by setup (job (sale_lines past))
+    sum_over (λ d. reserved_by setup d (job (lines_of d past))) setup.devices
+    + reserved_by_sale setup (job (sale_lines past))
 
 -- What running jobs reserve no more once a record is put: the amount of an order that it opens, and the price of a sale.
 abbrev pub freed_by : Setup → Record → ℕ

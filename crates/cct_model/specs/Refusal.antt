@@ -17,15 +17,15 @@ use Rattle.cct_model.specs.Device.{value_at}
 use Rattle.cct_model.specs.Exchange.{acceptor_there, device_at, hopper_there}
 use Rattle.cct_model.specs.Line.{Line}
 use Rattle.cct_model.specs.Order.{order}
-use Rattle.cct_model.specs.Job.{Job, free, works, job, done, puts_at, coin_places, epoch, address_of}
-use Rattle.cct_model.specs.Rows.{row, row_of_sale, can_halt}
+use Rattle.cct_model.specs.Job.{Job, free, works, job, coin_places, epoch, address_of}
+use Rattle.cct_model.specs.Rows.{rows_of, rows_of_sale, rows_for, left, left_of_sale, puts_in, need_in, id_in, closes_order, can_halt}
 use Rattle.cct_model.specs.Records.{records, greatest_id}
 use Rattle.cct_model.specs.Money.{sum_over, coins_of, available}
 use Rattle.cct_model.specs.Transcript.{lines_of, scan_lines, sale_lines}
 
 -- A test of a command: a device is at the address, an acceptor, a hopper; no job is there; no epoch runs, or one does;
 -- each place of a mask has a value; no order is open, or one is; there is a payout that could be stopped; an id is new;
--- the value of so many coins of the hopper at an address is available, or a price is; there is room for so many records.
+-- the value of so many coins of the hopper at an address is available, or a price is; there is room for its records.
 pub data Test : Type 0 where
   at_a_device : Test
   at_an_acceptor : Test
@@ -40,40 +40,34 @@ pub data Test : Type 0 where
   with_new_id : (id : ℕ) → Test
   with_coins : (addr : ℕ) (count : ℕ) → Test
   with_price : (price : ℕ) → Test
-  with_room : (need : ℕ) → Test
+  with_room : Test
 
 -- The tests of a command in their order: those of the state stand before those of the money and of the room.
 abbrev pub tests_of : Command → List Test
 tests_of (command.Start addr mask) =
-    at_a_device ∷ at_an_acceptor ∷ with_no_job ∷ with_no_epoch ∷ with_values mask ∷ with_room 1 ∷ []
-tests_of (command.Round addr) = at_a_device ∷ at_an_acceptor ∷ with_no_job ∷ with_an_epoch ∷ with_room 1 ∷ []
-tests_of (command.Stop addr) = at_a_device ∷ at_an_acceptor ∷ with_no_job ∷ with_an_epoch ∷ with_room 2 ∷ []
+    at_a_device ∷ at_an_acceptor ∷ with_no_job ∷ with_no_epoch ∷ with_values mask ∷ with_room ∷ []
+tests_of (command.Round addr) = at_a_device ∷ at_an_acceptor ∷ with_no_job ∷ with_an_epoch ∷ with_room ∷ []
+tests_of (command.Stop addr) = at_a_device ∷ at_an_acceptor ∷ with_no_job ∷ with_an_epoch ∷ with_room ∷ []
 tests_of (command.Pay addr id count) =
-    at_a_device ∷ at_a_hopper ∷ with_no_job ∷ with_no_order ∷ with_new_id id ∷ with_coins addr count ∷ with_room 2 ∷ []
-tests_of (command.Settle addr) = at_a_device ∷ at_a_hopper ∷ with_no_job ∷ with_an_order ∷ with_room 0 ∷ []
+    at_a_device ∷ at_a_hopper ∷ with_no_job ∷ with_no_order ∷ with_new_id id ∷ with_coins addr count ∷ with_room ∷ []
+tests_of (command.Settle addr) = at_a_device ∷ at_a_hopper ∷ with_no_job ∷ with_an_order ∷ with_room ∷ []
 tests_of (command.Halt addr) = at_a_device ∷ at_a_hopper ∷ with_a_payout ∷ []
 tests_of command.Scan = with_no_job ∷ []
 tests_of (command.Ident addr) = at_a_device ∷ with_no_job ∷ []
 tests_of (command.Path addr place path) = at_a_device ∷ at_an_acceptor ∷ with_no_job ∷ []
-tests_of (command.Vend id price) = with_no_job ∷ with_new_id id ∷ with_price price ∷ with_room 1 ∷ []
+tests_of (command.Vend id price) = with_no_job ∷ with_new_id id ∷ with_price price ∷ with_room ∷ []
 
 -- The tests of the state among these: they stand before those of the money and of the room.
 abbrev pub of_state : List Test → List Test
 of_state [] = []
 of_state (with_coins addr count ∷ tests) = []
 of_state (with_price price ∷ tests) = []
-of_state (with_room need ∷ tests) = []
+of_state (with_room ∷ tests) = []
 of_state (test ∷ tests) = test ∷ of_state tests
 
 -- The tests of the state of a command.
 abbrev pub state_tests : Command → List Test
 state_tests c = of_state (tests_of c)
-
--- How many records these tests want room for, 0 where they want none.
-abbrev pub room_in : List Test → ℕ
-room_in [] = 0
-room_in (with_room need ∷ tests) = need
-room_in (test ∷ tests) = room_in tests
 
 -- The money that these tests want available, 0 where they want none.
 abbrev pub money_in : Setup → List Test → ℕ
@@ -154,30 +148,37 @@ state_fails v with_a_payout = unless v.is_payout NoPayout
 state_fails v (with_new_id id) = id_refusal id v.last
 state_fails v test = None
 
--- How many records the job at a device may still put.
-abbrev pub job_holds : DeviceSetup → List Line → Job → ℕ
-job_holds d lines free = 0
-job_holds d lines (works c since) = puts_at c (done since) (row d c since (epoch lines) (order lines))
+-- How many records the job at a device may still put, beside its epoch.
+abbrev pub job_holds : DeviceSetup → EpochState → Job → ℕ
+job_holds d state free = 0
+job_holds d state (works c since) = puts_in (left d c since state)
 
--- One record for an open order that no payment and no settlement is at work to close.
-abbrev pub order_holds : Job → Option OpenOrder → ℕ
-order_holds j None = 0
-order_holds (works (command.Pay addr id count) since) (Some o) = 0
-order_holds (works (command.Settle addr) since) (Some o) = 0
-order_holds j (Some o) = 1
+-- One record for an open order that no job is to close.
+abbrev pub order_holds : Bool → Option OpenOrder → ℕ
+order_holds closing None = 0
+order_holds true (Some o) = 0
+order_holds false (Some o) = 1
+
+-- How many records are held for the lines of a device.
+abbrev pub holds_of : DeviceSetup → List Line → ℕ
+holds_of d lines = job_holds d (epoch lines) (job lines) + order_holds (closes_order d (job lines)) (order lines)
 
 -- How many records are held for a device.
 abbrev pub holds_at : List Entry → DeviceSetup → ℕ
-holds_at past d = job_holds d (lines_of d past) (job (lines_of d past)) + order_holds (job (lines_of d past)) (order (lines_of d past))
+holds_at past d = holds_of d (lines_of d past)
 
 -- How many records a sale may still put.
 abbrev pub sale_holds : Job → ℕ
 sale_holds free = 0
-sale_holds (works c since) = puts_at c (done since) (row_of_sale c since)
+sale_holds (works c since) = puts_in (left_of_sale c since)
 
 -- How many records are held: what running jobs may still put, and one for each open order that no job is to close.
 abbrev pub held : Setup → List Entry → ℕ
 held setup past = sum_over (holds_at past) setup.devices + sale_holds (job (sale_lines past))
+
+-- How many records a command wants room for, beside the device at its address.
+abbrev pub need_for : Option DeviceSetup → Command → ℕ
+need_for found c = need_in (rows_for found c)
 
 -- The test that the journal, which takes so many records, has no room for these beside those that are held.
 abbrev pub full_refusal : Setup → List Entry → ℕ → ℕ → Option CommandNo
@@ -190,28 +191,33 @@ abbrev pub short_refusal : Setup → List Entry → ℕ → Option CommandNo
 short_refusal setup past wanted =
     if nat_le wanted (available setup past) then None else Some (Short (available setup past))
 
--- The id of the order or the sale that a job is at work to record or has recorded, 0 of another job.
-abbrev pub running_id : Job → ℕ
-running_id (works (command.Pay addr id count) since) = id
-running_id (works (command.Vend id price) since) = id
-running_id j = 0
+-- The id of the order that the job at a device is at work to record or has recorded, 0 of another job.
+abbrev pub running_id : DeviceSetup → Job → ℕ
+running_id d free = 0
+running_id d (works c since) = id_in (rows_of d c)
+
+-- The id of a sale.
+abbrev pub sale_id : Job → ℕ
+sale_id free = 0
+sale_id (works c since) = id_in (rows_of_sale c)
 
 -- The greatest such id among devices.
 abbrev pub greatest_running : List Entry → List DeviceSetup → ℕ
 greatest_running past [] = 0
-greatest_running past (d ∷ ds) = max (running_id (job (lines_of d past))) (greatest_running past ds)
+greatest_running past (d ∷ ds) = max (running_id d (job (lines_of d past))) (greatest_running past ds)
 
 -- The last id: the greatest of the records and of the running jobs, 0 where there is none.
 abbrev pub last_id : Setup → List Entry → ℕ
 last_id setup past =
-    max (greatest_id (records past)) (max (greatest_running past setup.devices) (running_id (job (sale_lines past))))
+    max (greatest_id (records past)) (max (greatest_running past setup.devices) (sale_id (job (sale_lines past))))
 
--- The reason why a test of the money or of the room fails over a journal that takes so many records, if it does.
-abbrev pub room_fails : ℕ → Setup → List Entry → Test → Option CommandNo
-room_fails capacity setup past (with_coins addr count) = short_refusal setup past (coins_of setup addr count)
-room_fails capacity setup past (with_price price) = short_refusal setup past price
-room_fails capacity setup past (with_room need) = full_refusal setup past need capacity
-room_fails capacity setup past test = None
+-- The reason why a test of the money or of the room fails, if it does, over a journal that takes so many records, where
+-- the command wants room for so many.
+abbrev pub room_fails : ℕ → Setup → List Entry → ℕ → Test → Option CommandNo
+room_fails capacity setup past need (with_coins addr count) = short_refusal setup past (coins_of setup addr count)
+room_fails capacity setup past need (with_price price) = short_refusal setup past price
+room_fails capacity setup past need with_room = full_refusal setup past need capacity
+room_fails capacity setup past need test = None
 
 -- A job is at work.
 abbrev pub is_busy : Job → Bool
@@ -252,7 +258,9 @@ state_refusal setup past c = first_of (state_fails (view_for setup past c)) (sta
 
 -- The first reason for which a command is refused for the money or the room, or none.
 abbrev pub room_refusal : ℕ → Setup → List Entry → Command → Option CommandNo
-room_refusal capacity setup past c = first_of (room_fails capacity setup past) (tests_of c)
+room_refusal capacity setup past c =
+    let need = need_for (device_at setup.devices (address_of c)) c in
+    first_of (room_fails capacity setup past need) (tests_of c)
 
 -- The first reason that holds for which a command is refused, or none, over a journal that takes so many records.
 abbrev pub refusal : ℕ → Setup → List Entry → Command → Option CommandNo

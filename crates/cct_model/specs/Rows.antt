@@ -1,6 +1,6 @@
 -- The table of jobs, and what is read off the rows of it that a job has left: what it sends or puts next, how it ends, what
 -- it may still put, what it reserves, and whether it can be halted.
-use Rattle.std.specs.Prelude.{ℕ, suc, zero, Bool, true, false, List, [], ◌∷◌, Option, Some, None}
+use Rattle.std.specs.Prelude.{ℕ, suc, zero, ◌==◌, Bool, true, false, List, [], ◌∷◌, ◌++◌, if◌then◌else◌, Option, Some, None}
 use Rattle.cct_model.specs.terms.request.TheConstants.{ENABLE_CODE}
 use Rattle.cct_model.specs.terms.device.DeviceSetup.{DeviceSetup}
 use Rattle.cct_model.specs.terms.request.Request.{Request}
@@ -19,7 +19,7 @@ use Rattle.cct_model.specs.Request.{header_of}
 use Rattle.cct_model.specs.Reply.{Reply}
 use Rattle.cct_model.specs.Reply as reply
 use Rattle.cct_model.specs.Line.{Line, exchange, put}
-use Rattle.cct_model.specs.Job.{Job, free, works, done, tries, Row, sends, puts, no_row, put_or, ident_requests, path_set, path_read, Payment, state_row, open_row, close_row, address_of, judged_in, payment_in, end_of_close, end_of_credits, end_of_reading, end_of_tries}
+use Rattle.cct_model.specs.Job.{Job, free, works, tries, Row, sends, puts, no_row, put_or, ident_requests, path_set, path_read, Payment, state_row, open_row, close_row, address_of, judged_in, payment_in, end_of_close, end_of_credits, end_of_reading, end_of_tries}
 
 -- How a job goes on behind a row: by its next row; it ends so; by the next row where the acceptor's counter is 0; where
 -- the reading means something, else it ends clean; with the path that was read it ends; a break ends it, and a reading
@@ -95,6 +95,11 @@ abbrev pub rows_of_sale : Command → List TableRow
 rows_of_sale (command.Vend id price) = puts_due (sale id price) (ends_as Sold) ∷ []
 rows_of_sale c = []
 
+-- The rows of a command, beside the device at its address.
+abbrev pub rows_for : Option DeviceSetup → Command → List TableRow
+rows_for None c = rows_of_sale c
+rows_for (Some d) c = rows_of_sale c ++ rows_of d c
+
 -- The rows after so many.
 abbrev pub after : List TableRow → ℕ → List TableRow
 after [] n = []
@@ -106,9 +111,30 @@ abbrev pub from : List TableRow → Judged → List TableRow
 from (puts_due reading behind ∷ rows) Nothing = rows
 from rows means = rows
 
+-- The first of these rows is sent once, whatever is heard of it.
+abbrev pub sent_once : List TableRow → Bool
+sent_once (asks_once q behind without ∷ rows) = true
+sent_once rows = false
+
+-- An exchange ends the first of these rows: by its answer; one that is sent once without an answer too; and a wait by a
+-- state with no coin left to pay, not by the answer to a stop.
+abbrev pub ends_first : List TableRow → Option Reply → Bool
+ends_first (asks_for q behind ∷ rows) (Some y) = true
+ends_first (asks_once q behind without ∷ rows) got = true
+ends_first (waits_for_coins ∷ rows) (Some (reply.status events left_to_pay paid unpaid)) = left_to_pay == 0
+ends_first rows got = false
+
+-- How many of these rows a job has done: by its exchanges that ended their row, and by its puts.
+abbrev pub done : List TableRow → List Line → ℕ
+done rows [] = 0
+done rows (put entry ∷ since) = suc (done rows since)
+done rows (exchange asked got ∷ since) =
+    if ends_first (after rows (done rows since)) got then suc (done rows since) else done rows since
+done rows (line ∷ since) = done rows since
+
 -- The rows that a job hasn't done.
 abbrev pub rest : DeviceSetup → Command → List Line → List TableRow
-rest d c since = after (rows_of d c) (done since)
+rest d c since = after (rows_of d c) (done (rows_of d c) since)
 
 -- The rows of a command at a device that are left after so many, beside what was judged.
 abbrev pub left_at : DeviceSetup → Command → ℕ → Judged → List TableRow
@@ -116,11 +142,11 @@ left_at d c n means = from (after (rows_of d c) n) means
 
 -- The rows of a job that are left, beside its epoch.
 abbrev pub left : DeviceSetup → Command → List Line → EpochState → List TableRow
-left d c since state = left_at d c (done since) (judged_in c since state)
+left d c since state = left_at d c (done (rows_of d c) since) (judged_in c since state)
 
 -- The rows of a sale that are left.
 abbrev pub left_of_sale : Command → List Line → List TableRow
-left_of_sale c since = after (rows_of_sale c) (done since)
+left_of_sale c since = after (rows_of_sale c) (done (rows_of_sale c) since)
 
 -- What a row at an address has to put, beside what was judged and what is known of a payout.
 abbrev pub due_row : ℕ → Judged → Payment → Due → Row
@@ -145,7 +171,7 @@ row_at d c n means p = first (address_of c) means p (left_at d c n means)
 
 -- The row at which a job at a device stands, beside its epoch and its open order.
 abbrev pub row : DeviceSetup → Command → List Line → EpochState → Option OpenOrder → Row
-row d c since state owed = row_at d c (done since) (judged_in c since state) (payment_in since owed)
+row d c since state owed = row_at d c (done (rows_of d c) since) (judged_in c since state) (payment_in since owed)
 
 -- The row at which a job that is at no device stands: a sale.
 abbrev pub row_of_sale : Command → List Line → Row
@@ -173,6 +199,20 @@ abbrev pub has_closes : List TableRow → Bool
 has_closes [] = false
 has_closes (puts_due order_end behind ∷ rows) = true
 has_closes (row ∷ rows) = has_closes rows
+
+-- The job at a device is to close the open order: it has a row to come that closes one.
+abbrev pub closes_order : DeviceSetup → Job → Bool
+closes_order d free = false
+closes_order d (works c since) = has_closes (rest d c since)
+
+-- How many records these rows want room for: those that they put, but for one that closes an order which none of them
+-- opens; that one is held already.
+abbrev pub need_in : List TableRow → ℕ
+need_in [] = 0
+need_in (puts_due (new_order id count) behind ∷ rows) = suc (puts_in rows)
+need_in (puts_due order_end behind ∷ rows) = need_in rows
+need_in (puts_due due behind ∷ rows) = suc (need_in rows)
+need_in (row ∷ rows) = need_in rows
 
 -- The id that these rows record, 0 where they record none.
 abbrev pub id_in : List TableRow → ℕ
