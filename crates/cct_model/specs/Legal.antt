@@ -17,7 +17,6 @@ use Rattle.cct_model.specs.lines.entry.Entry.{Entry}
 use Rattle.cct_model.specs.lines.entry.Entry.TheVariants as entry
 use Rattle.cct_model.specs.Acceptor.{accepts, path_of}
 use Rattle.cct_model.specs.Family.{family_of, known_to}
-use Rattle.cct_model.specs.Device.{is_acceptor, is_hopper}
 use Rattle.cct_model.specs.Hopper.{remaining}
 use Rattle.cct_model.specs.Exchange.{ask, asked, device_at}
 use Rattle.cct_model.specs.Line.{Line, exchange, put}
@@ -44,6 +43,14 @@ fall_entry d past = if remaining d.serial (met d past) == 0 then entry.NoFall d.
 -- The entry of a coin that may stick in a hopper: it does where the hopper has some left to pay.
 abbrev pub jam_entry : DeviceSetup → List Entry → Entry
 jam_entry d past = if remaining d.serial (met d past) == 0 then entry.NoJam d.addr else entry.Jammed d.addr
+
+-- The step by which something befalls the device at an address.
+abbrev pub step_of : ℕ → Happening → Step
+step_of addr (happening.Coin place) = step.Coin addr place
+step_of addr happening.Alien = step.Alien addr
+step_of addr happening.Fall = step.Fall addr
+step_of addr happening.Jam = step.Jam addr
+step_of addr happening.Reset = step.Reset addr
 
 -- The entry of what befalls the device at an address.
 abbrev pub happening_entry : ℕ → DeviceSetup → List Entry → Happening → Entry
@@ -117,14 +124,6 @@ OfDevice (Some d) P = P d
 -- A fact of the device at an address; there has to be one, of a family that knows this.
 abbrev pub OfKnowing : Happening → Option DeviceSetup → (DeviceSetup → Type 0) → Type 0
 OfKnowing what found P = OfDevice found (λ d. MatchBool (known_to what (family_of d.body)) (P d) ⊥)
-
--- A fact of the acceptor at an address; there has to be one.
-abbrev pub OfAcceptor : Option DeviceSetup → (DeviceSetup → Type 0) → Type 0
-OfAcceptor found P = OfDevice found (λ d. MatchBool (is_acceptor d.body) (P d) ⊥)
-
--- A fact of the hopper at an address; there has to be one.
-abbrev pub OfHopper : Option DeviceSetup → (DeviceSetup → Type 0) → Type 0
-OfHopper found P = OfDevice found (λ d. MatchBool (is_hopper d.body) (P d) ⊥)
 
 -- A fact of the device at an address where there is one, else another.
 abbrev pub OfNext : Option DeviceSetup → (DeviceSetup → Type 0) → Type 0 → Type 0

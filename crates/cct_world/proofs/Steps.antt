@@ -16,7 +16,7 @@ use Rattle.cct_model.specs.lines.entry.Totals.{Totals}
 use Rattle.cct_model.specs.Acceptor.{accepts}
 use Rattle.cct_model.specs.Exchange.{device_at}
 use Rattle.cct_model.specs.Hopper.{remaining}
-use Rattle.cct_model.specs.Legal.{Entries, EntriesOfHappening, EntriesOfNext, command_entry, happening_entry}
+use Rattle.cct_model.specs.Legal.{Entries, EntriesOfHappening, EntriesOfNext, command_entry, happening_entry, step_of}
 use Rattle.cct_model.specs.Money.{totals}
 use Rattle.cct_model.specs.Records.{records}
 use Rattle.cct_model.specs.Refusal.{refusal}
@@ -37,7 +37,7 @@ use Rattle.cct_host.proofs.Commands.{address_there}
 use Rattle.cct_host.proofs.Lines.{IsQuiet, accepted_quiet, alien_quiet, fall_quiet, inhibited_quiet, jam_quiet, reset_quiet}
 use Rattle.cct_host.proofs.Quiet.{balance_quiet, host_quiet}
 use Rattle.cct_world.specs.Restarts.{kept_in}
-use Rattle.cct_world.specs.Step.{crashes, entry_told, step_of}
+use Rattle.cct_world.specs.Step.{crashes, entry_told}
 use Rattle.cct_world.proofs.Wires.{balance_wire, command_wire, linked}
 
 -- a report with one entry

@@ -15,14 +15,6 @@ use Rattle.cct_host.specs.declared.refusal.CrashNo.TheVariants as crash_no
 use Rattle.cct_world.specs.declared.refusal.WorldNo.{WorldNo}
 use Rattle.cct_world.specs.declared.refusal.WorldNo.TheVariants as world_no
 
--- The step by which something befalls the device at an address.
-abbrev pub step_of : ℕ → Happening → Step
-step_of addr (happening.Coin place) = step.Coin addr place
-step_of addr happening.Alien = step.Alien addr
-step_of addr happening.Fall = step.Fall addr
-step_of addr happening.Jam = step.Jam addr
-step_of addr happening.Reset = step.Reset addr
-
 -- The entry of what befell the device at an address, by what became of it.
 abbrev pub entry_told : ℕ → Happening → Outcome → Entry
 entry_told addr (happening.Coin place) (outcome.Accepted c) = entry.Accepted addr c

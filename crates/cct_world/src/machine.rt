@@ -4,7 +4,7 @@ ghost use Rattle.cct_model.specs.lines.command.Step.TheVariants as step;
 ghost use Rattle.cct_model.specs.Exchange.{device_at, known_there};
 ghost use Rattle.cct_model.specs.Family.{IsPlaced};
 ghost use Rattle.cct_model.specs.lines.entry.Entry.{Entry};
-ghost use Rattle.cct_model.specs.Legal.{is_played};
+ghost use Rattle.cct_model.specs.Legal.{is_played, step_of};
 ghost use Rattle.cct_model.specs.Money.{totals};
 ghost use Rattle.cct_model.specs.Records.{records};
 ghost use Rattle.cct_model.specs.Script.{IsCrash, IsFault, IsInRange, is_known};
@@ -14,7 +14,7 @@ ghost use Rattle.cct_journal.specs.Stands.{CutOnce, GoesOn, Outlasts};
 ghost use Rattle.cct_host.specs.Host as hosts;
 ghost use Rattle.cct_host.specs.Restarting.{crash_news};
 ghost use Rattle.cct_world.specs.Restarts.{kept_in};
-ghost use Rattle.cct_world.specs.Step.{CutsIn, LastsIn, crashes, crashes_of, entry_told, is_next, step_of, unplayed};
+ghost use Rattle.cct_world.specs.Step.{CutsIn, LastsIn, crashes, crashes_of, entry_told, is_next, unplayed};
 
 use crate::refusal::WorldNo;
 use arrayvec::ArrayVec;
