@@ -8,7 +8,7 @@ use Rattle.cct_model.specs.terms.device.DeviceBody.TheVariants.{Acceptor, Hopper
 use Rattle.cct_model.specs.terms.request.Request.{Request}
 use Rattle.cct_model.specs.terms.request.Request.TheVariants.{SetDefault, SetPath, GetDefault, GetPath, GetStatus, StopNow}
 use Rattle.cct_model.specs.Job.{ident_requests, is_once, answer_ends, path_set, path_read}
-use Rattle.cct_model.specs.Device.{is_acceptor}
+use Rattle.cct_model.specs.Family.{family_of}
 use Rattle.cct_model.specs.Reply.{Reply}
 use Rattle.cct_msg.specs.Forms.{FitsItsBytes}
 use Rattle.cct_jobs.specs.Jobs.{question_after}
@@ -25,13 +25,13 @@ follows next (x ∷ xs) (suc n) q e at =
     let rest : map next xs ≡ behind_each xs = cc in
     follows next xs n q rest at
 
-each_follows : (body : DeviceBody) → map (question_after (is_acceptor body)) (ident_requests body) ≡ behind_each (ident_requests body)
+each_follows : (body : DeviceBody) → map (question_after (family_of body)) (ident_requests body) ≡ behind_each (ident_requests body)
 each_follows (Acceptor accepts values ids) = refl
 each_follows (Hopper life value) = refl
 
 -- the question at the place behind one is the one that follows it
-pub next_question : (body : DeviceBody) (n : ℕ) (q : Request) → slice_get (ident_requests body) n ≡ Some q → slice_get (ident_requests body) (suc n) ≡ question_after (is_acceptor body) q
-next_question body n q at = follows (question_after (is_acceptor body)) (ident_requests body) n q (each_follows body) at
+pub next_question : (body : DeviceBody) (n : ℕ) (q : Request) → slice_get (ident_requests body) n ≡ Some q → slice_get (ident_requests body) (suc n) ≡ question_after (family_of body) q
+next_question body n q at = follows (question_after (family_of body)) (ident_requests body) n q (each_follows body) at
 
 -- where none follows, that many were asked
 pub last_question : (xs : List Request) (n : ℕ) (q : Request) → slice_get xs n ≡ Some q → slice_get xs (suc n) ≡ None → length xs ≡ suc n

@@ -187,12 +187,12 @@ module _ {d : DeviceSetup} {device : Target} {stage : Stage} {failed : ℕ} {c :
 module _ {d : DeviceSetup} {device : Target} {question : Request} {failed : ℕ} {c : Command} {since : List Line}
     {state : EpochState} {owed : Option OpenOrder} (at : Asking d device (IdentAsks question) failed c since state owed)
   where
-    next_is : slice_get (ident_requests d.body) (suc (done since)) ≡ question_after device.is_acceptor question
+    next_is : slice_get (ident_requests d.body) (suc (done since)) ≡ question_after device.family question
     next_is =
         next_question d.body (done since) question at.is_after
-        ∙ ap (λ (t : Target). question_after t.is_acceptor question) (sym at.device_is)
+        ∙ ap (λ (t : Target). question_after t.family question) (sym at.device_is)
 
-    pub ident_on : (next : Request) (y : Reply) → question_after device.is_acceptor question ≡ Some next
+    pub ident_on : (next : Request) (y : Reply) → question_after device.family question ≡ Some next
         → Asking d device (IdentAsks next) 0 c (exchange (Some question) (Some y) ∷ since) state owed
     ident_on next y e =
         let more : slice_get (ident_requests d.body) (suc (done since)) ≡ Some next = next_is ∙ e in
@@ -207,7 +207,7 @@ module _ {d : DeviceSetup} {device : Target} {question : Request} {failed : ℕ}
               ∙ ap (λ b. cond b (Some Told) None) (question_within (ident_requests d.body) (suc (done since)) next more);
         }
 
-    pub ident_told : (y : Reply) → question_after device.is_acceptor question ≡ None
+    pub ident_told : (y : Reply) → question_after device.family question ≡ None
         → newest_end d c (exchange (Some question) (Some y) ∷ since) state ≡ Some Told
     ident_told y e =
         let all : length (ident_requests d.body) ≡ suc (done since) =
