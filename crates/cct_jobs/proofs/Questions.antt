@@ -27,7 +27,7 @@ follows next (x ∷ xs) (suc n) q e at =
     let rest : map next xs ≡ behind_each xs = cc in
     follows next xs n q rest at
 
--- the questions to a coin acceptor, or to a hopper
+-- the questions to a device of a family
 abbrev pub questions : Family → List Request
 questions which = ident_requests (body_of which)
 
@@ -121,12 +121,12 @@ all_at test (x ∷ xs) zero q e at =
     subst (λ r. test r ≡ true) is (both_true (test x) (list_all test xs) e).0
 all_at test (x ∷ xs) (suc n) q e at = all_at test xs n q (both_true (test x) (list_all test xs) e).1 at
 
-each_again : (which : Bool) → list_all is_again (questions which) ≡ true
-each_again true = refl
-each_again false = refl
+each_again : (which : Family) → list_all is_again (questions which) ≡ true
+each_again family.Acceptor = refl
+each_again family.Hopper = refl
 
 -- so is every question
-pub question_again : (which : Bool) (n : ℕ) (q : Request) → slice_get (questions which) n ≡ Some q → is_once q ≡ false
+pub question_again : (which : Family) (n : ℕ) (q : Request) → slice_get (questions which) n ≡ Some q → is_once q ≡ false
 question_again which n q at = not_true (is_once q) (all_at is_again (questions which) n q (each_again which) at)
 
 set_by : (b : Bool) (place path : ℕ) → is_once (cond b (SetDefault path) (SetPath place path)) ≡ false

@@ -24,7 +24,7 @@ use Rattle.cct_jobs.specs.declared.stage.Stage.TheVariants.{StartResets, StartRe
 use Rattle.cct_jobs.specs.declared.job.Job.{Job}
 use Rattle.cct_jobs.specs.declared.job.Job.TheVariants.{Asks, StartPuts, RoundPuts, StopPuts, StopEnds, OrderOpens, OrderCloses, SalePuts}
 
--- A coin acceptor or a hopper of which nothing else is set up.
+-- A device of a family of which nothing else is set up.
 abbrev pub body_of : Family → DeviceBody
 body_of family.Acceptor = Acceptor 0 [] []
 body_of family.Hopper = Hopper 0 0
