@@ -13,7 +13,9 @@ use Rattle.cct_model.specs.Line.{Line}
 use Rattle.cct_model.specs.Line as line
 use Rattle.cct_model.specs.Job as model
 use Rattle.cct_model.specs.Legal.{with_end}
-use Rattle.cct_model.specs.Job.{address_of}
+use Rattle.cct_model.specs.Job.{address_of, ident_requests}
+use Rattle.cct_model.specs.Rows.{id_in, rows_of, rows_of_sale}
+use Rattle.cct_model.proofs.Rows.{told_fact}
 use Rattle.cct_model.specs.Order.{order, order_by}
 use Rattle.cct_model.specs.Refusal.{running_id, sale_id}
 use Rattle.cct_model.specs.Transcript.{lines_of, owner, sale_lines, sold_line}
@@ -31,11 +33,9 @@ running_line : (d : DeviceSetup) (x : Line) (j : model.Job) → running_id d (mo
 running_line d x model.free = refl
 running_line d x (model.works c since) = refl
 
--- a command that opens no order and sells nothing begins no id
-told_no_id : (qs : List Request) → id_in (telling qs) ≡ 0
-told_no_id [] = refl
-told_no_id (q ∷ []) = refl
-told_no_id (q ∷ r ∷ qs) = told_no_id (r ∷ qs)
+-- an identification begins no id
+pub no_id_told : (d : DeviceSetup) (addr : ℕ) → 0 ≡ running_id d (model.works (command.Ident addr) [])
+no_id_told d addr = sym (told_fact (λ rows. id_in rows ≡ 0) refl (λ q behind rows none. none) (ident_requests d.body))
 
 sale_line : (x : Line) (j : model.Job) → sale_id (model.with_line x j) ≡ sale_id j
 sale_line x model.free = refl
