@@ -158,6 +158,19 @@ after_line P rows (exchange q y) since same less = by_end (ends_first (after row
     by_end false = same
 after_line P rows l since same less = same
 
+-- a line that ends the first of the rows that were left leaves those after it
+pub ended_leaves : (rows : List TableRow) (asked : Option Request) (got : Option Reply) (since : List Line)
+    (r : TableRow) (later : List TableRow) → after rows (done rows since) ≡ r ∷ later →
+    ends_first (r ∷ later) got ≡ true → after rows (done rows (exchange asked got ∷ since)) ≡ later
+ended_leaves rows asked got since r later is ends =
+    ap (λ over. after rows (cond over (suc (done rows since)) (done rows since)))
+    (ap (λ left_rows. ends_first left_rows got) is ∙ ends)
+    ∙ after_next rows (done rows since) ∙ ap but_first is
+
+pub put_leaves : (rows : List TableRow) (since : List Line) (r : TableRow) (later : List TableRow) →
+    after rows (done rows since) ≡ r ∷ later → after rows (suc (done rows since)) ≡ later
+put_leaves rows since r later is = after_next rows (done rows since) ∙ ap but_first is
+
 -- so it takes back none that was done
 pub done_grows : (rows : List TableRow) (l : Line) (since : List Line) → done rows since ≤ done rows (l ∷ since)
 done_grows rows (put r) since = omega arith
@@ -447,7 +460,7 @@ close_end P (record_of.Closed id paid unpaid) closed odd = closed
 close_end P (record_of.Odd id life_before life_after) closed odd = odd
 close_end P r closed odd = tt
 
-behind_answer : (P : End → Type 0) (behind : Then) (y : Reply) (means : Judged) → Behind P behind →
+pub behind_answer : (P : End → Type 0) (behind : Then) (y : Reply) (means : Judged) → Behind P behind →
     IfEnd P (end_by_answer behind y means)
 behind_answer P goes_on y means holds = tt
 behind_answer P (ends_as end) y means holds = holds
@@ -464,7 +477,7 @@ pub behind_bare : (P : End → Type 0) (behind : Then) → Behind P behind → I
 behind_bare P (ends_as end) holds = holds
 behind_bare P behind holds = tt
 
-behind_record : (P : End → Type 0) (behind : Then) (r : Record) → Behind P behind →
+pub behind_record : (P : End → Type 0) (behind : Then) (r : Record) → Behind P behind →
     IfEnd P (end_by_record behind r)
 behind_record P goes_on r holds = tt
 behind_record P (ends_as end) r holds = holds
