@@ -3,7 +3,6 @@ use Rattle.std.proofs.Common.{◌≡◌, ◌≢◌, ℕ, ◌+◌, ◌≤◌, Lis
 use Rattle.cct_model.specs.Refusal.{tests_of, money_in}
 use Rattle.cct_model.specs.terms.device.DeviceSetup.{DeviceSetup}
 use Rattle.cct_model.specs.terms.device.Setup.{Setup}
-use Rattle.cct_model.specs.terms.request.Request.{Request}
 use Rattle.cct_model.specs.lines.record.Record.{Record}
 use Rattle.cct_model.specs.lines.record.Record.TheVariants as record_of
 use Rattle.cct_model.specs.lines.command.Command.{Command}
@@ -12,11 +11,11 @@ use Rattle.cct_model.specs.lines.entry.Entry.{Entry}
 use Rattle.cct_model.specs.Setup.{AreDistinct}
 use Rattle.cct_model.specs.Line.{Line, put}
 use Rattle.cct_model.specs.Job.{Job, free, works, with_line, job, address_of, ident_requests}
-use Rattle.cct_model.specs.Rows.{Due, new_order, TableRow, asks_for, asks_once, waits_for_coins, puts_due, telling, rows_of, rest, done}
+use Rattle.cct_model.specs.Rows.{new_order, TableRow, asks_for, asks_once, waits_for_coins, puts_due, rows_of, rest, done}
 use Rattle.cct_model.specs.Records.{records}
 use Rattle.cct_model.specs.Money.{coins_of, posted_in, reserves, reserved_for, reserved_by, reserved_by_sale, reserved_at_work, freed_by, spoken_for, available}
 use Rattle.cct_model.specs.Transcript.{lines_of, sale_lines}
-use Rattle.cct_model.proofs.Rows.{but_first, after_none, after_next, after_line}
+use Rattle.cct_model.proofs.Rows.{but_first, after_none, after_next, after_line, told_fact}
 use Rattle.cct_laws.specs.Law.{IsOf}
 use Rattle.cct_laws.proofs.Sums.{sum_moved}
 use Rattle.cct_laws.proofs.Covered.{spoken_in}
@@ -99,15 +98,11 @@ work_put setup d c since r own =
 abbrev pub spent_by : Setup → Command → ℕ
 spent_by setup c = money_in setup (tests_of c)
 
-told_reserves : (setup : Setup) (addr : ℕ) (qs : List Request) → reserved_for setup addr (telling qs) ≡ 0
-told_reserves setup addr [] = refl
-told_reserves setup addr (q ∷ []) = refl
-told_reserves setup addr (q ∷ r ∷ qs) = told_reserves setup addr (r ∷ qs)
-
 rows_spend : (setup : Setup) (d : DeviceSetup) (c : Command) →
     reserved_for setup (address_of c) (rows_of d c) ≤ spent_by setup c
 rows_spend setup d (command.Ident addr) =
-    let none = told_reserves setup addr (ident_requests d.body) in
+    let none =
+    told_fact (λ rows. reserved_for setup addr rows ≡ 0) refl (λ q behind rows same. same) (ident_requests d.body) in
     omega (arith, none)
 rows_spend setup d c = omega arith
 

@@ -194,7 +194,7 @@ counts_step capacity setup past _ _ sound ids (began_sale id price is_free lets)
       holds = held_more (length (records past)) (sale_holds (job (sale_lines past)));
     })
   where
-    reserved_more : (spoken now posted : ℕ) → spoken + price + posted ≤ spoken + now + price + posted
+    reserved_more : (spoken now posted : ℕ) → spoken + (price + 0) + posted ≤ spoken + now + price + posted
     reserved_more spoken now posted = omega arith
 
     held_more : (many now : ℕ) → many + 1 ≤ many + now + 1

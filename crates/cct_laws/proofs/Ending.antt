@@ -1,12 +1,12 @@
 -- A job whose exchanges no fault disturbs ends within so many `next` as it has rows, whatever else comes between them.
-use Rattle.std.proofs.Common.{◌≡◌, ℕ, zero, suc, ◌+◌, ◌<◌, ◌≤◌, ◌==◌, cond, true, false, Bool, List, [], ◌∷◌, ◌++◌, refl, ap, sym, ◌∙◌, subst, Option, Some, None, ◌⊎◌, inl, inr, arith, rules, eq-eqb, append_assoc, true≢false}
+use Rattle.std.proofs.Common.{◌≡◌, ℕ, zero, suc, ◌+◌, ◌<◌, ◌≤◌, ◌==◌, cond, true, false, Bool, List, [], ◌∷◌, ◌++◌, refl, ap, sym, ◌∙◌, subst, Option, Some, None, ◌⊎◌, inl, inr, arith, eq-eqb, append_assoc}
 use Rattle.std.specs.Prelude.{⊤}
 use Rattle.cct_model.specs.terms.device.DeviceBody.{DeviceBody}
 use Rattle.cct_model.specs.terms.device.DeviceBody.TheVariants.{Acceptor, Hopper}
 use Rattle.cct_model.specs.terms.device.DeviceSetup.{DeviceSetup}
 use Rattle.cct_model.specs.terms.device.Setup.{Setup}
 use Rattle.cct_model.specs.terms.request.Request.{Request}
-use Rattle.cct_model.specs.terms.request.Request.TheVariants.{SetPath, GetPath, SetDefault, GetDefault, Dispense, GetStatus, StopNow}
+use Rattle.cct_model.specs.terms.request.Request.TheVariants.{Dispense, GetStatus, StopNow}
 use Rattle.cct_model.specs.terms.request.ReplyForm.{ReplyForm}
 use Rattle.cct_model.specs.lines.record.Record.{Record}
 use Rattle.cct_model.specs.declared.judging.Judged.{Judged}
@@ -18,17 +18,17 @@ use Rattle.cct_model.specs.lines.command.Step.TheVariants as step
 use Rattle.cct_model.specs.lines.entry.End.{End}
 use Rattle.cct_model.specs.lines.entry.Entry.{Entry}
 use Rattle.cct_model.specs.lines.entry.Entry.TheVariants as entry
-use Rattle.cct_model.specs.Request.{form_of}
+use Rattle.cct_model.specs.Request.{form_of, header_of}
 use Rattle.cct_model.specs.Reply.{Reply}
 use Rattle.cct_model.specs.History.{Met}
-use Rattle.cct_model.specs.Hopper.{remaining, status_of, hopper_reply}
-use Rattle.cct_model.specs.Device.{IsAcceptor, IsHopper, common_reply, reply_of}
+use Rattle.cct_model.specs.Hopper.{remaining, status_of}
+use Rattle.cct_model.specs.Device.{IsAcceptor, IsHopper, reply_of}
 use Rattle.cct_model.specs.Setup.{IsSoundSetup}
 use Rattle.cct_model.specs.Exchange.{ask, asked, asks_of}
 use Rattle.cct_model.specs.Line.{Line, exchange, put, taken}
-use Rattle.cct_model.specs.Order.{order, is_marked}
-use Rattle.cct_model.specs.Job.{free, works, job, with_line, done, answer_ends, epoch, credits_read, mask_read, sends, puts, Payment, payment_in, state_row, ident_requests, judged_in, address_of}
-use Rattle.cct_model.specs.Rows.{row_at, end_of, TableRow, end_answered, asks_for, telling, rows_of, first, left_at, asks_once, puts_due, waits_for_coins, can_halt, has_waits}
+use Rattle.cct_model.specs.Order.{order, is_marked, is_stopped}
+use Rattle.cct_model.specs.Job.{free, works, job, with_line, epoch, credits_read, mask_read, sends, puts, Payment, payment_in, state_row, ident_requests, judged_in, address_of, tries}
+use Rattle.cct_model.specs.Rows.{end_of, end_answered, rows_of, first, waits_for_coins, can_halt, has_waits, rest, done, ends_first, after, end_failed}
 use Rattle.cct_model.specs.Script.{IsCommand}
 use Rattle.cct_model.specs.Legal.{with_end, LegalFrom}
 use Rattle.cct_model.specs.Transcript.{pending, met, lines_of, heard_by_devices, heard_after, doses_of, got_by}
@@ -43,19 +43,21 @@ use Rattle.cct_laws.proofs.Brought.{AtDevice, came, took, halted, idled, made_ex
 use Rattle.cct_model.proofs.Doses.{job_undosed}
 use Rattle.cct_laws.proofs.Exchanges.{Replied, Refused, undisturbed_got, undisturbed_refused}
 use Rattle.cct_laws.proofs.Ids.{ids_start, ids_step, put_owned}
-use Rattle.cct_laws.proofs.Replies.{hopper_is}
-use Rattle.cct_model.proofs.Rows.{RowHolds, Each, EachRow, due_holds, any_due, walk, waits_before, told_no_waits}
+use Rattle.cct_model.proofs.Rows.{waits_before, told_no_waits}
 use Rattle.cct_laws.proofs.Seen.{ArePassed, loose, loose_line, Lost, bare, kept_here, kept_elsewhere, seen_here, seen_aside, seen_lost, seen_from, passed_job, lines_wire, lines_put, lines_taken, along_from, any_steps}
 use Rattle.cct_laws.proofs.Tries.{IfEndOf, ends_of_answer, ends_of_put}
 use Rattle.cct_laws.proofs.LastRows.{dispensed_ends, few_failed, few_put, few_answered}
 use Rattle.cct_laws.proofs.Held.{judged_reads}
+use Rattle.cct_model.proofs.Tries.{same_request, left_asks}
+use Rattle.cct_model.proofs.RowEnds.{AnswersAs, answers_as, once_ends, once_goes, row_once, rest_asks}
+use Rattle.cct_laws.proofs.Payouts.{replied_status}
 
 -- a job that is to end within so many `next`: one for each of its rows that aren't done, and one for a halt
 record JobAt (d : DeviceSetup) (c : Command) (nexts : ℕ) (past : List Entry) : Type 0 where
   since : List Line
   job_is : job (lines_of d past) ≡ works c since
-  few : done since < row_count d c
-  enough : row_count d c + cond (is_marked since) 1 0 ≤ done since + nexts
+  few : done (rows_of d c) since < row_count d c
+  enough : row_count d c + cond (is_marked since) 1 0 ≤ done (rows_of d c) since + nexts
 
 -- what a step makes of it: it ends, or has so many `next` left, and no job ended at its address
 Goes : DeviceSetup → Command → ℕ → List Entry → List Entry → Type 0
@@ -78,8 +80,8 @@ job_left d c nexts more past news fewer same no_end at =
 -- an entry of it, with its end or without
 goes_by : (d : DeviceSetup) (c : Command) (nexts : ℕ) (past : List Entry) (since : List Line) (l : Line) (e : Entry)
     (found : Option End) → job (lines_of d (e ∷ past)) ≡ works c (l ∷ since) → HasNoEnd d.addr (e ∷ []) →
-    IfEndOf c found → (found ≡ None → done (l ∷ since) < row_count d c) →
-    row_count d c + cond (is_marked (l ∷ since)) 1 0 ≤ done (l ∷ since) + nexts →
+    IfEndOf c found → (found ≡ None → done (rows_of d c) (l ∷ since) < row_count d c) →
+    row_count d c + cond (is_marked (l ∷ since)) 1 0 ≤ done (rows_of d c) (l ∷ since) + nexts →
     Goes d c nexts past (with_end d.addr e found)
 unfolding Goes
 goes_by d c nexts past since l e None is_job no_end ends few enough =
@@ -87,75 +89,6 @@ goes_by d c nexts past since l e None is_job no_end ends few enough =
     record { since = l ∷ since; job_is = is_job; few = few refl; enough = enough } in
     inr (after, no_end)
 goes_by d c nexts past since l e (Some end) is_job no_end ends few enough = inl (inl (refl, ends))
-
--- what a row asks of a payout: a stop where the payment is halted, and of a payment alone how it goes
-abbrev IsOfPayment : Bool → Bool → Request → Type 0
-IsOfPayment marked pays StopNow = marked ≡ true
-IsOfPayment marked pays GetStatus = pays ≡ true
-IsOfPayment marked pays q = ⊤
-
--- it asks how a payout goes in the row of a payment that waits for its coins, and nothing else of a payout
-abbrev IsPlainAsk : Request → Type 0
-IsPlainAsk q = IsOfPayment false false q
-
-abbrev AsksOfPayment : Bool → TableRow → Type 0
-AsksOfPayment pays (asks_for q behind) = IsPlainAsk q
-AsksOfPayment pays (asks_once q behind without) = IsPlainAsk q
-AsksOfPayment pays waits_for_coins = pays ≡ true
-AsksOfPayment pays (puts_due due behind) = ⊤
-
-ident_asks : (body : DeviceBody) → Each IsPlainAsk (ident_requests body)
-ident_asks (Acceptor accepts values ids) = search rules
-ident_asks (Hopper life value) = search rules
-
-told_asks : (pays : Bool) (qs : List Request) → Each IsPlainAsk qs → EachRow (AsksOfPayment pays) (telling qs)
-told_asks pays [] each = tt
-told_asks pays (q ∷ []) each = (each.0, tt)
-told_asks pays (q ∷ r ∷ qs) each = (each.0, told_asks pays (r ∷ qs) each.1)
-
-set_asks : (first : Bool) (place path : ℕ) → IsPlainAsk (cond first (SetDefault path) (SetPath place path))
-set_asks true place path = tt
-set_asks false place path = tt
-
-read_asks : (first : Bool) (place : ℕ) → IsPlainAsk (cond first GetDefault (GetPath place))
-read_asks true place = tt
-read_asks false place = tt
-
-command_asks : (d : DeviceSetup) (c : Command) → EachRow (AsksOfPayment (is_payment c)) (rows_of d c)
-command_asks d (command.Ident addr) = told_asks false (ident_requests d.body) (ident_asks d.body)
-command_asks d (command.Path addr place path) =
-    (set_asks (place == 0) place path, (read_asks (place == 0) place, tt))
-command_asks d c = search rules
-
-plain_asks : (marked pays : Bool) (q : Request) → IsPlainAsk q → IsOfPayment marked pays q
-plain_asks marked pays StopNow plain = absurd (true≢false (sym plain))
-plain_asks marked pays GetStatus plain = absurd (true≢false (sym plain))
-plain_asks marked pays q plain = tt
-
-state_asks : (marked pays : Bool) → pays ≡ true → RowHolds (IsOfPayment marked pays) (λ r. ⊤) (state_row marked)
-state_asks true pays is = refl
-state_asks false pays is = is
-
-row_asks : (d : DeviceSetup) (c : Command) (rows : ℕ) (judged : Judged) (p : Payment) →
-    RowHolds (IsOfPayment p.is_marked (is_payment c)) (λ r. ⊤) (row_at d c rows judged p)
-row_asks d c rows judged p =
-    walk (AsksOfPayment (is_payment c)) (RowHolds (IsOfPayment p.is_marked (is_payment c)) (λ r. ⊤)) d c rows judged p tt
-    by_row (command_asks d c)
-  where
-    by_row : (r : TableRow) (rest : List TableRow) → AsksOfPayment (is_payment c) r →
-        RowHolds (IsOfPayment p.is_marked (is_payment c)) (λ r. ⊤) (first (address_of c) judged p (r ∷ rest))
-    by_row (asks_for q behind) rest asks = plain_asks p.is_marked (is_payment c) q asks
-    by_row (asks_once q behind without) rest asks = plain_asks p.is_marked (is_payment c) q asks
-    by_row waits_for_coins rest asks = state_asks p.is_marked (is_payment c) asks
-    by_row (puts_due due behind) rest asks =
-        due_holds (IsOfPayment p.is_marked (is_payment c)) (λ r. ⊤) (address_of c) judged p due
-        (any_due (address_of c) judged p due)
-
--- an answer to it brings the job on: it ends the row, or the mark of a halt
-status_is : (d : DeviceSetup) (past : List Met) → IsHopper d.body →
-    reply_of d past GetStatus ≡ Some (status_of d.serial past)
-unfolding reply_of common_reply hopper_reply
-status_is d past paying = hopper_is d.serial d.body past GetStatus paying
 
 paying_of : (body : DeviceBody) (c : Command) → suits body c ≡ true → is_payment c ≡ true → IsHopper body
 paying_of (Hopper life value) c suited pays = tt
@@ -167,38 +100,64 @@ paying_of (Acceptor accepts values ids) c suited pays = absurd cc
 abbrev FoundNoneLeft : DeviceSetup → List Met → Request → Type 0
 FoundNoneLeft d past q = q ≡ GetStatus → remaining d.serial past ≡ 0
 
-zero_left : (d : DeviceSetup) (past : List Met) (y : Reply) → reply_of d past GetStatus ≡ Some y → IsHopper d.body →
-    remaining d.serial past ≡ 0 → answer_ends GetStatus y ≡ true
-zero_left d past y replied paying none =
-    let is : status_of d.serial past ≡ y = same_reply (sym (status_is d past paying) ∙ replied) in
-    subst (λ x. answer_ends GetStatus x ≡ true) is (eq-eqb (remaining d.serial past) 0 none)
-  where
-    same_reply : Some (status_of d.serial past) ≡ Some y → status_of d.serial past ≡ y
-    same_reply e = cc
+-- a job that waits for a payout is a payment or a settlement
+payment_waits : (d : DeviceSetup) (c : Command) → has_waits (rows_of d c) ≡ is_payment c
+payment_waits d (command.Ident addr) = told_no_waits (ident_requests d.body)
+payment_waits d c = refl
 
-on_by : (ended marked : Bool) (rows n nexts : ℕ) → ended ≡ true → rows + cond marked 1 0 ≤ n + suc nexts →
-    rows + cond marked 1 0 ≤ cond ended (suc n) n + nexts
-on_by true marked rows n nexts is enough = omega (arith, enough)
-on_by false marked rows n nexts is enough = absurd cc
+halted_pays : (d : DeviceSetup) (c : Command) (since : List Line) → can_halt d (works c since) ≡ true →
+    is_payment c ≡ true
+halted_pays d c since can = sym (payment_waits d c) ∙ waits_before (rows_of d c) (done (rows_of d c) since) can
 
-off_by : (marked : Bool) (rows n nexts : ℕ) → marked ≡ true → rows + cond marked 1 0 ≤ n + suc nexts →
-    rows + 0 ≤ n + nexts
-off_by true rows n nexts is enough = omega (arith, enough)
-off_by false rows n nexts is enough = absurd cc
+-- an answer brings the job on: it ends the row, or the mark of a halt
+on_by : (ended stopped marked : Bool) (rows n nexts : ℕ) → ended ≡ true → rows + cond marked 1 0 ≤ n + suc nexts →
+    rows + cond (cond stopped false marked) 1 0 ≤ cond ended (suc n) n + nexts
+on_by true true marked rows n nexts is enough = omega (arith, enough)
+on_by true false marked rows n nexts is enough = omega (arith, enough)
+on_by false stopped marked rows n nexts is enough = absurd cc
+
+off_by : (ended : Bool) (rows n nexts : ℕ) → rows + 1 ≤ n + suc nexts → rows + 0 ≤ cond ended (suc n) n + nexts
+off_by true rows n nexts enough = omega (arith, enough)
+off_by false rows n nexts enough = omega (arith, enough)
+
+same_reply : (x y : Reply) → Some x ≡ Some y → x ≡ y
+same_reply x y e = cc
+
+-- where all coins have fallen, a status ends the row that waits for them
+state_ends : (d : DeviceSetup) (past : List Met) (q : Request) (y : Reply) → IsHopper d.body → GetStatus ≡ q →
+    reply_of d past q ≡ Some y → remaining d.serial past ≡ 0 → ends_first (waits_for_coins ∷ []) (Some y) ≡ true
+state_ends d past q y paying is replied none =
+    let told : status_of d.serial past ≡ y =
+    same_reply (status_of d.serial past) y
+    (sym (replied_status d past paying) ∙ ap (reply_of d past) is ∙ replied) in
+    subst (λ x. ends_first (waits_for_coins ∷ []) (Some x) ≡ true) told (eq-eqb (remaining d.serial past) 0 none)
+
+-- the answer to a stop ends the mark, and that to a status the row
+state_brings : (d : DeviceSetup) (past : List Met) (q : Request) (y : Reply) (marked ended : Bool) (rows n nexts : ℕ) →
+    IsHopper d.body → state_row marked ≡ sends q → reply_of d past q ≡ Some y → FoundNoneLeft d past q →
+    ended ≡ ends_first (waits_for_coins ∷ []) (Some y) → rows + cond marked 1 0 ≤ n + suc nexts →
+    rows + cond (cond (is_stopped (Some q) (Some y)) false marked) 1 0 ≤ cond ended (suc n) n + nexts
+state_brings d past q y true ended rows n nexts paying is replied found ends enough =
+    subst (λ x. rows + cond (cond (is_stopped (Some x) (Some y)) false true) 1 0 ≤ cond ended (suc n) n + nexts)
+    (same_request StopNow q is) (off_by ended rows n nexts enough)
+state_brings d past q y false ended rows n nexts paying is replied found ends enough =
+    let asks = same_request GetStatus q is in
+    on_by ended (is_stopped (Some q) (Some y)) false rows n nexts
+    (ends ∙ state_ends d past q y paying asks replied (found (sym asks))) enough
 
 answer_brings : (d : DeviceSetup) (past : List Met) (c : Command) (since : List Line) (q : Request) (y : Reply)
-    (nexts : ℕ) → suits d.body c ≡ true → IsOfPayment (is_marked since) (is_payment c) q →
+    (nexts : ℕ) → suits d.body c ≡ true → AnswersAs (rest d c since) (is_marked since) q →
     reply_of d past q ≡ Some y → (is_payment c ≡ true → FoundNoneLeft d past q) →
-    row_count d c + cond (is_marked since) 1 0 ≤ done since + suc nexts →
+    row_count d c + cond (is_marked since) 1 0 ≤ done (rows_of d c) since + suc nexts →
     row_count d c + cond (is_marked (exchange (Some q) (Some y) ∷ since)) 1 0 ≤
-    done (exchange (Some q) (Some y) ∷ since) + nexts
-answer_brings d past c since StopNow y nexts suited asks replied found enough =
-    off_by (is_marked since) (row_count d c) (done since) nexts asks enough
-answer_brings d past c since GetStatus y nexts suited asks replied found enough =
-    on_by (answer_ends GetStatus y) (is_marked since) (row_count d c) (done since) nexts
-    (zero_left d past y replied (paying_of d.body c suited asks) (found asks refl)) enough
-answer_brings d past c since q y nexts suited asks replied found enough =
-    on_by true (is_marked since) (row_count d c) (done since) nexts refl enough
+    done (rows_of d c) (exchange (Some q) (Some y) ∷ since) + nexts
+answer_brings d past c since q y nexts suited (inl ends) replied found enough =
+    on_by (ends_first (rest d c since) (Some y)) (is_stopped (Some q) (Some y)) (is_marked since) (row_count d c)
+    (done (rows_of d c) since) nexts (ends y) enough
+answer_brings d past c since q y nexts suited (inr waits) replied found enough =
+    let pays = halted_pays d c since waits.0 in
+    state_brings d past q y (is_marked since) (ends_first (rest d c since) (Some y)) (row_count d c)
+    (done (rows_of d c) since) nexts (paying_of d.body c suited pays) waits.1 replied (found pays) (waits.2 y) enough
 
 -- an exchange of a job, what it got being told
 exchanged : (setup : Setup) (d : DeviceSetup) (c : Command) (nexts : ℕ) (past : List Entry) (since : List Line)
@@ -207,9 +166,9 @@ exchanged : (setup : Setup) (d : DeviceSetup) (c : Command) (nexts : ℕ) (past 
     got_by d (ask d.kind d.addr q) (heard_after setup past (ask d.kind d.addr q)) ≡ found →
     IfEndOf c (end_of d c (exchange (Some q) found) since (epoch (lines_of d past))) →
     (end_of d c (exchange (Some q) found) since (epoch (lines_of d past)) ≡ None →
-    done (exchange (Some q) found ∷ since) < row_count d c) →
+    done (rows_of d c) (exchange (Some q) found ∷ since) < row_count d c) →
     row_count d c + cond (is_marked (exchange (Some q) found ∷ since)) 1 0 ≤
-    done (exchange (Some q) found ∷ since) + nexts →
+    done (rows_of d c) (exchange (Some q) found ∷ since) + nexts →
     Goes d c nexts past (with_end d.addr (wire_of setup d past q) (wire_end setup d past c since q))
 exchanged setup d c nexts past since q found is_job asks_it got_is ends few enough =
     let sent = ask d.kind d.addr q in
@@ -230,8 +189,9 @@ exchanged setup d c nexts past since q found is_job asks_it got_is ends few enou
 
 -- an answered one brings it on
 few_left : (ended : Bool) (d : DeviceSetup) (c : Command) (rows : ℕ) (judged means : Judged) (p : Payment)
-    (q : Request) (y : Reply) (wanted : ReplyForm) → row_at d c rows judged p ≡ sends q → form_of q ≡ Some wanted →
-    form_shown y ≡ Some wanted → rows < row_count d c → end_answered (left_at d c rows judged) y means ≡ None →
+    (q : Request) (y : Reply) (wanted : ReplyForm) →
+    first (address_of c) judged p (after (rows_of d c) rows) ≡ sends q → form_of q ≡ Some wanted →
+    form_shown y ≡ Some wanted → rows < row_count d c → end_answered (after (rows_of d c) rows) y means ≡ None →
     cond ended (suc rows) rows < row_count d c
 few_left true d c rows judged means p q y wanted is wants shown few none =
     few_answered d c rows judged means p q y wanted is wants shown few none
@@ -239,53 +199,59 @@ few_left false d c rows judged means p q y wanted is wants shown few none = few
 
 answered_there : (setup : Setup) (d : DeviceSetup) (c : Command) (nexts : ℕ) (past : List Entry) (since : List Line)
     (q : Request) → IsSoundSetup setup → IsOf setup d → suits d.body c ≡ true → job (lines_of d past) ≡ works c since →
-    done since < row_count d c →
-    row_count d c + cond (is_marked since) 1 0 ≤ done since + suc nexts →
+    done (rows_of d c) since < row_count d c →
+    row_count d c + cond (is_marked since) 1 0 ≤ done (rows_of d c) since + suc nexts →
     row_after d past c since ≡ sends q → pending past ≡ fault.Clear →
     (is_payment c ≡ true → FoundNoneLeft d (met d past) q) → Replied d (met d past) q →
     Goes d c nexts past (with_end d.addr (wire_of setup d past q) (wire_end setup d past c since q))
 answered_there setup d c nexts past since q sound own suited is_job few enough is_row clear found is =
     let state = epoch (lines_of d past) in
-    let judged = judged_in c since state in
-    let p = payment_in since (order (lines_of d past)) in
+    let owed = order (lines_of d past) in
     let means = judged_in c (exchange (Some q) (Some is.y) ∷ since) state in
-    let asks = subst (RowHolds (IsOfPayment p.is_marked (is_payment c)) (λ r. ⊤)) is_row
-    (row_asks d c (done since) judged p) in
     exchanged setup d c nexts past since q (Some is.y) is_job (asked_back d.kind d.addr q is.fits)
     (undisturbed_got setup d past q is sound own clear)
     (ends_of_answer d c (Some q) is.y since state)
-    (few_left (answer_ends q is.y) d c (done since) judged means p q is.y is.form is_row is.wants is.shown few)
-    (answer_brings d (met d past) c since q is.y nexts suited asks is.replied found enough)
+    (λ no_end.
+    few_left (ends_first (rest d c since) (Some is.y)) d c (done (rows_of d c) since) (judged_in c since state) means
+    (payment_in since owed) q is.y is.form (rest_asks d c since state owed q is_row) is.wants is.shown few
+    (subst (λ rows. end_answered rows is.y means ≡ None) (left_asks d c since state owed q is_row) no_end))
+    (answer_brings d (met d past) c since q is.y nexts suited (answers_as d c since state owed q is_row) is.replied found
+    enough)
 
 -- and so does a dispense that the hopper refuses
 refused_there : (setup : Setup) (d : DeviceSetup) (c : Command) (nexts : ℕ) (past : List Entry) (since : List Line)
     (q : Request) → IsSoundSetup setup → IsOf setup d → job (lines_of d past) ≡ works c since →
-    done since < row_count d c → row_count d c + cond (is_marked since) 1 0 ≤ done since + suc nexts →
+    done (rows_of d c) since < row_count d c → row_count d c + cond (is_marked since) 1 0 ≤ done (rows_of d c) since + suc nexts →
     row_after d past c since ≡ sends q → pending past ≡ fault.Clear → IsRefused d (met d past) q →
     Refused d (met d past) q →
     Goes d c nexts past (with_end d.addr (wire_of setup d past q) (wire_end setup d past c since q))
 refused_there setup d c nexts past since (Dispense serial count) sound own is_job few enough is_row clear refuses is =
     let q = Dispense serial count in
     let state = epoch (lines_of d past) in
-    let judged = judged_in c since state in
-    let p = payment_in since (order (lines_of d past)) in
+    let owed = order (lines_of d past) in
     let none : end_of d c (exchange (Some q) None) since state ≡ None =
-    dispensed_ends d c since state p serial count is_row in
+    dispensed_ends d c since state owed serial count is_row in
+    let once = row_once d c since state owed q is_row refl in
+    let failed = tries (header_of q) (exchange (Some q) None ∷ since) in
     exchanged setup d c nexts past since q None is_job (asked_back d.kind d.addr q is.fits)
     (undisturbed_refused setup d past q is sound own clear) (subst (IfEndOf c) (sym none) tt)
-    (λ no_end. few_failed d c (done since) judged p q _ is_row refl few no_end)
-    (on_by true (is_marked since) (row_count d c) (done since) nexts refl enough)
+    (λ no_end.
+    subst (λ n. n < row_count d c) (sym (once_goes (rows_of d c) (Some q) None since once))
+    (few_failed d c (done (rows_of d c) since) failed once few
+    (subst (λ rows. end_failed rows failed ≡ None) (left_asks d c since state owed q is_row) no_end)))
+    (on_by (ends_first (rest d c since) None) false (is_marked since) (row_count d c) (done (rows_of d c) since) nexts
+    (once_ends (rest d c since) None once) enough)
 refused_there setup d c nexts past since q sound own is_job few enough is_row clear refuses is = absurd refuses
 
 asks_there : (setup : Setup) (d : DeviceSetup) (c : Command) (nexts : ℕ) (past : List Entry) (since : List Line)
     (q : Request) → IsSoundSetup setup → IsOf setup d → IsCommand c → suits d.body c ≡ true →
-    job (lines_of d past) ≡ works c since → done since < row_count d c →
-    row_count d c + cond (is_marked since) 1 0 ≤ done since + suc nexts →
+    job (lines_of d past) ≡ works c since → done (rows_of d c) since < row_count d c →
+    row_count d c + cond (is_marked since) 1 0 ≤ done (rows_of d c) since + suc nexts →
     row_after d past c since ≡ sends q → pending past ≡ fault.Clear →
     (is_payment c ≡ true → FoundNoneLeft d (met d past) q) →
     Goes d c nexts past (with_end d.addr (wire_of setup d past q) (wire_end setup d past c since q))
 asks_there setup d c nexts past since q sound own known suited is_job few enough is_row clear found =
-    elim (answers_at setup past d c (done since) (judged_in c since (epoch (lines_of d past)))
+    elim (answers_at setup past d c (done (rows_of d c) since) (judged_in c since (epoch (lines_of d past)))
     (payment_in since (order (lines_of d past))) q sound own suited known is_row) [
       | inl is ↦ answered_there setup d c nexts past since q sound own suited is_job few enough is_row clear found is
       | inr is ↦ refused_there setup d c nexts past since q sound own is_job few enough is_row clear is.refuses is
@@ -293,8 +259,8 @@ asks_there setup d c nexts past since q sound own known suited is_job few enough
 
 -- a put brings it on
 puts_there : (setup : Setup) (d : DeviceSetup) (c : Command) (nexts : ℕ) (past : List Entry) (since : List Line)
-    (r : Record) → IsOf setup d → Ids setup past → AtWork d past c since → done since < row_count d c →
-    row_count d c + cond (is_marked since) 1 0 ≤ done since + suc nexts → row_after d past c since ≡ puts r →
+    (r : Record) → IsOf setup d → Ids setup past → AtWork d past c since → done (rows_of d c) since < row_count d c →
+    row_count d c + cond (is_marked since) 1 0 ≤ done (rows_of d c) since + suc nexts → row_after d past c since ≡ puts r →
     Goes d c nexts past (with_end d.addr (entry.Put r) (record_end d past c since r))
 puts_there setup d c nexts past since r own ids at_work few enough is_row =
     let state = epoch (lines_of d past) in
@@ -302,8 +268,8 @@ puts_there setup d c nexts past since r own ids at_work few enough is_row =
     goes_by d c nexts past since (put r) (entry.Put r) (end_of d c (put r) since state)
     (ap job (lines_put d past r (put_owned setup past d c since r own ids at_work is_row))
     ∙ ap (with_line (put r)) at_work.job_is) tt (ends_of_put d c r since state)
-    (few_put d c (done since) (judged_in c since state) (payment_in since (order (lines_of d past))) r is_row reads few)
-    (on_by true (is_marked since) (row_count d c) (done since) nexts refl enough)
+    (few_put d c (done (rows_of d c) since) (judged_in c since state) (payment_in since (order (lines_of d past))) r is_row reads few)
+    (on_by true false (is_marked since) (row_count d c) (done (rows_of d c) since) nexts refl enough)
 
 -- how many `next` are left behind a step
 abbrev one_fewer : ℕ → ℕ
@@ -331,14 +297,6 @@ other_needs pays addr (step.Command (command.Halt other)) n same = halt_more (ot
 other_needs pays addr s n same = omega arith
 
 -- a halt is a line of it, for which one `next` more is needed
-payment_waits : (d : DeviceSetup) (c : Command) → has_waits (rows_of d c) ≡ is_payment c
-payment_waits d (command.Ident addr) = told_no_waits (ident_requests d.body)
-payment_waits d c = refl
-
-halted_pays : (d : DeviceSetup) (c : Command) (since : List Line) → can_halt d (works c since) ≡ true →
-    is_payment c ≡ true
-halted_pays d c since can = sym (payment_waits d c) ∙ waits_before (rows_of d c) (done since) can
-
 marked_more : (marked : Bool) (rows n nexts : ℕ) → rows + cond marked 1 0 ≤ n + nexts → rows + 1 ≤ n + suc nexts
 marked_more true rows n nexts enough = omega (arith, enough)
 marked_more false rows n nexts enough = omega (arith, enough)
@@ -352,7 +310,7 @@ halt_there d c nexts past at =
       since = l ∷ at.since;
       job_is = ap job (lines_taken d past (command.Halt d.addr) refl) ∙ ap (with_line l) at.job_is;
       few = at.few;
-      enough = marked_more (is_marked at.since) (row_count d c) (done at.since) nexts at.enough;
+      enough = marked_more (is_marked at.since) (row_count d c) (done (rows_of d c) at.since) nexts at.enough;
     } in
     inr (after, tt)
 
@@ -386,8 +344,8 @@ record IsPlayed (setup : Setup) (d : DeviceSetup) (c : Command) : Type 0 where
 
 asked_there : (setup : Setup) (d : DeviceSetup) (c at_work : Command) (nexts : ℕ) (past : List Entry)
     (since others : List Line) (q : Request) → IsPlayed setup d c → (at_work ≡ c) × (others ≡ since) →
-    job (lines_of d past) ≡ works c since → done since < row_count d c →
-    row_count d c + cond (is_marked since) 1 0 ≤ done since + suc nexts →
+    job (lines_of d past) ≡ works c since → done (rows_of d c) since < row_count d c →
+    row_count d c + cond (is_marked since) 1 0 ≤ done (rows_of d c) since + suc nexts →
     row_after d past at_work others ≡ sends q →
     EachAtWork (LeavesAlone d.addr) d.addr past
     (with_end d.addr (wire_of setup d past q) (wire_end setup d past at_work others q)) →
@@ -418,8 +376,8 @@ asked_there setup d c at_work nexts past since others q played same is_job few e
 
 put_there : (setup : Setup) (d : DeviceSetup) (c at_work : Command) (nexts : ℕ) (past : List Entry)
     (since others : List Line) (r : Record) → IsPlayed setup d c → Ids setup past →
-    (at_work ≡ c) × (others ≡ since) → AtWork d past c since → done since < row_count d c →
-    row_count d c + cond (is_marked since) 1 0 ≤ done since + suc nexts →
+    (at_work ≡ c) × (others ≡ since) → AtWork d past c since → done (rows_of d c) since < row_count d c →
+    row_count d c + cond (is_marked since) 1 0 ≤ done (rows_of d c) since + suc nexts →
     row_after d past at_work others ≡ puts r →
     Goes d c nexts past (with_end d.addr (entry.Put r) (record_end d past at_work others r))
 put_there setup d c at_work nexts past since others r played ids same is_work few enough is_row =

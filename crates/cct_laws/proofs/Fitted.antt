@@ -1,6 +1,6 @@
 -- What running jobs need to put records that fit those before them, which every legal step keeps, whatever the wire
 -- does; and that what they put fits.
-use Rattle.std.proofs.Common.{◌≡◌, ℕ, cond, List, [], ◌++◌, refl, ap, sym, ◌∙◌, subst, Option, Some, None, le-leb}
+use Rattle.std.proofs.Common.{◌≡◌, ℕ, List, [], ◌++◌, refl, ap, sym, ◌∙◌, subst, Option, Some, None}
 use Rattle.std.proofs.lemmas.Bool.{and_from}
 use Rattle.std.specs.Prelude.{⊤}
 use Rattle.cct_model.specs.terms.wire.TheConstants.{BROADCAST}
@@ -16,7 +16,8 @@ use Rattle.cct_model.specs.lines.entry.Entry.{Entry}
 use Rattle.cct_model.specs.Setup.{IsSoundSetup}
 use Rattle.cct_model.specs.Line.{Line}
 use Rattle.cct_model.specs.Order.{order}
-use Rattle.cct_model.specs.Job.{Job, free, works, job, done, epoch, puts}
+use Rattle.cct_model.specs.Job.{Job, free, works, job, epoch, puts}
+use Rattle.cct_model.specs.Rows.{rows_of, rest}
 use Rattle.cct_model.specs.Records.{records}
 use Rattle.cct_model.specs.Legal.{with_end, keeping_crash}
 use Rattle.cct_model.specs.Script.{IsCommand, IsInRange}
@@ -52,11 +53,9 @@ base_start setup = record {
 
 -- what a job at a device puts fits
 new_of : (setup : Setup) (d : DeviceSetup) (past : List Entry) (c : Command) (since : List Line) → Ids setup past →
-    IsOf setup d → job (lines_of d past) ≡ works c since → NewOf (records past) c (done since)
-new_of setup d past (command.Pay addr id count) since ids own is = λ few.
-    unopened id (records past)
-    (ids.waits d id own (ap waiting is ∙ ap (λ b. cond b (Some id) None) (le-leb (done since) 2 few)))
-new_of setup d past c since ids own is = tt
+    IsOf setup d → job (lines_of d past) ≡ works c since → NewOf (records past) (rest d c since)
+new_of setup d past c since ids own is = λ id waits.
+    unopened id (records past) (ids.waits d id own (ap (waiting (rows_of d)) is ∙ waits))
 
 put_fits : (setup : Setup) (d : DeviceSetup) (past : List Entry) (c : Command) (since : List Line) (r : Record) →
     Ids setup past → IsOf setup d → Base setup past → Belongs setup (records past) → AtWork d past c since →

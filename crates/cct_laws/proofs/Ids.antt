@@ -1,12 +1,10 @@
 -- Which ids are used, and by whom: every legal step keeps that, whatever is heard on the wire.
-use Rattle.std.proofs.Common.{◌≡◌, ◌≢◌, ℕ, ◌<◌, suc, nat_le, ◌==◌, cond, Bool, true, false, List, [], ◌∷◌, ◌++◌, length, refl, ap, sym, ◌∙◌, subst, Option, Some, None, ◌⊎◌, inl, inr, arith, eq-eqb, eqb-true}
+use Rattle.std.proofs.Common.{◌≡◌, ◌≢◌, ℕ, ◌<◌, ◌==◌, cond, Bool, true, false, List, [], ◌∷◌, ◌++◌, length, refl, ap, sym, ◌∙◌, subst, Option, Some, None, ◌⊎◌, inl, inr, eq-eqb, eqb-true}
 use Rattle.std.proofs.lemmas.Bool.{ne_eqb}
 use Rattle.std.proofs.lemmas.Option.{none-some}
 use Rattle.std.specs.Prelude.{⊤}
 use Rattle.std.specs.List.{list_any}
 use Rattle.cct_model.specs.terms.wire.TheConstants.{BROADCAST, HOST}
-use Rattle.cct_model.specs.terms.device.DeviceBody.{DeviceBody}
-use Rattle.cct_model.specs.terms.device.DeviceBody.TheVariants.{Acceptor, Hopper}
 use Rattle.cct_model.specs.terms.device.DeviceSetup.{DeviceSetup}
 use Rattle.cct_model.specs.terms.device.Setup.{Setup}
 use Rattle.cct_model.specs.lines.record.Record.{Record}
@@ -34,8 +32,6 @@ use Rattle.cct_model.specs.Refusal.{refusal}
 use Rattle.cct_model.specs.Transcript.{met, owner, opened_at, lines_of, sale_lines}
 use Rattle.cct_model.specs.Paid.{uses, IsFresh}
 use Rattle.cct_laws.specs.Ids.{waiting_in, waiting, waiting_at, waiting_sale, Ids}
-use Rattle.cct_laws.specs.Kept.{suits}
-use Rattle.cct_laws.specs.KeptHopper.{IsOwed}
 use Rattle.cct_laws.specs.Law.{IsOf}
 use Rattle.cct_laws.specs.Recorded.{HasNoJob}
 use Rattle.cct_laws.proofs.Setups.{same_some, found_in}

@@ -1,6 +1,6 @@
 -- What the books say of every legal transcript: its records follow one another, money is conserved, and no put meets a
 -- full journal; and what is due follows, and is allowed.
-use Rattle.std.proofs.Common.{◌≡◌, ℕ, suc, ◌+◌, ◌-◌, ◌≤◌, ◌<◌, nat_le, cond, Bool, true, false, List, [], length, refl, ap, Option, Some, None, All, arith, le-leb}
+use Rattle.std.proofs.Common.{◌≡◌, ℕ, suc, ◌+◌, ◌-◌, ◌≤◌, ◌<◌, nat_le, cond, Bool, true, false, List, [], length, refl, Option, Some, None, All, arith, le-leb}
 use Rattle.std.specs.Option.{option_or}
 use Rattle.std.specs.Prelude.{is_some, not}
 use Rattle.cct_model.specs.terms.device.DeviceSetup.{DeviceSetup}

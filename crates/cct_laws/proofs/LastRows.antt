@@ -1,5 +1,5 @@
 -- The last row of a job ends it: whatever ends no job leaves rows behind it.
-use Rattle.std.proofs.Common.{◌==◌, ◌≡◌, ℕ, zero, suc, ◌<◌, Bool, true, false, cond, List, [], ◌∷◌, length, refl, ap, sym, ◌∙◌, subst, Some, None, ◌⊎◌, inl, inr, arith, rules}
+use Rattle.std.proofs.Common.{◌==◌, ◌≡◌, ℕ, zero, suc, ◌<◌, Bool, true, false, cond, List, [], ◌∷◌, length, refl, ap, sym, ◌∙◌, subst, Some, None, ◌⊎◌, inl, inr, arith, rules, true≢false, Option}
 use Rattle.std.specs.Prelude.{⊤}
 use Rattle.cct_model.specs.terms.device.DeviceSetup.{DeviceSetup}
 use Rattle.cct_model.specs.terms.request.Request.{Request}
@@ -13,17 +13,19 @@ use Rattle.cct_model.specs.declared.judging.Judged.TheVariants.{Nothing, Reading
 use Rattle.cct_model.specs.lines.command.Command.{Command}
 use Rattle.cct_model.specs.lines.command.Command.TheVariants as command
 use Rattle.cct_model.specs.lines.entry.End.{End}
-use Rattle.cct_model.specs.Request.{form_of}
+use Rattle.cct_model.specs.Request.{form_of, header_of}
 use Rattle.cct_model.specs.Reply.{Reply}
 use Rattle.cct_model.specs.Reply as reply
-use Rattle.cct_model.specs.Job.{sends, puts, Payment, state_row, ident_requests, address_of, judged_in}
-use Rattle.cct_model.specs.Rows.{Then, ends_as, path_told, if_posted, if_closed, Due, new_epoch, reading, epoch_end, new_order, order_end, sale, TableRow, asks_for, asks_once, waits_for_coins, puts_due, telling, rows_of, after, from, left_at, first, row_at, end_by_answer, end_answered, end_failed, end_kept, end_bare, end_of, left, done}
+use Rattle.cct_model.specs.Job.{sends, puts, Payment, ident_requests, address_of, judged_in, payment_in, tries}
+use Rattle.cct_model.specs.Rows.{ends_as, path_told, if_posted, if_closed, new_epoch, reading, epoch_end, new_order, order_end, sale, TableRow, asks_for, asks_once, waits_for_coins, puts_due, telling, rows_of, after, from, first, row_at, end_by_answer, end_answered, end_failed, end_kept, end_bare, end_of, done, rest, row, sent_once}
 use Rattle.cct_msg.specs.Forms.{form_shown}
 use Rattle.cct_laws.proofs.Held.{IsReading, close_row_closes, same_record}
-use Rattle.cct_model.proofs.Rows.{EachRow, each_told, each_after, each_left}
-use Rattle.cct_model.proofs.Tries.{AsksWell, asks_well, due_sends, same_request, is_asked_again}
+use Rattle.cct_model.proofs.Rows.{EachRow, each_told, each_after}
+use Rattle.cct_model.proofs.Tries.{due_sends, same_request, left_asks}
 use Rattle.cct_model.specs.Line.{Line, exchange}
 use Rattle.cct_model.specs.declared.judging.EpochState.{EpochState}
+use Rattle.cct_model.specs.declared.judging.OpenOrder.{OpenOrder}
+use Rattle.cct_model.proofs.RowEnds.{rest_asks, row_once}
 
 -- a row ends its job, whatever answers it in its form, whatever it puts, and without an answer where it asks once
 abbrev EndsIt : TableRow → Type 0
@@ -86,37 +88,26 @@ path_shown : (wanted : ReplyForm) (place : ℕ) (y : Reply) (means : Judged) →
 path_shown wanted place (reply.path number) means is shown none = cc
 path_shown wanted place y means is shown none = cc
 
-last_put_sends : (addr : ℕ) (means : Judged) (p : Payment) (due : Due) (behind : Then) (q : Request) →
-    first addr means p (from (puts_due due behind ∷ []) means) ≡ sends q → ⊥
-last_put_sends addr Nothing p reading behind q is = cc
-last_put_sends addr (Reading r) p reading behind q is = cc
-last_put_sends addr (Broken r) p reading behind q is = cc
-last_put_sends addr means p (new_epoch mask) behind q is = due_sends addr means p (new_epoch mask) q is
-last_put_sends addr means p epoch_end behind q is = due_sends addr means p epoch_end q is
-last_put_sends addr means p (new_order id count) behind q is = due_sends addr means p (new_order id count) q is
-last_put_sends addr means p order_end behind q is = due_sends addr means p order_end q is
-last_put_sends addr means p (sale id price) behind q is = due_sends addr means p (sale id price) q is
-
 last_answered : (addr : ℕ) (judged means : Judged) (p : Payment) (r : TableRow) (q : Request) (y : Reply)
-    (wanted : ReplyForm) → EndsIt r → first addr judged p (from (r ∷ []) judged) ≡ sends q → form_of q ≡ Some wanted →
-    form_shown y ≡ Some wanted → end_answered (from (r ∷ []) judged) y means ≡ None → ⊥
+    (wanted : ReplyForm) → EndsIt r → first addr judged p (r ∷ []) ≡ sends q → form_of q ≡ Some wanted →
+    form_shown y ≡ Some wanted → end_answered (r ∷ []) y means ≡ None → ⊥
 last_answered addr judged means p (asks_for x (ends_as end)) q y wanted ends is wants shown none = cc
 last_answered addr judged means p (asks_for x (path_told place)) q y wanted ends is wants shown none =
     path_shown wanted place y means (ends wanted (ap form_of (same_request x q is) ∙ wants)) shown none
 last_answered addr judged means p (asks_once x (ends_as end) (ends_as other)) q y wanted ends is wants shown none = cc
 last_answered addr judged means p (puts_due due behind) q y wanted ends is wants shown none =
-    last_put_sends addr judged p due behind q is
+    due_sends addr judged p due q is
 last_answered addr judged means p r q y wanted ends is wants shown none = ends
 
 pub few_answered : (d : DeviceSetup) (c : Command) (n : ℕ) (judged means : Judged) (p : Payment) (q : Request)
-    (y : Reply) (wanted : ReplyForm) → row_at d c n judged p ≡ sends q → form_of q ≡ Some wanted →
-    form_shown y ≡ Some wanted → n < length (rows_of d c) → end_answered (left_at d c n judged) y means ≡ None →
-    suc n < length (rows_of d c)
+    (y : Reply) (wanted : ReplyForm) → first (address_of c) judged p (after (rows_of d c) n) ≡ sends q →
+    form_of q ≡ Some wanted → form_shown y ≡ Some wanted → n < length (rows_of d c) →
+    end_answered (after (rows_of d c) n) y means ≡ None → suc n < length (rows_of d c)
 few_answered d c n judged means p q y wanted is wants shown few none =
     few_by d c n few (λ r ends last.
     last_answered (address_of c) judged means p r q y wanted ends
-    (subst (λ rows. first (address_of c) judged p (from rows judged) ≡ sends q) last is) wants shown
-    (subst (λ rows. end_answered (from rows judged) y means ≡ None) last none))
+    (subst (λ rows. first (address_of c) judged p rows ≡ sends q) last is) wants shown
+    (subst (λ rows. end_answered rows y means ≡ None) last none))
 
 -- a put
 posted_last : (end : End) (e r : Record) → IsReading (Reading e) → e ≡ r →
@@ -167,30 +158,19 @@ few_put d c n judged p r is reads few none =
     (subst (λ rows. end_kept rows r ≡ None) last none))
 
 -- what is sent once, without an answer
-last_failed : (addr : ℕ) (judged : Judged) (p : Payment) (r : TableRow) (q : Request) (failed : ℕ) → EndsIt r →
-    EachRow AsksWell (r ∷ []) → is_asked_again q ≡ false → first addr judged p (from (r ∷ []) judged) ≡ sends q →
-    end_failed (from (r ∷ []) judged) failed ≡ None → ⊥
-last_failed addr judged p (asks_for x behind) q failed ends well once is none =
-    once_not x q well.0 once (same_request x q is)
-  where
-    once_not : (x q : Request) → is_asked_again x ≡ true → is_asked_again q ≡ false → x ≡ q → ⊥
-    once_not x q again once same =
-        let both : true ≡ false = sym again ∙ ap is_asked_again same ∙ once in
-        cc
-last_failed addr judged p (asks_once x (ends_as end) (ends_as other)) q failed ends well once is none = cc
-last_failed addr judged p (puts_due due behind) q failed ends well once is none =
-    last_put_sends addr judged p due behind q is
-last_failed addr judged p r q failed ends well once is none = ends
+last_failed : (r : TableRow) (failed : ℕ) → EndsIt r → sent_once (r ∷ []) ≡ true →
+    end_failed (r ∷ []) failed ≡ None → ⊥
+last_failed (asks_once x (ends_as end) (ends_as other)) failed ends once none = cc
+last_failed (asks_for x behind) failed ends once none = true≢false (sym once)
+last_failed (puts_due due behind) failed ends once none = true≢false (sym once)
+last_failed r failed ends once none = ends
 
-pub few_failed : (d : DeviceSetup) (c : Command) (n : ℕ) (judged : Judged) (p : Payment) (q : Request) (failed : ℕ) →
-    row_at d c n judged p ≡ sends q → is_asked_again q ≡ false → n < length (rows_of d c) →
-    end_failed (left_at d c n judged) failed ≡ None → suc n < length (rows_of d c)
-few_failed d c n judged p q failed is once few none =
+pub few_failed : (d : DeviceSetup) (c : Command) (n failed : ℕ) → sent_once (after (rows_of d c) n) ≡ true →
+    n < length (rows_of d c) → end_failed (after (rows_of d c) n) failed ≡ None → suc n < length (rows_of d c)
+few_failed d c n failed once few none =
     few_by d c n few (λ r ends last.
-    last_failed (address_of c) judged p r q failed ends
-    (subst (EachRow AsksWell) last (each_after AsksWell (rows_of d c) n (asks_well d c))) once
-    (subst (λ rows. first (address_of c) judged p (from rows judged) ≡ sends q) last is)
-    (subst (λ rows. end_failed (from rows judged) failed ≡ None) last none))
+    last_failed r failed ends (subst (λ rows. sent_once rows ≡ true) last once)
+    (subst (λ rows. end_failed rows failed ≡ None) last none))
 
 -- a dispense that isn't acknowledged ends no job
 abbrev DispensesOn : TableRow → Type 0
@@ -202,29 +182,22 @@ dispenses_on d (command.Ident addr) = each_told DispensesOn (λ q. tt) (λ q. tt
 dispenses_on d c = search rules
 
 first_dispenses : (addr : ℕ) (means : Judged) (p : Payment) (rows : List TableRow) (serial count failed : ℕ) →
-    EachRow AsksWell rows → EachRow DispensesOn rows → first addr means p rows ≡ sends (Dispense serial count) →
+    EachRow DispensesOn rows → sent_once rows ≡ true → first addr means p rows ≡ sends (Dispense serial count) →
     end_failed rows failed ≡ None
-first_dispenses addr means p [] serial count failed well on is = absurd cc
-first_dispenses addr means p (asks_for x behind ∷ rows) serial count failed well on is =
-    absurd (again_not x well.0 (same_request x (Dispense serial count) is))
-  where
-    again_not : (x : Request) → is_asked_again x ≡ true → x ≡ Dispense serial count → ⊥
-    again_not x again same =
-        let both : true ≡ false = sym again ∙ ap is_asked_again same in
-        cc
-first_dispenses addr means p (asks_once x behind without ∷ rows) serial count failed well on is =
+first_dispenses addr means p [] serial count failed on once is = absurd cc
+first_dispenses addr means p (asks_for x behind ∷ rows) serial count failed on once is = absurd cc
+first_dispenses addr means p (asks_once x behind without ∷ rows) serial count failed on once is =
     subst (λ q. DispensesOn (asks_once q behind without)) (same_request x (Dispense serial count) is) on.0
-first_dispenses addr means p (waits_for_coins ∷ rows) serial count failed well on is = absurd (marked_not p.is_marked is)
-  where
-    marked_not : (marked : Bool) → state_row marked ≡ sends (Dispense serial count) → ⊥
-    marked_not true is = cc
-    marked_not false is = cc
-first_dispenses addr means p (puts_due due behind ∷ rows) serial count failed well on is =
-    absurd (due_sends addr means p due (Dispense serial count) is)
+first_dispenses addr means p (waits_for_coins ∷ rows) serial count failed on once is = absurd cc
+first_dispenses addr means p (puts_due due behind ∷ rows) serial count failed on once is = absurd cc
 
-pub dispensed_ends : (d : DeviceSetup) (c : Command) (since : List Line) (state : EpochState) (p : Payment)
-    (serial count : ℕ) → row_at d c (done (rows_of d c) since) (judged_in c since state) p ≡ sends (Dispense serial count) →
+pub dispensed_ends : (d : DeviceSetup) (c : Command) (since : List Line) (state : EpochState) (owed : Option OpenOrder)
+    (serial count : ℕ) → row d c since state owed ≡ sends (Dispense serial count) →
     end_of d c (exchange (Some (Dispense serial count)) None) since state ≡ None
-dispensed_ends d c since state p serial count is =
-    first_dispenses (address_of c) (judged_in c since state) p (left d c since state) serial count _
-    (each_left AsksWell d c since state (asks_well d c)) (each_left DispensesOn d c since state (dispenses_on d c)) is
+dispensed_ends d c since state owed serial count is =
+    let q = Dispense serial count in
+    subst (λ rows. end_failed rows (tries (header_of q) (exchange (Some q) None ∷ since)) ≡ None)
+    (sym (left_asks d c since state owed q is))
+    (first_dispenses (address_of c) (judged_in c since state) (payment_in since owed) (rest d c since) serial count _
+    (each_after DispensesOn (rows_of d c) (done (rows_of d c) since) (dispenses_on d c))
+    (row_once d c since state owed q is refl) (rest_asks d c since state owed q is))

@@ -26,17 +26,17 @@ use Rattle.cct_model.specs.Line.{Line, exchange, put, taken}
 use Rattle.cct_model.specs.Order.{order_by, order}
 use Rattle.cct_model.specs.Job.{Job, free, works, with_line, job, puts, counted, epoch_by, epoch, Payment, payment_in, judged_in, credits_read, mask_read, address_of, ident_requests}
 use Rattle.cct_model.specs.Refusal.{start_refusal}
-use Rattle.cct_model.specs.Rows.{Then, if_posted, Due, new_epoch, reading, epoch_end, new_order, order_end, sale, TableRow, asks_for, asks_once, waits_for_coins, puts_due, telling, rows_of, from, done, rest, first, row, end_kept, end_of}
+use Rattle.cct_model.specs.Rows.{Then, if_posted, Due, new_epoch, reading, epoch_end, new_order, order_end, sale, TableRow, asks_for, asks_once, waits_for_coins, puts_due, rows_of, from, done, rest, first, row, end_kept, end_of}
 use Rattle.cct_model.specs.Following.{is_running}
 use Rattle.cct_model.specs.Transcript.{lines_of, heard_after, got_by, doses_of}
-use Rattle.cct_model.proofs.Rows.{but_first, after_none, after_next, after_line, fact_after, EachBefore, before_on, each_told, puts_only}
+use Rattle.cct_model.proofs.Rows.{but_first, after_none, after_next, after_line, fact_after, EachBefore, before_on, told_fact, each_told, puts_only}
 use Rattle.cct_laws.specs.Ids.{Ids}
 use Rattle.cct_laws.specs.Kept.{IsTaken, with_ended}
 use Rattle.cct_laws.specs.KeptHopper.{IsOwed}
 use Rattle.cct_laws.specs.Law.{IsOf}
 use Rattle.cct_laws.proofs.Brought.{wire_of, wire_end, record_end, AtDevice, came, took, halted, idled, made_exchange, made_put, Brought, begun_at_work}
 use Rattle.cct_laws.proofs.Follow.{DueNeeds, IfPuts, NeedsOf, runs_by}
-use Rattle.cct_laws.proofs.Held.{IsReading, judged_reads, same_record, HoldWell, rest_well, passed_ends}
+use Rattle.cct_laws.proofs.Held.{IsReading, judged_reads, same_record, RowsHoldWell, rest_well, passed_ends}
 use Rattle.cct_laws.proofs.Ids.{put_owned}
 use Rattle.cct_laws.proofs.Seen.{Lost, bare, kept_here, kept_elsewhere, seen_here, seen_aside, seen_lost, seen_from, passed_same, lines_wire, lines_put, lines_taken, lines_kept, lines_kept_elsewhere, lines_with_end}
 use Rattle.cct_laws.proofs.Unmoved.{AreSame, same_came, same_dosed}
@@ -144,13 +144,9 @@ NeedsWell (puts_due reading behind) rows = BreakEnds behind
 NeedsWell (puts_due due behind) rows = puts_only needs_none rows ≡ true
 NeedsWell r rows = ⊤
 
-told_needs : (qs : List Request) → EachBefore NeedsWell (telling qs)
-told_needs [] = tt
-told_needs (q ∷ []) = (tt, tt)
-told_needs (q ∷ r ∷ qs) = (tt, told_needs (r ∷ qs))
-
 needs_well : (d : DeviceSetup) (c : Command) → EachBefore NeedsWell (rows_of d c)
-needs_well d (command.Ident addr) = told_needs (ident_requests d.body)
+needs_well d (command.Ident addr) =
+    told_fact (EachBefore NeedsWell) tt (λ q behind rows each. (tt, each)) (ident_requests d.body)
 needs_well d c = search rules
 
 -- a reading leaves an epoch as it is, but for its counter
@@ -176,7 +172,8 @@ needs_counted : (d : DeviceSetup) (counter : ℕ) (state : EpochState) (owed : O
 needs_counted d counter state owed [] needs = tt
 needs_counted d counter state owed (puts_due due behind ∷ rows) needs =
     (due_counted d counter state owed due needs.0, needs_counted d counter state owed rows needs.1)
-needs_counted d counter state owed (asks_for q behind ∷ rows) needs = (tt, needs_counted d counter state owed rows needs.1)
+needs_counted d counter state owed (asks_for q behind ∷ rows) needs =
+    (tt, needs_counted d counter state owed rows needs.1)
 needs_counted d counter state owed (asks_once q behind without ∷ rows) needs =
     (tt, needs_counted d counter state owed rows needs.1)
 needs_counted d counter state owed (waits_for_coins ∷ rows) needs =
@@ -185,20 +182,21 @@ needs_counted d counter state owed (waits_for_coins ∷ rows) needs =
 needs_read : (d : DeviceSetup) (state : EpochState) (owed : Option OpenOrder) (rows : List TableRow) (e r : Record) →
     e ≡ r → IsReading (Reading e) → NeedsOf d rows state owed → NeedsOf d rows (epoch_by r state) (order_by r owed)
 needs_read d state owed rows (record_of.Reading addr counter lost posted) r same reads needs =
-    subst (λ x. NeedsOf d rows (epoch_by x state) (order_by x owed)) same (needs_counted d counter state owed rows needs)
+    subst (λ x. NeedsOf d rows (epoch_by x state) (order_by x owed)) same
+    (needs_counted d counter state owed rows needs)
 needs_read d state owed rows e r same reads needs = absurd reads
 
 break_ends : (behind : Then) (rows : List TableRow) (e r : Record) → e ≡ r → IsReading (Broken e) → BreakEnds behind →
     end_kept (puts_due reading behind ∷ rows) r ≡ None → ⊥
 break_ends (if_posted of_reading) rows (record_of.Broken addr seen counter posted) r same reads breaks none =
-    let over : end_kept (puts_due reading (if_posted of_reading) ∷ rows) (record_of.Broken addr seen counter posted) ≡ None =
-    ap (end_kept (puts_due reading (if_posted of_reading) ∷ rows)) same ∙ none in
+    let all = puts_due reading (if_posted of_reading) ∷ rows in
+    let over : end_kept all (record_of.Broken addr seen counter posted) ≡ None = ap (end_kept all) same ∙ none in
     cc
 break_ends (if_posted of_reading) rows e r same reads breaks none = reads
 break_ends behind rows e r same reads breaks none = breaks
 
 first_needs : (d : DeviceSetup) (addr : ℕ) (means : Judged) (p : Payment) (state : EpochState) (rows : List TableRow)
-    (r : Record) → IsReading means → EachBefore NeedsWell rows → HoldWell rows →
+    (r : Record) → IsReading means → EachBefore NeedsWell rows → RowsHoldWell rows →
     first addr means p (from rows means) ≡ puts r → end_kept rows r ≡ None → NeedsOf d rows state p.owed →
     NeedsOf d (but_first rows) (epoch_by r state) (order_by r p.owed)
 first_needs d addr means p state [] r reads well held is none needs = tt

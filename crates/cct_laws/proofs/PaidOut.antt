@@ -1,15 +1,12 @@
 -- Where a hopper has shown that nothing is left to pay, nothing is left to fall until the next order is opened: a
 -- payment lets it dispense only right behind the record that opens its order.
-use Rattle.std.proofs.Common.{◌≡◌, ℕ, zero, suc, ◌==◌, ◌||◌, not, cond, Bool, true, false, List, [], ◌∷◌, ◌++◌, refl, ap, sym, ◌∙◌, subst, Option, Some, None, All, arith, eqb-true, rules}
+use Rattle.std.proofs.Common.{◌≡◌, ℕ, suc, ◌==◌, ◌||◌, not, cond, Bool, true, false, List, [], ◌∷◌, ◌++◌, refl, ap, sym, ◌∙◌, subst, Option, Some, None, All, arith, eqb-true, rules, true≢false}
 use Rattle.std.specs.Prelude.{⊤}
-use Rattle.std.proofs.lemmas.Bool.Decides.{nat_tests}
 use Rattle.cct_model.specs.terms.request.TheConstants.{ENABLE_CODE}
-use Rattle.cct_model.specs.terms.device.DeviceBody.{DeviceBody}
-use Rattle.cct_model.specs.terms.device.DeviceBody.TheVariants.{Acceptor, Hopper}
 use Rattle.cct_model.specs.terms.device.DeviceSetup.{DeviceSetup}
 use Rattle.cct_model.specs.terms.device.Setup.{Setup}
 use Rattle.cct_model.specs.terms.request.Request.{Request}
-use Rattle.cct_model.specs.terms.request.Request.TheVariants.{SimplePoll, AddressPoll, Enable, Dispense, GetStatus, StopNow, GetLife}
+use Rattle.cct_model.specs.terms.request.Request.TheVariants.{SimplePoll, AddressPoll, Enable, Dispense, GetStatus}
 use Rattle.cct_model.specs.lines.record.Record.{Record}
 use Rattle.cct_model.specs.lines.record.Record.TheVariants as record_of
 use Rattle.cct_model.specs.declared.judging.Judged.{Judged}
@@ -25,8 +22,8 @@ use Rattle.cct_model.specs.Device.{IsHopper, reply_of}
 use Rattle.cct_model.specs.Setup.{IsSoundSetup}
 use Rattle.cct_model.specs.Line.{Line, exchange, put, taken}
 use Rattle.cct_model.specs.Order.{order}
-use Rattle.cct_model.specs.Job.{Row, Job, free, works, job, begun, with_line, done, ends_row, epoch, sends, puts, Payment, payment_in, judged_in, open_row, ident_requests}
-use Rattle.cct_model.specs.Rows.{row, row_at}
+use Rattle.cct_model.specs.Job.{Job, free, works, job, begun, with_line, epoch, sends, puts, Payment, payment_in, judged_in, open_row, ident_requests, address_of}
+use Rattle.cct_model.specs.Rows.{row, new_epoch, reading, epoch_end, new_order, order_end, sale, TableRow, asks_for, asks_once, waits_for_coins, puts_due, telling, rows_of, after, from, rest, done, first, sent_once, ends_first}
 use Rattle.cct_model.specs.Legal.{Legal}
 use Rattle.cct_model.specs.Script.{IsInRange}
 use Rattle.cct_model.specs.Honest.{Honest}
@@ -39,118 +36,113 @@ use Rattle.cct_laws.specs.Law.{IsOf, lines_in}
 use Rattle.cct_laws.specs.PaidOut.{shows_none, paid_out_by, is_paid_out}
 use Rattle.cct_laws.proofs.EitherKind.{for_hopper}
 use Rattle.cct_laws.proofs.Payouts.{replied_status}
-use Rattle.cct_model.proofs.Rows.{both_hold, each_ask, each_due, each_sent, RowHolds, Each}
+use Rattle.cct_model.proofs.Rows.{but_first, after_none, after_next, EachBefore, before_on, fact_after}
 use Rattle.cct_laws.proofs.Whole.{kept_hopper_legal}
+use Rattle.cct_model.proofs.Tries.{IsAgain, due_sends}
+use Rattle.cct_model.proofs.RowEnds.{rest_asks, again_row, stays_again}
+use Rattle.cct_model.specs.declared.judging.EpochState.{EpochState}
+use Rattle.cct_model.specs.declared.judging.OpenOrder.{OpenOrder}
 
 -- a request lets no hopper dispense
 abbrev IsNoDispense : Request → Type 0
 IsNoDispense (Dispense serial count) = ⊥
 IsNoDispense q = ⊤
 
--- the row after so many is not the one at which a payment lets its hopper dispense
-abbrev IsAside : Command → ℕ → Type 0
-IsAside (command.Pay addr id count) rows = (rows == 3) ≡ false
-IsAside c rows = ⊤
-
--- nor does the job at an address stand at that row
-abbrev IsNotAtDispense : Job → Type 0
-IsNotAtDispense free = ⊤
-IsNotAtDispense (works c since) = IsAside c (done since)
+-- the job at an address doesn't stand at a row that is sent once, so at none that lets its hopper dispense
+abbrev IsNotAtDispense : DeviceSetup → Job → Type 0
+IsNotAtDispense d free = ⊤
+IsNotAtDispense d (works c since) = sent_once (rest d c since) ≡ false
 
 -- what is kept
 abbrev Rests : DeviceSetup → List Met → List Line → Type 0
-Rests d past lines = is_paid_out lines ≡ true → (remaining d.serial past ≡ 0) × IsNotAtDispense (job lines)
+Rests d past lines = is_paid_out lines ≡ true → (remaining d.serial past ≡ 0) × IsNotAtDispense d (job lines)
 
--- a row sends a dispense only where it is the one for that, and the next row isn't
-record Sent (c : Command) (rows : ℕ) (q : Request) : Type 0 where
-  undosed : IsAside c rows → IsNoDispense q
-  behind : (got : Option Reply) → IsAside c (cond (ends_row (Some q) got) (suc rows) rows)
+-- what is asked again lets no hopper dispense
+undosed : (q : Request) → IsAgain q → IsNoDispense q
+undosed (Dispense serial count) again = absurd (true≢false (sym again))
+undosed q again = tt
 
--- what a row puts opens an order, or the next row isn't the one for a dispense
-abbrev Puts : Command → ℕ → Record → Type 0
-Puts c rows r = (before : Bool) → paid_out_by r before ≡ true → IsAside c (suc rows)
+-- what is sent once stands right after a row that opens an order
+abbrev OpensFirst : TableRow → List TableRow → Type 0
+OpensFirst (puts_due (new_order id count) behind) rows = ⊤
+OpensFirst r rows = sent_once rows ≡ false
 
-aside_by : (ends : Bool) (rows : ℕ) → (rows == 3) ≡ false → (suc rows == 3) ≡ false →
-    (cond ends (suc rows) rows == 3) ≡ false
-aside_by true rows here next = next
-aside_by false rows here next = here
+abbrev AreOpened : List TableRow → Type 0
+AreOpened rows = EachBefore OpensFirst rows
 
-beyond : (rows : ℕ) → (suc (suc (suc (suc rows))) == 3) ≡ false
-beyond rows = grind (arith, nat_tests)
+told_opened : (qs : List Request) → AreOpened (telling qs)
+told_opened [] = tt
+told_opened (q ∷ []) = (refl, tt)
+told_opened (q ∷ r ∷ []) = (refl, (refl, tt))
+told_opened (q ∷ r ∷ s ∷ qs) = (refl, told_opened (r ∷ s ∷ qs))
 
-dispensed_row : (addr id count serial dose : ℕ) → Sent (command.Pay addr id count) 3 (Dispense serial dose)
-dispensed_row addr id count serial dose = record { undosed = λ aside. absurd cc; behind = behind }
+rows_opened : (d : DeviceSetup) (c : Command) → is_for_hopper c ≡ true → AreOpened (rows_of d c)
+rows_opened d (command.Pay addr id count) played = search rules
+rows_opened d (command.Settle addr) played = search rules
+rows_opened d (command.Ident addr) played = told_opened (ident_requests d.body)
+rows_opened d c played = absurd cc
+
+-- so the row behind one that asks isn't sent once
+asked_opened : (addr : ℕ) (means : Judged) (p : Payment) (rows : List TableRow) (q : Request) → AreOpened rows →
+    first addr means p rows ≡ sends q → sent_once (but_first rows) ≡ false
+asked_opened addr means p [] q each is = refl
+asked_opened addr means p (asks_for x behind ∷ rows) q each is = each.0
+asked_opened addr means p (asks_once x behind without ∷ rows) q each is = each.0
+asked_opened addr means p (waits_for_coins ∷ rows) q each is = each.0
+asked_opened addr means p (puts_due due behind ∷ rows) q each is = absurd (due_sends addr means p due q is)
+
+-- nor that behind one that puts a record, unless that opens an order
+opened_out : (addr id count : ℕ) (life : Option ℕ) (r : Record) (before : Bool) → open_row addr id count life ≡ puts r →
+    paid_out_by r before ≡ true → ⊥
+opened_out addr id count None r before is out = cc
+opened_out addr id count (Some life) r before is out =
+    let same : record_of.Opened id addr count life ≡ r = cc in
+    true≢false (sym out ∙ ap (λ x. paid_out_by x before) (sym same))
+
+put_opened : (addr : ℕ) (means : Judged) (p : Payment) (rows : List TableRow) (r : Record) (before : Bool) →
+    AreOpened rows → first addr means p (from rows means) ≡ puts r → paid_out_by r before ≡ true →
+    sent_once (but_first rows) ≡ false
+put_opened addr means p [] r before each is out = refl
+put_opened addr means p (asks_for x behind ∷ rows) r before each is out = each.0
+put_opened addr means p (asks_once x behind without ∷ rows) r before each is out = each.0
+put_opened addr means p (waits_for_coins ∷ rows) r before each is out = each.0
+put_opened addr means p (puts_due (new_order id count) behind ∷ rows) r before each is out =
+    absurd (opened_out addr id count p.life r before is out)
+put_opened addr means p (puts_due (new_epoch mask) behind ∷ rows) r before each is out = each.0
+put_opened addr means p (puts_due reading behind ∷ rows) r before each is out = each.0
+put_opened addr means p (puts_due epoch_end behind ∷ rows) r before each is out = each.0
+put_opened addr means p (puts_due order_end behind ∷ rows) r before each is out = each.0
+put_opened addr means p (puts_due (sale id price) behind ∷ rows) r before each is out = each.0
+
+-- so it is at the rows of the hopper's job
+left_opened : (d : DeviceSetup) (c : Command) (work : List Line) → is_for_hopper c ≡ true → AreOpened (rest d c work)
+left_opened d c work played =
+    fact_after AreOpened (before_on OpensFirst) (rows_of d c) (done (rows_of d c) work) (rows_opened d c played)
+
+-- behind an exchange it stands at no row that is sent once
+asked_aside : (d : DeviceSetup) (c : Command) (work : List Line) (state : EpochState) (owed : Option OpenOrder)
+    (q : Request) (got : Option Reply) → is_for_hopper c ≡ true → row d c work state owed ≡ sends q →
+    IsNotAtDispense d (works c (exchange (Some q) got ∷ work))
+asked_aside d c work state owed q got played is = by_end (ends_first (rest d c work) got) refl
   where
-    behind : (got : Option Reply) → (cond (ends_row (Some (Dispense serial dose)) got) 4 3 == 3) ≡ false
-    behind None = refl
-    behind (Some y) = refl
+    goes : sent_once (but_first (rest d c work)) ≡ false
+    goes =
+        asked_opened (address_of c) (judged_in c work state) (payment_in work owed) (rest d c work) q
+        (left_opened d c work played) (rest_asks d c work state owed q is)
 
-opened_row : (addr id count : ℕ) (life : Option ℕ) →
-    RowHolds (Sent (command.Pay addr id count) 2) (Puts (command.Pay addr id count) 2) (open_row addr id count life)
-opened_row addr id count None = tt
-opened_row addr id count (Some life) = λ before out. absurd cc
+    by_end : (ends : Bool) → ends_first (rest d c work) got ≡ ends →
+        sent_once (after (rows_of d c) (cond ends (suc (done (rows_of d c) work)) (done (rows_of d c) work))) ≡ false
+    by_end true test = ap sent_once (after_next (rows_of d c) (done (rows_of d c) work)) ∙ goes
+    by_end false test = stays_again (rest d c work) got test
 
-pay_settles : (d : DeviceSetup) (addr id count rows : ℕ) (judged : Judged) (p : Payment) →
-    RowHolds (Sent (command.Pay addr id count) (suc (suc (suc (suc rows)))))
-    (Puts (command.Pay addr id count) (suc (suc (suc (suc rows))))) (row_at d (command.Settle addr) rows judged p)
-pay_settles d addr id count rows judged p =
-    let n = suc (suc (suc (suc rows))) in
-    let c = command.Pay addr id count in
-    let sent : (q : Request) → IsNoDispense q → Sent c n q =
-    λ q none. record { undosed = λ aside. none; behind = λ got. aside_by _ _ (beyond rows) (beyond (suc rows)) } in
-    both_hold (Sent c n) (Puts c n) (row_at d (command.Settle addr) rows judged p)
-    (each_ask (Sent c n) d (command.Settle addr) rows judged p
-    ((sent GetStatus tt, sent StopNow tt), (sent GetLife tt, (tt, tt))))
-    (each_due (Puts c n) d (command.Settle addr) rows judged p
-    (tt, (tt, ((λ o life owed read before out. beyond (suc rows)), tt))))
-
-settles : (d : DeviceSetup) (addr rows : ℕ) (judged : Judged) (p : Payment) →
-    RowHolds (Sent (command.Settle addr) rows) (Puts (command.Settle addr) rows)
-    (row_at d (command.Settle addr) rows judged p)
-settles d addr rows judged p =
-    let c = command.Settle addr in
-    let sent : (q : Request) → IsNoDispense q → Sent c rows q =
-    λ q none. record { undosed = λ aside. none; behind = λ got. tt } in
-    both_hold (Sent c rows) (Puts c rows) (row_at d c rows judged p)
-    (each_ask (Sent c rows) d c rows judged p ((sent GetStatus tt, sent StopNow tt), (sent GetLife tt, (tt, tt))))
-    (each_due (Puts c rows) d c rows judged p (tt, (tt, ((λ o life owed read before out. tt), tt))))
-
-asked_of : (addr rows : ℕ) (q : Request) → IsNoDispense q → Sent (command.Ident addr) rows q
-asked_of addr rows q undosed = record { undosed = λ aside. undosed; behind = λ got. tt }
-
-identifies : (addr rows : ℕ) (qs : List Request) → Each IsNoDispense qs → Each (Sent (command.Ident addr) rows) qs
-identifies addr rows [] undosed = tt
-identifies addr rows (q ∷ qs) undosed = (asked_of addr rows q undosed.0, identifies addr rows qs undosed.1)
-
-ident_undosed : (body : DeviceBody) → Each IsNoDispense (ident_requests body)
-ident_undosed (Acceptor accepts values ids) = search rules
-ident_undosed (Hopper life value) = search rules
-
-hopper_row : (d : DeviceSetup) (c : Command) (rows : ℕ) (judged : Judged) (p : Payment) → is_for_hopper c ≡ true →
-    RowHolds (Sent c rows) (Puts c rows) (row_at d c rows judged p)
-hopper_row d (command.Pay addr id count) zero judged p played =
-    record { undosed = λ aside. tt; behind = λ got. aside_by _ 0 refl refl }
-hopper_row d (command.Pay addr id count) (suc zero) judged p played =
-    record { undosed = λ aside. tt; behind = λ got. aside_by _ 1 refl refl }
-hopper_row d (command.Pay addr id count) (suc (suc zero)) judged p played = opened_row addr id count p.life
-hopper_row d (command.Pay addr id count) (suc (suc (suc zero))) judged p played =
-    dispensed_row addr id count d.serial count
-hopper_row d (command.Pay addr id count) (suc (suc (suc (suc rows)))) judged p played =
-    pay_settles d addr id count rows judged p
-hopper_row d (command.Settle addr) rows judged p played = settles d addr rows judged p
-hopper_row d (command.Ident addr) rows judged p played =
-    each_sent (Sent (command.Ident addr) rows) (Puts (command.Ident addr) rows) d addr rows judged p
-    (identifies addr rows (ident_requests d.body) (ident_undosed d.body))
-hopper_row d c rows judged p played = absurd cc
-
--- so it is at the row of the hopper's job
-row_here : (d : DeviceSetup) (lines : List Line) (c : Command) (work : List Line) (r : Row) → IsHopper d.body →
-    WorksAt d lines c work → row d c work (epoch lines) (order lines) ≡ r →
-    RowHolds (Sent c (done work)) (Puts c (done work)) r
-row_here d lines c work r paying at row_is =
-    subst (RowHolds (Sent c (done work)) (Puts c (done work))) row_is
-    (hopper_row d c (done work) (judged_in c work (epoch lines)) (payment_in work (order lines))
-    (for_hopper d.body c paying at.suited))
+-- nor behind a record, unless that opens an order
+put_aside : (d : DeviceSetup) (c : Command) (work : List Line) (state : EpochState) (owed : Option OpenOrder)
+    (r : Record) (before : Bool) → is_for_hopper c ≡ true → row d c work state owed ≡ puts r →
+    paid_out_by r before ≡ true → IsNotAtDispense d (works c (put r ∷ work))
+put_aside d c work state owed r before played is out =
+    ap sent_once (after_next (rows_of d c) (done (rows_of d c) work))
+    ∙ put_opened (address_of c) (judged_in c work state) (payment_in work owed) (rest d c work) r before
+    (left_opened d c work played) is out
 
 -- a hopper with nothing left to fall has nothing left, whatever it hears but a dispense
 none_either : (stop : Bool) → let none : ℕ = 0 in cond stop none none ≡ none
@@ -203,26 +195,28 @@ shown_rests d past q asked got paying fate shows = absurd cc
 -- so nothing is left after an exchange that shows it, or one after that
 asked_rests : (d : DeviceSetup) (past : List Met) (lines : List Line) (c : Command) (work : List Line) (q : Request)
     (asked : Option Request) (got : Option Reply) → IsHopper d.body → job lines ≡ works c work →
-    Sent c (done work) q → Fate d past q asked got → Rests d past lines →
+    row d c work (epoch lines) (order lines) ≡ sends q → Fate d past q asked got → Rests d past lines →
     (shows : Bool) → shows_none (Some q) got ≡ shows → (shows || is_paid_out lines) ≡ true →
     IsNoDispense q × (remaining d.serial past ≡ 0)
-asked_rests d past lines c work q asked got paying is_job sent fate rests true test out =
+asked_rests d past lines c work q asked got paying is_job row_is fate rests true test out =
     shown_rests d past q asked got paying fate test
-asked_rests d past lines c work q asked got paying is_job sent fate rests false test out =
-    (sent.undosed (subst IsNotAtDispense is_job (rests out).1), (rests out).0)
+asked_rests d past lines c work q asked got paying is_job row_is fate rests false test out =
+    let aside = subst (IsNotAtDispense d) is_job (rests out).1 in
+    (undosed q (again_row d c work (epoch lines) (order lines) q row_is aside), (rests out).0)
 
 rests_exchange : (d : DeviceSetup) (past : List Met) (lines : List Line) (c : Command) (work : List Line) (q : Request)
-    (asked : Option Request) (got : Option Reply) → IsHopper d.body → job lines ≡ works c work →
-    Sent c (done work) q → Fate d past q asked got → Rests d past lines →
+    (asked : Option Request) (got : Option Reply) → IsHopper d.body → WorksAt d lines c work →
+    row d c work (epoch lines) (order lines) ≡ sends q → Fate d past q asked got → Rests d past lines →
     Rests d (heard asked ∷ past) (exchange (Some q) got ∷ doses d.body d.serial past asked ++ lines)
-rests_exchange d past lines c work q asked got paying is_job sent fate rests out =
+rests_exchange d past lines c work q asked got paying at row_is fate rests out =
     let dosed = doses d.body d.serial past asked in
     let same = same_over is_paid_out (λ count lines. refl) dosed lines (doses_are d.body d.serial past asked) in
-    let both = asked_rests d past lines c work q asked got paying is_job sent fate rests (shows_none (Some q) got) refl
-    (ap (λ before. shows_none (Some q) got || before) (sym same) ∙ out) in
-    let works_on = sym (job_undosed d.body d.serial past asked lines ∙ is_job) in (
+    let both = asked_rests d past lines c work q asked got paying at.job_is row_is fate rests
+    (shows_none (Some q) got) refl (ap (λ before. shows_none (Some q) got || before) (sym same) ∙ out) in
+    let works_on = sym (job_undosed d.body d.serial past asked lines ∙ at.job_is) in (
       rests_heard d.serial past asked (fate_untaken d past q asked got both.0 fate) both.1,
-      subst (λ j. IsNotAtDispense (with_line (exchange (Some q) got) j)) works_on (sent.behind got),
+      subst (λ j. IsNotAtDispense d (with_line (exchange (Some q) got) j)) works_on
+          (asked_aside d c work (epoch lines) (order lines) q got (for_hopper d.body c paying at.suited) row_is),
     )
 
 -- the end of a job
@@ -241,16 +235,22 @@ rests_fall d past lines rests =
     rests_less d past (fall ∷ past) lines (λ none. omega (arith, remaining_fall d.serial past, none)) rests
 
 -- commands
-taken_aside : (c : Command) (before : Job) → is_for_hopper c ≡ true → IsNotAtDispense (begun c before)
-taken_aside (command.Pay addr id count) before played = refl
-taken_aside (command.Settle addr) before played = tt
-taken_aside (command.Ident addr) before played = tt
-taken_aside c before played = absurd cc
+told_aside : (qs : List Request) → sent_once (telling qs) ≡ false
+told_aside [] = refl
+told_aside (q ∷ []) = refl
+told_aside (q ∷ r ∷ qs) = refl
 
-halted_aside : (addr : ℕ) (at_work : Job) → IsNotAtDispense at_work →
-    IsNotAtDispense (with_line (taken (command.Halt addr)) at_work)
-halted_aside addr free aside = tt
-halted_aside addr (works c since) aside = aside
+taken_aside : (d : DeviceSetup) (c : Command) (before : Job) → is_for_hopper c ≡ true → IsNotAtDispense d (begun c before)
+taken_aside d (command.Pay addr id count) before played = refl
+taken_aside d (command.Settle addr) before played = refl
+taken_aside d (command.Ident addr) before played =
+    ap sent_once (after_none (telling (ident_requests d.body))) ∙ told_aside (ident_requests d.body)
+taken_aside d c before played = absurd cc
+
+halted_aside : (d : DeviceSetup) (addr : ℕ) (at_work : Job) → IsNotAtDispense d at_work →
+    IsNotAtDispense d (with_line (taken (command.Halt addr)) at_work)
+halted_aside d addr free aside = tt
+halted_aside d addr (works c since) aside = aside
 
 -- records
 put_out : (r : Record) (before : Bool) → paid_out_by r before ≡ true → before ≡ true
@@ -258,10 +258,13 @@ put_out (record_of.Opened id addr count life) before out = absurd cc
 put_out r before out = out
 
 rests_put : (d : DeviceSetup) (past : List Met) (lines : List Line) (c : Command) (work : List Line) (r : Record) →
-    job lines ≡ works c work → Puts c (done work) r → Rests d past lines → Rests d past (put r ∷ lines)
-rests_put d past lines c work r is_job goes_on rests out = (
+    IsHopper d.body → WorksAt d lines c work → row d c work (epoch lines) (order lines) ≡ puts r → Rests d past lines →
+    Rests d past (put r ∷ lines)
+rests_put d past lines c work r paying at row_is rests out = (
   (rests (put_out r (is_paid_out lines) out)).0,
-  subst (λ j. IsNotAtDispense (with_line (put r) j)) (sym is_job) (goes_on (is_paid_out lines) out),
+  subst (λ j. IsNotAtDispense d (with_line (put r) j)) (sym at.job_is)
+      (put_aside d c work (epoch lines) (order lines) r (is_paid_out lines) (for_hopper d.body c paying at.suited) row_is
+      out),
 )
 
 -- it holds after all that can come
@@ -274,17 +277,15 @@ rests_kept d paying = record {
   resets = λ past lines rests. rests_less d past (reset ∷ past) lines (λ none. refl) rests;
   elsewhere = λ past lines asked others rests. rests_less d past (heard asked ∷ past) lines
       (λ none. rests_heard d.serial past asked (others_untaken d.serial past asked others) none) rests;
-  takes = λ past lines c no_job here in_range played fine rests out. ((rests out).0, taken_aside c (job lines) played);
-  halts = λ past lines can rests out. ((rests out).0, halted_aside d.addr (job lines) (rests out).1);
+  takes = λ past lines c no_job here in_range played fine rests out. ((rests out).0, taken_aside d c (job lines) played);
+  halts = λ past lines can rests out. ((rests out).0, halted_aside d d.addr (job lines) (rests out).1);
   crashes = λ past lines rests out. ((rests out).0, tt);
   asks = λ past lines c work q asked got at row_is fate rests.
       rests_ended d (heard asked ∷ past) (exchange (Some q) got ∷ doses d.body d.serial past asked ++ lines) _
-      (rests_exchange d past lines c work q asked got paying at.job_is
-      (row_here d lines c work (sends q) paying at row_is) fate rests);
+      (rests_exchange d past lines c work q asked got paying at row_is fate rests);
   keeps = λ past lines c work r at row_is rests out. ((rests (put_out r (is_paid_out lines) out)).0, tt);
   puts = λ past lines c work r at row_is rests.
-      rests_ended d past (put r ∷ lines) _ (rests_put d past lines c work r at.job_is
-      (row_here d lines c work (puts r) paying at row_is) rests);
+      rests_ended d past (put r ∷ lines) _ (rests_put d past lines c work r paying at row_is rests);
 }
 
 -- a hopper that has shown that nothing is left to pay has nothing left to fall until the next order is opened

@@ -14,7 +14,7 @@ use Rattle.cct_model.specs.declared.judging.EpochState.{EpochState}
 use Rattle.cct_model.specs.declared.judging.OpenOrder.{OpenOrder}
 use Rattle.cct_model.specs.History.{Met}
 use Rattle.cct_model.specs.Line as line
-use Rattle.cct_model.specs.Line.{Line, accepted, inhibited, alien, fell, reset, dispensed, exchange, scanned, put, taken, ended, crashed}
+use Rattle.cct_model.specs.Line.{Line, accepted, inhibited, alien, fell, reset, exchange, put, taken, ended, crashed}
 use Rattle.cct_model.specs.Order.{order_by, order}
 use Rattle.cct_model.specs.Exchange.{asked}
 use Rattle.cct_model.specs.Job.{Job, free, works, job, epoch_by, epoch, address_of}

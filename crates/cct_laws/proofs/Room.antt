@@ -2,7 +2,6 @@
 use Rattle.std.proofs.Common.{◌≡◌, ℕ, ◌+◌, ◌≤◌, nat_le, List, [], ◌∷◌, Bool, true, false, cond, length, refl, Option, Some, None, arith, leb-true}
 use Rattle.cct_model.specs.terms.device.DeviceSetup.{DeviceSetup}
 use Rattle.cct_model.specs.terms.device.Setup.{Setup}
-use Rattle.cct_model.specs.terms.request.Request.{Request}
 use Rattle.cct_model.specs.lines.command.Command.{Command}
 use Rattle.cct_model.specs.lines.command.Command.TheVariants as command
 use Rattle.cct_model.specs.lines.command.CommandNo.{CommandNo}
@@ -10,10 +9,11 @@ use Rattle.cct_model.specs.lines.command.CommandNo.TheVariants.{Short, JournalFu
 use Rattle.cct_model.specs.lines.entry.Entry.{Entry}
 use Rattle.cct_model.specs.Exchange.{device_at}
 use Rattle.cct_model.specs.Job.{ident_requests, address_of}
-use Rattle.cct_model.specs.Rows.{telling, need_in}
+use Rattle.cct_model.specs.Rows.{need_in}
 use Rattle.cct_model.specs.Records.{records}
 use Rattle.cct_model.specs.Money.{coins_of, available}
 use Rattle.cct_model.specs.Refusal.{Test, with_coins, with_price, with_room, tests_of, money_in, held, need_for, full_refusal, short_refusal, room_fails, refusal}
+use Rattle.cct_model.proofs.Rows.{told_fact}
 use Rattle.cct_laws.proofs.AtWork.{spent_by}
 use Rattle.cct_laws.proofs.Tests.{Pass, tests_pass}
 
@@ -42,11 +42,6 @@ asks_room [] = false
 asks_room (with_room ∷ tests) = true
 asks_room (test ∷ tests) = asks_room tests
 
-told_needs : (qs : List Request) → need_in (telling qs) ≡ 0
-told_needs [] = refl
-told_needs (q ∷ []) = refl
-told_needs (q ∷ r ∷ qs) = told_needs (r ∷ qs)
-
 -- those without it want none
 unasked : (found : Option DeviceSetup) (c : Command) → asks_room (tests_of c) ≡ false → need_for found c ≡ 0
 unasked found (command.Start addr mask) none = absurd cc
@@ -55,7 +50,8 @@ unasked found (command.Stop addr) none = absurd cc
 unasked found (command.Pay addr id count) none = absurd cc
 unasked found (command.Settle addr) none = absurd cc
 unasked found (command.Vend id price) none = absurd cc
-unasked (Some d) (command.Ident addr) none = told_needs (ident_requests d.body)
+unasked (Some d) (command.Ident addr) none =
+    told_fact (λ rows. need_in rows ≡ 0) refl (λ q behind rows same. same) (ident_requests d.body)
 unasked (Some d) c none = refl
 unasked None c none = refl
 
@@ -80,8 +76,8 @@ room_for capacity setup past c lets room = by_test (asks_room (tests_of c)) refl
     by_test true asks =
         room_by capacity setup past need (tests_of c) (tests_pass capacity setup past c lets).room asks
     by_test false asks =
-        none_more (length (records past) + held setup past) need (unasked (device_at setup.devices (address_of c)) c asks)
-        room
+        none_more (length (records past) + held setup past) need
+        (unasked (device_at setup.devices (address_of c)) c asks) room
       where
         none_more : (many wanted : ℕ) → wanted ≡ 0 → many ≤ capacity → many + wanted ≤ capacity
         none_more many wanted none le = omega (arith, none, le)

@@ -1,5 +1,5 @@
 -- A job at a device ends for want of an answer exactly after three failed tries.
-use Rattle.std.proofs.Common.{◌≡◌, ℕ, zero, suc, ◌<◌, ◌≤◌, ◌^◌, ◌==◌, cond, true, false, Bool, List, [], ◌∷◌, ◌++◌, refl, ap, sym, ◌∙◌, subst, Option, Some, None, inl, inr, arith, rules, eq-eqb, eqb-true, true≢false}
+use Rattle.std.proofs.Common.{◌≡◌, ℕ, suc, ◌<◌, ◌≤◌, ◌^◌, ◌==◌, cond, true, false, Bool, List, [], ◌∷◌, ◌++◌, refl, ap, sym, ◌∙◌, subst, Option, Some, None, inl, inr, arith, rules, eq-eqb, eqb-true, true≢false}
 use Rattle.std.specs.Prelude.{⊤}
 use Rattle.std.proofs.lemmas.Bool.Decides.{nat_tests}
 use Rattle.cct_model.specs.terms.device.DeviceSetup.{DeviceSetup}
@@ -41,7 +41,7 @@ use Rattle.cct_model.proofs.Doses.{AreDoses, doses_are, job_undosed}
 use Rattle.cct_laws.proofs.Ids.{put_owned}
 use Rattle.cct_laws.proofs.HopperReplies.{serial_fits}
 use Rattle.cct_laws.proofs.Setups.{found_in}
-use Rattle.cct_model.proofs.Rows.{IfEnd, RowHolds, EachRow, answer_end, put_end, Asks, AnswerEnds, PutEnds, each_told, each_after, state_holds, but_first, after_next}
+use Rattle.cct_model.proofs.Rows.{IfEnd, RowHolds, EachRow, answer_end, put_end, Asks, AnswerEnds, PutEnds, each_told, each_after, state_holds, but_first, after_next, EachBefore, before_on, fact_after}
 use Rattle.cct_laws.proofs.Seen.{ArePassed, loose, loose_line, Lost, bare, kept_here, kept_elsewhere, seen_here, seen_aside, seen_lost, seen_from, along, any_steps, lines_wire, lines_with_end, lines_put, lines_taken, lines_kept, lines_kept_elsewhere}
 use Rattle.cct_model.proofs.Tries.{is_asked_again, IfHeard, fails_as, IsHeardEnd, answers_heard, puts_heard, due_sends, same_request, left_asks, asked_fails}
 use Rattle.cct_model.proofs.RowEnds.{IfOnce, once_sent, failed_stays, once_goes, rest_asks, fails_rest}
@@ -91,8 +91,7 @@ IsApart rows q = EachRow (IfOnce (λ x. (header_of q == header_of x) ≡ false))
 
 -- no row asks under the header of a later one that is sent once
 abbrev AreApart : List TableRow → Type 0
-AreApart [] = ⊤
-AreApart (r ∷ rows) = Asks (IsApart rows) r × AreApart rows
+AreApart rows = EachBefore (λ r later. Asks (IsApart later) r) rows
 
 told_apart : (qs : List Request) → AreApart (telling qs)
 told_apart [] = tt
@@ -105,11 +104,6 @@ told_apart (q ∷ r ∷ qs) = (
 rows_apart : (d : DeviceSetup) (c : Command) → AreApart (rows_of d c)
 rows_apart d (command.Ident addr) = told_apart (ident_requests d.body)
 rows_apart d c = search rules
-
-apart_after : (rows : List TableRow) (n : ℕ) → AreApart rows → AreApart (after rows n)
-apart_after [] n each = tt
-apart_after (r ∷ rows) zero each = each
-apart_after (r ∷ rows) (suc n) each = apart_after rows n each.1
 
 apart_first : (addr : ℕ) (means : Judged) (p : Payment) (rows : List TableRow) (q : Request) → AreApart rows →
     first addr means p rows ≡ sends q → IsApart (but_first rows) q
@@ -294,7 +288,8 @@ apart_row : (d : DeviceSetup) (c : Command) (since : List Line) (state : EpochSt
     (q : Request) → row d c since state owed ≡ sends q → IsApart (but_first (rest d c since)) q
 apart_row d c since state owed q is =
     apart_first (address_of c) (judged_in c since state) (payment_in since owed) (rest d c since) q
-    (apart_after (rows_of d c) (done (rows_of d c) since) (rows_apart d c)) (rest_asks d c since state owed q is)
+    (fact_after AreApart (before_on (λ r later. Asks (IsApart later) r)) (rows_of d c) (done (rows_of d c) since)
+    (rows_apart d c)) (rest_asks d c since state owed q is)
 
 again_none : (d : DeviceSetup) (c : Command) (since : List Line) (state : EpochState) (owed : Option OpenOrder)
     (q : Request) → row d c since state owed ≡ sends q → sent_once (rest d c since) ≡ false →

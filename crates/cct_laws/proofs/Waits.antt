@@ -15,11 +15,11 @@ use Rattle.cct_model.specs.lines.entry.Entry.TheVariants as entry
 use Rattle.cct_model.specs.Exchange.{asked, asks_of}
 use Rattle.cct_model.specs.Line.{Line, accepted, inhibited, alien, fell, reset, exchange, scanned, put, taken, ended, crashed}
 use Rattle.cct_model.specs.Job.{Job, free, works, job, begun, with_line, address_of, ident_requests}
-use Rattle.cct_model.specs.Rows.{Due, new_epoch, reading, epoch_end, new_order, order_end, sale, TableRow, asks_for, asks_once, waits_for_coins, puts_due, telling, rows_of, rows_of_sale, after, done}
+use Rattle.cct_model.specs.Rows.{new_epoch, reading, epoch_end, new_order, order_end, sale, TableRow, asks_for, asks_once, waits_for_coins, puts_due, telling, rows_of, rows_of_sale, after, done}
 use Rattle.cct_model.specs.Transcript.{met, owner, lines_of, sale_lines, sold_line, heard_by_devices, pending, got_by, doses_of}
 use Rattle.cct_laws.specs.Ids.{waiting_in, waiting}
 use Rattle.cct_model.proofs.Doses.{job_undosed}
-use Rattle.cct_model.proofs.Rows.{but_first, after_none, after_line, fact_after, EachBefore, before_on}
+use Rattle.cct_model.proofs.Rows.{but_first, after_none, after_line, fact_after, EachBefore, before_on, told_fact}
 
 -- after a row that records an id, and after one that may be passed over, none records one
 abbrev IdLast : TableRow → List TableRow → Type 0
@@ -31,13 +31,8 @@ IdLast r rows = ⊤
 abbrev pub OneId : List TableRow → Type 0
 OneId rows = EachBefore IdLast rows
 
-told_one : (qs : List Request) → OneId (telling qs)
-told_one [] = tt
-told_one (q ∷ []) = (tt, tt)
-told_one (q ∷ r ∷ qs) = (tt, told_one (r ∷ qs))
-
 pub one_id : (d : DeviceSetup) (c : Command) → OneId (rows_of d c)
-one_id d (command.Ident addr) = told_one (ident_requests d.body)
+one_id d (command.Ident addr) = told_fact OneId tt (λ q behind rows each. (tt, each)) (ident_requests d.body)
 one_id d c = search rules
 
 pub one_id_of_sale : (c : Command) → OneId (rows_of_sale c)
@@ -49,9 +44,7 @@ one_after = fact_after OneId (before_on IdLast)
 
 -- what is asked one after the other records none
 pub told_waits : (qs : List Request) → waiting_in (telling qs) ≡ None
-told_waits [] = refl
-told_waits (q ∷ []) = refl
-told_waits (q ∷ r ∷ qs) = told_waits (r ∷ qs)
+told_waits = told_fact (λ rows. waiting_in rows ≡ None) refl (λ q behind rows none. none)
 
 -- an id that rows wait to record was to be recorded before
 first_waits : (rows : List TableRow) (id : ℕ) → OneId rows → waiting_in (but_first rows) ≡ Some id →

@@ -8,7 +8,7 @@ use Rattle.cct_model.specs.lines.entry.Entry.{Entry}
 use Rattle.cct_model.specs.declared.judging.OpenOrder.{OpenOrder}
 use Rattle.cct_model.specs.Order.{order}
 use Rattle.cct_model.specs.Job.{Job, free, works, job}
-use Rattle.cct_model.specs.Rows.{Due, new_order, sale, TableRow, puts_due, rows_of, rows_of_sale, after, done}
+use Rattle.cct_model.specs.Rows.{new_order, sale, TableRow, puts_due, rows_of, rows_of_sale, after, done}
 use Rattle.cct_model.specs.Records.{records, order_named}
 use Rattle.cct_model.specs.Transcript.{lines_of, sale_lines}
 use Rattle.cct_model.specs.Paid.{uses}

@@ -33,6 +33,13 @@ once_ends (asks_once q behind without ∷ rows) got once = refl
 once_ends (waits_for_coins ∷ rows) got once = absurd cc
 once_ends (puts_due due behind ∷ rows) got once = absurd cc
 
+pub stays_again : (rows : List TableRow) (got : Option Reply) → ends_first rows got ≡ false → sent_once rows ≡ false
+stays_again [] got stays = refl
+stays_again (asks_for q behind ∷ rows) got stays = refl
+stays_again (asks_once q behind without ∷ rows) got stays = absurd (true≢false stays)
+stays_again (waits_for_coins ∷ rows) got stays = refl
+stays_again (puts_due due behind ∷ rows) got stays = refl
+
 -- so the rows done are as many as before, or one more
 pub failed_stays : (rows : List TableRow) (asked : Option Request) (since : List Line) →
     sent_once (after rows (done rows since)) ≡ false → done rows (exchange asked None ∷ since) ≡ done rows since

@@ -181,7 +181,15 @@ done_grows rows (exchange q y) since = by_end (ends_first (after rows (done rows
     by_end false = omega arith
 done_grows rows l since = omega arith
 
--- of the rows that ask for one thing after the other
+-- a fact of the rows that ask for one thing after the other, which holds before any
+pub told_fact : (F : List TableRow → Type 0) → F [] →
+    ((q : Request) (behind : Then) (rows : List TableRow) → F rows → F (asks_for q behind ∷ rows)) →
+    (qs : List Request) → F (telling qs)
+told_fact F none more [] = none
+told_fact F none more (q ∷ []) = more q (ends_as Told) [] none
+told_fact F none more (q ∷ r ∷ qs) = more q goes_on (telling (r ∷ qs)) (told_fact F none more (r ∷ qs))
+
+-- of each of these rows
 pub each_told : (F : TableRow → Type 0) → ((q : Request) → F (asks_for q goes_on)) →
     ((q : Request) → F (asks_for q (ends_as Told))) → (qs : List Request) → EachRow F (telling qs)
 each_told F goes last [] = tt
@@ -274,10 +282,15 @@ each_ask P d c n means p each = walk (Asks P) (RowHolds P (λ r. ⊤)) d c n mea
         due_holds P (λ r. ⊤) (address_of c) means p due (any_due (address_of c) means p due)
 
 -- a fact of what is asked one after the other
+pub told_each : (P : Request → Type 0) (F : TableRow → Type 0) →
+    ((q : Request) (behind : Then) → P q → F (asks_for q behind)) → (qs : List Request) → Each P qs →
+    EachRow F (telling qs)
+told_each P F row [] each = tt
+told_each P F row (q ∷ []) each = (row q (ends_as Told) each.0, tt)
+told_each P F row (q ∷ r ∷ qs) each = (row q goes_on each.0, told_each P F row (r ∷ qs) each.1)
+
 pub each_asked : (P : Request → Type 0) (qs : List Request) → Each P qs → EachRow (Asks P) (telling qs)
-each_asked P [] each = tt
-each_asked P (q ∷ []) each = (each.0, tt)
-each_asked P (q ∷ r ∷ qs) each = (each.0, each_asked P (r ∷ qs) each.1)
+each_asked P = told_each P (Asks P) (λ q behind holds. holds)
 
 -- of what these rows put, each passes a test
 abbrev pub puts_only : (Due → Bool) → List TableRow → Bool
@@ -286,9 +299,7 @@ puts_only test (puts_due due behind ∷ rows) = test due && puts_only test rows
 puts_only test (r ∷ rows) = puts_only test rows
 
 pub told_only : (test : Due → Bool) (qs : List Request) → puts_only test (telling qs) ≡ true
-told_only test [] = refl
-told_only test (q ∷ []) = refl
-told_only test (q ∷ r ∷ qs) = told_only test (r ∷ qs)
+told_only test = told_fact (λ rows. puts_only test rows ≡ true) refl (λ q behind rows only. only)
 
 -- no job at a device sells
 abbrev pub is_at_device : Due → Bool
@@ -392,9 +403,7 @@ none_waits rows n none = by_found (has_waits (after rows n)) refl
     by_found false is = refl
 
 pub told_no_waits : (qs : List Request) → has_waits (telling qs) ≡ false
-told_no_waits [] = refl
-told_no_waits (q ∷ []) = refl
-told_no_waits (q ∷ r ∷ qs) = told_no_waits (r ∷ qs)
+told_no_waits = told_fact (λ rows. has_waits rows ≡ false) refl (λ q behind rows none. none)
 
 -- what a round puts
 abbrev pub round_left : List TableRow

@@ -1,5 +1,5 @@
 -- What a failed try brings: no end for want of an answer but at the third of what is asked again.
-use Rattle.std.proofs.Common.{◌≡◌, ℕ, zero, suc, ◌==◌, Bool, true, false, cond, List, [], ◌∷◌, ◌⊎◌, inl, inr, refl, sym, ◌∙◌, true≢false, subst, Option, rules}
+use Rattle.std.proofs.Common.{◌≡◌, ℕ, ◌==◌, Bool, true, false, cond, List, [], ◌∷◌, ◌⊎◌, inl, inr, refl, sym, ◌∙◌, true≢false, subst, Option, rules}
 use Rattle.std.specs.Prelude.{⊤}
 use Rattle.cct_model.specs.terms.device.DeviceBody.{DeviceBody}
 use Rattle.cct_model.specs.terms.device.DeviceBody.TheVariants.{Acceptor, Hopper}
@@ -16,8 +16,8 @@ use Rattle.cct_model.specs.lines.entry.End.{End}
 use Rattle.cct_model.specs.lines.entry.End.TheVariants.{NoAnswer}
 use Rattle.cct_model.specs.Line.{Line}
 use Rattle.cct_model.specs.Job.{sends, Payment, payment_in, judged_in, address_of, ident_requests, state_row, end_of_tries}
-use Rattle.cct_model.specs.Rows.{Due, reading, TableRow, asks_for, asks_once, waits_for_coins, puts_due, telling, rows_of, after, from, done, rest, left, first, due_row, row, sent_once, end_failed}
-use Rattle.cct_model.proofs.Rows.{IfEnd, RowHolds, Each, EachRow, fact_after, EachBefore, before_on, AnswerEnds, PutEnds, Behind, each_left, each_told, due_holds, any_due, behind_bare}
+use Rattle.cct_model.specs.Rows.{Due, reading, TableRow, asks_for, asks_once, waits_for_coins, puts_due, telling, rows_of, from, done, rest, left, first, due_row, row, sent_once, end_failed}
+use Rattle.cct_model.proofs.Rows.{IfEnd, RowHolds, Each, EachRow, fact_after, EachBefore, before_on, told_fact, told_each, AnswerEnds, PutEnds, Behind, each_left, each_told, due_holds, any_due, behind_bare}
 
 -- a request that a job asks again, under a header that what is sent once doesn't have
 abbrev pub is_asked_again : Request → Bool
@@ -65,9 +65,7 @@ AsksWell (asks_once q behind without) = (is_asked_again q ≡ false) × Behind I
 AsksWell r = ⊤
 
 pub told_well : (qs : List Request) → Each IsAgain qs → EachRow AsksWell (telling qs)
-told_well [] each = tt
-told_well (q ∷ []) each = (each.0, tt)
-told_well (q ∷ r ∷ qs) each = (each.0, told_well (r ∷ qs) each.1)
+told_well = told_each IsAgain AsksWell (λ q behind again. again)
 
 pub asks_well : (d : DeviceSetup) (c : Command) → EachRow AsksWell (rows_of d c)
 asks_well d (command.Ident addr) = told_well (ident_requests d.body) (ident_again d.body)
@@ -135,13 +133,8 @@ ReadsLast r rows = ⊤
 abbrev pub ReadsWell : List TableRow → Type 0
 ReadsWell rows = EachBefore ReadsLast rows
 
-told_reads : (qs : List Request) → ReadsWell (telling qs)
-told_reads [] = tt
-told_reads (q ∷ []) = (tt, tt)
-told_reads (q ∷ r ∷ qs) = (tt, told_reads (r ∷ qs))
-
 reads_well : (d : DeviceSetup) (c : Command) → ReadsWell (rows_of d c)
-reads_well d (command.Ident addr) = told_reads (ident_requests d.body)
+reads_well d (command.Ident addr) = told_fact ReadsWell tt (λ q behind rows each. (tt, each)) (ident_requests d.body)
 reads_well d c = search rules
 
 sends_asks : (addr : ℕ) (means : Judged) (p : Payment) (rows : List TableRow) (q : Request) →
