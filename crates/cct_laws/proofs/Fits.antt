@@ -4,7 +4,6 @@ use Rattle.std.proofs.Common.{◌≡◌, ℕ, ◌+◌, ◌-◌, ◌≤◌, Bool,
 use Rattle.std.specs.Prelude.{⊤}
 use Rattle.cct_model.specs.terms.coin.Coin.{Coin}
 use Rattle.cct_model.specs.terms.coin.Credits.{Credits}
-use Rattle.cct_model.specs.terms.request.Request.{Request}
 use Rattle.cct_model.specs.terms.request.Request.TheVariants.{ResetDevice, ReadCredits, SetMaster, GetMask, SetMask}
 use Rattle.cct_model.specs.lines.record.Record.{Record}
 use Rattle.cct_model.specs.lines.record.Record.TheVariants as record_of
@@ -12,14 +11,13 @@ use Rattle.cct_model.specs.declared.judging.Judged.{Judged}
 use Rattle.cct_model.specs.declared.judging.Judged.TheVariants.{Nothing, Reading, Broken}
 use Rattle.cct_model.specs.declared.judging.EpochState.{EpochState}
 use Rattle.cct_model.specs.declared.judging.EpochState.TheVariants.{Idle, Running}
-use Rattle.cct_model.specs.lines.command.Command.{Command}
 use Rattle.cct_model.specs.Line.{Line}
 use Rattle.cct_model.specs.Job.{Job, free, works, epoch, credits_read, judged_in}
 use Rattle.cct_model.specs.Reading.{distance, posted_of}
 use Rattle.cct_model.specs.Claims as claims
 use Rattle.cct_model.specs.Claims.{coins, arrivals, looking, mark, base, fewer, AreNewest, IsNear}
 use Rattle.cct_laws.proofs.World.{World, Shut, Silent, IsLive, Tracks, On, mask_at, tracks_on, closed}
-use Rattle.cct_model.specs.Rows.{Then, if_quiet, Due, new_epoch, reading, epoch_end, TableRow, asks_for, asks_once, waits_for_coins, puts_due, rest}
+use Rattle.cct_model.specs.Rows.{if_quiet, new_epoch, reading, epoch_end, TableRow, asks_for, asks_once, waits_for_coins, puts_due, rest}
 use Rattle.cct_model.specs.terms.device.DeviceSetup.{DeviceSetup}
 
 -- what the lines tell that no piece changes: the mark, the base and the epoch, the coins and the number of pieces before

@@ -1,7 +1,6 @@
 -- What each row of a job at an acceptor leads to: the rows after it need no more than it brings, and no end but a clean one
 -- is an item.
-use Rattle.std.proofs.Common.{◌≡◌, ℕ, ◌≤◌, ◌==◌, true, List, [], ◌∷◌, refl, Option}
-use Rattle.std.specs.Prelude.{⊤}
+use Rattle.std.proofs.Common.{◌≡◌, ◌≤◌, ◌==◌, true, List, [], ◌∷◌, refl}
 use Rattle.cct_model.specs.terms.device.DeviceSetup.{DeviceSetup}
 use Rattle.cct_model.specs.terms.request.Request.{Request}
 use Rattle.cct_model.specs.terms.request.Request.TheVariants.{ResetDevice, ReadCredits, SetMaster, GetMask, SetMask}
@@ -9,7 +8,7 @@ use Rattle.cct_model.specs.lines.command.Command.{Command}
 use Rattle.cct_model.specs.lines.command.Command.TheVariants as command
 use Rattle.cct_model.specs.lines.entry.End.TheVariants.{Told}
 use Rattle.cct_model.specs.Job.{ident_requests}
-use Rattle.cct_model.specs.Rows.{Then, goes_on, ends_as, if_quiet, path_told, if_posted, Due, new_epoch, reading, epoch_end, TableRow, asks_for, asks_once, puts_due, telling, rows_of}
+use Rattle.cct_model.specs.Rows.{Then, goes_on, ends_as, if_quiet, path_told, if_posted, new_epoch, reading, epoch_end, TableRow, asks_for, asks_once, puts_due, telling, rows_of}
 use Rattle.cct_model.specs.Script.{IsCommand}
 use Rattle.cct_model.proofs.Rows.{Behind, Each, EachBefore}
 use Rattle.cct_laws.specs.Kept.{is_for_acceptor}
@@ -48,34 +47,30 @@ told_leads (q ∷ r ∷ qs) each =
 
 -- the table
 pub leads : (d : DeviceSetup) (c : Command) → is_for_acceptor c ≡ true → IsCommand c → EachBefore Leads (rows_of d c)
-leads d (command.Start addr mask) suited some =
+leads d (command.Start addr mask) suited some = (
+  (tt, λ w b credits judged idle silent. (idle, silent)),
+  (
+    (λ w b credits judged idle silent few. (idle, silent, few)),
+    ((some, tt, λ w b credits judged waits. waits), ((some, tt, tt), tt)),
+  ),
+)
+leads d (command.Round addr) suited range = (
+  (tt, λ w b credits judged held still. (held, still)),
+  ((tt, λ w b credits judged ready still. (ready, still)), ((tt, tt), tt)),
+)
+leads d (command.Stop addr) suited range = (
+  (refl, tt, λ w b credits judged running shut. (running, shut)),
+  (
+    (tt, λ w b credits judged held still. (held, still)),
     (
-      (tt, λ w b credits judged idle silent. (idle, silent)),
-      (
-        (λ w b credits judged idle silent few. (idle, silent, few)),
-        ((some, tt, λ w b credits judged waits. waits), ((some, tt, tt), tt)),
-      ),
-    )
-leads d (command.Round addr) suited range =
-    (
-      (tt, λ w b credits judged held still. (held, still)),
-      ((tt, λ w b credits judged ready still. (ready, still)), ((tt, tt), tt)),
-    )
-leads d (command.Stop addr) suited range =
-    (
-      (refl, tt, λ w b credits judged running shut. (running, shut)),
-      (
-        (tt, λ w b credits judged held still. (held, still)),
-        (
-          (tt, λ w b credits judged ready still. (ready, still)),
-          (((refl, λ w b credits judged rests. rests), tt), (tt, tt)),
-        ),
-      ),
-    )
+      (tt, λ w b credits judged ready still. (ready, still)),
+      (((refl, λ w b credits judged rests. rests), tt), (tt, tt)),
+    ),
+  ),
+)
 leads d (command.Ident addr) suited range = told_leads (ident_requests d.body) (ident_neutral d.body)
-leads d (command.Path addr place path) suited range =
-    (
-      neutral_leads _ goes_on _ (neutral_if (place == 0) _ _ tt tt) tt,
-      (neutral_leads _ (path_told place) [] (neutral_if (place == 0) _ _ tt tt) (λ number. tt), tt),
-    )
+leads d (command.Path addr place path) suited range = (
+  neutral_leads _ goes_on _ (neutral_if (place == 0) _ _ tt tt) tt,
+  (neutral_leads _ (path_told place) [] (neutral_if (place == 0) _ _ tt tt) (λ number. tt), tt),
+)
 leads d c suited range = absurd cc

@@ -21,7 +21,7 @@ use Rattle.cct_model.specs.Device.{IsAcceptor}
 use Rattle.cct_model.specs.Line.{Line, exchange, put}
 use Rattle.cct_model.specs.Order.{order}
 use Rattle.cct_model.specs.Job.{works, job, sends, puts, payment_in, epoch, counted, epoch_by, address_of, credits_read, judged_in, Payment}
-use Rattle.cct_model.specs.Rows.{Then, ends_as, Due, TableRow, asks_for, asks_once, waits_for_coins, puts_due, row, rest, first}
+use Rattle.cct_model.specs.Rows.{ends_as, TableRow, asks_for, asks_once, waits_for_coins, puts_due, row, rest, first}
 use Rattle.cct_model.specs.Script.{IsCommand}
 use Rattle.cct_model.specs.terms.coin.Credits.{Credits}
 use Rattle.cct_laws.proofs.EitherKind.{for_acceptor}

@@ -13,7 +13,7 @@ use Rattle.cct_model.specs.lines.command.Command.{Command}
 use Rattle.cct_model.specs.History.{Met}
 use Rattle.cct_model.specs.Line.{Line}
 use Rattle.cct_model.specs.Job.{works, job, puts, epoch, credits_read, mask_read, address_of, judged_by, judged_in, Payment, payment_in}
-use Rattle.cct_model.specs.Rows.{Then, ends_as, if_posted, Due, new_epoch, reading, epoch_end, TableRow, asks_for, asks_once, waits_for_coins, puts_due, row, rest, from, first}
+use Rattle.cct_model.specs.Rows.{Then, ends_as, if_posted, new_epoch, reading, epoch_end, TableRow, asks_for, asks_once, waits_for_coins, puts_due, row, rest, from, first}
 use Rattle.cct_model.specs.Script.{IsCommand}
 use Rattle.cct_model.specs.Order.{order}
 use Rattle.cct_laws.specs.Kept.{is_for_acceptor}

@@ -1,5 +1,5 @@
 -- How the rows that end an epoch, and what they put, keep what holds of an acceptor.
-use Rattle.std.proofs.Common.{◌≡◌, ℕ, ◌≤◌, List, [], ◌∷◌, length, refl, sym, ◌∙◌, subst, Option, Some, None, ap, true, arith}
+use Rattle.std.proofs.Common.{◌≡◌, ℕ, ◌≤◌, List, [], ◌∷◌, length, refl, sym, subst, Option, Some, ap, arith}
 use Rattle.std.specs.Prelude.{⊤}
 use Rattle.cct_model.specs.terms.device.DeviceSetup.{DeviceSetup}
 use Rattle.cct_model.specs.terms.request.Request.{Request}
@@ -13,14 +13,14 @@ use Rattle.cct_model.specs.lines.entry.End.{End}
 use Rattle.cct_model.specs.Reply.{Reply}
 use Rattle.cct_model.specs.History.{Met, heard}
 use Rattle.cct_model.specs.Line.{Line, exchange, put}
-use Rattle.cct_model.specs.Job.{works, job, puts, epoch, credits_read, judged_in, Payment}
+use Rattle.cct_model.specs.Job.{works, job, puts, epoch, Payment}
 use Rattle.cct_model.specs.Claims as claims
 use Rattle.cct_model.specs.Claims.{coins, arrivals, mark, base, IsNear}
 use Rattle.cct_model.specs.Rows.{Then, ends_as, if_posted, reading, epoch_end, TableRow, asks_for, puts_due, from, first, rest, end_kept, sent_once}
 use Rattle.cct_model.proofs.Rows.{Behind, behind_answer}
 use Rattle.cct_laws.specs.Kept.{Fate, with_ended}
 use Rattle.cct_laws.proofs.World.{world, Shut, shut_by_master}
-use Rattle.cct_laws.proofs.Fits.{book, Ready, IsRunning, FitsAt, IfOver, IsStill, ends_epoch, AfterShut}
+use Rattle.cct_laws.proofs.Fits.{book, Ready, IsRunning, IfOver, IsStill, ends_epoch, AfterShut}
 use Rattle.cct_laws.proofs.Moves.{Sound, Keeps, KeepsAsk, AtRows, IsOtherEnd, keeps_ended, keeps_with_ended, answered_at, next_at, by_fate, on_heard, entry_is}
 use Rattle.cct_laws.proofs.Items.{sound_over}
 use Rattle.cct_laws.proofs.Rounds.{IsAfterReading, posts_put, breaks_put}
