@@ -25,7 +25,7 @@ use Rattle.cct_model.proofs.Hoppers.{remaining_fall, remaining_jam}
 use Rattle.cct_laws.specs.Kept.{IsForOthers, is_for_hopper}
 use Rattle.cct_laws.specs.Odd.{IsNotOdd}
 use Rattle.cct_laws.specs.KeptHopper.{IsOwed, IsKeptHopper}
-use Rattle.cct_laws.proofs.Owing.{View, StateOf, Falls, state_falls, falls_of_order, IsOpen, FitsJob, fits_falls, FitsLeft, rows_linked, told_fits}
+use Rattle.cct_laws.proofs.Owing.{View, StateOf, Falls, state_falls, falls_of_order, IsOpen, FitsJob, fits_falls, FitsLeft, rows_linked, told_needs}
 use Rattle.cct_laws.proofs.Payouts.{view, Pays, pays_less, less_rest, IsMany, less_heard, sent_fits, put_fits, pays_asks, pays_ended, pays_puts}
 use Rattle.cct_laws.proofs.Replies.{start_of}
 use Rattle.cct_model.proofs.Rows.{after_none}
@@ -101,7 +101,7 @@ taken_fits d start v owed (command.Settle addr) before played in_range fine =
     (rows_linked d (command.Settle addr) played, settle_open owed fine)
 taken_fits d start v owed (command.Ident addr) before played in_range fine =
     subst (FitsLeft d.serial start v owed None) (sym (after_none (telling (ident_requests d.body))))
-    (rows_linked d (command.Ident addr) played, told_fits d.serial start v owed None (ident_requests d.body))
+    (rows_linked d (command.Ident addr) played, (told_needs d.serial start v owed None (ident_requests d.body)).1)
 taken_fits d start v owed c before played in_range fine = absurd cc
 
 pays_taken : (d : DeviceSetup) (past : List Met) (lines : List Line) (c : Command) → is_for_hopper c ≡ true →
