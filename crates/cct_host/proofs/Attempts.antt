@@ -20,7 +20,7 @@ use Rattle.cct_model.specs.Line as line
 use Rattle.cct_model.specs.Job as model
 use Rattle.cct_model.specs.Rows as table
 use Rattle.cct_model.specs.Job.{Payment, payment_in}
-use Rattle.cct_model.specs.Rows.{row_of_sale, rows_of_sale, after, first}
+use Rattle.cct_model.specs.Rows.{row_of_sale, rows_of_sale, after, done, first}
 use Rattle.cct_model.specs.Order.{order, order_by}
 use Rattle.cct_model.specs.Legal.{PollEntries, RowEntries, SaleRowEntries, due_of, record_due, with_end}
 use Rattle.cct_model.specs.Records.{id_of}

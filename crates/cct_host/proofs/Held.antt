@@ -13,10 +13,11 @@ use Rattle.cct_model.specs.declared.judging.EpochState.{EpochState}
 use Rattle.cct_model.specs.declared.judging.OpenOrder.{OpenOrder}
 use Rattle.cct_model.specs.Exchange.{device_at}
 use Rattle.cct_model.specs.Job as model
-use Rattle.cct_model.specs.Rows.{row, row_of_sale}
+use Rattle.cct_model.specs.Rows.{puts_in, row, row_of_sale}
 use Rattle.cct_model.specs.Legal.{due_of, due_of_sale, due_there, record_due}
 use Rattle.cct_model.specs.Line.{Line}
-use Rattle.cct_model.specs.Money.{coins_of, freed_by, hopper_value, reserved_at_work, reserved_by, sum_over}
+use Rattle.cct_model.specs.Rows as table
+use Rattle.cct_model.specs.Money.{coins_of, freed_by, hopper_value, reserved_at_work, reserved_by, sum_over, reserved_by_sale}
 use Rattle.cct_model.specs.Order.{order}
 use Rattle.cct_model.specs.Refusal.{held, holds_at, job_holds, order_holds, sale_holds}
 use Rattle.cct_model.specs.Transcript.{lines_of, sale_lines}
@@ -47,18 +48,18 @@ use Rattle.cct_host.specs.Running.{is_running}
 
 -- a job puts two records at the most
 
-few_stage : (stage : Stage) (device : Target) → puts_in (stage_ahead device stage) ≤ 2
-few_stage (Reads Round recorded) device = omega arith
-few_stage (Reads Stop recorded) device = omega arith
-few_stage (Looks Round recorded read) device = omega arith
-few_stage (Looks Stop recorded read) device = omega arith
-few_stage (IdentAsks question) device =
-    let none = ident_none puts_in (λ q behind rows. refl) device question in
+few_stage : (stage : Stage) (target : Target) → puts_in (stage_ahead target stage) ≤ 2
+few_stage (Reads Round recorded) target = omega arith
+few_stage (Reads Stop recorded) target = omega arith
+few_stage (Looks Round recorded read) target = omega arith
+few_stage (Looks Stop recorded read) target = omega arith
+few_stage (IdentAsks question) target =
+    let none = ident_none puts_in (λ q behind rows. refl) target question in
     omega (arith, none)
-few_stage (Pays (Enables id count halted)) device = omega arith
-few_stage (Pays (Counts id count halted)) device = omega arith
-few_stage (Pays row) device = omega arith
-few_stage stage device = omega arith
+few_stage (Pays (Enables id count halted)) target = omega arith
+few_stage (Pays (Counts id count halted)) target = omega arith
+few_stage (Pays row) target = omega arith
+few_stage stage target = omega arith
 
 few_puts : (job : Job) → puts_in (ahead job) ≤ 2
 few_puts (Asks target stage failed) = few_stage stage target

@@ -13,7 +13,7 @@ use Rattle.cct_model.specs.Exchange.{device_at}
 use Rattle.cct_model.specs.Line.{Line}
 use Rattle.cct_model.specs.Job as model
 use Rattle.cct_model.specs.Job.{Payment, payment_in}
-use Rattle.cct_model.specs.Rows.{row_of_sale, rows_of_sale, after, first}
+use Rattle.cct_model.specs.Rows.{row_of_sale, rows_of_sale, after, done, first}
 use Rattle.cct_model.specs.Legal.{due_of, due_of_sale, due_there, record_due}
 use Rattle.cct_model.specs.Order.{order}
 use Rattle.cct_model.specs.Transcript.{lines_of, opened_at, sale_lines}

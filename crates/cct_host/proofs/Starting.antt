@@ -11,7 +11,7 @@ use Rattle.cct_model.specs.Job as model
 use Rattle.cct_model.specs.Money.{coins_of, hopper_value}
 use Rattle.cct_model.specs.Order.{order}
 use Rattle.cct_model.specs.Records.{epoch_in, greatest_id, order_in, records}
-use Rattle.cct_model.specs.Refusal.{running_id}
+use Rattle.cct_model.specs.Refusal.{running_id, sale_id}
 use Rattle.cct_model.specs.Transcript.{lines_of, sale_lines, scan_lines}
 use Rattle.cct_disk.specs.declared.disk.Disk.{Ghosts}
 use Rattle.cct_disk.specs.Disk.{IsTrusted}
