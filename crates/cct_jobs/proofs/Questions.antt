@@ -5,10 +5,12 @@ use Rattle.std.specs.Prelude.{◌==◌, not, slice_get}
 use Rattle.std.specs.List.{list_all}
 use Rattle.cct_model.specs.terms.device.DeviceBody.{DeviceBody}
 use Rattle.cct_model.specs.terms.device.DeviceBody.TheVariants.{Acceptor, Hopper}
+use Rattle.cct_model.specs.terms.family.Family.{Family}
+use Rattle.cct_model.specs.terms.family.Family.TheVariants as family
 use Rattle.cct_model.specs.terms.request.Request.{Request}
 use Rattle.cct_model.specs.terms.request.Request.TheVariants.{SetDefault, SetPath, GetDefault, GetPath}
 use Rattle.cct_model.specs.Job.{ident_requests, path_set, path_read}
-use Rattle.cct_model.specs.Device.{is_acceptor}
+use Rattle.cct_model.specs.Family.{family_of}
 use Rattle.cct_msg.specs.Forms.{FitsItsBytes}
 use Rattle.cct_jobs.specs.Ahead.{body_of, place_of}
 use Rattle.cct_jobs.specs.Jobs.{is_once, question_after}
@@ -25,23 +27,23 @@ follows next (x ∷ xs) (suc n) q e at =
     let rest : map next xs ≡ behind_each xs = cc in
     follows next xs n q rest at
 
--- the questions to a coin acceptor, or to a hopper
-abbrev pub questions : Bool → List Request
-questions kind = ident_requests (body_of kind)
+-- the questions to a device of a family
+abbrev pub questions : Family → List Request
+questions which = ident_requests (body_of which)
 
--- they are those to any device of the kind
-pub same_questions : (body : DeviceBody) → questions (is_acceptor body) ≡ ident_requests body
+-- they are those to any device of the family
+pub same_questions : (body : DeviceBody) → questions (family_of body) ≡ ident_requests body
 same_questions (Acceptor accepts values ids) = refl
 same_questions (Hopper life value) = refl
 
-each_follows : (kind : Bool) → map (question_after kind) (questions kind) ≡ behind_each (questions kind)
-each_follows true = refl
-each_follows false = refl
+each_follows : (which : Family) → map (question_after which) (questions which) ≡ behind_each (questions which)
+each_follows family.Acceptor = refl
+each_follows family.Hopper = refl
 
 -- the question at the place behind one is the one that follows it
-pub next_question : (kind : Bool) (n : ℕ) (q : Request) → slice_get (questions kind) n ≡ Some q
-    → slice_get (questions kind) (suc n) ≡ question_after kind q
-next_question kind n q at = follows (question_after kind) (questions kind) n q (each_follows kind) at
+pub next_question : (which : Family) (n : ℕ) (q : Request) → slice_get (questions which) n ≡ Some q
+    → slice_get (questions which) (suc n) ≡ question_after which q
+next_question which n q at = follows (question_after which) (questions which) n q (each_follows which) at
 
 -- each is found at its place
 
@@ -60,14 +62,14 @@ at_number place (x ∷ xs) first (suc n) q e at =
     let found = at_number place xs (suc first) n q rest at in
     omega (arith, found)
 
-each_placed : (kind : Bool) → map (λ q. place_of q (questions kind)) (questions kind) ≡ numbered 0 (questions kind)
-each_placed true = refl
-each_placed false = refl
+each_placed : (which : Family) → map (λ q. place_of q (questions which)) (questions which) ≡ numbered 0 (questions which)
+each_placed family.Acceptor = refl
+each_placed family.Hopper = refl
 
-pub placed : (kind : Bool) (n : ℕ) (q : Request) → slice_get (questions kind) n ≡ Some q
-    → place_of q (questions kind) ≡ n
-placed kind n q at =
-    let found = at_number (λ x. place_of x (questions kind)) (questions kind) 0 n q (each_placed kind) at in
+pub placed : (which : Family) (n : ℕ) (q : Request) → slice_get (questions which) n ≡ Some q
+    → place_of q (questions which) ≡ n
+placed which n q at =
+    let found = at_number (λ x. place_of x (questions which)) (questions which) 0 n q (each_placed which) at in
     omega (arith, found)
 
 -- where none follows, that many were asked
@@ -119,13 +121,13 @@ all_at test (x ∷ xs) zero q e at =
     subst (λ r. test r ≡ true) is (both_true (test x) (list_all test xs) e).0
 all_at test (x ∷ xs) (suc n) q e at = all_at test xs n q (both_true (test x) (list_all test xs) e).1 at
 
-each_again : (kind : Bool) → list_all is_again (questions kind) ≡ true
-each_again true = refl
-each_again false = refl
+each_again : (which : Family) → list_all is_again (questions which) ≡ true
+each_again family.Acceptor = refl
+each_again family.Hopper = refl
 
 -- so is every question
-pub question_again : (kind : Bool) (n : ℕ) (q : Request) → slice_get (questions kind) n ≡ Some q → is_once q ≡ false
-question_again kind n q at = not_true (is_once q) (all_at is_again (questions kind) n q (each_again kind) at)
+pub question_again : (which : Family) (n : ℕ) (q : Request) → slice_get (questions which) n ≡ Some q → is_once q ≡ false
+question_again which n q at = not_true (is_once q) (all_at is_again (questions which) n q (each_again which) at)
 
 set_by : (b : Bool) (place path : ℕ) → is_once (cond b (SetDefault path) (SetPath place path)) ≡ false
 set_by true place path = refl

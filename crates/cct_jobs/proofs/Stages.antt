@@ -64,7 +64,7 @@ mask_fits mask number count e = absurd cc
 fits_of : (stage : Stage) (device : Target) → Suits stage device → FitsItsBytes (request_of stage)
 fits_of (StartSets mask) device suits = mask_fits mask
 fits_of (IdentAsks question) device suits =
-    again_fits question (question_again device.is_acceptor (place_of question (questions_of device)) question suits)
+    again_fits question (question_again device.family (place_of question (questions_of device)) question suits)
 fits_of (PathSets place path) device suits = again_fits _ (set_again place path)
 fits_of (PathReads place path) device suits = again_fits _ (read_again place)
 fits_of (Pays row) device suits = payout_fits row device suits
@@ -209,15 +209,15 @@ module _ {d : DeviceSetup} {device : Target} {question : Request} {failed : ℕ}
     {state : EpochState} {owed : Option OpenOrder} (at : Asking d device (IdentAsks question) failed c since state owed)
   where
     next_is : slice_get (questions_of device) (suc (place_of question (questions_of device))) ≡ question_after
-        device.is_acceptor question
-    next_is = next_question device.is_acceptor (place_of question (questions_of device)) question at.suits
+        device.family question
+    next_is = next_question device.family (place_of question (questions_of device)) question at.suits
 
-    pub ident_on : (next : Request) (y : Reply) → question_after device.is_acceptor question ≡ Some next
+    pub ident_on : (next : Request) (y : Reply) → question_after device.family question ≡ Some next
         → Asking d device (IdentAsks next) 0 c (exchange (Some question) (Some y) ∷ since) state owed
     ident_on next y e =
         let n = place_of question (questions_of device) in
         let more : slice_get (questions_of device) (suc n) ≡ Some next = next_is ∙ e in
-        let place : place_of next (questions_of device) ≡ suc n = placed device.is_acceptor (suc n) next more in
+        let place : place_of next (questions_of device) ≡ suc n = placed device.family (suc n) next more in
         record {
           device_is = at.device_is;
           is_here = at.is_here;
@@ -233,7 +233,7 @@ module _ {d : DeviceSetup} {device : Target} {question : Request} {failed : ℕ}
               ∙ ap (λ b. cond b (Some Told) None) (question_within (questions_of device) (suc n) next more);
         }
 
-    pub ident_told : (y : Reply) → question_after device.is_acceptor question ≡ None
+    pub ident_told : (y : Reply) → question_after device.family question ≡ None
         → newest_end d c (exchange (Some question) (Some y) ∷ since) state ≡ Some Told
     ident_told y e =
         let n = place_of question (questions_of device) in

@@ -3,6 +3,8 @@ use Rattle.std.specs.Prelude.{ℕ, suc, ◌==◌, Bool, false, List, [], ◌∷�
 use Rattle.cct_model.specs.terms.device.DeviceBody.{DeviceBody}
 use Rattle.cct_model.specs.terms.device.DeviceBody.TheVariants.{Acceptor, Hopper}
 use Rattle.cct_model.specs.terms.device.DeviceSetup.{DeviceSetup}
+use Rattle.cct_model.specs.terms.family.Family.{Family}
+use Rattle.cct_model.specs.terms.family.Family.TheVariants as family
 use Rattle.cct_model.specs.terms.request.Request.{Request}
 use Rattle.cct_model.specs.terms.request.Request.TheVariants.{CoinId}
 use Rattle.cct_model.specs.lines.command.Command.{Command}
@@ -22,9 +24,10 @@ use Rattle.cct_jobs.specs.declared.stage.Stage.TheVariants.{StartResets, StartRe
 use Rattle.cct_jobs.specs.declared.job.Job.{Job}
 use Rattle.cct_jobs.specs.declared.job.Job.TheVariants.{Asks, StartPuts, RoundPuts, StopPuts, StopEnds, OrderOpens, OrderCloses, SalePuts}
 
--- A coin acceptor or a hopper of which nothing else is set up.
-abbrev pub body_of : Bool → DeviceBody
-body_of is_acceptor = if is_acceptor then Acceptor 0 [] [] else Hopper 0 0
+-- A device of a family of which nothing else is set up.
+abbrev pub body_of : Family → DeviceBody
+body_of family.Acceptor = Acceptor 0 [] []
+body_of family.Hopper = Hopper 0 0
 
 -- A device of which no more is set up than what a job knows of it; the table looks at nothing else.
 abbrev pub known : Target → DeviceSetup
@@ -34,7 +37,7 @@ known device = record {
   serial = device.serial;
   texts = record { maker = []; product = []; software = []; build = [] };
   named = false;
-  body = body_of device.is_acceptor;
+  body = body_of device.family;
 }
 
 -- The rows of a command at a device.
@@ -43,7 +46,7 @@ table_of device c = rows_of (known device) c
 
 -- All that a device is asked of itself.
 abbrev pub questions_of : Target → List Request
-questions_of device = ident_requests (body_of device.is_acceptor)
+questions_of device = ident_requests (body_of device.family)
 
 -- Two questions of an identification are the same: those for coins by their place, and others by their header.
 abbrev pub same_question : Request → Request → Bool

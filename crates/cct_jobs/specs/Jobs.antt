@@ -7,6 +7,8 @@ use Rattle.cct_model.specs.terms.coin.TheConstants.{COIN_PLACES}
 use Rattle.cct_model.specs.terms.device.DeviceSetup.{DeviceSetup}
 use Rattle.cct_model.specs.terms.request.TheConstants.{ENABLE_CODE}
 use Rattle.cct_model.specs.terms.request.ReplyForm.{ReplyForm}
+use Rattle.cct_model.specs.terms.family.Family.{Family}
+use Rattle.cct_model.specs.terms.family.Family.TheVariants as family
 use Rattle.cct_model.specs.terms.request.Request.{Request}
 use Rattle.cct_model.specs.terms.request.Request.TheVariants.{MakerId, Category, ProductCode, SerialNumber, SoftwareRevision, BuildCode, CommsRevision, ResetDevice, SetMask, GetMask, SetMaster, GetMaster, ReadCredits, GetDefault, CoinId, AcceptCount, TestHopper, Enable, Dispense, GetStatus, GetLife, StopNow}
 use Rattle.cct_model.specs.lines.record.Record.{Record}
@@ -25,7 +27,7 @@ use Rattle.cct_model.specs.Request.{header_of, form_of}
 use Rattle.cct_model.specs.Reply.{Reply}
 use Rattle.cct_model.specs.Reply as reply
 use Rattle.cct_model.specs.Exchange.{asked, device_at, got, acceptor_there, hopper_there}
-use Rattle.cct_model.specs.Device.{is_acceptor}
+use Rattle.cct_model.specs.Family.{family_of}
 use Rattle.cct_model.specs.Line.{Line, exchange}
 use Rattle.cct_model.specs.Job.{address_of, sends, puts, credits_read, tries, path_set, path_read}
 use Rattle.cct_model.specs.Rows.{end_kept, end_of, left, rest, row}
@@ -50,7 +52,7 @@ use Rattle.cct_jobs.specs.declared.job.Job.TheVariants.{Asks, StartPuts, RoundPu
 
 -- What a job knows of a device.
 abbrev pub target_of : DeviceSetup → Target
-target_of d = record { addr = d.addr; kind = d.kind; is_acceptor = is_acceptor d.body; serial = d.serial }
+target_of d = record { addr = d.addr; kind = d.kind; family = family_of d.body; serial = d.serial }
 
 -- The request that a row of a payment or a settlement sends.
 abbrev pub payout_request : Payout → Request
@@ -284,20 +286,25 @@ line_heard d sent heard = exchange (asked d.kind sent) (got_by d sent heard)
 abbrev pub after_failed : ℕ → Option ℕ
 after_failed failed = if suc failed == 3 then None else Some (suc failed)
 
--- The question that follows one of an identification, of an acceptor or of a hopper, or none after the last.
-abbrev pub question_after : Bool → Request → Option Request
-question_after is_acceptor MakerId = Some Category
-question_after is_acceptor Category = Some ProductCode
-question_after is_acceptor ProductCode = Some SerialNumber
-question_after is_acceptor SerialNumber = Some SoftwareRevision
-question_after is_acceptor SoftwareRevision = Some BuildCode
-question_after is_acceptor BuildCode = Some CommsRevision
-question_after is_acceptor CommsRevision = if is_acceptor then Some GetMaster else Some TestHopper
-question_after is_acceptor GetMaster = Some GetDefault
-question_after is_acceptor GetDefault = Some AcceptCount
-question_after is_acceptor AcceptCount = Some (CoinId 1)
-question_after is_acceptor (CoinId place) = if nat_lt place COIN_PLACES then Some (CoinId (suc place)) else None
-question_after is_acceptor q = None
+-- What is asked first of a device of a family that other families don't tell.
+abbrev pub first_own_question : Family → Request
+first_own_question family.Acceptor = GetMaster
+first_own_question family.Hopper = TestHopper
+
+-- The question that follows one of an identification of a device of a family, or none after the last.
+abbrev pub question_after : Family → Request → Option Request
+question_after family MakerId = Some Category
+question_after family Category = Some ProductCode
+question_after family ProductCode = Some SerialNumber
+question_after family SerialNumber = Some SoftwareRevision
+question_after family SoftwareRevision = Some BuildCode
+question_after family BuildCode = Some CommsRevision
+question_after family CommsRevision = Some (first_own_question family)
+question_after family GetMaster = Some GetDefault
+question_after family GetDefault = Some AcceptCount
+question_after family AcceptCount = Some (CoinId 1)
+question_after family (CoinId place) = if nat_lt place COIN_PLACES then Some (CoinId (suc place)) else None
+question_after family q = None
 
 -- The end that the newest line brought to a job, and none before its first line.
 abbrev pub newest_end : DeviceSetup → Command → List Line → EpochState → Option End

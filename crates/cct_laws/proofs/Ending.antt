@@ -50,7 +50,7 @@ use Rattle.cct_laws.proofs.LastRows.{dispensed_ends, few_failed, few_put, few_an
 use Rattle.cct_laws.proofs.Held.{judged_reads}
 use Rattle.cct_model.proofs.Tries.{same_request, left_asks}
 use Rattle.cct_model.proofs.RowEnds.{AnswersAs, answers_as, once_ends, once_goes, row_once, rest_asks}
-use Rattle.cct_laws.proofs.Payouts.{replied_status}
+use Rattle.cct_laws.proofs.Replies.{replied_status, same_reply}
 
 -- a job that is to end within so many `next`: one for each of its rows that aren't done, and one for a halt
 record JobAt (d : DeviceSetup) (c : Command) (nexts : ℕ) (past : List Entry) : Type 0 where
@@ -119,9 +119,6 @@ on_by false stopped marked rows n nexts is enough = absurd cc
 off_by : (ended : Bool) (rows n nexts : ℕ) → rows + 1 ≤ n + suc nexts → rows + 0 ≤ cond ended (suc n) n + nexts
 off_by true rows n nexts enough = omega (arith, enough)
 off_by false rows n nexts enough = omega (arith, enough)
-
-same_reply : (x y : Reply) → Some x ≡ Some y → x ≡ y
-same_reply x y e = cc
 
 -- where all coins have fallen, a status ends the row that waits for them
 state_ends : (d : DeviceSetup) (past : List Met) (q : Request) (y : Reply) → IsHopper d.body → GetStatus ≡ q →

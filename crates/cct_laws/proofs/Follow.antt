@@ -67,8 +67,8 @@ follows_by setup before (record_of.Sold id price) fit affords =
     and_from _ _ fit (le-leb price (available_in setup before) affords)
 follows_by setup before r fit affords = fit
 
--- what a record that is still to be put needs: that an epoch begins, that none runs and that each place of its mask has a
--- value; a reading and the end of an epoch, that one runs; that an order is opened, that none is open
+-- what a record that is still to be put needs: that an epoch begins, that none runs and that each place of its mask has
+-- a value; a reading and the end of an epoch, that one runs; that an order is opened, that none is open
 abbrev pub DueNeeds : DeviceSetup → EpochState → Option OpenOrder → Due → Type 0
 DueNeeds d state owed (new_epoch mask) = start_refusal mask d state ≡ None
 DueNeeds d state owed reading = is_running state ≡ true

@@ -1,5 +1,5 @@
--- How many records the rows of a job hold, after one line more: a put leaves one less, an exchange and a halt no more, and
--- a command brings no more than it wants room for.
+-- How many records the rows of a job hold, after one line more: a put leaves one less, an exchange and a halt no more,
+-- and a command brings no more than it wants room for.
 use Rattle.std.proofs.Common.{◌≡◌, ◌≢◌, ℕ, suc, ◌+◌, ◌-◌, ◌≤◌, ◌==◌, nat_le, Bool, true, false, cond, List, [], ◌∷◌, ◌++◌, refl, ap, sym, ◌∙◌, subst, Option, Some, None, arith, rules}
 use Rattle.std.specs.Prelude.{⊤, is_some}
 use Rattle.cct_model.specs.terms.coin.TheConstants.{EVENTS}
@@ -117,32 +117,32 @@ EndsNext [] = ⊤
 EndsNext (puts_due epoch_end (ends_as end) ∷ rows) = ⊤
 EndsNext rows = ⊥
 
--- after one that opens an order stands one that closes it, after that none that puts, and after one that may be passed over
--- one that ends its job
+-- after one that opens an order stands one that closes it, after that none that puts, and after one that may be passed
+-- over one that ends its job
 abbrev HoldsWell : TableRow → List TableRow → Type 0
 HoldsWell (puts_due (new_order id count) behind) rows = has_closes rows ≡ true
 HoldsWell (puts_due order_end behind) rows = puts_in rows ≡ 0
 HoldsWell (puts_due reading behind) rows = EndsNext rows
 HoldsWell r rows = ⊤
 
-abbrev pub HoldWell : List TableRow → Type 0
-HoldWell rows = EachBefore HoldsWell rows
+abbrev pub RowsHoldWell : List TableRow → Type 0
+RowsHoldWell rows = EachBefore HoldsWell rows
 
-rows_well : (d : DeviceSetup) (c : Command) → HoldWell (rows_of d c)
-rows_well d (command.Ident addr) = told_fact HoldWell tt (λ q behind rows each. (tt, each)) (ident_requests d.body)
+rows_well : (d : DeviceSetup) (c : Command) → RowsHoldWell (rows_of d c)
+rows_well d (command.Ident addr) = told_fact RowsHoldWell tt (λ q behind rows each. (tt, each)) (ident_requests d.body)
 rows_well d c = search rules
 
-pub rest_well : (d : DeviceSetup) (c : Command) (since : List Line) → HoldWell (rest d c since)
-rest_well d c since = fact_after HoldWell (before_on HoldsWell) (rows_of d c) _ (rows_well d c)
+pub rest_well : (d : DeviceSetup) (c : Command) (since : List Line) → RowsHoldWell (rest d c since)
+rest_well d c since = fact_after RowsHoldWell (before_on HoldsWell) (rows_of d c) _ (rows_well d c)
 
 -- the record of the row after one that was passed over ends its job
 pub passed_ends : (addr : ℕ) (p : Payment) (behind : Then) (rows : List TableRow) (r : Record) → EndsNext rows →
     first addr Nothing p rows ≡ puts r → end_kept (puts_due reading behind ∷ rows) r ≡ None → ⊥
 passed_ends addr p behind [] r ends is none = cc
 passed_ends addr p behind (puts_due epoch_end (ends_as end) ∷ rows) r ends is none =
-    let over : end_kept (puts_due reading behind ∷ puts_due epoch_end (ends_as end) ∷ rows) (record_of.EpochEnd addr) ≡ None =
-    ap (end_kept (puts_due reading behind ∷ puts_due epoch_end (ends_as end) ∷ rows))
-    (same_record (record_of.EpochEnd addr) r is) ∙ none in
+    let all = puts_due reading behind ∷ puts_due epoch_end (ends_as end) ∷ rows in
+    let over : end_kept all (record_of.EpochEnd addr) ≡ None =
+    ap (end_kept all) (same_record (record_of.EpochEnd addr) r is) ∙ none in
     cc
 passed_ends addr p behind rows r ends is none = ends
 
@@ -165,11 +165,13 @@ order_most false owed = omega arith
 
 -- a row that is passed over closes no order, and without it no more is put
 from_closes : (rows : List TableRow) (means : Judged) → has_closes (from rows means) ≡ has_closes rows
-from_closes rows means = fact_from (λ later. has_closes later ≡ has_closes rows) (λ behind later same. same) rows means refl
+from_closes rows means =
+    fact_from (λ later. has_closes later ≡ has_closes rows) (λ behind later same. same) rows means refl
 
 from_puts : (rows : List TableRow) (means : Judged) → puts_in (from rows means) ≤ puts_in rows
 from_puts rows means =
-    fact_from (λ later. puts_in later ≤ puts_in rows) (λ behind later fewer. omega (arith, fewer)) rows means (omega arith)
+    fact_from (λ later. puts_in later ≤ puts_in rows) (λ behind later fewer. omega (arith, fewer)) rows means
+    (omega arith)
 
 -- without its rows a job holds no more
 least : (rows : List TableRow) (owed : Option OpenOrder) → order_holds false owed ≤ held_by rows owed
@@ -228,7 +230,7 @@ opens_least rows later closes =
     omega (arith, some, none)
 
 least_first : (addr : ℕ) (means : Judged) (p : Payment) (rows : List TableRow) (r : Record) → IsReading means →
-    HoldWell rows → first addr means p rows ≡ puts r →
+    RowsHoldWell rows → first addr means p rows ≡ puts r →
     suc (order_holds false (order_by r p.owed)) ≤ held_by rows p.owed
 least_first addr means p [] r reads well is = absurd cc
 least_first addr means p (asks_for q behind ∷ rows) r reads well is = absurd cc
@@ -257,7 +259,7 @@ put_least d c since state owed r is =
     (from_closes rows means)
     (least_first (address_of c) means (payment_in since owed) (from rows means) r
     (judged_reads (address_of c) state (credits_read since) (mask_read since))
-    (fact_from HoldWell (λ behind later each. each.1) rows means (rest_well d c since)) is)
+    (fact_from RowsHoldWell (λ behind later each. each.1) rows means (rest_well d c since)) is)
 
 -- a job that puts a record and goes on leaves one less held
 
@@ -271,7 +273,7 @@ leaves_less rows later owed r leaves =
     omega (arith, same, most)
 
 goes_first : (addr : ℕ) (means later : Judged) (p : Payment) (rows : List TableRow) (r : Record) → IsReading means →
-    HoldWell rows → first addr means p (from rows means) ≡ puts r → end_kept rows r ≡ None →
+    RowsHoldWell rows → first addr means p (from rows means) ≡ puts r → end_kept rows r ≡ None →
     suc (puts_in (from (but_first rows) later) + order_holds (has_closes (but_first rows)) (order_by r p.owed))
     ≤ puts_in (from rows means) + order_holds (has_closes rows) p.owed
 goes_first addr means later p [] r reads well is none = absurd cc
@@ -326,7 +328,7 @@ closes_owed d (command.Ident addr) owed is_owed =
     told_fact (ClosesOwed owed) tt (λ q behind rows opened. opened) (ident_requests d.body)
 closes_owed d c owed is_owed = tt
 
-rows_need : (rows : List TableRow) (owed : Option OpenOrder) → HoldWell rows → ClosesOwed owed rows →
+rows_need : (rows : List TableRow) (owed : Option OpenOrder) → RowsHoldWell rows → ClosesOwed owed rows →
     held_by rows owed ≤ order_holds false owed + need_in rows
 rows_need [] owed well opened = omega arith
 rows_need (puts_due (new_order id count) behind ∷ rows) owed well opened =
@@ -355,7 +357,8 @@ taken_holds d c state owed is_owed =
     let most = from_puts rows means in
     let needs = rows_need rows owed (rows_well d c) (closes_owed d c owed is_owed) in
     let all = need_least c rows in
-    subst (λ rs. puts_in (from rs means) + order_holds (has_closes rs) owed ≤ order_holds false owed + need_for (Some d) c)
+    subst
+    (λ rs. puts_in (from rs means) + order_holds (has_closes rs) owed ≤ order_holds false owed + need_for (Some d) c)
     (sym (after_none rows))
     (omega (arith, most, needs, all))
 

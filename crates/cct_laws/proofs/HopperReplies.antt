@@ -18,7 +18,7 @@ use Rattle.cct_model.specs.Job.{ident_requests, own_requests}
 use Rattle.cct_msg.specs.Forms.{FitsItsBytes}
 use Rattle.cct_laws.specs.Kept.{is_for_hopper}
 use Rattle.cct_laws.proofs.Exchanges.{Replied, Answers}
-use Rattle.cct_laws.proofs.Replies.{start_of, hopper_is}
+use Rattle.cct_laws.proofs.Replies.{start_of, hopper_is, replied_status, replied_stop, replied_life}
 use Rattle.cct_laws.proofs.CommonReplies.{answers_so, ident_replied}
 use Rattle.cct_model.proofs.Rows.{Each, EachRow, each_asked, Asks}
 use Rattle.cct_model.specs.Rows.{settling, rows_of}
@@ -36,22 +36,22 @@ enable_replied d past code payer =
     refl refl tt tt (λ serial count e. cc) refl
 
 status_replied : (d : DeviceSetup) (past : List Met) → Payer d → Replied d past GetStatus
-unfolding reply_of common_reply form_of hopper_reply
+unfolding form_of
 status_replied d past payer =
     answers_so d past GetStatus (status_of d.serial past) form.Status
-    (hopper_is d.serial d.body past GetStatus payer.paying) refl refl tt tt (λ serial count e. cc) refl
+    (replied_status d past payer.paying) refl refl tt tt (λ serial count e. cc) refl
 
 life_replied : (d : DeviceSetup) (past : List Met) → Payer d → Replied d past GetLife
-unfolding reply_of common_reply form_of hopper_reply
+unfolding form_of
 life_replied d past payer =
     answers_so d past GetLife (reply.life (life_count d.serial (start_of d.body) past)) form.Life
-    (hopper_is d.serial d.body past GetLife payer.paying) refl refl tt (omega arith) (λ serial count e. cc) refl
+    (replied_life d past payer.paying) refl refl tt (omega arith) (λ serial count e. cc) refl
 
 stop_replied : (d : DeviceSetup) (past : List Met) → Payer d → Replied d past StopNow
-unfolding reply_of common_reply form_of hopper_reply
+unfolding form_of
 stop_replied d past payer =
     answers_so d past StopNow (reply.remaining (remaining d.serial past)) form.Remaining
-    (hopper_is d.serial d.body past StopNow payer.paying) refl refl tt tt (λ serial count e. cc) refl
+    (replied_stop d past payer.paying) refl refl tt tt (λ serial count e. cc) refl
 
 register_replied : (d : DeviceSetup) (past : List Met) → Payer d → Replied d past TestHopper
 unfolding reply_of common_reply form_of hopper_reply

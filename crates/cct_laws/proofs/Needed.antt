@@ -36,7 +36,7 @@ use Rattle.cct_laws.specs.KeptHopper.{IsOwed}
 use Rattle.cct_laws.specs.Law.{IsOf}
 use Rattle.cct_laws.proofs.Brought.{wire_of, wire_end, record_end, AtDevice, came, took, halted, idled, made_exchange, made_put, Brought, begun_at_work}
 use Rattle.cct_laws.proofs.Follow.{DueNeeds, IfPuts, NeedsOf, runs_by}
-use Rattle.cct_laws.proofs.Held.{IsReading, judged_reads, same_record, HoldWell, rest_well, passed_ends}
+use Rattle.cct_laws.proofs.Held.{IsReading, judged_reads, same_record, RowsHoldWell, rest_well, passed_ends}
 use Rattle.cct_laws.proofs.Ids.{put_owned}
 use Rattle.cct_laws.proofs.Seen.{Lost, bare, kept_here, kept_elsewhere, seen_here, seen_aside, seen_lost, seen_from, passed_same, lines_wire, lines_put, lines_taken, lines_kept, lines_kept_elsewhere, lines_with_end}
 use Rattle.cct_laws.proofs.Unmoved.{AreSame, same_came, same_dosed}
@@ -172,7 +172,8 @@ needs_counted : (d : DeviceSetup) (counter : ℕ) (state : EpochState) (owed : O
 needs_counted d counter state owed [] needs = tt
 needs_counted d counter state owed (puts_due due behind ∷ rows) needs =
     (due_counted d counter state owed due needs.0, needs_counted d counter state owed rows needs.1)
-needs_counted d counter state owed (asks_for q behind ∷ rows) needs = (tt, needs_counted d counter state owed rows needs.1)
+needs_counted d counter state owed (asks_for q behind ∷ rows) needs =
+    (tt, needs_counted d counter state owed rows needs.1)
 needs_counted d counter state owed (asks_once q behind without ∷ rows) needs =
     (tt, needs_counted d counter state owed rows needs.1)
 needs_counted d counter state owed (waits_for_coins ∷ rows) needs =
@@ -181,20 +182,21 @@ needs_counted d counter state owed (waits_for_coins ∷ rows) needs =
 needs_read : (d : DeviceSetup) (state : EpochState) (owed : Option OpenOrder) (rows : List TableRow) (e r : Record) →
     e ≡ r → IsReading (Reading e) → NeedsOf d rows state owed → NeedsOf d rows (epoch_by r state) (order_by r owed)
 needs_read d state owed rows (record_of.Reading addr counter lost posted) r same reads needs =
-    subst (λ x. NeedsOf d rows (epoch_by x state) (order_by x owed)) same (needs_counted d counter state owed rows needs)
+    subst (λ x. NeedsOf d rows (epoch_by x state) (order_by x owed)) same
+    (needs_counted d counter state owed rows needs)
 needs_read d state owed rows e r same reads needs = absurd reads
 
 break_ends : (behind : Then) (rows : List TableRow) (e r : Record) → e ≡ r → IsReading (Broken e) → BreakEnds behind →
     end_kept (puts_due reading behind ∷ rows) r ≡ None → ⊥
 break_ends (if_posted of_reading) rows (record_of.Broken addr seen counter posted) r same reads breaks none =
-    let over : end_kept (puts_due reading (if_posted of_reading) ∷ rows) (record_of.Broken addr seen counter posted) ≡ None =
-    ap (end_kept (puts_due reading (if_posted of_reading) ∷ rows)) same ∙ none in
+    let all = puts_due reading (if_posted of_reading) ∷ rows in
+    let over : end_kept all (record_of.Broken addr seen counter posted) ≡ None = ap (end_kept all) same ∙ none in
     cc
 break_ends (if_posted of_reading) rows e r same reads breaks none = reads
 break_ends behind rows e r same reads breaks none = breaks
 
 first_needs : (d : DeviceSetup) (addr : ℕ) (means : Judged) (p : Payment) (state : EpochState) (rows : List TableRow)
-    (r : Record) → IsReading means → EachBefore NeedsWell rows → HoldWell rows →
+    (r : Record) → IsReading means → EachBefore NeedsWell rows → RowsHoldWell rows →
     first addr means p (from rows means) ≡ puts r → end_kept rows r ≡ None → NeedsOf d rows state p.owed →
     NeedsOf d (but_first rows) (epoch_by r state) (order_by r p.owed)
 first_needs d addr means p state [] r reads well held is none needs = tt

@@ -1,6 +1,6 @@
 -- What a hopper owes of its open order, over plain numbers, and what the rows of a job need besides; everything that
 -- comes keeps both. And that an order is closed with just the coins that fell.
-use Rattle.std.proofs.Common.{◌≡◌, ℕ, zero, suc, ◌+◌, ◌-◌, ◌%◌, ◌^◌, ◌≤◌, refl, Option, Some, None, arith}
+use Rattle.std.proofs.Common.{◌≡◌, ℕ, suc, ◌+◌, ◌-◌, ◌%◌, ◌^◌, ◌≤◌, refl, Option, Some, None, arith, List, [], ◌∷◌, true, rules}
 use Rattle.std.specs.Prelude.{⊤}
 use Rattle.std.proofs.lemmas.Bool.{le-leb}
 use Rattle.cct_model.specs.lines.record.Record.TheVariants as record_of
@@ -8,10 +8,14 @@ use Rattle.cct_model.specs.declared.judging.OpenOrder.{OpenOrder}
 use Rattle.cct_model.specs.lines.command.Command.{Command}
 use Rattle.cct_model.specs.lines.command.Command.TheVariants as command
 use Rattle.cct_model.specs.Order.{life_between, close, life_read}
-use Rattle.cct_model.specs.Job.{Job, free, works}
+use Rattle.cct_model.specs.Job.{Job, free, works, ident_requests}
 use Rattle.cct_model.specs.Paid.{OfOrder}
-use Rattle.cct_model.specs.Rows.{done, rows_of}
+use Rattle.cct_model.specs.Rows.{rows_of, new_order, order_end, TableRow, asks_for, asks_once, waits_for_coins, puts_due, telling, rest, Then}
 use Rattle.cct_model.specs.terms.device.DeviceSetup.{DeviceSetup}
+use Rattle.cct_model.specs.terms.request.Request.{Request}
+use Rattle.cct_model.specs.terms.request.Request.TheVariants.{GetLife, Dispense}
+use Rattle.cct_model.proofs.Rows.{EachBefore, told_fact}
+use Rattle.cct_laws.specs.Kept.{is_for_hopper}
 
 -- what is counted: the coins that are left to fall and those that ever fell, and the dispenses that were taken and the
 -- coins that fell since an order was opened or closed
@@ -143,32 +147,58 @@ IsOpen owed = OfOrder owed (λ o. ⊤)
 abbrev pub IsLife : ℕ → View → Option ℕ → Type 0
 IsLife start v life = life ≡ Some ((start + v.drops) % 2 ^ 24)
 
--- what a settlement needs after so many rows: from its second row on nothing is left to fall
-abbrev pub FitsSettle : ℕ → View → Option OpenOrder → Option ℕ → ℕ → Type 0
-FitsSettle start v owed life zero = IsOpen owed
-FitsSettle start v owed life (suc zero) = IsOpen owed × (v.rest ≡ 0)
-FitsSettle start v owed life (suc (suc zero)) = IsOpen owed × (v.rest ≡ 0) × IsLife start v life
-FitsSettle start v owed life (suc (suc (suc rows))) = v.rest ≡ 0
+-- the rows begin with one that closes an order
+abbrev ClosesFirst : List TableRow → Type 0
+ClosesFirst (puts_due order_end behind ∷ rows) = ⊤
+ClosesFirst rows = ⊥
 
--- what a payment needs: no order is open before it opens its own, which is of a byte of coins
-abbrev pub FitsPay : ℕ → View → Option OpenOrder → Option ℕ → ℕ → ℕ → Type 0
-FitsPay start v owed life count zero = (owed ≡ None) × (count ≤ 255)
-FitsPay start v owed life count (suc zero) = (owed ≡ None) × (count ≤ 255)
-FitsPay start v owed life count (suc (suc zero)) = (owed ≡ None) × (count ≤ 255) × IsLife start v life
-FitsPay start v owed life count (suc (suc (suc zero))) = IsFresh v owed count
-FitsPay start v owed life count (suc (suc (suc (suc rows)))) = FitsSettle start v owed life rows
+-- a row puts nothing but what opens or closes an order
+abbrev IsOfHopper : TableRow → Type 0
+IsOfHopper (puts_due (new_order id count) behind) = ⊤
+IsOfHopper (puts_due order_end behind) = ⊤
+IsOfHopper (puts_due due behind) = ⊥
+IsOfHopper r = ⊤
 
--- a job at a hopper is a payment, a settlement or an identification
-abbrev pub FitsFor : ℕ → View → Option OpenOrder → Option ℕ → Command → ℕ → Type 0
-FitsFor start v owed life (command.Pay addr id count) rows = FitsPay start v owed life count rows
-FitsFor start v owed life (command.Settle addr) rows = FitsSettle start v owed life rows
-FitsFor start v owed life (command.Ident addr) rows = ⊤
-FitsFor start v owed life c rows = ⊥
+-- what comes after each row of a hopper's job: the life count is read right before a record of an order, a dispense of its
+-- coins comes right after it is opened, then the row that waits for them, and behind that it is closed
+abbrev pub Follows : ℕ → List TableRow → TableRow → Type 0
+Follows own [] (asks_for q behind) = ⊤
+Follows own [] (puts_due order_end behind) = ⊤
+Follows own (asks_for x next ∷ rows) (asks_for q behind) = ⊤
+Follows own (asks_for x next ∷ rows) waits_for_coins = ClosesFirst rows
+Follows own (puts_due due next ∷ rows) (asks_for q behind) = q ≡ GetLife
+Follows own (asks_once x next without ∷ rows) (puts_due (new_order id count) behind) = x ≡ Dispense own count
+Follows own (waits_for_coins ∷ rows) (asks_once q behind without) = ⊤
+Follows own rows r = ⊥
+
+abbrev pub AreLinked : ℕ → List TableRow → Type 0
+AreLinked own rows = EachBefore (λ r later. IsOfHopper r × Follows own later r) rows
+
+-- what rows need of the order: none is open before one that opens its own, which is of a byte of coins; and one is open,
+-- of which nothing is left to fall, before one that closes it
+abbrev pub Needs : View → Option OpenOrder → List TableRow → Type 0
+Needs v owed [] = ⊤
+Needs v owed (puts_due (new_order id count) behind ∷ rows) = (owed ≡ None) × (count ≤ 255)
+Needs v owed (puts_due order_end behind ∷ rows) = IsOpen owed × (v.rest ≡ 0)
+Needs v owed (r ∷ rows) = Needs v owed rows
+
+-- and what the first of them needs besides
+abbrev pub FitsRows : ℕ → ℕ → View → Option OpenOrder → Option ℕ → List TableRow → Type 0
+FitsRows own start v owed life (puts_due (new_order id count) behind ∷ rows) =
+    (owed ≡ None) × (count ≤ 255) × IsLife start v life
+FitsRows own start v owed life (puts_due order_end behind ∷ rows) = IsOpen owed × (v.rest ≡ 0) × IsLife start v life
+FitsRows own start v owed life (asks_once q behind without ∷ rows) =
+    (count : ℕ) × (q ≡ Dispense own count) × IsFresh v owed count
+FitsRows own start v owed life (waits_for_coins ∷ rows) = IsOpen owed
+FitsRows own start v owed life rows = Needs v owed rows
+
+abbrev pub FitsLeft : ℕ → ℕ → View → Option OpenOrder → Option ℕ → List TableRow → Type 0
+FitsLeft own start v owed life rows = AreLinked own rows × FitsRows own start v owed life rows
 
 -- what a job needs
 abbrev pub FitsJob : DeviceSetup → ℕ → View → Option OpenOrder → Job → Type 0
 FitsJob d start v owed free = ⊤
-FitsJob d start v owed (works c since) = FitsFor start v owed (life_read since) c (done (rows_of d c) since)
+FitsJob d start v owed (works c since) = FitsLeft d.serial start v owed (life_read since) (rest d c since)
 
 life_on : (start : ℕ) (v w : View) (life : Option ℕ) → w.drops ≡ v.drops → IsLife start v life → IsLife start w life
 life_on start v w life same is = rw same is
@@ -178,46 +208,31 @@ fresh_less : (v w : View) (owed : Option OpenOrder) (count : ℕ) → Less v w �
 fresh_less v w None count less fits = absurd fits
 fresh_less v w (Some o) count less fits = (omega (arith, less.taken, fits.0), fits.1)
 
-settle_less : (start : ℕ) (v w : View) (owed : Option OpenOrder) (life : Option ℕ) (rows : ℕ) → Less v w →
-    FitsSettle start v owed life rows → FitsSettle start w owed life rows
-settle_less start v w owed life zero less fits = fits
-settle_less start v w owed life (suc zero) less fits = (fits.0, omega (arith, less.rest, fits.1))
-settle_less start v w owed life (suc (suc zero)) less fits =
-    (fits.0, omega (arith, less.rest, fits.1), life_on start v w life less.drops fits.2)
-settle_less start v w owed life (suc (suc (suc rows))) less fits = omega (arith, less.rest, fits)
+pub needs_less : (v w : View) (owed : Option OpenOrder) (rows : List TableRow) → Less v w → Needs v owed rows →
+    Needs w owed rows
+needs_less v w owed [] less needs = tt
+needs_less v w owed (puts_due (new_order id count) behind ∷ rows) less needs = needs
+needs_less v w owed (puts_due order_end behind ∷ rows) less needs = (needs.0, omega (arith, less.rest, needs.1))
+needs_less v w owed (r ∷ rows) less needs = needs_less v w owed rows less needs
 
-pay_less : (start : ℕ) (v w : View) (owed : Option OpenOrder) (life : Option ℕ) (count rows : ℕ) → Less v w →
-    FitsPay start v owed life count rows → FitsPay start w owed life count rows
-pay_less start v w owed life count zero less fits = fits
-pay_less start v w owed life count (suc zero) less fits = fits
-pay_less start v w owed life count (suc (suc zero)) less fits =
+pub rows_less : (own start : ℕ) (v w : View) (owed : Option OpenOrder) (life : Option ℕ) (rows : List TableRow) →
+    Less v w → FitsRows own start v owed life rows → FitsRows own start w owed life rows
+rows_less own start v w owed life (puts_due (new_order id count) behind ∷ rows) less fits =
     (fits.0, fits.1, life_on start v w life less.drops fits.2)
-pay_less start v w owed life count (suc (suc (suc zero))) less fits = fresh_less v w owed count less fits
-pay_less start v w owed life count (suc (suc (suc (suc rows)))) less fits =
-    settle_less start v w owed life rows less fits
-
-pub for_less : (start : ℕ) (v w : View) (owed : Option OpenOrder) (life : Option ℕ) (c : Command) (rows : ℕ) →
-    Less v w → FitsFor start v owed life c rows → FitsFor start w owed life c rows
-for_less start v w owed life (command.Pay addr id count) rows less fits =
-    pay_less start v w owed life count rows less fits
-for_less start v w owed life (command.Settle addr) rows less fits = settle_less start v w owed life rows less fits
-for_less start v w owed life (command.Ident addr) rows less fits = tt
-for_less start v w owed life c rows less fits = absurd fits
+rows_less own start v w owed life (puts_due order_end behind ∷ rows) less fits =
+    (fits.0, omega (arith, less.rest, fits.1), life_on start v w life less.drops fits.2)
+rows_less own start v w owed life (asks_once q behind without ∷ rows) less fits =
+    (fits.0, fits.1, fresh_less v w owed fits.0 less fits.2)
+rows_less own start v w owed life (waits_for_coins ∷ rows) less fits = fits
+rows_less own start v w owed life rows less fits = needs_less v w owed rows less fits
 
 pub fits_less : (d : DeviceSetup) (start : ℕ) (v w : View) (owed : Option OpenOrder) (at_work : Job) → Less v w →
     FitsJob d start v owed at_work → FitsJob d start w owed at_work
 fits_less d start v w owed free less fits = tt
 fits_less d start v w owed (works c since) less fits =
-    for_less start v w owed (life_read since) c (done (rows_of d c) since) less fits
+    (fits.0, rows_less d.serial start v w owed (life_read since) (rest d c since) less fits.1)
 
--- a coin falls before nothing is left, so at no row of a payment or a settlement but those that wait for it
-settle_falls : (start : ℕ) (v w : View) (owed : Option OpenOrder) (life : Option ℕ) (rows : ℕ) → Falls v w →
-    FitsSettle start v owed life rows → FitsSettle start w owed life rows
-settle_falls start v w owed life zero falls fits = fits
-settle_falls start v w owed life (suc zero) falls fits = absurd (omega (arith, falls.rest, fits.1))
-settle_falls start v w owed life (suc (suc zero)) falls fits = absurd (omega (arith, falls.rest, fits.1))
-settle_falls start v w owed life (suc (suc (suc rows))) falls fits = absurd (omega (arith, falls.rest, fits))
-
+-- a coin falls before nothing is left, so at no row behind one that waits for it
 fresh_falls : (start : ℕ) (v w : View) (owed : Option OpenOrder) (count : ℕ) → Falls v w → StateOf start v owed →
     IsFresh v owed count → IsFresh w owed count
 fresh_falls start v w None count falls state fits = absurd fits
@@ -227,28 +242,46 @@ none_falls : (start : ℕ) (v w : View) (owed : Option OpenOrder) → Falls v w 
 none_falls start v w None falls state none = omega (arith, falls.rest, state)
 none_falls start v w (Some o) falls owes none = cc
 
-pay_falls : (start : ℕ) (v w : View) (owed : Option OpenOrder) (life : Option ℕ) (count rows : ℕ) → Falls v w →
-    StateOf start v owed → FitsPay start v owed life count rows → FitsPay start w owed life count rows
-pay_falls start v w owed life count zero falls state fits = fits
-pay_falls start v w owed life count (suc zero) falls state fits = fits
-pay_falls start v w owed life count (suc (suc zero)) falls state fits =
-    absurd (none_falls start v w owed falls state fits.0)
-pay_falls start v w owed life count (suc (suc (suc zero))) falls state fits =
-    fresh_falls start v w owed count falls state fits
-pay_falls start v w owed life count (suc (suc (suc (suc rows)))) falls state fits =
-    settle_falls start v w owed life rows falls fits
+needs_falls : (v w : View) (owed : Option OpenOrder) (rows : List TableRow) → Falls v w → Needs v owed rows →
+    Needs w owed rows
+needs_falls v w owed [] falls needs = tt
+needs_falls v w owed (puts_due (new_order id count) behind ∷ rows) falls needs = needs
+needs_falls v w owed (puts_due order_end behind ∷ rows) falls needs = absurd (omega (arith, falls.rest, needs.1))
+needs_falls v w owed (r ∷ rows) falls needs = needs_falls v w owed rows falls needs
 
-for_falls : (start : ℕ) (v w : View) (owed : Option OpenOrder) (life : Option ℕ) (c : Command) (rows : ℕ) →
-    Falls v w → StateOf start v owed → FitsFor start v owed life c rows → FitsFor start w owed life c rows
-for_falls start v w owed life (command.Pay addr id count) rows falls state fits =
-    pay_falls start v w owed life count rows falls state fits
-for_falls start v w owed life (command.Settle addr) rows falls state fits =
-    settle_falls start v w owed life rows falls fits
-for_falls start v w owed life (command.Ident addr) rows falls state fits = tt
-for_falls start v w owed life c rows falls state fits = absurd fits
+rows_fall : (own start : ℕ) (v w : View) (owed : Option OpenOrder) (life : Option ℕ) (rows : List TableRow) →
+    Falls v w → StateOf start v owed → FitsRows own start v owed life rows → FitsRows own start w owed life rows
+rows_fall own start v w owed life (puts_due (new_order id count) behind ∷ rows) falls state fits =
+    absurd (none_falls start v w owed falls state fits.0)
+rows_fall own start v w owed life (puts_due order_end behind ∷ rows) falls state fits =
+    absurd (omega (arith, falls.rest, fits.1))
+rows_fall own start v w owed life (asks_once q behind without ∷ rows) falls state fits =
+    (fits.0, fits.1, fresh_falls start v w owed fits.0 falls state fits.2)
+rows_fall own start v w owed life (waits_for_coins ∷ rows) falls state fits = fits
+rows_fall own start v w owed life rows falls state fits = needs_falls v w owed rows falls fits
 
 pub fits_falls : (d : DeviceSetup) (start : ℕ) (v w : View) (owed : Option OpenOrder) (at_work : Job) → Falls v w →
     StateOf start v owed → FitsJob d start v owed at_work → FitsJob d start w owed at_work
 fits_falls d start v w owed free falls state fits = tt
 fits_falls d start v w owed (works c since) falls state fits =
-    for_falls start v w owed (life_read since) c (done (rows_of d c) since) falls state fits
+    (fits.0, rows_fall d.serial start v w owed (life_read since) (rest d c since) falls state fits.1)
+
+-- the rows of a hopper's job come so
+told_linked : (own : ℕ) (qs : List Request) →
+    ((q : Request) (behind : Then) → Follows own (telling qs) (asks_for q behind)) × AreLinked own (telling qs)
+told_linked own =
+    told_fact (λ rows. ((q : Request) (behind : Then) → Follows own rows (asks_for q behind)) × AreLinked own rows)
+    ((λ q behind. tt), tt) (λ q behind rows linked. ((λ x next. tt), ((tt, linked.0 q behind), linked.1)))
+
+pub rows_linked : (d : DeviceSetup) (c : Command) → is_for_hopper c ≡ true → AreLinked d.serial (rows_of d c)
+rows_linked d (command.Pay addr id count) played = search rules
+rows_linked d (command.Settle addr) played = search rules
+rows_linked d (command.Ident addr) played = (told_linked d.serial (ident_requests d.body)).1
+rows_linked d c played = absurd cc
+
+-- and what is asked one after the other needs nothing
+pub told_needs : (own start : ℕ) (v : View) (owed : Option OpenOrder) (life : Option ℕ) (qs : List Request) →
+    Needs v owed (telling qs) × FitsRows own start v owed life (telling qs)
+told_needs own start v owed life =
+    told_fact (λ rows. Needs v owed rows × FitsRows own start v owed life rows) (tt, tt)
+    (λ q behind rows needs. (needs.0, needs.0))

@@ -35,13 +35,13 @@ use Rattle.cct_laws.specs.KeptHopper.{IsKeptHopper}
 use Rattle.cct_laws.specs.Law.{IsOf, lines_in}
 use Rattle.cct_laws.specs.PaidOut.{shows_none, paid_out_by, is_paid_out}
 use Rattle.cct_laws.proofs.EitherKind.{for_hopper}
-use Rattle.cct_laws.proofs.Payouts.{replied_status}
-use Rattle.cct_model.proofs.Rows.{but_first, after_none, after_next, EachBefore, before_on, fact_after}
+use Rattle.cct_model.proofs.Rows.{but_first, after_none, after_next, EachBefore, before_on, fact_after, told_fact}
 use Rattle.cct_laws.proofs.Whole.{kept_hopper_legal}
 use Rattle.cct_model.proofs.Tries.{IsAgain, due_sends}
 use Rattle.cct_model.proofs.RowEnds.{rest_asks, again_row, stays_again}
 use Rattle.cct_model.specs.declared.judging.EpochState.{EpochState}
 use Rattle.cct_model.specs.declared.judging.OpenOrder.{OpenOrder}
+use Rattle.cct_laws.proofs.Replies.{replied_status}
 
 -- a request lets no hopper dispense
 abbrev IsNoDispense : Request → Type 0
@@ -70,16 +70,15 @@ OpensFirst r rows = sent_once rows ≡ false
 abbrev AreOpened : List TableRow → Type 0
 AreOpened rows = EachBefore OpensFirst rows
 
-told_opened : (qs : List Request) → AreOpened (telling qs)
-told_opened [] = tt
-told_opened (q ∷ []) = (refl, tt)
-told_opened (q ∷ r ∷ []) = (refl, (refl, tt))
-told_opened (q ∷ r ∷ s ∷ qs) = (refl, told_opened (r ∷ s ∷ qs))
+told_opened : (qs : List Request) → (sent_once (telling qs) ≡ false) × AreOpened (telling qs)
+told_opened =
+    told_fact (λ rows. (sent_once rows ≡ false) × AreOpened rows) (refl, tt)
+    (λ q behind rows opened. (refl, (opened.0, opened.1)))
 
 rows_opened : (d : DeviceSetup) (c : Command) → is_for_hopper c ≡ true → AreOpened (rows_of d c)
 rows_opened d (command.Pay addr id count) played = search rules
 rows_opened d (command.Settle addr) played = search rules
-rows_opened d (command.Ident addr) played = told_opened (ident_requests d.body)
+rows_opened d (command.Ident addr) played = (told_opened (ident_requests d.body)).1
 rows_opened d c played = absurd cc
 
 -- so the row behind one that asks isn't sent once
@@ -235,16 +234,11 @@ rests_fall d past lines rests =
     rests_less d past (fall ∷ past) lines (λ none. omega (arith, remaining_fall d.serial past, none)) rests
 
 -- commands
-told_aside : (qs : List Request) → sent_once (telling qs) ≡ false
-told_aside [] = refl
-told_aside (q ∷ []) = refl
-told_aside (q ∷ r ∷ qs) = refl
-
 taken_aside : (d : DeviceSetup) (c : Command) (before : Job) → is_for_hopper c ≡ true → IsNotAtDispense d (begun c before)
 taken_aside d (command.Pay addr id count) before played = refl
 taken_aside d (command.Settle addr) before played = refl
 taken_aside d (command.Ident addr) before played =
-    ap sent_once (after_none (telling (ident_requests d.body))) ∙ told_aside (ident_requests d.body)
+    ap sent_once (after_none (telling (ident_requests d.body))) ∙ (told_opened (ident_requests d.body)).0
 taken_aside d c before played = absurd cc
 
 halted_aside : (d : DeviceSetup) (addr : ℕ) (at_work : Job) → IsNotAtDispense d at_work →

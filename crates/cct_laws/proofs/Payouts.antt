@@ -1,5 +1,5 @@
 -- How all that comes to a hopper, and each row of a payment and of a settlement, keep what it owes.
-use Rattle.std.proofs.Common.{◌≡◌, ℕ, zero, suc, ◌+◌, ◌-◌, ◌%◌, ◌^◌, ◌≤◌, ◌==◌, not, cond, Bool, true, false, List, [], ◌∷◌, ◌++◌, refl, ap, sym, ◌∙◌, subst, Option, Some, None, arith, le_refl, eqb-true, rules}
+use Rattle.std.proofs.Common.{◌≡◌, ℕ, suc, ◌+◌, ◌-◌, ◌%◌, ◌^◌, ◌≤◌, ◌==◌, not, cond, Bool, true, false, List, [], ◌∷◌, ◌++◌, refl, ap, sym, ◌∙◌, subst, Option, Some, None, arith, le_refl, eqb-true, true≢false}
 use Rattle.std.specs.Prelude.{⊤}
 use Rattle.cct_model.specs.terms.request.TheConstants.{ENABLE_CODE}
 use Rattle.cct_model.specs.terms.device.DeviceBody.{DeviceBody}
@@ -17,21 +17,21 @@ use Rattle.cct_model.specs.lines.entry.End.{End}
 use Rattle.cct_model.specs.Reply.{Reply}
 use Rattle.cct_model.specs.Reply as reply
 use Rattle.cct_model.specs.History.{Met, heard}
-use Rattle.cct_model.specs.Hopper.{remaining, dropped, taken_of, life_count, status_of, hopper_reply}
-use Rattle.cct_model.specs.Device.{IsHopper, common_reply, reply_of}
+use Rattle.cct_model.specs.Hopper.{remaining, dropped, taken_of, life_count, status_of}
+use Rattle.cct_model.specs.Device.{IsHopper, reply_of}
 use Rattle.cct_model.specs.Line.{Line, dispensed, exchange, put}
 use Rattle.cct_model.specs.Order.{order, is_marked, life_read, close, life_line}
-use Rattle.cct_model.specs.Job.{Row, works, job, with_line, epoch, sends, puts, Payment, payment_in, state_row, open_row, close_row, ident_requests, judged_in}
-use Rattle.cct_model.specs.Rows.{end_of, row_at, row, TableRow, settling, rows_of, after, rest, done, sent_once, ends_first}
+use Rattle.cct_model.specs.Job.{Row, works, job, with_line, epoch, sends, puts, Payment, payment_in, state_row, open_row, close_row, judged_in, address_of}
+use Rattle.cct_model.specs.Rows.{end_of, row, TableRow, rows_of, after, rest, done, sent_once, ends_first, Then, new_order, order_end, reading, asks_for, asks_once, waits_for_coins, puts_due, first, from}
 use Rattle.cct_model.specs.Paid.{dispenses, fallen, PaidBy, Paid}
 use Rattle.cct_model.specs.Transcript.{dispensed_by, doses}
 use Rattle.cct_model.proofs.Hoppers.{left_heard, remaining_heard, taken_when}
 use Rattle.cct_laws.specs.Kept.{Fate, unheard, silenced, answered, with_ended}
-use Rattle.cct_model.proofs.Rows.{RowHolds, Each, each_sent}
-use Rattle.cct_laws.proofs.Owing.{View, StateOf, Less, Takes, state_less, IsFresh, state_takes, state_opens, close_is, IsOpen, IsLife, FitsSettle, FitsPay, FitsFor, FitsJob, for_less, fits_less}
-use Rattle.cct_model.proofs.Tries.{IsAgain}
-use Rattle.cct_model.proofs.RowEnds.{failed_stays, once_goes, row_again, row_once}
-use Rattle.cct_laws.proofs.Replies.{start_of, hopper_is}
+use Rattle.cct_model.proofs.Rows.{RowHolds, EachRow, each_after, but_first, after_next}
+use Rattle.cct_laws.proofs.Owing.{View, StateOf, Less, Takes, state_less, IsFresh, state_takes, state_opens, close_is, IsOpen, IsLife, FitsJob, fits_less, FitsLeft, FitsRows, Follows, AreLinked, Needs, needs_less}
+use Rattle.cct_model.proofs.Tries.{IsAgain, AsksWell, asks_well, due_sends, same_request}
+use Rattle.cct_model.proofs.RowEnds.{failed_stays, once_goes, row_again, row_once, rest_asks}
+use Rattle.cct_laws.proofs.Replies.{start_of, replied_status, replied_stop, replied_life, same_reply}
 
 -- what is counted of a hopper
 abbrev pub view : DeviceSetup → List Met → List Line → View
@@ -99,7 +99,8 @@ pays_ended d now lines (Some end) pays = record { paid = (tt, pays.paid); state 
 
 -- what a job needs
 abbrev pub FitsBehind : DeviceSetup → List Met → List Line → Command → List Line → Type 0
-FitsBehind d now lines c work = FitsFor (start_of d.body) (view d now lines) (order lines) (life_read work) c (done (rows_of d c) work)
+FitsBehind d now lines c work =
+    FitsLeft d.serial (start_of d.body) (view d now lines) (order lines) (life_read work) (rest d c work)
 
 -- what comes of an exchange
 abbrev pub PaysAsk : DeviceSetup → List Met → List Line → Command → List Line → Request → Option Request →
@@ -151,12 +152,12 @@ none_read q = refl
 
 failed_fits : (d : DeviceSetup) (start : ℕ) (v : View) (owed : Option OpenOrder) (c : Command) (work : List Line)
     (q : Request) → sent_once (rest d c work) ≡ false →
-    FitsFor start v owed (life_read work) c (done (rows_of d c) work) →
-    FitsFor start v owed (life_read (exchange (Some q) None ∷ work)) c
-    (done (rows_of d c) (exchange (Some q) None ∷ work))
+    FitsLeft d.serial start v owed (life_read work) (rest d c work) →
+    FitsLeft d.serial start v owed (life_read (exchange (Some q) None ∷ work)) (rest d c (exchange (Some q) None ∷ work))
 failed_fits d start v owed c work q again fits =
     let stays = sym (failed_stays (rows_of d c) (Some q) work again) in
-    rw (none_read q) (subst (FitsFor start v owed (life_read work) c) stays fits)
+    rw (none_read q)
+    (subst (λ n. FitsLeft d.serial start v owed (life_read work) (after (rows_of d c) n)) stays fits)
 
 failed_exchange : (d : DeviceSetup) (past : List Met) (lines : List Line) (c : Command) (work : List Line) (q : Request)
     (asked : Option Request) → IsMany asked → sent_once (rest d c work) ≡ false → job lines ≡ works c work →
@@ -165,8 +166,8 @@ failed_exchange d past lines c work q asked many again is_job pays =
     let now = heard asked ∷ past in
     many_exchange d past lines c work q asked None many is_job pays
     (failed_fits d (start_of d.body) (view d now lines) (order lines) c work q again
-    (for_less (start_of d.body) (view d past lines) (view d now lines) (order lines) (life_read work) c (done (rows_of d c) work)
-    (less_heard d past lines asked many) (fits_at d past lines c work is_job pays)))
+    (fits_at d now lines c work is_job
+    (pays_less d past now lines (less_heard d past lines asked many) pays)))
 
 -- so what is left to show is what the reply brings
 asks_many : (d : DeviceSetup) (past : List Met) (lines : List Line) (c : Command) (work : List Line) (q : Request)
@@ -181,60 +182,6 @@ asks_many d past lines c work q asked got many again is_job pays replied silence
 asks_many d past lines c work q asked got many again is_job pays replied (answered y gives) =
     many_exchange d past lines c work q (Some q) (Some y) many is_job pays (replied y gives)
 
--- what a hopper replies
-
-pub replied_status : (d : DeviceSetup) (past : List Met) → IsHopper d.body →
-    reply_of d past GetStatus ≡ Some (status_of d.serial past)
-unfolding reply_of common_reply hopper_reply
-replied_status d past paying = hopper_is d.serial d.body past GetStatus paying
-
-replied_stop : (d : DeviceSetup) (past : List Met) → IsHopper d.body →
-    reply_of d past StopNow ≡ Some (reply.remaining (remaining d.serial past))
-unfolding reply_of common_reply hopper_reply
-replied_stop d past paying = hopper_is d.serial d.body past StopNow paying
-
-pub replied_life : (d : DeviceSetup) (past : List Met) → IsHopper d.body →
-    reply_of d past GetLife ≡ Some (reply.life (life_count d.serial (start_of d.body) past))
-unfolding reply_of common_reply hopper_reply
-replied_life d past paying = hopper_is d.serial d.body past GetLife paying
-
-same_reply : (x y : Reply) → Some x ≡ Some y → x ≡ y
-same_reply x y e = cc
-
--- a row tells its request
-request_is : (q r : Request) → sends q ≡ sends r → q ≡ r
-request_is q r row_is = cc
-
--- what an answer brings to a settlement
-abbrev SettlesNext : ℕ → View → Option OpenOrder → List Line → ℕ → Request → Reply → Type 0
-SettlesNext start w owed work rows q y =
-    FitsSettle start w owed (life_read (exchange (Some q) (Some y) ∷ work)) (cond (ends_first (after settling rows) (Some y)) (suc rows) rows)
-
--- its status tells whether something is left to fall
-status_next : (start : ℕ) (v w : View) (owed : Option OpenOrder) (life : Option ℕ) (none : Bool) → Less v w →
-    (v.rest == 0) ≡ none → IsOpen owed → FitsSettle start w owed life (cond none 1 0)
-status_next start v w owed life true less test is_open =
-    let none : v.rest ≡ 0 = eqb-true v.rest 0 test in
-    (is_open, omega (arith, less.rest, none))
-status_next start v w owed life false less test is_open = is_open
-
-state_next : (d : DeviceSetup) (past : List Met) (lines : List Line) (w : View) (owed : Option OpenOrder)
-    (work : List Line) (marked : Bool) (q : Request) (y : Reply) → IsHopper d.body → Less (view d past lines) w →
-    IsOpen owed → state_row marked ≡ sends q → reply_of d past q ≡ Some y →
-    SettlesNext (start_of d.body) w owed work 0 q y
-state_next d past lines w owed work true q y paying less is_open row_is =
-    subst (λ r. reply_of d past r ≡ Some y → SettlesNext (start_of d.body) w owed work 0 r y)
-    (request_is StopNow q row_is) (λ gives.
-    subst (SettlesNext (start_of d.body) w owed work 0 StopNow)
-    (same_reply (reply.remaining (remaining d.serial past)) y (sym (replied_stop d past paying) ∙ gives)) is_open)
-state_next d past lines w owed work false q y paying less is_open row_is =
-    subst (λ r. reply_of d past r ≡ Some y → SettlesNext (start_of d.body) w owed work 0 r y)
-    (request_is GetStatus q row_is) (λ gives.
-    subst (SettlesNext (start_of d.body) w owed work 0 GetStatus)
-    (same_reply (status_of d.serial past) y (sym (replied_status d past paying) ∙ gives))
-    (status_next (start_of d.body) (view d past lines) w owed (life_read work) (remaining d.serial past == 0) less refl
-    is_open))
-
 -- its life count is that of now
 life_next : (d : DeviceSetup) (past : List Met) (lines : List Line) (w : View) (work : List Line) (y : Reply) →
     IsHopper d.body → Less (view d past lines) w → reply_of d past GetLife ≡ Some y →
@@ -244,80 +191,82 @@ life_next d past lines w work y paying less gives =
     subst (λ z. IsLife (start_of d.body) w (life_read (exchange (Some GetLife) (Some z) ∷ work)))
     (same_reply _ y (sym (replied_life d past paying) ∙ gives)) read
 
-no_close_sent : (owed : Option OpenOrder) (life : Option ℕ) (q : Request) → close_row owed life ≡ sends q → ⊥
-no_close_sent (Some o) (Some life) q row_is = cc
-no_close_sent (Some o) None q row_is = cc
-no_close_sent None life q row_is = cc
+life_asked : (d : DeviceSetup) (past : List Met) (lines : List Line) (w : View) (work : List Line) (q : Request)
+    (y : Reply) → IsHopper d.body → Less (view d past lines) w → q ≡ GetLife → reply_of d past q ≡ Some y →
+    IsLife (start_of d.body) w (life_read (exchange (Some q) (Some y) ∷ work))
+life_asked d past lines w work q y paying less is =
+    subst (λ r. reply_of d past r ≡ Some y →
+    IsLife (start_of d.body) w (life_read (exchange (Some r) (Some y) ∷ work))) (sym is)
+    (life_next d past lines w work y paying less)
 
-no_open_sent : (addr id count : ℕ) (life : Option ℕ) (q : Request) → open_row addr id count life ≡ sends q → ⊥
-no_open_sent addr id count None q row_is = cc
-no_open_sent addr id count (Some life) q row_is = cc
+-- what an answer brings to the rows behind the one that asked
+asked_next : (d : DeviceSetup) (past : List Met) (lines : List Line) (w : View) (owed : Option OpenOrder)
+    (work : List Line) (q : Request) (behind : Then) (y : Reply) (rows : List TableRow) → IsHopper d.body →
+    Less (view d past lines) w → Follows d.serial rows (asks_for q behind) → Needs (view d past lines) owed rows →
+    reply_of d past q ≡ Some y →
+    FitsRows d.serial (start_of d.body) w owed (life_read (exchange (Some q) (Some y) ∷ work)) rows
+asked_next d past lines w owed work q behind y [] paying less follows needs gives = tt
+asked_next d past lines w owed work q behind y (asks_for r next ∷ rows) paying less follows needs gives =
+    needs_less (view d past lines) w owed rows less needs
+asked_next d past lines w owed work q behind y (puts_due (new_order id count) next ∷ rows) paying less follows needs gives =
+    (needs.0, needs.1, life_asked d past lines w work q y paying less follows gives)
+asked_next d past lines w owed work q behind y (puts_due order_end next ∷ rows) paying less follows needs gives =
+    (needs.0, omega (arith, less.rest, needs.1), life_asked d past lines w work q y paying less follows gives)
+asked_next d past lines w owed work q behind y (puts_due due next ∷ rows) paying less follows needs gives =
+    needs_less (view d past lines) w owed rows less needs
+asked_next d past lines w owed work q behind y rows paying less follows needs gives = absurd follows
 
-settle_next : (d : DeviceSetup) (past : List Met) (lines : List Line) (w : View) (owed : Option OpenOrder)
-    (work : List Line) (addr rows : ℕ) (judged : Judged) (p : Payment) (q : Request) (y : Reply) → IsHopper d.body →
-    Less (view d past lines) w → FitsSettle (start_of d.body) (view d past lines) owed (life_read work) rows →
-    row_at d (command.Settle addr) rows judged p ≡ sends q → reply_of d past q ≡ Some y → SettlesNext (start_of d.body) w owed work rows q y
-settle_next d past lines w owed work addr zero judged p q y paying less fits row_is gives =
-    state_next d past lines w owed work p.is_marked q y paying less fits row_is gives
-settle_next d past lines w owed work addr (suc zero) judged p q y paying less fits row_is gives =
-    subst (λ r. reply_of d past r ≡ Some y → SettlesNext (start_of d.body) w owed work 1 r y)
-    (request_is GetLife q row_is)
-    (λ gives. (fits.0, omega (arith, less.rest, fits.1), life_next d past lines w work y paying less gives)) gives
-settle_next d past lines w owed work addr (suc (suc zero)) judged p q y paying less fits row_is gives =
-    absurd (no_close_sent p.owed p.life q row_is)
-settle_next d past lines w owed work addr (suc (suc (suc rows))) judged p q y paying less fits row_is gives = absurd cc
+-- a wait ends by a status that tells that nothing is left to fall
+none_left : (d : DeviceSetup) (past : List Met) (marked : Bool) (q : Request) (y : Reply) (rows : List TableRow) →
+    IsHopper d.body → state_row marked ≡ sends q → reply_of d past q ≡ Some y →
+    ends_first (waits_for_coins ∷ rows) (Some y) ≡ true → remaining d.serial past ≡ 0
+none_left d past true q y rows paying is gives ends =
+    let told : reply.remaining (remaining d.serial past) ≡ y =
+    same_reply _ y (sym (replied_stop d past paying) ∙ ap (reply_of d past) (same_request StopNow q is) ∙ gives) in
+    absurd (true≢false (sym ends ∙ ap (λ z. ends_first (waits_for_coins ∷ rows) (Some z)) (sym told)))
+none_left d past false q y rows paying is gives ends =
+    let told : status_of d.serial past ≡ y =
+    same_reply _ y (sym (replied_status d past paying) ∙ ap (reply_of d past) (same_request GetStatus q is) ∙ gives) in
+    eqb-true (remaining d.serial past) 0 (ap (λ z. ends_first (waits_for_coins ∷ rows) (Some z)) told ∙ ends)
 
--- what an answer brings to a payment
-abbrev PaysNext : ℕ → View → Option OpenOrder → List Line → List TableRow → ℕ → ℕ → Request → Reply → Type 0
-PaysNext start w owed work table count rows q y =
-    FitsPay start w owed (life_read (exchange (Some q) (Some y) ∷ work)) count
-    (cond (ends_first (after table rows) (Some y)) (suc rows) rows)
-
-settles_in_pay : (start : ℕ) (w : View) (owed : Option OpenOrder) (life : Option ℕ) (count rows : ℕ) (ends : Bool) →
-    FitsSettle start w owed life (cond ends (suc rows) rows) →
-    FitsPay start w owed life count
-    (cond ends (suc (suc (suc (suc (suc rows))))) (suc (suc (suc (suc rows)))))
-settles_in_pay start w owed life count rows true fits = fits
-settles_in_pay start w owed life count rows false fits = fits
-
-fresh_open : (v : View) (owed : Option OpenOrder) (count : ℕ) → IsFresh v owed count → IsOpen owed
-fresh_open v None count fresh = absurd fresh
-fresh_open v (Some o) count fresh = tt
-
-pay_next : (d : DeviceSetup) (past : List Met) (lines : List Line) (w : View) (owed : Option OpenOrder)
-    (work : List Line) (addr id count rows : ℕ) (judged : Judged) (p : Payment) (q : Request) (y : Reply) → IsHopper d.body →
-    Less (view d past lines) w → FitsPay (start_of d.body) (view d past lines) owed (life_read work) count rows →
-    row_at d (command.Pay addr id count) rows judged p ≡ sends q → reply_of d past q ≡ Some y →
-    PaysNext (start_of d.body) w owed work (rows_of d (command.Pay addr id count)) count rows q y
-pay_next d past lines w owed work addr id count zero judged p q y paying less fits row_is gives =
-    subst (λ r. PaysNext (start_of d.body) w owed work (rows_of d (command.Pay addr id count)) count 0 r y) (request_is (Enable ENABLE_CODE) q row_is) fits
-pay_next d past lines w owed work addr id count (suc zero) judged p q y paying less fits row_is gives =
-    subst (λ r. reply_of d past r ≡ Some y → PaysNext (start_of d.body) w owed work (rows_of d (command.Pay addr id count)) count 1 r y)
-    (request_is GetLife q row_is)
-    (λ gives. (fits.0, fits.1, life_next d past lines w work y paying less gives)) gives
-pay_next d past lines w owed work addr id count (suc (suc zero)) judged p q y paying less fits row_is gives =
-    absurd (no_open_sent addr id count p.life q row_is)
-pay_next d past lines w owed work addr id count (suc (suc (suc zero))) judged p q y paying less fits row_is gives =
-    subst (λ r. PaysNext (start_of d.body) w owed work (rows_of d (command.Pay addr id count)) count 3 r y) (request_is (Dispense d.serial count) q row_is)
-    (fresh_open (view d past lines) owed count fits)
-pay_next d past lines w owed work addr id count (suc (suc (suc (suc rows)))) judged p q y paying less fits row_is gives =
-    settles_in_pay (start_of d.body) w owed (life_read (exchange (Some q) (Some y) ∷ work)) count rows (ends_first (after settling rows) (Some y))
-    (settle_next d past lines w owed work addr rows judged p q y paying less fits row_is gives)
+waited_next : (own start : ℕ) (w : View) (owed : Option OpenOrder) (life : Option ℕ) (rows : List TableRow) →
+    Follows own rows waits_for_coins → IsOpen owed → w.rest ≡ 0 → FitsRows own start w owed life rows
+waited_next own start w owed life (asks_for q next ∷ puts_due order_end behind ∷ rows) follows is_open none =
+    (is_open, none)
+waited_next own start w owed life rows follows is_open none = absurd follows
 
 -- what an answer brings to a job
-fits_next : (d : DeviceSetup) (past : List Met) (lines : List Line) (w : View) (owed : Option OpenOrder)
-    (work : List Line) (c : Command) (rows : ℕ) (judged : Judged) (p : Payment) (q : Request) (y : Reply) →
-    IsHopper d.body → Less (view d past lines) w →
-    FitsFor (start_of d.body) (view d past lines) owed (life_read work) c rows → row_at d c rows judged p ≡ sends q →
-    reply_of d past q ≡ Some y →
-    FitsFor (start_of d.body) w owed (life_read (exchange (Some q) (Some y) ∷ work)) c
-    (cond (ends_first (after (rows_of d c) rows) (Some y)) (suc rows) rows)
-fits_next d past lines w owed work (command.Pay addr id count) rows judged p q y paying less fits row_is gives =
-    pay_next d past lines w owed work addr id count rows judged p q y paying less fits row_is gives
-fits_next d past lines w owed work (command.Settle addr) rows judged p q y paying less fits row_is gives =
-    settle_next d past lines w owed work addr rows judged p q y paying less fits row_is gives
-fits_next d past lines w owed work (command.Ident addr) rows judged p q y paying less fits row_is gives = tt
-fits_next d past lines w owed work c rows judged p q y paying less fits row_is gives = absurd fits
+rows_next : (d : DeviceSetup) (past : List Met) (lines : List Line) (w : View) (owed : Option OpenOrder)
+    (work : List Line) (addr : ℕ) (judged : Judged) (p : Payment) (rows : List TableRow) (q : Request) (y : Reply)
+    (ends : Bool) → IsHopper d.body → Less (view d past lines) w → sent_once rows ≡ false →
+    FitsLeft d.serial (start_of d.body) (view d past lines) owed (life_read work) rows →
+    first addr judged p rows ≡ sends q → reply_of d past q ≡ Some y → ends_first rows (Some y) ≡ ends →
+    FitsLeft d.serial (start_of d.body) w owed (life_read (exchange (Some q) (Some y) ∷ work))
+    (cond ends (but_first rows) rows)
+rows_next d past lines w owed work addr judged p [] q y ends paying less again fits is gives test = absurd cc
+rows_next d past lines w owed work addr judged p (asks_for x behind ∷ rows) q y true paying less again fits is gives test =
+    let follows = subst (λ r. Follows d.serial rows (asks_for r behind)) (same_request x q is) fits.0.0.1 in
+    (fits.0.1, asked_next d past lines w owed work q behind y rows paying less follows fits.1 gives)
+rows_next d past lines w owed work addr judged p (asks_for x behind ∷ rows) q y false paying less again fits is gives test =
+    absurd (true≢false test)
+rows_next d past lines w owed work addr judged p (asks_once x behind without ∷ rows) q y ends paying less again fits is
+    gives test = absurd (true≢false again)
+rows_next d past lines w owed work addr judged p (waits_for_coins ∷ rows) q y true paying less again fits is gives test =
+    let none = none_left d past p.is_marked q y rows paying is gives test in
+    (fits.0.1, waited_next d.serial (start_of d.body) w owed _ rows fits.0.0.1 fits.1 (omega (arith, less.rest, none)))
+rows_next d past lines w owed work addr judged p (waits_for_coins ∷ rows) q y false paying less again fits is gives test =
+    (fits.0, fits.1)
+rows_next d past lines w owed work addr judged p (puts_due due behind ∷ rows) q y ends paying less again fits is gives
+    test = absurd (due_sends addr judged p due q is)
+
+left_next : (d : DeviceSetup) (c : Command) (work : List Line) (start : ℕ) (w : View) (owed : Option OpenOrder)
+    (life : Option ℕ) (ends : Bool) →
+    FitsLeft d.serial start w owed life (cond ends (but_first (rest d c work)) (rest d c work)) →
+    FitsLeft d.serial start w owed life
+    (after (rows_of d c) (cond ends (suc (done (rows_of d c) work)) (done (rows_of d c) work)))
+left_next d c work start w owed life true fits =
+    subst (FitsLeft d.serial start w owed life) (sym (after_next (rows_of d c) (done (rows_of d c) work))) fits
+left_next d c work start w owed life false fits = fits
 
 -- what a row sends and puts
 
@@ -351,13 +300,15 @@ abbrev pub RowFits : DeviceSetup → List Met → List Line → Option ℕ → N
 RowFits d past lines life F r =
     RowHolds (IsSent (view d past lines) (order lines) d.serial F) (Puts d past lines life F) r
 
-opened_fits : (d : DeviceSetup) (past : List Met) (lines : List Line) (addr id count : ℕ) (life : Option ℕ) →
+-- a record that opens an order goes on to its dispense
+opened_fits : (d : DeviceSetup) (past : List Met) (lines : List Line) (addr id count : ℕ) (life : Option ℕ)
+    (behind : Then) (rows : List TableRow) → AreLinked d.serial (puts_due (new_order id count) behind ∷ rows) →
     order lines ≡ None → count ≤ 255 → IsLife (start_of d.body) (view d past lines) life →
     StateOf (start_of d.body) (view d past lines) (order lines) →
-    RowFits d past lines life (λ w owed found. FitsPay (start_of d.body) w owed found count 3)
+    RowFits d past lines life (λ w owed found. FitsLeft d.serial (start_of d.body) w owed found rows)
     (open_row addr id count life)
-opened_fits d past lines addr id count None none small read state = absurd cc
-opened_fits d past lines addr id count (Some life) none small read state =
+opened_fits d past lines addr id count None behind rows linked none small read state = absurd cc
+opened_fits d past lines addr id count (Some life) behind rows linked none small read state =
     let start = start_of d.body in
     let r = record_of.Opened id addr count life in
     let o : OpenOrder = record { id = id; addr = addr; count = count; life = life } in
@@ -367,85 +318,114 @@ opened_fits d past lines addr id count (Some life) none small read state =
       paid = none;
       state = state_opens start (view d past lines) (view d past (put r ∷ lines)) o
           (record { rest = refl; drops = refl; taken = refl; fallen = refl }) rests begun small;
-      fits = (refl, refl);
+      fits = (linked.1, opened_next d.serial start (view d past (put r ∷ lines)) o (Some life) behind rows linked.0.1 refl);
     }
+  where
+    opened_next : (own start : ℕ) (w : View) (o : OpenOrder) (life : Option ℕ) (behind : Then) (rows : List TableRow) →
+        Follows own rows (puts_due (new_order o.id o.count) behind) → w.taken ≡ 0 →
+        FitsRows own start w (Some o) life rows
+    opened_next own start w o life behind (asks_once x next without ∷ rows) follows none = (o.count, follows, (none, refl))
+    opened_next own start w o life behind rows follows none = absurd follows
 
-closed_fits : (d : DeviceSetup) (past : List Met) (lines : List Line) (life : Option ℕ) (owed : Option OpenOrder) →
+-- and one that closes it is the last
+closed_fits : (d : DeviceSetup) (past : List Met) (lines : List Line) (life : Option ℕ) (owed : Option OpenOrder)
+    (F : Next) → ((w : View) (next : Option OpenOrder) (found : Option ℕ) → F w next found) →
     order lines ≡ owed → IsOpen owed → remaining d.serial past ≡ 0 →
     IsLife (start_of d.body) (view d past lines) life → StateOf (start_of d.body) (view d past lines) owed →
-    RowFits d past lines life (λ w owed found. FitsSettle (start_of d.body) w owed found 3) (close_row owed life)
-closed_fits d past lines life None is_owed is_open rests read state = absurd is_open
-closed_fits d past lines None (Some o) is_owed is_open rests read state = absurd cc
-closed_fits d past lines (Some life) (Some o) is_owed is_open rests read owes =
+    RowFits d past lines life F (close_row owed life)
+closed_fits d past lines life None F last is_owed is_open rests read state = absurd is_open
+closed_fits d past lines None (Some o) F last is_owed is_open rests read state = absurd cc
+closed_fits d past lines (Some life) (Some o) F last is_owed is_open rests read owes =
     let v = view d past lines in
     let now : (start_of d.body + v.drops) % 2 ^ 24 ≡ life = cc in
     let closes : record_of.Closed o.id v.fallen (o.count - v.fallen) ≡ close o life =
     sym (close_is (start_of d.body) v o owes) ∙ ap (close o) now in
     let all : v.fallen + (o.count - v.fallen) ≡ o.count = omega (arith, owes.within) in
     let paid : PaidBy lines (record_of.Closed o.id v.fallen (o.count - v.fallen)) = rw is_owed (refl, refl, all) in
-    subst (Puts d past lines (Some life) (λ w owed found. FitsSettle (start_of d.body) w owed found 3)) closes
-    (record { paid = paid; state = rests; fits = rests })
+    subst (Puts d past lines (Some life) F) closes (record { paid = paid; state = rests; fits = last _ _ _ })
+
+closed_next : (own start : ℕ) (behind : Then) (rows : List TableRow) →
+    AreLinked own (puts_due order_end behind ∷ rows) → (w : View) (owed : Option OpenOrder) (life : Option ℕ) →
+    FitsLeft own start w owed life rows
+closed_next own start behind [] linked w owed life = (tt, tt)
+closed_next own start behind (asks_for q next ∷ rows) linked w owed life = absurd linked.0.1
+closed_next own start behind (asks_once q next without ∷ rows) linked w owed life = absurd linked.0.1
+closed_next own start behind (waits_for_coins ∷ rows) linked w owed life = absurd linked.0.1
+closed_next own start behind (puts_due due next ∷ rows) linked w owed life = absurd linked.0.1
 
 state_fits : (d : DeviceSetup) (past : List Met) (lines : List Line) (life : Option ℕ) (F : Next) (marked : Bool) →
     RowFits d past lines life F (state_row marked)
 state_fits d past lines life F true = tt
 state_fits d past lines life F false = tt
 
-settle_fits : (d : DeviceSetup) (past : List Met) (lines work : List Line) (addr rows : ℕ) (judged : Judged) →
-    FitsSettle (start_of d.body) (view d past lines) (order lines) (life_read work) rows →
-    StateOf (start_of d.body) (view d past lines) (order lines) →
-    RowFits d past lines (life_read work) (λ w owed life. FitsSettle (start_of d.body) w owed life (suc rows))
-    (row_at d (command.Settle addr) rows judged (payment_in work (order lines)))
-settle_fits d past lines work addr zero judged fits state = state_fits d past lines (life_read work) _ (is_marked work)
-settle_fits d past lines work addr (suc zero) judged fits state = tt
-settle_fits d past lines work addr (suc (suc zero)) judged fits state =
-    closed_fits d past lines (life_read work) (order lines) refl fits.0 fits.1 fits.2 state
-settle_fits d past lines work addr (suc (suc (suc rows))) judged fits state = tt
+-- what is asked again is no dispense
+again_sent : (v : View) (owed : Option OpenOrder) (own : ℕ) (F : Next) (q : Request) → IsAgain q → IsSent v owed own F q
+again_sent v owed own F (SetMask mask) again = absurd (true≢false (sym again))
+again_sent v owed own F (Dispense serial count) again = absurd (true≢false (sym again))
+again_sent v owed own F CipherDispense again = absurd (true≢false (sym again))
+again_sent v owed own F q again = tt
 
-pay_fits : (d : DeviceSetup) (past : List Met) (lines work : List Line) (addr id count rows : ℕ) (judged : Judged) →
-    FitsPay (start_of d.body) (view d past lines) (order lines) (life_read work) count rows →
-    StateOf (start_of d.body) (view d past lines) (order lines) →
-    RowFits d past lines (life_read work) (λ w owed life. FitsPay (start_of d.body) w owed life count (suc rows))
-    (row_at d (command.Pay addr id count) rows judged (payment_in work (order lines)))
-pay_fits d past lines work addr id count zero judged fits state = tt
-pay_fits d past lines work addr id count (suc zero) judged fits state = tt
-pay_fits d past lines work addr id count (suc (suc zero)) judged fits state =
-    opened_fits d past lines addr id count (life_read work) fits.0 fits.1 fits.2 state
-pay_fits d past lines work addr id count (suc (suc (suc zero))) judged fits state =
-    record { to_own = refl; fresh = fits; goes_on = λ w life. fresh_open (view d past lines) (order lines) count fits }
-pay_fits d past lines work addr id count (suc (suc (suc (suc rows)))) judged fits state =
-    settle_fits d past lines work addr rows judged fits state
+fresh_open : (v : View) (owed : Option OpenOrder) (count : ℕ) → IsFresh v owed count → IsOpen owed
+fresh_open v None count fresh = absurd fresh
+fresh_open v (Some o) count fresh = tt
 
-ident_sent : (v : View) (owed : Option OpenOrder) (own : ℕ) (F : Next) (body : DeviceBody) →
-    Each (IsSent v owed own F) (ident_requests body)
-ident_sent v owed own F (Acceptor accepts values ids) = search rules
-ident_sent v owed own F (Hopper life value) = search rules
+-- behind a dispense comes the row that waits for its coins
+dosed_next : (own start : ℕ) (w : View) (owed : Option OpenOrder) (life : Option ℕ) (q : Request)
+    (behind without : Then) (rows : List TableRow) → Follows own rows (asks_once q behind without) → IsOpen owed →
+    FitsRows own start w owed life rows
+dosed_next own start w owed life q behind without (waits_for_coins ∷ rows) follows is_open = is_open
+dosed_next own start w owed life q behind without rows follows is_open = absurd follows
 
-for_fits : (d : DeviceSetup) (past : List Met) (lines work : List Line) (c : Command) (rows : ℕ) (judged : Judged) →
-    FitsFor (start_of d.body) (view d past lines) (order lines) (life_read work) c rows →
+rows_fits : (d : DeviceSetup) (past : List Met) (lines work : List Line) (addr : ℕ) (judged : Judged)
+    (rows : List TableRow) → EachRow AsksWell rows →
+    FitsLeft d.serial (start_of d.body) (view d past lines) (order lines) (life_read work) rows →
     StateOf (start_of d.body) (view d past lines) (order lines) →
-    RowFits d past lines (life_read work) (λ w owed life. FitsFor (start_of d.body) w owed life c (suc rows))
-    (row_at d c rows judged (payment_in work (order lines)))
-for_fits d past lines work (command.Pay addr id count) rows judged fits state =
-    pay_fits d past lines work addr id count rows judged fits state
-for_fits d past lines work (command.Settle addr) rows judged fits state = settle_fits d past lines work addr rows judged fits state
-for_fits d past lines work (command.Ident addr) rows judged fits state =
-    let F : Next = λ w owed life. ⊤ in
-    each_sent (IsSent (view d past lines) (order lines) d.serial F) (Puts d past lines (life_read work) F) d addr rows judged
-    (payment_in work (order lines)) (ident_sent (view d past lines) (order lines) d.serial F d.body)
-for_fits d past lines work c rows judged fits state = absurd fits
+    RowFits d past lines (life_read work)
+    (λ w owed life. FitsLeft d.serial (start_of d.body) w owed life (but_first rows))
+    (first addr judged (payment_in work (order lines)) rows)
+rows_fits d past lines work addr judged [] well fits state = tt
+rows_fits d past lines work addr judged (asks_for q behind ∷ rows) well fits state =
+    again_sent (view d past lines) (order lines) d.serial _ q well.0
+rows_fits d past lines work addr judged (asks_once q behind without ∷ rows) well fits state =
+    let count = fits.1.0 in
+    let is_open = fresh_open (view d past lines) (order lines) count fits.1.2 in
+    let next : Next = λ w owed life. FitsLeft d.serial (start_of d.body) w owed life rows in
+    let goes_on : (w : View) (life : Option ℕ) → next w (order lines) life =
+    λ w life. (fits.0.1, dosed_next d.serial (start_of d.body) w (order lines) life q behind without rows fits.0.0.1 is_open) in
+    let doses : Dispenses (view d past lines) (order lines) d.serial d.serial count next =
+    record { to_own = refl; fresh = fits.1.2; goes_on = goes_on } in
+    subst (IsSent (view d past lines) (order lines) d.serial next) (sym fits.1.1) doses
+rows_fits d past lines work addr judged (waits_for_coins ∷ rows) well fits state =
+    state_fits d past lines (life_read work) _ (is_marked work)
+rows_fits d past lines work addr judged (puts_due (new_order id count) behind ∷ rows) well fits state =
+    opened_fits d past lines addr id count (life_read work) behind rows fits.0 fits.1.0 fits.1.1 fits.1.2 state
+rows_fits d past lines work addr judged (puts_due order_end behind ∷ rows) well fits state =
+    closed_fits d past lines (life_read work) (order lines) _ (closed_next d.serial (start_of d.body) behind rows fits.0) refl
+    fits.1.0 fits.1.1 fits.1.2 state
+rows_fits d past lines work addr judged (puts_due due behind ∷ rows) well fits state = absurd fits.0.0.0
+
+-- none of them is passed over
+none_passed : (own : ℕ) (rows : List TableRow) (judged : Judged) → AreLinked own rows → from rows judged ≡ rows
+none_passed own [] judged linked = refl
+none_passed own (puts_due reading behind ∷ rows) judged linked = absurd linked.0.0
+none_passed own (r ∷ rows) judged linked = refl
 
 -- what a job needs at its next row
 abbrev pub NextOf : DeviceSetup → Command → List Line → Next
-NextOf d c work = λ w owed life. FitsFor (start_of d.body) w owed life c (suc (done (rows_of d c) work))
+NextOf d c work = λ w owed life. FitsLeft d.serial (start_of d.body) w owed life (but_first (rest d c work))
 
 -- so it is at the row of the hopper's job
 row_fits : (d : DeviceSetup) (past : List Met) (lines : List Line) (c : Command) (work : List Line) →
     job lines ≡ works c work → Pays d past lines →
     RowFits d past lines (life_read work) (NextOf d c work) (row d c work (epoch lines) (order lines))
 row_fits d past lines c work is_job pays =
-    for_fits d past lines work c (done (rows_of d c) work) (judged_in c work (epoch lines)) (fits_at d past lines c work is_job pays)
-    pays.state
+    let fits = fits_at d past lines c work is_job pays in
+    let judged = judged_in c work (epoch lines) in
+    subst (λ rows. RowFits d past lines (life_read work) (NextOf d c work)
+    (first (address_of c) judged (payment_in work (order lines)) rows))
+    (sym (none_passed d.serial (rest d c work) judged fits.0))
+    (rows_fits d past lines work (address_of c) judged (rest d c work)
+    (each_after AsksWell (rows_of d c) (done (rows_of d c) work) (asks_well d c)) fits pays.state)
 
 pub sent_fits : (d : DeviceSetup) (past : List Met) (lines : List Line) (c : Command) (work : List Line) (q : Request) →
     job lines ≡ works c work → row d c work (epoch lines) (order lines) ≡ sends q → Pays d past lines →
@@ -482,9 +462,9 @@ by_taken : (d : DeviceSetup) (past : List Met) (lines : List Line) (c : Command)
     (serial count : ℕ) (got : Option Reply) (took : Option ℕ) →
     taken_of d.serial past (Some (Dispense serial count)) ≡ took → job lines ≡ works c work →
     IsFresh (view d past lines) (order lines) count →
-    ((w : View) → FitsFor (start_of d.body) w (order lines)
-    (life_read (exchange (Some (Dispense serial count)) got ∷ work)) c
-    (done (rows_of d c) (exchange (Some (Dispense serial count)) got ∷ work))) → Pays d past lines →
+    ((w : View) → FitsLeft d.serial (start_of d.body) w (order lines)
+    (life_read (exchange (Some (Dispense serial count)) got ∷ work))
+    (rest d c (exchange (Some (Dispense serial count)) got ∷ work))) → Pays d past lines →
     Pays d (heard (Some (Dispense serial count)) ∷ past)
     (exchange (Some (Dispense serial count)) got ∷ dispensed_by took ++ lines)
 by_taken d past lines c work serial count got None is is_job fresh goes_on pays =
@@ -512,9 +492,9 @@ by_taken d past lines c work serial count got (Some taken) is is_job fresh goes_
 heard_dispense : (d : DeviceSetup) (past : List Met) (lines : List Line) (c : Command) (work : List Line)
     (serial count : ℕ) (got : Option Reply) → IsHopper d.body →
     job lines ≡ works c work → IsFresh (view d past lines) (order lines) count →
-    ((w : View) → FitsFor (start_of d.body) w (order lines)
-    (life_read (exchange (Some (Dispense serial count)) got ∷ work)) c
-    (done (rows_of d c) (exchange (Some (Dispense serial count)) got ∷ work))) → Pays d past lines →
+    ((w : View) → FitsLeft d.serial (start_of d.body) w (order lines)
+    (life_read (exchange (Some (Dispense serial count)) got ∷ work))
+    (rest d c (exchange (Some (Dispense serial count)) got ∷ work))) → Pays d past lines →
     PaysAsk d past lines c work (Dispense serial count) (Some (Dispense serial count)) got
 heard_dispense d past lines c work serial count got paying is_job fresh goes_on pays =
     let q = Dispense serial count in
@@ -529,11 +509,12 @@ heard_dispense d past lines c work serial count got paying is_job fresh goes_on 
 dispense_next : (d : DeviceSetup) (c : Command) (work : List Line) (v w : View) (owed : Option OpenOrder)
     (serial count : ℕ) (got : Option Reply) → sent_once (rest d c work) ≡ true →
     Dispenses v owed d.serial serial count (NextOf d c work) →
-    FitsFor (start_of d.body) w owed (life_read (exchange (Some (Dispense serial count)) got ∷ work)) c
-    (done (rows_of d c) (exchange (Some (Dispense serial count)) got ∷ work))
+    FitsLeft d.serial (start_of d.body) w owed (life_read (exchange (Some (Dispense serial count)) got ∷ work))
+    (rest d c (exchange (Some (Dispense serial count)) got ∷ work))
 dispense_next d c work v w owed serial count got once dispenses =
-    subst (FitsFor (start_of d.body) w owed (life_read work) c)
-    (sym (once_goes (rows_of d c) (Some (Dispense serial count)) got work once)) (dispenses.goes_on w (life_read work))
+    subst (λ n. FitsLeft d.serial (start_of d.body) w owed (life_read work) (after (rows_of d c) n))
+    (sym (once_goes (rows_of d c) (Some (Dispense serial count)) got work once))
+    (left_next d c work (start_of d.body) w owed (life_read work) true (dispenses.goes_on w (life_read work)))
 
 asks_dispense : (d : DeviceSetup) (past : List Met) (lines : List Line) (c : Command) (work : List Line)
     (serial count : ℕ) (asked : Option Request) (got : Option Reply) → IsHopper d.body → job lines ≡ works c work →
@@ -564,11 +545,15 @@ asks_sent d past lines c work (Dispense serial count) asked got paying is_job ro
     asks_dispense d past lines c work serial count asked got paying is_job
     (row_once d c work (epoch lines) (order lines) (Dispense serial count) row_is refl) sent pays fate
 asks_sent d past lines c work q asked got paying is_job row_is pays sent fate =
-    asks_many d past lines c work q asked got refl (row_again d c work (epoch lines) (order lines) q row_is refl) is_job
-    pays (λ y gives.
-    fits_next d past lines (view d (heard (Some q) ∷ past) lines) (order lines) work c (done (rows_of d c) work)
-    (judged_in c work (epoch lines)) (payment_in work (order lines)) q y paying (less_heard d past lines (Some q) refl)
-    (fits_at d past lines c work is_job pays) row_is gives) fate
+    let now = heard (Some q) ∷ past in
+    let again = row_again d c work (epoch lines) (order lines) q row_is refl in
+    asks_many d past lines c work q asked got refl again is_job pays (λ y gives.
+    left_next d c work (start_of d.body) (view d now lines) (order lines) (life_read (exchange (Some q) (Some y) ∷ work))
+    (ends_first (rest d c work) (Some y))
+    (rows_next d past lines (view d now lines) (order lines) work (address_of c) (judged_in c work (epoch lines))
+    (payment_in work (order lines)) (rest d c work) q y (ends_first (rest d c work) (Some y)) paying
+    (less_heard d past lines (Some q) refl) again (fits_at d past lines c work is_job pays)
+    (rest_asks d c work (epoch lines) (order lines) q row_is) gives refl)) fate
 
 pub pays_asks : (d : DeviceSetup) (past : List Met) (lines : List Line) (c : Command) (work : List Line) (q : Request)
     (asked : Option Request) (got : Option Reply) → IsHopper d.body → job lines ≡ works c work →
@@ -589,5 +574,7 @@ pays_puts d past lines c work r is_job row_is pays =
       state = holds.state;
       fits = subst
           (λ j. FitsJob d (start_of d.body) (view d past (put r ∷ lines)) (order (put r ∷ lines)) (with_line (put r) j))
-          (sym is_job) holds.fits;
+          (sym is_job)
+          (left_next d c work (start_of d.body) (view d past (put r ∷ lines)) (order (put r ∷ lines)) (life_read work) true
+          holds.fits);
     }

@@ -76,8 +76,8 @@ room_for capacity setup past c lets room = by_test (asks_room (tests_of c)) refl
     by_test true asks =
         room_by capacity setup past need (tests_of c) (tests_pass capacity setup past c lets).room asks
     by_test false asks =
-        none_more (length (records past) + held setup past) need (unasked (device_at setup.devices (address_of c)) c asks)
-        room
+        none_more (length (records past) + held setup past) need
+        (unasked (device_at setup.devices (address_of c)) c asks) room
       where
         none_more : (many wanted : ℕ) → wanted ≡ 0 → many ≤ capacity → many + wanted ≤ capacity
         none_more many wanted none le = omega (arith, none, le)

@@ -41,7 +41,7 @@ use Rattle.cct_model.proofs.Doses.{AreDoses, doses_are, job_undosed}
 use Rattle.cct_laws.proofs.Ids.{put_owned}
 use Rattle.cct_laws.proofs.HopperReplies.{serial_fits}
 use Rattle.cct_laws.proofs.Setups.{found_in}
-use Rattle.cct_model.proofs.Rows.{IfEnd, RowHolds, EachRow, answer_end, put_end, Asks, AnswerEnds, PutEnds, each_told, each_after, state_holds, but_first, after_next, EachBefore, before_on, fact_after}
+use Rattle.cct_model.proofs.Rows.{IfEnd, RowHolds, EachRow, answer_end, put_end, Asks, AnswerEnds, PutEnds, each_told, each_after, state_holds, but_first, after_next, EachBefore, before_on, fact_after, told_fact}
 use Rattle.cct_laws.proofs.Seen.{ArePassed, loose, loose_line, Lost, bare, kept_here, kept_elsewhere, seen_here, seen_aside, seen_lost, seen_from, along, any_steps, lines_wire, lines_with_end, lines_put, lines_taken, lines_kept, lines_kept_elsewhere}
 use Rattle.cct_model.proofs.Tries.{is_asked_again, IfHeard, fails_as, IsHeardEnd, answers_heard, puts_heard, due_sends, same_request, left_asks, asked_fails}
 use Rattle.cct_model.proofs.RowEnds.{IfOnce, once_sent, failed_stays, once_goes, rest_asks, fails_rest}
@@ -93,16 +93,13 @@ IsApart rows q = EachRow (IfOnce (λ x. (header_of q == header_of x) ≡ false))
 abbrev AreApart : List TableRow → Type 0
 AreApart rows = EachBefore (λ r later. Asks (IsApart later) r) rows
 
-told_apart : (qs : List Request) → AreApart (telling qs)
-told_apart [] = tt
-told_apart (q ∷ []) = (tt, tt)
-told_apart (q ∷ r ∷ qs) = (
-  each_told (IfOnce (λ x. (header_of q == header_of x) ≡ false)) (λ x. tt) (λ x. tt) (r ∷ qs),
-  told_apart (r ∷ qs),
-)
+told_apart : (qs : List Request) → ((q : Request) → IsApart (telling qs) q) × AreApart (telling qs)
+told_apart =
+    told_fact (λ rows. ((q : Request) → IsApart rows q) × AreApart rows) ((λ q. tt), tt)
+    (λ q behind rows apart. ((λ x. (tt, apart.0 x)), (apart.0 q, apart.1)))
 
 rows_apart : (d : DeviceSetup) (c : Command) → AreApart (rows_of d c)
-rows_apart d (command.Ident addr) = told_apart (ident_requests d.body)
+rows_apart d (command.Ident addr) = (told_apart (ident_requests d.body)).1
 rows_apart d c = search rules
 
 apart_first : (addr : ℕ) (means : Judged) (p : Payment) (rows : List TableRow) (q : Request) → AreApart rows →
