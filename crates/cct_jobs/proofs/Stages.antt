@@ -218,20 +218,14 @@ module _ {d : DeviceSetup} {device : Target} {question : Request} {failed : ℕ}
         let n = place_of question (questions_of device) in
         let more : slice_get (questions_of device) (suc n) ≡ Some next = next_is ∙ e in
         let place : place_of next (questions_of device) ≡ suc n = placed device.family (suc n) next more in
-        record {
-          device_is = at.device_is;
-          is_here = at.is_here;
-          ahead_is =
-              answered_rest at tt y
-              ∙ sym (after_next (telling (questions_of device)) n)
-              ∙ ap (after (telling (questions_of device))) (sym place);
-          suits = ap (slice_get (questions_of device)) place ∙ more;
-          knows = tt;
-          trying = record { counted = refl; few = omega arith };
-          goes_on = end_after at question y
-              ∙ told_end (questions_of device) n _ y _ question at.suits
-              ∙ ap (λ b. cond b (Some Told) None) (question_within (questions_of device) (suc n) next more);
-        }
+        line_on at (IdentAsks next) (exchange (Some question) (Some y))
+        (answered_rest at tt y
+        ∙ sym (after_next (telling (questions_of device)) n)
+        ∙ ap (after (telling (questions_of device))) (sym place))
+        (ap (slice_get (questions_of device)) place ∙ more) tt refl
+        (end_after at question y
+        ∙ told_end (questions_of device) n _ y _ question at.suits
+        ∙ ap (λ b. cond b (Some Told) None) (question_within (questions_of device) (suc n) next more))
 
     pub ident_told : (y : Reply) → question_after device.family question ≡ None
         → newest_end d c (exchange (Some question) (Some y) ∷ since) state ≡ Some Told
