@@ -1,12 +1,12 @@
 -- How what a desk holds and reserves changes, whatever happened before.
-use Rattle.std.proofs.Common.{◌≡◌, ℕ, ◌+◌, ◌≤◌, true, false, cond, List, [], ◌∷◌, refl, sym, ap, subst, ◌∙◌, Option, Some, None, arith}
+use Rattle.std.proofs.Common.{◌≡◌, ℕ, ◌+◌, ◌≤◌, Bool, true, false, cond, List, [], ◌∷◌, refl, sym, ap, subst, ◌∙◌, Option, Some, None, arith}
 use Rattle.std.specs.Prelude.{IsTrue, is_some}
 use Rattle.cct_model.specs.terms.device.DeviceSetup.{DeviceSetup}
 use Rattle.cct_model.specs.terms.device.Setup.{Setup}
 use Rattle.cct_model.specs.Exchange.{device_at}
 use Rattle.cct_model.specs.terms.request.Request.{Request}
 use Rattle.cct_model.specs.Job.{address_of, ident_requests}
-use Rattle.cct_model.specs.Rows.{has_closes, need_in, puts_in, rows_for, rows_of, telling}
+use Rattle.cct_model.specs.Rows.{has_closes, has_waits, need_in, puts_in, rows_for, rows_of, telling}
 use Rattle.cct_model.proofs.Rows.{told_fact}
 use Rattle.cct_model.specs.lines.command.Command.{Command}
 use Rattle.cct_model.specs.lines.command.Command.TheVariants as command
@@ -18,7 +18,10 @@ use Rattle.cct_model.specs.declared.judging.EpochState.{EpochState}
 use Rattle.cct_model.specs.declared.judging.OpenOrder.{OpenOrder}
 use Rattle.cct_model.specs.Line.{put}
 use Rattle.std.specs.Option.{IfSome}
-use Rattle.cct_model.specs.Refusal.{order_holds, state_fails, state_tests}
+use Rattle.cct_model.specs.Refusal.{order_holds, state_fails, state_tests, unless}
+use Rattle.cct_model.specs.Device.{is_hopper}
+use Rattle.cct_model.specs.lines.command.CommandNo.TheVariants.{NoPayout, WrongKind}
+use Rattle.std.specs.Option.{option_or}
 use Rattle.cct_jobs.specs.declared.job.Job.{Job}
 use Rattle.cct_jobs.specs.declared.job.Job.TheVariants.{StartPuts, RoundPuts, StopPuts, StopEnds, OrderOpens, OrderCloses, SalePuts, Done}
 use Rattle.cct_jobs.specs.declared.job.Need.{Need}
@@ -29,7 +32,7 @@ use Rattle.cct_jobs.specs.Sales.{StandsSale}
 use Rattle.cct_host.specs.declared.dues.Dues.{Dues}
 use Rattle.cct_host.specs.Exchange.{HoldsLess}
 use Rattle.cct_host.specs.Held.{coins_by, due_by, held_by, order_left, price_by, put_in, puts_left, sells_only}
-use Rattle.cct_host.specs.Running.{Settles, busy_by, is_halt, needed, refusal_beside, rows_begun, sale_refusal, seen_at}
+use Rattle.cct_host.specs.Running.{Settles, busy_by, halting_refusal, is_halt, needed, refusal_beside, rows_begun, sale_refusal, seen_at}
 use Rattle.cct_laws.proofs.Tests.{Pass, all_pass}
 use Rattle.cct_host.proofs.Commands.{owed_where_free}
 
@@ -270,3 +273,14 @@ pub halt_puts : (job : Option Job) (old new : Job) (more : ℕ) → job ≡ Some
     → puts_left (Some new) ≤ puts_left job + more
 halt_puts job old new more was puts =
     subst (λ j. puts_in (ahead new) ≤ puts_left j + more) (sym was) (omega (arith, puts))
+
+-- a halt that isn't refused finds a job that can be halted
+pub halt_finds : (d : DeviceSetup) (job : Option Job) (old : Job) → halting_refusal d job ≡ None → job ≡ Some old
+    → has_waits (ahead old) ≡ true
+halt_finds d job old free was =
+    by_tests (is_hopper d.body) (has_waits (ahead old)) (subst (λ j. halting_refusal d j ≡ None) was free)
+  where
+    by_tests : (hopper waits : Bool) → option_or (unless hopper WrongKind) (unless waits NoPayout) ≡ None → waits ≡ true
+    by_tests true true free = refl
+    by_tests true false free = absurd cc
+    by_tests false waits free = absurd cc

@@ -3,7 +3,7 @@ use Rattle.cct_host.proofs.Commands.{halt_refused, halt_taken}
 use Rattle.cct_model.specs.Rows.{has_closes, puts_in}
 use Rattle.cct_jobs.specs.Ahead.{coins_in}
 use Rattle.cct_jobs.specs.Jobs.{order_of}
-use Rattle.cct_host.proofs.Holding.{halt_holds, halt_puts, halt_reserves}
+use Rattle.cct_host.proofs.Holding.{halt_finds, halt_holds, halt_puts, halt_reserves}
 use Rattle.cct_host.proofs.desk.JobDesk.halt.Goals as goal
 
 pub returns-in-Some-clause-commands : goal.returns-in-Some-clause-commands
@@ -34,3 +34,8 @@ pub returns-in-Some-take-clause-puts : goal.returns-in-Some-take-clause-puts
 returns-in-Some-take-clause-puts c =
     halt_puts c.args.self.now.job c.in-Some-take.job c.halt.result _ (sym c.take.ensures.value ∙ c.in-Some-take.is)
     (ap puts_in c.halt.ensures.ahead)
+
+pub halt-requires : goal.halt-requires
+halt-requires c =
+    halt_finds c.args.device.now c.args.self.now.job c.in-Some-take.job (sym c.halting_refusal.ensures ∙ c.in-None.is)
+    (sym c.take.ensures.value ∙ c.in-Some-take.is)
