@@ -6,7 +6,6 @@ use Rattle.cct_model.specs.terms.wire.TheConstants.{HOST}
 use Rattle.cct_model.specs.terms.device.DeviceSetup.{DeviceSetup}
 use Rattle.cct_model.specs.terms.device.Setup.{Setup}
 use Rattle.cct_model.specs.lines.command.Command.{Command}
-use Rattle.cct_model.specs.lines.command.Command.TheVariants as command
 use Rattle.cct_model.specs.lines.entry.End.{End}
 use Rattle.cct_model.specs.lines.entry.Entry.{Entry}
 use Rattle.cct_model.specs.declared.judging.EpochState.{EpochState}
@@ -42,7 +41,7 @@ use Rattle.cct_host.specs.declared.desk.JobDesk.{JobDesk}
 use Rattle.cct_host.specs.declared.desks.Desks.{Desks}
 use Rattle.cct_host.specs.Desk.{AllSit, Sits, Works, held_at, held_in, reserved_over}
 use Rattle.cct_host.specs.Desks.{StandsFor, amount_at_desk, due_at_desk, held_of, reserved_of, setup_of}
-use Rattle.cct_host.specs.Held.{coins_by, due_by, held_by, order_left, price_by, put_in}
+use Rattle.cct_host.specs.Held.{coins_by, due_by, held_by, price_by, put_in}
 use Rattle.cct_host.specs.Place.{device, sales}
 use Rattle.cct_host.specs.Running.{is_running}
 

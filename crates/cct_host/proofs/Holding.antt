@@ -1,5 +1,5 @@
 -- How what a desk holds and reserves changes, whatever happened before.
-use Rattle.std.proofs.Common.{◌≡◌, ℕ, ◌+◌, ◌≤◌, Bool, true, false, cond, List, [], ◌∷◌, refl, sym, ap, subst, ◌∙◌, Option, Some, None, arith}
+use Rattle.std.proofs.Common.{◌≡◌, ℕ, ◌+◌, ◌≤◌, Bool, true, false, List, [], ◌∷◌, refl, sym, ap, subst, ◌∙◌, Option, Some, None, arith}
 use Rattle.std.specs.Prelude.{IsTrue, is_some}
 use Rattle.cct_model.specs.terms.device.DeviceSetup.{DeviceSetup}
 use Rattle.cct_model.specs.terms.device.Setup.{Setup}

@@ -14,7 +14,7 @@ use Rattle.cct_model.specs.Line as line
 use Rattle.cct_model.specs.Job as model
 use Rattle.cct_model.specs.Legal.{with_end}
 use Rattle.cct_model.specs.Job.{address_of, ident_requests}
-use Rattle.cct_model.specs.Rows.{id_in, rows_of, rows_of_sale}
+use Rattle.cct_model.specs.Rows.{id_in}
 use Rattle.cct_model.proofs.Rows.{told_fact}
 use Rattle.cct_model.specs.Order.{order, order_by}
 use Rattle.cct_model.specs.Refusal.{running_id, sale_id}
