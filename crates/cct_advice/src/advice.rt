@@ -20,8 +20,8 @@ enum Said<'a> {
     Sentence(&'static str),
 }
 
-/// What there is to say behind this last line of a transcript, which may have its line feed, and behind these last bytes
-/// of the script; `None` behind a line that says all itself.
+/// What there is to say after this last line of a transcript, which may have its line feed, and after these last bytes
+/// of the script; `None` after a line that says all itself.
 pub fn advise<'a>(last: &'a [u8], script: &'a Window) -> Option<Advice<'a>> {
     let line = match last {
         [line @ .., b'\n'] => line,

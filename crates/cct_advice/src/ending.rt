@@ -22,7 +22,7 @@ const UNREAD: &str =
     "standard input couldn't be read; the steps before were played (docs/OPERATING.md, \"Exit statuses\")";
 
 const DISK_FAULT: &str =
-    "cctalk.jnl couldn't be opened, made, read, written or synced; on a read-only medium, copy it first (docs/OPERATING.md, \"Behind a disk fault\")";
+    "cctalk.jnl couldn't be opened, made, read, written or synced; on a read-only medium, copy it first (docs/OPERATING.md, \"After a disk fault\")";
 
 const NOT_BLANK: &str =
     "cctalk.jnl is used, mostly by an earlier run; report it, move it away, and run again (docs/OPERATING.md, \"Exit statuses\")";
@@ -40,7 +40,7 @@ const BAD: &str =
     "a record of cctalk.jnl can't be read, or doesn't follow those before it; keep the file as it is (docs/OPERATING.md, \"A journal that isn't right\")";
 
 const LOST: &str =
-    "behind a loss of power cctalk.jnl has another number of records than were put; keep the file as it is (docs/OPERATING.md, \"A journal that isn't right\")";
+    "after a power cut cctalk.jnl has another number of records than were put; keep the file as it is (docs/OPERATING.md, \"A journal that isn't right\")";
 
 /// What a last line means that is no refusal of a script's line, by its fields.
 pub(crate) fn meaning_of(word: &[u8], rest: &[u8]) -> Option<&'static str> {
@@ -58,7 +58,7 @@ pub(crate) fn meaning_of(word: &[u8], rest: &[u8]) -> Option<&'static str> {
     }
 }
 
-/// What is wrong with a journal, by what stands behind the word `journal`.
+/// What is wrong with a journal, by what stands after the word `journal`.
 fn journal_meaning(rest: &[u8]) -> Option<&'static str> {
     match first_field(rest).0 {
         b"alien" => Some(ALIEN),

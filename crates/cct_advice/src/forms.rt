@@ -29,7 +29,7 @@ impl Field {
     }
 }
 
-/// A form of a line: the part of the script in which it may stand, its word, and the fields behind it.
+/// A form of a line: the part of the script in which it may stand, its word, and the fields after it.
 #[derive(Clone, Copy)]
 pub(crate) struct Form(Part, &'static str, &'static [Field]);
 
@@ -44,7 +44,7 @@ impl Form {
         self.1
     }
 
-    /// The fields behind the word.
+    /// The fields after the word.
     pub(crate) fn fields(&self) -> &'static [Field] {
         self.2
     }
@@ -130,7 +130,7 @@ const SENT: Field = Field("PIECE", Rule::Piece(MOST_SENT));
 
 const HEARD: Field = Field("PIECE", Rule::Piece(MOST_HEARD));
 
-/// The fields of a line that has an address alone behind its word.
+/// The fields of a line that has an address alone after its word.
 const AT: &[Field] = &[A];
 
 /// The forms of all lines, in the order of the document.
@@ -186,7 +186,7 @@ impl fmt::Display for FormsOf<'_> {
     }
 }
 
-/// Writes a form behind a joint where it is of the word, and gives the joint for the next one.
+/// Writes a form after a joint where it is of the word, and gives the joint for the next one.
 fn write_joined<W: fmt::Write>(
     joint: &'static str,
     wanted: &FormsOf<'_>,

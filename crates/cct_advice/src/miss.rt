@@ -7,14 +7,14 @@ use crate::rule::{Rule, misspelling};
 use crate::shown::Shown;
 use std::fmt;
 
-/// What is wrong behind a word.
+/// What is wrong after a word.
 #[derive(Clone, Copy)]
 enum Wrong<'l> {
     /// This field is missing.
     Missing(Field),
     /// This field is something else.
     Unfit(Field, &'l [u8]),
-    /// Something stands behind the last field, or behind a word that stands alone.
+    /// Something stands after the last field, or after a word that stands alone.
     Surplus(&'static str, &'l [u8]),
 }
 
@@ -43,7 +43,7 @@ pub(crate) fn miss_in<'l>(part: Part, line: &'l [u8]) -> Option<Miss<'l>> {
     nearest
 }
 
-/// Where what stands behind a word misses a form, if it does.
+/// Where what stands after a word misses a form, if it does.
 fn miss_of<'l>(form: &Form, rest: Option<&'l [u8]>) -> Option<Miss<'l>> {
     let is_full = fields_behind(rest) == form.fields().len();
     let mut rest = rest;
@@ -80,7 +80,7 @@ fn unfit_in<'l>(field: &Field, text: &'l [u8]) -> Option<Wrong<'l>> {
     Some(Wrong::Unfit(*field, text))
 }
 
-/// The one of two misses behind which more is right; the earlier one where both are alike.
+/// The one of two misses after which more is right; the earlier one where both are alike.
 fn nearer<'l>(earlier: Option<Miss<'l>>, later: Miss<'l>) -> Miss<'l> {
     match earlier {
         Some(miss) if later.place < miss.place => miss,
@@ -133,17 +133,17 @@ fn write_unfit<W: fmt::Write>(field: Field, text: &[u8], f: &mut fmt::Formatter<
     }
 }
 
-/// Writes that something stands behind a field or a word.
+/// Writes that something stands after a field or a word.
 fn write_surplus<W: fmt::Write>(name: &str, text: &[u8], f: &mut fmt::Formatter<W>) -> fmt::Result {
     let shown = Shown(text);
     if is_remark(text) {
         return write!(
             f,
-            "\"{shown}\" stands behind {name}: a script has no comments"
+            "\"{shown}\" stands after {name}: a script has no comments"
         );
     }
     write!(
         f,
-        "\"{shown}\" stands behind {name}, where the line has to end"
+        "\"{shown}\" stands after {name}, where the line has to end"
     )
 }

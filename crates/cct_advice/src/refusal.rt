@@ -106,7 +106,7 @@ impl Refusal<'_> {
             b"long" => write!(f, "the line has more than {MOST_LINE} bytes"),
             b"lines" => write!(f, "a script has at most {MOST_LINES} lines"),
             _ => f.write_str(
-                "something stands behind the line end; its line feed has to be the last byte",
+                "something stands after the line end; its line feed has to be the last byte",
             ),
         }
     }

@@ -11,7 +11,7 @@ const LONGEST: usize = MOST_LINE + 1;
 /// How many bytes are kept.
 const ROOM: usize = 2 * LONGEST;
 
-/// The line behind which the steps begin.
+/// The line after which the steps begin.
 const BEGIN: &[u8] = b"begin";
 
 /// The last bytes that were taken of a script, the line that is read among them, and how many lines came before.
@@ -99,7 +99,7 @@ impl Window {
     }
 }
 
-/// How many bytes of `begin` are spelt behind one more byte.
+/// How many bytes of `begin` are spelt after one more byte.
 fn spelt_on(len: usize, byte: u8) -> Option<usize> {
     let next = BEGIN.get(len)?;
     if *next == byte { Some(len + 1) } else { None }

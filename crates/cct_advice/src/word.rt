@@ -55,7 +55,7 @@ fn write_known<W: fmt::Write>(
         ),
         Part::Steps => write!(
             f,
-            "{name} is a word of step lines, which stand behind the line begin"
+            "{name} is a word of step lines, which stand after the line begin"
         ),
     }
 }
