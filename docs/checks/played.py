@@ -36,10 +36,15 @@ class Played:
         self.faults.append(f"{place}: line {first + 1} is {got[first:first + 1]}, wanted {wanted[first:first + 1]}")
 
 
-def run(program: Path, words: list[str], given: bytes) -> tuple[int, list[str]]:
-    """The exit status of the program and the lines that it wrote, in a new empty folder, where its journal stays."""
+def call(program: Path, words: list[str], given: bytes) -> subprocess.CompletedProcess:
+    """One call of the program, in a new empty folder, where its journal stays."""
     with tempfile.TemporaryDirectory() as folder:
-        done = subprocess.run([program, *words], input=given, cwd=folder, stdout=subprocess.PIPE, timeout=60, check=False)
+        return subprocess.run([program, *words], input=given, cwd=folder, capture_output=True, timeout=60, check=False)
+
+
+def run(program: Path, words: list[str], given: bytes) -> tuple[int, list[str]]:
+    """The exit status of the program and the lines that it wrote."""
+    done = call(program, words, given)
     return done.returncode, done.stdout.decode().splitlines()
 
 

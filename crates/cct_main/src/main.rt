@@ -1,30 +1,95 @@
 //! The program: plays the script on standard input by the words of the command line, writes the transcript to standard
-//! output, and ends with the status as exit status. It prints nothing itself.
+//! output, and ends with the status as exit status. What a last line means, or what is wrong with a refused line, it says
+//! on standard error (`cct_advice`).
 #![tactic(auto)]
 
+use cct_advice::{KeptSink, KeptSource, MEMORY, NO_JOURNAL, UNWRITTEN, USAGE, advise};
 use cct_bench::{Status, bench};
 use cct_disk::FileDisk;
-use cct_edge::{StdSink, StdSource};
+use cct_edge::{Failed, StdSink, StdSource};
+use cct_lines::Entry;
+use cct_text::put_entry;
+use std::fs::Files;
 use std::io::ErrorKind;
 use std::process::ExitCode;
 use std::rt::Env;
-use std::{env, io};
+use std::{env, fs, io};
 
 /// The file of the journal, in the current folder.
 const JOURNAL: &str = "cctalk.jnl";
 
 fn main(rt: HostRuntime) -> ExitCode {
     let status = match words(&rt) {
-        Ok(words) => {
-            let mut script = StdSource::new(rt.reader());
-            let mut out = StdSink::new(io::writer(&rt));
-            let disk = FileDisk::open_file(&rt, JOURNAL);
-            let (status, _) = bench(rt.alloc(), words.as_slice(), &mut script, &mut out, disk);
-            status
+        Ok(words) if is_help(words.as_slice()) => help(&rt),
+        Ok(words) => play(&rt, words.as_slice()),
+        Err(_) => {
+            let _ = rt.eprintln(MEMORY);
+            Status::OutOfMemory
         }
-        Err(_) => Status::OutOfMemory,
     };
     ExitCode::from(status.code())
+}
+
+/// Does what the words say, and tells on standard error what there is to say of the end.
+fn play(rt: &HostRuntime, words: &[String]) -> Status {
+    if is_report(words) && is_missing(rt) {
+        return report_nothing(rt);
+    }
+    let mut script = KeptSource::new(StdSource::new(rt.reader()));
+    let mut out = KeptSink::new(StdSink::new(io::writer(rt)));
+    let disk = FileDisk::open_file(rt, JOURNAL);
+    let (status, _) = bench(rt.alloc(), words, &mut script, &mut out, disk);
+    let _ = match status {
+        Status::Done => Ok(()),
+        Status::OutOfMemory => rt.eprintln(MEMORY),
+        Status::WriteFault => rt.eprintln(UNWRITTEN),
+        _ => match advise(out.last(), script.window()) {
+            Some(advice) => rt.eprintln(advice),
+            None => Ok(()),
+        },
+    };
+    status
+}
+
+/// Whether there is no file of a journal, nor a link of its name.
+fn is_missing(rt: &impl Files) -> bool {
+    match fs::symlink_metadata(rt, JOURNAL) {
+        Ok(_) => false,
+        Err(error) => error.kind() == ErrorKind::NotFound,
+    }
+}
+
+/// A report where there is no file: it says what one of a blank file does. None is made.
+fn report_nothing(rt: &HostRuntime) -> Status {
+    let mut out = StdSink::new(io::writer(rt));
+    match put_entry(&mut out, &Entry::JournalAlien) {
+        Ok(()) => {
+            let _ = rt.eprintln(NO_JOURNAL);
+            Status::JournalLost
+        }
+        Err(Failed) => {
+            let _ = rt.eprintln(UNWRITTEN);
+            Status::WriteFault
+        }
+    }
+}
+
+/// Whether the words are those of a report.
+fn is_report(words: &[String]) -> bool {
+    matches!(words, [word] if word.as_str() == "report")
+}
+
+/// Whether the words ask how the program is called.
+fn is_help(words: &[String]) -> bool {
+    matches!(words, [word] if word.as_str() == "--help")
+}
+
+/// Writes how the program is called.
+fn help(rt: &impl Print) -> Status {
+    match rt.println(USAGE) {
+        Ok(()) => Status::Done,
+        Err(_) => Status::WriteFault,
+    }
 }
 
 /// The words of the command line, without the program's name. A word that isn't UTF-8 can't be one of the grammar, and

@@ -1,0 +1,23 @@
+//! What the program says on standard error: which field of a refused line doesn't fit and the form that is wanted, or
+//! what the last line of a transcript means and where to read on. It re-reads the line by rules of its own, field by
+//! field, which stand in one table (`docs/SCRIPT.md`, "Lines and fields"), and promises nothing but safety.
+#![tactic(auto)]
+
+mod advice;
+mod ending;
+mod fields;
+mod forms;
+mod front;
+mod gaps;
+mod kept;
+mod miss;
+mod refusal;
+mod rule;
+mod shown;
+mod window;
+mod word;
+
+pub use advice::{Advice, advise};
+pub use ending::{MEMORY, NO_JOURNAL, UNWRITTEN, USAGE};
+pub use kept::{KeptSink, KeptSource};
+pub use window::Window;

@@ -1,0 +1,149 @@
+//! Where a line misses its form.
+
+use crate::fields::{fields_behind, first_field};
+use crate::forms::{FORMS, Field, Form, FormsOf, Part};
+use crate::gaps::is_remark;
+use crate::rule::{Rule, misspelling};
+use crate::shown::Shown;
+use std::fmt;
+
+/// What is wrong after a word.
+#[derive(Clone, Copy)]
+enum Wrong<'l> {
+    /// This field is missing.
+    Missing(Field),
+    /// This field is something else.
+    Unfit(Field, &'l [u8]),
+    /// Something stands after the last field, or after a word that stands alone.
+    Surplus(&'static str, &'l [u8]),
+}
+
+/// Where a line misses a form of its word.
+#[derive(Clone, Copy)]
+pub(crate) struct Miss<'l> {
+    form: Form,
+    /// How many fields are right before it.
+    place: usize,
+    /// Whether the line has as many fields as the form.
+    is_full: bool,
+    wrong: Wrong<'l>,
+}
+
+/// Where a line misses the form of its word that it comes nearest to, or `None` where the word has no form, or nothing
+/// is found wrong.
+pub(crate) fn miss_in<'l>(part: Part, line: &'l [u8]) -> Option<Miss<'l>> {
+    let (word, rest) = first_field(line);
+    let mut nearest: Option<Miss<'l>> = None;
+    for form in FORMS {
+        if form.is_of(part, word) {
+            let miss = miss_of(form, rest)?;
+            nearest = Some(nearer(nearest, miss));
+        }
+    }
+    nearest
+}
+
+/// Where what stands after a word misses a form, if it does.
+fn miss_of<'l>(form: &Form, rest: Option<&'l [u8]>) -> Option<Miss<'l>> {
+    let is_full = fields_behind(rest) == form.fields().len();
+    let mut rest = rest;
+    let mut before = form.word();
+    for (place, field) in form.fields().iter().enumerate() {
+        let wrong = match rest {
+            None => Some(Wrong::Missing(*field)),
+            Some(text) => unfit_in(field, first_field(text).0),
+        };
+        if let Some(wrong) = wrong {
+            return Some(Miss {
+                form: *form,
+                place,
+                is_full,
+                wrong,
+            });
+        }
+        rest = rest.and_then(|text| first_field(text).1);
+        before = field.name();
+    }
+    Some(Miss {
+        form: *form,
+        place: form.fields().len(),
+        is_full,
+        wrong: Wrong::Surplus(before, rest?),
+    })
+}
+
+/// What is wrong with a field, if anything is.
+fn unfit_in<'l>(field: &Field, text: &'l [u8]) -> Option<Wrong<'l>> {
+    if field.rule().fits(text) {
+        return None;
+    }
+    Some(Wrong::Unfit(*field, text))
+}
+
+/// The one of two misses after which more is right; the earlier one where both are alike.
+fn nearer<'l>(earlier: Option<Miss<'l>>, later: Miss<'l>) -> Miss<'l> {
+    match earlier {
+        Some(miss) if later.place < miss.place => miss,
+        Some(miss) if later.place == miss.place && (miss.is_full || !later.is_full) => miss,
+        _ => later,
+    }
+}
+
+impl fmt::Display for Miss<'_> {
+    fn fmt<W: fmt::Write>(&self, f: &mut fmt::Formatter<W>) -> fmt::Result {
+        let form = self.form;
+        if self.place == 0 {
+            let forms = FormsOf {
+                part: form.part(),
+                word: form.word().as_bytes(),
+            };
+            write!(f, "{forms}; ")?;
+        } else {
+            write!(f, "{form}; ")?;
+        }
+        match self.wrong {
+            Wrong::Missing(field) => write_missing(field, f),
+            Wrong::Unfit(field, text) => write_unfit(field, text, f),
+            Wrong::Surplus(name, text) => write_surplus(name, text, f),
+        }
+    }
+}
+
+/// Writes that a field is missing; one that is a word has no name.
+fn write_missing<W: fmt::Write>(field: Field, f: &mut fmt::Formatter<W>) -> fmt::Result {
+    let name = field.name();
+    match field.rule() {
+        Rule::Only(_) => f.write_str("a field is missing"),
+        _ => write!(f, "{name} is missing"),
+    }
+}
+
+/// Writes what a field has to be, and what it is.
+fn write_unfit<W: fmt::Write>(field: Field, text: &[u8], f: &mut fmt::Formatter<W>) -> fmt::Result {
+    let shown = Shown(text);
+    let name = field.name();
+    let rule = field.rule();
+    match rule {
+        Rule::Only(_) => write!(f, "no form has \"{shown}\" there"),
+        Rule::Number(_, _) => {
+            let spelling = misspelling(text);
+            write!(f, "{name} is {rule}{spelling}, not \"{shown}\"")
+        }
+        _ => write!(f, "{name} is {rule}, not \"{shown}\""),
+    }
+}
+
+/// Writes that something stands after a field or a word.
+fn write_surplus<W: fmt::Write>(name: &str, text: &[u8], f: &mut fmt::Formatter<W>) -> fmt::Result {
+    let shown = Shown(text);
+    if is_remark(text) {
+        return write!(
+            f,
+            "\"{shown}\" stands after {name}: a script has no comments"
+        );
+    }
+    write!(
+        f,
+        "\"{shown}\" stands after {name}, where the line has to end"
+    )
+}

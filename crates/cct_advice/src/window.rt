@@ -1,0 +1,117 @@
+//! The last bytes of a script that were taken.
+ghost use Rattle.std.specs.Prelude.{◌≡◌, ◌≤◌, length};
+ghost use Rattle.cct_advice.specs.declared.window.TheConstants.{LONGEST, ROOM};
+
+use crate::forms::Part;
+use cct_lines::MOST_LINE;
+
+/// The most bytes that the reader of lines holds: a line, and one byte.
+const LONGEST: usize = MOST_LINE + 1;
+
+/// How many bytes are kept.
+const ROOM: usize = 2 * LONGEST;
+
+/// The line after which the steps begin.
+const BEGIN: &[u8] = b"begin";
+
+/// The last bytes that were taken of a script, the line that is read among them, and how many lines came before.
+#[derive(Drop)]
+pub struct Window {
+    bytes: [u8; ROOM],
+    len: usize,
+    /// How many line feeds were taken.
+    feeds: u64,
+    /// How many bytes of `begin` the last line has so far, where it has no others.
+    spelt: Option<usize>,
+    /// The number of the line `begin`.
+    begun: Option<u64>,
+    ghost short: { len ≤ ROOM },
+}
+
+impl Window {
+    /// No byte was taken.
+    pub(crate) fn new() -> Self {
+        Window {
+            bytes: [0; ROOM],
+            len: 0,
+            feeds: 0,
+            spelt: Some(0),
+            begun: None,
+        }
+    }
+
+    /// Adds the bytes of a take.
+    pub(crate) fn note(&mut self, piece: &[u8]) {
+        for byte in piece {
+            self.count(*byte);
+        }
+        let from = piece.len().saturating_sub(LONGEST);
+        self.keep(&piece[from..]);
+    }
+
+    /// Counts the lines, and looks for the line `begin`.
+    fn count(&mut self, byte: u8) {
+        if byte != b'\n' {
+            self.spelt = self.spelt.and_then(|len| spelt_on(len, byte));
+            return;
+        }
+        self.feeds = self.feeds.saturating_add(1);
+        if self.begun.is_none() && self.spelt == Some(BEGIN.len()) {
+            self.begun = Some(self.feeds);
+        }
+        self.spelt = Some(0);
+    }
+
+    /// Keeps these bytes, and of those before as many as a line may have.
+    fn keep(&mut self, piece: &[u8])
+        requires { length piece.now ≤ LONGEST }
+    {
+        if piece.len() > ROOM - self.len {
+            let from = self.len - LONGEST;
+            self.bytes.copy_within(from..self.len, 0);
+            self.len = LONGEST;
+        }
+        let end = self.len + piece.len();
+        self.bytes[self.len..end].copy_from_slice(piece);
+        self.len = end;
+    }
+
+    /// What was taken of the line of this number, without its line feed, where it is among the last bytes.
+    pub(crate) fn line(&self, number: u64) -> Option<&[u8]> {
+        let behind = self.feeds.saturating_add(1).checked_sub(number)?;
+        let held = &self.bytes[..self.len];
+        let mut left = feeds_in(held);
+        for line in held.split(|byte| *byte == b'\n') {
+            if left == behind {
+                return Some(line);
+            }
+            left = left.saturating_sub(1);
+        }
+        None
+    }
+
+    /// The part of the script in which the line of this number stands.
+    pub(crate) fn part(&self, number: u64) -> Part {
+        match self.begun {
+            Some(begun) if begun < number => Part::Steps,
+            _ => Part::Setup,
+        }
+    }
+}
+
+/// How many bytes of `begin` are spelt after one more byte.
+fn spelt_on(len: usize, byte: u8) -> Option<usize> {
+    let next = BEGIN.get(len)?;
+    if *next == byte { Some(len + 1) } else { None }
+}
+
+/// How many line feeds there are.
+fn feeds_in(bytes: &[u8]) -> u64 {
+    let mut count: u64 = 0;
+    for byte in bytes {
+        if *byte == b'\n' {
+            count = count.saturating_add(1);
+        }
+    }
+    count
+}

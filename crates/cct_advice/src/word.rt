@@ -1,0 +1,74 @@
+//! What is wrong with the word of a line.
+
+use crate::fields::first_field;
+use crate::forms::{FORMS, Form, Part, WordsOf};
+use crate::gaps::is_remark;
+use crate::shown::Shown;
+use std::fmt;
+
+/// A line whose word its part of the script doesn't have.
+#[derive(Drop)]
+pub(crate) struct BadWord<'l> {
+    pub part: Part,
+    pub line: &'l [u8],
+}
+
+impl fmt::Display for BadWord<'_> {
+    fn fmt<W: fmt::Write>(&self, f: &mut fmt::Formatter<W>) -> fmt::Result {
+        if self.line.is_empty() {
+            return f.write_str("the line is empty; leave it out");
+        }
+        if is_remark(self.line) {
+            return f.write_str("a script has no comments; leave the line out");
+        }
+        let (word, _) = first_field(self.line);
+        match form_named(word) {
+            Some(form) => write_known(self.part, form, word, f),
+            None => write_unknown(self.part, word, f),
+        }
+    }
+}
+
+/// The first form with this word, in letters of either case.
+fn form_named(word: &[u8]) -> Option<&'static Form> {
+    FORMS
+        .iter()
+        .find(|form| form.word().as_bytes().eq_ignore_ascii_case(word))
+}
+
+/// Writes that a word is of the other part, or isn't in lower case.
+fn write_known<W: fmt::Write>(
+    part: Part,
+    form: &Form,
+    word: &[u8],
+    f: &mut fmt::Formatter<W>,
+) -> fmt::Result {
+    let name = form.word();
+    if form.part() == part {
+        let shown = Shown(word);
+        return write!(f, "words are in lower case; write {name}, not \"{shown}\"");
+    }
+    match form.part() {
+        Part::Setup => write!(
+            f,
+            "{name} is a word of setup lines, which stand up to the line begin"
+        ),
+        Part::Steps => write!(
+            f,
+            "{name} is a word of step lines, which stand after the line begin"
+        ),
+    }
+}
+
+/// Writes that no line has a word, and the words of its part.
+fn write_unknown<W: fmt::Write>(part: Part, word: &[u8], f: &mut fmt::Formatter<W>) -> fmt::Result {
+    let shown = Shown(word);
+    let words = WordsOf(part);
+    match part {
+        Part::Setup => write!(
+            f,
+            "\"{shown}\" is no word of a setup line; they are {words}"
+        ),
+        Part::Steps => write!(f, "\"{shown}\" is no word of a step line; they are {words}"),
+    }
+}
