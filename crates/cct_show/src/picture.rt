@@ -1,28 +1,52 @@
-//! The form `svg`: a sequence picture of all lines.
+//! The form `svg`: a sequence picture of all lines, or of a part.
 
 use crate::lines::{LineSink, read_lines};
-use crate::mark::mark_of;
+use crate::mark::{kind_told, mark_of, place_of};
 use crate::status::{Status, Stop};
-use cct_draw::{Label, Mark, Picture};
+use arrayvec::ArrayVec;
+use cct_draw::{FaultAt, Label, Mark, Picture};
 use cct_edge::{Sink, Source};
-use std::alloc::Global;
+use cct_lines::{Entry, MOST_TEXT};
+use cct_tell::read_line;
+use std::alloc::{AllocError, Global};
+
+/// The lines that a picture is of, by the first and the last one, counted from 1.
+#[derive(Clone, Copy)]
+pub(crate) struct Part {
+    pub(crate) from: u64,
+    pub(crate) to: u64,
+}
 
 /// The marks of the lines so far.
 #[derive(Drop)]
 struct Marks {
+    alloc: Global,
     picture: Picture,
+    part: Part,
+    /// How many lines there were.
+    count: u64,
+    /// The last line of the part, where a line equal to it has the same mark.
+    last: Option<ArrayVec<u8, MOST_TEXT>>,
+    /// The fault that the wire has in the next exchange.
+    fault: FaultAt,
     /// Whether the line that isn't at its end yet has its mark already.
     is_marked: bool,
 }
 
-/// Draws all lines of a source, and writes the picture behind the last one.
+/// Draws the lines of a part of a source, and writes the picture after the last one.
 pub(crate) fn show_picture<S: Source, K: Sink>(
     alloc: Global,
+    part: Part,
     source: &mut S,
     out: &mut K,
 ) -> Status {
     let mut marks = Marks {
+        alloc,
         picture: Picture::new(alloc),
+        part,
+        count: 0,
+        last: None,
+        fault: FaultAt::Nowhere,
         is_marked: false,
     };
     Status::of(draw(&mut marks, source, out))
@@ -35,10 +59,66 @@ fn draw<S: Source, K: Sink>(marks: &mut Marks, source: &mut S, out: &mut K) -> R
     Ok(())
 }
 
+impl Marks {
+    /// Counts one more line, and tells whether it is of the part.
+    fn count_line(&mut self) -> bool {
+        self.count = self.count.saturating_add(1);
+        self.part.from <= self.count && self.count <= self.part.to
+    }
+
+    /// Adds a mark for the line that was counted last.
+    fn add(&mut self, mark: Mark) -> Result<(), AllocError> {
+        if let Some((addr, kind)) = kind_told(&mark) {
+            self.picture.learn(addr, kind);
+        }
+        self.picture.add(self.count, Label::empty(), mark)
+    }
+
+    /// The fault that this entry has, if it is an exchange, and is then over.
+    fn fault_in(&mut self, entry: &Option<Entry>) -> FaultAt {
+        let fault = self.fault;
+        match entry {
+            Some(Entry::Fault(next)) => self.fault = place_of(next),
+            Some(Entry::Wire { .. }) => self.fault = FaultAt::Nowhere,
+            _ => {}
+        }
+        fault
+    }
+
+    /// Whether a line is equal to the last one of the part.
+    fn is_equal(&self, line: &[u8]) -> bool {
+        match &self.last {
+            Some(last) => last.as_slice() == line,
+            None => false,
+        }
+    }
+
+    /// Keeps a line as the last one, which had this fault.
+    fn keep(&mut self, line: &[u8], fault: FaultAt) {
+        let mut last = ArrayVec::new();
+        let is_whole = last.try_extend_from_slice(line).is_ok();
+        self.last = if is_whole && fault == FaultAt::Nowhere {
+            Some(last)
+        } else {
+            None
+        };
+    }
+}
+
 impl LineSink for Marks {
     fn line(&mut self, line: &[u8]) -> Result<(), Stop> {
-        self.picture
-            .add(mark_of(line.strip_suffix(b"\r").unwrap_or(line)))?;
+        let line = line.strip_suffix(b"\r").unwrap_or(line);
+        let entry = read_line(line);
+        let fault = self.fault_in(&entry);
+        if !self.count_line() {
+            return Ok(());
+        }
+        if fault == FaultAt::Nowhere && self.is_equal(line) {
+            self.picture.add_equal();
+            return Ok(());
+        }
+        self.add(mark_of(self.alloc, line, entry, fault)?)?;
+        self.keep(line, fault);
         Ok(())
     }
 
@@ -47,7 +127,10 @@ impl LineSink for Marks {
             return Ok(());
         }
         self.is_marked = true;
-        self.picture.add(Mark::Note(Label::new(bytes)))?;
+        self.last = None;
+        if self.count_line() {
+            self.add(Mark::Note(Label::new(bytes)))?;
+        }
         Ok(())
     }
 

@@ -1,14 +1,15 @@
 //! How a job ended, by the line that says it.
 
 use crate::fields::{byte, one_byte, two_bytes};
-use cct_lines::{End, Entry, HOST};
+use cct_lines::{BROADCAST, DeviceSet, End, Entry, HOST, Listed};
 
-/// The entry of a line that says how a job ended, but for the list of a scan.
+/// The entry of a line that says how a job ended.
 pub(crate) fn end_line(word: &[u8], rest: &[&[u8]]) -> Option<Entry> {
     match word {
         b"sold" => sold_line(rest),
         b"unquiet" => unquiet_line(rest),
         b"pathset" => path_line(rest),
+        b"listed" => listed_line(rest),
         _ => Some(Entry::Ended {
             end: bare_end(word)?,
             addr: one_byte(rest)?,
@@ -45,6 +46,41 @@ fn path_line(rest: &[&[u8]]) -> Option<Entry> {
         addr,
         end: End::PathSet { place, path },
     })
+}
+
+/// The line `listed LIST`; a scan is at the address of all.
+fn listed_line(rest: &[&[u8]]) -> Option<Entry> {
+    let [list] = rest else {
+        return None;
+    };
+    let mut listed = Listed {
+        simple: DeviceSet::new(),
+        crc: DeviceSet::new(),
+    };
+    if *list != b"-".as_slice() {
+        for device in list.split(|byte| *byte == b',') {
+            add_device(&mut listed, device)?;
+        }
+    }
+    Some(Entry::Ended {
+        addr: BROADCAST,
+        end: End::Listed(listed),
+    })
+}
+
+/// Adds a device that a text names by address and check, as `2/simple`.
+fn add_device(listed: &mut Listed, device: &[u8]) -> Option<()> {
+    let mut parts = device.split(|byte| *byte == b'/');
+    let addr = byte(parts.next()?)?;
+    match parts.next()? {
+        b"simple" => listed.simple.insert(addr),
+        b"crc" => listed.crc.insert(addr),
+        _ => return None,
+    }
+    match parts.next() {
+        None => Some(()),
+        Some(_) => None,
+    }
 }
 
 /// The end that a word names which has an address behind it alone.

@@ -11,8 +11,8 @@ use cct_script::{piece_in, read_step_line};
 /// pieces in hexadecimal, what was sent and what was heard, each a hyphen where it is empty. That is an exchange with
 /// the address that the first byte sent names.
 ///
-/// `None` for any other line, and for those of which there is no more to say: the list of a scan, a refused line, the
-/// faults of a file, and the sums of a load.
+/// `None` for any other line, and for those of which there is no more to say: a refused line, the faults of a file, and
+/// the sums of a load.
 pub fn read_line(line: &[u8]) -> Option<Entry> {
     let fields = fields_of(line)?;
     let (word, rest) = fields.as_slice().split_first()?;

@@ -1,14 +1,79 @@
-//! What was heard, shorter than in words.
+//! What was sent and heard, shorter than in words.
 
 use crate::answer::Answer;
+use crate::asked::Asked;
 use crate::event::Event;
-use crate::lists::Addresses;
+use crate::fault::Fault;
+use crate::header::name_of;
+use crate::lists::{Addresses, Hex};
+use crate::register::Registers;
 use crate::reply::Says;
-use cct_lines::Credits;
-use cct_msg::Reply;
+use crate::request::Values;
+use cct_frame::FrameView;
+use cct_lines::{Credits, HOST};
+use cct_msg::{Reply, Request};
 use std::fmt;
 
-/// What a reply says, for a picture: shorter than below a line, and nothing for an answer whose kind says it all.
+/// What was sent, for a picture: the header, its name, and the values or the data bytes.
+#[derive(Drop)]
+pub struct ShortAsked<'a>(pub &'a Asked<'a>);
+
+impl fmt::Display for ShortAsked<'_> {
+    fn fmt<W: fmt::Write>(&self, f: &mut fmt::Formatter<W>) -> fmt::Result {
+        match *self.0 {
+            Asked::Nothing => f.write_str("nothing"),
+            Asked::Request {
+                header,
+                request,
+                ..
+            } => {
+                let name = name_of(header).unwrap_or("request");
+                write!(f, "{header} {name}")?;
+                write_values(&request, f)
+            }
+            Asked::Message { view, .. } => {
+                let message = ShortMessage(view);
+                write!(f, "{message}")
+            }
+            Asked::Broken(piece) => {
+                let piece = Hex(piece);
+                write!(f, "no message: {piece}")
+            }
+        }
+    }
+}
+
+/// Writes the values of a request, a mask as four hexadecimal digits.
+fn write_values<W: fmt::Write>(request: &Request, f: &mut fmt::Formatter<W>) -> fmt::Result {
+    match *request {
+        Request::SetMask { mask } => write!(f, ": mask {mask:04x}"),
+        Request::Dispense { count, .. } => write!(f, ": {count}"),
+        _ => {
+            let values = Values(request);
+            write!(f, "{values}")
+        }
+    }
+}
+
+/// A message by its header, its name and its data bytes. Who sent it and whom it is for is told where a reply names
+/// another than the host.
+#[derive(Drop)]
+struct ShortMessage<'m>(FrameView<'m>);
+
+impl fmt::Display for ShortMessage<'_> {
+    fn fmt<W: fmt::Write>(&self, f: &mut fmt::Formatter<W>) -> fmt::Result {
+        let header = self.0.header;
+        let name = name_of(header).unwrap_or("unnamed");
+        write!(f, "{header} {name}")?;
+        if !self.0.body.is_empty() {
+            let body = Hex(self.0.body);
+            write!(f, ", data {body}")?;
+        }
+        Ok(())
+    }
+}
+
+/// What was heard, for a picture: shorter than below a line, and nothing for an answer whose kind says it all.
 #[derive(Drop)]
 pub struct Short<'a>(pub &'a Answer<'a>);
 
@@ -19,10 +84,52 @@ impl fmt::Display for Short<'_> {
                 let addresses = Addresses(addresses);
                 write!(f, "{addresses}")
             }
-            Answer::NotWanted { .. } => f.write_str("not the wanted reply"),
             Answer::Reply { reply, .. } => write_short(reply, f),
-            _ => Ok(()),
+            Answer::Registers { registers, .. } => {
+                let registers = Registers(registers);
+                write!(f, "{registers}")
+            }
+            Answer::Dispensed { counter, .. } => write!(f, "event counter {counter}"),
+            _ => write_strange(self.0, f),
         }
+    }
+}
+
+/// Writes what isn't a wanted reply.
+fn write_strange<W: fmt::Write>(answer: &Answer<'_>, f: &mut fmt::Formatter<W>) -> fmt::Result {
+    match *answer {
+        Answer::EchoBad {
+            heard: Some(heard),
+            at,
+            ..
+        } => {
+            let place = at.saturating_add(1);
+            write!(f, "byte {place} heard as {heard:02x}")
+        }
+        Answer::EchoBad { at, .. } => {
+            let place = at.saturating_add(1);
+            write!(f, "no byte {place}")
+        }
+        Answer::Broken(fault) => {
+            let fault = Fault(fault);
+            write!(f, "{fault}")
+        }
+        Answer::NotWanted { view, .. } => {
+            if view.to != HOST {
+                let to = view.to;
+                write!(f, "to {to}, ")?;
+            }
+            if let Some(from) = view.from {
+                write!(f, "from {from}, ")?;
+            }
+            let message = ShortMessage(view);
+            write!(f, "{message}")
+        }
+        Answer::Message { view, .. } => {
+            let message = ShortMessage(view);
+            write!(f, "{message}")
+        }
+        _ => Ok(()),
     }
 }
 
