@@ -1,29 +1,83 @@
 //! The mark of an exchange on the wire.
 
+use crate::log::{Half, Log};
 use cct_draw::{Ask, FaultAt, Heard, Label, LaneKind, Mark, Reach, Reply};
 use cct_lines::Reply as Said;
 use cct_tell::{Answer, Asked, DeviceKind, Exchange, Short, ShortAsked, kind_for};
 use std::alloc::{AllocError, Global};
 use std::fmt::Write;
 
-/// The mark of an exchange with the device at the address, of which these bytes were sent and heard, with the fault that
-/// the wire had in it, where that is known. The error comes where there is no memory for it.
+/// The mark of an exchange of which these bytes were sent and heard, with the fault that the wire had in it, where that is
+/// known. The error comes where there is no memory for it.
 pub(crate) fn exchange_mark(
     alloc: Global,
-    addr: u8,
-    exchange: &Exchange<'_>,
     sent: &[u8],
     heard: &[u8],
     fault: FaultAt,
 ) -> Result<Mark, AllocError> {
-    let (addr, kind) = lane_of(addr, &exchange.asked);
+    let exchange = Exchange::new(sent, heard);
     let reach = reach_of(&exchange.answer, fault);
+    let (addr, kind) = lane_of(&exchange, sent);
+    let ask = match exchange.asked {
+        Asked::Nothing => None,
+        _ => Some(ask_of(alloc, &exchange.asked, reach, sent)?),
+    };
+    let reply = Some(reply_of(alloc, &exchange.answer, sent, heard)?);
     Ok(Mark::Exchange {
         addr,
         kind,
-        ask: Some(ask_of(alloc, &exchange.asked, reach, sent)?),
-        reply: Some(reply_of(alloc, &exchange.answer, sent, heard)?),
+        ask,
+        reply,
     })
+}
+
+/// The mark of the last line of a bus log.
+pub(crate) fn log_mark(alloc: Global, log: &Log) -> Result<Mark, AllocError> {
+    let mark = exchange_mark(
+        alloc,
+        log.sent.as_slice(),
+        log.heard.as_slice(),
+        FaultAt::Nowhere,
+    )?;
+    let Mark::Exchange {
+        addr,
+        kind,
+        ask,
+        reply,
+    } = mark else {
+        return Ok(mark);
+    };
+    Ok(match log.half {
+        Half::Both => Mark::Exchange {
+            addr,
+            kind,
+            ask,
+            reply,
+        },
+        Half::Sent => Mark::Exchange {
+            addr,
+            kind,
+            ask: ask.map(reached),
+            reply: None,
+        },
+        Half::Heard => Mark::Exchange {
+            addr,
+            kind,
+            ask: None,
+            reply,
+        },
+        Half::Echo => Mark::Note(Label::new(b"the echo")),
+    })
+}
+
+/// What was sent, as far as is known to its end: nothing tells of its echo yet.
+fn reached(ask: Ask) -> Ask {
+    let Ask { words, bytes, .. } = ask;
+    Ask {
+        words,
+        reach: Reach::Device,
+        bytes,
+    }
 }
 
 /// What was sent.
@@ -62,12 +116,16 @@ fn reply_of(
     })
 }
 
-/// The address that a message names, or else that of its line, and the kind of device that its header is for.
-fn lane_of(addr: u8, asked: &Asked<'_>) -> (u8, LaneKind) {
-    match asked {
-        Asked::Request { to, header, .. } => (*to, lane_kind(kind_for(*header))),
-        Asked::Message { view, .. } => (view.to, lane_kind(kind_for(view.header))),
-        Asked::Nothing | Asked::Broken(_) => (addr, LaneKind::Unknown),
+/// The address that what was sent names, or where nothing was sent what was heard, and the kind of device that the header
+/// is for.
+fn lane_of(exchange: &Exchange<'_>, sent: &[u8]) -> (u8, LaneKind) {
+    match (exchange.asked, exchange.answer) {
+        (Asked::Request { to, header, .. }, _) => (to, lane_kind(kind_for(header))),
+        (Asked::Message { view, .. }, _) => (view.to, lane_kind(kind_for(view.header))),
+        (Asked::Nothing, Answer::Message { view, .. }) => {
+            (view.from.unwrap_or(0), LaneKind::Unknown)
+        }
+        _ => (sent.first().copied().unwrap_or(0), LaneKind::Unknown),
     }
 }
 

@@ -4,6 +4,7 @@
 
 mod exchange;
 mod lines;
+mod log;
 mod mark;
 mod page;
 mod picture;

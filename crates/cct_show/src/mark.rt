@@ -3,7 +3,7 @@
 use crate::exchange::exchange_mark;
 use cct_draw::{FaultAt, Happening, Label, LaneKind, Mark};
 use cct_lines::{End, Entry, Record, WireFault};
-use cct_tell::{Exchange, alarm_of};
+use cct_tell::alarm_of;
 use std::alloc::{AllocError, Global};
 
 /// The mark of a line, without its line feed, which is this entry, where it is one. A line that says nothing known is a
@@ -15,10 +15,8 @@ pub(crate) fn mark_of(
     fault: FaultAt,
 ) -> Result<Mark, AllocError> {
     let mark = match entry {
-        Some(Entry::Wire { addr, sent, heard }) => {
-            let sent = sent.as_slice();
-            let heard = heard.as_slice();
-            return exchange_mark(alloc, addr, &Exchange::new(sent, heard), sent, heard, fault);
+        Some(Entry::Wire { sent, heard, .. }) => {
+            return exchange_mark(alloc, sent.as_slice(), heard.as_slice(), fault);
         }
         Some(Entry::Put(record)) => Mark::Put(record),
         Some(Entry::Kept(record)) => Mark::Kept(record),

@@ -1,14 +1,18 @@
 //! The form `svg`: a sequence picture of all lines, or of a part.
 
+use crate::exchange::log_mark;
 use crate::lines::{LineSink, read_lines};
+use crate::log::Log;
 use crate::mark::{kind_told, mark_of, place_of};
 use crate::status::{Status, Stop};
 use arrayvec::ArrayVec;
 use cct_draw::{FaultAt, Label, Mark, Picture};
 use cct_edge::{Sink, Source};
 use cct_lines::{Entry, MOST_TEXT};
+use cct_log::{LogLine, Time, read_log_line};
 use cct_tell::read_line;
 use std::alloc::{AllocError, Global};
+use std::fmt::Write;
 
 /// The lines that a picture is of, by the first and the last one, counted from 1.
 #[derive(Clone, Copy)]
@@ -27,6 +31,7 @@ struct Marks {
     count: u64,
     /// The last line of the part, where a line equal to it has the same mark.
     last: Option<ArrayVec<u8, MOST_TEXT>>,
+    log: Log,
     /// The fault that the wire has in the next exchange.
     fault: FaultAt,
     /// Whether the line that isn't at its end yet has its mark already.
@@ -46,6 +51,7 @@ pub(crate) fn show_picture<S: Source, K: Sink>(
         part,
         count: 0,
         last: None,
+        log: Log::new(),
         fault: FaultAt::Nowhere,
         is_marked: false,
     };
@@ -66,12 +72,43 @@ impl Marks {
         self.part.from <= self.count && self.count <= self.part.to
     }
 
-    /// Adds a mark for the line that was counted last.
-    fn add(&mut self, mark: Mark) -> Result<(), AllocError> {
+    /// Adds a mark for the line that was counted last, in which a time stands or none.
+    fn add(&mut self, time: Label, mark: Mark) -> Result<(), AllocError> {
         if let Some((addr, kind)) = kind_told(&mark) {
             self.picture.learn(addr, kind);
         }
-        self.picture.add(self.count, Label::empty(), mark)
+        self.picture.add(self.count, time, mark)
+    }
+
+    /// Takes a line of a bus log.
+    fn logged(&mut self, logged: &LogLine<'_>) -> Result<(), AllocError> {
+        let time = match &logged.time {
+            Some(time) => self.time_label(time),
+            None => Label::empty(),
+        };
+        self.log.take(&logged.said);
+        if !self.count_line() {
+            return Ok(());
+        }
+        if self.log.is_again && self.last.is_none() {
+            self.picture.add_equal();
+            return Ok(());
+        }
+        self.last = None;
+        let mark = log_mark(self.alloc, &self.log)?;
+        self.add(time, mark)
+    }
+
+    /// The words for a time: itself, and how long it is after the line before, where that has one too.
+    fn time_label(&mut self, time: &Time<'_>) -> Label {
+        let mut label = Label::new(time.text);
+        if let Some(micros) = self.log.since(time) {
+            let seconds = micros / 1_000_000;
+            let millis = micros / 1000 % 1000;
+            // A label takes any text.
+            let _ = write!(label, " +{seconds}.{millis:03}");
+        }
+        label
     }
 
     /// The fault that this entry has, if it is an exchange, and is then over.
@@ -109,6 +146,12 @@ impl LineSink for Marks {
     fn line(&mut self, line: &[u8]) -> Result<(), Stop> {
         let line = line.strip_suffix(b"\r").unwrap_or(line);
         let entry = read_line(line);
+        if entry.is_none()
+            && let Some(logged) = read_log_line(line)
+        {
+            self.logged(&logged)?;
+            return Ok(());
+        }
         let fault = self.fault_in(&entry);
         if !self.count_line() {
             return Ok(());
@@ -117,7 +160,8 @@ impl LineSink for Marks {
             self.picture.add_equal();
             return Ok(());
         }
-        self.add(mark_of(self.alloc, line, entry, fault)?)?;
+        let mark = mark_of(self.alloc, line, entry, fault)?;
+        self.add(Label::empty(), mark)?;
         self.keep(line, fault);
         Ok(())
     }
@@ -129,7 +173,7 @@ impl LineSink for Marks {
         self.is_marked = true;
         self.last = None;
         if self.count_line() {
-            self.add(Mark::Note(Label::new(bytes)))?;
+            self.add(Label::empty(), Mark::Note(Label::new(bytes)))?;
         }
         Ok(())
     }

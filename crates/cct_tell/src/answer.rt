@@ -12,7 +12,7 @@ use cct_wire::{EchoBad, Heard, bare_after_echo, hear};
 use std::fmt;
 
 /// The header of a reply that is no refusal.
-const REPLY: u8 = 0;
+pub(crate) const REPLY: u8 = 0;
 
 /// What was heard in an exchange, behind the echo of what was sent.
 #[derive(Clone, Copy)]

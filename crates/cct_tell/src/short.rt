@@ -1,6 +1,6 @@
 //! What was sent and heard, shorter than in words.
 
-use crate::answer::Answer;
+use crate::answer::{Answer, REPLY};
 use crate::asked::Asked;
 use crate::event::Event;
 use crate::fault::Fault;
@@ -55,21 +55,24 @@ fn write_values<W: fmt::Write>(request: &Request, f: &mut fmt::Formatter<W>) -> 
     }
 }
 
-/// A message by its header, its name and its data bytes. Who sent it and whom it is for is told where a reply names
-/// another than the host.
+/// A message by its header, its name and its data bytes; a reply by its data bytes alone.
 #[derive(Drop)]
 struct ShortMessage<'m>(FrameView<'m>);
 
 impl fmt::Display for ShortMessage<'_> {
     fn fmt<W: fmt::Write>(&self, f: &mut fmt::Formatter<W>) -> fmt::Result {
         let header = self.0.header;
-        let name = name_of(header).unwrap_or("unnamed");
-        write!(f, "{header} {name}")?;
-        if !self.0.body.is_empty() {
-            let body = Hex(self.0.body);
-            write!(f, ", data {body}")?;
+        let mut before = "";
+        if header != REPLY {
+            let name = name_of(header).unwrap_or("header without a name");
+            write!(f, "{header} {name}")?;
+            before = ", ";
         }
-        Ok(())
+        let body = Hex(self.0.body);
+        match self.0.body.len() {
+            0 => write!(f, "{before}no data"),
+            _ => write!(f, "{before}data {body}"),
+        }
     }
 }
 
