@@ -1,31 +1,77 @@
 //! A picture is a well-formed document, whatever its texts hold; it says what its marks are, and ends where a put fails.
-use cct_draw::{FaultAt, Happening, Heard, Label, Mark, Picture};
+use cct_draw::{Ask, FaultAt, Happening, Heard, Label, LaneKind, MOST_LABEL, Mark, Picture, Reach, Reply};
 use cct_edge::{Failed, MemSink};
 use cct_lines::{Coin, Coins, Record};
 use std::alloc::{AllocError, Global};
 use std::test::Fail;
 
 /// The elements of a picture.
-const NAMES: [&[u8]; 6] = [b"svg", b"style", b"rect", b"g", b"path", b"text"];
+const NAMES: [&[u8]; 7] = [
+    b"svg", b"style", b"rect", b"g", b"path", b"text", b"title",
+];
+
+/// What was sent, in these words.
+fn ask(alloc: Global, words: Label, reach: Reach, bytes: &[u8]) -> Result<Option<Ask>, AllocError> {
+    Ok(
+        Some(
+            Ask {
+                words,
+                reach,
+                bytes: bytes.to_vec(alloc)?,
+            },
+        ),
+    )
+}
+
+/// What was heard, in these words.
+fn reply(
+    alloc: Global,
+    heard: Heard,
+    words: Label,
+    bytes: &[u8],
+) -> Result<Option<Reply>, AllocError> {
+    Ok(
+        Some(
+            Reply {
+                heard,
+                words,
+                bytes: bytes.to_vec(alloc)?,
+            },
+        ),
+    )
+}
 
 /// Adds marks with this text in every place that a text has, for this device.
-fn add_texts(picture: &mut Picture, addr: u8, text: &[u8]) -> Result<(), AllocError> {
+fn add_texts(
+    alloc: Global,
+    picture: &mut Picture,
+    addr: u8,
+    text: &[u8],
+) -> Result<(), AllocError> {
     let words = Label::new(text);
-    picture.add(Mark::Exchange {
-        addr,
-        header: 229,
-        name: words,
-        heard: Heard::Answered,
-        says: words,
-    })?;
-    picture.add(Mark::Fault {
-        at: FaultAt::Host,
-        piece: words,
-    })?;
-    picture.add(Mark::Taken(words))?;
-    picture.add(Mark::Refused(words))?;
-    picture.add(Mark::Ended(words))?;
-    picture.add(Mark::Note(words))
+    picture.add(
+        1,
+        words,
+        Mark::Exchange {
+            addr,
+            kind: LaneKind::Unknown,
+            ask: ask(alloc, words, Reach::Device, text)?,
+            reply: reply(alloc, Heard::Answered, words, text)?,
+        },
+    )?;
+    picture.add(
+        2,
+        words,
+        Mark::Fault {
+            at: FaultAt::Host,
+            piece: words,
+        },
+    )?;
+    picture.add(3, words, Mark::Taken(words))?;
+    picture.add(4, words, Mark::Refused(words))?;
+    picture.add(5, words, Mark::Ended(words))?;
+    picture.add(6, words, Mark::Alarm(words))?;
+    picture.add(7, words, Mark::Note(words))
 }
 
 /// A picture with a lane for each address, in whose texts each byte follows each other one.
@@ -34,6 +80,7 @@ fn picture_of_all_bytes(alloc: Global) -> Result<Picture, AllocError> {
     for addr in 0..256u16 {
         let byte = addr as u8;
         add_texts(
+            alloc,
             &mut picture,
             byte,
             &[byte, b'<', byte, b'"', byte, b'&', byte, b'>'],
@@ -42,35 +89,65 @@ fn picture_of_all_bytes(alloc: Global) -> Result<Picture, AllocError> {
     Ok(picture)
 }
 
-/// A picture with the signs of one coin that came in, and of one that went out.
-fn picture_of_two_coins(alloc: Global) -> Result<Picture, AllocError> {
+/// A picture with the signs of one coin that came in, and of two that went out.
+fn picture_of_three_coins(alloc: Global) -> Result<Picture, AllocError> {
     let mut posted = Coins::new();
     posted.push(Coin { place: 5, path: 1 });
+    let marks = [
+        Mark::Happened {
+            addr: 2,
+            what: Happening::Accepted { place: 5, path: 1 },
+        },
+        Mark::Put(
+            Record::Reading {
+                addr: 2,
+                counter: 7,
+                lost: 6,
+                posted,
+            },
+        ),
+        Mark::Crash { records: 2 },
+        Mark::Put(
+            Record::Closed {
+                id: 41,
+                paid: 1,
+                unpaid: 3,
+            },
+        ),
+        Mark::Fault {
+            at: FaultAt::Devices,
+            piece: Label::new(b"-"),
+        },
+        Mark::Happened {
+            addr: 40,
+            what: Happening::Fell,
+        },
+    ];
     let mut picture = Picture::new(alloc);
-    picture.add(Mark::Happened {
-        addr: 2,
-        what: Happening::Accepted { place: 5, path: 1 },
-    })?;
-    picture.add(Mark::Put(Record::Reading {
-        addr: 2,
-        counter: 7,
-        lost: 6,
-        posted,
-    }))?;
-    picture.add(Mark::Crash { records: 2 })?;
-    picture.add(Mark::Happened {
-        addr: 40,
-        what: Happening::Fell,
-    })?;
-    picture.add(Mark::Put(Record::Closed {
-        id: 41,
-        paid: 1,
-        unpaid: 3,
-    }))?;
-    picture.add(Mark::Fault {
-        at: FaultAt::Devices,
-        piece: Label::new(b"-"),
-    })?;
+    for mark in marks {
+        picture.add(9, Label::empty(), mark)?;
+    }
+    picture.add_equal();
+    Ok(picture)
+}
+
+/// A picture of one exchange with a bill validator at address 40: a request that went astray or not, and what was heard.
+fn picture_of_exchange(
+    alloc: Global,
+    reach: Reach,
+    heard: Heard,
+) -> Result<Picture, AllocError> {
+    let mut picture = Picture::new(alloc);
+    picture.add(
+        1,
+        Label::new(b"12:00"),
+        Mark::Exchange {
+            addr: 40,
+            kind: LaneKind::BillValidator,
+            ask: ask(alloc, Label::new(b"159"), reach, &[40, 0, 1, 159, 56])?,
+            reply: reply(alloc, heard, Label::empty(), &[255])?,
+        },
+    )?;
     Ok(picture)
 }
 
@@ -133,8 +210,8 @@ fn a_picture_is_well_formed_whatever_its_texts_hold(rt: HostRuntime) -> Result<(
     let (answer, sink) = write(alloc, &picture_of_all_bytes(alloc)?, 0)?;
     assert!(rt; answer.is_ok());
     assert!(rt; is_well_formed(alloc, sink.bytes())?);
-    // six marks for each of 256 addresses, 200 to a page
-    assert!(rt; has_text(sink.bytes(), b"page 8 of 8, lines 1401 to 1536,"));
+    // seven marks for each of 256 addresses, 200 to a page
+    assert!(rt; has_text(sink.bytes(), b">page 9 of 9, lines "));
     assert!(rt; has_text(sink.bytes(), b">device 255<"));
     let (answer, sink) = write(alloc, &Picture::new(alloc), 0)?;
     assert!(rt; answer.is_ok());
@@ -143,33 +220,93 @@ fn a_picture_is_well_formed_whatever_its_texts_hold(rt: HostRuntime) -> Result<(
     Ok(())
 }
 
+/// Whether the document of a picture has each of these texts.
+fn has_texts(alloc: Global, picture: &Picture, texts: &[&[u8]]) -> Result<bool, AllocError> {
+    let (answer, sink) = write(alloc, picture, 0)?;
+    Ok(answer.is_ok() && texts.iter().all(|text| has_text(sink.bytes(), text)))
+}
+
 #[test]
 fn a_picture_says_what_its_marks_are(rt: HostRuntime) -> Result<(), Fail> {
     let alloc = rt.alloc();
-    let (_, sink) = write(alloc, &picture_of_two_coins(alloc)?, 0)?;
     let wanted: [&[u8]; 8] = [
         b">coin in: place 5, path 1<",
         b">put: posted of 2: 5/1, 6 lost<",
         b">loss of power; the host starts again over 2 records<",
-        b">coin out<",
+        b">coin out, 2 times<",
         b">put: order 41 closed: 1 paid, 3 unpaid<",
         b">fault: the devices will hear nothing<",
-        b">device 40<",
-        b">host<",
+        b">acceptor 2<",
+        b">hopper 40<",
     ];
-    for text in wanted {
-        assert!(rt; has_text(sink.bytes(), text));
+    assert!(rt; has_texts(alloc, &picture_of_three_coins(alloc)?, &wanted)?);
+    Ok(())
+}
+
+#[test]
+fn a_lost_request_ends_before_its_lane_and_a_lost_echo_comes_from_none(
+    rt: HostRuntime,
+) -> Result<(), Fail> {
+    let alloc = rt.alloc();
+    // the host's lane is at 500, and that of the first device at 890
+    let whole = picture_of_exchange(alloc, Reach::Device, Heard::Other)?;
+    let wanted: [&[u8]; 6] = [
+        b">bill validator 40<",
+        b"d=\"M500 13H890m",
+        b"<title>5 bytes: 28 00 01 9f 38</title>",
+        b"<path class=\"other\" d=\"M890 27H500m",
+        b">another reply<",
+        b">12:00<",
+    ];
+    assert!(rt; has_texts(alloc, &whole, &wanted)?);
+    let lost = picture_of_exchange(alloc, Reach::Lost, Heard::DamagedEcho)?;
+    let wanted: [&[u8]; 3] = [
+        b"<path class=\"lost\" d=\"M500 13H695m",
+        b"<path class=\"bad\" d=\"M500 27m",
+        b"<title>1 byte: ff</title>",
+    ];
+    assert!(rt; has_texts(alloc, &lost, &wanted)?);
+    let (_, sink) = write(alloc, &lost, 0)?;
+    assert!(rt; !has_text(sink.bytes(), b"M890 27"));
+    Ok(())
+}
+
+#[test]
+fn the_lanes_have_their_names_again_after_40_rows(rt: HostRuntime) -> Result<(), Fail> {
+    let alloc = rt.alloc();
+    let mut picture = Picture::new(alloc);
+    for line in 1..=41u64 {
+        let (_, sink) = write(alloc, &picture, 0)?;
+        assert!(rt; sink.bytes().windows(6).filter(|part| *part == b">host<".as_slice()).count() == 1);
+        picture.add(line, Label::empty(), Mark::Note(Label::new(b"note")))?;
     }
+    let (_, sink) = write(alloc, &picture, 0)?;
+    assert!(rt; sink.bytes().windows(6).filter(|part| *part == b">host<".as_slice()).count() == 2);
+    // 56 above the rows, 41 rows and the names with 32 each, 24 below
+    assert!(rt; has_text(sink.bytes(), b" height=\"1424\""));
+    Ok(())
+}
+
+#[test]
+fn a_longer_text_is_cut_with_two_dots(rt: HostRuntime) -> Result<(), Fail> {
+    let mut label = Label::new(&[b'a'; MOST_LABEL - 1]);
+    label.push(b"b");
+    assert!(rt; label.as_slice().ends_with(b"aab"));
+    label.push(b"c");
+    assert!(rt; label.as_slice().ends_with(b"aaa..") && label.as_slice().len() == MOST_LABEL);
     Ok(())
 }
 
 #[test]
 fn a_failed_put_ends_a_picture(rt: HostRuntime) -> Result<(), Fail> {
     let alloc = rt.alloc();
-    let picture = picture_of_two_coins(alloc)?;
-    for fails in [1, 2, 3, 10, 20] {
+    let picture = picture_of_three_coins(alloc)?;
+    // the frame, the head of the page, six rows, the end of the page, and that of the picture
+    for fails in 1..=10u64 {
         let (answer, _) = write(alloc, &picture, fails)?;
         assert!(rt; answer.is_err());
     }
+    let (answer, _) = write(alloc, &picture, 11)?;
+    assert!(rt; answer.is_ok());
     Ok(())
 }

@@ -109,14 +109,21 @@ fn reply_answer<'e>(
     request: Option<Request>,
     view: FrameView<'e>,
 ) -> Answer<'e> {
-    let form = request.and_then(form_of);
-    let reply = match read_reply(form.unwrap_or(ReplyForm::Ack), from, &view) {
+    let reply = match read_reply(wanted_form(request), from, &view) {
         Ok(reply) => reply,
         Err(NotWanted::Nak) => Reply::Nak,
         Err(NotWanted::Busy) => Reply::Busy,
         Err(NotWanted::Other) => return other_answer(kind, from, request, view),
     };
     Answer::Reply { kind, from, reply }
+}
+
+/// The form in which a reply to this request is wanted: an ACK where none is known.
+fn wanted_form(request: Option<Request>) -> ReplyForm {
+    match request {
+        Some(request) => form_of(request).unwrap_or(ReplyForm::Ack),
+        None => ReplyForm::Ack,
+    }
 }
 
 /// What a message says that the readers don't know as a reply to this request of the asked device.

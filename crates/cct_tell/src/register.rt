@@ -44,24 +44,47 @@ pub(crate) struct Registers<'r>(pub &'r [u8]);
 
 impl fmt::Display for Registers<'_> {
     fn fmt<W: fmt::Write>(&self, f: &mut fmt::Formatter<W>) -> fmt::Result {
-        f.write_str("test register ")?;
-        let mut between = "";
-        for (bits, names) in self.0.iter().zip(&BITS) {
-            f.write_str(between)?;
-            write_register(*bits, names, f)?;
-            between = "; next ";
+        let mut before = "test ";
+        for (index, bits) in self.0.iter().enumerate() {
+            let register = Register {
+                index,
+                bits: *bits,
+            };
+            write!(f, "{before}{register}")?;
+            before = "; ";
         }
         Ok(())
     }
 }
 
-/// Writes a register in hexadecimal, and the names of its set bits.
-fn write_register<W: fmt::Write>(
+/// A test register by its place, counted from 0.
+#[derive(Drop)]
+struct Register {
+    index: usize,
+    bits: u8,
+}
+
+impl fmt::Display for Register {
+    fn fmt<W: fmt::Write>(&self, f: &mut fmt::Formatter<W>) -> fmt::Result {
+        let bits = self.bits;
+        match self.index {
+            0 => write!(f, "register {bits:02x}")?,
+            1 => write!(f, "register 2 {bits:02x}")?,
+            _ => write!(f, "register 3 {bits:02x}")?,
+        }
+        match BITS.get(self.index) {
+            Some(names) => write_names(bits, names, f),
+            None => Ok(()),
+        }
+    }
+}
+
+/// Writes the names of the set bits of a register.
+fn write_names<W: fmt::Write>(
     bits: u8,
     names: &[&'static str; 8],
     f: &mut fmt::Formatter<W>,
 ) -> fmt::Result {
-    write!(f, "{bits:02x}")?;
     let mut before = ": ";
     let mut left = bits;
     for name in names {

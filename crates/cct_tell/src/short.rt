@@ -69,8 +69,9 @@ impl fmt::Display for ShortMessage<'_> {
             before = ", ";
         }
         let body = Hex(self.0.body);
-        match self.0.body.len() {
-            0 => write!(f, "{before}no data"),
+        match (header, self.0.body.len()) {
+            (REPLY, 0) => f.write_str("no data"),
+            (_, 0) => Ok(()),
             _ => write!(f, "{before}data {body}"),
         }
     }
