@@ -1,8 +1,8 @@
 //! The elements of a picture.
 
-use crate::layout::{HEARD_LINE, HOST_LANE, ROW_MIDDLE};
+use crate::layout::{HEARD_LINE, HOST_LANE, REQUEST_LINE, ROW_MIDDLE};
 use crate::pen::Pen;
-use crate::shape::{Arrow, Caption, LOST_ECHO, Shape};
+use crate::shape::{Arrow, CROSS, Caption, Shape};
 use cct_edge::Sink;
 
 /// Draws a sign at a lane.
@@ -35,15 +35,26 @@ pub(crate) fn draw_bytes<K: Sink>(
     end_bytes(pen, bytes);
 }
 
+/// Draws a cross where what the host sent got lost.
+pub(crate) fn draw_cross<K: Sink>(pen: &mut Pen<'_, K>, place: u32) {
+    begin_cross(pen, place, REQUEST_LINE);
+    pen.push(b"/>\n");
+}
+
 /// Draws a cross at the host, where it heard these bytes in place of its echo.
 pub(crate) fn draw_lost_echo<K: Sink>(pen: &mut Pen<'_, K>, bytes: &[u8]) {
-    pen.push(b"<path class=\"bad\" d=\"M");
-    pen.push_number(HOST_LANE);
-    pen.push(b" ");
-    pen.push_number(HEARD_LINE);
-    pen.push(LOST_ECHO);
-    pen.push(b"\"");
+    begin_cross(pen, HOST_LANE, HEARD_LINE);
     end_bytes(pen, bytes);
+}
+
+/// Begins the element of a cross.
+fn begin_cross<K: Sink>(pen: &mut Pen<'_, K>, place: u32, height: u32) {
+    pen.push(b"<path class=\"bad\" d=\"M");
+    pen.push_number(place);
+    pen.push(b" ");
+    pen.push_number(height);
+    pen.push(CROSS);
+    pen.push(b"\"");
 }
 
 /// Begins the element of a line.

@@ -54,6 +54,9 @@ const FIRST_GAP: u32 = 390;
 /// From a device to the next one.
 const LANE_GAP: u32 = 200;
 
+/// From where a lost request ends to the lane of its device.
+pub(crate) const LOST_GAP: u32 = 40;
+
 /// From the last lane to the end of an arrow to all devices.
 const END_GAP: u32 = 24;
 

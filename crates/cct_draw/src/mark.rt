@@ -4,7 +4,7 @@ use crate::Label;
 use cct_lines::Record;
 
 /// What the device of a lane is, as far as a picture knows.
-#[derive(Clone, Copy, Debug, PartialEq, Eq)]
+#[derive(Clone, Copy)]
 pub enum LaneKind {
     Unknown,
     Acceptor,
@@ -14,7 +14,7 @@ pub enum LaneKind {
 }
 
 /// How far what the host sent came.
-#[derive(Clone, Copy, Debug, PartialEq, Eq)]
+#[derive(Clone, Copy)]
 pub enum Reach {
     /// It was heard whole, as far as is known.
     Device,
@@ -23,7 +23,7 @@ pub enum Reach {
 }
 
 /// What the host heard in an exchange, behind what it sent.
-#[derive(Clone, Copy, Debug, PartialEq, Eq)]
+#[derive(Clone, Copy)]
 pub enum Heard {
     /// Its echo, and a reply that is none of the next three.
     Answered,
@@ -42,7 +42,7 @@ pub enum Heard {
 }
 
 /// What happened in or at a device.
-#[derive(Clone, Copy, Debug, PartialEq, Eq)]
+#[derive(Clone, Copy)]
 pub enum Happening {
     /// An acceptor took a coin of this place, which fell by this sorter path.
     Accepted { place: u8, path: u8 },
@@ -63,7 +63,7 @@ pub enum Happening {
 }
 
 /// Where the wire has a fault in the next exchange.
-#[derive(Clone, Copy, Debug, PartialEq, Eq)]
+#[derive(Clone, Copy)]
 pub enum FaultAt {
     /// Nowhere: a fault that was set is cleared.
     Nowhere,
@@ -76,7 +76,7 @@ pub enum FaultAt {
 }
 
 /// What the host sent: its header, name and values, and its bytes.
-#[derive(Debug, Drop)]
+#[derive(Drop)]
 pub struct Ask {
     pub words: Label,
     pub reach: Reach,
@@ -84,7 +84,7 @@ pub struct Ask {
 }
 
 /// What the host heard: what it says, which may be nothing, and its bytes.
-#[derive(Debug, Drop)]
+#[derive(Drop)]
 pub struct Reply {
     pub heard: Heard,
     pub words: Label,
@@ -92,7 +92,7 @@ pub struct Reply {
 }
 
 /// One row of a picture. The texts are those of the transcript (`docs/TRANSCRIPT.md`).
-#[derive(Debug, Drop)]
+#[derive(Drop)]
 pub enum Mark {
     /// An exchange with the device at the address, or with all for address 0, or one half of it.
     Exchange {

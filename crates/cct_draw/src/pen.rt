@@ -8,6 +8,9 @@ use itoa::{Buffer, Integer};
 /// How many bytes are put at once, if there are so many.
 const ROOM: usize = 4096;
 
+/// The digits in hexadecimal.
+const DIGITS: [u8; 16] = *b"0123456789abcdef";
+
 /// Collects the bytes of a picture, and puts them in pieces. Once a put failed, what is pushed goes nowhere.
 #[derive(Drop)]
 pub(crate) struct Pen<'k, K> {
@@ -56,7 +59,9 @@ impl<'k, K: Sink> Pen<'k, K> {
     /// Adds bytes in hexadecimal, lower case, a space before each.
     pub(crate) fn push_hex(&mut self, bytes: &[u8]) {
         for byte in bytes {
-            self.push(&[b' ', digit(*byte >> 4), digit(*byte & 15)]);
+            let high = DIGITS[usize::from(*byte / 16)];
+            let low = DIGITS[usize::from(*byte % 16)];
+            self.push(&[b' ', high, low]);
         }
     }
 
@@ -87,14 +92,5 @@ impl<'k, K: Sink> Pen<'k, K> {
         if !self.has_failed {
             self.has_failed = self.out.put(text).is_err();
         }
-    }
-}
-
-/// A digit of a number below 16.
-fn digit(number: u8) -> u8 {
-    match number {
-        0..=9 => b'0' + number,
-        10..=15 => b'a' + (number - 10),
-        _ => b'?',
     }
 }

@@ -70,8 +70,9 @@ impl Picture {
 
     /// Learns what the device at an address is, where that is known.
     pub fn learn(&mut self, addr: u8, kind: LaneKind) {
-        if kind != LaneKind::Unknown {
-            self.kinds[usize::from(addr)] = kind;
+        match kind {
+            LaneKind::Unknown => {}
+            _ => self.kinds[usize::from(addr)] = kind,
         }
     }
 

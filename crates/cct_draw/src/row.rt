@@ -1,10 +1,10 @@
 //! The rows of a picture: what is drawn for each mark.
 
 use crate::element::{
-    begin_text, draw_arrow, draw_bytes, draw_lost_echo, draw_shape, end_text, end_times,
-    push_numbered,
+    begin_text, draw_arrow, draw_bytes, draw_cross, draw_lost_echo, draw_shape, end_text,
+    end_times, push_numbered,
 };
-use crate::layout::{BAR_START, HOST_LANE, Lanes, NUMBERS_END, TIMES_START};
+use crate::layout::{BAR_START, HOST_LANE, LOST_GAP, Lanes, NUMBERS_END, TIMES_START};
 use crate::pen::Pen;
 use crate::record::write_record;
 use crate::shape::{Arrow, Caption, Shape};
@@ -86,12 +86,15 @@ fn draw_exchange<K: Sink>(
     }
 }
 
-/// Draws what the host sent: to the device's lane, or where it wasn't heard whole half the way.
+/// Draws what the host sent: to the device's lane, or where it wasn't heard whole up to a cross before it.
 fn draw_ask<K: Sink>(pen: &mut Pen<'_, K>, lane: u32, ask: &Ask, times: u64) {
-    let half = HOST_LANE + lane.saturating_sub(HOST_LANE) / 2;
+    let end = lane.saturating_sub(LOST_GAP);
     match ask.reach {
         Reach::Device => draw_bytes(pen, Arrow::Request, HOST_LANE, lane, ask.bytes.as_slice()),
-        Reach::Lost => draw_bytes(pen, Arrow::Lost, HOST_LANE, half, ask.bytes.as_slice()),
+        Reach::Lost => {
+            draw_bytes(pen, Arrow::Lost, HOST_LANE, end, ask.bytes.as_slice());
+            draw_cross(pen, end);
+        }
     }
     begin_text(pen, Caption::Request, HOST_LANE);
     pen.push_label(&ask.words);

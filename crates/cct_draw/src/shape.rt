@@ -2,8 +2,8 @@
 
 use crate::layout::{HEARD_LINE, REQUEST_LINE, ROW_MIDDLE};
 
-/// The cross at the host where it didn't hear its echo, from its middle on.
-pub(crate) const LOST_ECHO: &[u8] = b"m-4-4l8 8m0-8l-8 8";
+/// The cross where a request or its echo got lost, from its middle on.
+pub(crate) const CROSS: &[u8] = b"m-4-4l8 8m0-8l-8 8";
 
 /// A sign at the lane of the host or of a device. Its path begins in the middle of its row.
 #[derive(Clone, Copy)]
@@ -114,9 +114,8 @@ impl Arrow {
     pub(crate) fn head(self) -> &'static [u8] {
         match self {
             Arrow::Request => b"m-7-3l7 3l-7 3",
-            Arrow::Lost => b"m-4-4l8 8m0-8l-8 8",
             Arrow::Answer | Arrow::Refusal | Arrow::Other | Arrow::Damage => b"m7-3l-7 3l7 3",
-            Arrow::Silence | Arrow::Fault | Arrow::Cleared | Arrow::Crash => b"",
+            Arrow::Lost | Arrow::Silence | Arrow::Fault | Arrow::Cleared | Arrow::Crash => b"",
         }
     }
 }

@@ -260,8 +260,9 @@ fn a_lost_request_ends_before_its_lane_and_a_lost_echo_comes_from_none(
     ];
     assert!(rt; has_texts(alloc, &whole, &wanted)?);
     let lost = picture_of_exchange(alloc, Reach::Lost, Heard::DamagedEcho)?;
-    let wanted: [&[u8]; 3] = [
-        b"<path class=\"lost\" d=\"M500 13H695m",
+    let wanted: [&[u8]; 4] = [
+        b"<path class=\"lost\" d=\"M500 13H850\"",
+        b"<path class=\"bad\" d=\"M850 13m",
         b"<path class=\"bad\" d=\"M500 27m",
         b"<title>1 byte: ff</title>",
     ];

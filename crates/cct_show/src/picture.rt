@@ -134,10 +134,9 @@ impl Marks {
     fn keep(&mut self, line: &[u8], fault: FaultAt) {
         let mut last = ArrayVec::new();
         let is_whole = last.try_extend_from_slice(line).is_ok();
-        self.last = if is_whole && fault == FaultAt::Nowhere {
-            Some(last)
-        } else {
-            None
+        self.last = match fault {
+            FaultAt::Nowhere if is_whole => Some(last),
+            _ => None,
         };
     }
 }
@@ -156,7 +155,7 @@ impl LineSink for Marks {
         if !self.count_line() {
             return Ok(());
         }
-        if fault == FaultAt::Nowhere && self.is_equal(line) {
+        if matches!(fault, FaultAt::Nowhere) && self.is_equal(line) {
             self.picture.add_equal();
             return Ok(());
         }

@@ -171,7 +171,7 @@ static NAMES: [(u8, &str); 163] = [
 ];
 
 /// What a device is, as far as a header tells.
-#[derive(Clone, Copy, Debug, PartialEq, Eq)]
+#[derive(Clone, Copy)]
 pub enum DeviceKind {
     Acceptor,
     Hopper,

@@ -118,23 +118,26 @@ fn write_strange<W: fmt::Write>(answer: &Answer<'_>, f: &mut fmt::Formatter<W>) 
             let fault = Fault(fault);
             write!(f, "{fault}")
         }
-        Answer::NotWanted { view, .. } => {
-            if view.to != HOST {
-                let to = view.to;
-                write!(f, "to {to}, ")?;
-            }
-            if let Some(from) = view.from {
-                write!(f, "from {from}, ")?;
-            }
-            let message = ShortMessage(view);
-            write!(f, "{message}")
-        }
+        Answer::NotWanted { view, .. } => write_unwanted(view, f),
         Answer::Message { view, .. } => {
             let message = ShortMessage(view);
             write!(f, "{message}")
         }
         _ => Ok(()),
     }
+}
+
+/// Writes a message that isn't the wanted reply, with who sent it and whom it is for.
+fn write_unwanted<W: fmt::Write>(view: FrameView<'_>, f: &mut fmt::Formatter<W>) -> fmt::Result {
+    if view.to != HOST {
+        let to = view.to;
+        write!(f, "to {to}, ")?;
+    }
+    if let Some(from) = view.from {
+        write!(f, "from {from}, ")?;
+    }
+    let message = ShortMessage(view);
+    write!(f, "{message}")
 }
 
 /// Writes a reply that was wanted, but for the refusals.
