@@ -69,7 +69,11 @@ pub(crate) fn begin_picture<K: Sink>(pen: &mut Pen<'_, K>, width: u32, height: u
 pub(crate) fn draw_page<K: Sink>(pen: &mut Pen<'_, K>, lanes: &Lanes, page: Page, rows: &[Row]) {
     begin_group(pen, page.index.saturating_mul(lanes.page_width()), 0);
     draw_title(pen, page, rows);
-    draw_lanes(pen, lanes, HEAD_HEIGHT.saturating_add(rows_height(rows.len())));
+    draw_lanes(
+        pen,
+        lanes,
+        HEAD_HEIGHT.saturating_add(rows_height(rows.len())),
+    );
     draw_names(pen, lanes, NAMES_TOP);
     pen.flush();
     draw_rows(pen, lanes, rows);

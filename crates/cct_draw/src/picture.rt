@@ -44,14 +44,12 @@ impl Picture {
             return Ok(());
         }
         let device = mark.device();
-        self.rows.push(
-            Row {
-                mark,
-                line,
-                times: 1,
-                time,
-            },
-        )?;
+        self.rows.push(Row {
+            mark,
+            line,
+            times: 1,
+            time,
+        })?;
         if let Some((addr, kind)) = device {
             self.devices.insert(addr);
             self.learn(addr, kind);

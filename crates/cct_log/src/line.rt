@@ -101,11 +101,9 @@ fn bytes_of(slice: &[u8]) -> Option<LogBytes> {
 fn two_said(first: Logged, second: Logged) -> Option<Said> {
     match (first.way, second.way) {
         (Some(Way::Heard), _) | (_, Some(Way::Sent)) => None,
-        _ => Some(
-            Said::Exchange {
-                sent: first.bytes,
-                heard: second.bytes,
-            },
-        ),
+        _ => Some(Said::Exchange {
+            sent: first.bytes,
+            heard: second.bytes,
+        }),
     }
 }

@@ -28,12 +28,10 @@ pub(crate) fn time_in(word: &[u8]) -> Option<Time<'_>> {
     if halves.next().is_some() {
         return None;
     }
-    Some(
-        Time {
-            text,
-            micros: seconds.checked_mul(1_000_000)?.checked_add(fraction)?,
-        },
-    )
+    Some(Time {
+        text,
+        micros: seconds.checked_mul(1_000_000)?.checked_add(fraction)?,
+    })
 }
 
 /// Whether a word is a date: digits with two hyphens, slashes or points between them.

@@ -1,26 +1,22 @@
 //! A picture is a well-formed document, whatever its texts hold; it says what its marks are, and ends where a put fails.
-use cct_draw::{Ask, FaultAt, Happening, Heard, Label, LaneKind, MOST_LABEL, Mark, Picture, Reach, Reply};
+use cct_draw::{
+    Ask, FaultAt, Happening, Heard, Label, LaneKind, MOST_LABEL, Mark, Picture, Reach, Reply,
+};
 use cct_edge::{Failed, MemSink};
 use cct_lines::{Coin, Coins, Record};
 use std::alloc::{AllocError, Global};
 use std::test::Fail;
 
 /// The elements of a picture.
-const NAMES: [&[u8]; 7] = [
-    b"svg", b"style", b"rect", b"g", b"path", b"text", b"title",
-];
+const NAMES: [&[u8]; 7] = [b"svg", b"style", b"rect", b"g", b"path", b"text", b"title"];
 
 /// What was sent, in these words.
 fn ask(alloc: Global, words: Label, reach: Reach, bytes: &[u8]) -> Result<Option<Ask>, AllocError> {
-    Ok(
-        Some(
-            Ask {
-                words,
-                reach,
-                bytes: bytes.to_vec(alloc)?,
-            },
-        ),
-    )
+    Ok(Some(Ask {
+        words,
+        reach,
+        bytes: bytes.to_vec(alloc)?,
+    }))
 }
 
 /// What was heard, in these words.
@@ -30,15 +26,11 @@ fn reply(
     words: Label,
     bytes: &[u8],
 ) -> Result<Option<Reply>, AllocError> {
-    Ok(
-        Some(
-            Reply {
-                heard,
-                words,
-                bytes: bytes.to_vec(alloc)?,
-            },
-        ),
-    )
+    Ok(Some(Reply {
+        heard,
+        words,
+        bytes: bytes.to_vec(alloc)?,
+    }))
 }
 
 /// Adds marks with this text in every place that a text has, for this device.
@@ -98,22 +90,18 @@ fn picture_of_three_coins(alloc: Global) -> Result<Picture, AllocError> {
             addr: 2,
             what: Happening::Accepted { place: 5, path: 1 },
         },
-        Mark::Put(
-            Record::Reading {
-                addr: 2,
-                counter: 7,
-                lost: 6,
-                posted,
-            },
-        ),
+        Mark::Put(Record::Reading {
+            addr: 2,
+            counter: 7,
+            lost: 6,
+            posted,
+        }),
         Mark::Crash { records: 2 },
-        Mark::Put(
-            Record::Closed {
-                id: 41,
-                paid: 1,
-                unpaid: 3,
-            },
-        ),
+        Mark::Put(Record::Closed {
+            id: 41,
+            paid: 1,
+            unpaid: 3,
+        }),
         Mark::Fault {
             at: FaultAt::Devices,
             piece: Label::new(b"-"),
@@ -132,11 +120,7 @@ fn picture_of_three_coins(alloc: Global) -> Result<Picture, AllocError> {
 }
 
 /// A picture of one exchange with a bill validator at address 40: a request that went astray or not, and what was heard.
-fn picture_of_exchange(
-    alloc: Global,
-    reach: Reach,
-    heard: Heard,
-) -> Result<Picture, AllocError> {
+fn picture_of_exchange(alloc: Global, reach: Reach, heard: Heard) -> Result<Picture, AllocError> {
     let mut picture = Picture::new(alloc);
     picture.add(
         1,
@@ -278,11 +262,23 @@ fn the_lanes_have_their_names_again_after_40_rows(rt: HostRuntime) -> Result<(),
     let mut picture = Picture::new(alloc);
     for line in 1..=41u64 {
         let (_, sink) = write(alloc, &picture, 0)?;
-        assert!(rt; sink.bytes().windows(6).filter(|part| *part == b">host<".as_slice()).count() == 1);
+        assert!(rt;
+            sink.bytes()
+                .windows(6)
+                .filter(|part| *part == b">host<".as_slice())
+                .count()
+                == 1
+        );
         picture.add(line, Label::empty(), Mark::Note(Label::new(b"note")))?;
     }
     let (_, sink) = write(alloc, &picture, 0)?;
-    assert!(rt; sink.bytes().windows(6).filter(|part| *part == b">host<".as_slice()).count() == 2);
+    assert!(rt;
+        sink.bytes()
+            .windows(6)
+            .filter(|part| *part == b">host<".as_slice())
+            .count()
+            == 2
+    );
     // 56 above the rows, 41 rows and the names with 32 each, 24 below
     assert!(rt; has_text(sink.bytes(), b" height=\"1424\""));
     Ok(())

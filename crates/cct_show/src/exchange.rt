@@ -44,7 +44,8 @@ pub(crate) fn log_mark(alloc: Global, log: &Log) -> Result<Mark, AllocError> {
         kind,
         ask,
         reply,
-    } = mark else {
+    } = mark
+    else {
         return Ok(mark);
     };
     Ok(match log.half {
@@ -81,12 +82,7 @@ fn reached(ask: Ask) -> Ask {
 }
 
 /// What was sent.
-fn ask_of(
-    alloc: Global,
-    asked: &Asked<'_>,
-    reach: Reach,
-    sent: &[u8],
-) -> Result<Ask, AllocError> {
+fn ask_of(alloc: Global, asked: &Asked<'_>, reach: Reach, sent: &[u8]) -> Result<Ask, AllocError> {
     let mut words = Label::empty();
     let short = ShortAsked(asked);
     // A label takes any text.

@@ -82,8 +82,7 @@ impl Log {
         copy(&mut self.sent, sent);
         self.hear(heard);
         self.half = Half::Both;
-        self.is_again =
-            was == Half::Both && is_same && before.as_slice() == self.heard.as_slice();
+        self.is_again = was == Half::Both && is_same && before.as_slice() == self.heard.as_slice();
     }
 
     /// A message that the host sent.

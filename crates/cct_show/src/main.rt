@@ -76,14 +76,10 @@ fn form_wanted(rt: &(impl Env + AllocGlobal)) -> io::Result<Option<Form>> {
 fn whole_form(word: &str) -> Option<Form> {
     match word {
         "text" => Some(Form::Text),
-        "svg" => Some(
-            Form::Picture(
-                Part {
-                    from: 1,
-                    to: u64::MAX,
-                },
-            ),
-        ),
+        "svg" => Some(Form::Picture(Part {
+            from: 1,
+            to: u64::MAX,
+        })),
         _ => None,
     }
 }

@@ -32,6 +32,8 @@ struct Marks {
     /// The last line of the part, where a line equal to it has the same mark.
     last: Option<ArrayVec<u8, MOST_TEXT>>,
     log: Log,
+    /// Whether the last row is of a line of a log.
+    is_log_row: bool,
     /// The fault that the wire has in the next exchange.
     fault: FaultAt,
     /// Whether the line that isn't at its end yet has its mark already.
@@ -52,6 +54,7 @@ pub(crate) fn show_picture<S: Source, K: Sink>(
         count: 0,
         last: None,
         log: Log::new(),
+        is_log_row: false,
         fault: FaultAt::Nowhere,
         is_marked: false,
     };
@@ -90,11 +93,12 @@ impl Marks {
         if !self.count_line() {
             return Ok(());
         }
-        if self.log.is_again && self.last.is_none() {
+        if self.log.is_again && self.is_log_row {
             self.picture.add_equal();
             return Ok(());
         }
         self.last = None;
+        self.is_log_row = true;
         let mark = log_mark(self.alloc, &self.log)?;
         self.add(time, mark)
     }
@@ -132,6 +136,7 @@ impl Marks {
 
     /// Keeps a line as the last one, which had this fault.
     fn keep(&mut self, line: &[u8], fault: FaultAt) {
+        self.is_log_row = false;
         let mut last = ArrayVec::new();
         let is_whole = last.try_extend_from_slice(line).is_ok();
         self.last = match fault {
@@ -170,6 +175,7 @@ impl LineSink for Marks {
             return Ok(());
         }
         self.is_marked = true;
+        self.is_log_row = false;
         self.last = None;
         if self.count_line() {
             self.add(Label::empty(), Mark::Note(Label::new(bytes)))?;

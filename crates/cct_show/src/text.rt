@@ -33,7 +33,8 @@ impl<K: Sink> Text<'_, K> {
         }
         self.log.take(&logged.said);
         if self.log.tells_no_echo {
-            self.page.add(b"    the replies of this log stand without their echo\n")?;
+            self.page
+                .add(b"    the replies of this log stand without their echo\n")?;
         }
         let exchange = Exchange::new(self.log.sent.as_slice(), self.log.heard.as_slice());
         let asked = exchange.asked;
@@ -52,7 +53,10 @@ impl<K: Sink> Text<'_, K> {
         if let Some(micros) = self.log.since(time) {
             let seconds = micros / 1_000_000;
             let millis = micros / 1000 % 1000;
-            write!(self.page, "    {seconds}.{millis:03} s after the line before\n")?;
+            write!(
+                self.page,
+                "    {seconds}.{millis:03} s after the line before\n"
+            )?;
         }
         Ok(())
     }

@@ -37,7 +37,10 @@ static NAMES: [(u8, &str); 163] = [
     (226, "Request insertion counter"),
     (225, "Request accept counter"),
     (224, "Request encrypted product id, or Dispense coins"),
-    (223, "Modify encrypted inhibit and override registers, or Dispense change"),
+    (
+        223,
+        "Modify encrypted inhibit and override registers, or Dispense change",
+    ),
     (222, "Modify sorter override status"),
     (221, "Request sorter override status"),
     (220, "ACMI encrypted data, or One-shot credit"),

@@ -1,11 +1,11 @@
 //! The entry that a line of a transcript is.
 
 use crate::ends::end_line;
-use crate::fields::{amount, byte, fields_of, number, one_byte, one_number, two_bytes};
+use crate::fields::{amount, byte, fields_of, number, one_byte, one_number, step_in, two_bytes};
 use crate::record::record_in;
 use crate::refusal::refusal_in;
 use cct_lines::{Coin, Entry, MOST_HEARD, MOST_SENT, Sent, Step, Totals};
-use cct_script::{piece_in, read_step_line};
+use cct_script::piece_in;
 
 /// What a line of a transcript says, without its line feed (`docs/TRANSCRIPT.md`).
 ///
@@ -53,8 +53,8 @@ fn listing_line(rest: &[&[u8]]) -> Option<Entry> {
 
 /// The line `ok COMMAND`: behind its word stands the line of the command.
 fn taken_line(line: &[u8]) -> Option<Entry> {
-    match read_step_line(line.strip_prefix(b"ok ")?) {
-        Ok(Step::Command(command)) => Some(Entry::Taken(command)),
+    match step_in(line.strip_prefix(b"ok ")?)? {
+        Step::Command(command) => Some(Entry::Taken(command)),
         _ => None,
     }
 }
@@ -67,8 +67,8 @@ fn refused_line(line: &[u8]) -> Option<Entry> {
 
 /// The line of a fault, which is that of the script.
 fn fault_line(line: &[u8]) -> Option<Entry> {
-    match read_step_line(line) {
-        Ok(Step::Fault(fault)) => Some(Entry::Fault(fault)),
+    match step_in(line)? {
+        Step::Fault(fault) => Some(Entry::Fault(fault)),
         _ => None,
     }
 }

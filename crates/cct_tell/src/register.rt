@@ -46,10 +46,7 @@ impl fmt::Display for Registers<'_> {
     fn fmt<W: fmt::Write>(&self, f: &mut fmt::Formatter<W>) -> fmt::Result {
         let mut before = "test ";
         for (index, bits) in self.0.iter().enumerate() {
-            let register = Register {
-                index,
-                bits: *bits,
-            };
+            let register = Register { index, bits: *bits };
             write!(f, "{before}{register}")?;
             before = "; ";
         }

@@ -69,13 +69,16 @@ fn write_end<W: fmt::Write>(end: End, f: &mut fmt::Formatter<W>) -> fmt::Result 
 /// What an end means at which somebody is to look (`docs/OPERATING.md`), or `None` where it is a good one.
 pub fn alarm_of(end: End) -> Option<&'static str> {
     match end {
-        End::StartUnsure =>
-            Some("the mask was sent and not acknowledged: the epoch runs, and a round comes next"),
+        End::StartUnsure => Some(
+            "the mask was sent and not acknowledged: the epoch runs, and a round comes next",
+        ),
         End::Unquiet { .. } => Some("pieces fell in behind the reset: no epoch began"),
-        End::Broke =>
-            Some("the epoch is over, and coins of it may be lost: the cash box is to be counted"),
-        End::OddLife =>
-            Some("more coins fell than the order has: what the hopper paid is to be counted"),
+        End::Broke => Some(
+            "the epoch is over, and coins of it may be lost: the cash box is to be counted",
+        ),
+        End::OddLife => Some(
+            "more coins fell than the order has: what the hopper paid is to be counted",
+        ),
         End::NoAnswer => Some("three tries in succession got no wanted reply"),
         _ => None,
     }
