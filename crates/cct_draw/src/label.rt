@@ -1,5 +1,5 @@
 //! Short texts of a picture.
-ghost use Rattle.std.specs.Prelude.{◌≤◌};
+ghost use Rattle.std.specs.Prelude.{◌≤◌, length};
 ghost use Rattle.cct_draw.specs.declared.label.TheConstants.{MOST_LABEL};
 
 use std::fmt;
@@ -45,7 +45,9 @@ impl Label {
     }
 
     /// The bytes of the label.
-    pub fn as_slice(&self) -> &[u8] {
+    pub fn as_slice(&self) -> &[u8]
+        ensures { length result.now ≤ MOST_LABEL }
+    {
         &self.bytes[..self.len]
     }
 }

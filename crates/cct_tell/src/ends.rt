@@ -1,7 +1,7 @@
 //! How a job ended, by the line that says it.
 
 use crate::fields::{byte, one_byte, two_bytes};
-use cct_lines::{BROADCAST, DeviceSet, End, Entry, HOST, Listed};
+use cct_lines::{BROADCAST, CheckKind, DeviceSet, End, Entry, HOST, Listed};
 
 /// The entry of a line that says how a job ended.
 pub(crate) fn end_line(word: &[u8], rest: &[&[u8]]) -> Option<Entry> {
@@ -10,11 +10,17 @@ pub(crate) fn end_line(word: &[u8], rest: &[&[u8]]) -> Option<Entry> {
         b"unquiet" => unquiet_line(rest),
         b"pathset" => path_line(rest),
         b"listed" => listed_line(rest),
-        _ => Some(Entry::Ended {
-            end: bare_end(word)?,
-            addr: one_byte(rest)?,
-        }),
+        _ => bare_line(word, rest),
     }
+}
+
+/// A line that has nothing but an address after its word.
+fn bare_line(word: &[u8], rest: &[&[u8]]) -> Option<Entry> {
+    let end = bare_end(word)?;
+    Some(Entry::Ended {
+        addr: one_byte(rest)?,
+        end,
+    })
 }
 
 /// The line `sold`; a sale is at the address of the host.
@@ -68,18 +74,21 @@ fn listed_line(rest: &[&[u8]]) -> Option<Entry> {
     })
 }
 
-/// Adds a device that a text names by address and check, as `2/simple`.
-fn add_device(listed: &mut Listed, device: &[u8]) -> Option<()> {
-    let mut parts = device.split(|byte| *byte == b'/');
-    let addr = byte(parts.next()?)?;
-    match parts.next()? {
-        b"simple" => listed.simple.insert(addr),
-        b"crc" => listed.crc.insert(addr),
-        _ => return None,
+/// Adds a device that a text names.
+fn add_device(listed: &mut Listed, text: &[u8]) -> Option<()> {
+    let (addr, kind) = device_in(text)?;
+    match kind {
+        CheckKind::Simple => listed.simple.insert(addr),
+        CheckKind::Crc => listed.crc.insert(addr),
     }
-    match parts.next() {
-        None => Some(()),
-        Some(_) => None,
+    Some(())
+}
+
+/// The address and the check that a text names, as `2/simple`.
+fn device_in(text: &[u8]) -> Option<(u8, CheckKind)> {
+    match text.strip_suffix(b"/simple") {
+        Some(addr) => Some((byte(addr)?, CheckKind::Simple)),
+        None => Some((byte(text.strip_suffix(b"/crc")?)?, CheckKind::Crc)),
     }
 }
 

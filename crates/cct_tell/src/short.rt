@@ -68,12 +68,22 @@ impl fmt::Display for ShortMessage<'_> {
             write!(f, "{header} {name}")?;
             before = ", ";
         }
-        let body = Hex(self.0.body);
-        match (header, self.0.body.len()) {
-            (REPLY, 0) => f.write_str("no data"),
-            (_, 0) => Ok(()),
-            _ => write!(f, "{before}data {body}"),
-        }
+        write_data(header, before, self.0.body, f)
+    }
+}
+
+/// Writes the data bytes of a message; of a reply also that there are none.
+fn write_data<W: fmt::Write>(
+    header: u8,
+    before: &str,
+    body: &[u8],
+    f: &mut fmt::Formatter<W>,
+) -> fmt::Result {
+    let hex = Hex(body);
+    match (header, body.len()) {
+        (REPLY, 0) => f.write_str("no data"),
+        (_, 0) => Ok(()),
+        _ => write!(f, "{before}data {hex}"),
     }
 }
 
