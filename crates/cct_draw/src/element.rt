@@ -1,92 +1,123 @@
-//! The elements of a picture, each written by one put.
-ghost use Rattle.std.specs.Prelude.{◌≤◌, ◌+◌, ◌*◌, length};
+//! The elements of a picture.
 
-use crate::Label;
-use crate::layout::ROW_MIDDLE;
-use crate::shape::{Arrow, Caption, Shape};
-use cct_edge::{Failed, Sink};
-use cct_text::TextLine;
+use crate::layout::{HEARD_LINE, HOST_LANE, REQUEST_LINE, ROW_MIDDLE};
+use crate::pen::Pen;
+use crate::shape::{Arrow, CROSS, Caption, Shape};
+use cct_edge::Sink;
 
 /// Draws a sign at a lane.
-pub(crate) fn draw_shape<K: Sink>(
-    out: &mut K,
-    line: &mut TextLine,
-    shape: Shape,
-    lane: u32,
-) -> Result<(), Failed> {
-    line.clear();
-    line.push(b"<path class=\"");
-    line.push(shape.class());
-    line.push(b"\" d=\"M");
-    line.push_number(lane);
-    line.push(b" ");
-    line.push_number(ROW_MIDDLE);
-    line.push(shape.path());
-    line.push(b"\"/>\n");
-    out.put(line.as_slice())
+pub(crate) fn draw_shape<K: Sink>(pen: &mut Pen<'_, K>, shape: Shape, lane: u32) {
+    pen.push(b"<path class=\"");
+    pen.push(shape.class());
+    pen.push(b"\" d=\"M");
+    pen.push_number(lane);
+    pen.push(b" ");
+    pen.push_number(ROW_MIDDLE);
+    pen.push(shape.path());
+    pen.push(b"\"/>\n");
 }
 
 /// Draws a line from one lane to another.
-pub(crate) fn draw_arrow<K: Sink>(
-    out: &mut K,
-    line: &mut TextLine,
+pub(crate) fn draw_arrow<K: Sink>(pen: &mut Pen<'_, K>, arrow: Arrow, from: u32, to: u32) {
+    begin_arrow(pen, arrow, from, to);
+    pen.push(b"/>\n");
+}
+
+/// Draws a line on which stands, where a pointer rests on it, what bytes it was.
+pub(crate) fn draw_bytes<K: Sink>(
+    pen: &mut Pen<'_, K>,
     arrow: Arrow,
     from: u32,
     to: u32,
-) -> Result<(), Failed> {
-    line.clear();
-    line.push(b"<path class=\"");
-    line.push(arrow.class());
-    line.push(b"\" d=\"M");
-    line.push_number(from);
-    line.push(b" ");
-    line.push_number(arrow.height());
-    line.push(b"H");
-    line.push_number(to);
-    line.push(arrow.head());
-    line.push(b"\"/>\n");
-    out.put(line.as_slice())
+    bytes: &[u8],
+) {
+    begin_arrow(pen, arrow, from, to);
+    end_bytes(pen, bytes);
 }
 
-/// Begins a text at a lane, in place of what the line holds.
-pub(crate) fn begin_text(line: &mut TextLine, caption: Caption, lane: u32)
-    ensures { length line.new ≤ 200 }
-{
-    line.clear();
-    line.push(b"<text ");
-    line.push(caption.attributes());
-    line.push(b" x=\"");
-    line.push_number(lane);
-    line.push(b"\">");
+/// Draws a cross where what the host sent got lost.
+pub(crate) fn draw_cross<K: Sink>(pen: &mut Pen<'_, K>, place: u32) {
+    begin_cross(pen, place, REQUEST_LINE);
+    pen.push(b"/>\n");
 }
 
-/// Ends a text, and draws it.
-pub(crate) fn draw_text<K: Sink>(out: &mut K, line: &mut TextLine) -> Result<(), Failed>
-    requires { length line.old ≤ 2000 }
-{
-    line.push(b"</text>\n");
-    out.put(line.as_slice())
+/// Draws a cross at the host, where it heard these bytes in place of its echo.
+pub(crate) fn draw_lost_echo<K: Sink>(pen: &mut Pen<'_, K>, bytes: &[u8]) {
+    begin_cross(pen, HOST_LANE, HEARD_LINE);
+    end_bytes(pen, bytes);
 }
 
-/// Writes a label as the text of an element.
-pub(crate) fn write_label(line: &mut TextLine, label: &Label)
-    requires { length line.old ≤ 1000 }
-    ensures { length line.new ≤ length line.old + 240 }
-{
-    for byte in label.as_slice() {
-        write_byte(line, *byte);
+/// Begins the element of a cross.
+fn begin_cross<K: Sink>(pen: &mut Pen<'_, K>, place: u32, height: u32) {
+    pen.push(b"<path class=\"bad\" d=\"M");
+    pen.push_number(place);
+    pen.push(b" ");
+    pen.push_number(height);
+    pen.push(CROSS);
+    pen.push(b"\"");
+}
+
+/// Begins the element of a line.
+fn begin_arrow<K: Sink>(pen: &mut Pen<'_, K>, arrow: Arrow, from: u32, to: u32) {
+    pen.push(b"<path class=\"");
+    pen.push(arrow.class());
+    pen.push(b"\" d=\"M");
+    pen.push_number(from);
+    pen.push(b" ");
+    pen.push_number(arrow.height());
+    pen.push(b"H");
+    pen.push_number(to);
+    pen.push(arrow.head());
+    pen.push(b"\"");
+}
+
+/// Ends an element with the bytes that it stands for.
+fn end_bytes<K: Sink>(pen: &mut Pen<'_, K>, bytes: &[u8]) {
+    pen.push(b"><title>");
+    match bytes.len() {
+        0 => pen.push(b"no byte"),
+        1 => pen.push(b"1 byte:"),
+        count => {
+            pen.push_number(count);
+            pen.push(b" bytes:");
+        }
     }
+    pen.push_hex(bytes);
+    pen.push(b"</title></path>\n");
 }
 
-/// Writes a byte of a label, escaped where XML reads more into it.
-fn write_byte(line: &mut TextLine, byte: u8)
-    requires { length line.old ≤ 2000 }
-    ensures { length line.new ≤ length line.old + 5 }
-{
-    match byte {
-        b'<' => line.push(b"&lt;"),
-        b'>' => line.push(b"&gt;"),
-        b'&' => line.push(b"&amp;"),
-        _ => line.push(&[byte]),
+/// Begins a text at a lane.
+pub(crate) fn begin_text<K: Sink>(pen: &mut Pen<'_, K>, caption: Caption, lane: u32) {
+    pen.push(b"<text ");
+    pen.push(caption.attributes());
+    pen.push(b" x=\"");
+    pen.push_number(lane);
+    pen.push(b"\">");
+}
+
+/// Ends a text.
+pub(crate) fn end_text<K: Sink>(pen: &mut Pen<'_, K>) {
+    pen.push(b"</text>\n");
+}
+
+/// Ends a text of a row that stands for so many lines.
+pub(crate) fn end_times<K: Sink>(pen: &mut Pen<'_, K>, times: u64) {
+    if times > 1 {
+        pen.push(b", ");
+        pen.push_number(times);
+        pen.push(b" times");
     }
+    end_text(pen);
+}
+
+/// Writes a number between two texts.
+pub(crate) fn push_numbered<K: Sink>(
+    pen: &mut Pen<'_, K>,
+    before: &[u8],
+    number: u32,
+    after: &[u8],
+) {
+    pen.push(before);
+    pen.push_number(number);
+    pen.push(after);
 }

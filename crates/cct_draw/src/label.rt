@@ -2,11 +2,14 @@
 ghost use Rattle.std.specs.Prelude.{◌≤◌, length};
 ghost use Rattle.cct_draw.specs.declared.label.TheConstants.{MOST_LABEL};
 
-/// The most bytes of a label.
-pub const MOST_LABEL: usize = 48;
+use std::fmt;
 
-/// A short text of a picture: printable ASCII, `MOST_LABEL` bytes at the most.
-#[derive(Clone, Copy, Debug)]
+/// The most bytes of a label.
+pub const MOST_LABEL: usize = 60;
+
+/// A short text of a picture: printable ASCII, `MOST_LABEL` bytes at the most. Text can be written to it. A byte outside
+/// printable ASCII becomes a question mark. Of a longer text the front is kept, and ends in two dots.
+#[derive(Clone, Copy)]
 pub struct Label {
     bytes: [u8; MOST_LABEL],
     len: usize,
@@ -14,18 +17,31 @@ pub struct Label {
 }
 
 impl Label {
-    /// The label of any text. A byte outside printable ASCII becomes a question mark. Of a longer text the front is
-    /// kept, and ends in two dots.
+    /// The label without a byte.
+    pub fn empty() -> Label {
+        Label {
+            bytes: [b' '; MOST_LABEL],
+            len: 0,
+        }
+    }
+
+    /// The label of any text.
     pub fn new(text: &[u8]) -> Label {
-        let mut bytes = [b' '; MOST_LABEL];
-        let len = text.len().min(MOST_LABEL);
-        for (place, byte) in bytes.iter_mut().zip(text) {
+        let mut label = Label::empty();
+        label.push(text);
+        label
+    }
+
+    /// Adds text at the end.
+    pub fn push(&mut self, text: &[u8]) {
+        let room = MOST_LABEL - self.len;
+        for (place, byte) in self.bytes[self.len..].iter_mut().zip(text) {
             *place = printable(*byte);
         }
-        if text.len() > MOST_LABEL {
-            bytes[MOST_LABEL - 2..].copy_from_slice(b"..");
+        if text.len() > room {
+            self.bytes[MOST_LABEL - 2..].copy_from_slice(b"..");
         }
-        Label { bytes, len }
+        self.len += text.len().min(room);
     }
 
     /// The bytes of the label.
@@ -33,6 +49,13 @@ impl Label {
         ensures { length result.now ≤ MOST_LABEL }
     {
         &self.bytes[..self.len]
+    }
+}
+
+impl fmt::Write for Label {
+    fn write_str(&mut self, text: &str) -> fmt::Result {
+        self.push(text.as_bytes());
+        Ok(())
     }
 }
 

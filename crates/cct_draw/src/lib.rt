@@ -6,11 +6,13 @@ mod label;
 mod layout;
 mod mark;
 mod page;
+mod pen;
 mod picture;
+mod record;
 mod row;
 mod shape;
 mod words;
 
 pub use label::{Label, MOST_LABEL};
-pub use mark::{FaultAt, Happening, Heard, Mark};
-pub use picture::{MOST_MARKS, Picture};
+pub use mark::{Ask, FaultAt, Happening, Heard, LaneKind, Mark, Reach, Reply};
+pub use picture::{MOST_ROWS, Picture};

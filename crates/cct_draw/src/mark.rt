@@ -3,25 +3,46 @@
 use crate::Label;
 use cct_lines::Record;
 
+/// What the device of a lane is, as far as a picture knows.
+#[derive(Clone, Copy)]
+pub enum LaneKind {
+    Unknown,
+    Acceptor,
+    Hopper,
+    BillValidator,
+    Changer,
+}
+
+/// How far what the host sent came.
+#[derive(Clone, Copy)]
+pub enum Reach {
+    /// It was heard whole, as far as is known.
+    Device,
+    /// No device heard it whole, or its echo isn't whole, so that nothing tells.
+    Lost,
+}
+
 /// What the host heard in an exchange, behind what it sent.
-#[derive(Clone, Copy, Debug, PartialEq, Eq)]
+#[derive(Clone, Copy)]
 pub enum Heard {
-    /// Its echo, and a reply that is neither of the next two.
+    /// Its echo, and a reply that is none of the next three.
     Answered,
     /// Its echo, and NAK (ccTalk Generic Specification 4, header 5).
     Nak,
     /// Its echo, and BUSY (ccTalk Generic Specification 4, header 6).
     Busy,
+    /// Its echo, and a message that isn't the wanted reply.
+    Other,
     /// Its echo, and no byte behind it.
     Silence,
-    /// Its echo, and behind it bytes that are no reply.
+    /// Its echo, and behind it bytes that are no message.
     Damaged,
     /// Something else than its echo first, or nothing at all.
     DamagedEcho,
 }
 
 /// What happened in or at a device.
-#[derive(Clone, Copy, Debug, PartialEq, Eq)]
+#[derive(Clone, Copy)]
 pub enum Happening {
     /// An acceptor took a coin of this place, which fell by this sorter path.
     Accepted { place: u8, path: u8 },
@@ -42,7 +63,7 @@ pub enum Happening {
 }
 
 /// Where the wire has a fault in the next exchange.
-#[derive(Clone, Copy, Debug, PartialEq, Eq)]
+#[derive(Clone, Copy)]
 pub enum FaultAt {
     /// Nowhere: a fault that was set is cleared.
     Nowhere,
@@ -54,17 +75,31 @@ pub enum FaultAt {
     Whole,
 }
 
+/// What the host sent: its header, name and values, and its bytes.
+#[derive(Drop)]
+pub struct Ask {
+    pub words: Label,
+    pub reach: Reach,
+    pub bytes: Vec<u8>,
+}
+
+/// What the host heard: what it says, which may be nothing, and its bytes.
+#[derive(Drop)]
+pub struct Reply {
+    pub heard: Heard,
+    pub words: Label,
+    pub bytes: Vec<u8>,
+}
+
 /// One row of a picture. The texts are those of the transcript (`docs/TRANSCRIPT.md`).
-#[derive(Debug, Drop)]
+#[derive(Drop)]
 pub enum Mark {
-    /// An exchange with the device at the address, or with all for address 0: the header of what the host sent and its
-    /// name, what the host heard, and what the reply says, which may be nothing.
+    /// An exchange with the device at the address, or with all for address 0, or one half of it.
     Exchange {
         addr: u8,
-        header: u8,
-        name: Label,
-        heard: Heard,
-        says: Label,
+        kind: LaneKind,
+        ask: Option<Ask>,
+        reply: Option<Reply>,
     },
     /// Something happened in the device at the address.
     Happened {
@@ -84,8 +119,10 @@ pub enum Mark {
     Put(Record),
     /// A record was kept of a put that a loss of power cut off.
     Kept(Record),
-    /// A job ended, as `posted 2`.
+    /// A job ended well, as `posted 2`.
     Ended(Label),
+    /// A job ended so that somebody is to look, as `broke 2` (`docs/OPERATING.md`).
+    Alarm(Label),
     /// The host lost its power, and started again over so many records.
     Crash {
         records: u32,
@@ -95,12 +132,28 @@ pub enum Mark {
 }
 
 impl Mark {
-    /// The device in whose lane a mark is drawn, if it is in one.
-    pub(crate) fn device(&self) -> Option<u8> {
+    /// The device in whose lane a mark is drawn, if it is in one, and what that device is.
+    pub(crate) fn device(&self) -> Option<(u8, LaneKind)> {
         match self {
             Mark::Exchange { addr: 0, .. } | Mark::Happened { addr: 0, .. } => None,
-            Mark::Exchange { addr, .. } | Mark::Happened { addr, .. } => Some(*addr),
+            Mark::Exchange { addr, kind, .. } => Some((*addr, *kind)),
+            Mark::Happened { addr, what } => Some((*addr, what.kind())),
             _ => None,
+        }
+    }
+}
+
+impl Happening {
+    /// The kind of device in which this happens.
+    fn kind(self) -> LaneKind {
+        match self {
+            Happening::Accepted { .. } | Happening::Inhibited { .. } | Happening::Alien => {
+                LaneKind::Acceptor
+            }
+            Happening::Fell | Happening::NoFall | Happening::Jammed | Happening::NoJam => {
+                LaneKind::Hopper
+            }
+            Happening::Reset => LaneKind::Unknown,
         }
     }
 }

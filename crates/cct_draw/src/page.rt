@@ -1,23 +1,24 @@
 //! The frame of a picture, and its pages.
-ghost use Rattle.std.specs.Prelude.{◌≤◌, ◌<◌, ◌+◌, ◌*◌, length};
 
-use crate::Mark;
-use crate::element::{begin_text, draw_text};
+use crate::element::{begin_text, end_text, push_numbered};
 use crate::layout::{
-    HEAD_HEIGHT, HOST_LANE, LANE_TOP, Lanes, NUMBERS_END, PAGE_ROWS, ROW_HEIGHT, TITLE_START,
+    HEAD_HEIGHT, HOST_LANE, LANE_TOP, Lanes, NAMES_EVERY, NAMES_TOP, ROW_HEIGHT, TITLE_START,
+    rows_height,
 };
-use crate::row::draw_mark;
+use crate::pen::Pen;
+use crate::row::{Row, draw_row};
 use crate::shape::Caption;
-use crate::words::write_numbered;
-use cct_edge::{Failed, Sink};
-use cct_text::TextLine;
+use crate::words::kind_name;
+use cct_edge::Sink;
 
 /// What each class looks like. Nothing is told by a colour alone.
 const STYLE: &[u8] = b"<style>\
 text{font:10px monospace;fill:#000}\
 path{fill:none;stroke:#000;stroke-width:1.3}\
-.number,.host,.note,.crashed{text-anchor:end}\
-.number{fill:#999}\
+.number,.host,.look,.note,.crashed{text-anchor:end}\
+.number,.time{fill:#777}\
+.time{font-size:9px}\
+.look{fill:#c00;font-weight:bold}\
 .note{fill:#666}\
 .crashed{fill:#fff;font-weight:bold}\
 .name{text-anchor:middle;font-size:12px;font-weight:bold}\
@@ -25,8 +26,9 @@ path{fill:none;stroke:#000;stroke-width:1.3}\
 path.lane{stroke:#ccc}\
 path.ask,path.answer{stroke:#047}\
 path.refusal{stroke:#b50}\
+path.other{stroke:#83a;stroke-dasharray:12 3}\
 path.silence,path.cleared{stroke:#666;stroke-dasharray:1 4}\
-path.damage,path.fault{stroke:#c00;stroke-dasharray:6 3}\
+path.damage,path.fault,path.lost{stroke:#c00;stroke-dasharray:6 3}\
 path.crash{stroke:#333;stroke-width:20}\
 path.in{fill:#283;stroke:#283}\
 path.out{fill:#d70;stroke:#d70}\
@@ -35,6 +37,7 @@ path.none{stroke:#888;fill:#fff}\
 path.bad{stroke:#c00;stroke-width:2}\
 path.reset{stroke:#80a;stroke-width:2}\
 path.job{fill:#000}\
+path.alarm{fill:#fd6;stroke:#c00;stroke-width:1.6}\
 path.put{fill:#cdf;stroke:#036}\
 path.kept{fill:#fff;stroke:#036;stroke-dasharray:2 1}\
 </style>\n";
@@ -44,159 +47,128 @@ path.kept{fill:#fff;stroke:#036;stroke-dasharray:2 1}\
 pub(crate) struct Page {
     pub(crate) index: u32,
     pub(crate) count: u32,
-    ghost within: { index < 10000 },
 }
 
 /// Begins a picture of this size, on white.
-pub(crate) fn begin_picture<K: Sink>(
-    out: &mut K,
-    line: &mut TextLine,
-    width: u32,
-    height: u32,
-) -> Result<(), Failed> {
-    line.clear();
-    write_numbered(
-        line,
+pub(crate) fn begin_picture<K: Sink>(pen: &mut Pen<'_, K>, width: u32, height: u32) {
+    push_numbered(
+        pen,
         b"<svg xmlns=\"http://www.w3.org/2000/svg\" width=\"",
         width,
         b"\"",
     );
-    write_numbered(line, b" height=\"", height, b"\"");
-    write_numbered(line, b" viewBox=\"0 0 ", width, b" ");
-    write_numbered(line, b"", height, b"\">\n");
-    out.put(line.as_slice())?;
-    out.put(STYLE)?;
-    out.put(b"<rect width=\"100%\" height=\"100%\" fill=\"#fff\"/>\n")
+    push_numbered(pen, b" height=\"", height, b"\"");
+    push_numbered(pen, b" viewBox=\"0 0 ", width, b" ");
+    push_numbered(pen, b"", height, b"\">\n");
+    pen.push(STYLE);
+    pen.push(b"<rect width=\"100%\" height=\"100%\" fill=\"#fff\"/>\n");
+    pen.flush();
 }
 
-/// Draws a page: its title, the heads of its lanes, and its rows.
-pub(crate) fn draw_page<K: Sink>(
-    out: &mut K,
-    line: &mut TextLine,
-    lanes: &Lanes,
-    page: Page,
-    rows: &[Mark],
-) -> Result<(), Failed>
-    requires { length rows.now ≤ PAGE_ROWS }
-{
-    let rows_end = HEAD_HEIGHT + rows.len() as u32 * ROW_HEIGHT;
-    begin_group(out, line, page.index * lanes.page_width(), 0)?;
-    draw_title(out, line, page, rows.len() as u32)?;
-    draw_host(out, line, rows_end)?;
-    draw_devices(out, line, lanes, rows_end)?;
-    draw_rows(out, line, lanes, page, rows)?;
-    out.put(b"</g>\n")
+/// Draws a page: its title, its lanes, and its rows.
+pub(crate) fn draw_page<K: Sink>(pen: &mut Pen<'_, K>, lanes: &Lanes, page: Page, rows: &[Row]) {
+    begin_group(pen, page.index.saturating_mul(lanes.page_width()), 0);
+    draw_title(pen, page, rows);
+    draw_lanes(
+        pen,
+        lanes,
+        HEAD_HEIGHT.saturating_add(rows_height(rows.len())),
+    );
+    draw_names(pen, lanes, NAMES_TOP);
+    pen.flush();
+    draw_rows(pen, lanes, rows);
+    end_group(pen);
 }
 
 /// Begins a group of elements that has its own top left corner.
-fn begin_group<K: Sink>(
-    out: &mut K,
-    line: &mut TextLine,
-    left: u32,
-    top: u32,
-) -> Result<(), Failed> {
-    line.clear();
-    write_numbered(line, b"<g transform=\"translate(", left, b" ");
-    write_numbered(line, b"", top, b")\">\n");
-    out.put(line.as_slice())
+fn begin_group<K: Sink>(pen: &mut Pen<'_, K>, left: u32, top: u32) {
+    push_numbered(pen, b"<g transform=\"translate(", left, b" ");
+    push_numbered(pen, b"", top, b")\">\n");
 }
 
-/// Draws what a page is and which rows it has.
-fn draw_title<K: Sink>(
-    out: &mut K,
-    line: &mut TextLine,
-    page: Page,
-    rows: u32,
-) -> Result<(), Failed>
-    requires { rows ≤ PAGE_ROWS }
-{
-    let before = page.index * PAGE_ROWS as u32;
-    begin_text(line, Caption::Title, TITLE_START);
-    write_numbered(line, b"page ", page.index + 1, b" of ");
-    write_numbered(line, b"", page.count, b"");
-    if rows > 0 {
-        write_numbered(line, b", lines ", before + 1, b" to ");
-        write_numbered(line, b"", before + rows, b", time downwards");
+/// Ends a group, and puts it.
+fn end_group<K: Sink>(pen: &mut Pen<'_, K>) {
+    pen.push(b"</g>\n");
+    pen.flush();
+}
+
+/// Draws what a page is and which lines it has.
+fn draw_title<K: Sink>(pen: &mut Pen<'_, K>, page: Page, rows: &[Row]) {
+    begin_text(pen, Caption::Title, TITLE_START);
+    push_numbered(pen, b"page ", page.index.saturating_add(1), b" of ");
+    pen.push_number(page.count);
+    if let [first, ..] = rows
+        && let [.., last] = rows
+    {
+        pen.push(b", lines ");
+        pen.push_number(first.line);
+        pen.push(b" to ");
+        pen.push_number(last.line.saturating_add(last.times.saturating_sub(1)));
+        pen.push(b", time downwards");
     }
-    draw_text(out, line)
+    end_text(pen);
 }
 
-/// Draws a lane, from its head down.
-fn draw_lane<K: Sink>(out: &mut K, line: &mut TextLine, lane: u32, end: u32) -> Result<(), Failed> {
-    line.clear();
-    write_numbered(line, b"<path class=\"lane\" d=\"M", lane, b" ");
-    write_numbered(line, b"", LANE_TOP, b"V");
-    write_numbered(line, b"", end, b"\"/>\n");
-    out.put(line.as_slice())
-}
-
-/// Draws the lanes of all devices.
-fn draw_devices<K: Sink>(
-    out: &mut K,
-    line: &mut TextLine,
-    lanes: &Lanes,
-    end: u32,
-) -> Result<(), Failed> {
+/// Draws all lanes down to an end.
+fn draw_lanes<K: Sink>(pen: &mut Pen<'_, K>, lanes: &Lanes, end: u32) {
+    draw_lane(pen, HOST_LANE, end);
     for addr in 1..256u16 {
         if lanes.has(addr as u8) {
-            draw_device(out, line, lanes.place(addr as u8), addr as u8, end)?;
+            draw_lane(pen, lanes.place(addr as u8), end);
         }
     }
-    Ok(())
 }
 
-/// Draws the lane of a device.
-fn draw_device<K: Sink>(
-    out: &mut K,
-    line: &mut TextLine,
-    lane: u32,
-    addr: u8,
-    end: u32,
-) -> Result<(), Failed> {
-    draw_lane(out, line, lane, end)?;
-    begin_text(line, Caption::Name, lane);
-    write_numbered(line, b"device ", u32::from(addr), b"");
-    draw_text(out, line)
+/// Draws a lane.
+fn draw_lane<K: Sink>(pen: &mut Pen<'_, K>, lane: u32, end: u32) {
+    push_numbered(pen, b"<path class=\"lane\" d=\"M", lane, b" ");
+    push_numbered(pen, b"", LANE_TOP, b"V");
+    push_numbered(pen, b"", end, b"\"/>\n");
 }
 
-/// Draws the name of the host's lane.
-fn draw_host<K: Sink>(out: &mut K, line: &mut TextLine, end: u32) -> Result<(), Failed> {
-    draw_lane(out, line, HOST_LANE, end)?;
-    begin_text(line, Caption::Name, HOST_LANE);
-    line.push(b"host");
-    draw_text(out, line)
-}
-
-/// Draws the rows of a page.
-fn draw_rows<K: Sink>(
-    out: &mut K,
-    line: &mut TextLine,
-    lanes: &Lanes,
-    page: Page,
-    rows: &[Mark],
-) -> Result<(), Failed>
-    requires { length rows.now ≤ PAGE_ROWS }
-{
-    for (index, mark) in rows.iter().enumerate() {
-        let row = index as u32;
-        begin_group(out, line, 0, HEAD_HEIGHT + row * ROW_HEIGHT)?;
-        begin_text(line, Caption::Number, NUMBERS_END);
-        line.push_number(page.index * PAGE_ROWS as u32 + row + 1);
-        draw_text(out, line)?;
-        draw_mark(out, line, lanes, mark)?;
-        out.put(b"</g>\n")?;
+/// Draws the names of all lanes, below a top.
+fn draw_names<K: Sink>(pen: &mut Pen<'_, K>, lanes: &Lanes, top: u32) {
+    begin_group(pen, 0, top);
+    begin_text(pen, Caption::Name, HOST_LANE);
+    pen.push(b"host");
+    end_text(pen);
+    for addr in 1..256u16 {
+        if lanes.has(addr as u8) {
+            draw_name(pen, lanes, addr as u8);
+        }
     }
-    Ok(())
+    pen.push(b"</g>\n");
 }
 
-/// Draws how many marks a picture leaves out.
-pub(crate) fn draw_left_out<K: Sink>(
-    out: &mut K,
-    line: &mut TextLine,
-    left_out: u64,
-) -> Result<(), Failed> {
-    begin_text(line, Caption::LeftOut, TITLE_START);
-    line.push_number(left_out);
-    line.push(b" more lines are left out");
-    draw_text(out, line)
+/// Draws the name of a device's lane.
+fn draw_name<K: Sink>(pen: &mut Pen<'_, K>, lanes: &Lanes, addr: u8) {
+    begin_text(pen, Caption::Name, lanes.place(addr));
+    pen.push(kind_name(lanes.kind(addr)));
+    pen.push_number(addr);
+    end_text(pen);
+}
+
+/// Draws the rows of a page, and the names of its lanes between them.
+fn draw_rows<K: Sink>(pen: &mut Pen<'_, K>, lanes: &Lanes, rows: &[Row]) {
+    let mut top = HEAD_HEIGHT;
+    for part in rows.chunks(NAMES_EVERY) {
+        if top > HEAD_HEIGHT {
+            draw_names(pen, lanes, top);
+            top = top.saturating_add(ROW_HEIGHT);
+        }
+        for row in part {
+            begin_group(pen, 0, top);
+            draw_row(pen, lanes, row);
+            end_group(pen);
+            top = top.saturating_add(ROW_HEIGHT);
+        }
+    }
+}
+
+/// Draws how many lines a picture leaves out.
+pub(crate) fn draw_left_out<K: Sink>(pen: &mut Pen<'_, K>, left_out: u64) {
+    begin_text(pen, Caption::LeftOut, TITLE_START);
+    pen.push_number(left_out);
+    pen.push(b" more lines are left out");
+    end_text(pen);
 }

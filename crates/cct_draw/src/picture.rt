@@ -1,83 +1,106 @@
 //! A picture, from its marks.
 ghost use Rattle.std.specs.Prelude.{◌≤◌, vec_len};
-ghost use Rattle.cct_draw.specs.declared.picture.TheConstants.{MOST_MARKS};
+ghost use Rattle.cct_draw.specs.declared.picture.TheConstants.{MOST_ROWS};
 
-use crate::Mark;
-use crate::layout::{FOOT_HEIGHT, HEAD_HEIGHT, Lanes, PAGE_ROWS, ROW_HEIGHT};
+use crate::layout::{FOOT_HEIGHT, HEAD_HEIGHT, Lanes, PAGE_ROWS, rows_height};
 use crate::page::{Page, begin_picture, draw_left_out, draw_page};
+use crate::pen::Pen;
+use crate::row::Row;
+use crate::{Label, LaneKind, Mark};
 use cct_edge::{Failed, Sink};
 use cct_lines::DeviceSet;
-use cct_text::TextLine;
 use std::alloc::{AllocError, Global};
 
-/// The most marks that a picture draws.
-pub const MOST_MARKS: usize = 1_000_000;
+/// The most rows that a picture draws.
+pub const MOST_ROWS: usize = 1_000_000;
 
-/// A sequence picture. Its memory grows with its marks.
+/// A sequence picture. Its memory grows with its rows.
 #[derive(Drop)]
 pub struct Picture {
-    marks: Vec<Mark>,
+    rows: Vec<Row>,
     devices: DeviceSet,
+    kinds: [LaneKind; 256],
     left_out: u64,
-    ghost few: { vec_len marks ≤ MOST_MARKS },
+    ghost few: { vec_len rows ≤ MOST_ROWS },
 }
 
 impl Picture {
     /// A picture without a mark.
     pub fn new(alloc: Global) -> Picture {
         Picture {
-            marks: Vec::new(alloc),
+            rows: Vec::new(alloc),
             devices: DeviceSet::new(),
+            kinds: [LaneKind::Unknown; 256],
             left_out: 0,
         }
     }
 
-    /// Adds a mark as the next row. Behind `MOST_MARKS` marks it isn't kept but counted, and the picture tells how many
-    /// it leaves out. The error comes where there is no memory for it.
-    pub fn add(&mut self, mark: Mark) -> Result<(), AllocError> {
-        if self.marks.len() >= MOST_MARKS {
+    /// Adds the mark of a line, by the line's number and the words for its time, as the next row. After `MOST_ROWS` rows it
+    /// isn't kept but counted, and the picture tells how many lines it leaves out. The error comes where there is no memory
+    /// for it.
+    pub fn add(&mut self, line: u64, time: Label, mark: Mark) -> Result<(), AllocError> {
+        if self.rows.len() >= MOST_ROWS {
             self.left_out = self.left_out.saturating_add(1);
             return Ok(());
         }
         let device = mark.device();
-        self.marks.push(mark)?;
-        if let Some(addr) = device {
+        self.rows.push(Row {
+            mark,
+            line,
+            times: 1,
+            time,
+        })?;
+        if let Some((addr, kind)) = device {
             self.devices.insert(addr);
+            self.learn(addr, kind);
         }
         Ok(())
     }
 
-    /// Writes the picture as an SVG document, each element by one put. A failed put ends it.
-    pub fn write<K: Sink>(&self, out: &mut K) -> Result<(), Failed> {
-        let mut line = TextLine::new();
-        let lanes = Lanes::new(self.devices);
-        let count = self.marks.len().div_ceil(PAGE_ROWS).max(1) as u32;
-        let rows = self.marks.len().min(PAGE_ROWS) as u32;
-        let height = HEAD_HEIGHT + rows * ROW_HEIGHT + FOOT_HEIGHT;
-        begin_picture(out, &mut line, count * lanes.page_width(), height)?;
-        draw_pages(out, &mut line, &lanes, count, &self.marks)?;
+    /// Adds one more line that is equal to the last one: it has no row of its own, and its row says how many there are.
+    pub fn add_equal(&mut self) {
         if self.left_out > 0 {
-            draw_left_out(out, &mut line, self.left_out)?;
+            self.left_out = self.left_out.saturating_add(1);
+        } else if let Some(row) = self.rows.last_mut() {
+            row.times = row.times.saturating_add(1);
         }
-        out.put(b"</svg>\n")
+    }
+
+    /// Learns what the device at an address is, where that is known.
+    pub fn learn(&mut self, addr: u8, kind: LaneKind) {
+        match kind {
+            LaneKind::Unknown => {}
+            _ => self.kinds[usize::from(addr)] = kind,
+        }
+    }
+
+    /// Writes the picture as an SVG document, a put for each row. A failed put ends it.
+    pub fn write<K: Sink>(&self, out: &mut K) -> Result<(), Failed> {
+        let mut pen = Pen::new(out);
+        let lanes = Lanes::new(self.devices, self.kinds);
+        let count = self.rows.len().div_ceil(PAGE_ROWS).max(1) as u32;
+        let height = HEAD_HEIGHT
+            .saturating_add(rows_height(self.rows.len()))
+            .saturating_add(FOOT_HEIGHT);
+        begin_picture(&mut pen, count.saturating_mul(lanes.page_width()), height);
+        draw_pages(&mut pen, &lanes, count, &self.rows);
+        if self.left_out > 0 {
+            draw_left_out(&mut pen, self.left_out);
+        }
+        pen.push(b"</svg>\n");
+        pen.finish()
     }
 }
 
-/// Draws so many pages of marks.
-fn draw_pages<K: Sink>(
-    out: &mut K,
-    line: &mut TextLine,
-    lanes: &Lanes,
-    count: u32,
-    marks: &[Mark],
-) -> Result<(), Failed>
-    requires { count ≤ 5000 }
-{
-    let mut rest = marks;
+/// Draws so many pages of rows.
+fn draw_pages<K: Sink>(pen: &mut Pen<'_, K>, lanes: &Lanes, count: u32, rows: &[Row]) {
+    let mut rest = rows;
     for index in 0..count {
-        let (rows, behind) = rest.split_at(rest.len().min(PAGE_ROWS));
-        draw_page(out, line, lanes, Page { index, count }, rows)?;
-        rest = behind;
+        if !pen.is_good() {
+            break;
+        }
+        let (part, after) = rest.split_at(rest.len().min(PAGE_ROWS));
+        draw_page(pen, lanes, Page { index, count }, part);
+        rest = after;
     }
-    Ok(())
 }

@@ -1,90 +1,140 @@
 //! The rows of a picture: what is drawn for each mark.
-ghost use Rattle.std.specs.Prelude.{◌≤◌, length};
 
-use crate::element::{begin_text, draw_arrow, draw_shape, draw_text, write_label};
-use crate::layout::{BAR_START, HOST_LANE, Lanes};
+use crate::element::{
+    begin_text, draw_arrow, draw_bytes, draw_cross, draw_lost_echo, draw_shape, end_text,
+    end_times, push_numbered,
+};
+use crate::layout::{BAR_START, HOST_LANE, LOST_GAP, Lanes, NUMBERS_END, TIMES_START};
+use crate::pen::Pen;
+use crate::record::write_record;
 use crate::shape::{Arrow, Caption, Shape};
-use crate::words::{write_fault, write_happening, write_heard, write_numbered, write_record};
-use crate::{FaultAt, Happening, Heard, Label, Mark};
-use cct_edge::{Failed, Sink};
+use crate::words::{write_fault, write_happening, write_heard};
+use crate::{Ask, FaultAt, Happening, Heard, Label, Mark, Reach, Reply};
+use cct_edge::Sink;
 use cct_lines::Record;
-use cct_text::TextLine;
 
-/// Draws what a mark shows, in the row of its group.
-pub(crate) fn draw_mark<K: Sink>(
-    out: &mut K,
-    line: &mut TextLine,
-    lanes: &Lanes,
-    mark: &Mark,
-) -> Result<(), Failed> {
+/// A mark, by the number of its line, the time that stands in it, and how many equal lines it stands for.
+#[derive(Drop)]
+pub(crate) struct Row {
+    pub(crate) mark: Mark,
+    pub(crate) line: u64,
+    pub(crate) times: u64,
+    pub(crate) time: Label,
+}
+
+/// Draws a row, in its group.
+pub(crate) fn draw_row<K: Sink>(pen: &mut Pen<'_, K>, lanes: &Lanes, row: &Row) {
+    begin_text(pen, Caption::Number, NUMBERS_END);
+    pen.push_number(row.line);
+    end_text(pen);
+    if !row.time.as_slice().is_empty() {
+        begin_text(pen, Caption::Time, TIMES_START);
+        pen.push_label(&row.time);
+        end_text(pen);
+    }
+    draw_mark(pen, lanes, &row.mark, row.times);
+}
+
+/// Draws what a mark shows that stands for so many lines.
+fn draw_mark<K: Sink>(pen: &mut Pen<'_, K>, lanes: &Lanes, mark: &Mark, times: u64) {
     match mark {
         Mark::Exchange {
             addr,
-            header,
-            name,
-            heard,
-            says,
-        } => {
-            let lane = lanes.place(*addr);
-            draw_request(out, line, lane, *header, name)?;
-            draw_heard(out, line, lane, *heard, says)
+            ask,
+            reply,
+            ..
+        } => draw_exchange(pen, lanes.place(*addr), ask, reply, times),
+        Mark::Happened { addr, what } => {
+            draw_happening(pen, lanes.place(*addr), *what, times);
         }
-        Mark::Happened { addr, what } => draw_happening(out, line, lanes.place(*addr), *what),
-        Mark::Fault { at, piece } => draw_fault(out, line, lanes.end(), *at, piece),
-        Mark::Taken(words) => draw_words(out, line, Shape::Taken, b"taken: ", words),
-        Mark::Refused(words) => draw_words(out, line, Shape::Refused, b"refused: ", words),
-        Mark::Ended(words) => draw_words(out, line, Shape::Ended, b"ended: ", words),
-        Mark::Put(record) => draw_record(out, line, Shape::Put, b"put: ", record),
-        Mark::Kept(record) => draw_record(out, line, Shape::Kept, b"kept: ", record),
-        Mark::Crash { records } => draw_crash(out, line, lanes.end(), *records),
-        Mark::Note(words) => draw_note(out, line, words),
+        Mark::Fault { at, piece } => draw_fault(pen, lanes.end(), *at, piece, times),
+        Mark::Crash { records } => draw_crash(pen, lanes.end(), *records, times),
+        _ => draw_of_host(pen, mark, times),
     }
 }
 
-/// Draws what the host sent.
-fn draw_request<K: Sink>(
-    out: &mut K,
-    line: &mut TextLine,
-    lane: u32,
-    header: u8,
-    name: &Label,
-) -> Result<(), Failed> {
-    draw_arrow(out, line, Arrow::Request, HOST_LANE, lane)?;
-    begin_text(line, Caption::Request, HOST_LANE);
-    line.push_number(header);
-    line.push(b" ");
-    write_label(line, name);
-    draw_text(out, line)
+/// Draws what a mark shows that stands at the host alone.
+fn draw_of_host<K: Sink>(pen: &mut Pen<'_, K>, mark: &Mark, times: u64) {
+    match mark {
+        Mark::Taken(words) => draw_words(pen, Shape::Taken, b"taken: ", words, times),
+        Mark::Refused(words) => draw_words(pen, Shape::Refused, b"refused: ", words, times),
+        Mark::Ended(words) => draw_words(pen, Shape::Ended, b"ended: ", words, times),
+        Mark::Alarm(words) => draw_alarm(pen, words, times),
+        Mark::Put(record) => draw_record(pen, Shape::Put, b"put: ", record, times),
+        Mark::Kept(record) => draw_record(pen, Shape::Kept, b"kept: ", record, times),
+        Mark::Note(words) => draw_note(pen, words, times),
+        _ => {}
+    }
 }
 
-/// Draws what the host heard.
-fn draw_heard<K: Sink>(
-    out: &mut K,
-    line: &mut TextLine,
+/// Draws an exchange, or one half of it, with the lane of a device.
+fn draw_exchange<K: Sink>(
+    pen: &mut Pen<'_, K>,
     lane: u32,
-    heard: Heard,
-    says: &Label,
-) -> Result<(), Failed> {
-    let arrow = match heard {
-        Heard::Answered => Arrow::Answer,
-        Heard::Nak | Heard::Busy => Arrow::Refusal,
-        Heard::Silence => Arrow::Silence,
-        Heard::Damaged | Heard::DamagedEcho => Arrow::Damage,
-    };
-    draw_arrow(out, line, arrow, lane, HOST_LANE)?;
-    begin_text(line, Caption::Heard, HOST_LANE);
-    write_heard(line, heard, says);
-    draw_text(out, line)
+    ask: &Option<Ask>,
+    reply: &Option<Reply>,
+    times: u64,
+) {
+    match (ask, reply) {
+        (Some(ask), Some(reply)) => {
+            draw_ask(pen, lane, ask, times);
+            draw_reply(pen, lane, reply, 1);
+        }
+        (Some(ask), None) => draw_ask(pen, lane, ask, times),
+        (None, Some(reply)) => draw_reply(pen, lane, reply, times),
+        (None, None) => {}
+    }
+}
+
+/// Draws what the host sent: to the device's lane, or where it wasn't heard whole up to a cross before it.
+fn draw_ask<K: Sink>(pen: &mut Pen<'_, K>, lane: u32, ask: &Ask, times: u64) {
+    let end = lane.saturating_sub(LOST_GAP);
+    match ask.reach {
+        Reach::Device => draw_bytes(pen, Arrow::Request, HOST_LANE, lane, ask.bytes.as_slice()),
+        Reach::Lost => {
+            draw_bytes(pen, Arrow::Lost, HOST_LANE, end, ask.bytes.as_slice());
+            draw_cross(pen, end);
+        }
+    }
+    begin_text(pen, Caption::Request, HOST_LANE);
+    pen.push_label(&ask.words);
+    end_times(pen, times);
+}
+
+/// Draws what the host heard: from the device's lane, but for a lost echo, which no device sent.
+fn draw_reply<K: Sink>(pen: &mut Pen<'_, K>, lane: u32, reply: &Reply, times: u64) {
+    match arrow_of(reply.heard) {
+        Some(arrow) => draw_bytes(pen, arrow, lane, HOST_LANE, reply.bytes.as_slice()),
+        None => draw_lost_echo(pen, reply.bytes.as_slice()),
+    }
+    begin_text(pen, Caption::Heard, HOST_LANE);
+    write_heard(pen, reply.heard, &reply.words);
+    end_times(pen, times);
+}
+
+/// The line of what the host heard, if it comes from a device.
+fn arrow_of(heard: Heard) -> Option<Arrow> {
+    match heard {
+        Heard::Answered => Some(Arrow::Answer),
+        Heard::Nak | Heard::Busy => Some(Arrow::Refusal),
+        Heard::Other => Some(Arrow::Other),
+        Heard::Silence => Some(Arrow::Silence),
+        Heard::Damaged => Some(Arrow::Damage),
+        Heard::DamagedEcho => None,
+    }
 }
 
 /// Draws what happened in a device.
-fn draw_happening<K: Sink>(
-    out: &mut K,
-    line: &mut TextLine,
-    lane: u32,
-    what: Happening,
-) -> Result<(), Failed> {
-    let shape = match what {
+fn draw_happening<K: Sink>(pen: &mut Pen<'_, K>, lane: u32, what: Happening, times: u64) {
+    draw_shape(pen, shape_of(what), lane);
+    begin_text(pen, Caption::Device, lane);
+    write_happening(pen, what);
+    end_times(pen, times);
+}
+
+/// The sign of what happened in a device.
+fn shape_of(what: Happening) -> Shape {
+    match what {
         Happening::Accepted { .. } => Shape::Accepted,
         Happening::Inhibited { .. } => Shape::Inhibited,
         Happening::Alien => Shape::Alien,
@@ -93,86 +143,76 @@ fn draw_happening<K: Sink>(
         Happening::Jammed => Shape::Jammed,
         Happening::NoJam => Shape::NoJam,
         Happening::Reset => Shape::Reset,
-    };
-    draw_shape(out, line, shape, lane)?;
-    begin_text(line, Caption::Device, lane);
-    write_happening(line, what);
-    draw_text(out, line)
+    }
 }
 
 /// Draws a fault of the wire.
-fn draw_fault<K: Sink>(
-    out: &mut K,
-    line: &mut TextLine,
-    end: u32,
-    at: FaultAt,
-    piece: &Label,
-) -> Result<(), Failed> {
+fn draw_fault<K: Sink>(pen: &mut Pen<'_, K>, end: u32, at: FaultAt, piece: &Label, times: u64) {
     let arrow = match at {
         FaultAt::Nowhere => Arrow::Cleared,
         FaultAt::Devices | FaultAt::Host | FaultAt::Whole => Arrow::Fault,
     };
-    draw_arrow(out, line, arrow, HOST_LANE, end)?;
-    begin_text(line, Caption::Heard, HOST_LANE);
-    write_fault(line, at, piece);
-    draw_text(out, line)
+    draw_arrow(pen, arrow, HOST_LANE, end);
+    begin_text(pen, Caption::Heard, HOST_LANE);
+    write_fault(pen, at, piece);
+    end_times(pen, times);
 }
 
 /// Draws a sign at the host's lane, and words beside it.
 fn draw_words<K: Sink>(
-    out: &mut K,
-    line: &mut TextLine,
+    pen: &mut Pen<'_, K>,
     shape: Shape,
     before: &[u8],
     words: &Label,
-) -> Result<(), Failed>
-    requires { length before.now ≤ 20 }
-{
-    draw_shape(out, line, shape, HOST_LANE)?;
-    begin_text(line, Caption::Host, HOST_LANE);
-    line.push(before);
-    write_label(line, words);
-    draw_text(out, line)
+    times: u64,
+) {
+    draw_shape(pen, shape, HOST_LANE);
+    begin_text(pen, Caption::Host, HOST_LANE);
+    pen.push(before);
+    pen.push_label(words);
+    end_times(pen, times);
+}
+
+/// Draws an end at which somebody is to look.
+fn draw_alarm<K: Sink>(pen: &mut Pen<'_, K>, words: &Label, times: u64) {
+    draw_shape(pen, Shape::Alarm, HOST_LANE);
+    begin_text(pen, Caption::Alarm, HOST_LANE);
+    pen.push(b"ended, to be looked at: ");
+    pen.push_label(words);
+    end_times(pen, times);
 }
 
 /// Draws a sign at the host's lane, and a record beside it.
 fn draw_record<K: Sink>(
-    out: &mut K,
-    line: &mut TextLine,
+    pen: &mut Pen<'_, K>,
     shape: Shape,
     before: &[u8],
     record: &Record,
-) -> Result<(), Failed>
-    requires { length before.now ≤ 20 }
-{
-    draw_shape(out, line, shape, HOST_LANE)?;
-    begin_text(line, Caption::Host, HOST_LANE);
-    line.push(before);
-    write_record(line, record);
-    draw_text(out, line)
+    times: u64,
+) {
+    draw_shape(pen, shape, HOST_LANE);
+    begin_text(pen, Caption::Host, HOST_LANE);
+    pen.push(before);
+    write_record(pen, record);
+    end_times(pen, times);
 }
 
 /// Draws a loss of power, through all lanes.
-fn draw_crash<K: Sink>(
-    out: &mut K,
-    line: &mut TextLine,
-    end: u32,
-    records: u32,
-) -> Result<(), Failed> {
-    draw_arrow(out, line, Arrow::Crash, BAR_START, end)?;
-    begin_text(line, Caption::Crash, HOST_LANE);
-    write_numbered(
-        line,
+fn draw_crash<K: Sink>(pen: &mut Pen<'_, K>, end: u32, records: u32, times: u64) {
+    draw_arrow(pen, Arrow::Crash, BAR_START, end);
+    begin_text(pen, Caption::Crash, HOST_LANE);
+    push_numbered(
+        pen,
         b"loss of power; the host starts again over ",
         records,
         b" records",
     );
-    draw_text(out, line)
+    end_times(pen, times);
 }
 
 /// Draws a line that is none of the others.
-fn draw_note<K: Sink>(out: &mut K, line: &mut TextLine, words: &Label) -> Result<(), Failed> {
-    begin_text(line, Caption::Note, HOST_LANE);
-    write_label(line, words);
-    draw_text(out, line)
+fn draw_note<K: Sink>(pen: &mut Pen<'_, K>, words: &Label, times: u64) {
+    begin_text(pen, Caption::Note, HOST_LANE);
+    pen.push_label(words);
+    end_times(pen, times);
 }

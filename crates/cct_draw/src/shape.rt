@@ -1,7 +1,9 @@
 //! What is drawn at and between lanes, as paths and texts of SVG in a row of 32 pixels.
-ghost use Rattle.std.specs.Prelude.{◌≤◌, length};
 
 use crate::layout::{HEARD_LINE, REQUEST_LINE, ROW_MIDDLE};
+
+/// The cross where a request or its echo got lost, from its middle on.
+pub(crate) const CROSS: &[u8] = b"m-4-4l8 8m0-8l-8 8";
 
 /// A sign at the lane of the host or of a device. Its path begins in the middle of its row.
 #[derive(Clone, Copy)]
@@ -19,13 +21,12 @@ pub(crate) enum Shape {
     Put,
     Kept,
     Ended,
+    Alarm,
 }
 
 impl Shape {
     /// The class of a sign.
-    pub(crate) fn class(self) -> &'static [u8]
-        ensures { length result.now ≤ 100 }
-    {
+    pub(crate) fn class(self) -> &'static [u8] {
         match self {
             Shape::Accepted => b"in",
             Shape::Inhibited | Shape::Alien => b"back",
@@ -36,13 +37,12 @@ impl Shape {
             Shape::Taken | Shape::Ended => b"job",
             Shape::Put => b"put",
             Shape::Kept => b"kept",
+            Shape::Alarm => b"alarm",
         }
     }
 
     /// The path of a sign: a dot or a square with an arrow into it or out of it, or what its name says.
-    pub(crate) fn path(self) -> &'static [u8]
-        ensures { length result.now ≤ 100 }
-    {
+    pub(crate) fn path(self) -> &'static [u8] {
         match self {
             Shape::Accepted | Shape::Inhibited => {
                 b"m-5 0a5 5 0 1 0 10 0a5 5 0 1 0-10 0zm5-13v7m-3-3l3 3l3-3"
@@ -58,6 +58,7 @@ impl Shape {
             Shape::Refused => b"m-6 0a6 6 0 1 0 12 0a6 6 0 1 0-12 0zm2 4l8-8",
             Shape::Put | Shape::Kept => b"m-5-7h10v14h-10zm2 4h6m-6 3h6m-6 3h6",
             Shape::Ended => b"m-5-5h10v10h-10z",
+            Shape::Alarm => b"m0-9l10 17h-20zm0 6v5m0 2v2",
         }
     }
 }
@@ -66,8 +67,10 @@ impl Shape {
 #[derive(Clone, Copy)]
 pub(crate) enum Arrow {
     Request,
+    Lost,
     Answer,
     Refusal,
+    Other,
     Silence,
     Damage,
     Fault,
@@ -77,13 +80,13 @@ pub(crate) enum Arrow {
 
 impl Arrow {
     /// The class of a line.
-    pub(crate) fn class(self) -> &'static [u8]
-        ensures { length result.now ≤ 100 }
-    {
+    pub(crate) fn class(self) -> &'static [u8] {
         match self {
             Arrow::Request => b"ask",
+            Arrow::Lost => b"lost",
             Arrow::Answer => b"answer",
             Arrow::Refusal => b"refusal",
+            Arrow::Other => b"other",
             Arrow::Silence => b"silence",
             Arrow::Damage => b"damage",
             Arrow::Fault => b"fault",
@@ -95,10 +98,11 @@ impl Arrow {
     /// How far below the top of its row a line is drawn.
     pub(crate) fn height(self) -> u32 {
         match self {
-            Arrow::Request => REQUEST_LINE,
+            Arrow::Request | Arrow::Lost => REQUEST_LINE,
             Arrow::Crash => ROW_MIDDLE,
             Arrow::Answer
             | Arrow::Refusal
+            | Arrow::Other
             | Arrow::Silence
             | Arrow::Damage
             | Arrow::Fault
@@ -107,13 +111,11 @@ impl Arrow {
     }
 
     /// The path of the head of a line, from its end on.
-    pub(crate) fn head(self) -> &'static [u8]
-        ensures { length result.now ≤ 100 }
-    {
+    pub(crate) fn head(self) -> &'static [u8] {
         match self {
             Arrow::Request => b"m-7-3l7 3l-7 3",
-            Arrow::Answer | Arrow::Refusal | Arrow::Damage => b"m7-3l-7 3l7 3",
-            Arrow::Silence | Arrow::Fault | Arrow::Cleared | Arrow::Crash => b"",
+            Arrow::Answer | Arrow::Refusal | Arrow::Other | Arrow::Damage => b"m7-3l-7 3l7 3",
+            Arrow::Lost | Arrow::Silence | Arrow::Fault | Arrow::Cleared | Arrow::Crash => b"",
         }
     }
 }
@@ -123,8 +125,12 @@ impl Arrow {
 pub(crate) enum Caption {
     /// The number of a row.
     Number,
+    /// The time of a row.
+    Time,
     /// At the left of the host's lane.
     Host,
+    /// The same of what somebody is to look at.
+    Alarm,
     /// A line that is none of the others.
     Note,
     /// Above the arrow of a request.
@@ -145,18 +151,18 @@ pub(crate) enum Caption {
 
 impl Caption {
     /// The attributes of a text, all but its place in the row.
-    pub(crate) fn attributes(self) -> &'static [u8]
-        ensures { length result.now ≤ 100 }
-    {
+    pub(crate) fn attributes(self) -> &'static [u8] {
         match self {
-            Caption::Number => b"class=\"number\" y=\"20\"",
+            Caption::Number => b"class=\"number\" y=\"18\"",
+            Caption::Time => b"class=\"time\" y=\"29\"",
             Caption::Host => b"class=\"host\" y=\"20\" dx=\"-14\"",
+            Caption::Alarm => b"class=\"look\" y=\"20\" dx=\"-14\"",
             Caption::Note => b"class=\"note\" y=\"20\" dx=\"-14\"",
             Caption::Request => b"y=\"10\" dx=\"10\"",
             Caption::Heard => b"y=\"24\" dx=\"12\"",
             Caption::Device => b"y=\"20\" dx=\"14\"",
             Caption::Crash => b"class=\"crashed\" y=\"20\" dx=\"-14\"",
-            Caption::Name => b"class=\"name\" y=\"42\"",
+            Caption::Name => b"class=\"name\" y=\"20\"",
             Caption::Title => b"class=\"title\" y=\"16\"",
             Caption::LeftOut => b"class=\"title\" y=\"34\"",
         }

@@ -1,8 +1,6 @@
-//! Tests of the parts by themselves: a life count, a hopper, the bodies of records, a journal, a ledger and a picture.
+//! Tests of the parts by themselves: a life count, a hopper, the bodies of records, a journal and a ledger.
 #![tactic(auto)]
 
-#[cfg(test)]
-mod draw;
 #[cfg(test)]
 mod hopper;
 #[cfg(test)]

@@ -2,14 +2,16 @@
 //! line names the form.
 #![tactic(auto)]
 
+mod exchange;
 mod lines;
+mod log;
 mod mark;
 mod page;
 mod picture;
 mod status;
 mod text;
 
-use crate::picture::show_picture;
+use crate::picture::{Part, show_picture};
 use crate::status::Status;
 use crate::text::show_text;
 use cct_edge::{StdSink, StdSource};
@@ -23,8 +25,8 @@ use std::{env, io};
 enum Form {
     /// `text`: each line, and below it what it says.
     Text,
-    /// `svg`: a sequence picture.
-    Picture,
+    /// `svg`, or `svg FROM TO`: a sequence picture of all lines, or of those from one number to another.
+    Picture(Part),
 }
 
 fn main(rt: HostRuntime) -> ExitCode {
@@ -45,11 +47,11 @@ fn show(form: Form, rt: &(impl Input + Print + AllocGlobal)) -> Status {
     let mut out = StdSink::new(io::writer(rt));
     match form {
         Form::Text => show_text(&mut source, &mut out),
-        Form::Picture => show_picture(rt.alloc(), &mut source, &mut out),
+        Form::Picture(part) => show_picture(rt.alloc(), part, &mut source, &mut out),
     }
 }
 
-/// The form that the words of the command line name: one word alone. A word that isn't UTF-8 names none.
+/// The form that the words of the command line name. A word that isn't UTF-8 names none.
 fn form_wanted(rt: &(impl Env + AllocGlobal)) -> io::Result<Option<Form>> {
     let words = match env::args(rt) {
         Ok(words) => words,
@@ -57,18 +59,37 @@ fn form_wanted(rt: &(impl Env + AllocGlobal)) -> io::Result<Option<Form>> {
         Err(error) => return Err(error),
     };
     let mut words = words.skip(1);
-    let form = words.next().and_then(|word| form_named(word.as_str()));
-    match words.next() {
-        None => Ok(form),
-        Some(_) => Ok(None),
+    let form = words.next();
+    let from = words.next();
+    let to = words.next();
+    if words.next().is_some() {
+        return Ok(None);
+    }
+    Ok(match (form, from, to) {
+        (Some(form), None, None) => whole_form(form.as_str()),
+        (Some(form), Some(from), Some(to)) => part_form(form.as_str(), from.as_str(), to.as_str()),
+        _ => None,
+    })
+}
+
+/// The form of all lines that a word names.
+fn whole_form(word: &str) -> Option<Form> {
+    match word {
+        "text" => Some(Form::Text),
+        "svg" => Some(Form::Picture(Part {
+            from: 1,
+            to: u64::MAX,
+        })),
+        _ => None,
     }
 }
 
-/// The form that a word names.
-fn form_named(word: &str) -> Option<Form> {
+/// The form of a part that three words name: the first line, counted from 1, and the last one, which isn't before it.
+fn part_form(word: &str, from: &str, to: &str) -> Option<Form> {
+    let from = from.parse::<u64>().ok()?;
+    let to = to.parse::<u64>().ok()?;
     match word {
-        "text" => Some(Form::Text),
-        "svg" => Some(Form::Picture),
+        "svg" if 1 <= from && from <= to => Some(Form::Picture(Part { from, to })),
         _ => None,
     }
 }

@@ -3,12 +3,16 @@
 use crate::asked::{Asked, Message};
 use crate::fault::{Fault, check_name};
 use crate::lists::Addresses;
+use crate::register::Registers;
 use crate::reply::Says;
 use cct_frame::{FrameFault, FrameView};
-use cct_lines::{BROADCAST, CheckKind};
+use cct_lines::{BROADCAST, CheckKind, HOST};
 use cct_msg::{NotWanted, Reply, ReplyForm, Request, form_of, read_reply};
 use cct_wire::{EchoBad, Heard, bare_after_echo, hear};
 use std::fmt;
+
+/// The header of a reply that is no refusal.
+pub(crate) const REPLY: u8 = 0;
 
 /// What was heard in an exchange, behind the echo of what was sent.
 #[derive(Clone, Copy)]
@@ -30,6 +34,18 @@ pub enum Answer<'e> {
         kind: CheckKind,
         from: u8,
         reply: Reply<'e>,
+    },
+    /// A reply to `Test hopper` of two or three registers, which the readers don't know.
+    Registers {
+        kind: CheckKind,
+        from: u8,
+        registers: &'e [u8],
+    },
+    /// A reply to a dispense under a cipher: the event counter.
+    Dispensed {
+        kind: CheckKind,
+        from: u8,
+        counter: u8,
     },
     /// A message that is not the reply that was wanted.
     NotWanted {
@@ -58,7 +74,7 @@ impl<'e> Answer<'e> {
                 ..
             } => bare_answer(sent, heard),
             Asked::Request { to, request, .. } => {
-                message_answer(kind, Some(to), form_of(request), sent, heard)
+                message_answer(kind, Some(to), Some(request), sent, heard)
             }
             Asked::Message { view, .. } => message_answer(kind, Some(view.to), None, sent, heard),
             Asked::Nothing | Asked::Broken(_) => message_answer(kind, None, None, sent, heard),
@@ -66,11 +82,11 @@ impl<'e> Answer<'e> {
     }
 }
 
-/// What was heard behind something that was sent to `asked`, with the form of its reply, where both are known.
+/// What was heard after something that was sent to `asked`, with the request that it was, where both are known.
 fn message_answer<'e>(
     kind: CheckKind,
     asked: Option<u8>,
-    form: Option<ReplyForm>,
+    request: Option<Request>,
     sent: &[u8],
     heard: &'e [u8],
 ) -> Answer<'e> {
@@ -79,28 +95,66 @@ fn message_answer<'e>(
         Heard::Silence => Answer::Silence,
         Heard::Broken(fault) => Answer::Broken(fault),
         Heard::Message(view) => match asked {
-            Some(from) => reply_answer(kind, from, form, view),
+            Some(from) => reply_answer(kind, from, request, view),
             None => Answer::Message { kind, view },
         },
     }
 }
 
-/// What a message says that follows something sent to `from`. Where no form is known, it may still be bare: ACK, NAK or
-/// BUSY.
-fn reply_answer(
+/// What a message says that follows something sent to `from`. Where no form of its reply is known, it may still be bare:
+/// ACK, NAK or BUSY.
+fn reply_answer<'e>(
     kind: CheckKind,
     from: u8,
-    form: Option<ReplyForm>,
-    view: FrameView<'_>,
-) -> Answer<'_> {
-    let reply = match read_reply(form.unwrap_or(ReplyForm::Ack), from, &view) {
+    request: Option<Request>,
+    view: FrameView<'e>,
+) -> Answer<'e> {
+    let reply = match read_reply(wanted_form(request), from, &view) {
         Ok(reply) => reply,
         Err(NotWanted::Nak) => Reply::Nak,
         Err(NotWanted::Busy) => Reply::Busy,
-        Err(NotWanted::Other) if form.is_none() => return Answer::Message { kind, view },
-        Err(NotWanted::Other) => return Answer::NotWanted { kind, view },
+        Err(NotWanted::Other) => return other_answer(kind, from, request, view),
     };
     Answer::Reply { kind, from, reply }
+}
+
+/// The form in which a reply to this request is wanted: an ACK where none is known.
+fn wanted_form(request: Option<Request>) -> ReplyForm {
+    match request {
+        Some(request) => form_of(request).unwrap_or(ReplyForm::Ack),
+        None => ReplyForm::Ack,
+    }
+}
+
+/// What a message says that the readers don't know as a reply to this request of the asked device.
+fn other_answer<'e>(
+    kind: CheckKind,
+    from: u8,
+    request: Option<Request>,
+    view: FrameView<'e>,
+) -> Answer<'e> {
+    let Some(request) = request else {
+        return Answer::Message { kind, view };
+    };
+    if view.to != HOST || view.from.unwrap_or(from) != from || view.header != REPLY {
+        return Answer::NotWanted { kind, view };
+    }
+    match (request, view.body) {
+        (Request::TestHopper, [_, _] | [_, _, _]) => Answer::Registers {
+            kind,
+            from,
+            registers: view.body,
+        },
+        (Request::CipherDispense, [counter]) => Answer::Dispensed {
+            kind,
+            from,
+            counter: *counter,
+        },
+        (Request::CipherDispense | Request::PumpRng | Request::CipherKey, _) => {
+            Answer::Message { kind, view }
+        }
+        _ => Answer::NotWanted { kind, view },
+    }
 }
 
 /// What was heard behind an address poll, which is answered by bare addresses.
@@ -148,15 +202,40 @@ impl fmt::Display for Answer<'_> {
                 let check = check_name(kind);
                 write!(f, "{from} to host: {says}; {check} good")
             }
-            Answer::NotWanted { kind, view } => {
-                let message = Message { kind, view };
-                write!(f, "not the wanted reply, {message}")
-            }
-            Answer::Message { kind, view } => {
-                let message = Message { kind, view };
-                write!(f, "{message}")
-            }
+            _ => write_other(self, f),
         }
+    }
+}
+
+/// Writes a whole message that the readers don't know as the wanted reply.
+fn write_other<W: fmt::Write>(answer: &Answer<'_>, f: &mut fmt::Formatter<W>) -> fmt::Result {
+    match *answer {
+        Answer::Registers {
+            kind,
+            from,
+            registers,
+        } => {
+            let registers = Registers(registers);
+            let check = check_name(kind);
+            write!(f, "{from} to host: {registers}; {check} good")
+        }
+        Answer::Dispensed {
+            kind,
+            from,
+            counter,
+        } => {
+            let check = check_name(kind);
+            write!(f, "{from} to host: event counter {counter}; {check} good")
+        }
+        Answer::NotWanted { kind, view } => {
+            let message = Message { kind, view };
+            write!(f, "not the wanted reply, {message}")
+        }
+        Answer::Message { kind, view } => {
+            let message = Message { kind, view };
+            write!(f, "{message}")
+        }
+        _ => Ok(()),
     }
 }
 

@@ -1,19 +1,26 @@
 //! How a job ended, by the line that says it.
 
 use crate::fields::{byte, one_byte, two_bytes};
-use cct_lines::{End, Entry, HOST};
+use cct_lines::{BROADCAST, CheckKind, DeviceSet, End, Entry, HOST, Listed};
 
-/// The entry of a line that says how a job ended, but for the list of a scan.
+/// The entry of a line that says how a job ended.
 pub(crate) fn end_line(word: &[u8], rest: &[&[u8]]) -> Option<Entry> {
     match word {
         b"sold" => sold_line(rest),
         b"unquiet" => unquiet_line(rest),
         b"pathset" => path_line(rest),
-        _ => Some(Entry::Ended {
-            end: bare_end(word)?,
-            addr: one_byte(rest)?,
-        }),
+        b"listed" => listed_line(rest),
+        _ => bare_line(word, rest),
     }
+}
+
+/// A line that has nothing but an address after its word.
+fn bare_line(word: &[u8], rest: &[&[u8]]) -> Option<Entry> {
+    let end = bare_end(word)?;
+    Some(Entry::Ended {
+        addr: one_byte(rest)?,
+        end,
+    })
 }
 
 /// The line `sold`; a sale is at the address of the host.
@@ -45,6 +52,44 @@ fn path_line(rest: &[&[u8]]) -> Option<Entry> {
         addr,
         end: End::PathSet { place, path },
     })
+}
+
+/// The line `listed LIST`; a scan is at the address of all.
+fn listed_line(rest: &[&[u8]]) -> Option<Entry> {
+    let [list] = rest else {
+        return None;
+    };
+    let mut listed = Listed {
+        simple: DeviceSet::new(),
+        crc: DeviceSet::new(),
+    };
+    if *list != b"-".as_slice() {
+        for device in list.split(|byte| *byte == b',') {
+            add_device(&mut listed, device)?;
+        }
+    }
+    Some(Entry::Ended {
+        addr: BROADCAST,
+        end: End::Listed(listed),
+    })
+}
+
+/// Adds a device that a text names.
+fn add_device(listed: &mut Listed, text: &[u8]) -> Option<()> {
+    let (addr, kind) = device_in(text)?;
+    match kind {
+        CheckKind::Simple => listed.simple.insert(addr),
+        CheckKind::Crc => listed.crc.insert(addr),
+    }
+    Some(())
+}
+
+/// The address and the check that a text names, as `2/simple`.
+fn device_in(text: &[u8]) -> Option<(u8, CheckKind)> {
+    match text.strip_suffix(b"/simple") {
+        Some(addr) => Some((byte(addr)?, CheckKind::Simple)),
+        None => Some((byte(text.strip_suffix(b"/crc")?)?, CheckKind::Crc)),
+    }
 }
 
 /// The end that a word names which has an address behind it alone.

@@ -3,6 +3,56 @@
 use cct_lines::Pair;
 use std::fmt;
 
+/// The error codes of a coin acceptor and their names, but for 128 to 159 (ccTalk Generic Specification 4, part 3, its
+/// table of coin acceptor error codes, of which header 229 in part 2 speaks). Code 41 isn't in every release, so its name
+/// isn't sure.
+static ERRORS: [(u8, &str); 44] = [
+    (1, "reject coin"),
+    (2, "inhibited coin"),
+    (3, "multiple window"),
+    (4, "wake-up timeout"),
+    (5, "validation timeout"),
+    (6, "credit sensor timeout"),
+    (7, "sorter opto timeout"),
+    (8, "second close coin error"),
+    (9, "accept gate not ready"),
+    (10, "credit sensor not ready"),
+    (11, "sorter not ready"),
+    (12, "reject coin not cleared"),
+    (13, "validation sensor not ready"),
+    (14, "credit sensor blocked"),
+    (15, "sorter opto blocked"),
+    (16, "credit sequence error"),
+    (17, "coin going backwards"),
+    (18, "coin too fast over credit sensor"),
+    (19, "coin too slow over credit sensor"),
+    (20, "coin-on-string mechanism activated"),
+    (21, "DCE opto timeout"),
+    (22, "DCE opto not seen"),
+    (23, "credit sensor reached too early"),
+    (24, "reject coin, repeated sequential trip"),
+    (25, "reject slug"),
+    (26, "reject sensor blocked"),
+    (27, "games overload"),
+    (28, "max. coin meter pulses exceeded"),
+    (29, "accept gate open not closed"),
+    (30, "accept gate closed not open"),
+    (31, "manifold opto timeout"),
+    (32, "manifold opto blocked"),
+    (33, "manifold not ready"),
+    (34, "security status changed"),
+    (35, "motor exception"),
+    (36, "swallowed coin"),
+    (37, "coin too fast over validation sensor"),
+    (38, "coin too slow over validation sensor"),
+    (39, "coin incorrectly sorted"),
+    (40, "external light attack"),
+    (41, "its name isn't sure"),
+    (253, "data block request"),
+    (254, "coin return mechanism activated"),
+    (255, "unspecified alarm code"),
+];
+
 /// An event as people read it: a credit by place and path, an error by its text, or none.
 #[derive(Drop)]
 pub(crate) struct Event(pub Pair);
@@ -17,44 +67,25 @@ impl fmt::Display for Event {
     }
 }
 
-/// Writes an error by its code, and by its text where that is known.
+/// Writes an error by its code, and by its text where that is known. Codes 128 to 159 are an inhibited coin of each of
+/// 32 types.
 fn write_error<W: fmt::Write>(code: u8, f: &mut fmt::Formatter<W>) -> fmt::Result {
+    if let 128..=159 = code {
+        let kind = code - 127;
+        return write!(f, "error {code} (inhibited coin of type {kind})");
+    }
     match error_text(code) {
         Some(text) => write!(f, "error {code} ({text})"),
         None => write!(f, "error {code}"),
     }
 }
 
-/// What an error code of a coin acceptor means (ccTalk Generic Specification 4, part 2, header 229).
+/// What an error code means.
 fn error_text(code: u8) -> Option<&'static str> {
-    match code {
-        1 => Some("reject coin"),
-        2 => Some("inhibited coin"),
-        3 => Some("multiple window"),
-        4 => Some("wake-up timeout"),
-        5 => Some("validation timeout"),
-        6 => Some("credit sensor timeout"),
-        7 => Some("sorter opto timeout"),
-        8 => Some("second close coin error"),
-        9 => Some("accept gate not ready"),
-        10 => Some("credit sensor not ready"),
-        _ => rarer_error_text(code),
+    for (number, text) in &ERRORS {
+        if *number == code {
+            return Some(*text);
+        }
     }
-}
-
-/// What a rarer error code means.
-fn rarer_error_text(code: u8) -> Option<&'static str> {
-    match code {
-        11 => Some("sorter not ready"),
-        12 => Some("reject coin not cleared"),
-        13 => Some("validation sensor not ready"),
-        14 => Some("credit sensor blocked"),
-        15 => Some("sorter opto blocked"),
-        16 => Some("credit sequence error"),
-        17 => Some("coin going backwards"),
-        20 => Some("coin-on-string mechanism activated"),
-        254 => Some("coin return mechanism activated"),
-        255 => Some("unspecified alarm code"),
-        _ => None,
-    }
+    None
 }

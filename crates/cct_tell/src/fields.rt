@@ -1,8 +1,8 @@
 //! The fields of a line.
 
 use arrayvec::ArrayVec;
-use cct_lines::{Coin, Coins, EVENTS};
-use cct_script::ranged;
+use cct_lines::{Coin, Coins, EVENTS, Step};
+use cct_script::{ranged, read_step_line};
 
 /// The most fields that a line of a transcript has.
 pub(crate) const MOST_FIELDS: usize = 10;
@@ -14,6 +14,14 @@ pub(crate) fn fields_of(line: &[u8]) -> Option<ArrayVec<&[u8], MOST_FIELDS>> {
         fields.try_push(field).ok()?;
     }
     Some(fields)
+}
+
+/// The step that a line of a script spells.
+pub(crate) fn step_in(line: &[u8]) -> Option<Step> {
+    match read_step_line(line) {
+        Ok(step) => Some(step),
+        Err(_) => None,
+    }
 }
 
 /// The number below 2^8 that a field spells.

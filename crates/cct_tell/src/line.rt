@@ -1,18 +1,16 @@
 //! The entry that a line of a transcript is.
 
 use crate::ends::end_line;
-use crate::fields::{amount, byte, fields_of, number, one_byte, one_number, two_bytes};
+use crate::fields::{amount, byte, fields_of, number, one_byte, one_number, step_in, two_bytes};
 use crate::record::record_in;
 use crate::refusal::refusal_in;
 use cct_lines::{Coin, Entry, MOST_HEARD, MOST_SENT, Sent, Step, Totals};
-use cct_script::{piece_in, read_step_line};
+use cct_script::piece_in;
 
-/// What a line of a transcript says, without its line feed (`docs/TRANSCRIPT.md`), or a line of a bus logger: two
-/// pieces in hexadecimal, what was sent and what was heard, each a hyphen where it is empty. That is an exchange with
-/// the address that the first byte sent names.
+/// What a line of a transcript says, without its line feed (`docs/TRANSCRIPT.md`).
 ///
-/// `None` for any other line, and for those of which there is no more to say: the list of a scan, a refused line, the
-/// faults of a file, and the sums of a load.
+/// `None` for any other line, and for those of which there is no more to say: a refused line, the faults of a file, and
+/// the sums of a load.
 pub fn read_line(line: &[u8]) -> Option<Entry> {
     let fields = fields_of(line)?;
     let (word, rest) = fields.as_slice().split_first()?;
@@ -31,20 +29,17 @@ pub fn read_line(line: &[u8]) -> Option<Entry> {
 /// The line `wire A SENT HEARD`.
 fn wire_line(rest: &[&[u8]]) -> Option<Entry> {
     match rest {
-        [addr, sent, heard] => exchange_in(byte(addr)?, sent, heard),
+        [addr, sent, heard] => {
+            let mut message = Sent::new();
+            message.extend_from_slice(piece_in(MOST_SENT, sent)?.as_slice());
+            Some(Entry::Wire {
+                addr: byte(addr)?,
+                sent: message,
+                heard: piece_in(MOST_HEARD, heard)?,
+            })
+        }
         _ => None,
     }
-}
-
-/// The exchange with an address that two fields spell.
-fn exchange_in(addr: u8, sent: &[u8], heard: &[u8]) -> Option<Entry> {
-    let mut message = Sent::new();
-    message.extend_from_slice(piece_in(MOST_SENT, sent)?.as_slice());
-    Some(Entry::Wire {
-        addr,
-        sent: message,
-        heard: piece_in(MOST_HEARD, heard)?,
-    })
 }
 
 /// The line `record INDEX RECORD` of a report.
@@ -58,8 +53,8 @@ fn listing_line(rest: &[&[u8]]) -> Option<Entry> {
 
 /// The line `ok COMMAND`: behind its word stands the line of the command.
 fn taken_line(line: &[u8]) -> Option<Entry> {
-    match read_step_line(line.strip_prefix(b"ok ")?) {
-        Ok(Step::Command(command)) => Some(Entry::Taken(command)),
+    match step_in(line.strip_prefix(b"ok ")?)? {
+        Step::Command(command) => Some(Entry::Taken(command)),
         _ => None,
     }
 }
@@ -72,8 +67,8 @@ fn refused_line(line: &[u8]) -> Option<Entry> {
 
 /// The line of a fault, which is that of the script.
 fn fault_line(line: &[u8]) -> Option<Entry> {
-    match read_step_line(line) {
-        Ok(Step::Fault(fault)) => Some(Entry::Fault(fault)),
+    match step_in(line)? {
+        Step::Fault(fault) => Some(Entry::Fault(fault)),
         _ => None,
     }
 }
@@ -133,10 +128,7 @@ fn host_line(word: &[u8], rest: &[&[u8]]) -> Option<Entry> {
         }),
         b"balance" => balance_line(rest),
         b"total" => total_line(rest),
-        _ => match end_line(word, rest) {
-            Some(entry) => Some(entry),
-            None => logged_line(word, rest),
-        },
+        _ => end_line(word, rest),
     }
 }
 
@@ -165,16 +157,4 @@ fn total_line(rest: &[&[u8]]) -> Option<Entry> {
         unpaid: amount(unpaid)?,
         sold: amount(sold)?,
     })
-}
-
-/// The line of a bus logger: what was sent, and behind it what was heard.
-fn logged_line(sent: &[u8], rest: &[&[u8]]) -> Option<Entry> {
-    let [heard] = rest else {
-        return None;
-    };
-    let addr = match piece_in(MOST_SENT, sent)?.as_slice() {
-        [] => 0,
-        [addr, ..] => *addr,
-    };
-    exchange_in(addr, sent, heard)
 }

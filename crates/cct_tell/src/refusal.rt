@@ -1,8 +1,7 @@
 //! The command that was refused, and why.
 
-use crate::fields::{amount, fields_of, number, one_byte, one_number};
+use crate::fields::{amount, fields_of, number, one_byte, one_number, step_in};
 use cct_lines::{Command, CommandNo, Step};
-use cct_script::read_step_line;
 
 /// The command and the reason that a text spells, as they stand behind `no`: the reason is the first text behind a
 /// space that is one.
@@ -19,8 +18,8 @@ pub(crate) fn refusal_in(text: &[u8]) -> Option<(Command, CommandNo)> {
 
 /// The command that its line in a script spells.
 fn command_in(line: &[u8]) -> Option<Command> {
-    match read_step_line(line) {
-        Ok(Step::Command(command)) => Some(command),
+    match step_in(line)? {
+        Step::Command(command) => Some(command),
         _ => None,
     }
 }

@@ -2,6 +2,7 @@
 
 use crate::event::Event;
 use crate::lists::{Count, Places};
+use crate::register::Registers;
 use cct_lines::{Credits, EVENTS, Pair};
 use cct_msg::Reply;
 use std::fmt;
@@ -106,35 +107,11 @@ fn write_hopper<W: fmt::Write>(reply: Reply<'_>, f: &mut fmt::Formatter<W>) -> f
         ),
         Reply::Life { count } => write!(f, "life count {count}"),
         Reply::Remaining { count } => write!(f, "{count} were left to pay"),
-        Reply::Register { bits } => write_register(bits, f),
-        _ => Ok(()),
-    }
-}
-
-/// Writes a test register by the names of its set bits.
-fn write_register<W: fmt::Write>(bits: u8, f: &mut fmt::Formatter<W>) -> fmt::Result {
-    write!(f, "test register {bits:02x}")?;
-    let mut before = ": ";
-    for number in 0..8 {
-        if (bits >> number) & 1 == 1 {
-            let name = bit_name(number);
-            write!(f, "{before}{name}")?;
-            before = ", ";
+        Reply::Register { bits } => {
+            let bits = [bits];
+            let registers = Registers(&bits);
+            write!(f, "{registers}")
         }
-    }
-    Ok(())
-}
-
-/// The name of a bit of a hopper's test register, numbered from 0 (ccTalk Generic Specification 4, part 3, header 163).
-fn bit_name(number: u8) -> &'static str {
-    match number {
-        0 => "absolute maximum current exceeded",
-        1 => "payout timeout",
-        2 => "motor reversed to clear a jam",
-        3 => "opto fraud attempt, path blocked during idle",
-        4 => "opto fraud attempt, short-circuit during idle",
-        5 => "opto blocked permanently during payout",
-        6 => "power-up detected",
-        _ => "payout disabled",
+        _ => Ok(()),
     }
 }

@@ -58,19 +58,30 @@ fn write_fault<W: fmt::Write>(fault: &WireFault, f: &mut fmt::Formatter<W>) -> f
     }
 }
 
-/// Writes what an end means that isn't a good one (`docs/OPERATING.md`).
+/// Writes what an end means at which somebody is to look.
 fn write_end<W: fmt::Write>(end: End, f: &mut fmt::Formatter<W>) -> fmt::Result {
-    f.write_str(match end {
-        End::StartUnsure =>
-            "    the mask was sent and not acknowledged: the epoch runs, and a round comes next\n",
-        End::Unquiet { .. } => "    pieces fell in behind the reset: no epoch began\n",
-        End::Broke =>
-            "    the epoch is over, and coins of it may be lost: the cash box is to be counted\n",
-        End::OddLife =>
-            "    more coins fell than the order has: what the hopper paid is to be counted\n",
-        End::NoAnswer => "    three tries in succession got no wanted reply\n",
-        _ => "",
-    })
+    match alarm_of(end) {
+        Some(text) => write!(f, "    {text}\n"),
+        None => Ok(()),
+    }
+}
+
+/// What an end means at which somebody is to look (`docs/OPERATING.md`), or `None` where it is a good one.
+pub fn alarm_of(end: End) -> Option<&'static str> {
+    match end {
+        End::StartUnsure => Some(
+            "the mask was sent and not acknowledged: the epoch runs, and a round comes next",
+        ),
+        End::Unquiet { .. } => Some("pieces fell in behind the reset: no epoch began"),
+        End::Broke => Some(
+            "the epoch is over, and coins of it may be lost: the cash box is to be counted",
+        ),
+        End::OddLife => Some(
+            "more coins fell than the order has: what the hopper paid is to be counted",
+        ),
+        End::NoAnswer => Some("three tries in succession got no wanted reply"),
+        _ => None,
+    }
 }
 
 /// Writes sums by their names, and what is left behind a loss of power.

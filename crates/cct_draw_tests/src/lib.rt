@@ -1,0 +1,5 @@
+//! Tests of pictures by themselves.
+#![tactic(auto)]
+
+#[cfg(test)]
+mod draw;

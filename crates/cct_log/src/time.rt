@@ -1,0 +1,102 @@
+//! The time that stands in a line.
+
+/// How many digits of a fraction of a second count.
+const FRACTION_DIGITS: usize = 6;
+
+/// A time of day, or a time since some beginning, as it stands in a line.
+#[derive(Clone, Copy)]
+pub struct Time<'l> {
+    pub text: &'l [u8],
+    /// In millionths of a second, without its date.
+    pub micros: u64,
+}
+
+/// The time that a word spells: `H:M:S`, `M:S` or seconds with a point, each with a fraction or without, in brackets or
+/// not, and behind a date and a `T` or not.
+pub(crate) fn time_in(word: &[u8]) -> Option<Time<'_>> {
+    let text = without_frame(word);
+    let of_day = text.rsplit(|byte| *byte == b'T').next()?;
+    if !of_day.iter().any(|byte| *byte == b':' || *byte == b'.') {
+        return None;
+    }
+    let mut halves = of_day.split(|byte| *byte == b'.');
+    let seconds = seconds_in(halves.next()?)?;
+    let fraction = match halves.next() {
+        None => 0,
+        Some(digits) => fraction_in(digits)?,
+    };
+    if halves.next().is_some() {
+        return None;
+    }
+    Some(Time {
+        text,
+        micros: seconds.checked_mul(1_000_000)?.checked_add(fraction)?,
+    })
+}
+
+/// Whether a word is a date: digits with two hyphens, slashes or points between them.
+pub(crate) fn is_date(word: &[u8]) -> bool {
+    let text = without_frame(word);
+    let mut between = 0u32;
+    for byte in text {
+        match *byte {
+            b'0'..=b'9' => {}
+            b'-' | b'/' | b'.' => between = between.saturating_add(1),
+            _ => return false,
+        }
+    }
+    between == 2 && text.len() >= 6
+}
+
+/// A word without brackets around it, without a colon behind it and without the `Z` of a time zone.
+fn without_frame(word: &[u8]) -> &[u8] {
+    let word = word.strip_suffix(b":").unwrap_or(word);
+    let word = match word {
+        [b'[' | b'(', inner @ .., b']' | b')'] => inner,
+        _ => word,
+    };
+    word.strip_suffix(b"Z").unwrap_or(word)
+}
+
+/// The seconds that numbers with colons between them spell.
+fn seconds_in(text: &[u8]) -> Option<u64> {
+    let mut seconds = 0u64;
+    for part in text.split(|byte| *byte == b':') {
+        seconds = seconds.checked_mul(60)?.checked_add(number_in(part)?)?;
+    }
+    Some(seconds)
+}
+
+/// The number that digits spell, of which there is at least one.
+fn number_in(digits: &[u8]) -> Option<u64> {
+    if digits.is_empty() {
+        return None;
+    }
+    let mut number = 0u64;
+    for digit in digits {
+        number = number.checked_mul(10)?.checked_add(digit_in(*digit)?)?;
+    }
+    Some(number)
+}
+
+/// The millionths that the digits of a fraction spell.
+fn fraction_in(digits: &[u8]) -> Option<u64> {
+    let mut unit = 100_000u64;
+    let mut micros = 0u64;
+    for (index, digit) in digits.iter().enumerate() {
+        let value = digit_in(*digit)?;
+        if index < FRACTION_DIGITS {
+            micros = micros.saturating_add(value.saturating_mul(unit));
+            unit /= 10;
+        }
+    }
+    Some(micros)
+}
+
+/// The value of a digit.
+fn digit_in(digit: u8) -> Option<u64> {
+    match digit {
+        b'0'..=b'9' => Some(u64::from(digit - b'0')),
+        _ => None,
+    }
+}
