@@ -1,6 +1,5 @@
 -- What holds of an acceptor is kept by all that can come over an honest wire.
 use Rattle.std.proofs.Common.{◌≡◌, ℕ, ◌==◌, cond, Bool, true, false, List, [], ◌∷◌, refl, sym, subst, Option, Some, None, le_refl, rules}
-use Rattle.std.specs.Prelude.{⊤}
 use Rattle.cct_model.specs.terms.device.DeviceBody.{DeviceBody}
 use Rattle.cct_model.specs.terms.device.DeviceBody.TheVariants.{Acceptor, Hopper}
 use Rattle.cct_model.specs.terms.device.DeviceSetup.{DeviceSetup}
@@ -22,89 +21,106 @@ use Rattle.cct_model.specs.Order.{order}
 use Rattle.cct_model.specs.Job.{works, job, sends, puts, ident_requests, Payment, payment_in, epoch, credits_read, judged_in}
 use Rattle.cct_model.specs.Rows.{row, row_at, end_of, rows_of, done}
 use Rattle.cct_model.proofs.Rows.{IfSends, Each, EachRow, puts_only, both_hold, each_ask, AnswerEnds, answer_end, PutEnds, each_asked, told_only, each_put, each_told, Asks, puts_none, put_end}
-use Rattle.cct_laws.specs.Kept.{Fate, IsForOthers, is_for_acceptor, with_ended}
+use Rattle.cct_laws.specs.Kept.{Fate, unheard, silenced, answered, IsForOthers, is_for_acceptor, with_ended}
 use Rattle.cct_laws.proofs.EitherKind.{for_acceptor}
 use Rattle.cct_laws.specs.Since.{IsKept}
 use Rattle.cct_model.specs.Claims.{mark, base, InOrder, Covers, Pace}
-use Rattle.cct_laws.proofs.World.{world, closed}
+use Rattle.cct_laws.proofs.World.{world, closed, On, on_nothing}
 use Rattle.cct_laws.proofs.Fits.{book, StateOf, Fits}
-use Rattle.cct_laws.proofs.Moves.{Sound, sound_line, Keeps, KeepsAsk, FitsBehind, IfOther, IsMild, keeps_accepted, keeps_inhibited, keeps_alien, keeps_reset, keeps_taken, keeps_with_ended, keeps_exchange, on_heard, fits_at, by_fate, IsOtherEnd}
+use Rattle.cct_laws.proofs.Moves.{Sound, sound_line, Keeps, KeepsAsk, FitsBehind, IfOther, IsMild, keeps_accepted, keeps_inhibited, keeps_alien, keeps_reset, keeps_taken, keeps_with_ended, keeps_exchange, on_heard, fits_at, failure_other, IsOtherEnd}
 use Rattle.cct_laws.proofs.Starts.{start_asks, start_puts}
 use Rattle.cct_laws.proofs.Rounds.{round_asks, round_puts}
 use Rattle.cct_laws.proofs.Stops.{stop_asks, stop_puts}
 use Rattle.cct_model.specs.declared.judging.EpochState.{EpochState}
-use Rattle.cct_model.proofs.Tries.{IsAgain}
-use Rattle.cct_model.proofs.RowEnds.{row_again}
 
--- a job without records
-
+-- a job at an acceptor that reads and records nothing
 abbrev pub IsPlain : Command → Type 0
-IsPlain (command.Ident addr) = ⊤
-IsPlain (command.Path addr place path) = ⊤
-IsPlain c = ⊥
+IsPlain (command.Start addr mask) = ⊥
+IsPlain (command.Round addr) = ⊥
+IsPlain (command.Stop addr) = ⊥
+IsPlain c = is_for_acceptor c ≡ true
 
--- what it asks is tried again, and opens no place
-abbrev pub IsPlainRequest : Request → Type 0
-IsPlainRequest q = IsAgain q × IsMild q
-
-plain_ident : (body : DeviceBody) → Each IsPlainRequest (ident_requests body)
+-- what it asks opens no place
+plain_ident : (body : DeviceBody) → Each IsMild (ident_requests body)
 plain_ident (Acceptor accepts values ids) = search rules
 plain_ident (Hopper life value) = search rules
 
-plain_if : (b : Bool) (q r : Request) → IsPlainRequest q → IsPlainRequest r → IsPlainRequest (cond b q r)
+plain_if : (b : Bool) (q r : Request) → IsMild q → IsMild r → IsMild (cond b q r)
 plain_if true q r plain other = plain
 plain_if false q r plain other = other
 
-plain_command : (d : DeviceSetup) (c : Command) → IsPlain c → EachRow (Asks IsPlainRequest) (rows_of d c)
-plain_command d (command.Ident addr) plain = each_asked IsPlainRequest (ident_requests d.body) (plain_ident d.body)
+plain_command : (d : DeviceSetup) (c : Command) → IsPlain c → EachRow (Asks IsMild) (rows_of d c)
+plain_command d (command.Start addr mask) plain = absurd plain
+plain_command d (command.Ident addr) plain = each_asked IsMild (ident_requests d.body) (plain_ident d.body)
 plain_command d (command.Path addr place path) plain =
-    (plain_if (place == 0) _ _ (refl, tt) (refl, tt), (plain_if (place == 0) _ _ (refl, tt) (refl, tt), tt))
-plain_command d c plain = absurd plain
+    (plain_if (place == 0) _ _ tt tt, (plain_if (place == 0) _ _ tt tt, tt))
+plain_command d c plain = search rules
 
 -- it puts nothing
 plain_puts_none : (d : DeviceSetup) (c : Command) → IsPlain c → puts_only puts_none (rows_of d c) ≡ true
+plain_puts_none d (command.Start addr mask) plain = absurd plain
+plain_puts_none d (command.Round addr) plain = absurd plain
+plain_puts_none d (command.Stop addr) plain = absurd plain
+plain_puts_none d (command.Pay addr id count) plain = absurd cc
+plain_puts_none d (command.Settle addr) plain = absurd cc
 plain_puts_none d (command.Ident addr) plain = told_only puts_none (ident_requests d.body)
-plain_puts_none d (command.Path addr place path) plain = refl
-plain_puts_none d c plain = absurd plain
+plain_puts_none d c plain = refl
 
 pub plain_row : (d : DeviceSetup) (c : Command) (rows : ℕ) (judged : Judged) (p : Payment) → IsPlain c →
-    IfSends IsPlainRequest (row_at d c rows judged p)
+    IfSends IsMild (row_at d c rows judged p)
 plain_row d c rows judged p plain =
-    both_hold IsPlainRequest (λ r. ⊥) (row_at d c rows judged p)
-    (each_ask IsPlainRequest d c rows judged p (plain_command d c plain))
+    both_hold IsMild (λ r. ⊥) (row_at d c rows judged p)
+    (each_ask IsMild d c rows judged p (plain_command d c plain))
     (each_put (λ r. ⊥) puts_none d c rows judged p (plain_puts_none d c plain) (λ due none. absurd cc))
 
 -- it needs nothing, and its ends are no items
 plain_fits : (d : DeviceSetup) (now : List Met) (lines : List Line) (c : Command) (since : List Line) → IsPlain c →
     FitsBehind d now lines c since
-plain_fits d now lines (command.Ident addr) since plain = tt
-plain_fits d now lines (command.Path addr place path) since plain = tt
-plain_fits d now lines c since plain = absurd plain
+plain_fits d now lines (command.Start addr mask) since plain = absurd plain
+plain_fits d now lines (command.Round addr) since plain = absurd plain
+plain_fits d now lines (command.Stop addr) since plain = absurd plain
+plain_fits d now lines c since plain = tt
 
 plain_ends : (d : DeviceSetup) (c : Command) → IsPlain c → EachRow (AnswerEnds IsOtherEnd) (rows_of d c)
+plain_ends d (command.Round addr) plain = absurd plain
 plain_ends d (command.Ident addr) plain =
     each_told (AnswerEnds IsOtherEnd) (λ q. tt) (λ q. tt) (ident_requests d.body)
-plain_ends d (command.Path addr place path) plain = (tt, ((λ number. tt), tt))
-plain_ends d c plain = absurd plain
+plain_ends d c plain = search rules
 
-plain_end : (d : DeviceSetup) (c : Command) (asked : Option Request) (y : Reply) (since : List Line)
-    (state : EpochState) → IsPlain c → IfOther (end_of d c (exchange asked (Some y)) since state)
-plain_end d c asked y since state plain = answer_end IsOtherEnd d c asked y since state (plain_ends d c plain)
+plain_end : (d : DeviceSetup) (c : Command) (q : Request) (got : Option Reply) (since : List Line)
+    (state : EpochState) → IsPlain c → IfOther (end_of d c (exchange (Some q) got) since state)
+plain_end d c q None since state plain = failure_other d c q since state
+plain_end d c q (Some y) since state plain = answer_end IsOtherEnd d c (Some q) y since state (plain_ends d c plain)
+
+plain_line : (d : DeviceSetup) (past now : List Met) (lines : List Line) (c : Command) (since : List Line) (q : Request)
+    (got : Option Reply) → IsPlain c → job lines ≡ works c since → On (world past lines) (world now lines) →
+    Keeps d past lines →
+    Keeps d now (with_ended (end_of d c (exchange (Some q) got) since (epoch lines)) (exchange (Some q) got ∷ lines))
+plain_line d past now lines c since q got plain is_job on keeps =
+    let line = exchange (Some q) got in
+    keeps_with_ended d now (line ∷ lines) _ (plain_end d c q got since (epoch lines) plain)
+    (keeps_exchange d past now lines c since (Some q) got is_job on keeps.sound
+    (plain_fits d now (line ∷ lines) c (line ∷ since) plain))
+
+plain_fate : (d : DeviceSetup) (past : List Met) (lines : List Line) (c : Command) (since : List Line) (q : Request)
+    (asked : Option Request) (got : Option Reply) → IsPlain c → job lines ≡ works c since → IsMild q →
+    Keeps d past lines → Fate d past q asked got → KeepsAsk d past lines c since q asked got
+plain_fate d past lines c since q asked got plain is_job mild keeps unheard =
+    plain_line d past (heard None ∷ past) lines c since q None plain is_job (on_nothing (world past lines)) keeps
+plain_fate d past lines c since q asked got plain is_job mild keeps silenced =
+    plain_line d past (heard (Some q) ∷ past) lines c since q None plain is_job (on_heard past lines q mild) keeps
+plain_fate d past lines c since q asked got plain is_job mild keeps (answered y gives) =
+    plain_line d past (heard (Some q) ∷ past) lines c since q (Some y) plain is_job (on_heard past lines q mild) keeps
 
 plain_asks : (d : DeviceSetup) (past : List Met) (lines : List Line) (c : Command) (since : List Line) (q : Request)
     (asked : Option Request) (got : Option Reply) → IsPlain c → job lines ≡ works c since →
     row d c since (epoch lines) (order lines) ≡ sends q → Keeps d past lines → Fate d past q asked got →
     KeepsAsk d past lines c since q asked got
 plain_asks d past lines c since q asked got plain is_job row_is keeps fate =
-    let now = heard (Some q) ∷ past in
-    let judged = judged_in c since (epoch lines) in
-    let asks : IsPlainRequest q =
-    subst (IfSends IsPlainRequest) row_is (plain_row d c (done (rows_of d c) since) judged (payment_in since (order lines)) plain) in
-    by_fate d past lines c since q asked got (row_again d c since (epoch lines) (order lines) q row_is asks.0) asks.1 is_job keeps (λ y gives.
-    let line = exchange (Some q) (Some y) in
-    keeps_with_ended d now (line ∷ lines) _ (plain_end d c (Some q) y since (epoch lines) plain)
-    (keeps_exchange d past now lines c since (Some q) (Some y) is_job (on_heard past lines q asks.1) keeps.sound
-    (plain_fits d now (line ∷ lines) c (line ∷ since) plain))) fate
+    let mild : IsMild q =
+    subst (IfSends IsMild) row_is
+    (plain_row d c (done (rows_of d c) since) (judged_in c since (epoch lines)) (payment_in since (order lines)) plain) in
+    plain_fate d past lines c since q asked got plain is_job mild keeps fate
 
 -- a job at the acceptor asks something
 
@@ -124,18 +140,14 @@ keeps_asks d past lines (command.Stop addr) since q asked got accepting suited i
     let c = command.Stop addr in
     stop_asks d past lines addr since (judged_in c since (epoch lines)) q asked got (payment_in since (order lines)) (done (rows_of d c) since) accepting is_job refl
     (fits_at d past lines c since is_job keeps) row_is keeps fate
-keeps_asks d past lines (command.Ident addr) since q asked got accepting suited in_range is_job row_is fate keeps =
-    plain_asks d past lines (command.Ident addr) since q asked got tt is_job row_is keeps fate
-keeps_asks d past lines (command.Path addr place path) since q asked got accepting suited in_range is_job row_is fate
-    keeps =
-    plain_asks d past lines (command.Path addr place path) since q asked got tt is_job row_is keeps fate
-keeps_asks d past lines c since q asked got accepting suited in_range is_job row_is fate keeps = absurd cc
+keeps_asks d past lines c since q asked got accepting suited in_range is_job row_is fate keeps =
+    plain_asks d past lines c since q asked got suited is_job row_is keeps fate
 
 -- it puts a record
 pub plain_puts : (d : DeviceSetup) (lines : List Line) (c : Command) (since : List Line) (r : Record) → IsPlain c →
     row d c since (epoch lines) (order lines) ≡ puts r → ⊥
 plain_puts d lines c since r plain row_is =
-    subst (IfSends IsPlainRequest) row_is
+    subst (IfSends IsMild) row_is
     (plain_row d c (done (rows_of d c) since) (judged_in c since (epoch lines)) (payment_in since (order lines)) plain)
 
 keeps_puts : (d : DeviceSetup) (past : List Met) (lines : List Line) (c : Command) (since : List Line) (r : Record) →
@@ -154,11 +166,8 @@ keeps_puts d past lines (command.Stop addr) since r suited in_range is_job row_i
     let c = command.Stop addr in
     stop_puts d past lines addr since (judged_in c since (epoch lines)) r (payment_in since (order lines)) (done (rows_of d c) since) is_job refl
     (fits_at d past lines c since is_job keeps) row_is keeps
-keeps_puts d past lines (command.Ident addr) since r suited in_range is_job row_is keeps =
-    absurd (plain_puts d lines (command.Ident addr) since r tt row_is)
-keeps_puts d past lines (command.Path addr place path) since r suited in_range is_job row_is keeps =
-    absurd (plain_puts d lines (command.Path addr place path) since r tt row_is)
-keeps_puts d past lines c since r suited in_range is_job row_is keeps = absurd cc
+keeps_puts d past lines c since r suited in_range is_job row_is keeps =
+    absurd (plain_puts d lines c since r suited row_is)
 
 -- the host loses its power
 keeps_crashed : (d : DeviceSetup) (past : List Met) (lines : List Line) → Keeps d past lines → Keeps d past (crashed ∷ lines)

@@ -30,7 +30,7 @@ use Rattle.cct_model.proofs.Rows.{IfSends, RowHolds, each_ask}
 use Rattle.cct_laws.proofs.World.{World, Silent, IsLive, mask_at, world}
 use Rattle.cct_laws.proofs.Fits.{Book, book, StateOf, IsRunning, FitsStart}
 use Rattle.cct_laws.proofs.Moves.{Keeps, IsMild, fits_at}
-use Rattle.cct_laws.proofs.Acceptors.{IsPlainRequest, plain_row, keeps_kept}
+use Rattle.cct_laws.proofs.Acceptors.{plain_row, keeps_kept}
 use Rattle.cct_laws.proofs.Putting.{Puts, row_puts}
 
 -- while an epoch runs, the mask is that which was set since, and that is the epoch's
@@ -95,8 +95,8 @@ mild_asks : (state : EpochState) (q : Request) → IsMild q → Asks state q
 mild_asks state (SetMask mask) mild = absurd mild
 mild_asks state q mild = tt
 
-plain_asks : (state : EpochState) (what : Row) → IfSends IsPlainRequest what → IfAsks state what
-plain_asks state (sends q) plain = mild_asks state q plain.1
+plain_asks : (state : EpochState) (what : Row) → IfSends IsMild what → IfAsks state what
+plain_asks state (sends q) plain = mild_asks state q plain
 plain_asks state (puts r) plain = absurd plain
 plain_asks state no_row plain = tt
 
@@ -114,15 +114,9 @@ row_asks d past lines (command.Round addr) work suited is_job keeps =
 row_asks d past lines (command.Stop addr) work suited is_job keeps =
     let judged = judged_in (command.Stop addr) work (epoch lines) in
     each_ask (Asks (epoch lines)) d (command.Stop addr) (done (rows_of d (command.Stop addr)) work) judged (payment_in work (order lines)) (search rules)
-row_asks d past lines (command.Ident addr) work suited is_job keeps =
-    let c = command.Ident addr in
+row_asks d past lines c work suited is_job keeps =
     plain_asks (epoch lines) (row d c work (epoch lines) (order lines))
-    (plain_row d c (done (rows_of d c) work) (judged_in c work (epoch lines)) (payment_in work (order lines)) tt)
-row_asks d past lines (command.Path addr place path) work suited is_job keeps =
-    let c = command.Path addr place path in
-    plain_asks (epoch lines) (row d c work (epoch lines) (order lines))
-    (plain_row d c (done (rows_of d c) work) (judged_in c work (epoch lines)) (payment_in work (order lines)) tt)
-row_asks d past lines c work suited is_job keeps = absurd cc
+    (plain_row d c (done (rows_of d c) work) (judged_in c work (epoch lines)) (payment_in work (order lines)) suited)
 
 -- an exchange of a job, and its end if there is one
 

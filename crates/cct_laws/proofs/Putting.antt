@@ -104,8 +104,4 @@ row_puts d past lines (command.Stop addr) since r suited is_job here row_is keep
     stop_row_puts d (world past lines) (book lines) addr r (credits_read since) (judged_in c since (epoch lines))
     (payment_in since (order lines)) (done (rows_of d c) since) (judged_runs addr (epoch lines) (credits_read since) (mask_read since))
     (fits_at d past lines c since is_job keeps) row_is
-row_puts d past lines (command.Ident addr) since r suited is_job here row_is keeps =
-    absurd (plain_puts d lines (command.Ident addr) since r tt row_is)
-row_puts d past lines (command.Path addr place path) since r suited is_job here row_is keeps =
-    absurd (plain_puts d lines (command.Path addr place path) since r tt row_is)
-row_puts d past lines c since r suited is_job here row_is keeps = absurd cc
+row_puts d past lines c since r suited is_job here row_is keeps = absurd (plain_puts d lines c since r suited row_is)
