@@ -355,8 +355,7 @@ command_puts d (command.Settle addr) since state owed h = (tt, (tt, ((λ o life 
 command_puts d (command.Ident addr) since state owed h =
     each_told (Puts IsRecord addr (judged_in (command.Ident addr) since state) (payment_in since owed)) (λ q. tt) (λ q. tt)
     (ident_requests d.body)
-command_puts d (command.Path addr place path) since state owed h = (tt, (tt, tt))
-command_puts d c since state owed h = tt
+command_puts d c since state owed h = search rules
 
 pub row_fits : (d : DeviceSetup) (c : Command) (since : List Line) (state : EpochState) (owed : Option OpenOrder) →
     FitsJob (works c since) → FitsRow (row d c since state owed)
