@@ -1,24 +1,33 @@
 -- What one step on a bus does to all that it stands for.
 use Rattle.std.proofs.Common.{◌≡◌, ℕ, suc, ◌-◌, ◌≤◌, ◌==◌, Bool, true, false, cond, List, [], ◌∷◌, ◌++◌, length, set, take, drop, get_or, refl, sym, ap, subst, ◌∙◌, Option, Some, None, arith}
-use Rattle.std.specs.Prelude.{IsTrue, MatchBool, is_some, unwrap_or}
+use Rattle.std.specs.Prelude.{IsTrue, is_some, unwrap_or}
 use Rattle.std.specs.List.{All, flat_map, insert, position, position_or_len}
 use Rattle.std.proofs.lemmas.List.{take_all}
 use Rattle.std.proofs.lemmas.List.Elements.{All-get_or, All-weaker}
 use Rattle.cct_model.specs.lines.command.WireFault.{WireFault}
 use Rattle.cct_model.specs.terms.device.DeviceSetup.{DeviceSetup}
 use Rattle.cct_model.specs.terms.device.Setup.{Setup}
+use Rattle.cct_model.specs.terms.family.Happening.{Happening}
+use Rattle.cct_model.specs.terms.family.Happening.TheVariants as happening
 use Rattle.cct_model.specs.lines.entry.Entry.{Entry}
 use Rattle.cct_model.specs.lines.entry.Entry.TheVariants as entry
 use Rattle.cct_model.specs.Acceptor.{accepts}
-use Rattle.cct_model.specs.Exchange.{by_address, device_at, put_by_address, acceptor_there, hopper_there}
+use Rattle.cct_model.specs.Exchange.{by_address, device_at, put_by_address}
 use Rattle.cct_model.specs.History.{Met, coin, fall, jam}
-use Rattle.cct_model.specs.Legal.{OfAcceptor, OfHopper, coin_entry, fall_entry, jam_entry}
+use Rattle.cct_model.specs.Legal.{OfKnowing, happening_entry}
 use Rattle.cct_model.specs.Hopper.{remaining}
-use Rattle.cct_model.specs.Device.{is_acceptor, is_hopper}
+use Rattle.cct_model.specs.Family.{met_by}
 use Rattle.cct_model.specs.Setup.{AreDistinct, IsSoundSetup}
 use Rattle.cct_model.specs.Transcript.{answers, at, heard_after, heard_by_devices, heard_by_host, meets, met, pending}
+use Rattle.cct_acceptor.specs.declared.acceptor.Inserted.{Inserted}
+use Rattle.cct_acceptor.specs.declared.acceptor.Inserted.TheVariants as taken
+use Rattle.cct_model.proofs.Knowing.{knowing_both}
+use Rattle.cct_bus.specs.declared.bus.Bus.{Bus}
 use Rattle.cct_bus.specs.declared.device.Device.{Device}
+use Rattle.cct_bus.specs.declared.outcome.Outcome.{Outcome}
+use Rattle.cct_bus.specs.Bus.{Befalls, StandsFor}
 use Rattle.cct_bus.specs.Device.{Lived, Stands, setup_in, setups_in}
+use Rattle.cct_bus.specs.Outcome.{becomes, inserted_of, is_done, of_effect, of_inserted}
 use Rattle.cct_bus.specs.Room.{most_answered}
 use Rattle.cct_bus.proofs.Hears.{answer_of, hearing}
 use Rattle.cct_bus.proofs.Orders.{answered_by_address, distinct_by_address, found_by_address}
@@ -72,31 +81,6 @@ pub place_there : (devices : List Device) (setup : Setup) (addr : ℕ) → setup
 place_there devices setup addr order there =
     place_known (position (is_at addr) devices) devices setup addr order there refl
 
--- an acceptor is a device
-pub acceptor_is_some : (found : Option DeviceSetup) → IsTrue (acceptor_there found) → IsTrue (is_some found)
-acceptor_is_some None there = absurd cc
-acceptor_is_some (Some d) there = refl
-
--- so is a hopper
-pub hopper_is_some : (found : Option DeviceSetup) → IsTrue (hopper_there found) → IsTrue (is_some found)
-hopper_is_some None there = absurd cc
-hopper_is_some (Some d) there = refl
-
--- the device that was found is of its kind
-pub acceptor_found : (found : Option DeviceSetup) (d : DeviceSetup) → found ≡ Some d → IsTrue (acceptor_there found)
-    → is_acceptor d.body ≡ true
-acceptor_found None d is there = absurd cc
-acceptor_found (Some e) d is there =
-    let same : e ≡ d = cc in
-    subst (λ x. is_acceptor x.body ≡ true) same there
-
-pub hopper_found : (found : Option DeviceSetup) (d : DeviceSetup) → found ≡ Some d → IsTrue (hopper_there found)
-    → is_hopper d.body ≡ true
-hopper_found None d is there = absurd cc
-hopper_found (Some e) d is there =
-    let same : e ≡ d = cc in
-    subst (λ x. is_hopper x.body ≡ true) same there
-
 -- the device at an index stands for what the history tells
 pub one_lived : (devices : List Device) (i : ℕ) (y : Device) (addr : ℕ) (history : DeviceSetup → List Met) → position (is_at addr) devices ≡ Some i → y ≡ get_or devices i y
     → All (Stands history) devices → Lived y (history (setup_in y))
@@ -126,26 +110,21 @@ either false P x y left right = right
 abbrev Tells : List Entry → ℕ → Met → Entry → Type 0
 Tells past addr m e = ((d : DeviceSetup) → meets d past e ≡ at addr d m) × (pending (e ∷ past) ≡ pending past)
 
--- whatever becomes of a coin, the acceptor at its address met it
-pub coin_tells : (d : DeviceSetup) (addr place : ℕ) (past : List Entry) → d.addr ≡ addr
-    → Tells past addr (coin place) (coin_entry d past place)
-coin_tells d addr place past is =
-    subst (λ a. Tells past a (coin place) (coin_entry d past place)) is
-    (either (accepts (met d past) place) (Tells past d.addr (coin place)) _ _ ((λ e. refl), refl) ((λ e. refl), refl))
-
--- whether a coin falls or not, the hopper at its address met that
-pub fall_tells : (d : DeviceSetup) (addr : ℕ) (past : List Entry) → d.addr ≡ addr
-    → Tells past addr fall (fall_entry d past)
-fall_tells d addr past is =
-    subst (λ a. Tells past a fall (fall_entry d past)) is
-    (either (remaining d.serial (met d past) == 0) (Tells past d.addr fall) _ _ ((λ e. refl), refl) ((λ e. refl), refl))
-
--- whether a coin is stuck or not, the hopper at its address met that
-pub jam_tells : (d : DeviceSetup) (addr : ℕ) (past : List Entry) → d.addr ≡ addr
-    → Tells past addr jam (jam_entry d past)
-jam_tells d addr past is =
-    subst (λ a. Tells past a jam (jam_entry d past)) is
-    (either (remaining d.serial (met d past) == 0) (Tells past d.addr jam) _ _ ((λ e. refl), refl) ((λ e. refl), refl))
+-- by the entry of what befell it, the device at that address met that
+pub happening_tells : (d : DeviceSetup) (addr : ℕ) (what : Happening) (past : List Entry) → d.addr ≡ addr
+    → Tells past addr (met_by what) (happening_entry addr d past what)
+happening_tells d addr what past is =
+    subst (λ a. Tells past a (met_by what) (happening_entry a d past what)) is (tells what)
+  where
+    tells : (what : Happening) → Tells past d.addr (met_by what) (happening_entry d.addr d past what)
+    tells (happening.Coin place) =
+        either (accepts (met d past) place) (Tells past d.addr (coin place)) _ _ ((λ e. refl), refl) ((λ e. refl), refl)
+    tells happening.Alien = ((λ e. refl), refl)
+    tells happening.Fall =
+        either (remaining d.serial (met d past) == 0) (Tells past d.addr fall) _ _ ((λ e. refl), refl) ((λ e. refl), refl)
+    tells happening.Jam =
+        either (remaining d.serial (met d past) == 0) (Tells past d.addr jam) _ _ ((λ e. refl), refl) ((λ e. refl), refl)
+    tells happening.Reset = ((λ e. refl), refl)
 
 -- after what the device at an address met the devices stand for its entry
 pub entry_stands : (devices : List Device) (addr : ℕ) (m : Met) (e : Entry) (past : List Entry) → Tells past addr m e
@@ -155,24 +134,36 @@ entry_stands devices addr m e past tells stand =
     (λ device lived. subst (λ ms. Lived device (ms ++ met (setup_in device) past)) (sym (tells.0 (setup_in device))) lived)
     devices stand
 
-match_true : (test : Bool) (A : Type 0) → IsTrue test → A → MatchBool test A ⊥
-match_true true A holds a = a
-match_true false A holds a = absurd cc
+-- what became of a coin that fell in, out of a hopper, or got stuck there
+pub inserted_back : (i : Inserted) → inserted_of (of_inserted i) ≡ i
+inserted_back (taken.Accepted c) = refl
+inserted_back taken.Inhibited = refl
 
--- a fact of the acceptor that was found
-pub of_acceptor : (found : Option DeviceSetup) (d : DeviceSetup) (P : DeviceSetup → Type 0) → found ≡ Some d → IsTrue (acceptor_there found) → P d → OfAcceptor found P
-of_acceptor None d P is there fact = absurd cc
-of_acceptor (Some e) d P is there fact =
-    let same : e ≡ d = cc in
-    match_true (is_acceptor e.body) (P e) there (subst P (sym same) fact)
+pub effect_back : (was_paying : Bool) → is_done (of_effect was_paying) ≡ was_paying
+effect_back true = refl
+effect_back false = refl
 
--- a fact of the hopper that was found
-pub of_hopper : (found : Option DeviceSetup) (d : DeviceSetup) (P : DeviceSetup → Type 0) → found ≡ Some d
-    → IsTrue (hopper_there found) → P d → OfHopper found P
-of_hopper None d P is there fact = absurd cc
-of_hopper (Some e) d P is there fact =
-    let same : e ≡ d = cc in
-    match_true (is_hopper e.body) (P e) there (subst P (sym same) fact)
+-- what befell a device, with what became of it told in another form
+pub told_as : {B : Type 0} (setup : Setup) (past : List Entry) (addr : ℕ) (what : Happening) (outcome : Outcome)
+    (new : Bus) (form : Outcome → B) (said : B) (is : DeviceSetup → B) → said ≡ form outcome
+    → ((d : DeviceSetup) → form (becomes what d.serial (met d past)) ≡ is d) → Befalls setup past addr what outcome new
+    → OfKnowing what (device_at setup.devices addr)
+    (λ d. (said ≡ is d) × StandsFor new (happening_entry addr d past what ∷ past))
+told_as setup past addr what outcome new form said is told same befalls =
+    (knowing_both what (device_at setup.devices addr)
+    (λ d. (outcome ≡ becomes what d.serial (met d past)) × StandsFor new (happening_entry addr d past what ∷ past))
+    (λ d. (said ≡ is d) × StandsFor new (happening_entry addr d past what ∷ past)) (Unit {0})
+    (λ d at goes. ((told ∙ ap form goes.0 ∙ same d, goes.1), tt)) befalls).0
+
+-- what befell a device, where its entry is that of any
+pub stands_by : (setup : Setup) (past : List Entry) (addr : ℕ) (what : Happening) (outcome : Outcome) (new : Bus)
+    (e : Entry) → ((d : DeviceSetup) → happening_entry addr d past what ≡ e) → Befalls setup past addr what outcome new
+    → StandsFor new (e ∷ past)
+stands_by setup past addr what outcome new e same befalls =
+    (knowing_both what (device_at setup.devices addr)
+    (λ d. (outcome ≡ becomes what d.serial (met d past)) × StandsFor new (happening_entry addr d past what ∷ past))
+    (λ d. Unit {0}) (StandsFor new (e ∷ past))
+    (λ d at goes. (tt, subst (λ x. StandsFor new (x ∷ past)) (same d) goes.1)) befalls).1
 
 -- what the host hears, where the devices answered what reached them
 pub heard_is : (setup : Setup) (past : List Entry) (fault : WireFault) (setups : List DeviceSetup) (sent heard : List ℕ) → fault ≡ pending past → setups ≡ by_address setup.devices

@@ -4,11 +4,15 @@ use Rattle.std.specs.List.{All}
 use Rattle.cct_model.specs.terms.device.Setup.{Setup}
 use Rattle.cct_model.specs.lines.entry.Entry.{Entry}
 use Rattle.cct_model.specs.lines.entry.Entry.TheVariants as entry
-use Rattle.cct_model.specs.Exchange.{by_address}
+use Rattle.cct_model.specs.terms.family.Happening.{Happening}
+use Rattle.cct_model.specs.Exchange.{by_address, device_at}
+use Rattle.cct_model.specs.Legal.{OfKnowing, happening_entry}
 use Rattle.cct_model.specs.Setup.{IsSoundSetup}
 use Rattle.cct_model.specs.Transcript.{heard_after, met, pending}
 use Rattle.cct_bus.specs.declared.bus.Bus.{Bus}
+use Rattle.cct_bus.specs.declared.outcome.Outcome.{Outcome}
 use Rattle.cct_bus.specs.Device.{Stands, setups_in}
+use Rattle.cct_bus.specs.Outcome.{becomes}
 
 -- The setup of a bus.
 abbrev pub setup_of : Bus → Setup
@@ -29,3 +33,10 @@ Exchanges old sent heard new =
     (setup_of new ≡ setup_of old)
     × ((past : List Entry) (addr : ℕ) → StandsFor old past
     → (heard ≡ heard_after (setup_of old) past sent) × StandsFor new (entry.Wire addr sent heard ∷ past))
+
+-- What something that befalls the device at an address does on a bus: it becomes what it does of one that met what the
+-- transcript tells, and the transcript goes on by its entry.
+abbrev pub Befalls : Setup → List Entry → ℕ → Happening → Outcome → Bus → Type 0
+Befalls setup past addr what outcome new =
+    OfKnowing what (device_at setup.devices addr)
+    (λ d. (outcome ≡ becomes what d.serial (met d past)) × StandsFor new (happening_entry addr d past what ∷ past))

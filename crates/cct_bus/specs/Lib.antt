@@ -2,4 +2,5 @@ pub mod Body
 pub mod Bus
 pub mod Device
 pub mod Fault
+pub mod Outcome
 pub mod Room

@@ -1,16 +1,20 @@
 //! What a device on the wire is: a coin acceptor or a hopper.
-ghost use Rattle.std.specs.Prelude.{◌≡◌, ◌≤◌, ◌==◌, not, true, List, [], ◌∷◌, IfOk, unwrap_or};
+ghost use Rattle.std.specs.Prelude.{◌≡◌, true, List, [], ◌∷◌, IfOk, unwrap_or};
 ghost use Rattle.cct_model.specs.terms.device.DeviceSetup.{DeviceSetup};
 ghost use Rattle.cct_model.specs.Device.{IsSound};
 ghost use Rattle.cct_model.specs.Exchange.{answer, asks_of};
-ghost use Rattle.cct_model.specs.History.{Met, alien, coin, fall, heard, jam, reset};
-ghost use Rattle.cct_model.specs.Hopper.{remaining};
-ghost use Rattle.cct_acceptor.specs.Acceptor.{inserted};
+ghost use Rattle.cct_model.specs.Family.{IsPlaced, known_to, met_by};
+ghost use Rattle.cct_model.specs.History.{Met, heard};
+ghost use Rattle.cct_model.specs.terms.family.Family.TheVariants as family;
+ghost use Rattle.cct_acceptor.specs.Acceptor as acceptors;
+ghost use Rattle.cct_hopper.specs.Hopper as hoppers;
+ghost use Rattle.cct_bus.specs.Outcome.{becomes};
 
+use crate::outcome::{Outcome, of_effect, of_inserted};
 use arrayvec::ArrayVec;
-use cct_acceptor::{Acceptor, Inserted};
+use cct_acceptor::Acceptor;
 use cct_hopper::Hopper;
-use cct_model::{COIN_PLACES, DeviceBody, DeviceSetup, MOST_SENT};
+use cct_model::{DeviceBody, DeviceSetup, Happening, MOST_SENT};
 use std::alloc::{AllocError, Global};
 
 /// A coin acceptor or a hopper. Its contracts tell it by all that it met, newest first.
@@ -21,7 +25,7 @@ pub(crate) enum Body<'s> {
 }
 
 impl<'s> Body<'s> {
-    ghost use Rattle.cct_bus.specs.Body.{StandsFor, is_acceptor, is_hopper};
+    ghost use Rattle.cct_bus.specs.Body.{StandsFor, family_in};
 
     /// The acceptor or the hopper of a setup as after power-up. This takes all memory that it ever has.
     pub(crate) fn new(alloc: Global, setup: &'s DeviceSetup) -> Result<Body<'s>, AllocError>
@@ -53,71 +57,62 @@ impl<'s> Body<'s> {
         }
     }
 
-    /// A coin of a place, 1 to 16, falls into an acceptor.
-    pub(crate) fn coin(&mut self, place: u8) -> Inserted
-        requires acceptor { is_acceptor self.old ≡ true }
-        requires low { 1 ≤ place }
-        requires high { place ≤ COIN_PLACES }
+    /// Something befalls it that its family knows.
+    pub(crate) fn befall(&mut self, what: Happening) -> Outcome
+        requires known { known_to what (family_in self.old) ≡ true }
+        requires placed { IsPlaced what }
         ensures stands { (d : DeviceSetup) (past : List Met) → StandsFor self.old d past
-            → StandsFor self.new d (coin place ∷ past) }
+            → StandsFor self.new d (met_by what ∷ past) }
         ensures answer { (d : DeviceSetup) (past : List Met) → StandsFor self.old d past
-            → result ≡ inserted past place }
+            → result ≡ becomes what d.serial past }
     {
         match self {
-            Body::Acceptor(acceptor) => acceptor.insert(place),
-            Body::Hopper(_) => unreachable!(),
+            Body::Acceptor(acceptor) => befall_acceptor(acceptor, what),
+            Body::Hopper(hopper) => befall_hopper(hopper, what),
         }
     }
+}
 
-    /// A piece that is no coin falls into an acceptor.
-    pub(crate) fn alien(&mut self)
-        requires acceptor { is_acceptor self.old ≡ true }
-        ensures { (d : DeviceSetup) (past : List Met) → StandsFor self.old d past
-            → StandsFor self.new d (alien ∷ past) }
-    {
-        match self {
-            Body::Acceptor(acceptor) => acceptor.alien(),
-            Body::Hopper(_) => unreachable!(),
+/// Something befalls an acceptor.
+fn befall_acceptor(acceptor: &mut Acceptor<'_>, what: Happening) -> Outcome
+    requires known { known_to what family.Acceptor ≡ true }
+    requires placed { IsPlaced what }
+    ensures stands { (d : DeviceSetup) (past : List Met) → acceptors.StandsFor acceptor.old d past
+        → acceptors.StandsFor acceptor.new d (met_by what ∷ past) }
+    ensures answer { (d : DeviceSetup) (past : List Met) → acceptors.StandsFor acceptor.old d past
+        → result ≡ becomes what d.serial past }
+{
+    match what {
+        Happening::Coin { place } => of_inserted(acceptor.insert(place)),
+        Happening::Alien => {
+            acceptor.alien();
+            Outcome::Nothing
         }
+        Happening::Reset => {
+            acceptor.reset();
+            Outcome::Done
+        }
+        Happening::Fall => unreachable!(),
+        Happening::Jam => unreachable!(),
     }
+}
 
-    /// A coin falls out of a hopper, and is paid where that is paying: true then, and false where it is nothing to it.
-    pub(crate) fn fall(&mut self) -> bool
-        requires hopper { is_hopper self.old ≡ true }
-        ensures stands { (d : DeviceSetup) (past : List Met) → StandsFor self.old d past
-            → StandsFor self.new d (fall ∷ past) }
-        ensures answer { (d : DeviceSetup) (past : List Met) → StandsFor self.old d past
-            → result ≡ not (remaining d.serial past == 0) }
-    {
-        match self {
-            Body::Hopper(hopper) => hopper.fall(),
-            Body::Acceptor(_) => unreachable!(),
+/// Something befalls a hopper.
+fn befall_hopper(hopper: &mut Hopper<'_>, what: Happening) -> Outcome
+    requires known { known_to what family.Hopper ≡ true }
+    ensures stands { (d : DeviceSetup) (past : List Met) → hoppers.StandsFor hopper.old d past
+        → hoppers.StandsFor hopper.new d (met_by what ∷ past) }
+    ensures answer { (d : DeviceSetup) (past : List Met) → hoppers.StandsFor hopper.old d past
+        → result ≡ becomes what d.serial past }
+{
+    match what {
+        Happening::Fall => of_effect(hopper.fall()),
+        Happening::Jam => of_effect(hopper.jam()),
+        Happening::Reset => {
+            hopper.reset();
+            Outcome::Done
         }
-    }
-
-    /// A coin is stuck in a hopper, and ends the payout where that is paying: true then, and false where it is nothing
-    /// to it.
-    pub(crate) fn jam(&mut self) -> bool
-        requires hopper { is_hopper self.old ≡ true }
-        ensures stands { (d : DeviceSetup) (past : List Met) → StandsFor self.old d past
-            → StandsFor self.new d (jam ∷ past) }
-        ensures answer { (d : DeviceSetup) (past : List Met) → StandsFor self.old d past
-            → result ≡ not (remaining d.serial past == 0) }
-    {
-        match self {
-            Body::Hopper(hopper) => hopper.jam(),
-            Body::Acceptor(_) => unreachable!(),
-        }
-    }
-
-    /// It starts again as after power-up.
-    pub(crate) fn reset(&mut self)
-        ensures { (d : DeviceSetup) (past : List Met) → StandsFor self.old d past
-            → StandsFor self.new d (reset ∷ past) }
-    {
-        match self {
-            Body::Acceptor(acceptor) => acceptor.reset(),
-            Body::Hopper(hopper) => hopper.reset(),
-        }
+        Happening::Coin { .. } => unreachable!(),
+        Happening::Alien => unreachable!(),
     }
 }

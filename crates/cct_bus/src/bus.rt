@@ -7,9 +7,11 @@ ghost use Rattle.cct_model.specs.lines.command.WireFault.TheVariants.{HostHears}
 ghost use Rattle.cct_model.specs.lines.entry.Entry.{Entry};
 ghost use Rattle.cct_model.specs.lines.entry.Entry.TheVariants as entry;
 ghost use Rattle.cct_model.specs.Device.{IsSound};
-ghost use Rattle.cct_model.specs.Exchange.{by_address, device_at, acceptor_there, hopper_there};
+ghost use Rattle.cct_model.specs.terms.family.Happening.TheVariants as happening;
+ghost use Rattle.cct_model.specs.Exchange.{acceptor_there, by_address, device_at, hopper_there, known_there};
+ghost use Rattle.cct_model.specs.Family.{IsPlaced};
 ghost use Rattle.cct_model.specs.Hopper.{remaining};
-ghost use Rattle.cct_model.specs.Legal.{OfAcceptor, OfHopper, coin_entry, fall_entry, jam_entry};
+ghost use Rattle.cct_model.specs.Legal.{OfKnowing, coin_entry, fall_entry, jam_entry};
 ghost use Rattle.cct_model.specs.Setup.{IsSoundSetup};
 ghost use Rattle.cct_model.specs.Transcript.{met};
 ghost use Rattle.cct_acceptor.specs.Acceptor.{inserted};
@@ -20,9 +22,10 @@ ghost use Rattle.cct_bus.specs.Room.{most_answered};
 use crate::device::Device;
 use crate::fault::{heard_by_devices, heard_by_host};
 use crate::hearing::all_hear;
+use crate::outcome::Outcome;
 use arrayvec::ArrayVec;
 use cct_acceptor::Inserted;
-use cct_model::{COIN_PLACES, DeviceSetup, MOST_HEARD, MOST_SENT, Setup, WireFault};
+use cct_model::{COIN_PLACES, DeviceSetup, Happening, MOST_HEARD, MOST_SENT, Setup, WireFault};
 use cct_wire::Link;
 use std::alloc::{AllocError, Global};
 
@@ -43,7 +46,7 @@ pub struct Bus<'s> {
 }
 
 impl<'s> Bus<'s> {
-    ghost use Rattle.cct_bus.specs.Bus.{StandsFor, setup_of};
+    ghost use Rattle.cct_bus.specs.Bus.{Befalls, StandsFor, setup_of};
 
     /// A bus with the devices of a setup as after power-up, on which nothing has happened. This takes all memory that
     /// the bus ever has.
@@ -90,70 +93,90 @@ impl<'s> Bus<'s> {
         self.setup.device_at(addr).is_some()
     }
 
+    /// Whether this can befall the device at an address: there is one, and its family knows it. A coin place is not
+    /// looked at.
+    pub fn knows(&self, addr: u8, what: Happening) -> bool
+        ensures { result ≡ known_there what (device_at (setup_of self.now).devices addr) }
+    {
+        match self.setup.device_at(addr) {
+            Some(device) => device.body.family().knows(what),
+            None => false,
+        }
+    }
+
+    /// Something befalls the device at an address that its family knows.
+    #[tactic(auto, using(cct_model::proofs::Knowing::is_there))]
+    pub fn befall(&mut self, addr: u8, what: Happening) -> Outcome
+        requires there { IsTrue (known_there what (device_at (setup_of self.old).devices addr)) }
+        requires placed { IsPlaced what }
+        ensures setup { setup_of self.new ≡ setup_of self.old }
+        ensures stands { (past : List Entry) → StandsFor self.old past
+            → Befalls (setup_of self.old) past addr what result self.new }
+    {
+        let index = self.index_of(addr);
+        self.devices[index].befall(what)
+    }
+
     /// A coin of a place, 1 to 16, falls into the acceptor at an address.
-    #[tactic(auto, using(crate::proofs::Buses::acceptor_is_some))]
+    #[tactic(auto, using(crate::proofs::Buses::told_as, crate::proofs::Buses::inserted_back))]
     pub fn coin(&mut self, addr: u8, place: u8) -> Inserted
-        requires there { IsTrue (acceptor_there (device_at (setup_of self.old).devices addr)) }
+        requires there { IsTrue (known_there (happening.Coin place) (device_at (setup_of self.old).devices addr)) }
         requires low { 1 ≤ place }
         requires high { place ≤ COIN_PLACES }
         ensures setup { setup_of self.new ≡ setup_of self.old }
         ensures stands { (past : List Entry) → StandsFor self.old past
-            → OfAcceptor (device_at (setup_of self.old).devices addr) (λ d. (result ≡ inserted (met d past) place)
-            × StandsFor self.new (coin_entry d past place ∷ past)) }
+            → OfKnowing (happening.Coin place) (device_at (setup_of self.old).devices addr)
+            (λ d. (result ≡ inserted (met d past) place) × StandsFor self.new (coin_entry d past place ∷ past)) }
     {
-        let index = self.index_of(addr);
-        self.devices[index].coin(place)
+        self.befall(addr, Happening::Coin { place }).inserted()
     }
 
     /// A piece that is no coin falls into the acceptor at an address.
-    #[tactic(auto, using(crate::proofs::Buses::acceptor_is_some))]
+    #[tactic(auto, using(crate::proofs::Buses::stands_by))]
     pub fn alien(&mut self, addr: u8)
-        requires there { IsTrue (acceptor_there (device_at (setup_of self.old).devices addr)) }
+        requires there { IsTrue (known_there happening.Alien (device_at (setup_of self.old).devices addr)) }
         ensures setup { setup_of self.new ≡ setup_of self.old }
         ensures stands { (past : List Entry) → StandsFor self.old past → StandsFor self.new (entry.Alien addr ∷ past) }
     {
-        let index = self.index_of(addr);
-        self.devices[index].alien();
+        self.befall(addr, Happening::Alien);
     }
 
     /// A coin falls out of the hopper at an address, and is paid where that is paying: true then, and false where it is
     /// nothing to it.
-    #[tactic(auto, using(crate::proofs::Buses::hopper_is_some))]
+    #[tactic(auto, using(crate::proofs::Buses::told_as, crate::proofs::Buses::effect_back))]
     pub fn fall(&mut self, addr: u8) -> bool
-        requires there { IsTrue (hopper_there (device_at (setup_of self.old).devices addr)) }
+        requires there { IsTrue (known_there happening.Fall (device_at (setup_of self.old).devices addr)) }
         ensures setup { setup_of self.new ≡ setup_of self.old }
         ensures stands { (past : List Entry) → StandsFor self.old past
-            → OfHopper (device_at (setup_of self.old).devices addr)
+            → OfKnowing happening.Fall (device_at (setup_of self.old).devices addr)
             (λ d. (result ≡ not (remaining d.serial (met d past) == 0))
             × StandsFor self.new (fall_entry d past ∷ past)) }
     {
-        let index = self.index_of(addr);
-        self.devices[index].fall()
+        self.befall(addr, Happening::Fall).is_done()
     }
 
     /// A coin is stuck in the hopper at an address, and ends the payout where that is paying: true then, and false where
     /// it is nothing to it.
-    #[tactic(auto, using(crate::proofs::Buses::hopper_is_some))]
+    #[tactic(auto, using(crate::proofs::Buses::told_as, crate::proofs::Buses::effect_back))]
     pub fn jam(&mut self, addr: u8) -> bool
-        requires there { IsTrue (hopper_there (device_at (setup_of self.old).devices addr)) }
+        requires there { IsTrue (known_there happening.Jam (device_at (setup_of self.old).devices addr)) }
         ensures setup { setup_of self.new ≡ setup_of self.old }
         ensures stands { (past : List Entry) → StandsFor self.old past
-            → OfHopper (device_at (setup_of self.old).devices addr)
+            → OfKnowing happening.Jam (device_at (setup_of self.old).devices addr)
             (λ d. (result ≡ not (remaining d.serial (met d past) == 0))
             × StandsFor self.new (jam_entry d past ∷ past)) }
     {
-        let index = self.index_of(addr);
-        self.devices[index].jam()
+        self.befall(addr, Happening::Jam).is_done()
     }
 
     /// The device at an address starts again as after power-up.
+    #[tactic(auto, using(crate::proofs::Buses::stands_by))]
     pub fn reset(&mut self, addr: u8)
-        requires there { IsTrue (is_some (device_at (setup_of self.old).devices addr)) }
+        requires there { IsTrue (known_there happening.Reset (device_at (setup_of self.old).devices addr)) }
         ensures setup { setup_of self.new ≡ setup_of self.old }
         ensures stands { (past : List Entry) → StandsFor self.old past → StandsFor self.new (entry.Reset addr ∷ past) }
     {
-        let index = self.index_of(addr);
-        self.devices[index].reset();
+        self.befall(addr, Happening::Reset);
     }
 
     /// Sets what is wrong in the next exchange, in the place of what was set before.

@@ -1,18 +1,18 @@
 //! One device on the wire.
-ghost use Rattle.std.specs.Prelude.{◌≡◌, ◌≤◌, ◌==◌, not, true, List, ◌∷◌, [], IfOk, length, unwrap_or};
+ghost use Rattle.std.specs.Prelude.{◌≡◌, ◌≤◌, true, List, ◌∷◌, [], IfOk, length, unwrap_or};
 ghost use Rattle.cct_model.specs.terms.device.DeviceSetup.{DeviceSetup};
-ghost use Rattle.cct_model.specs.Device.{IsSound, is_acceptor, is_hopper};
+ghost use Rattle.cct_model.specs.Device.{IsSound};
 ghost use Rattle.cct_model.specs.Exchange.{answer, asks_of};
-ghost use Rattle.cct_model.specs.History.{Met, alien, coin, fall, heard, jam, reset};
-ghost use Rattle.cct_model.specs.Hopper.{remaining};
-ghost use Rattle.cct_acceptor.specs.Acceptor.{inserted};
+ghost use Rattle.cct_model.specs.Family.{IsPlaced, family_of, known_to, met_by};
+ghost use Rattle.cct_model.specs.History.{Met, heard};
 ghost use Rattle.cct_bus.specs.Body.{StandsFor};
+ghost use Rattle.cct_bus.specs.Outcome.{becomes};
 ghost use Rattle.cct_bus.specs.Room.{most_said};
 
 use crate::body::Body;
+use crate::outcome::Outcome;
 use arrayvec::ArrayVec;
-use cct_acceptor::Inserted;
-use cct_model::{COIN_PLACES, DeviceSetup, MOST_SENT};
+use cct_model::{DeviceSetup, Happening, MOST_SENT};
 use std::alloc::{AllocError, Global};
 
 /// A coin acceptor or a hopper on the wire, with its setup.
@@ -49,55 +49,15 @@ impl<'s> Device<'s> {
         self.body.hear(piece, said);
     }
 
-    /// A coin of a place, 1 to 16, falls into an acceptor.
-    pub(crate) fn coin(&mut self, place: u8) -> Inserted
-        requires acceptor { is_acceptor (setup_in self.old).body ≡ true }
-        requires low { 1 ≤ place }
-        requires high { place ≤ COIN_PLACES }
+    /// Something befalls the device that its family knows.
+    pub(crate) fn befall(&mut self, what: Happening) -> Outcome
+        requires known { known_to what (family_of (setup_in self.old).body) ≡ true }
+        requires placed { IsPlaced what }
         ensures setup { self.new.setup ≡ self.old.setup }
-        ensures lived { (past : List Met) → Lived self.old past → Lived self.new (coin place ∷ past) }
-        ensures answer { (past : List Met) → Lived self.old past → result ≡ inserted past place }
-    {
-        self.body.coin(place)
-    }
-
-    /// A piece that is no coin falls into an acceptor.
-    pub(crate) fn alien(&mut self)
-        requires acceptor { is_acceptor (setup_in self.old).body ≡ true }
-        ensures setup { self.new.setup ≡ self.old.setup }
-        ensures lived { (past : List Met) → Lived self.old past → Lived self.new (alien ∷ past) }
-    {
-        self.body.alien();
-    }
-
-    /// A coin falls out of a hopper, and is paid where that is paying: true then, and false where it is nothing to it.
-    pub(crate) fn fall(&mut self) -> bool
-        requires hopper { is_hopper (setup_in self.old).body ≡ true }
-        ensures setup { self.new.setup ≡ self.old.setup }
-        ensures lived { (past : List Met) → Lived self.old past → Lived self.new (fall ∷ past) }
+        ensures lived { (past : List Met) → Lived self.old past → Lived self.new (met_by what ∷ past) }
         ensures answer { (past : List Met) → Lived self.old past
-            → result ≡ not (remaining (setup_in self.old).serial past == 0) }
+            → result ≡ becomes what (setup_in self.old).serial past }
     {
-        self.body.fall()
-    }
-
-    /// A coin is stuck in a hopper, and ends the payout where that is paying: true then, and false where it is nothing
-    /// to it.
-    pub(crate) fn jam(&mut self) -> bool
-        requires hopper { is_hopper (setup_in self.old).body ≡ true }
-        ensures setup { self.new.setup ≡ self.old.setup }
-        ensures lived { (past : List Met) → Lived self.old past → Lived self.new (jam ∷ past) }
-        ensures answer { (past : List Met) → Lived self.old past
-            → result ≡ not (remaining (setup_in self.old).serial past == 0) }
-    {
-        self.body.jam()
-    }
-
-    /// The device starts again as after power-up.
-    pub(crate) fn reset(&mut self)
-        ensures setup { self.new.setup ≡ self.old.setup }
-        ensures lived { (past : List Met) → Lived self.old past → Lived self.new (reset ∷ past) }
-    {
-        self.body.reset();
+        self.body.befall(what)
     }
 }

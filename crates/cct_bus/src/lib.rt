@@ -6,5 +6,7 @@ mod bus;
 mod device;
 mod fault;
 mod hearing;
+mod outcome;
 
 pub use bus::Bus;
+pub use outcome::Outcome;

@@ -24,7 +24,7 @@ use crate::values::valueless;
 use arrayvec::ArrayVec;
 use cct_jobs::{Job, Need, Owed};
 use cct_model::{
-    Command, CommandNo, DEVICES, DeviceSetup, Entry, EpochState, OpenOrder, Record, Setup,
+    Command, CommandNo, DEVICES, DeviceSetup, Entry, EpochState, Family, OpenOrder, Record, Setup,
 };
 use cct_wire::Link;
 
@@ -127,14 +127,15 @@ impl JobDesk {
     fn halting_refusal(&self, device: &DeviceSetup) -> Option<CommandNo>
         ensures { result ≡ halting_refusal device.now self.now.job }
     {
-        if device.body.is_hopper() {
-            if self.can_halt() {
-                None
-            } else {
-                Some(CommandNo::NoPayout)
+        match device.body.family() {
+            Family::Acceptor => Some(CommandNo::WrongKind),
+            Family::Hopper => {
+                if self.can_halt() {
+                    None
+                } else {
+                    Some(CommandNo::NoPayout)
+                }
             }
-        } else {
-            Some(CommandNo::WrongKind)
         }
     }
 
@@ -311,13 +312,9 @@ impl JobDesk {
     ) -> Option<CommandNo>
         ensures { result ≡ acceptor_refusal device.now self.now.job further }
     {
-        if device.body.is_acceptor() {
-            match self.busy() {
-                Some(why) => Some(why),
-                None => further,
-            }
-        } else {
-            Some(CommandNo::WrongKind)
+        match device.body.family() {
+            Family::Acceptor => self.busy_or(further),
+            Family::Hopper => Some(CommandNo::WrongKind),
         }
     }
 
@@ -325,13 +322,19 @@ impl JobDesk {
     fn hopper_refusal(&self, device: &DeviceSetup, further: Option<CommandNo>) -> Option<CommandNo>
         ensures { result ≡ hopper_refusal device.now self.now.job further }
     {
-        if device.body.is_hopper() {
-            match self.busy() {
-                Some(why) => Some(why),
-                None => further,
-            }
-        } else {
-            Some(CommandNo::WrongKind)
+        match device.body.family() {
+            Family::Acceptor => Some(CommandNo::WrongKind),
+            Family::Hopper => self.busy_or(further),
+        }
+    }
+
+    /// Why a command is refused where a job is here, and else a further reason.
+    fn busy_or(&self, further: Option<CommandNo>) -> Option<CommandNo>
+        ensures { result ≡ option_or (busy_by self.now.job) further }
+    {
+        match self.busy() {
+            Some(why) => Some(why),
+            None => further,
         }
     }
 

@@ -1,5 +1,5 @@
 -- The credits and masks that a start, a round and a stop read, and what their puts leave.
-use Rattle.std.proofs.Common.{◌≡◌, ℕ, suc, ◌==◌, Bool, true, false, cond, List, ◌∷◌, refl, sym, ap, ap₂, subst, ◌∙◌, Option, Some, None, arith, []}
+use Rattle.std.proofs.Common.{◌≡◌, ℕ, ◌==◌, Bool, true, false, cond, List, ◌∷◌, refl, sym, ap, ap₂, subst, ◌∙◌, Option, Some, None, arith, []}
 use Rattle.cct_model.specs.terms.coin.Credits.{Credits}
 use Rattle.cct_model.specs.terms.device.DeviceSetup.{DeviceSetup}
 use Rattle.cct_model.specs.terms.request.Request.TheVariants.{GetMask, ReadCredits}
@@ -10,12 +10,11 @@ use Rattle.cct_model.specs.declared.judging.OpenOrder.{OpenOrder}
 use Rattle.cct_model.specs.declared.judging.Judged.{Judged}
 use Rattle.cct_model.specs.declared.judging.Judged.TheVariants.{Nothing, Reading, Broken}
 use Rattle.cct_model.specs.lines.command.Command.{Command}
-use Rattle.cct_model.specs.lines.command.Command.TheVariants as command
 use Rattle.cct_model.specs.lines.entry.End.{End}
 use Rattle.cct_model.specs.lines.entry.End.TheVariants.{Broke, Posted, Stopped, Unquiet}
 use Rattle.cct_model.specs.Line.{Line, exchange, put}
-use Rattle.cct_model.specs.Job.{puts, Payment, payment_in, judged_in, judged_by, address_of, credits_read, done, end_of_credits, end_of_reading}
-use Rattle.cct_model.specs.Rows.{epoch_end, ends_as, row, row_at, TableRow, end_answered, end_kept, after, left_at, puts_due, rest, rows_of, reading, if_posted}
+use Rattle.cct_model.specs.Job.{puts, Payment, payment_in, judged_in, judged_by, address_of, credits_read, end_of_credits, end_of_reading}
+use Rattle.cct_model.specs.Rows.{epoch_end, ends_as, TableRow, end_answered, end_kept, after, first, from, left, puts_due, rest, reading, if_posted}
 use Rattle.cct_model.specs.Order.{order_by}
 use Rattle.cct_model.specs.Reading.{judge}
 use Rattle.cct_model.specs.Reply as reply
@@ -29,13 +28,13 @@ use Rattle.cct_jobs.specs.declared.target.Target.{Target}
 use Rattle.cct_jobs.specs.declared.job.Job.{Job}
 use Rattle.cct_jobs.specs.declared.job.Need.TheVariants as need
 use Rattle.cct_jobs.specs.declared.job.Job.TheVariants.{Asks, StartPuts, RoundPuts, StopPuts, StopEnds, OrderOpens, OrderCloses, Done}
-use Rattle.cct_jobs.specs.Jobs.{Asking, Opening, Putting, Stands, after_put, closing_by, need_of, newest_end, opened_by, round_after, rows_before, runs, stop_after, target_of, visiting}
-use Rattle.cct_jobs.proofs.Stages.{end_after}
+use Rattle.cct_jobs.specs.Ahead.{ahead, visit_ahead}
+use Rattle.cct_jobs.specs.Jobs.{Asking, Opening, Putting, Stands, after_put, need_of, newest_end, opened_by, round_after, runs, stop_after, target_of}
+use Rattle.cct_model.proofs.Rows.{but_first}
+use Rattle.cct_jobs.proofs.Moves.{put_moves}
+use Rattle.cct_jobs.proofs.Puts.{end_row, start_row}
+use Rattle.cct_jobs.proofs.Stages.{answered_rest, end_after}
 use Rattle.cct_model.specs.Reply.{Reply}
-
--- the rows after so many
-abbrev after_rows : List TableRow → ℕ → List TableRow
-after_rows rows n = after rows n
 
 -- a start that read its credits
 
@@ -43,26 +42,22 @@ module _ {d : DeviceSetup} {device : Target} {mask failed : ℕ} {c : Command} {
     {owed : Option OpenOrder} (at : Asking d device (StartReads mask) failed c since state owed) (read : Credits) where
   read_end : newest_end d c (exchange (Some ReadCredits)
       (Some (reply.credits read)) ∷ since) state ≡ end_of_credits read.counter
-  read_end =
-      let k = command.Start d.addr mask in
-      let line = exchange (Some ReadCredits) (Some (reply.credits read)) in
-      end_after at (reply.credits read)
-      ∙ ap (λ n. end_answered (left_at d k n (judged_in k since state)) (reply.credits read) (judged_in k (line ∷ since) state))
-      at.is_after
+  read_end = end_after at ReadCredits (reply.credits read)
 
   pub start_puts : (read.counter == 0) ≡ true
       → Stands d (StartPuts device mask) c (exchange (Some ReadCredits) (Some (reply.credits read)) ∷ since) state owed
   start_puts quiet =
       let line = exchange (Some ReadCredits) (Some (reply.credits read)) in
-      let rows_are : suc (done since) ≡ 2 = ap suc at.is_after in (
+      let rest_is : rest d c (line ∷ since) ≡ ahead (StartPuts device mask) = answered_rest at tt (reply.credits read) in
+      let left_is : left d c (line ∷ since) state ≡ ahead (StartPuts device mask) =
+      ap (λ rows. from rows (judged_in c (line ∷ since) state)) rest_is in (
         at.device_is,
-        rows_are,
+        rest_is,
         record {
-          command_is = at.command_is;
-          row_is = ap (λ k. row d k (line ∷ since) state owed) at.command_is
-              ∙ ap (λ n. row_at d (command.Start d.addr mask) n (judged_in (command.Start d.addr mask) (line ∷ since) state)
-              (payment_in (line ∷ since) owed)) rows_are;
-          ends = ap (λ n. end_kept (after (rows_of d (command.Start d.addr mask)) n) (Epoch d.addr mask)) rows_are;
+          is_here = at.is_here;
+          ahead_is = left_is;
+          row_is = start_row d device mask c (line ∷ since) state owed at.is_here left_is;
+          ends = ap (λ rows. end_kept rows (Epoch d.addr mask)) rest_is;
           goes_on = read_end ∙ ap (λ b. cond b None (Some (Unquiet read.counter))) quiet;
         },
       )
@@ -107,16 +102,10 @@ abbrev end_of_visit : Visit → Judged → Option End
 end_of_visit visit_of.Round means = end_of_reading means
 end_of_visit visit_of.Stop means = None
 
-looked_by : (visit : Visit) (d : DeviceSetup) (addr n : ℕ) (meant means : Judged) (y : Reply) → n ≡ suc (rows_before visit)
-    → end_answered (left_at d (visiting visit addr) n meant) y means ≡ end_of_visit visit means
-looked_by visit_of.Round d addr n meant means y at =
-    ap (λ m. end_answered (left_at d (command.Round addr) m meant) y means) at
-looked_by visit_of.Stop d addr n meant means y at =
-    ap (λ m. end_answered (left_at d (command.Stop addr) m meant) y means) at
-
-visit_here : (visit : Visit) (addr : ℕ) → address_of (visiting visit addr) ≡ addr
-visit_here visit_of.Round addr = refl
-visit_here visit_of.Stop addr = refl
+looked_by : (visit : Visit) (device : Target) (meant means : Judged) (y : Reply)
+    → end_answered (from (after (visit_ahead device visit) 1) meant) y means ≡ end_of_visit visit means
+looked_by visit_of.Round device meant means y = refl
+looked_by visit_of.Stop device meant means y = refl
 
 -- the line of a look at the mask
 abbrev looked : ℕ → Line
@@ -127,9 +116,9 @@ module _ {d : DeviceSetup} {device : Target} {visit : Visit} {recorded : Recorde
     (at : Asking d device (Looks visit recorded read) failed c since state owed) (seen : ℕ) (means : Judged)
     (meant : judge device.addr recorded.mask recorded.counter read seen ≡ means) where
   -- what was read means to the job what it means beside what is recorded
-  judged_is : judged_in (visiting visit d.addr) (looked seen ∷ since) state ≡ means
+  judged_is : judged_in c (looked seen ∷ since) state ≡ means
   judged_is =
-      ap (λ a. judged_by a state (credits_read since) (Some seen)) (visit_here visit d.addr)
+      ap (λ a. judged_by a state (credits_read since) (Some seen)) at.is_here
       ∙ ap (λ s. judged_by d.addr s (credits_read since) (Some seen)) at.knows.0
       ∙ ap (λ r. judged_by d.addr (runs recorded) r (Some seen)) at.knows.1
       ∙ ap (λ (t : Target). judge t.addr recorded.mask recorded.counter read seen) (sym at.device_is)
@@ -137,26 +126,33 @@ module _ {d : DeviceSetup} {device : Target} {visit : Visit} {recorded : Recorde
 
   looked_end : newest_end d c (looked seen ∷ since) state ≡ end_of_visit visit means
   looked_end =
-      end_after at (reply.mask seen)
-      ∙ looked_by visit d d.addr (done since) _ _ (reply.mask seen) at.is_after
+      end_after at GetMask (reply.mask seen)
+      ∙ looked_by visit device (judged_in c since state) (judged_in c (looked seen ∷ since) state) (reply.mask seen)
       ∙ ap (end_of_visit visit) judged_is
 
+  -- the rows that are left then
+  looked_rest : rest d c (looked seen ∷ since) ≡ but_first (after (visit_ahead device visit) 1)
+  looked_rest = answered_rest at tt (reply.mask seen)
+
   -- a record that is put
-  put_at : (entry : Record) (end : Option End)
-      → ((p : Payment) → row_at d (visiting visit d.addr) (suc (suc (rows_before visit))) means p ≡ puts entry)
-      → end_of_visit visit means ≡ None
-      → end_kept (after (rows_of d (visiting visit d.addr)) (suc (suc (rows_before visit)))) entry ≡ end
-      → Putting d (visiting visit d.addr) entry end c (looked seen ∷ since) state owed
-  put_at entry end is_row on ends = record {
-    command_is = at.command_is;
-    row_is =
-        let p = payment_in (looked seen ∷ since) owed in
-        ap (λ k. row d k (looked seen ∷ since) state owed) at.command_is
-        ∙ ap₂ (λ n m. row_at d (visiting visit d.addr) n m p) (ap suc at.is_after) judged_is
-        ∙ is_row p;
-    ends = ap (λ n. end_kept (after (rows_of d (visiting visit d.addr)) n) entry) (ap suc at.is_after) ∙ ends;
-    goes_on = looked_end ∙ on;
-  }
+  put_at : (job : Job) (entry : Record) (end : Option End)
+      → from (but_first (after (visit_ahead device visit) 1)) means ≡ ahead job
+      → ((p : Payment) → first d.addr means p (ahead job) ≡ puts entry) → end_of_visit visit means ≡ None
+      → end_kept (but_first (after (visit_ahead device visit) 1)) entry ≡ end
+      → Putting d job entry end c (looked seen ∷ since) state owed
+  put_at job entry end rows_are is_row on ends =
+      let left_is : left d c (looked seen ∷ since) state ≡ ahead job = ap₂ from looked_rest judged_is ∙ rows_are in
+      let p = payment_in (looked seen ∷ since) owed in
+      record {
+        is_here = at.is_here;
+        ahead_is = left_is;
+        row_is =
+            ap₂ (λ m rows. first (address_of c) m p rows) judged_is left_is
+            ∙ ap (λ a. first a means p (ahead job)) at.is_here
+            ∙ is_row p;
+        ends = ap (λ rows. end_kept rows entry) looked_rest ∙ ends;
+        goes_on = looked_end ∙ on;
+      }
 
 pub round_judges : {d : DeviceSetup} {device : Target} {recorded : Recorded} {read : Credits} {failed : ℕ} {c : Command}
     {since : List Line} {state : EpochState} {owed : Option OpenOrder}
@@ -165,65 +161,64 @@ pub round_judges : {d : DeviceSetup} {device : Target} {recorded : Recorded} {re
     → Stands d (round_after means) c (looked seen ∷ since) state owed
 round_judges at seen Nothing e = looked_end at seen Nothing e
 round_judges {d} {read = read} at seen (Reading entry) e =
-    put_at at seen (Reading entry) e entry (Some Posted) (λ p. refl) refl (reading_posts (Some Posted) [] _ _ _ read seen entry e)
+    put_at at seen (Reading entry) e (RoundPuts entry Posted) entry (Some Posted) refl (λ p. refl) refl
+    (reading_posts (Some Posted) [] _ _ _ read seen entry e)
 round_judges {d} {read = read} at seen (Broken entry) e =
-    put_at at seen (Broken entry) e entry (Some Broke) (λ p. refl) refl (break_ends (Some Posted) [] _ _ _ read seen entry e)
+    put_at at seen (Broken entry) e (RoundPuts entry Broke) entry (Some Broke) refl (λ p. refl) refl
+    (break_ends (Some Posted) [] _ _ _ read seen entry e)
 
 pub stop_judges : {d : DeviceSetup} {device : Target} {recorded : Recorded} {read : Credits} {failed : ℕ} {c : Command}
     {since : List Line} {state : EpochState} {owed : Option OpenOrder}
     → Asking d device (Looks visit_of.Stop recorded read) failed c since state owed
     → (seen : ℕ) (means : Judged) → judge device.addr recorded.mask recorded.counter read seen ≡ means
     → Stands d (stop_after device means) c (looked seen ∷ since) state owed
-stop_judges {d} at seen Nothing e =
-    (at.device_is, put_at at seen Nothing e (EpochEnd d.addr) (Some Stopped) (λ p. refl) refl refl)
-stop_judges {d} {read = read} at seen (Reading entry) e = (
+stop_judges {d} {device} at seen Nothing e =
+    (at.device_is, put_at at seen Nothing e (StopEnds device) (EpochEnd d.addr) (Some Stopped) refl (λ p. refl) refl refl)
+stop_judges {d} {device} {read = read} at seen (Reading entry) e = (
   at.device_is,
-  ap suc at.is_after,
-  λ e. cc,
-  put_at at seen (Reading entry) e entry None (λ p. refl) refl (reading_posts None (puts_due epoch_end (ends_as Stopped) ∷ []) _ _ _ read seen entry e),
+  looked_rest at seen (Reading entry) e,
+  put_at at seen (Reading entry) e (StopPuts device entry None) entry None refl (λ p. refl) refl
+      (reading_posts None (puts_due epoch_end (ends_as Stopped) ∷ []) _ _ _ read seen entry e),
 )
-stop_judges {d} {read = read} at seen (Broken entry) e = (
+stop_judges {d} {device} {read = read} at seen (Broken entry) e = (
   at.device_is,
-  ap suc at.is_after,
-  λ e. cc,
-  put_at at seen (Broken entry) e entry (Some Broke) (λ p. refl) refl (break_ends None (puts_due epoch_end (ends_as Stopped) ∷ []) _ _ _ read seen entry e),
+  looked_rest at seen (Broken entry) e,
+  put_at at seen (Broken entry) e (StopPuts device entry (Some Broke)) entry (Some Broke) refl (λ p. refl) refl
+      (break_ends None (puts_due epoch_end (ends_as Stopped) ∷ []) _ _ _ read seen entry e),
 )
 
 -- what a put leaves, whatever the epoch is then
 
-put_ends : (d : DeviceSetup) (own : Command) (entry : Record) (end : Option End) (c : Command) (since : List Line)
-    (state after : EpochState) (owed : Option OpenOrder) → Putting d own entry end c since state owed
-    → newest_end d c (put entry ∷ since) after ≡ end
-put_ends d own entry end c since state after owed at = ap (λ k. end_kept (rest d k since) entry) at.command_is ∙ at.ends
-
 start_sets : (d : DeviceSetup) (device : Target) (mask : ℕ) (c : Command) (since : List Line) (state after : EpochState)
     (owed owed_after : Option OpenOrder) → Stands d (StartPuts device mask) c since state owed
     → Asking d device (StartSets mask) 0 c (put (Epoch d.addr mask) ∷ since) after owed_after
-start_sets d device mask c since state after owed owed_after (device_is, rows_are, at) = record {
+start_sets d device mask c since state after owed owed_after (device_is, rest_is, at) = record {
   device_is = device_is;
-  command_is = at.command_is;
-  is_after = ap suc rows_are;
+  is_here = at.is_here;
+  ahead_is = put_moves d c since (Epoch d.addr mask) _ rest_is;
+  suits = tt;
   knows = tt;
   trying = record { counted = refl; few = omega arith };
-  goes_on = put_ends d (command.Start d.addr mask) (Epoch d.addr mask) None c since state after owed at;
+  goes_on = at.ends;
 }
 
 stop_closes : (d : DeviceSetup) (device : Target) (entry : Record) (c : Command) (since : List Line)
     (state after : EpochState) (owed owed_after : Option OpenOrder)
     → Stands d (StopPuts device entry None) c since state owed
     → Stands d (StopEnds device) c (put entry ∷ since) after owed_after
-stop_closes d device entry c since state after owed owed_after (device_is, rows_are, apart, at) = (
-  device_is,
-  record {
-    command_is = at.command_is;
-    row_is =
-        ap (λ k. row d k (put entry ∷ since) after owed_after) at.command_is
-        ∙ ap (λ n. row_at d (command.Stop d.addr) n (judged_in (command.Stop d.addr) (put entry ∷ since) after)
-        (payment_in (put entry ∷ since) owed_after)) (ap suc rows_are);
-    ends = ap (λ n. end_kept (after_rows (rows_of d (command.Stop d.addr)) n) (EpochEnd d.addr)) (ap suc rows_are);
-    goes_on = put_ends d (command.Stop d.addr) entry None c since state after owed at;
-  },
-)
+stop_closes d device entry c since state after owed owed_after (device_is, rest_is, at) =
+    let now : rest d c (put entry ∷ since) ≡ ahead (StopEnds device) = put_moves d c since entry _ rest_is in
+    let left_is : left d c (put entry ∷ since) after ≡ ahead (StopEnds device) =
+    ap (λ rows. from rows (judged_in c (put entry ∷ since) after)) now in (
+      device_is,
+      record {
+        is_here = at.is_here;
+        ahead_is = left_is;
+        row_is = end_row d device c (put entry ∷ since) after owed_after at.is_here left_is;
+        ends = ap (λ rows. end_kept rows (EpochEnd d.addr)) now;
+        goes_on = at.ends;
+      },
+    )
 
 own_record : (d : DeviceSetup) (device : Target) (make : ℕ → Record) (entry : Record) → device ≡ target_of d
     → need.Put (make device.addr) ≡ need.Put entry → make d.addr ≡ entry
@@ -237,11 +232,12 @@ opened_dispenses : (d : DeviceSetup) (device : Target) (own : Owed) (halted : Bo
     (Some own.order)
 opened_dispenses d device own halted c since state after owed at = record {
   device_is = at.device_is;
-  command_is = at.at.command_is;
-  is_after = (ap suc at.rows_are, at.serial, ap (λ (t : Target). t.serial) at.device_is);
+  is_here = at.at.is_here;
+  ahead_is = put_moves d c since (opened_by own.order) _ at.rest_is;
+  suits = (at.serial, refl);
   knows = (at.marked, refl);
   trying = record { counted = refl; few = omega arith };
-  goes_on = put_ends d _ (opened_by own.order) None c since state after owed at.at;
+  goes_on = at.at.ends;
 }
 
 -- the put of a job's record
@@ -254,7 +250,7 @@ put_leaves d (StartPuts device mask) c since state after owed entry e at =
 put_leaves d (RoundPuts own end) c since state after owed entry e at =
     let same : own ≡ entry = cc in
     subst (λ r. newest_end d c (put r ∷ since) after ≡ Some end) same
-    (put_ends d (command.Round d.addr) own (Some end) c since state after owed at)
+    at.ends
 put_leaves d (StopPuts device own None) c since state after owed entry e at =
     let same : own ≡ entry = cc in
     subst (λ r. Stands d (StopEnds device) c (put r ∷ since) after (order_by entry owed)) same
@@ -262,10 +258,10 @@ put_leaves d (StopPuts device own None) c since state after owed entry e at =
 put_leaves d (StopPuts device own (Some end)) c since state after owed entry e at =
     let same : own ≡ entry = cc in
     subst (λ r. newest_end d c (put r ∷ since) after ≡ Some end) same
-    (put_ends d (command.Stop d.addr) own (Some end) c since state after owed at.3)
+    at.2.ends
 put_leaves d (StopEnds device) c since state after owed entry e at =
     subst (λ r. newest_end d c (put r ∷ since) after ≡ Some Stopped) (own_record d device EpochEnd entry at.0 e)
-    (put_ends d (command.Stop d.addr) (EpochEnd d.addr) (Some Stopped) c since state after owed at.1)
+    at.1.ends
 put_leaves d (OrderOpens device own halted) c since state after owed entry e at =
     let same : opened_by own.order ≡ entry = cc in
     subst (λ r. Stands d (after_put (OrderOpens device own halted)) c (put r ∷ since) after (order_by r owed)) same
@@ -273,7 +269,7 @@ put_leaves d (OrderOpens device own halted) c since state after owed entry e at 
 put_leaves d (OrderCloses own end) c since state after owed entry e at =
     let same : own ≡ entry = cc in
     subst (λ r. newest_end d c (put r ∷ since) after ≡ Some end) same
-    (put_ends d (closing_by at.closing at.order d.addr) own (Some end) c since state after owed at.at)
+    at.at.ends
 put_leaves d (Asks device stage failed) c since state after owed entry e at = absurd cc
 put_leaves d (Done end) c since state after owed entry e at = absurd cc
 put_leaves d job c since state after owed entry e at = absurd at

@@ -14,6 +14,7 @@ use Rattle.cct_model.specs.declared.judging.Judged.{Judged}
 use Rattle.cct_model.specs.declared.judging.Judged.TheVariants.{Nothing, Reading, Broken}
 use Rattle.cct_model.specs.declared.judging.OpenOrder.{OpenOrder}
 use Rattle.cct_model.specs.Order.{close, life_between}
+use Rattle.cct_model.specs.Rows.{has_waits}
 use Rattle.cct_model.specs.Reading.{coins_among, distance, judge, posted_of, shows_break}
 use Rattle.cct_record.specs.Body.{Encodable, IsPlaced}
 use Rattle.cct_jobs.specs.declared.job.Job.{Job}
@@ -21,7 +22,8 @@ use Rattle.cct_jobs.specs.declared.job.Job.TheVariants.{Asks, StartPuts, RoundPu
 use Rattle.cct_jobs.specs.declared.job.Need.{Need}
 use Rattle.cct_jobs.specs.declared.job.Need.TheVariants as need
 use Rattle.cct_jobs.specs.declared.stage.Stage.TheVariants.{Pays}
-use Rattle.cct_jobs.specs.Jobs.{IsPut, JudgedFits, PutsFit, after_halt, after_put, halts, need_of}
+use Rattle.cct_jobs.specs.Ahead.{ahead}
+use Rattle.cct_jobs.specs.Jobs.{IsPut, JudgedFits, PutsFit, after_halt, after_put, need_of}
 
 -- the coins that a reading posts have a place
 
@@ -113,11 +115,11 @@ put_leaves_fit job is = absurd is
 pub after_put_fits : (job after : Job) → after ≡ after_put job → IsPut (need_of job) → PutsFit after
 after_put_fits job after goes is = subst PutsFit (sym goes) (put_leaves_fit job is)
 
-halted_fits : (job : Job) → halts job ≡ true → PutsFit (after_halt job)
+halted_fits : (job : Job) → has_waits (ahead job) ≡ true → PutsFit (after_halt job)
 halted_fits (Asks target (Pays row) failed) can = tt
 halted_fits (Asks target stage failed) can = tt
 halted_fits (OrderOpens target own halted) can = tt
 halted_fits job can = absurd cc
 
-pub halt_fits : (job after : Job) → after ≡ after_halt job → halts job ≡ true → PutsFit after
+pub halt_fits : (job after : Job) → after ≡ after_halt job → has_waits (ahead job) ≡ true → PutsFit after
 halt_fits job after goes can = subst PutsFit (sym goes) (halted_fits job can)

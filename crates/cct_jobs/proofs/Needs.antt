@@ -1,11 +1,9 @@
 -- What a job needs, and that a put brings fewer to come.
 use Rattle.std.specs.Prelude.{⊤}
-use Rattle.std.proofs.Common.{◌≡◌, ◌≢◌, ℕ, ◌<◌, ◌≤◌, List, refl, sym, ap, subst, ◌∙◌, Option, Some, None, arith}
+use Rattle.std.proofs.Common.{◌≡◌, ℕ, ◌<◌, ◌≤◌, List, sym, ap, subst, ◌∙◌, Option, Some, None, arith}
 use Rattle.cct_model.specs.terms.device.DeviceSetup.{DeviceSetup}
 use Rattle.cct_model.specs.lines.command.Command.{Command}
-use Rattle.cct_model.specs.lines.command.Command.TheVariants as command
 use Rattle.cct_model.specs.lines.entry.End.{End}
-use Rattle.cct_model.specs.lines.entry.End.TheVariants.{Stopped}
 use Rattle.cct_model.specs.declared.judging.EpochState.{EpochState}
 use Rattle.cct_model.specs.declared.judging.OpenOrder.{OpenOrder}
 use Rattle.cct_model.specs.lines.record.Record.{Record}
@@ -14,8 +12,8 @@ use Rattle.cct_model.specs.terms.request.Request.{Request}
 use Rattle.cct_model.specs.terms.wire.CheckKind.{CheckKind}
 use Rattle.cct_model.specs.terms.wire.CheckKind.TheVariants.{Simple, Crc}
 use Rattle.cct_model.specs.Exchange.{ask}
-use Rattle.cct_model.specs.Job.{Row, address_of, credits_read, done, mask_read, sends, puts, puts_at, payment_in}
-use Rattle.cct_model.specs.Rows.{row, end_kept, after, rows_of}
+use Rattle.cct_model.specs.Job.{Row, address_of, credits_read, mask_read, sends, puts}
+use Rattle.cct_model.specs.Rows.{left, puts_in, row}
 use Rattle.cct_model.specs.Line.{Line}
 use Rattle.cct_model.specs.Scan.{end_of_scan, poll_of, scan_row}
 use Rattle.cct_model.specs.Transcript.{owner}
@@ -25,13 +23,13 @@ use Rattle.cct_jobs.specs.declared.job.Sending.{Sending}
 use Rattle.cct_jobs.specs.declared.job.Job.{Job}
 use Rattle.cct_jobs.specs.declared.job.Job.TheVariants.{Asks, StartPuts, RoundPuts, StopPuts, StopEnds, OrderOpens, OrderCloses, SalePuts, ScanCallsSimple, ScanCallsCrc, ScanPollsSimple, ScanPollsCrc, Done}
 use Rattle.cct_jobs.specs.declared.stage.Stage.{Stage}
-use Rattle.cct_jobs.specs.declared.stage.Stage.TheVariants.{StartResets, StartReads, StartSets, Reads, Looks, Pays}
-use Rattle.cct_jobs.specs.declared.stage.Visit.TheVariants.{Round, Stop}
 use Rattle.cct_jobs.specs.declared.target.Target.{Target}
-use Rattle.cct_jobs.specs.Jobs.{Asking, ClosesItsOwn, IsAfter, IsPut, Needs, Putting, Stands, after_put, asks_at, closing_by, end_of_job, may_put_of, need_of, newest_end, opened_by, own_of, request_of, sending_of, stage_puts}
+use Rattle.cct_jobs.specs.Ahead.{ahead}
+use Rattle.cct_jobs.specs.Jobs.{Asking, ClosesItsOwn, IsPut, Needs, Stands, after_put, asks_at, end_of_job, need_of, newest_end, request_of, sending_of}
 use Rattle.cct_jobs.specs.Scans.{NeedsScan, StandsScan}
-use Rattle.cct_jobs.proofs.Owners.{closing_owner, round_owner, stop_owner}
-use Rattle.cct_jobs.proofs.Payouts.{closes_here, closing_may_put, payout_may_put}
+use Rattle.cct_jobs.proofs.Left.{left_known}
+use Rattle.cct_jobs.proofs.Owners.{closing_owner, reading_owner}
+use Rattle.cct_jobs.proofs.Puts.{round_row, stop_row}
 use Rattle.cct_jobs.proofs.Scans.{calls_simple_row, calls_crc_row, calls_simple_on, calls_crc_on, polls_row, polls_on}
 use Rattle.cct_jobs.proofs.Stages.{stage_row}
 
@@ -43,35 +41,39 @@ needs_by d (Asks device stage failed) c since state owed at = record {
   request = request_of stage;
   row_is = stage_row at;
 }
-needs_by d (StartPuts device mask) c since state owed (device_is, rows_are, at) = record {
-  is_here = ap address_of at.command_is;
+needs_by d (StartPuts device mask) c since state owed (device_is, rest_is, at) = record {
+  is_here = at.is_here;
   row_is = at.row_is ∙ ap (λ (t : Target). puts (Epoch t.addr mask)) (sym device_is);
   owned = λ past owns. ap (λ (t : Target). t.addr) device_is;
 }
 needs_by d (RoundPuts entry end) c since state owed at = record {
-  is_here = ap address_of at.command_is;
+  is_here = at.is_here;
   row_is = at.row_is;
-  owned = λ past owns. round_owner d d.addr (done since) state (credits_read since) (mask_read since) past entry (payment_in since owed)
-      (ap (λ k. row d k since state owed) (sym at.command_is) ∙ at.row_is);
+  owned = λ past owns.
+      reading_owner past (address_of c) state (credits_read since) (mask_read since) entry
+      (round_row d entry end c since state owed at)
+      ∙ at.is_here;
 }
-needs_by d (StopPuts device entry end) c since state owed (device_is, rows_are, apart, at) = record {
-  is_here = ap address_of at.command_is;
+needs_by d (StopPuts device entry end) c since state owed (device_is, rest_is, at) = record {
+  is_here = at.is_here;
   row_is = at.row_is;
-  owned = λ past owns. stop_owner d d.addr (done since) state (credits_read since) (mask_read since) past entry (payment_in since owed)
-      (ap (λ k. row d k since state owed) (sym at.command_is) ∙ at.row_is);
+  owned = λ past owns.
+      reading_owner past (address_of c) state (credits_read since) (mask_read since) entry
+      (stop_row d device entry end c since state owed at)
+      ∙ at.is_here;
 }
 needs_by d (StopEnds device) c since state owed (device_is, at) = record {
-  is_here = ap address_of at.command_is;
+  is_here = at.is_here;
   row_is = at.row_is ∙ ap (λ (t : Target). puts (EpochEnd t.addr)) (sym device_is);
   owned = λ past owns. ap (λ (t : Target). t.addr) device_is;
 }
 needs_by d (OrderOpens device own halted) c since state owed at = record {
-  is_here = ap address_of at.at.command_is;
+  is_here = at.at.is_here;
   row_is = at.at.row_is;
   owned = λ past owns. at.is_here;
 }
 needs_by d (OrderCloses entry end) c since state owed at = record {
-  is_here = ap address_of at.at.command_is ∙ closes_here at.closing at.order d.addr;
+  is_here = at.at.is_here;
   row_is = at.at.row_is;
   owned = λ past owns.
       subst (λ r. ClosesItsOwn past d.addr r → owner past r ≡ d.addr) (sym at.closes)
@@ -92,7 +94,7 @@ end_by : (d : DeviceSetup) (job : Job) (c : Command) (since : List Line) (state 
 end_by d (Asks device stage failed) c since state owed at = sym at.goes_on
 end_by d (StartPuts device mask) c since state owed at = sym at.2.goes_on
 end_by d (RoundPuts entry end) c since state owed at = sym at.goes_on
-end_by d (StopPuts device entry end) c since state owed at = sym at.3.goes_on
+end_by d (StopPuts device entry end) c since state owed at = sym at.2.goes_on
 end_by d (StopEnds device) c since state owed at = sym at.1.goes_on
 end_by d (OrderOpens device own halted) c since state owed at = sym at.at.goes_on
 end_by d (OrderCloses entry end) c since state owed at = sym at.at.goes_on
@@ -136,7 +138,7 @@ scan_end_known job since end is at = is ∙ scan_end_by job since at
 
 -- what may still be put
 
-put_has_room : (job : Job) (entry : Record) → need_of job ≡ need.Put entry → 1 ≤ may_put_of job
+put_has_room : (job : Job) (entry : Record) → need_of job ≡ need.Put entry → 1 ≤ puts_in (ahead job)
 put_has_room (StartPuts device mask) entry e = omega arith
 put_has_room (RoundPuts own end) entry e = omega arith
 put_has_room (StopPuts device own end) entry e = omega arith
@@ -146,10 +148,10 @@ put_has_room (OrderCloses own end) entry e = omega arith
 put_has_room (SalePuts id price) entry e = omega arith
 put_has_room job entry e = absurd cc
 
-pub put_allowed : (job : Job) (n : Need) (entry : Record) → n ≡ need_of job → n ≡ need.Put entry → 1 ≤ may_put_of job
+pub put_allowed : (job : Job) (n : Need) (entry : Record) → n ≡ need_of job → n ≡ need.Put entry → 1 ≤ puts_in (ahead job)
 put_allowed job n entry is e = put_has_room job entry (sym is ∙ e)
 
-put_falls : (job : Job) → IsPut (need_of job) → may_put_of (after_put job) < may_put_of job
+put_falls : (job : Job) → IsPut (need_of job) → puts_in (ahead (after_put job)) < puts_in (ahead job)
 put_falls (StartPuts device mask) put = omega arith
 put_falls (RoundPuts own end) put = omega arith
 put_falls (StopPuts device own None) put = omega arith
@@ -160,67 +162,14 @@ put_falls (OrderCloses own end) put = omega arith
 put_falls (SalePuts id price) put = omega arith
 put_falls job put = absurd put
 
-pub fewer_after : (job after : Job) → after ≡ after_put job → IsPut (need_of job) → may_put_of after < may_put_of job
-fewer_after job after is put = subst (λ j. may_put_of j < may_put_of job) (sym is) (put_falls job put)
-
-stage_may_put : (stage : Stage) (d : DeviceSetup) (addr rows : ℕ) → IsAfter stage d rows
-    → stage_puts stage ≡ puts_at (own_of stage addr) rows (sends (request_of stage))
-stage_may_put (StartResets mask) d addr rows at = rw at refl
-stage_may_put (StartReads mask) d addr rows at = rw at refl
-stage_may_put (StartSets mask) d addr rows at = rw at refl
-stage_may_put (Reads Round recorded) d addr rows at = refl
-stage_may_put (Reads Stop recorded) d addr rows at = refl
-stage_may_put (Looks Round recorded read) d addr rows at = refl
-stage_may_put (Looks Stop recorded read) d addr rows at = refl
-stage_may_put (Pays row) d addr rows at = payout_may_put row d addr rows at
-stage_may_put stage d addr rows at = refl
-
--- a record of a stop that isn't the epoch's end
-two_to_put : (d : DeviceSetup) (addr rows : ℕ) (entry : Record) (end : Option End) → rows ≡ 3
-    → end_kept (after (rows_of d (command.Stop addr)) rows) entry ≡ end
-    → end ≢ Some Stopped → puts_at (command.Stop addr) rows (puts entry) ≡ 2
-two_to_put d addr rows (EpochEnd at) end third ends apart =
-    absurd (apart (sym ends ∙ ap (λ n. end_kept (after (rows_of d (command.Stop addr)) n) (EpochEnd at)) third))
-two_to_put d addr rows entry end third ends apart = refl
-
-put_row : (d : DeviceSetup) (own : Command) (entry : Record) (end : Option End) (c : Command) (since : List Line)
-    (state : EpochState) (owed : Option OpenOrder) → Putting d own entry end c since state owed
-    → puts_at own (done since) (puts entry) ≡ puts_at c (done since) (row d c since state owed)
-put_row d own entry end c since state owed at =
-    ap (λ k. puts_at k (done since) (puts entry)) (sym at.command_is) ∙ ap (puts_at c (done since)) (sym at.row_is)
-
-may_put_by : (d : DeviceSetup) (job : Job) (c : Command) (since : List Line) (state : EpochState)
-    (owed : Option OpenOrder)
-    → Stands d job c since state owed → newest_end d c since state ≡ None
-    → may_put_of job ≡ puts_at c (done since) (row d c since state owed)
-may_put_by d (Asks device stage failed) c since state owed at on =
-    stage_may_put stage d d.addr (done since) at.is_after
-    ∙ ap (λ k. puts_at k (done since) (sends (request_of stage))) (sym at.command_is)
-    ∙ ap (puts_at c (done since)) (sym (stage_row at))
-may_put_by d (StartPuts device mask) c since state owed (device_is, rows_are, at) on =
-    sym (ap (λ n. puts_at (command.Start d.addr mask) n (puts (Epoch d.addr mask))) rows_are)
-    ∙ put_row d (command.Start d.addr mask) (Epoch d.addr mask) None c since state owed at
-may_put_by d (RoundPuts entry end) c since state owed at on =
-    put_row d (command.Round d.addr) entry (Some end) c since state owed at
-may_put_by d (StopPuts device entry end) c since state owed (device_is, rows_are, apart, at) on =
-    sym (two_to_put d d.addr (done since) entry end rows_are at.ends apart)
-    ∙ put_row d (command.Stop d.addr) entry end c since state owed at
-may_put_by d (StopEnds device) c since state owed (device_is, at) on =
-    put_row d (command.Stop d.addr) (EpochEnd d.addr) (Some Stopped) c since state owed at
-may_put_by d (OrderOpens device own halted) c since state owed at on =
-    sym (ap (λ n. puts_at (command.Pay d.addr own.order.id own.order.count) n (puts (opened_by own.order))) at.rows_are)
-    ∙ put_row d (command.Pay d.addr own.order.id own.order.count) (opened_by own.order) None c since state owed at.at
-may_put_by d (OrderCloses entry end) c since state owed at on =
-    sym (closing_may_put at.closing at.order d.addr (done since) (puts entry) at.rows_are)
-    ∙ put_row d (closing_by at.closing at.order d.addr) entry (Some end) c since state owed at.at
-may_put_by d (Done end) c since state owed at on = absurd cc
-may_put_by d job c since state owed at on = absurd at
+pub fewer_after : (job after : Job) → after ≡ after_put job → IsPut (need_of job) → puts_in (ahead after) < puts_in (ahead job)
+fewer_after job after is put = subst (λ j. puts_in (ahead j) < puts_in (ahead job)) (sym is) (put_falls job put)
 
 pub may_put_known : (d : DeviceSetup) (job : Job) (c : Command) (since : List Line) (state : EpochState)
     (owed : Option OpenOrder) (n : ℕ)
-    → n ≡ may_put_of job → Stands d job c since state owed → newest_end d c since state ≡ None
-    → n ≡ puts_at c (done since) (row d c since state owed)
-may_put_known d job c since state owed n is at on = is ∙ may_put_by d job c since state owed at on
+    → n ≡ puts_in (ahead job) → Stands d job c since state owed → newest_end d c since state ≡ None
+    → n ≡ puts_in (left d c since state)
+may_put_known d job c since state owed n is at on = is ∙ ap puts_in (left_known d job c since state owed at on).0
 
 -- what is sent
 

@@ -6,15 +6,15 @@ use Rattle.cct_model.specs.lines.record.Record.TheVariants.{Epoch, EpochEnd}
 use Rattle.cct_model.specs.terms.device.DeviceSetup.{DeviceSetup}
 use Rattle.cct_model.specs.declared.judging.EpochState.{EpochState}
 use Rattle.cct_model.specs.Line.{Line}
-use Rattle.cct_model.specs.Job.{credits_read, done, mask_read, payment_in}
-use Rattle.cct_model.specs.Rows.{row}
+use Rattle.cct_model.specs.Job.{address_of, credits_read, mask_read}
 use Rattle.cct_model.specs.Order.{order_by}
 use Rattle.cct_jobs.specs.declared.job.Job.{Job}
 use Rattle.cct_jobs.specs.declared.job.Job.TheVariants.{Asks, StartPuts, RoundPuts, StopPuts, StopEnds, OrderOpens, OrderCloses, Done}
 use Rattle.cct_jobs.specs.declared.job.Need.TheVariants as need
 use Rattle.cct_jobs.specs.declared.owed.Owed.{Owed}
 use Rattle.cct_jobs.specs.Jobs.{Stands, need_of, opened_by, order_of, owed_after}
-use Rattle.cct_jobs.proofs.Owners.{close_leaves_none, round_owes, stop_owes}
+use Rattle.cct_jobs.proofs.Owners.{close_leaves_none, reading_owes}
+use Rattle.cct_jobs.proofs.Puts.{round_row, stop_row}
 
 owes_by : (d : DeviceSetup) (job : Job) (c : Command) (since : List Line) (state : EpochState) (before : Option Owed)
     (entry : Record) → need_of job ≡ need.Put entry → Stands d job c since state (order_of before)
@@ -24,13 +24,13 @@ owes_by d (StartPuts device mask) c since state before entry e at =
     ap (λ r. order_by r (order_of before)) same
 owes_by d (RoundPuts own end) c since state before entry e at =
     let same : own ≡ entry = cc in
-    sym (round_owes d (order_of before) d.addr (done since) state (credits_read since) (mask_read since) own (payment_in since (order_of before))
-    (ap (λ k. row d k since state (order_of before)) (sym at.command_is) ∙ at.row_is))
+    sym (reading_owes (order_of before) (address_of c) state (credits_read since) (mask_read since) own
+    (round_row d own end c since state (order_of before) at))
     ∙ ap (λ r. order_by r (order_of before)) same
-owes_by d (StopPuts device own end) c since state before entry e (device_is, rows_are, apart, at) =
+owes_by d (StopPuts device own end) c since state before entry e (device_is, rest_is, at) =
     let same : own ≡ entry = cc in
-    sym (stop_owes d (order_of before) d.addr (done since) state (credits_read since) (mask_read since) own (payment_in since (order_of before))
-    (ap (λ k. row d k since state (order_of before)) (sym at.command_is) ∙ at.row_is))
+    sym (reading_owes (order_of before) (address_of c) state (credits_read since) (mask_read since) own
+    (stop_row d device own end c since state (order_of before) at))
     ∙ ap (λ r. order_by r (order_of before)) same
 owes_by d (StopEnds device) c since state before entry e at =
     let same : EpochEnd device.addr ≡ entry = cc in

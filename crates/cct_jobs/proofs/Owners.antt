@@ -8,103 +8,72 @@ use Rattle.cct_model.specs.terms.coin.Credits.{Credits}
 use Rattle.cct_model.specs.terms.device.DeviceSetup.{DeviceSetup}
 use Rattle.cct_model.specs.terms.device.Setup.{Setup}
 use Rattle.cct_model.specs.lines.command.Command.{Command}
-use Rattle.cct_model.specs.lines.command.Command.TheVariants as command
 use Rattle.cct_model.specs.lines.record.Record.{Record}
 use Rattle.cct_model.specs.lines.record.Record.TheVariants as record_of
 use Rattle.cct_model.specs.lines.entry.Entry.{Entry}
 use Rattle.cct_model.specs.declared.judging.OpenOrder.{OpenOrder}
 use Rattle.cct_model.specs.declared.judging.EpochState.{EpochState}
-use Rattle.cct_model.specs.Job.{Payment, Row, credits_read, done, judged_by, mask_read, payment_in, puts, address_of, judged_in}
-use Rattle.cct_model.specs.Rows.{row, Due, row_at, reading, epoch_end, rows_of, new_epoch, new_order, sale, order_end}
+use Rattle.cct_model.specs.declared.judging.Judged.{Judged}
+use Rattle.cct_model.specs.declared.judging.Judged.TheVariants.{Nothing, Reading, Broken}
+use Rattle.cct_model.specs.Job.{Row, address_of, credits_read, judged_by, judged_in, mask_read, no_row, payment_in, put_or, puts}
+use Rattle.cct_model.specs.Rows.{done, rows_of, row, Due, reading, epoch_end, new_epoch, new_order, sale, order_end}
 use Rattle.cct_model.specs.Legal.{record_due}
 use Rattle.cct_model.specs.Line.{Line}
 use Rattle.cct_model.specs.Money.{freed_by}
 use Rattle.cct_model.specs.Order.{close, order_by}
 use Rattle.cct_model.specs.Transcript.{opened_at, owner}
 use Rattle.cct_jobs.specs.Jobs.{ClosesItsOwn}
-use Rattle.cct_model.proofs.Rows.{RowHolds, puts_only, is_at_device, DueHolds, judged_holds, each_put, device_puts}
+use Rattle.cct_model.proofs.Rows.{JudgedHolds, RowHolds, is_at_device, DueHolds, judged_holds, each_put, device_puts}
 
--- a fact of all records that a round or a stop at an address may put
+-- a fact of all records that a reading at an address may mean
 pub record OfEpochs (P : Record → Type 0) (addr : ℕ) : Type 0 where
   broken : (seen counter : ℕ) (posted : List Coin) → P (record_of.Broken addr seen counter posted)
   reading : (counter lost : ℕ) (posted : List Coin) → P (record_of.Reading addr counter lost posted)
-  ends : P (record_of.EpochEnd addr)
 
-abbrev is_of_epochs : Due → Bool
-is_of_epochs reading = true
-is_of_epochs epoch_end = true
-is_of_epochs due = false
-
--- a round's and a stop's
-of_epochs : {P : Record → Type 0} (d : DeviceSetup) (c : Command) → OfEpochs P (address_of c)
-    → puts_only is_of_epochs (rows_of d c) ≡ true → (rows : ℕ) (state : EpochState) (credits : Option Credits)
-    (seen : Option ℕ) (p : Payment) (e : Record)
-    → row_at d c rows (judged_by (address_of c) state credits seen) p ≡ puts e → P e
-of_epochs {P} d c of only rows state credits seen p e h =
-    subst (RowHolds (λ q. ⊤) P) h
-    (each_put P is_of_epochs d c rows (judged_by (address_of c) state credits seen) p only of_due)
+-- what was judged of a reading is such a record
+of_reading : {P : Record → Type 0} (addr : ℕ) (state : EpochState) (credits : Option Credits) (seen : Option ℕ) (e : Record)
+    → OfEpochs P addr → put_or no_row (judged_by addr state credits seen) ≡ puts e → P e
+of_reading {P} addr state credits seen e of is =
+    subst (RowHolds (λ q. ⊤) P) is
+    (by_judged (judged_by addr state credits seen) (judged_holds P addr state credits seen of.reading of.broken))
   where
-    of_due : (due : Due) → is_of_epochs due ≡ true
-        → DueHolds P (address_of c) (judged_by (address_of c) state credits seen) p due
-    of_due reading is = judged_holds P (address_of c) state credits seen of.reading of.broken
-    of_due epoch_end is = of.ends
-    of_due due is = absurd cc
+    by_judged : (means : Judged) → JudgedHolds P means → RowHolds (λ q. ⊤) P (put_or no_row means)
+    by_judged Nothing holds = tt
+    by_judged (Reading r) holds = holds
+    by_judged (Broken r) holds = holds
 
 -- each is of that address
 own_records : (past : List Entry) (addr : ℕ) → OfEpochs (λ r. owner past r ≡ addr) addr
 own_records past addr = record {
   broken = λ seen counter posted. refl;
   reading = λ counter lost posted. refl;
-  ends = refl;
 }
 
-pub round_owner : (d : DeviceSetup) (addr rows : ℕ) (state : EpochState) (credits : Option Credits) (seen : Option ℕ) (past : List Entry)
-    (e : Record) (p : Payment) → row_at d (command.Round addr) rows (judged_by addr state credits seen) p ≡ puts e → owner past e ≡ addr
-round_owner d addr rows state credits seen past e p h =
-    of_epochs d (command.Round addr) (own_records past addr) refl rows state credits seen p e h
-
-pub stop_owner : (d : DeviceSetup) (addr rows : ℕ) (state : EpochState) (credits : Option Credits) (seen : Option ℕ) (past : List Entry)
-    (e : Record) (p : Payment) → row_at d (command.Stop addr) rows (judged_by addr state credits seen) p ≡ puts e → owner past e ≡ addr
-stop_owner d addr rows state credits seen past e p h =
-    of_epochs d (command.Stop addr) (own_records past addr) refl rows state credits seen p e h
+pub reading_owner : (past : List Entry) (addr : ℕ) (state : EpochState) (credits : Option Credits) (seen : Option ℕ)
+    (e : Record) → put_or no_row (judged_by addr state credits seen) ≡ puts e → owner past e ≡ addr
+reading_owner past addr state credits seen e is = of_reading addr state credits seen e (own_records past addr) is
 
 -- and leaves the open order as it is
 still_owed : (owed : Option OpenOrder) (addr : ℕ) → OfEpochs (λ r. order_by r owed ≡ owed) addr
 still_owed owed addr = record {
   broken = λ seen counter posted. refl;
   reading = λ counter lost posted. refl;
-  ends = refl;
 }
 
-pub round_owes : (d : DeviceSetup) (owed : Option OpenOrder) (addr rows : ℕ) (state : EpochState) (credits : Option Credits)
-    (seen : Option ℕ) (e : Record) (p : Payment) → row_at d (command.Round addr) rows (judged_by addr state credits seen) p ≡ puts e
-    → order_by e owed ≡ owed
-round_owes d owed addr rows state credits seen e p h =
-    of_epochs d (command.Round addr) (still_owed owed addr) refl rows state credits seen p e h
-
-pub stop_owes : (d : DeviceSetup) (owed : Option OpenOrder) (addr rows : ℕ) (state : EpochState) (credits : Option Credits)
-    (seen : Option ℕ) (e : Record) (p : Payment) → row_at d (command.Stop addr) rows (judged_by addr state credits seen) p ≡ puts e
-    → order_by e owed ≡ owed
-stop_owes d owed addr rows state credits seen e p h =
-    of_epochs d (command.Stop addr) (still_owed owed addr) refl rows state credits seen p e h
+pub reading_owes : (owed : Option OpenOrder) (addr : ℕ) (state : EpochState) (credits : Option Credits) (seen : Option ℕ)
+    (e : Record) → put_or no_row (judged_by addr state credits seen) ≡ puts e → order_by e owed ≡ owed
+reading_owes owed addr state credits seen e is = of_reading addr state credits seen e (still_owed owed addr) is
 
 -- and frees nothing
 none_freed : (setup : Setup) (addr : ℕ) → OfEpochs (λ r. 0 ≡ freed_by setup r) addr
 none_freed setup addr = record {
   broken = λ seen counter posted. refl;
   reading = λ counter lost posted. refl;
-  ends = refl;
 }
 
-pub round_frees : (d : DeviceSetup) (setup : Setup) (addr rows : ℕ) (state : EpochState) (credits : Option Credits) (seen : Option ℕ)
-    (e : Record) (p : Payment) → row_at d (command.Round addr) rows (judged_by addr state credits seen) p ≡ puts e → 0 ≡ freed_by setup e
-round_frees d setup addr rows state credits seen e p h =
-    of_epochs d (command.Round addr) (none_freed setup addr) refl rows state credits seen p e h
-
-pub stop_frees : (d : DeviceSetup) (setup : Setup) (addr rows : ℕ) (state : EpochState) (credits : Option Credits) (seen : Option ℕ)
-    (e : Record) (p : Payment) → row_at d (command.Stop addr) rows (judged_by addr state credits seen) p ≡ puts e → 0 ≡ freed_by setup e
-stop_frees d setup addr rows state credits seen e p h =
-    of_epochs d (command.Stop addr) (none_freed setup addr) refl rows state credits seen p e h
+pub reading_frees : (setup : Setup) (addr : ℕ) (state : EpochState) (credits : Option Credits) (seen : Option ℕ)
+    (e : Record) → put_or no_row (judged_by addr state credits seen) ≡ puts e → 0 ≡ freed_by setup e
+reading_frees setup addr state credits seen e is = of_reading addr state credits seen e (none_freed setup addr) is
 
 -- an order that is closed
 
@@ -161,7 +130,7 @@ pub row_owns : (past : List Entry) (addr : ℕ) (d : DeviceSetup) (c : Command) 
     → IfSome (record_due (row d c since state owed)) (ClosesItsOwn past addr)
 row_owns past addr d c since state owed opened =
     if_due (ClosesItsOwn past addr) (row d c since state owed)
-    (each_put (ClosesItsOwn past addr) is_at_device d c (done since) (judged_in c since state) (payment_in since owed)
+    (each_put (ClosesItsOwn past addr) is_at_device d c (done (rows_of d c) since) (judged_in c since state) (payment_in since owed)
     (device_puts d c) due_owns)
   where
     due_owns : (due : Due) → is_at_device due ≡ true

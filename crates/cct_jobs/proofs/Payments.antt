@@ -1,5 +1,5 @@
 -- What an exchange with its hopper makes of a payment and of a settlement.
-use Rattle.std.proofs.Common.{◌≡◌, ℕ, suc, Bool, true, false, cond, List, ◌∷◌, refl, sym, ap, ap₂, ◌∙◌, Option, Some, None, arith}
+use Rattle.std.proofs.Common.{◌≡◌, ℕ, Bool, true, false, cond, List, ◌∷◌, refl, sym, ap, ◌∙◌, Option, Some, None, arith}
 use Rattle.cct_model.specs.lines.command.Command.{Command}
 use Rattle.cct_model.specs.lines.command.Command.TheVariants as command
 use Rattle.cct_model.specs.lines.entry.End.{End}
@@ -15,8 +15,8 @@ use Rattle.cct_model.specs.Reply.{Reply}
 use Rattle.cct_model.specs.Reply as reply
 use Rattle.cct_model.specs.Line.{Line, exchange}
 use Rattle.cct_model.specs.Order.{close}
-use Rattle.cct_model.specs.Job.{answer_ends, done, end_of_close, judged_in, payment_in, puts, tries}
-use Rattle.cct_model.specs.Rows.{end_of, row, row_at, end_failed, end_kept, after, left_at, rest, rows_of}
+use Rattle.cct_model.specs.Job.{end_of_close, judged_in, puts, tries}
+use Rattle.cct_model.specs.Rows.{end_failed, end_kept, after, from, left, rest}
 use Rattle.cct_jobs.specs.declared.job.Job.TheVariants.{Asks, OrderCloses, OrderOpens}
 use Rattle.cct_jobs.specs.declared.owed.Owed.{Owed}
 use Rattle.cct_jobs.specs.declared.payout.Closing.{Closing}
@@ -25,8 +25,14 @@ use Rattle.cct_jobs.specs.declared.payout.Payout.{Payout}
 use Rattle.cct_jobs.specs.declared.payout.Payout.TheVariants.{Enables, Counts, Dispenses, Waits, Stops, Recounts}
 use Rattle.cct_jobs.specs.declared.stage.Stage.TheVariants.{Pays}
 use Rattle.cct_jobs.specs.declared.target.Target.{Target}
-use Rattle.cct_jobs.specs.Jobs.{Asking, Stands, closing_by, closing_end, newest_end, settling, rows_paid, opened_by}
-use Rattle.cct_jobs.proofs.Payouts.{close_row_is, payout_goes_on}
+use Rattle.cct_model.specs.terms.request.ReplyForm.TheVariants as form
+use Rattle.cct_msg.specs.Forms.{form_shown}
+use Rattle.cct_jobs.specs.Ahead.{ahead, nothing_left, table_of}
+use Rattle.cct_jobs.specs.Jobs.{Asking, Stands, closing_end, newest_end, opened_by, settling}
+use Rattle.cct_jobs.proofs.Moves.{exchange_moves, exchange_stays, stop_stays}
+use Rattle.cct_jobs.proofs.Payouts.{payout_goes_on}
+use Rattle.cct_jobs.proofs.Puts.{close_row_is, open_row_is}
+use Rattle.cct_jobs.proofs.Stages.{end_after}
 use Rattle.cct_model.specs.Request.{header_of}
 
 module _ {d : DeviceSetup} {device : Target} {row : Payout} {failed : ℕ} {c : Command} {since : List Line}
@@ -34,8 +40,8 @@ module _ {d : DeviceSetup} {device : Target} {row : Payout} {failed : ℕ} {c : 
   -- no answer ends the job
   answer_goes_on : (q : Request) (y : Reply) → newest_end d c (exchange (Some q) (Some y) ∷ since) state ≡ None
   answer_goes_on q y =
-      ap (λ k. end_of d k (exchange (Some q) (Some y)) since state) at.command_is
-      ∙ payout_goes_on row d d.addr q y since state
+      end_after at q y
+      ∙ payout_goes_on row device y (judged_in c since state) (judged_in c (exchange (Some q) (Some y) ∷ since) state)
 
 -- the hopper is enabled
 pub enabled_counts : {d : DeviceSetup} {device : Target} {id count failed : ℕ} {halted : Bool} {c : Command}
@@ -43,10 +49,11 @@ pub enabled_counts : {d : DeviceSetup} {device : Target} {id count failed : ℕ}
     → Asking d device (Pays (Enables id count halted)) failed c since state owed
     → Asking d device (Pays (Counts id count halted)) 0 c (exchange (Some (Enable ENABLE_CODE)) (Some y) ∷ since) state
     owed
-enabled_counts y at = record {
+enabled_counts {d} {c = c} {since = since} y at = record {
   device_is = at.device_is;
-  command_is = at.command_is;
-  is_after = (ap suc at.is_after.0, at.is_after.1);
+  is_here = at.is_here;
+  ahead_is = exchange_moves d c since (Enable ENABLE_CODE) (Some y) _ at.ahead_is refl;
+  suits = at.suits;
   knows = at.knows;
   trying = record { counted = refl; few = omega arith };
   goes_on = answer_goes_on at (Enable ENABLE_CODE) y;
@@ -58,29 +65,28 @@ pub count_opens : {d : DeviceSetup} {device : Target} {id count failed : ℕ} {h
     → own.order ≡ record { id = id; addr = device.addr; count = count; life = life }
     → Asking d device (Pays (Counts id count halted)) failed c since state owed
     → Stands d (OrderOpens device own halted) c (exchange (Some GetLife) (Some (reply.life life)) ∷ since) state owed
-count_opens {d} {device} {id} {count} {c = c} {since = since} {state = state} {owed = owed} own life is at =
+count_opens {d} {device} {id} {count} {halted = halted} {c = c} {since = since} {state = state} {owed = owed} own life is at =
     let line = exchange (Some GetLife) (Some (reply.life life)) in
     let here : own.order.addr ≡ d.addr =
     ap (λ (o : OpenOrder). o.addr) is ∙ ap (λ (t : Target). t.addr) at.device_is in
-    let rows_are : suc (done since) ≡ 2 = ap suc at.is_after.0 in
+    let rest_is : rest d c (line ∷ since) ≡ ahead (OrderOpens device own halted) =
+    exchange_moves d c since GetLife (Some (reply.life life)) _ at.ahead_is refl
+    ∙ ap (λ (o : OpenOrder). after (table_of device (command.Pay device.addr o.id o.count)) 2) (sym is) in
+    let left_is : left d c (line ∷ since) state ≡ ahead (OrderOpens device own halted) =
+    ap (λ rows. from rows (judged_in c (line ∷ since) state)) rest_is in
+    let read : Some life ≡ Some own.order.life = ap (λ (o : OpenOrder). Some o.life) (sym is) in
     record {
       device_is = at.device_is;
-      serial = at.is_after.1;
-      rows_are = rows_are;
+      serial = at.suits;
+      rest_is = rest_is;
       marked = at.knows;
+      read = read;
       is_here = here;
       at = record {
-        command_is =
-            at.command_is
-            ∙ ap₂ (λ (o p : OpenOrder). command.Pay d.addr o.id p.count) (sym is) (sym is);
-        row_is =
-            ap (λ k. row d k (line ∷ since) state owed) at.command_is
-            ∙ ap (λ n. row_at d (command.Pay d.addr id count) n
-            (judged_in (command.Pay d.addr id count) (line ∷ since) state) (payment_in (line ∷ since) owed)) rows_are
-            ∙ ap (λ a. puts (record_of.Opened id a count life)) (sym (ap (λ (t : Target). t.addr) at.device_is))
-            ∙ ap (λ (o : OpenOrder). puts (record_of.Opened o.id o.addr o.count o.life)) (sym is);
-        ends = ap (λ n. end_kept (after (rows_of d (command.Pay d.addr own.order.id own.order.count)) n) (opened_by own.order))
-            rows_are;
+        is_here = at.is_here;
+        ahead_is = left_is;
+        row_is = open_row_is d device own halted c (line ∷ since) state owed at.is_here here read left_is;
+        ends = ap (λ rows. end_kept rows (opened_by own.order)) rest_is;
         goes_on = answer_goes_on at GetLife (reply.life life);
       };
     }
@@ -93,11 +99,9 @@ module _ {d : DeviceSetup} {device : Target} {own : Owed} {serial failed : ℕ} 
   unheard_goes_on : {halted : Bool} → Asking d device (Pays (Dispenses serial own halted)) failed c since state owed
       → newest_end d c (exchange (Some (Dispense serial own.order.count)) None ∷ since) state ≡ None
   unheard_goes_on at =
-      let q = Dispense serial own.order.count in
-      let k = command.Pay d.addr own.order.id own.order.count in
-      ap (λ x. end_of d x (exchange (Some q) None) since state) at.command_is
-      ∙ ap (λ n. end_failed (left_at d k n (judged_in k since state)) (tries (header_of q) (exchange (Some q) None ∷ since)))
-      at.is_after.0
+      let line = exchange (Some (Dispense serial own.order.count)) None in
+      ap (λ rows. end_failed (from rows (judged_in c since state))
+      (tries (header_of (Dispense serial own.order.count)) (line ∷ since))) at.ahead_is
 
   unmarked_waits : (got : Option Reply)
       → Asking d device (Pays (Dispenses serial own false)) failed c since state owed
@@ -105,16 +109,22 @@ module _ {d : DeviceSetup} {device : Target} {own : Owed} {serial failed : ℕ} 
       (exchange (Some (Dispense serial own.order.count)) got ∷ since) state owed
   unmarked_waits None at = record {
     device_is = at.device_is;
-    command_is = at.command_is;
-    is_after = ap suc at.is_after.0;
+    is_here = at.is_here;
+    ahead_is =
+        exchange_moves d c since (Dispense serial own.order.count) None _ at.ahead_is
+        refl;
+    suits = tt;
     knows = (at.knows.0, at.knows.1, refl);
     trying = record { counted = refl; few = omega arith };
     goes_on = unheard_goes_on at;
   }
   unmarked_waits (Some y) at = record {
     device_is = at.device_is;
-    command_is = at.command_is;
-    is_after = ap suc at.is_after.0;
+    is_here = at.is_here;
+    ahead_is =
+        exchange_moves d c since (Dispense serial own.order.count) (Some y) _ at.ahead_is
+        refl;
+    suits = tt;
     knows = (at.knows.0, at.knows.1, refl);
     trying = record { counted = refl; few = omega arith };
     goes_on = answer_goes_on at (Dispense serial own.order.count) y;
@@ -126,16 +136,22 @@ module _ {d : DeviceSetup} {device : Target} {own : Owed} {serial failed : ℕ} 
       (exchange (Some (Dispense serial own.order.count)) got ∷ since) state owed
   marked_stops None at = record {
     device_is = at.device_is;
-    command_is = at.command_is;
-    is_after = ap suc at.is_after.0;
+    is_here = at.is_here;
+    ahead_is =
+        exchange_moves d c since (Dispense serial own.order.count) None _ at.ahead_is
+        refl;
+    suits = tt;
     knows = at.knows;
     trying = record { counted = refl; few = omega arith };
     goes_on = unheard_goes_on at;
   }
   marked_stops (Some y) at = record {
     device_is = at.device_is;
-    command_is = at.command_is;
-    is_after = ap suc at.is_after.0;
+    is_here = at.is_here;
+    ahead_is =
+        exchange_moves d c since (Dispense serial own.order.count) (Some y) _ at.ahead_is
+        refl;
+    suits = tt;
     knows = at.knows;
     trying = record { counted = refl; few = omega arith };
     goes_on = answer_goes_on at (Dispense serial own.order.count) y;
@@ -154,37 +170,41 @@ dispense_leaves d device own false serial failed c since state owed got at = unm
 
 module _ {d : DeviceSetup} {device : Target} {closing : Closing} {own : Owed} {failed : ℕ} {c : Command}
     {since : List Line} {state : EpochState} {owed : Option OpenOrder} where
-  pub status_paid : (y : Reply) (paid : Bool) → paid ≡ answer_ends GetStatus y → paid ≡ true
+  pub status_paid : (y : Reply) (paid : Bool) → paid ≡ nothing_left y → paid ≡ true
       → Asking d device (Pays (Waits closing own)) failed c since state owed
       → Asking d device (Pays (Recounts closing own)) 0 c (exchange (Some GetStatus) (Some y) ∷ since) state owed
   status_paid y paid told is at = record {
     device_is = at.device_is;
-    command_is = at.command_is;
-    is_after = ap (λ b. cond b (suc (done since)) (done since)) (sym told ∙ is) ∙ ap suc at.is_after;
+    is_here = at.is_here;
+    ahead_is = exchange_moves d c since GetStatus (Some y) _ at.ahead_is (sym told ∙ is);
+    suits = tt;
     knows = at.knows.1;
     trying = record { counted = refl; few = omega arith };
     goes_on = answer_goes_on at GetStatus y;
   }
 
-  pub status_goes_on : (y : Reply) (paid : Bool) → paid ≡ answer_ends GetStatus y → paid ≡ false
+  pub status_goes_on : (y : Reply) (paid : Bool) → paid ≡ nothing_left y → paid ≡ false
       → Asking d device (Pays (Waits closing own)) failed c since state owed
       → Asking d device (Pays (Waits closing own)) 0 c (exchange (Some GetStatus) (Some y) ∷ since) state owed
   status_goes_on y paid told is at = record {
     device_is = at.device_is;
-    command_is = at.command_is;
-    is_after = ap (λ b. cond b (suc (done since)) (done since)) (sym told ∙ is) ∙ at.is_after;
+    is_here = at.is_here;
+    ahead_is = exchange_stays d c since GetStatus (Some y) _ at.ahead_is (sym told ∙ is);
+    suits = tt;
     knows = (at.knows.0, at.knows.1, refl);
     trying = record { counted = refl; few = omega arith };
     goes_on = answer_goes_on at GetStatus y;
   }
 
   -- the hopper is stopped
-  pub stop_waits : (y : Reply) → Asking d device (Pays (Stops closing own)) failed c since state owed
+  pub stop_waits : (y : Reply) → form_shown y ≡ Some form.Remaining
+      → Asking d device (Pays (Stops closing own)) failed c since state owed
       → Asking d device (Pays (Waits closing own)) 0 c (exchange (Some StopNow) (Some y) ∷ since) state owed
-  stop_waits y at = record {
+  stop_waits y wanted at = record {
     device_is = at.device_is;
-    command_is = at.command_is;
-    is_after = at.is_after;
+    is_here = at.is_here;
+    ahead_is = exchange_stays d c since StopNow (Some y) _ at.ahead_is (stop_stays y wanted);
+    suits = tt;
     knows = (refl, at.knows.1, refl);
     trying = record { counted = refl; few = omega arith };
     goes_on = answer_goes_on at StopNow y;
@@ -202,14 +222,6 @@ close_ends : (o : OpenOrder) (life : ℕ) → end_of_close (close o life) ≡ So
 unfolding close
 close_ends o life = close_ends_by _ o.id _ _ o.life life
 
-closing_ends : (closing : Closing) (d : DeviceSetup) (o own : OpenOrder) (addr life rows : ℕ)
-    → rows ≡ suc (suc (rows_paid closing))
-    → end_kept (after (rows_of d (closing_by closing own addr)) rows) (close o life) ≡ Some (closing_end (close o life))
-closing_ends closing_of.Payment d o own addr life rows at =
-    ap (λ n. end_kept (after (rows_of d (command.Pay addr own.id own.count)) n) (close o life)) at ∙ close_ends o life
-closing_ends closing_of.Settlement d o own addr life rows at =
-    ap (λ n. end_kept (after (rows_of d (command.Settle addr)) n) (close o life)) at ∙ close_ends o life
-
 -- its life count is read again
 pub recount_closes : {d : DeviceSetup} {device : Target} {closing : Closing} {failed : ℕ} {c : Command}
     {since : List Line} {state : EpochState} {owed : Option OpenOrder} (own : Owed) (life : ℕ) (entry : Record)
@@ -219,25 +231,24 @@ pub recount_closes : {d : DeviceSetup} {device : Target} {closing : Closing} {fa
     → Stands d (OrderCloses entry end) c (exchange (Some GetLife) (Some (reply.life life)) ∷ since) state owed
 recount_closes {d} {device} {closing} {failed} {c} {since} {state} {owed} own life entry end closes ends at =
     let line = exchange (Some GetLife) (Some (reply.life life)) in
-    let rows_are = ap suc at.is_after in
+    let rest_is : rest d c (line ∷ since) ≡ ahead (OrderCloses entry end) =
+    exchange_moves d c since GetLife (Some (reply.life life)) _ at.ahead_is refl in
+    let left_is : left d c (line ∷ since) state ≡ ahead (OrderCloses entry end) =
+    ap (λ rows. from rows (judged_in c (line ∷ since) state)) rest_is in
     record {
-      closing = closing;
       order = own.order;
       life = life;
-      rows_are = rows_are;
-      owed_is = at.knows;
       closes = closes;
       at = record {
-        command_is = at.command_is;
+        is_here = at.is_here;
+        ahead_is = left_is;
         row_is =
-            ap (λ k. row d k (line ∷ since) state owed) at.command_is
-            ∙ close_row_is closing d own.order d.addr (suc (done since)) life
-            (judged_in (closing_by closing own.order d.addr) (line ∷ since) state) (payment_in (line ∷ since) owed)
-            rows_are at.knows refl
+            close_row_is d entry end c (line ∷ since) state owed own.order life at.knows refl left_is
             ∙ ap puts (sym closes);
         ends =
-            ap (end_kept (rest d (closing_by closing own.order d.addr) (line ∷ since))) closes
-            ∙ closing_ends closing d own.order own.order d.addr life (suc (done since)) rows_are
+            ap (λ rows. end_kept rows entry) rest_is
+            ∙ ap end_of_close closes
+            ∙ close_ends own.order life
             ∙ ap (λ r. Some (closing_end r)) (sym closes)
             ∙ ap Some (sym ends);
         goes_on = answer_goes_on at GetLife (reply.life life);

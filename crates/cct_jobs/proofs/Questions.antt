@@ -1,17 +1,19 @@
 -- The questions of an identification, each after the one before.
-use Rattle.std.proofs.Common.{◌≡◌, ℕ, suc, zero, ◌<◌, ◌&&◌, Bool, true, false, List, [], ◌∷◌, length, map, refl, ap, subst, cond, Option, Some, None, arith}
+use Rattle.std.proofs.Common.{◌≡◌, ℕ, ◌+◌, suc, zero, ◌<◌, ◌&&◌, Bool, true, false, List, [], ◌∷◌, length, map, refl, ap, subst, cond, Option, Some, None, arith}
 use Rattle.std.proofs.lemmas.Bool.Decides.{nat_tests}
 use Rattle.std.specs.Prelude.{◌==◌, not, slice_get}
 use Rattle.std.specs.List.{list_all}
 use Rattle.cct_model.specs.terms.device.DeviceBody.{DeviceBody}
 use Rattle.cct_model.specs.terms.device.DeviceBody.TheVariants.{Acceptor, Hopper}
+use Rattle.cct_model.specs.terms.family.Family.{Family}
+use Rattle.cct_model.specs.terms.family.Family.TheVariants as family
 use Rattle.cct_model.specs.terms.request.Request.{Request}
-use Rattle.cct_model.specs.terms.request.Request.TheVariants.{SetDefault, SetPath, GetDefault, GetPath, GetStatus, StopNow}
-use Rattle.cct_model.specs.Job.{ident_requests, is_once, answer_ends, path_set, path_read}
-use Rattle.cct_model.specs.Device.{is_acceptor}
-use Rattle.cct_model.specs.Reply.{Reply}
+use Rattle.cct_model.specs.terms.request.Request.TheVariants.{SetDefault, SetPath, GetDefault, GetPath}
+use Rattle.cct_model.specs.Job.{ident_requests, path_set, path_read}
+use Rattle.cct_model.specs.Family.{family_of}
 use Rattle.cct_msg.specs.Forms.{FitsItsBytes}
-use Rattle.cct_jobs.specs.Jobs.{question_after}
+use Rattle.cct_jobs.specs.Ahead.{body_of, place_of}
+use Rattle.cct_jobs.specs.Jobs.{is_once, question_after}
 
 -- what stands behind each element
 abbrev behind_each : List Request → List (Option Request)
@@ -25,13 +27,50 @@ follows next (x ∷ xs) (suc n) q e at =
     let rest : map next xs ≡ behind_each xs = cc in
     follows next xs n q rest at
 
-each_follows : (body : DeviceBody) → map (question_after (is_acceptor body)) (ident_requests body) ≡ behind_each (ident_requests body)
-each_follows (Acceptor accepts values ids) = refl
-each_follows (Hopper life value) = refl
+-- the questions to a device of a family
+abbrev pub questions : Family → List Request
+questions which = ident_requests (body_of which)
+
+-- they are those to any device of the family
+pub same_questions : (body : DeviceBody) → questions (family_of body) ≡ ident_requests body
+same_questions (Acceptor accepts values ids) = refl
+same_questions (Hopper life value) = refl
+
+each_follows : (which : Family) → map (question_after which) (questions which) ≡ behind_each (questions which)
+each_follows family.Acceptor = refl
+each_follows family.Hopper = refl
 
 -- the question at the place behind one is the one that follows it
-pub next_question : (body : DeviceBody) (n : ℕ) (q : Request) → slice_get (ident_requests body) n ≡ Some q → slice_get (ident_requests body) (suc n) ≡ question_after (is_acceptor body) q
-next_question body n q at = follows (question_after (is_acceptor body)) (ident_requests body) n q (each_follows body) at
+pub next_question : (which : Family) (n : ℕ) (q : Request) → slice_get (questions which) n ≡ Some q
+    → slice_get (questions which) (suc n) ≡ question_after which q
+next_question which n q at = follows (question_after which) (questions which) n q (each_follows which) at
+
+-- each is found at its place
+
+abbrev numbered : ℕ → List Request → List ℕ
+numbered n [] = []
+numbered n (q ∷ qs) = n ∷ numbered (suc n) qs
+
+at_number : (place : Request → ℕ) (xs : List Request) (first n : ℕ) (q : Request) → map place xs ≡ numbered first xs
+    → slice_get xs n ≡ Some q → place q ≡ n + first
+at_number place [] first n q e at = absurd cc
+at_number place (x ∷ xs) first zero q e at =
+    let is : place q ≡ first = cc in
+    omega (arith, is)
+at_number place (x ∷ xs) first (suc n) q e at =
+    let rest : map place xs ≡ numbered (suc first) xs = cc in
+    let found = at_number place xs (suc first) n q rest at in
+    omega (arith, found)
+
+each_placed : (which : Family) → map (λ q. place_of q (questions which)) (questions which) ≡ numbered 0 (questions which)
+each_placed family.Acceptor = refl
+each_placed family.Hopper = refl
+
+pub placed : (which : Family) (n : ℕ) (q : Request) → slice_get (questions which) n ≡ Some q
+    → place_of q (questions which) ≡ n
+placed which n q at =
+    let found = at_number (λ x. place_of x (questions which)) (questions which) 0 n q (each_placed which) at in
+    omega (arith, found)
 
 -- where none follows, that many were asked
 pub last_question : (xs : List Request) (n : ℕ) (q : Request) → slice_get xs n ≡ Some q → slice_get xs (suc n) ≡ None → length xs ≡ suc n
@@ -82,56 +121,19 @@ all_at test (x ∷ xs) zero q e at =
     subst (λ r. test r ≡ true) is (both_true (test x) (list_all test xs) e).0
 all_at test (x ∷ xs) (suc n) q e at = all_at test xs n q (both_true (test x) (list_all test xs) e).1 at
 
-each_again : (body : DeviceBody) → list_all is_again (ident_requests body) ≡ true
-each_again (Acceptor accepts values ids) = refl
-each_again (Hopper life value) = refl
+each_again : (which : Family) → list_all is_again (questions which) ≡ true
+each_again family.Acceptor = refl
+each_again family.Hopper = refl
 
 -- so is every question
-pub question_again : (body : DeviceBody) (n : ℕ) (q : Request) → slice_get (ident_requests body) n ≡ Some q
-    → is_once q ≡ false
-question_again body n q at =
-    not_true (is_once q) (all_at is_again (ident_requests body) n q (each_again body) at)
-
--- a request whose row any answer ends
-abbrev is_settled : Request → Bool
-is_settled GetStatus = false
-is_settled StopNow = false
-is_settled q = true
-
-settled_ends : (q : Request) (y : Reply) → is_settled q ≡ true → answer_ends q y ≡ true
-settled_ends GetStatus y settled = absurd cc
-settled_ends StopNow y settled = absurd cc
-settled_ends q y settled = refl
-
-each_settled : (body : DeviceBody) → list_all is_settled (ident_requests body) ≡ true
-each_settled (Acceptor accepts values ids) = refl
-each_settled (Hopper life value) = refl
-
--- the answer to a question ends its row
-pub question_ends : (body : DeviceBody) (n : ℕ) (q : Request) (y : Reply) → slice_get (ident_requests body) n ≡ Some q
-    → answer_ends q y ≡ true
-question_ends body n q y at = settled_ends q y (all_at is_settled (ident_requests body) n q (each_settled body) at)
-
-set_settles : (b : Bool) (place path : ℕ) → is_settled (cond b (SetDefault path) (SetPath place path)) ≡ true
-set_settles true place path = refl
-set_settles false place path = refl
-
-read_settles : (b : Bool) (place : ℕ) → is_settled (cond b GetDefault (GetPath place)) ≡ true
-read_settles true place = refl
-read_settles false place = refl
-
--- and so do those to a path that is set and to one that is read back
-pub set_ends : (place path : ℕ) (y : Reply) → answer_ends (path_set place path) y ≡ true
-set_ends place path y = settled_ends (path_set place path) y (set_settles (place == 0) place path)
-
-pub read_ends : (place : ℕ) (y : Reply) → answer_ends (path_read place) y ≡ true
-read_ends place y = settled_ends (path_read place) y (read_settles (place == 0) place)
+pub question_again : (which : Family) (n : ℕ) (q : Request) → slice_get (questions which) n ≡ Some q → is_once q ≡ false
+question_again which n q at = not_true (is_once q) (all_at is_again (questions which) n q (each_again which) at)
 
 set_by : (b : Bool) (place path : ℕ) → is_once (cond b (SetDefault path) (SetPath place path)) ≡ false
 set_by true place path = refl
 set_by false place path = refl
 
--- and so are a path that is set
+-- so is a path that is set
 pub set_again : (place path : ℕ) → is_once (path_set place path) ≡ false
 set_again place path = set_by (place == 0) place path
 

@@ -1,5 +1,5 @@
 -- What a sale needs, what it puts, and what it reserves until then.
-use Rattle.std.proofs.Common.{◌≡◌, ℕ, Bool, false, List, ◌∷◌, refl, sym, ap, ap₂, ◌∙◌, Option, Some, None}
+use Rattle.std.proofs.Common.{◌≡◌, ℕ, ◌+◌, Bool, false, List, ◌∷◌, refl, sym, ap, ap₂, ◌∙◌, Option, Some, None, arith}
 use Rattle.cct_model.specs.lines.command.Command.{Command}
 use Rattle.cct_model.specs.lines.entry.End.{End}
 use Rattle.cct_model.specs.lines.record.Record.{Record}
@@ -8,17 +8,24 @@ use Rattle.cct_model.specs.terms.device.DeviceSetup.{DeviceSetup}
 use Rattle.cct_model.specs.terms.device.Setup.{Setup}
 use Rattle.cct_model.specs.declared.judging.EpochState.{EpochState}
 use Rattle.cct_model.specs.declared.judging.OpenOrder.{OpenOrder}
-use Rattle.cct_model.specs.Job.{done, puts_at, works}
-use Rattle.cct_model.specs.Rows.{row_of_sale}
+use Rattle.cct_model.specs.Job.{works}
+use Rattle.cct_model.specs.Rows.{has_closes, has_waits, left_of_sale, puts_in, row_of_sale}
 use Rattle.cct_model.specs.Line.{Line, put}
-use Rattle.cct_model.specs.Money.{freed_by, reserved_by}
+use Rattle.cct_model.specs.Money.{freed_by, reserved_by_sale}
 use Rattle.cct_jobs.specs.declared.job.Job.{Job}
-use Rattle.cct_jobs.specs.declared.job.Job.TheVariants.{SalePuts, Done}
+use Rattle.cct_jobs.specs.declared.job.Job.TheVariants.{Asks, SalePuts, Done}
 use Rattle.cct_jobs.specs.declared.job.Need.{Need}
 use Rattle.cct_jobs.specs.declared.job.Need.TheVariants as need
 use Rattle.cct_jobs.specs.declared.owed.Owed.{Owed}
-use Rattle.cct_jobs.specs.Jobs.{Stands, after_put, closes_order, coins_reserved, end_of_job, halts, may_put_of, need_of, owed_after, price_reserved}
+use Rattle.cct_jobs.specs.declared.payout.Payout.TheVariants.{Enables}
+use Rattle.cct_jobs.specs.declared.stage.Stage.{Stage}
+use Rattle.cct_jobs.specs.declared.stage.Stage.TheVariants.{IdentAsks, Reads, Looks, Pays}
+use Rattle.cct_jobs.specs.declared.stage.Visit.TheVariants.{Round, Stop}
+use Rattle.cct_jobs.specs.declared.target.Target.{Target}
+use Rattle.cct_jobs.specs.Ahead.{ahead, coins_in, price_in, stage_ahead}
+use Rattle.cct_jobs.specs.Jobs.{Stands, after_put, end_of_job, need_of, owed_after}
 use Rattle.cct_jobs.specs.Sales.{NeedsSale, StandsSale, newest_sale_end}
+use Rattle.cct_jobs.proofs.Told.{ident_none}
 
 -- what it needs, and how it ended
 
@@ -44,33 +51,37 @@ sale_end_known job c since end is at = is ∙ end_by job c since at
 -- what it may put, and what it reserves until then
 
 may_put_by : (job : Job) (c : Command) (since : List Line) → StandsSale job c since → newest_sale_end c since ≡ None
-    → may_put_of job ≡ puts_at c (done since) (row_of_sale c since)
-may_put_by (SalePuts id price) c since at on =
-    sym (ap (λ k. puts_at k (done since) (row_of_sale k since)) at.command_is)
+    → puts_in (ahead job) ≡ puts_in (left_of_sale c since)
+may_put_by (SalePuts id price) c since at on = sym (ap₂ (λ k lines. puts_in (left_of_sale k lines)) at.command_is at.unsold)
 may_put_by (Done end) c since at on =
     let ended : newest_sale_end c since ≡ Some end = needs_by (Done end) c since at in
     absurd cc
 may_put_by job c since at on = absurd at
 
-pub sale_may_put : (job : Job) (c : Command) (since : List Line) (n : ℕ) → n ≡ may_put_of job
-    → StandsSale job c since → newest_sale_end c since ≡ None → n ≡ puts_at c (done since) (row_of_sale c since)
+pub sale_may_put : (job : Job) (c : Command) (since : List Line) (n : ℕ) → n ≡ puts_in (ahead job)
+    → StandsSale job c since → newest_sale_end c since ≡ None → n ≡ puts_in (left_of_sale c since)
 sale_may_put job c since n is at on = is ∙ may_put_by job c since at on
 
+and_none : (n : ℕ) → n ≡ n + 0
+and_none n = omega arith
+
 price_by : (setup : Setup) (job : Job) (c : Command) (since : List Line) → StandsSale job c since
-    → newest_sale_end c since ≡ None → price_reserved job ≡ reserved_by setup (works c since)
-price_by setup (SalePuts id price) c since at on = sym (ap (λ k. reserved_by setup (works k since)) at.command_is)
+    → newest_sale_end c since ≡ None → price_in (ahead job) ≡ reserved_by_sale setup (works c since)
+price_by setup (SalePuts id price) c since at on =
+    and_none price
+    ∙ sym (ap₂ (λ k lines. reserved_by_sale setup (works k lines)) at.command_is at.unsold)
 price_by setup (Done end) c since at on =
     let ended : newest_sale_end c since ≡ Some end = needs_by (Done end) c since at in
     absurd cc
 price_by setup job c since at on = absurd at
 
-pub sale_price : (setup : Setup) (job : Job) (c : Command) (since : List Line) (n : ℕ) → n ≡ price_reserved job
-    → StandsSale job c since → newest_sale_end c since ≡ None → n ≡ reserved_by setup (works c since)
+pub sale_price : (setup : Setup) (job : Job) (c : Command) (since : List Line) (n : ℕ) → n ≡ price_in (ahead job)
+    → StandsSale job c since → newest_sale_end c since ≡ None → n ≡ reserved_by_sale setup (works c since)
 sale_price setup job c since n is at on = is ∙ price_by setup job c since at on
 
 -- the record that it is about to put frees just that
 pub price_freed : (setup : Setup) (job : Job) (c : Command) (since : List Line) (r : Record)
-    → need_of job ≡ need.Put r → StandsSale job c since → price_reserved job ≡ freed_by setup r
+    → need_of job ≡ need.Put r → StandsSale job c since → price_in (ahead job) ≡ freed_by setup r
 price_freed setup (SalePuts id price) c since r is at =
     let same : record_of.Sold id price ≡ r = cc in
     ap (freed_by setup) same
@@ -78,41 +89,52 @@ price_freed setup (Done end) c since r is at = absurd cc
 price_freed setup job c since r is at = absurd at
 
 -- the job at a device has no price
+price_of_stage : (stage : Stage) (device : Target) → price_in (stage_ahead device stage) ≡ 0
+price_of_stage (Reads Round recorded) device = refl
+price_of_stage (Reads Stop recorded) device = refl
+price_of_stage (Looks Round recorded read) device = refl
+price_of_stage (Looks Stop recorded read) device = refl
+price_of_stage (IdentAsks question) device = ident_none price_in (λ q behind rows. refl) device question
+price_of_stage (Pays (Enables id count halted)) device = refl
+price_of_stage (Pays row) device = refl
+price_of_stage stage device = refl
+
 price_none : (d : DeviceSetup) (job : Job) (c : Command) (since : List Line) (state : EpochState)
-    (owed : Option OpenOrder) → Stands d job c since state owed → price_reserved job ≡ 0
+    (owed : Option OpenOrder) → Stands d job c since state owed → price_in (ahead job) ≡ 0
+price_none d (Asks device stage failed) c since state owed at = price_of_stage stage device
 price_none d (SalePuts id price) c since state owed at = absurd at
 price_none d job c since state owed at = refl
 
 pub no_price : (d : DeviceSetup) (job : Job) (c : Command) (since : List Line) (state : EpochState)
-    (owed : Option OpenOrder) (n : ℕ) → n ≡ price_reserved job → Stands d job c since state owed → n ≡ 0
+    (owed : Option OpenOrder) (n : ℕ) → n ≡ price_in (ahead job) → Stands d job c since state owed → n ≡ 0
 no_price d job c since state owed n is at = is ∙ price_none d job c since state owed at
 
 -- what it has none of
 
-coins_none : (job : Job) (c : Command) (since : List Line) → StandsSale job c since → coins_reserved job ≡ 0
+coins_none : (job : Job) (c : Command) (since : List Line) → StandsSale job c since → coins_in (ahead job) ≡ 0
 coins_none (SalePuts id price) c since at = refl
 coins_none (Done end) c since at = refl
 coins_none job c since at = absurd at
 
-pub no_coins : (job : Job) (c : Command) (since : List Line) (n : ℕ) → n ≡ coins_reserved job
+pub no_coins : (job : Job) (c : Command) (since : List Line) (n : ℕ) → n ≡ coins_in (ahead job)
     → StandsSale job c since → n ≡ 0
 no_coins job c since n is at = is ∙ coins_none job c since at
 
-closes_none : (job : Job) (c : Command) (since : List Line) → StandsSale job c since → closes_order job ≡ false
+closes_none : (job : Job) (c : Command) (since : List Line) → StandsSale job c since → has_closes (ahead job) ≡ false
 closes_none (SalePuts id price) c since at = refl
 closes_none (Done end) c since at = refl
 closes_none job c since at = absurd at
 
-pub sale_never_closes : (job : Job) (c : Command) (since : List Line) (b : Bool) → b ≡ closes_order job
+pub sale_never_closes : (job : Job) (c : Command) (since : List Line) (b : Bool) → b ≡ has_closes (ahead job)
     → StandsSale job c since → b ≡ false
 sale_never_closes job c since b is at = is ∙ closes_none job c since at
 
-stays : (job : Job) (c : Command) (since : List Line) → StandsSale job c since → halts job ≡ false
+stays : (job : Job) (c : Command) (since : List Line) → StandsSale job c since → has_waits (ahead job) ≡ false
 stays (SalePuts id price) c since at = refl
 stays (Done end) c since at = refl
 stays job c since at = absurd at
 
-pub sale_never_halts : (job : Job) (c : Command) (since : List Line) (b : Bool) → b ≡ halts job
+pub sale_never_halts : (job : Job) (c : Command) (since : List Line) (b : Bool) → b ≡ has_waits (ahead job)
     → StandsSale job c since → b ≡ false
 sale_never_halts job c since b is at = is ∙ stays job c since at
 

@@ -14,18 +14,24 @@ use Rattle.cct_model.specs.lines.entry.End.TheVariants.{NoAnswer, Told}
 use Rattle.cct_model.specs.Request.{header_of}
 use Rattle.cct_model.specs.Reply.{Reply}
 use Rattle.cct_model.specs.Line.{Line, exchange}
-use Rattle.cct_model.specs.Job.{sends, Payment, payment_in, judged_in, end_of_tries, done, tries, is_once, answer_ends, ident_requests}
-use Rattle.cct_model.specs.Rows.{row, row_at, end_of, end_answered, left}
+use Rattle.cct_model.specs.Job.{sends, Payment, address_of, payment_in, judged_in, end_of_tries, tries}
+use Rattle.cct_model.specs.Rows.{after, end_answered, end_failed, first, from, left, rest, row, telling, sent_once}
 use Rattle.cct_msg.specs.Forms.{FitsItsBytes}
 use Rattle.cct_jobs.specs.declared.job.Job.{Job}
+use Rattle.cct_jobs.specs.declared.job.Job.TheVariants.{Asks}
 use Rattle.cct_jobs.specs.declared.stage.Stage.{Stage}
-use Rattle.cct_jobs.specs.declared.stage.Stage.TheVariants.{StartResets, StartReads, StartSets, StopInhibits, Reads, Looks, IdentAsks, PathSets, PathReads, Pays}
+use Rattle.cct_jobs.specs.declared.stage.Stage.TheVariants.{StartSets, StopInhibits, Reads, Looks, IdentAsks, PathSets, PathReads, Pays}
+use Rattle.cct_jobs.specs.declared.stage.Visit.{Visit}
 use Rattle.cct_jobs.specs.declared.stage.Visit.TheVariants.{Round, Stop}
 use Rattle.cct_jobs.specs.declared.target.Target.{Target}
-use Rattle.cct_jobs.specs.Jobs.{Asking, IsAfter, IsAgain, Knows, Stands, Trying, after_failed, newest_end, own_of, question_after, request_of}
-use Rattle.cct_jobs.proofs.Payouts.{MarkedFor, marked_for, payout_again, payout_fits, payout_knows, row_of_payout}
-use Rattle.cct_jobs.proofs.Questions.{next_question, last_question, question_again, question_within, question_ends, again_fits, read_again, read_ends, set_again, set_ends}
-use Rattle.cct_model.proofs.Rows.{told_first, told_end}
+use Rattle.cct_jobs.specs.Ahead.{place_of, questions_of, stage_ahead, visit_ahead}
+use Rattle.cct_jobs.specs.Jobs.{Asking, Knows, Stands, Suits, Trying, after_failed, newest_end, question_after, request_of}
+use Rattle.cct_jobs.proofs.Moves.{IsSettled, answer_ends_first, exchange_moves, exchange_stays}
+use Rattle.cct_jobs.proofs.Payouts.{MarkedFor, first_of_payout, marked_for, payout_fits, payout_knows}
+use Rattle.cct_jobs.proofs.Questions.{next_question, last_question, placed, question_again, question_within, again_fits, read_again, set_again}
+use Rattle.cct_jobs.proofs.Left.{from_stage}
+use Rattle.cct_model.proofs.RowEnds.{unanswered_ends}
+use Rattle.cct_model.proofs.Rows.{after_next, but_first, told_first, told_end}
 use Rattle.cct_model.proofs.Tries.{asked_fails}
 
 -- the row of a stage
@@ -39,59 +45,30 @@ row_knows : (stage : Stage) (since : List Line) (state : EpochState) (owed : Opt
 row_knows (Pays row) since state owed knows = marked_for row since owed knows
 row_knows stage since state owed knows = tt
 
-row_of_stage : (stage : Stage) (d : DeviceSetup) (addr rows : ℕ) (means : Judged) (p : Payment) → RowKnows stage p
-    → IsAfter stage d rows → row_at d (own_of stage addr) rows means p ≡ sends (request_of stage)
-row_of_stage (StartResets mask) d addr rows means p knows at = rw at refl
-row_of_stage (StartReads mask) d addr rows means p knows at = rw at refl
-row_of_stage (StartSets mask) d addr rows means p knows at = rw at refl
-row_of_stage (StopInhibits recorded) d addr rows means p knows at = rw at refl
-row_of_stage (Reads Round recorded) d addr rows means p knows at = rw at refl
-row_of_stage (Reads Stop recorded) d addr rows means p knows at = rw at refl
-row_of_stage (Looks Round recorded read) d addr rows means p knows at = rw at refl
-row_of_stage (Looks Stop recorded read) d addr rows means p knows at = rw at refl
-row_of_stage (IdentAsks question) d addr rows means p knows at =
-    told_first addr (ident_requests d.body) rows means p question at
-row_of_stage (PathSets place path) d addr rows means p knows at = rw at refl
-row_of_stage (PathReads place path) d addr rows means p knows at = rw at refl
-row_of_stage (Pays row) d addr rows means p knows at = row_of_payout row d addr rows means p at knows
+pub first_of_stage : (stage : Stage) (device : Target) (addr : ℕ) (means : Judged) (p : Payment) → RowKnows stage p
+    → Suits stage device → first addr means p (from (stage_ahead device stage) means) ≡ sends (request_of stage)
+first_of_stage (Reads Round recorded) device addr means p knows suits = refl
+first_of_stage (Reads Stop recorded) device addr means p knows suits = refl
+first_of_stage (Looks Round recorded read) device addr means p knows suits = refl
+first_of_stage (Looks Stop recorded read) device addr means p knows suits = refl
+first_of_stage (IdentAsks question) device addr means p knows suits =
+    told_first addr (questions_of device) (place_of question (questions_of device)) means p question suits
+first_of_stage (Pays row) device addr means p knows suits = first_of_payout row device addr means p suits knows
+first_of_stage stage device addr means p knows suits = refl
 
 -- its request fits its bytes
 
 mask_fits : (mask : ℕ) → FitsItsBytes (SetMask mask)
 mask_fits mask number count e = absurd cc
 
-fits_after : (stage : Stage) (d : DeviceSetup) (rows : ℕ) → IsAfter stage d rows → FitsItsBytes (request_of stage)
-fits_after (StartSets mask) d rows at = mask_fits mask
-fits_after (IdentAsks question) d rows at = again_fits question (question_again d.body rows question at)
-fits_after (PathSets place path) d rows at = again_fits _ (set_again place path)
-fits_after (PathReads place path) d rows at = again_fits _ (read_again place)
-fits_after (Pays row) d rows at = payout_fits row d rows at
-fits_after stage d rows at = again_fits (request_of stage) refl
-
--- what is tried again isn't sent once
-
-again_after : (stage : Stage) (d : DeviceSetup) (rows : ℕ) → IsAgain stage → IsAfter stage d rows
-    → is_once (request_of stage) ≡ false
-again_after (StartSets mask) d rows again at = absurd again
-again_after (IdentAsks question) d rows again at = question_again d.body rows question at
-again_after (PathSets place path) d rows again at = set_again place path
-again_after (PathReads place path) d rows again at = read_again place
-again_after (Pays row) d rows again at = payout_again row again
-again_after stage d rows again at = refl
-
--- any answer ends the row of a stage, but for those of a payment or a settlement
-
-abbrev pub IsSettled : Stage → Type 0
-IsSettled (Pays row) = ⊥
-IsSettled stage = ⊤
-
-ends_after : (stage : Stage) (d : DeviceSetup) (rows : ℕ) (y : Reply) → IsSettled stage → IsAfter stage d rows
-    → answer_ends (request_of stage) y ≡ true
-ends_after (IdentAsks question) d rows y settled at = question_ends d.body rows question y at
-ends_after (PathSets place path) d rows y settled at = set_ends place path y
-ends_after (PathReads place path) d rows y settled at = read_ends place y
-ends_after (Pays row) d rows y settled at = absurd settled
-ends_after stage d rows y settled at = refl
+fits_of : (stage : Stage) (device : Target) → Suits stage device → FitsItsBytes (request_of stage)
+fits_of (StartSets mask) device suits = mask_fits mask
+fits_of (IdentAsks question) device suits =
+    again_fits question (question_again device.family (place_of question (questions_of device)) question suits)
+fits_of (PathSets place path) device suits = again_fits _ (set_again place path)
+fits_of (PathReads place path) device suits = again_fits _ (read_again place)
+fits_of (Pays row) device suits = payout_fits row device suits
+fits_of stage device suits = again_fits (request_of stage) refl
 
 -- failed tries
 
@@ -132,87 +109,131 @@ still_knows stage since state owed knows = tt
 
 module _ {d : DeviceSetup} {device : Target} {stage : Stage} {failed : ℕ} {c : Command} {since : List Line}
     {state : EpochState} {owed : Option OpenOrder} (at : Asking d device stage failed c since state owed) where
+  -- the rows that are left beside its epoch
+  left_is : left d c since state ≡ from (stage_ahead device stage) (judged_in c since state)
+  left_is = ap (λ rows. from rows (judged_in c since state)) at.ahead_is
+
   -- what a stage sends
   pub stage_row : row d c since state owed ≡ sends (request_of stage)
   stage_row =
-      ap (λ k. row_at d k (done since) (judged_in c since state) (payment_in since owed)) at.command_is
-      ∙ row_of_stage stage d d.addr (done since) (judged_in c since state) (payment_in since owed)
-      (row_knows stage since state owed at.knows) at.is_after
+      ap (first (address_of c) (judged_in c since state) (payment_in since owed)) left_is
+      ∙ first_of_stage stage device (address_of c) (judged_in c since state) (payment_in since owed)
+      (row_knows stage since state owed at.knows) at.suits
 
   pub stage_fits : FitsItsBytes (request_of stage)
-  stage_fits = fits_after stage d (done since) at.is_after
+  stage_fits = fits_of stage device at.suits
+
+  -- the end that a failed try brings
+  pub failed_end : sent_once (stage_ahead device stage) ≡ false
+      → newest_end d c (exchange (Some (request_of stage)) None ∷ since) state ≡ end_of_tries
+      (tries (header_of (request_of stage)) (exchange (Some (request_of stage)) None ∷ since))
+  failed_end again =
+      ap (λ rows. end_failed rows (tries (header_of (request_of stage)) (exchange (Some (request_of stage)) None ∷ since)))
+      (left_is ∙ from_stage stage device (judged_in c since state))
+      ∙ asked_fails (stage_ahead device stage) _ again
 
   -- it is tried again
-  pub stage_again : (n : ℕ) → IsAgain stage → after_failed failed ≡ Some n
+  pub stage_again : (n : ℕ) → sent_once (stage_ahead device stage) ≡ false → after_failed failed ≡ Some n
       → Asking d device stage n c (exchange (Some (request_of stage)) None ∷ since) state owed
-  stage_again n is_again more =
-      let again = again_after stage d (done since) is_again at.is_after in
+  stage_again n again more =
       let count = one_more_try failed n more at.trying.few in
       let now = tries_now (request_of stage) failed n since at.trying count.0 in
       let not_third : (n == 3) ≡ false = grind (arith, nat_tests, count.1) in
       record {
         device_is = at.device_is;
-        command_is = at.command_is;
-        is_after = rw again at.is_after;
+        is_here = at.is_here;
+        ahead_is = exchange_stays d c since (request_of stage) None _ at.ahead_is (unanswered_ends (stage_ahead device stage) ∙ again);
+        suits = at.suits;
         knows = still_knows stage since state owed at.knows;
         trying = record { counted = now; few = count.1 };
-        goes_on =
-            asked_fails d c since state owed (request_of stage) stage_row again _
-            ∙ ap end_of_tries (sym now)
-            ∙ ap (λ b. cond b (Some NoAnswer) None) not_third;
+        goes_on = failed_end again ∙ ap end_of_tries (sym now) ∙ ap (λ b. cond b (Some NoAnswer) None) not_third;
       }
 
   -- or ends the job after the third failed try
-  pub stage_no_answer : IsAgain stage → after_failed failed ≡ None
+  pub stage_no_answer : sent_once (stage_ahead device stage) ≡ false → after_failed failed ≡ None
       → newest_end d c (exchange (Some (request_of stage)) None ∷ since) state ≡ Some NoAnswer
-  stage_no_answer is_again last =
-      asked_fails d c since state owed (request_of stage) stage_row (again_after stage d (done since) is_again at.is_after) _
+  stage_no_answer again last =
+      failed_end again
       ∙ ap end_of_tries (sym (tries_now (request_of stage) failed 3 since at.trying (sym (third_try failed last))))
 
-  -- so many rows are done then
-  pub rows_after : IsSettled stage → (y : Reply)
-      → done (exchange (Some (request_of stage)) (Some y) ∷ since) ≡ suc (done since)
-  rows_after settled y =
-      ap (λ b. cond b (suc (done since)) (done since)) (ends_after stage d (done since) y settled at.is_after)
+  -- the rows that are left then
+  pub answered_rest : IsSettled stage → (y : Reply)
+      → rest d c (exchange (Some (request_of stage)) (Some y) ∷ since) ≡ but_first (stage_ahead device stage)
+  answered_rest settled y =
+      exchange_moves d c since (request_of stage) (Some y) _ at.ahead_is (answer_ends_first stage device y settled at.suits)
 
-  -- the end that an answer brings, by the rows of the command that are left and what was read
-  pub end_after : (y : Reply)
-      → newest_end d c (exchange (Some (request_of stage)) (Some y) ∷ since) state ≡ end_answered
-      (left d (own_of stage d.addr) since state) y
-      (judged_in (own_of stage d.addr) (exchange (Some (request_of stage)) (Some y) ∷ since) state)
-  end_after y = ap (λ k. end_of d k (exchange (Some (request_of stage)) (Some y)) since state) at.command_is
+  -- the end that an answer brings, by the rows that are left and what was read
+  pub end_after : (q : Request) (y : Reply) → newest_end d c (exchange (Some q) (Some y) ∷ since) state ≡ end_answered
+      (from (stage_ahead device stage) (judged_in c since state)) y (judged_in c (exchange (Some q) (Some y) ∷ since) state)
+  end_after q y = ap (λ rows. end_answered rows y (judged_in c (exchange (Some q) (Some y) ∷ since) state)) left_is
+
+  -- an answer leads on to the next stage
+  pub stage_on : (job : Job) (next : Stage) → job ≡ Asks device next 0 → IsSettled stage → (y : Reply)
+      → but_first (stage_ahead device stage) ≡ stage_ahead device next → Suits next device
+      → Knows next (exchange (Some (request_of stage)) (Some y) ∷ since) state owed
+      → end_answered (from (stage_ahead device stage) (judged_in c since state)) y
+      (judged_in c (exchange (Some (request_of stage)) (Some y) ∷ since) state) ≡ None
+      → Stands d job c (exchange (Some (request_of stage)) (Some y) ∷ since) state owed
+  stage_on job next begun settled y rows suits knows on =
+      subst (λ j. Stands d j c (exchange (Some (request_of stage)) (Some y) ∷ since) state owed) (sym begun)
+      (record {
+        device_is = at.device_is;
+        is_here = at.is_here;
+        ahead_is = answered_rest settled y ∙ rows;
+        suits = suits;
+        knows = knows;
+        trying = record { counted = refl; few = omega arith };
+        goes_on = end_after (request_of stage) y ∙ on;
+      })
+
+-- the credits that a round or a stop reads end it never
+pub read_on : (visit : Visit) (device : Target) (y : Reply) (meant means : Judged)
+    → end_answered (from (visit_ahead device visit) meant) y means ≡ None
+read_on Round device y meant means = refl
+read_on Stop device y meant means = refl
+
+-- after them it looks at its inhibit mask
+pub look_next : (visit : Visit) (device : Target) → but_first (visit_ahead device visit) ≡ after (visit_ahead device visit) 1
+look_next Round device = refl
+look_next Stop device = refl
 
 -- the questions of an identification
 
 module _ {d : DeviceSetup} {device : Target} {question : Request} {failed : ℕ} {c : Command} {since : List Line}
     {state : EpochState} {owed : Option OpenOrder} (at : Asking d device (IdentAsks question) failed c since state owed)
   where
-    next_is : slice_get (ident_requests d.body) (suc (done since)) ≡ question_after device.is_acceptor question
-    next_is =
-        next_question d.body (done since) question at.is_after
-        ∙ ap (λ (t : Target). question_after t.is_acceptor question) (sym at.device_is)
+    next_is : slice_get (questions_of device) (suc (place_of question (questions_of device))) ≡ question_after
+        device.family question
+    next_is = next_question device.family (place_of question (questions_of device)) question at.suits
 
-    pub ident_on : (next : Request) (y : Reply) → question_after device.is_acceptor question ≡ Some next
+    pub ident_on : (next : Request) (y : Reply) → question_after device.family question ≡ Some next
         → Asking d device (IdentAsks next) 0 c (exchange (Some question) (Some y) ∷ since) state owed
     ident_on next y e =
-        let more : slice_get (ident_requests d.body) (suc (done since)) ≡ Some next = next_is ∙ e in
+        let n = place_of question (questions_of device) in
+        let more : slice_get (questions_of device) (suc n) ≡ Some next = next_is ∙ e in
+        let place : place_of next (questions_of device) ≡ suc n = placed device.family (suc n) next more in
         record {
           device_is = at.device_is;
-          command_is = at.command_is;
-          is_after = ap (slice_get (ident_requests d.body)) (rows_after at tt y) ∙ more;
+          is_here = at.is_here;
+          ahead_is =
+              answered_rest at tt y
+              ∙ sym (after_next (telling (questions_of device)) n)
+              ∙ ap (after (telling (questions_of device))) (sym place);
+          suits = ap (slice_get (questions_of device)) place ∙ more;
           knows = tt;
           trying = record { counted = refl; few = omega arith };
-          goes_on = end_after at y
-              ∙ told_end (ident_requests d.body) (done since) _ y _ question at.is_after
-              ∙ ap (λ b. cond b (Some Told) None) (question_within (ident_requests d.body) (suc (done since)) next more);
+          goes_on = end_after at question y
+              ∙ told_end (questions_of device) n _ y _ question at.suits
+              ∙ ap (λ b. cond b (Some Told) None) (question_within (questions_of device) (suc n) next more);
         }
 
-    pub ident_told : (y : Reply) → question_after device.is_acceptor question ≡ None
+    pub ident_told : (y : Reply) → question_after device.family question ≡ None
         → newest_end d c (exchange (Some question) (Some y) ∷ since) state ≡ Some Told
     ident_told y e =
-        let all : length (ident_requests d.body) ≡ suc (done since) =
-        last_question (ident_requests d.body) (done since) question at.is_after (next_is ∙ e) in
-        end_after at y ∙ told_end (ident_requests d.body) (done since) _ y _ question at.is_after
+        let n = place_of question (questions_of device) in
+        let all : length (questions_of device) ≡ suc n =
+        last_question (questions_of device) n question at.suits (next_is ∙ e) in
+        end_after at question y ∙ told_end (questions_of device) n _ y _ question at.suits
         ∙ ap (λ b. cond b (Some Told) None) (eq-eqb _ _ all)
 
 -- the line of an answer, by the stage and the reply

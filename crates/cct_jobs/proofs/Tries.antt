@@ -1,5 +1,5 @@
 -- What the definitions say of failed tries.
-use Rattle.std.proofs.Common.{◌≡◌, ◌≢◌, ◌↔◌, ℕ, suc, ◌==◌, Bool, true, false, cond, List, ◌∷◌, refl, ap, ◌∙◌, Some, None, arith, Option, subst, rules, sym, []}
+use Rattle.std.proofs.Common.{◌≡◌, ◌≢◌, ◌↔◌, ℕ, suc, ◌==◌, Bool, true, false, cond, List, ◌∷◌, refl, ap, ◌∙◌, Some, None, arith, Option, subst, rules, sym, [], true≢false}
 use Rattle.std.proofs.lemmas.Bool.{eqb-true, ne_eqb}
 use Rattle.cct_model.specs.lines.command.Command.{Command}
 use Rattle.cct_model.specs.lines.command.Command.TheVariants as command
@@ -10,13 +10,15 @@ use Rattle.cct_model.specs.terms.request.Request.{Request}
 use Rattle.cct_model.specs.terms.request.Request.TheVariants.{SetMask, SetDefault, GetDefault, SetPath, GetPath}
 use Rattle.cct_model.specs.declared.judging.EpochState.{EpochState}
 use Rattle.cct_model.specs.declared.judging.Judged.{Judged}
-use Rattle.cct_model.specs.Job.{end_of_tries, ident_requests, is_once, judged_in, tries, Payment, sends, address_of, state_row, payment_in}
-use Rattle.cct_model.specs.Rows.{end_of, TableRow, Then, asks_for, telling, rows_of, first, row, ends_as, goes_on, asks_once, path_told, end_failed, end_bare, puts_due, left, waits_for_coins}
+use Rattle.cct_model.specs.Job.{end_of_tries, ident_requests, judged_in, tries, Payment, sends, address_of, state_row, payment_in}
+use Rattle.cct_model.specs.Rows.{end_of, TableRow, Then, asks_for, telling, rows_of, first, row, ends_as, goes_on, asks_once, path_told, end_failed, end_bare, puts_due, left, sent_once, waits_for_coins}
 use Rattle.cct_model.specs.Line.{Line, exchange}
 use Rattle.cct_model.specs.Reply.{Reply}
 use Rattle.cct_model.specs.Request.{header_of}
+use Rattle.cct_jobs.specs.Jobs.{is_once}
 use Rattle.cct_jobs.proofs.Stages.{tried}
-use Rattle.cct_model.proofs.Rows.{Each, EachRow, IfEnd, answer_end, each_left}
+use Rattle.cct_model.proofs.RowEnds.{IfOnce, once_sent}
+use Rattle.cct_model.proofs.Rows.{Each, EachRow, IfEnd, answer_end, each_left, each_told}
 use Rattle.cct_model.specs.declared.judging.OpenOrder.{OpenOrder}
 use Rattle.cct_model.specs.terms.device.DeviceBody.TheVariants.{Acceptor, Hopper}
 use Rattle.std.specs.Prelude.{⊤}
@@ -29,12 +31,31 @@ cond_some false e = absurd cc
 by_tries : (failed : ℕ) → end_of_tries failed ≡ Some NoAnswer → failed ≡ 3
 by_tries failed e = eqb-true _ _ (cond_some (failed == 3) e)
 
+-- what the table sends once is such a request
+sends_once : (d : DeviceSetup) (c : Command) → EachRow (IfOnce (λ q. is_once q ≡ true)) (rows_of d c)
+sends_once d (command.Ident addr) =
+    each_told (IfOnce (λ q. is_once q ≡ true)) (λ q. tt) (λ q. tt) (ident_requests d.body)
+sends_once d c = search rules
+
+fails_by_tries : (d : DeviceSetup) (c : Command) (q : Request) (since : List Line) (state : EpochState)
+    (owed : Option OpenOrder) → row d c since state owed ≡ sends q → is_once q ≡ false → (failed : ℕ)
+    → end_failed (left d c since state) failed ≡ end_of_tries failed
+fails_by_tries d c q since state owed is again failed = by_once (sent_once (left d c since state)) refl
+  where
+    by_once : (once : Bool) → sent_once (left d c since state) ≡ once
+        → end_failed (left d c since state) failed ≡ end_of_tries failed
+    by_once true once =
+        absurd (true≢false (sym (once_sent (λ x. is_once x ≡ true) (address_of c) (judged_in c since state)
+        (payment_in since owed) (left d c since state) q is once
+        (each_left (IfOnce (λ x. is_once x ≡ true)) d c since state (sends_once d c))) ∙ again))
+    by_once false other = asked_fails (left d c since state) failed other
+
 -- the third failed try of what is sent again ends a job, and no other does
 pub third_ends : (d : DeviceSetup) (c : Command) (q : Request) (since : List Line) (state : EpochState)
     (owed : Option OpenOrder) → row d c since state owed ≡ sends q → is_once q ≡ false
     → (end_of d c (exchange (Some q) None) since state ≡ Some NoAnswer) ↔ (tries (header_of q) since ≡ 2)
 third_ends d c q since state owed is again =
-    let fails = asked_fails d c since state owed q is again in (
+    let fails = fails_by_tries d c q since state owed is again in (
       λ ends.
           let all : tries (header_of q) (exchange (Some q) None ∷ since) ≡ 3 = by_tries _ (sym (fails _) ∙ ends) in
           let more = tried q since in

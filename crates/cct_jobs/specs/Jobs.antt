@@ -1,5 +1,5 @@
 -- What a job sends or puts, and the lines of a device that it stands for, newest first.
-use Rattle.std.specs.Prelude.{◌≡◌, ◌≢◌, ◌<◌, ◌==◌, ◌^◌, nat_lt, ℕ, suc, ⊤, Bool, true, false, List, [], ◌∷◌, if◌then◌else◌, Option, Some, None, is_some, IsTrue, option_and_then, slice_get}
+use Rattle.std.specs.Prelude.{◌≡◌, ◌<◌, ◌==◌, ◌^◌, nat_lt, ℕ, suc, ⊤, Bool, true, false, List, [], ◌∷◌, if◌then◌else◌, Option, Some, None, is_some, IsTrue, option_and_then, slice_get}
 use Rattle.std.specs.Option.{option_map}
 use Rattle.cct_model.specs.terms.wire.CheckKind.{CheckKind}
 use Rattle.cct_model.specs.terms.wire.CheckKind.TheVariants.{Simple, Crc}
@@ -7,6 +7,8 @@ use Rattle.cct_model.specs.terms.coin.TheConstants.{COIN_PLACES}
 use Rattle.cct_model.specs.terms.device.DeviceSetup.{DeviceSetup}
 use Rattle.cct_model.specs.terms.request.TheConstants.{ENABLE_CODE}
 use Rattle.cct_model.specs.terms.request.ReplyForm.{ReplyForm}
+use Rattle.cct_model.specs.terms.family.Family.{Family}
+use Rattle.cct_model.specs.terms.family.Family.TheVariants as family
 use Rattle.cct_model.specs.terms.request.Request.{Request}
 use Rattle.cct_model.specs.terms.request.Request.TheVariants.{MakerId, Category, ProductCode, SerialNumber, SoftwareRevision, BuildCode, CommsRevision, ResetDevice, SetMask, GetMask, SetMaster, GetMaster, ReadCredits, GetDefault, CoinId, AcceptCount, TestHopper, Enable, Dispense, GetStatus, GetLife, StopNow}
 use Rattle.cct_model.specs.lines.record.Record.{Record}
@@ -25,34 +27,32 @@ use Rattle.cct_model.specs.Request.{header_of, form_of}
 use Rattle.cct_model.specs.Reply.{Reply}
 use Rattle.cct_model.specs.Reply as reply
 use Rattle.cct_model.specs.Exchange.{asked, device_at, got, acceptor_there, hopper_there}
-use Rattle.cct_model.specs.Device.{is_acceptor}
+use Rattle.cct_model.specs.Family.{family_of}
 use Rattle.cct_model.specs.Line.{Line, exchange}
-use Rattle.cct_model.specs.Job.{address_of, sends, puts, credits_read, done, tries, ident_requests, path_set, path_read}
-use Rattle.cct_model.specs.Rows.{end_kept, end_of, rest, row}
-use Rattle.cct_model.specs.Order.{close, is_marked}
+use Rattle.cct_model.specs.Job.{address_of, sends, puts, credits_read, tries, path_set, path_read}
+use Rattle.cct_model.specs.Rows.{end_kept, end_of, left, rest, row}
+use Rattle.cct_model.specs.Order.{close, is_marked, life_read}
 use Rattle.cct_model.specs.Scan.{poll_of}
 use Rattle.cct_model.specs.Transcript.{got_by, opened_at, owner}
 use Rattle.cct_record.specs.Body.{Encodable}
 use Rattle.cct_jobs.specs.declared.target.Target.{Target}
 use Rattle.cct_jobs.specs.declared.owed.Owed.{Owed}
 use Rattle.cct_jobs.specs.declared.payout.Closing.{Closing}
-use Rattle.cct_jobs.specs.declared.payout.Closing.TheVariants as closing_of
 use Rattle.cct_jobs.specs.declared.payout.Payout.{Payout}
 use Rattle.cct_jobs.specs.declared.payout.Payout.TheVariants.{Enables, Counts, Dispenses, Waits, Stops, Recounts}
 use Rattle.cct_jobs.specs.declared.stage.Recorded.{Recorded}
-use Rattle.cct_jobs.specs.declared.stage.Visit.{Visit}
-use Rattle.cct_jobs.specs.declared.stage.Visit.TheVariants as visit_of
 use Rattle.cct_jobs.specs.declared.stage.Stage.{Stage}
 use Rattle.cct_jobs.specs.declared.stage.Stage.TheVariants.{StartResets, StartReads, StartSets, StopInhibits, Reads, Looks, IdentAsks, PathSets, PathReads, Pays}
 use Rattle.cct_jobs.specs.declared.job.Sending.{Sending}
 use Rattle.cct_jobs.specs.declared.job.Need.{Need}
 use Rattle.cct_jobs.specs.declared.job.Need.TheVariants as need
 use Rattle.cct_jobs.specs.declared.job.Job.{Job}
+use Rattle.cct_jobs.specs.Ahead.{ahead, place_of, questions_of, stage_ahead}
 use Rattle.cct_jobs.specs.declared.job.Job.TheVariants.{Asks, StartPuts, RoundPuts, StopPuts, StopEnds, OrderOpens, OrderCloses, SalePuts, ScanCallsSimple, ScanCallsCrc, ScanPollsSimple, ScanPollsCrc, Done}
 
 -- What a job knows of a device.
 abbrev pub target_of : DeviceSetup → Target
-target_of d = record { addr = d.addr; kind = d.kind; is_acceptor = is_acceptor d.body; serial = d.serial }
+target_of d = record { addr = d.addr; kind = d.kind; family = family_of d.body; serial = d.serial }
 
 -- The request that a row of a payment or a settlement sends.
 abbrev pub payout_request : Payout → Request
@@ -62,6 +62,12 @@ payout_request (Dispenses serial own halted) = Dispense serial own.order.count
 payout_request (Waits closing own) = GetStatus
 payout_request (Stops closing own) = StopNow
 payout_request (Recounts closing own) = GetLife
+
+-- A request that is sent once, whatever is heard of it: one that lets coins in, and one that pays coins out.
+abbrev pub is_once : Request → Bool
+is_once (SetMask mask) = true
+is_once (Dispense serial count) = true
+is_once q = false
 
 -- The request that a stage sends.
 abbrev pub request_of : Stage → Request
@@ -95,82 +101,6 @@ abbrev pub IsOfPath : Stage → Type 0
 IsOfPath (PathSets place path) = ⊤
 IsOfPath (PathReads place path) = ⊤
 IsOfPath stage = ⊥
-
--- A row of a payment or a settlement is tried again, but for a dispense.
-abbrev pub IsPayoutAgain : Payout → Type 0
-IsPayoutAgain (Dispenses serial own halted) = ⊥
-IsPayoutAgain row = ⊤
-
--- A stage is tried again, but for the mask of a start and a dispense.
-abbrev pub IsAgain : Stage → Type 0
-IsAgain (StartSets mask) = ⊥
-IsAgain (Pays row) = IsPayoutAgain row
-IsAgain stage = ⊤
-
--- The command whose job reads an acceptor at an address.
-abbrev pub visiting : Visit → ℕ → Command
-visiting visit_of.Round addr = command.Round addr
-visiting visit_of.Stop addr = command.Stop addr
-
--- The command whose job closes an order, at an address: its payment, or a settlement.
-abbrev pub closing_by : Closing → OpenOrder → ℕ → Command
-closing_by closing_of.Payment o addr = command.Pay addr o.id o.count
-closing_by closing_of.Settlement o addr = command.Settle addr
-
--- The command whose job has a row of a payment or a settlement, at an address.
-abbrev pub payout_by : Payout → ℕ → Command
-payout_by (Enables id count halted) addr = command.Pay addr id count
-payout_by (Counts id count halted) addr = command.Pay addr id count
-payout_by (Dispenses serial own halted) addr = command.Pay addr own.order.id own.order.count
-payout_by (Waits closing own) addr = closing_by closing own.order addr
-payout_by (Stops closing own) addr = closing_by closing own.order addr
-payout_by (Recounts closing own) addr = closing_by closing own.order addr
-
--- The command whose job has a stage, at an address.
-abbrev pub own_of : Stage → ℕ → Command
-own_of (StartResets mask) addr = command.Start addr mask
-own_of (StartReads mask) addr = command.Start addr mask
-own_of (StartSets mask) addr = command.Start addr mask
-own_of (StopInhibits recorded) addr = command.Stop addr
-own_of (Reads visit recorded) addr = visiting visit addr
-own_of (Looks visit recorded read) addr = visiting visit addr
-own_of (IdentAsks question) addr = command.Ident addr
-own_of (PathSets place path) addr = command.Path addr place path
-own_of (PathReads place path) addr = command.Path addr place path
-own_of (Pays row) addr = payout_by row addr
-
--- How many rows are done before an acceptor's credits are read: a stop inhibits its coins before.
-abbrev pub rows_before : Visit → ℕ
-rows_before visit_of.Round = 0
-rows_before visit_of.Stop = 1
-
--- How many rows are done before an order is settled: a payment let the hopper dispense before.
-abbrev pub rows_paid : Closing → ℕ
-rows_paid closing_of.Payment = 4
-rows_paid closing_of.Settlement = 0
-
--- A row of a payment or a settlement is the one after so many; a dispense is to the hopper's own serial number, which
--- fits its three bytes.
-abbrev pub IsAfterPayout : Payout → DeviceSetup → ℕ → Type 0
-IsAfterPayout (Enables id count halted) d rows = (rows ≡ 0) × (d.serial < 2 ^ 24)
-IsAfterPayout (Counts id count halted) d rows = (rows ≡ 1) × (d.serial < 2 ^ 24)
-IsAfterPayout (Dispenses serial own halted) d rows = (rows ≡ 3) × (d.serial < 2 ^ 24) × (serial ≡ d.serial)
-IsAfterPayout (Waits closing own) d rows = rows ≡ rows_paid closing
-IsAfterPayout (Stops closing own) d rows = rows ≡ rows_paid closing
-IsAfterPayout (Recounts closing own) d rows = rows ≡ suc (rows_paid closing)
-
--- A stage is the one after so many rows of its job.
-abbrev pub IsAfter : Stage → DeviceSetup → ℕ → Type 0
-IsAfter (StartResets mask) d rows = rows ≡ 0
-IsAfter (StartReads mask) d rows = rows ≡ 1
-IsAfter (StartSets mask) d rows = rows ≡ 3
-IsAfter (StopInhibits recorded) d rows = rows ≡ 0
-IsAfter (Reads visit recorded) d rows = rows ≡ rows_before visit
-IsAfter (Looks visit recorded read) d rows = rows ≡ suc (rows_before visit)
-IsAfter (IdentAsks question) d rows = slice_get (ident_requests d.body) rows ≡ Some question
-IsAfter (PathSets place path) d rows = rows ≡ 0
-IsAfter (PathReads place path) d rows = rows ≡ 1
-IsAfter (Pays row) d rows = IsAfterPayout row d rows
 
 -- A poll of an address under a check.
 abbrev pub asks_at : CheckKind → ℕ → Sending
@@ -266,99 +196,6 @@ owed_after (OrderOpens device own halted) before = Some own
 owed_after (OrderCloses entry end) before = None
 owed_after job before = before
 
--- How many records the reading of an acceptor still leads to: a stop puts the epoch's end too.
-abbrev pub visit_puts : Visit → ℕ
-visit_puts visit_of.Round = 1
-visit_puts visit_of.Stop = 2
-
--- How many records a payment or a settlement may still put, by its row.
-abbrev pub payout_puts : Payout → ℕ
-payout_puts (Enables id count halted) = 2
-payout_puts (Counts id count halted) = 2
-payout_puts row = 1
-
--- How many records a job may still put, by its stage.
-abbrev pub stage_puts : Stage → ℕ
-stage_puts (StartResets mask) = 1
-stage_puts (StartReads mask) = 1
-stage_puts (StopInhibits recorded) = 2
-stage_puts (Reads visit recorded) = visit_puts visit
-stage_puts (Looks visit recorded read) = visit_puts visit
-stage_puts (Pays row) = payout_puts row
-stage_puts stage = 0
-
--- How many records a job may still put.
-abbrev pub may_put_of : Job → ℕ
-may_put_of (Asks device stage failed) = stage_puts stage
-may_put_of (StartPuts device mask) = 1
-may_put_of (RoundPuts entry end) = 1
-may_put_of (StopPuts device entry end) = 2
-may_put_of (StopEnds device) = 1
-may_put_of (OrderOpens device own halted) = 2
-may_put_of (OrderCloses entry end) = 1
-may_put_of (SalePuts id price) = 1
-may_put_of job = 0
-
--- How many records the job of a command may put in all.
-abbrev pub records_of : Command → ℕ
-records_of (command.Start addr mask) = 1
-records_of (command.Round addr) = 1
-records_of (command.Stop addr) = 2
-records_of (command.Pay addr id count) = 2
-records_of (command.Settle addr) = 1
-records_of (command.Vend id price) = 1
-records_of c = 0
-
--- A stage is one of a payment or a settlement.
-abbrev pub stage_closes : Stage → Bool
-stage_closes (Pays row) = true
-stage_closes stage = false
-
--- A job is a payment or a settlement, which is at work to close an order.
-abbrev pub closes_order : Job → Bool
-closes_order (Asks device stage failed) = stage_closes stage
-closes_order (OrderOpens device own halted) = true
-closes_order (OrderCloses entry end) = true
-closes_order job = false
-
--- A command is one whose job is at work to close an order.
-abbrev pub is_closing : Command → Bool
-is_closing (command.Pay addr id count) = true
-is_closing (command.Settle addr) = true
-is_closing c = false
-
--- How many coins a payment reserves that hasn't opened its order yet, by its row.
-abbrev pub payout_reserves : Payout → ℕ
-payout_reserves (Enables id count halted) = count
-payout_reserves (Counts id count halted) = count
-payout_reserves row = 0
-
--- How many coins a job reserves, by its stage.
-abbrev pub stage_reserves : Stage → ℕ
-stage_reserves (Pays row) = payout_reserves row
-stage_reserves stage = 0
-
--- How many coins a job reserves: those of the order that a payment is still to open.
-abbrev pub coins_reserved : Job → ℕ
-coins_reserved (Asks device stage failed) = stage_reserves stage
-coins_reserved (OrderOpens device own halted) = own.order.count
-coins_reserved job = 0
-
--- How many coins a command asks to pay.
-abbrev pub coins_asked : Command → ℕ
-coins_asked (command.Pay addr id count) = count
-coins_asked c = 0
-
--- What a job reserves besides coins: the price of a sale that is still to be put.
-abbrev pub price_reserved : Job → ℕ
-price_reserved (SalePuts id price) = price
-price_reserved job = 0
-
--- The price that a command asks.
-abbrev pub price_asked : Command → ℕ
-price_asked (command.Vend id price) = price
-price_asked c = 0
-
 -- The record that a job is about to put, if it is about to put one, can be spelt in a journal.
 abbrev pub PutsFit : Job → Type 0
 PutsFit (RoundPuts entry end) = Encodable entry
@@ -380,22 +217,6 @@ runs recorded = Running recorded.mask recorded.counter
 abbrev pub IsRunning : EpochState → Type 0
 IsRunning Idle = ⊥
 IsRunning (Running mask counter) = ⊤
-
--- A row of a payment or a settlement at which it can be halted: each up to the one that waits for the last coin.
-abbrev pub payout_halts : Payout → Bool
-payout_halts (Recounts closing own) = false
-payout_halts row = true
-
--- A stage at which a job can be halted.
-abbrev pub stage_halts : Stage → Bool
-stage_halts (Pays row) = payout_halts row
-stage_halts stage = false
-
--- A job can be halted.
-abbrev pub halts : Job → Bool
-halts (Asks device stage failed) = stage_halts stage
-halts (OrderOpens device own halted) = true
-halts job = false
 
 -- The row of a payment or a settlement after a halt: the hopper is to be stopped before it is asked how the payout
 -- goes.
@@ -465,20 +286,25 @@ line_heard d sent heard = exchange (asked d.kind sent) (got_by d sent heard)
 abbrev pub after_failed : ℕ → Option ℕ
 after_failed failed = if suc failed == 3 then None else Some (suc failed)
 
--- The question that follows one of an identification, of an acceptor or of a hopper, or none after the last.
-abbrev pub question_after : Bool → Request → Option Request
-question_after is_acceptor MakerId = Some Category
-question_after is_acceptor Category = Some ProductCode
-question_after is_acceptor ProductCode = Some SerialNumber
-question_after is_acceptor SerialNumber = Some SoftwareRevision
-question_after is_acceptor SoftwareRevision = Some BuildCode
-question_after is_acceptor BuildCode = Some CommsRevision
-question_after is_acceptor CommsRevision = if is_acceptor then Some GetMaster else Some TestHopper
-question_after is_acceptor GetMaster = Some GetDefault
-question_after is_acceptor GetDefault = Some AcceptCount
-question_after is_acceptor AcceptCount = Some (CoinId 1)
-question_after is_acceptor (CoinId place) = if nat_lt place COIN_PLACES then Some (CoinId (suc place)) else None
-question_after is_acceptor q = None
+-- What is asked first of a device of a family that other families don't tell.
+abbrev pub first_own_question : Family → Request
+first_own_question family.Acceptor = GetMaster
+first_own_question family.Hopper = TestHopper
+
+-- The question that follows one of an identification of a device of a family, or none after the last.
+abbrev pub question_after : Family → Request → Option Request
+question_after family MakerId = Some Category
+question_after family Category = Some ProductCode
+question_after family ProductCode = Some SerialNumber
+question_after family SerialNumber = Some SoftwareRevision
+question_after family SoftwareRevision = Some BuildCode
+question_after family BuildCode = Some CommsRevision
+question_after family CommsRevision = Some (first_own_question family)
+question_after family GetMaster = Some GetDefault
+question_after family GetDefault = Some AcceptCount
+question_after family AcceptCount = Some (CoinId 1)
+question_after family (CoinId place) = if nat_lt place COIN_PLACES then Some (CoinId (suc place)) else None
+question_after family q = None
 
 -- The end that the newest line brought to a job, and none before its first line.
 abbrev pub newest_end : DeviceSetup → Command → List Line → EpochState → Option End
@@ -510,60 +336,74 @@ Knows (Looks visit recorded read) since state owed = (state ≡ runs recorded) �
 Knows (Pays row) since state owed = KnowsPayout row since owed
 Knows stage since state owed = ⊤
 
--- A job at a stage: it is of the stage's command and after its rows, and its newest line didn't end it.
+-- What a stage of a job has that only its device can tell it: a payment's serial number fits its three bytes, and a
+-- dispense is to the hopper's own; a question is one of those that the device is asked.
+abbrev pub SuitsPayout : Payout → Target → Type 0
+SuitsPayout (Enables id count halted) device = device.serial < 2 ^ 24
+SuitsPayout (Counts id count halted) device = device.serial < 2 ^ 24
+SuitsPayout (Dispenses serial own halted) device = (device.serial < 2 ^ 24) × (serial ≡ device.serial)
+SuitsPayout row device = ⊤
+
+abbrev pub Suits : Stage → Target → Type 0
+Suits (IdentAsks question) device =
+    slice_get (questions_of device) (place_of question (questions_of device)) ≡ Some question
+Suits (Pays row) device = SuitsPayout row device
+Suits stage device = ⊤
+
+-- A job at a stage: the rows of its command that are left are those that it has ahead, and its newest line didn't end it.
 pub record Asking (d : DeviceSetup) (device : Target) (stage : Stage) (failed : ℕ) (c : Command) (since : List Line)
     (state : EpochState) (owed : Option OpenOrder) : Type 0 where
   pub device_is : device ≡ target_of d
-  pub command_is : c ≡ own_of stage d.addr
-  pub is_after : IsAfter stage d (done since)
+  pub is_here : address_of c ≡ d.addr
+  pub ahead_is : rest d c since ≡ stage_ahead device stage
+  pub suits : Suits stage device
   pub knows : Knows stage since state owed
   pub trying : Trying (request_of stage) failed since
   pub goes_on : newest_end d c since state ≡ None
 
--- A job of a command puts a record, which ends it so, or doesn't.
-pub record Putting (d : DeviceSetup) (own : Command) (entry : Record) (end : Option End) (c : Command)
+-- A job puts a record, which ends it so, or doesn't: the rows that are left beside its epoch are those that it has ahead.
+pub record Putting (d : DeviceSetup) (job : Job) (entry : Record) (end : Option End) (c : Command)
     (since : List Line) (state : EpochState) (owed : Option OpenOrder) : Type 0 where
-  pub command_is : c ≡ own
+  pub is_here : address_of c ≡ d.addr
+  pub ahead_is : left d c since state ≡ ahead job
   pub row_is : row d c since state owed ≡ puts entry
-  pub ends : end_kept (rest d own since) entry ≡ end
+  pub ends : end_kept (rest d c since) entry ≡ end
   pub goes_on : newest_end d c since state ≡ None
 
 -- A payment puts that its order is opened at the device, with the life count that it read.
 pub record Opening (d : DeviceSetup) (device : Target) (own : Owed) (halted : Bool) (c : Command) (since : List Line)
     (state : EpochState) (owed : Option OpenOrder) : Type 0 where
   pub device_is : device ≡ target_of d
-  pub serial : d.serial < 2 ^ 24
-  pub rows_are : done since ≡ 2
+  pub serial : device.serial < 2 ^ 24
+  pub rest_is : rest d c since ≡ ahead (OrderOpens device own halted)
   pub marked : is_marked since ≡ halted
+  pub read : life_read since ≡ Some own.order.life
   pub is_here : own.order.addr ≡ d.addr
-  pub at : Putting d (command.Pay d.addr own.order.id own.order.count) (opened_by own.order) None c since state owed
+  pub at : Putting d (OrderOpens device own halted) (opened_by own.order) None c since state owed
 
 -- A payment or a settlement puts the record that closes the open order with the life count that it read, and ends so.
 pub record Settling (d : DeviceSetup) (entry : Record) (end : End) (c : Command) (since : List Line)
     (state : EpochState) (owed : Option OpenOrder) : Type 0 where
-  pub closing : Closing
   pub order : OpenOrder
   pub life : ℕ
-  pub rows_are : done since ≡ suc (suc (rows_paid closing))
-  pub owed_is : owed ≡ Some order
   pub closes : entry ≡ close order life
-  pub at : Putting d (closing_by closing order d.addr) entry (Some end) c since state owed
+  pub at : Putting d (OrderCloses entry end) entry (Some end) c since state owed
 
 -- A job stands for the lines of a device since its command was taken, beside the epoch and the open order: each variant
--- is at its row.
+-- is at its row. A job that puts something and then goes on has just its own rows to come.
 abbrev pub Stands : DeviceSetup → Job → Command → List Line → EpochState → Option OpenOrder → Type 0
 Stands d (Asks device stage failed) c since state owed = Asking d device stage failed c since state owed
 Stands d (StartPuts device mask) c since state owed =
-    (device ≡ target_of d) × (done since ≡ 2)
-    × Putting d (command.Start d.addr mask) (record_of.Epoch d.addr mask) None c since state owed
+    (device ≡ target_of d) × (rest d c since ≡ ahead (StartPuts device mask))
+    × Putting d (StartPuts device mask) (record_of.Epoch d.addr mask) None c since state owed
 Stands d (RoundPuts entry end) c since state owed =
-    Putting d (command.Round d.addr) entry (Some end) c since state owed
+    Putting d (RoundPuts entry end) entry (Some end) c since state owed
 Stands d (StopPuts device entry end) c since state owed =
-    (device ≡ target_of d) × (done since ≡ 3) × (end ≢ Some Stopped)
-    × Putting d (command.Stop d.addr) entry end c since state owed
+    (device ≡ target_of d) × (rest d c since ≡ ahead (StopPuts device entry end))
+    × Putting d (StopPuts device entry end) entry end c since state owed
 Stands d (StopEnds device) c since state owed =
     (device ≡ target_of d)
-    × Putting d (command.Stop d.addr) (record_of.EpochEnd d.addr) (Some Stopped) c since state owed
+    × Putting d (StopEnds device) (record_of.EpochEnd d.addr) (Some Stopped) c since state owed
 Stands d (OrderOpens device own halted) c since state owed = Opening d device own halted c since state owed
 Stands d (OrderCloses entry end) c since state owed = Settling d entry end c since state owed
 Stands d (Done end) c since state owed = newest_end d c since state ≡ Some end

@@ -1,3 +1,4 @@
+pub mod Ahead
 pub mod Jobs
 pub mod Scans
 pub mod Sales

@@ -1,5 +1,5 @@
 //! What a job hears from the device that it asked: the wanted reply, or a failed try.
-ghost use Rattle.std.specs.Prelude.{Option, ◌≡◌, ◌≤◌, List, ℕ, ◌∷◌, Some, None, true};
+ghost use Rattle.std.specs.Prelude.{Option, ◌≡◌, ◌≤◌, List, ℕ, ◌∷◌, Some, None, true, false};
 ghost use Rattle.cct_model.specs.lines.command.Command.{Command};
 ghost use Rattle.cct_model.specs.terms.device.DeviceSetup.{DeviceSetup};
 ghost use Rattle.cct_model.specs.declared.judging.EpochState.{EpochState};
@@ -10,8 +10,9 @@ ghost use Rattle.cct_model.specs.Reply.{reply_shown};
 ghost use Rattle.cct_model.specs.Request.{form_of};
 ghost use Rattle.cct_msg.specs.Forms.{form_shown};
 ghost use Rattle.cct_jobs.specs.declared.stage.Stage.TheVariants.{Pays};
-ghost use Rattle.cct_jobs.specs.Jobs.{closes_order, coins_reserved, payout_puts, payout_request, payout_reserves, stage_closes, stage_reserves};
-ghost use Rattle.cct_jobs.specs.Jobs.{Asking, FitsLife, IsAgain, PutsFit, Stands, line_heard, may_put_of, request_of, stage_puts};
+ghost use Rattle.cct_model.specs.Rows.{has_closes, puts_in, sent_once};
+ghost use Rattle.cct_jobs.specs.Ahead.{ahead, coins_in, payout_ahead, stage_ahead};
+ghost use Rattle.cct_jobs.specs.Jobs.{Asking, FitsLife, PutsFit, Stands, line_heard, payout_request, request_of};
 
 use crate::job::Job;
 use crate::payout::Payout;
@@ -37,10 +38,11 @@ pub(crate) fn heard(device: Target, stage: Stage, failed: u8, sent: &[u8], heard
         (owed : Option OpenOrder) → Asking d device stage failed c since state owed
         → sent.now ≡ ask d.kind d.addr (request_of stage)
         → Stands d result c (line_heard d sent.now heard.now ∷ since) state owed }
-    ensures may_put { may_put_of result ≤ stage_puts stage }
+    ensures may_put { puts_in (ahead result) ≤ puts_in (stage_ahead device stage) }
     ensures fits { PutsFit result }
-    ensures closes { stage_closes stage ≡ true → 1 ≤ may_put_of result → closes_order result ≡ true }
-    ensures reserves { coins_reserved result ≤ stage_reserves stage }
+    ensures closes { has_closes (stage_ahead device stage) ≡ true → 1 ≤ puts_in (ahead result)
+        → has_closes (ahead result) ≡ true }
+    ensures reserves { coins_in (ahead result) ≤ coins_in (stage_ahead device stage) }
 {
     match device.reply(stage.wanted(), sent, heard) {
         Some(reply) => answered(device, stage, &reply),
@@ -54,10 +56,11 @@ fn unanswered(device: Target, stage: Stage, failed: u8) -> Job
     ensures device { (d : DeviceSetup) (c : Command) (since : List Line) (state : EpochState)
         (owed : Option OpenOrder) → Asking d device stage failed c since state owed
         → Stands d result c (exchange (Some (request_of stage)) None ∷ since) state owed }
-    ensures may_put { may_put_of result ≤ stage_puts stage }
+    ensures may_put { puts_in (ahead result) ≤ puts_in (stage_ahead device stage) }
     ensures fits { PutsFit result }
-    ensures closes { stage_closes stage ≡ true → 1 ≤ may_put_of result → closes_order result ≡ true }
-    ensures reserves { coins_reserved result ≤ stage_reserves stage }
+    ensures closes { has_closes (stage_ahead device stage) ≡ true → 1 ≤ puts_in (ahead result)
+        → has_closes (ahead result) ≡ true }
+    ensures reserves { coins_in (ahead result) ≤ coins_in (stage_ahead device stage) }
 {
     match stage {
         Stage::StartSets { .. } => Job::Done(End::StartUnsure),
@@ -71,10 +74,10 @@ fn payout_unanswered(device: Target, row: Payout, failed: u8) -> Job
     ensures device { (d : DeviceSetup) (c : Command) (since : List Line) (state : EpochState)
         (owed : Option OpenOrder) → Asking d device (Pays row) failed c since state owed
         → Stands d result c (exchange (Some (payout_request row)) None ∷ since) state owed }
-    ensures may_put { may_put_of result ≤ payout_puts row }
+    ensures may_put { puts_in (ahead result) ≤ puts_in (payout_ahead device row) }
     ensures fits { PutsFit result }
-    ensures closes { 1 ≤ may_put_of result → closes_order result ≡ true }
-    ensures reserves { coins_reserved result ≤ payout_reserves row }
+    ensures closes { 1 ≤ puts_in (ahead result) → has_closes (ahead result) ≡ true }
+    ensures reserves { coins_in (ahead result) ≤ coins_in (payout_ahead device row) }
 {
     match row {
         Payout::Dispenses { owed, halted, .. } => payment::dispensed(device, owed, halted),
@@ -84,14 +87,15 @@ fn payout_unanswered(device: Target, row: Payout, failed: u8) -> Job
 
 /// The job after a failed try of a stage that is tried again: after the third in succession it ends.
 fn tried_again(device: Target, stage: Stage, failed: u8) -> Job
-    requires { IsAgain stage }
+    requires { sent_once (stage_ahead device stage) ≡ false }
     ensures device { (d : DeviceSetup) (c : Command) (since : List Line) (state : EpochState)
         (owed : Option OpenOrder) → Asking d device stage failed c since state owed
         → Stands d result c (exchange (Some (request_of stage)) None ∷ since) state owed }
-    ensures may_put { may_put_of result ≤ stage_puts stage }
+    ensures may_put { puts_in (ahead result) ≤ puts_in (stage_ahead device stage) }
     ensures fits { PutsFit result }
-    ensures closes { stage_closes stage ≡ true → 1 ≤ may_put_of result → closes_order result ≡ true }
-    ensures reserves { coins_reserved result ≤ stage_reserves stage }
+    ensures closes { has_closes (stage_ahead device stage) ≡ true → 1 ≤ puts_in (ahead result)
+        → has_closes (ahead result) ≡ true }
+    ensures reserves { coins_in (ahead result) ≤ coins_in (stage_ahead device stage) }
 {
     match after_failed(failed) {
         Some(failed) => Job::Asks {
@@ -112,10 +116,11 @@ fn answered(device: Target, stage: Stage, reply: &Reply<'_>) -> Job
         (owed : Option OpenOrder) (failed : ℕ)
         → Asking d device stage failed c since state owed
         → Stands d result c (exchange (Some (request_of stage)) (Some (reply_shown reply.now)) ∷ since) state owed }
-    ensures may_put { may_put_of result ≤ stage_puts stage }
+    ensures may_put { puts_in (ahead result) ≤ puts_in (stage_ahead device stage) }
     ensures fits { PutsFit result }
-    ensures closes { stage_closes stage ≡ true → 1 ≤ may_put_of result → closes_order result ≡ true }
-    ensures reserves { coins_reserved result ≤ stage_reserves stage }
+    ensures closes { has_closes (stage_ahead device stage) ≡ true → 1 ≤ puts_in (ahead result)
+        → has_closes (ahead result) ≡ true }
+    ensures reserves { coins_in (ahead result) ≤ coins_in (stage_ahead device stage) }
 {
     match stage {
         Stage::StartResets { .. } => start::answered(device, stage, reply),

@@ -8,13 +8,15 @@ ghost use Rattle.cct_model.specs.declared.judging.OpenOrder.{OpenOrder};
 ghost use Rattle.cct_model.specs.Line.{Line, exchange};
 ghost use Rattle.cct_model.specs.Reply.{Reply};
 ghost use Rattle.cct_jobs.specs.declared.stage.Stage.TheVariants.{IdentAsks};
-ghost use Rattle.cct_jobs.specs.Jobs.{Asking, PutsFit, Stands, may_put_of, question_after};
+ghost use Rattle.cct_model.specs.Rows.{puts_in};
+ghost use Rattle.cct_jobs.specs.Ahead.{ahead};
+ghost use Rattle.cct_jobs.specs.Jobs.{Asking, PutsFit, Stands, first_own_question, question_after};
 
 use crate::asks::first_try;
 use crate::job::Job;
 use crate::stage::Stage;
 use crate::target::Target;
-use cct_model::{COIN_PLACES, End, Request};
+use cct_model::{COIN_PLACES, End, Family, Request};
 
 /// The identification after this question was answered.
 pub(crate) fn told(device: Target, question: Request) -> Job
@@ -22,10 +24,10 @@ pub(crate) fn told(device: Target, question: Request) -> Job
         (owed : Option OpenOrder) (failed : ℕ) (y : Reply)
         → Asking d device (IdentAsks question) failed c since state owed
         → Stands d result c (exchange (Some question) (Some y) ∷ since) state owed }
-    ensures may_put { may_put_of result ≤ 0 }
+    ensures may_put { puts_in (ahead result) ≤ 0 }
     ensures fits { PutsFit result }
 {
-    match question_after(question, device.is_acceptor) {
+    match question_after(question, device.family) {
         Some(question) => first_try(device, Stage::IdentAsks { question }),
         None => Job::Done(End::Told),
     }
@@ -34,8 +36,8 @@ pub(crate) fn told(device: Target, question: Request) -> Job
 /// What is asked after a question: of every device its texts, its serial number and the release of the standard, and
 /// then of an acceptor its master inhibit, its default sorter path, its accept count and the identification of each
 /// coin, and of a hopper its test register.
-fn question_after(question: Request, is_acceptor: bool) -> Option<Request>
-    ensures { result ≡ question_after is_acceptor question }
+fn question_after(question: Request, family: Family) -> Option<Request>
+    ensures { result ≡ question_after family question }
 {
     match question {
         Request::MakerId => Some(Request::Category),
@@ -44,8 +46,7 @@ fn question_after(question: Request, is_acceptor: bool) -> Option<Request>
         Request::SerialNumber => Some(Request::SoftwareRevision),
         Request::SoftwareRevision => Some(Request::BuildCode),
         Request::BuildCode => Some(Request::CommsRevision),
-        Request::CommsRevision if is_acceptor => Some(Request::GetMaster),
-        Request::CommsRevision => Some(Request::TestHopper),
+        Request::CommsRevision => Some(first_own_question(family)),
         Request::GetMaster => Some(Request::GetDefault),
         Request::GetDefault => Some(Request::AcceptCount),
         Request::AcceptCount => Some(Request::CoinId { place: 1 }),
@@ -53,5 +54,15 @@ fn question_after(question: Request, is_acceptor: bool) -> Option<Request>
             place: place + 1,
         }),
         _ => None,
+    }
+}
+
+/// What is asked first of a device of a family that other families don't tell.
+fn first_own_question(family: Family) -> Request
+    ensures { result ≡ first_own_question family }
+{
+    match family {
+        Family::Acceptor => Request::GetMaster,
+        Family::Hopper => Request::TestHopper,
     }
 }

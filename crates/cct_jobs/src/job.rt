@@ -11,15 +11,16 @@ ghost use Rattle.cct_model.specs.terms.request.Request.{Request};
 ghost use Rattle.cct_model.specs.terms.wire.CheckKind.{CheckKind};
 ghost use Rattle.cct_model.specs.Exchange.{ask, device_at};
 ghost use Rattle.cct_model.specs.declared.judging.OpenOrder.{OpenOrder};
-ghost use Rattle.cct_model.specs.Job.{address_of, done, puts_at, sends, works};
-ghost use Rattle.cct_model.specs.Rows.{row, row_of_sale, can_halt};
+ghost use Rattle.cct_model.specs.Job.{address_of, sends, works};
+ghost use Rattle.cct_model.specs.Rows.{can_halt, closes_order, has_closes, has_waits, left, left_of_sale, puts_in, row, rows_of, rows_of_sale};
 ghost use Rattle.cct_model.specs.Line.{Line, put, taken};
-ghost use Rattle.cct_model.specs.Money.{coins_of, reserved_by};
+ghost use Rattle.cct_model.specs.Money.{coins_of, reserved_by, reserved_by_sale};
 ghost use Rattle.cct_model.specs.Order.{order_by};
 ghost use Rattle.cct_model.specs.Scan.{end_of_scan, poll_of, scan_row};
 ghost use Rattle.cct_model.specs.Transcript.{scan_line};
 ghost use Rattle.cct_record.specs.Body.{Encodable};
-ghost use Rattle.cct_jobs.specs.Jobs.{IsPut, IsRunning, MayBegin, Needs, PutsFit, Stands, after_halt, after_put, closes_order, coins_asked, coins_reserved, end_of_job, first_need, halts, is_closing, is_of_device, line_heard, may_put_of, need_of, newest_end, opened_by, order_of, owed_after, price_asked, price_reserved, records_of, runs, sending_of};
+ghost use Rattle.cct_jobs.specs.Ahead.{ahead, coins_in, price_in};
+ghost use Rattle.cct_jobs.specs.Jobs.{IsPut, IsRunning, MayBegin, Needs, PutsFit, Stands, after_halt, after_put, end_of_job, first_need, is_of_device, line_heard, need_of, newest_end, opened_by, order_of, owed_after, runs, sending_of};
 ghost use Rattle.cct_jobs.specs.Sales.{NeedsSale, StandsSale, newest_sale_end};
 ghost use Rattle.cct_jobs.specs.Scans.{NeedsScan, StandsScan};
 
@@ -145,11 +146,10 @@ impl Job {
         ensures sale { (id price : ℕ) → command.now ≡ Command.Vend id price → StandsSale result command.now [] }
         ensures needs { need_of result ≡ first_need command.now }
         ensures runs { end_of_job result ≡ None }
-        ensures may_put { may_put_of result ≡ records_of command.now }
+        ensures rows { (d : DeviceSetup) → device_at setup.now.devices (address_of command.now) ≡ Some d
+            → is_of_device command.now ≡ true → ahead result ≡ rows_of d command.now }
+        ensures other_rows { is_of_device command.now ≡ false → ahead result ≡ rows_of_sale command.now }
         ensures fits { PutsFit result }
-        ensures closes { closes_order result ≡ is_closing command.now }
-        ensures reserves { coins_reserved result ≡ coins_asked command.now }
-        ensures price { price_reserved result ≡ price_asked command.now }
     {
         match *command {
             Command::Start { addr, mask } => {
@@ -206,7 +206,7 @@ impl Job {
     #[tactic(auto, using(crate::proofs::Needs::need_known, crate::proofs::Needs::scan_need_known, crate::proofs::Needs::put_allowed, crate::proofs::Fits::put_fits, crate::proofs::Sales::sale_need_known))]
     pub fn needs(&self) -> Need
         ensures value { result ≡ need_of self.now }
-        ensures may_put { (entry : Record) → result ≡ Need.Put entry → 1 ≤ may_put_of self.now }
+        ensures may_put { (entry : Record) → result ≡ Need.Put entry → 1 ≤ puts_in (ahead self.now) }
         ensures fits { PutsFit self.now → (entry : Record) → result ≡ Need.Put entry → Encodable entry }
         ensures row { (d : DeviceSetup) (c : Command) (since : List Line) (state : EpochState)
             (owed : Option OpenOrder) → Stands d self.now c since state owed → Needs result d c since state owed }
@@ -265,19 +265,19 @@ impl Job {
     /// How many records the job may still put. A put that ends a stop with a break leaves none of its two.
     #[tactic(auto, using(crate::proofs::Sales::sale_may_put))]
     pub fn may_put(&self) -> u32
-        ensures value { result ≡ may_put_of self.now }
+        ensures value { result ≡ puts_in (ahead self.now) }
         ensures row { (d : DeviceSetup) (c : Command) (since : List Line) (state : EpochState)
             (owed : Option OpenOrder) → Stands d self.now c since state owed → newest_end d c since state ≡ None
-            → result ≡ puts_at c (done since) (row d c since state owed) }
+            → result ≡ puts_in (left d c since state) }
         ensures sale { (c : Command) (since : List Line) → StandsSale self.now c since → newest_sale_end c since ≡ None
-            → result ≡ puts_at c (done since) (row_of_sale c since) }
+            → result ≡ puts_in (left_of_sale c since) }
     {
         self.records()
     }
 
     /// How many records the job may still put, by its row.
     fn records(&self) -> u32
-        ensures { result ≡ may_put_of self.now }
+        ensures { result ≡ puts_in (ahead self.now) }
     {
         match self {
             Job::Asks { stage, .. } => stage.may_put(),
@@ -295,17 +295,21 @@ impl Job {
     /// Whether the job is a payment or a settlement, which is at work to close an order.
     #[tactic(auto, using(crate::proofs::Reserves::closes_known, crate::proofs::Sales::sale_never_closes))]
     pub fn closes_order(&self) -> bool
-        ensures value { result ≡ closes_order self.now }
+        ensures value { result ≡ has_closes (ahead self.now) }
         ensures row { (d : DeviceSetup) (c : Command) (since : List Line) (state : EpochState)
             (owed : Option OpenOrder) → Stands d self.now c since state owed → newest_end d c since state ≡ None
-            → result ≡ is_closing c }
+            → result ≡ closes_order d (works c since) }
         ensures sale { (c : Command) (since : List Line) → StandsSale self.now c since → result ≡ false }
     {
+        self.closes()
+    }
+
+    /// Whether the job is at work to close an order, by its row.
+    fn closes(&self) -> bool
+        ensures { result ≡ has_closes (ahead self.now) }
+    {
         match self {
-            Job::Asks {
-                stage: Stage::Pays { .. },
-                ..
-            } => true,
+            Job::Asks { stage, .. } => stage.closes_order(),
             Job::OrderOpens { .. } => true,
             Job::OrderCloses { .. } => true,
             _ => false,
@@ -315,11 +319,11 @@ impl Job {
     /// What the job reserves besides coins, in units of value: the price of a sale that is still to be put.
     #[tactic(auto, using(crate::proofs::Sales::sale_price, crate::proofs::Sales::no_price))]
     pub fn price_reserved(&self) -> u32
-        ensures value { result ≡ price_reserved self.now }
+        ensures value { result ≡ price_in (ahead self.now) }
         ensures row { (d : DeviceSetup) (c : Command) (since : List Line) (state : EpochState)
             (owed : Option OpenOrder) → Stands d self.now c since state owed → result ≡ 0 }
         ensures sale { (setup : Setup) (c : Command) (since : List Line) → StandsSale self.now c since
-            → newest_sale_end c since ≡ None → result ≡ reserved_by setup (works c since) }
+            → newest_sale_end c since ≡ None → result ≡ reserved_by_sale setup (works c since) }
     {
         match self {
             Job::SalePuts { price, .. } => *price,
@@ -330,17 +334,21 @@ impl Job {
     /// How many coins the job reserves: those of the order that a payment is still to open.
     #[tactic(auto, using(crate::proofs::Reserves::reserves_known, crate::proofs::Sales::no_coins))]
     pub fn coins_reserved(&self) -> u8
-        ensures value { result ≡ coins_reserved self.now }
+        ensures value { result ≡ coins_in (ahead self.now) }
         ensures row { (setup : Setup) (d : DeviceSetup) (c : Command) (since : List Line) (state : EpochState)
             (owed : Option OpenOrder) → Stands d self.now c since state owed → newest_end d c since state ≡ None
-            → coins_of setup d.addr result ≡ reserved_by setup (works c since) }
+            → coins_of setup d.addr result ≡ reserved_by setup d (works c since) }
         ensures sale { (c : Command) (since : List Line) → StandsSale self.now c since → result ≡ 0 }
     {
+        self.coins()
+    }
+
+    /// How many coins the job reserves, by its row.
+    fn coins(&self) -> u8
+        ensures { result ≡ coins_in (ahead self.now) }
+    {
         match self {
-            Job::Asks {
-                stage: Stage::Pays { row },
-                ..
-            } => row.coins_reserved(),
+            Job::Asks { stage, .. } => stage.coins_reserved(),
             Job::OrderOpens { owed, .. } => owed.order.count,
             _ => 0,
         }
@@ -393,10 +401,11 @@ impl Job {
         ensures scan { (since : List Line) (check : CheckKind) (addr : ℕ)
             → StandsScan self since → scan_row since ≡ Some (check, addr) → sent.now ≡ ask check addr (poll_of addr)
             → StandsScan result (scan_line sent.now heard.now ∷ since) }
-        ensures may_put { may_put_of result ≤ may_put_of self }
+        ensures may_put { puts_in (ahead result) ≤ puts_in (ahead self) }
         ensures fits { PutsFit result }
-        ensures closes { closes_order self ≡ true → 1 ≤ may_put_of result → closes_order result ≡ true }
-        ensures reserves { coins_reserved result ≤ coins_reserved self }
+        ensures closes { has_closes (ahead self) ≡ true → 1 ≤ puts_in (ahead result)
+            → has_closes (ahead result) ≡ true }
+        ensures reserves { coins_in (ahead result) ≤ coins_in (ahead self) }
     {
         match self {
             Job::Asks {
@@ -427,7 +436,7 @@ impl Job {
             → Stands d result c (put entry ∷ since) after (order_by entry owed) }
         ensures sale { (c : Command) (since : List Line) (entry : Record) → need_of self ≡ Need.Put entry
             → StandsSale self c since → StandsSale result c (put entry ∷ since) }
-        ensures may_put { may_put_of result < may_put_of self }
+        ensures may_put { puts_in (ahead result) < puts_in (ahead self) }
         ensures fits { PutsFit result }
         ensures value { result ≡ after_put self }
     {
@@ -494,7 +503,7 @@ impl Job {
     /// row.
     #[tactic(auto, using(crate::proofs::Halts::halts_known, crate::proofs::Halts::scan_never_halts, crate::proofs::Sales::sale_never_halts))]
     pub fn can_halt(&self) -> bool
-        ensures value { result ≡ halts self.now }
+        ensures value { result ≡ has_waits (ahead self.now) }
         ensures row { (d : DeviceSetup) (c : Command) (since : List Line) (state : EpochState)
             (owed : Option OpenOrder) → Stands d self.now c since state owed → newest_end d c since state ≡ None
             → result ≡ can_halt d (works c since) }
@@ -506,7 +515,7 @@ impl Job {
 
     /// Whether the job can be halted, by its row.
     fn may_halt(&self) -> bool
-        ensures { result ≡ halts self.now }
+        ensures { result ≡ has_waits (ahead self.now) }
     {
         match self {
             Job::Asks { stage, .. } => stage.can_halt(),
@@ -517,25 +526,23 @@ impl Job {
 
     /// The job after it was halted: before its hopper is next asked how the payout goes, it is stopped. A job that is
     /// halted already stays as it is.
-    #[tactic(auto, using(crate::proofs::Halts::halt_leaves, crate::proofs::Halts::halt_again, crate::proofs::Halts::halt_runs, crate::proofs::Halts::halt_puts, crate::proofs::Reserves::halt_closes, crate::proofs::Reserves::halt_reserves, crate::proofs::Fits::halt_fits))]
+    #[tactic(auto, using(crate::proofs::Halts::halt_leaves, crate::proofs::Halts::halt_again, crate::proofs::Halts::halt_runs, crate::proofs::Halts::halt_ahead, crate::proofs::Fits::halt_fits))]
     pub fn halt(self) -> Job
-        requires { halts self ≡ true }
+        requires { has_waits (ahead self) ≡ true }
         ensures row { (d : DeviceSetup) (c : Command) (since : List Line) (state : EpochState)
             (owed : Option OpenOrder) (addr : ℕ) → Stands d self c since state owed
             → Stands d result c (taken (command.Halt addr) ∷ since) state owed }
         ensures again { after_halt result ≡ result }
         ensures runs { end_of_job result ≡ None }
-        ensures may_put { may_put_of result ≡ may_put_of self }
+        ensures ahead { ahead result ≡ ahead self }
         ensures fits { PutsFit result }
-        ensures closes { closes_order result ≡ closes_order self }
-        ensures reserves { coins_reserved result ≡ coins_reserved self }
     {
         self.halted()
     }
 
     /// The job after it was halted, by its row.
     fn halted(self) -> Job
-        requires { halts self ≡ true }
+        requires { has_waits (ahead self) ≡ true }
         ensures { result ≡ after_halt self }
     {
         match self {

@@ -7,11 +7,12 @@ ghost use Rattle.cct_model.specs.declared.judging.EpochState.{EpochState};
 ghost use Rattle.cct_model.specs.declared.judging.OpenOrder.{OpenOrder};
 ghost use Rattle.cct_model.specs.terms.request.Request.{Request};
 ghost use Rattle.cct_model.specs.terms.request.Request.TheVariants.{SetMask};
-ghost use Rattle.cct_model.specs.Job.{is_once, sends, tries};
+ghost use Rattle.cct_model.specs.Job.{sends, tries};
 ghost use Rattle.cct_model.specs.Rows.{row, end_of};
 ghost use Rattle.cct_model.specs.Line.{Line, exchange};
 ghost use Rattle.cct_model.specs.Reply.{Reply};
 ghost use Rattle.cct_model.specs.Request.{header_of};
+ghost use Rattle.cct_jobs.specs.Jobs.{is_once};
 
 use cct_model::Request;
 

@@ -7,7 +7,9 @@ ghost use Rattle.cct_model.specs.declared.judging.EpochState.{EpochState};
 ghost use Rattle.cct_model.specs.declared.judging.OpenOrder.{OpenOrder};
 ghost use Rattle.cct_model.specs.Line.{Line, exchange};
 ghost use Rattle.cct_model.specs.Request.{form_of};
-ghost use Rattle.cct_jobs.specs.Jobs.{Asking, IsOfPath, PutsFit, Stands, may_put_of, request_of, stage_puts};
+ghost use Rattle.cct_model.specs.Rows.{puts_in};
+ghost use Rattle.cct_jobs.specs.Ahead.{ahead, stage_ahead};
+ghost use Rattle.cct_jobs.specs.Jobs.{Asking, IsOfPath, PutsFit, Stands, request_of};
 ghost use Rattle.cct_model.specs.Job.{path_read, path_set};
 ghost use Rattle.cct_model.specs.Reply as shown;
 ghost use Rattle.cct_model.specs.Reply.{reply_shown};
@@ -31,7 +33,7 @@ pub(crate) fn answered(device: Target, stage: Stage, reply: &Reply<'_>) -> Job
         (owed : Option OpenOrder) (failed : ℕ)
         → Asking d device stage failed c since state owed
         → Stands d result c (exchange (Some (request_of stage)) (Some (reply_shown reply.now)) ∷ since) state owed }
-    ensures may_put { may_put_of result ≤ stage_puts stage }
+    ensures may_put { puts_in (ahead result) ≤ puts_in (stage_ahead device stage) }
     ensures fits { PutsFit result }
 {
     match stage {

@@ -8,7 +8,6 @@ ghost use Rattle.cct_model.specs.declared.judging.EpochState.{EpochState};
 ghost use Rattle.cct_model.specs.declared.judging.OpenOrder.{OpenOrder};
 ghost use Rattle.cct_model.specs.terms.request.ReplyForm.TheVariants as form;
 ghost use Rattle.cct_model.specs.terms.request.Request.TheVariants.{Dispense, GetLife, GetStatus};
-ghost use Rattle.cct_model.specs.Job.{answer_ends};
 ghost use Rattle.cct_model.specs.Line.{Line, exchange};
 ghost use Rattle.cct_model.specs.Reply as shown;
 ghost use Rattle.cct_model.specs.Reply.{reply_shown};
@@ -16,8 +15,9 @@ ghost use Rattle.cct_model.specs.Request.{form_of};
 ghost use Rattle.cct_msg.specs.Forms.{form_shown};
 ghost use Rattle.cct_jobs.specs.declared.stage.Stage.TheVariants.{Pays};
 ghost use Rattle.cct_jobs.specs.declared.payout.Payout.TheVariants.{Counts, Dispenses, Recounts, Waits};
-ghost use Rattle.cct_jobs.specs.Jobs.{Asking, FitsLife, PutsFit, Stands, halted_row, halted_tries, may_put_of};
-ghost use Rattle.cct_jobs.specs.Jobs.{closes_order, closing_end, coins_reserved, payout_puts, payout_request, payout_reserves, settling};
+ghost use Rattle.cct_model.specs.Rows.{has_closes, puts_in};
+ghost use Rattle.cct_jobs.specs.Ahead.{ahead, coins_in, nothing_left, payout_ahead};
+ghost use Rattle.cct_jobs.specs.Jobs.{Asking, FitsLife, PutsFit, Stands, closing_end, halted_row, halted_tries, payout_request, settling};
 ghost use Rattle.cct_jobs.specs.declared.payout.Closing.{Closing};
 ghost use Rattle.cct_jobs.specs.declared.target.Target.{Target};
 
@@ -38,10 +38,10 @@ pub(crate) fn answered(device: Target, row: Payout, reply: &Reply<'_>) -> Job
         (owed : Option OpenOrder) (failed : ℕ)
         → Asking d device (Pays row) failed c since state owed
         → Stands d result c (exchange (Some (payout_request row)) (Some (reply_shown reply.now)) ∷ since) state owed }
-    ensures may_put { may_put_of result ≤ payout_puts row }
+    ensures may_put { puts_in (ahead result) ≤ puts_in (payout_ahead device row) }
     ensures fits { PutsFit result }
-    ensures closes { closes_order result ≡ true }
-    ensures reserves { coins_reserved result ≤ payout_reserves row }
+    ensures closes { has_closes (ahead result) ≡ true }
+    ensures reserves { coins_in (ahead result) ≤ coins_in (payout_ahead device row) }
 {
     match row {
         Payout::Enables { id, count, halted } => first_try(
@@ -77,10 +77,10 @@ pub(crate) fn dispensed(device: Target, owed: Owed, halted: bool) -> Job
         (open_order : Option OpenOrder) (serial failed : ℕ) (got : Option shown.Reply)
         → Asking d device (Pays (Dispenses serial owed halted)) failed c since state open_order
         → Stands d result c (exchange (Some (Dispense serial owed.order.count)) got ∷ since) state open_order }
-    ensures may_put { may_put_of result ≤ 1 }
+    ensures may_put { puts_in (ahead result) ≤ 1 }
     ensures fits { PutsFit result }
-    ensures closes { closes_order result ≡ true }
-    ensures reserves { coins_reserved result ≡ 0 }
+    ensures closes { has_closes (ahead result) ≡ true }
+    ensures reserves { coins_in (ahead result) ≡ 0 }
 {
     settles(device, Closing::Payment, owed, halted)
 }
@@ -90,13 +90,13 @@ pub(crate) fn dispensed(device: Target, owed: Owed, halted: bool) -> Job
 fn waited(device: Target, closing: Closing, owed: Owed, is_paid_out: bool) -> Job
     ensures device { (d : DeviceSetup) (c : Command) (since : List Line) (state : EpochState)
         (open_order : Option OpenOrder) (failed : ℕ) (y : shown.Reply)
-        → is_paid_out ≡ answer_ends GetStatus y
+        → is_paid_out ≡ nothing_left y
         → Asking d device (Pays (Waits closing owed)) failed c since state open_order
         → Stands d result c (exchange (Some GetStatus) (Some y) ∷ since) state open_order }
-    ensures may_put { may_put_of result ≤ 1 }
+    ensures may_put { puts_in (ahead result) ≤ 1 }
     ensures fits { PutsFit result }
-    ensures closes { closes_order result ≡ true }
-    ensures reserves { coins_reserved result ≡ 0 }
+    ensures closes { has_closes (ahead result) ≡ true }
+    ensures reserves { coins_in (ahead result) ≡ 0 }
 {
     let row = if is_paid_out {
         Payout::Recounts { closing, owed }
@@ -114,10 +114,10 @@ fn opens(device: Target, id: u32, count: u8, halted: bool, life: u32) -> Job
         (owed : Option OpenOrder) (failed : ℕ)
         → Asking d device (Pays (Counts id count halted)) failed c since state owed
         → Stands d result c (exchange (Some GetLife) (Some (shown.life life)) ∷ since) state owed }
-    ensures may_put { may_put_of result ≤ 2 }
+    ensures may_put { puts_in (ahead result) ≤ 2 }
     ensures fits { PutsFit result }
-    ensures closes { closes_order result ≡ true }
-    ensures reserves { coins_reserved result ≡ count }
+    ensures closes { has_closes (ahead result) ≡ true }
+    ensures reserves { coins_in (ahead result) ≡ count }
 {
     let owed = Owed {
         order: OpenOrder {
@@ -142,10 +142,10 @@ fn closes(owed: Owed, life: u32) -> Job
         (state : EpochState) (open_order : Option OpenOrder) (failed : ℕ)
         → Asking d device (Pays (Recounts closing owed)) failed c since state open_order
         → Stands d result c (exchange (Some GetLife) (Some (shown.life life)) ∷ since) state open_order }
-    ensures may_put { may_put_of result ≤ 1 }
+    ensures may_put { puts_in (ahead result) ≤ 1 }
     ensures fits { PutsFit result }
-    ensures closes { closes_order result ≡ true }
-    ensures reserves { coins_reserved result ≡ 0 }
+    ensures closes { has_closes (ahead result) ≡ true }
+    ensures reserves { coins_in (ahead result) ≡ 0 }
 {
     let entry = close(&owed.order, life);
     let end = end_of(&entry);
@@ -178,7 +178,7 @@ fn life_in(reply: &Reply<'_>) -> u32
 /// Whether the reply to the question how a payout goes tells that nothing is left to pay.
 fn is_paid_out(reply: &Reply<'_>) -> bool
     requires { form_shown (reply_shown reply.now) ≡ Some form.Status }
-    ensures { result ≡ answer_ends GetStatus (reply_shown reply.now) }
+    ensures { result ≡ nothing_left (reply_shown reply.now) }
 {
     match reply {
         Reply::Status { remaining, .. } => *remaining == 0,

@@ -2,7 +2,10 @@
 //! headers 164, 166, 167, 168 and 172).
 ghost use Rattle.std.specs.Prelude.{◌≡◌, Some};
 ghost use Rattle.cct_model.specs.Request.{form_of};
-ghost use Rattle.cct_jobs.specs.Jobs.{payout_halts, payout_puts, payout_request, payout_reserves};
+ghost use Rattle.cct_model.specs.Rows.{has_waits, puts_in};
+ghost use Rattle.cct_jobs.specs.declared.target.Target.{Target};
+ghost use Rattle.cct_jobs.specs.Ahead.{coins_in, payout_ahead};
+ghost use Rattle.cct_jobs.specs.Jobs.{payout_request};
 
 use crate::owed::Owed;
 use cct_model::{ENABLE_CODE, OpenOrder, ReplyForm, Request};
@@ -87,7 +90,7 @@ impl Payout {
 
     /// How many records the job may still put that is there.
     pub(crate) fn may_put(&self) -> u32
-        ensures { result ≡ payout_puts self.now }
+        ensures { (device : Target) → result ≡ puts_in (payout_ahead device self.now) }
     {
         match self {
             Payout::Enables { .. } => 2,
@@ -98,7 +101,7 @@ impl Payout {
 
     /// How many coins are reserved there for an order that is still to be opened.
     pub(crate) fn coins_reserved(&self) -> u8
-        ensures { result ≡ payout_reserves self.now }
+        ensures { (device : Target) → result ≡ coins_in (payout_ahead device self.now) }
     {
         match self {
             Payout::Enables { count, .. } => *count,
@@ -109,7 +112,7 @@ impl Payout {
 
     /// Whether the job can be halted there.
     pub(crate) fn can_halt(&self) -> bool
-        ensures { result ≡ payout_halts self.now }
+        ensures { (device : Target) → result ≡ has_waits (payout_ahead device self.now) }
     {
         match self {
             Payout::Recounts { .. } => false,

@@ -14,8 +14,9 @@ ghost use Rattle.cct_model.specs.Reply.{reply_shown};
 ghost use Rattle.cct_model.specs.Request.{form_of};
 ghost use Rattle.cct_msg.specs.Forms.{form_shown};
 ghost use Rattle.cct_jobs.specs.declared.stage.Stage.TheVariants.{Looks};
-ghost use Rattle.cct_jobs.specs.Jobs.{Asking, IsOfVisit, PutsFit, Stands, may_put_of, request_of, round_after, stage_puts};
-ghost use Rattle.cct_jobs.specs.Jobs.{JudgedFits, coins_reserved, stop_after, visit_puts};
+ghost use Rattle.cct_model.specs.Rows.{puts_in};
+ghost use Rattle.cct_jobs.specs.Ahead.{ahead, coins_in, stage_ahead, visit_ahead};
+ghost use Rattle.cct_jobs.specs.Jobs.{Asking, IsOfVisit, JudgedFits, PutsFit, Stands, request_of, round_after, stop_after};
 
 use crate::asks::first_try;
 use crate::job::Job;
@@ -32,9 +33,9 @@ pub(crate) fn answered(device: Target, stage: Stage, reply: &Reply<'_>) -> Job
         (owed : Option OpenOrder) (failed : ℕ)
         → Asking d device stage failed c since state owed
         → Stands d result c (exchange (Some (request_of stage)) (Some (reply_shown reply.now)) ∷ since) state owed }
-    ensures may_put { may_put_of result ≤ stage_puts stage }
+    ensures may_put { puts_in (ahead result) ≤ puts_in (stage_ahead device stage) }
     ensures fits { PutsFit result }
-    ensures reserves { coins_reserved result ≡ 0 }
+    ensures reserves { coins_in (ahead result) ≡ 0 }
 {
     match stage {
         Stage::StopInhibits { recorded } => first_try(
@@ -96,9 +97,9 @@ fn judged(
         (owed : Option OpenOrder) (failed : ℕ)
         → Asking d device (Looks visit recorded credits.now) failed c since state owed
         → Stands d result c (exchange (Some GetMask) (Some (shown.mask mask_seen)) ∷ since) state owed }
-    ensures may_put { may_put_of result ≤ visit_puts visit }
+    ensures may_put { puts_in (ahead result) ≤ puts_in (visit_ahead device visit) }
     ensures fits { PutsFit result }
-    ensures reserves { coins_reserved result ≡ 0 }
+    ensures reserves { coins_in (ahead result) ≡ 0 }
 {
     let meaning = judge(
         device.addr,
@@ -116,9 +117,9 @@ fn judged(
 /// The round after it judged its reading.
 fn round_judged(meaning: Judged) -> Job
     ensures means { result ≡ round_after meaning }
-    ensures may_put { may_put_of result ≤ 1 }
+    ensures may_put { puts_in (ahead result) ≤ 1 }
     ensures fits { JudgedFits meaning → PutsFit result }
-    ensures reserves { coins_reserved result ≡ 0 }
+    ensures reserves { coins_in (ahead result) ≡ 0 }
 {
     match meaning {
         Judged::Nothing => Job::Done(End::Clean),
@@ -136,9 +137,9 @@ fn round_judged(meaning: Judged) -> Job
 /// The stop after it judged its reading.
 fn stop_judged(device: Target, meaning: Judged) -> Job
     ensures means { result ≡ stop_after device meaning }
-    ensures may_put { may_put_of result ≤ 2 }
+    ensures may_put { puts_in (ahead result) ≤ 2 }
     ensures fits { JudgedFits meaning → PutsFit result }
-    ensures reserves { coins_reserved result ≡ 0 }
+    ensures reserves { coins_in (ahead result) ≡ 0 }
 {
     match meaning {
         Judged::Nothing => Job::StopEnds { device },

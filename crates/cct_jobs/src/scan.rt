@@ -8,7 +8,9 @@ ghost use Rattle.cct_model.specs.Exchange.{after_echo, ask};
 ghost use Rattle.cct_model.specs.Line.{Line};
 ghost use Rattle.cct_model.specs.Scan.{is_acknowledged, next_due, poll_after, poll_due, poll_of};
 ghost use Rattle.cct_model.specs.Transcript.{scan_line};
-ghost use Rattle.cct_jobs.specs.Jobs.{PutsFit, asks_at, may_put_of};
+ghost use Rattle.cct_model.specs.Rows.{puts_in};
+ghost use Rattle.cct_jobs.specs.Ahead.{ahead};
+ghost use Rattle.cct_jobs.specs.Jobs.{PutsFit, asks_at};
 ghost use Rattle.cct_jobs.specs.Scans.{CallsCrc, CallsSimple, Lists, Polls, StandsScan};
 
 use crate::job::{Job, Sending};
@@ -38,7 +40,7 @@ pub(crate) fn poll(kind: CheckKind, addr: u8) -> Sending
 pub(crate) fn simple_call_heard(failed: u8, sent: &[u8], heard: &[u8]) -> Job
     ensures scan { (since : List Line) → CallsSimple failed since → sent.now ≡ ask Simple 0 (poll_of 0)
         → StandsScan result (scan_line sent.now heard.now ∷ since) }
-    ensures may_put { may_put_of result ≤ 0 }
+    ensures may_put { puts_in (ahead result) ≤ 0 }
     ensures fits { PutsFit result }
 {
     match bare_after_echo(sent, heard) {
@@ -58,7 +60,7 @@ pub(crate) fn simple_call_heard(failed: u8, sent: &[u8], heard: &[u8]) -> Job
 pub(crate) fn crc_call_heard(failed: u8, mut due: DeviceSet, sent: &[u8], heard: &[u8]) -> Job
     ensures scan { (since : List Line) → CallsCrc failed due since → sent.now ≡ ask Crc 0 (poll_of 0)
         → StandsScan result (scan_line sent.now heard.now ∷ since) }
-    ensures may_put { may_put_of result ≤ 0 }
+    ensures may_put { puts_in (ahead result) ≤ 0 }
     ensures fits { PutsFit result }
 {
     match bare_after_echo(sent, heard) {
@@ -88,7 +90,7 @@ pub(crate) fn simple_poll_heard(
 ) -> Job
     ensures scan { (since : List Line) → Polls Simple addr due listed since → sent.now ≡ ask Simple addr (poll_of addr)
         → StandsScan result (scan_line sent.now heard.now ∷ since) }
-    ensures may_put { may_put_of result ≤ 0 }
+    ensures may_put { puts_in (ahead result) ≤ 0 }
     ensures fits { PutsFit result }
 {
     due.remove(addr);
@@ -110,7 +112,7 @@ pub(crate) fn crc_poll_heard(
 ) -> Job
     ensures scan { (since : List Line) → Polls Crc addr due listed since → sent.now ≡ ask Crc addr (poll_of addr)
         → StandsScan result (scan_line sent.now heard.now ∷ since) }
-    ensures may_put { may_put_of result ≤ 0 }
+    ensures may_put { puts_in (ahead result) ≤ 0 }
     ensures fits { PutsFit result }
 {
     if is_acknowledged(CheckKind::Crc, addr, sent, heard) {
@@ -132,7 +134,7 @@ fn is_acknowledged(kind: CheckKind, addr: u8, sent: &[u8], heard: &[u8]) -> bool
 fn next_poll(due: DeviceSet, listed: Listed) -> Job
     ensures scan { (since : List Line) → Lists due listed since → poll_after since ≡ poll_due (next_due since)
         → StandsScan result since }
-    ensures may_put { may_put_of result ≤ 0 }
+    ensures may_put { puts_in (ahead result) ≤ 0 }
     ensures fits { PutsFit result }
 {
     match due.first() {

@@ -1,7 +1,10 @@
 //! The rows of jobs at which a device is asked.
 ghost use Rattle.std.specs.Prelude.{◌≡◌};
 ghost use Rattle.cct_model.specs.Request.{form_of};
-ghost use Rattle.cct_jobs.specs.Jobs.{request_of, stage_halts, stage_puts, visit_puts};
+ghost use Rattle.cct_model.specs.Rows.{has_closes, has_waits, puts_in};
+ghost use Rattle.cct_jobs.specs.declared.target.Target.{Target};
+ghost use Rattle.cct_jobs.specs.Ahead.{coins_in, stage_ahead, visit_ahead};
+ghost use Rattle.cct_jobs.specs.Jobs.{request_of};
 
 use crate::path;
 use crate::payout::Payout;
@@ -108,7 +111,7 @@ impl Stage {
 
     /// How many records a job may still put that is there.
     pub(crate) fn may_put(&self) -> u32
-        ensures { result ≡ stage_puts self.now }
+        ensures { (device : Target) → result ≡ puts_in (stage_ahead device self.now) }
     {
         match self {
             Stage::StartResets { .. } => 1,
@@ -124,9 +127,29 @@ impl Stage {
         }
     }
 
+    /// Whether the job is at work there to close an order.
+    pub(crate) fn closes_order(&self) -> bool
+        ensures { (device : Target) → result ≡ has_closes (stage_ahead device self.now) }
+    {
+        match self {
+            Stage::Pays { .. } => true,
+            _ => false,
+        }
+    }
+
+    /// How many coins are reserved there for an order that is still to be opened.
+    pub(crate) fn coins_reserved(&self) -> u8
+        ensures { (device : Target) → result ≡ coins_in (stage_ahead device self.now) }
+    {
+        match self {
+            Stage::Pays { row } => row.coins_reserved(),
+            _ => 0,
+        }
+    }
+
     /// Whether the job can be halted there.
     pub(crate) fn can_halt(&self) -> bool
-        ensures { result ≡ stage_halts self.now }
+        ensures { (device : Target) → result ≡ has_waits (stage_ahead device self.now) }
     {
         match self {
             Stage::Pays { row } => row.can_halt(),
@@ -138,7 +161,7 @@ impl Stage {
 impl Visit {
     /// How many records it still leads to: a stop puts the epoch's end too.
     fn may_put(&self) -> u32
-        ensures { result ≡ visit_puts self.now }
+        ensures { (device : Target) → result ≡ puts_in (visit_ahead device self.now) }
     {
         match self {
             Visit::Round => 1,

@@ -12,7 +12,9 @@ ghost use Rattle.cct_model.specs.Reply.{reply_shown};
 ghost use Rattle.cct_model.specs.Request.{form_of};
 ghost use Rattle.cct_msg.specs.Forms.{form_shown};
 ghost use Rattle.cct_jobs.specs.declared.stage.Stage.TheVariants.{StartReads};
-ghost use Rattle.cct_jobs.specs.Jobs.{Asking, IsOfStart, PutsFit, Stands, may_put_of, request_of, stage_puts};
+ghost use Rattle.cct_model.specs.Rows.{puts_in};
+ghost use Rattle.cct_jobs.specs.Ahead.{ahead, stage_ahead};
+ghost use Rattle.cct_jobs.specs.Jobs.{Asking, IsOfStart, PutsFit, Stands, request_of};
 
 use crate::asks::first_try;
 use crate::job::Job;
@@ -29,7 +31,7 @@ pub(crate) fn answered(device: Target, stage: Stage, reply: &Reply<'_>) -> Job
         (owed : Option OpenOrder) (failed : ℕ)
         → Asking d device stage failed c since state owed
         → Stands d result c (exchange (Some (request_of stage)) (Some (reply_shown reply.now)) ∷ since) state owed }
-    ensures may_put { may_put_of result ≤ stage_puts stage }
+    ensures may_put { puts_in (ahead result) ≤ puts_in (stage_ahead device stage) }
     ensures fits { PutsFit result }
 {
     match stage {
@@ -47,7 +49,7 @@ fn after_reset(device: Target, mask: u16, credits: &Credits) -> Job
         (owed : Option OpenOrder) (failed : ℕ)
         → Asking d device (StartReads mask) failed c since state owed
         → Stands d result c (exchange (Some ReadCredits) (Some (shown.credits credits.now)) ∷ since) state owed }
-    ensures may_put { may_put_of result ≤ 1 }
+    ensures may_put { puts_in (ahead result) ≤ 1 }
     ensures fits { PutsFit result }
 {
     if credits.counter == 0 {

@@ -6,19 +6,19 @@ ghost use Rattle.cct_model.specs.Exchange.{device_at, got};
 ghost use Rattle.cct_model.specs.Reply.{reply_shown};
 ghost use Rattle.cct_jobs.specs.Jobs.{after_failed, reply_wanted, target_of};
 
-use cct_model::{CheckKind, DeviceSetup, Reply, ReplyForm, Setup};
+use cct_model::{CheckKind, DeviceSetup, Family, Reply, ReplyForm, Setup};
 use cct_msg::read_reply;
 use cct_wire::{Heard, hear};
 
 /// How often a row is tried in succession.
 const TRIES: u8 = 3;
 
-/// What a job knows of its device: its address, its check, whether it is a coin acceptor, and its serial number.
+/// What a job knows of its device: its address, its check, its family, and its serial number.
 #[derive(Clone, Copy, Debug, PartialEq, Eq)]
 pub struct Target {
     pub addr: u8,
     pub kind: CheckKind,
-    pub is_acceptor: bool,
+    pub family: Family,
     pub serial: u32,
 }
 
@@ -76,7 +76,7 @@ fn target_of(device: &DeviceSetup) -> Target
     Target {
         addr: device.addr,
         kind: device.kind,
-        is_acceptor: device.body.is_acceptor(),
+        family: device.body.family(),
         serial: device.serial,
     }
 }

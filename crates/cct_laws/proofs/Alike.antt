@@ -7,17 +7,19 @@ use Rattle.cct_model.specs.terms.wire.TheConstants.{BROADCAST, HOST}
 use Rattle.cct_model.specs.terms.wire.CheckKind.{CheckKind}
 use Rattle.cct_model.specs.terms.device.DeviceSetup.{DeviceSetup}
 use Rattle.cct_model.specs.terms.device.Setup.{Setup}
+use Rattle.cct_model.specs.terms.family.Happening.{Happening}
+use Rattle.cct_model.specs.terms.family.Happening.TheVariants as happening
 use Rattle.cct_model.specs.lines.command.Command.{Command}
 use Rattle.cct_model.specs.lines.command.Step.{Step}
 use Rattle.cct_model.specs.lines.command.Step.TheVariants as step
 use Rattle.cct_model.specs.lines.entry.Entry.{Entry}
-use Rattle.cct_model.specs.Device.{is_acceptor, is_hopper}
+use Rattle.cct_model.specs.Family.{family_of, known_to}
 use Rattle.cct_model.specs.Exchange.{device_at}
 use Rattle.cct_model.specs.Line.{Line}
 use Rattle.cct_model.specs.Order.{order}
 use Rattle.cct_model.specs.Job.{Job, free, works, job, Row, sends, puts, no_row, epoch}
 use Rattle.cct_model.specs.Rows.{row, row_of_sale}
-use Rattle.cct_model.specs.Legal.{Entries, Legal, LegalFrom, NextEntries, RowEntries, PollEntries, ScanEntries, SaleRowEntries, SaleEntries, BareNext, OfDevice, OfAcceptor, OfHopper, OfNext}
+use Rattle.cct_model.specs.Legal.{Entries, Legal, LegalFrom, NextEntries, RowEntries, PollEntries, ScanEntries, SaleRowEntries, SaleEntries, BareNext, OfDevice, OfKnowing, OfNext}
 use Rattle.cct_model.specs.Scan.{scan_row}
 use Rattle.cct_model.specs.Transcript.{heard_after, lines_of, onto, sale_lines, scan_lines}
 use Rattle.cct_laws.specs.Law.{Begins, NamesNoPut}
@@ -43,17 +45,11 @@ one_device : (found : Option DeviceSetup) (P : DeviceSetup → List Entry → Ty
 one_device None P one = none_is
 one_device (Some d) P one = one d
 
-one_acceptor : (found : Option DeviceSetup) (zs : DeviceSetup → List Entry) →
-    One (λ news. OfAcceptor found (λ d. news ≡ zs d))
-one_acceptor found zs =
-    one_device found (λ d news. MatchBool (is_acceptor d.body) (news ≡ zs d) ⊥)
-    (λ d. one_either (is_acceptor d.body) (λ news. news ≡ zs d) (λ news. ⊥) (one_is (zs d)) none_is)
-
-one_hopper : (found : Option DeviceSetup) (zs : DeviceSetup → List Entry) →
-    One (λ news. OfHopper found (λ d. news ≡ zs d))
-one_hopper found zs =
-    one_device found (λ d news. MatchBool (is_hopper d.body) (news ≡ zs d) ⊥)
-    (λ d. one_either (is_hopper d.body) (λ news. news ≡ zs d) (λ news. ⊥) (one_is (zs d)) none_is)
+one_known : (what : Happening) (found : Option DeviceSetup) (zs : DeviceSetup → List Entry) →
+    One (λ news. OfKnowing what found (λ d. news ≡ zs d))
+one_known what found zs =
+    one_device found (λ d news. MatchBool (known_to what (family_of d.body)) (news ≡ zs d) ⊥)
+    (λ d. one_either (known_to what (family_of d.body)) (λ news. news ≡ zs d) (λ news. ⊥) (one_is (zs d)) none_is)
 
 -- a `next`
 one_row : (hears : List ℕ → List ℕ) (d : DeviceSetup) (past : List Entry) (c : Command) (since : List Line) (is : Row) →
@@ -99,12 +95,12 @@ one_there hears past addr (Some d) = one_next hears d past (job (lines_of d past
 -- a step
 one_step : (capacity : ℕ) (setup : Setup) (past : List Entry) (s : Step) → NamesNoPut s →
     One (Entries capacity setup past s)
-one_step capacity setup past (step.Coin addr place) no_put = one_acceptor (device_at setup.devices addr) _
-one_step capacity setup past (step.Alien addr) no_put = one_acceptor (device_at setup.devices addr) _
-one_step capacity setup past (step.Fall addr) no_put = one_hopper (device_at setup.devices addr) _
-one_step capacity setup past (step.Jam addr) no_put = one_hopper (device_at setup.devices addr) _
-one_step capacity setup past (step.Reset addr) no_put =
-    one_device (device_at setup.devices addr) _ (λ d. one_is _)
+one_step capacity setup past (step.Coin addr place) no_put =
+    one_known (happening.Coin place) (device_at setup.devices addr) _
+one_step capacity setup past (step.Alien addr) no_put = one_known happening.Alien (device_at setup.devices addr) _
+one_step capacity setup past (step.Fall addr) no_put = one_known happening.Fall (device_at setup.devices addr) _
+one_step capacity setup past (step.Jam addr) no_put = one_known happening.Jam (device_at setup.devices addr) _
+one_step capacity setup past (step.Reset addr) no_put = one_known happening.Reset (device_at setup.devices addr) _
 one_step capacity setup past (step.Fault f) no_put = one_is _
 one_step capacity setup past (step.Command c) no_put = one_is _
 one_step capacity setup past (step.Next addr) no_put =

@@ -9,6 +9,8 @@ use Rattle.cct_model.specs.terms.device.DeviceBody.{DeviceBody}
 use Rattle.cct_model.specs.terms.device.DeviceBody.TheVariants.{Acceptor, Hopper}
 use Rattle.cct_model.specs.terms.device.DeviceSetup.{DeviceSetup}
 use Rattle.cct_model.specs.terms.device.Setup.{Setup}
+use Rattle.cct_model.specs.terms.family.Happening.{Happening}
+use Rattle.cct_model.specs.terms.family.Happening.TheVariants as happening
 use Rattle.cct_model.specs.terms.request.Request.{Request}
 use Rattle.cct_model.specs.lines.record.Record.{Record}
 use Rattle.cct_model.specs.lines.record.Record.TheVariants as record_of
@@ -29,6 +31,7 @@ use Rattle.cct_model.specs.History.{Met}
 use Rattle.cct_model.specs.History as history
 use Rattle.cct_model.specs.Acceptor.{accepts, path_of}
 use Rattle.cct_model.specs.Device.{IsAcceptor, IsHopper, is_acceptor, is_hopper}
+use Rattle.cct_model.specs.Family.{family_of, known_to}
 use Rattle.cct_model.specs.Hopper.{remaining}
 use Rattle.cct_model.specs.Exchange.{ask, asked, asks_of, device_at}
 use Rattle.cct_model.specs.Line.{Line, accepted, inhibited, alien, fell, reset, exchange, scanned, put, taken, ended, crashed}
@@ -38,7 +41,7 @@ use Rattle.cct_model.specs.Rows.{TableRow, row, row_of_sale, left_of_sale, end_o
 use Rattle.cct_model.specs.Money.{totals}
 use Rattle.cct_model.specs.Scan.{scan_row, end_of_scan, poll_of}
 use Rattle.cct_model.specs.Refusal.{unless, is_busy, epoch_refusal, value_refusal, start_refusal, order_refusal, state_fails, view_of, lines_for, last_id, refusal, state_tests}
-use Rattle.cct_model.specs.Legal.{coin_entry, fall_entry, jam_entry, command_entry, with_end, RowEntries, NextEntries, PollEntries, ScanEntries, SaleRowEntries, SaleEntries, BareNext, OfDevice, OfAcceptor, OfHopper, OfNext, record_due, due_of, due_of_sale, due_there, due_at, bare_crash, keeping_crash, CrashEntries, EntriesOfCrash, Entries}
+use Rattle.cct_model.specs.Legal.{happening_entry, step_of, command_entry, with_end, RowEntries, NextEntries, PollEntries, ScanEntries, SaleRowEntries, SaleEntries, BareNext, OfKnowing, OfNext, record_due, due_of, due_of_sale, due_there, due_at, bare_crash, keeping_crash, CrashEntries, EntriesOfCrash, Entries}
 use Rattle.cct_model.specs.Transcript.{met, owner, lines_of, scan_lines, scan_line, sale_lines, heard_after, heard_by_devices, pending, got_by, doses_of}
 use Rattle.cct_laws.specs.Kept.{is_for_acceptor, is_for_hopper, suits, IsTaken}
 use Rattle.cct_laws.specs.KeptHopper.{IsOwed}
@@ -277,53 +280,28 @@ jam_comes : (capacity : ℕ) (setup : Setup) (d : DeviceSetup) (past : List Entr
 jam_comes capacity setup d past true paying is = came _ _ _ _ (jams_none paying is)
 jam_comes capacity setup d past false paying is = came _ _ _ _ (jams paying is)
 
-coin_brought : (capacity : ℕ) (setup : Setup) (past news : List Entry) (addr place : ℕ) (found : Option DeviceSetup) →
-    device_at setup.devices addr ≡ found → OfAcceptor found (λ d. news ≡ coin_entry d past place ∷ []) →
-    Brought capacity setup past (step.Coin addr place) news
-coin_brought capacity setup past news addr place None was told = absurd told
-coin_brought capacity setup past news addr place (Some d) was told =
-    let is = kind_holds (is_acceptor d.body) _ told in
-    subst (Brought capacity setup past (step.Coin addr place)) (sym is.1)
-    (there capacity setup past (λ a. step.Coin a place) (λ a. coin_entry d past place ∷ []) addr d was
-    (coin_comes capacity setup d past place (accepts (met d past) place) (accepting_by d.body is.0) refl))
+happening_comes : (capacity : ℕ) (setup : Setup) (d : DeviceSetup) (past : List Entry) (what : Happening) →
+    known_to what (family_of d.body) ≡ true → AtDevice capacity setup d past (step_of d.addr what)
+    (happening_entry d.addr d past what ∷ [])
+happening_comes capacity setup d past (happening.Coin place) known =
+    coin_comes capacity setup d past place (accepts (met d past) place) (accepting_by d.body known) refl
+happening_comes capacity setup d past happening.Alien known = came _ _ _ _ (leaves_alien (accepting_by d.body known))
+happening_comes capacity setup d past happening.Fall known =
+    fall_comes capacity setup d past (remaining d.serial (met d past) == 0) (paying_by d.body known) refl
+happening_comes capacity setup d past happening.Jam known =
+    jam_comes capacity setup d past (remaining d.serial (met d past) == 0) (paying_by d.body known) refl
+happening_comes capacity setup d past happening.Reset known = came _ _ _ _ is_reset
 
-alien_brought : (capacity : ℕ) (setup : Setup) (past news : List Entry) (addr : ℕ) (found : Option DeviceSetup) →
-    device_at setup.devices addr ≡ found → OfAcceptor found (λ d. news ≡ entry.Alien addr ∷ []) →
-    Brought capacity setup past (step.Alien addr) news
-alien_brought capacity setup past news addr None was told = absurd told
-alien_brought capacity setup past news addr (Some d) was told =
-    let is = kind_holds (is_acceptor d.body) _ told in
-    subst (Brought capacity setup past (step.Alien addr)) (sym is.1)
-    (there capacity setup past step.Alien (λ a. entry.Alien a ∷ []) addr d was
-    (came _ _ _ _ (leaves_alien (accepting_by d.body is.0))))
-
-fall_brought : (capacity : ℕ) (setup : Setup) (past news : List Entry) (addr : ℕ) (found : Option DeviceSetup) →
-    device_at setup.devices addr ≡ found → OfHopper found (λ d. news ≡ fall_entry d past ∷ []) →
-    Brought capacity setup past (step.Fall addr) news
-fall_brought capacity setup past news addr None was told = absurd told
-fall_brought capacity setup past news addr (Some d) was told =
-    let is = kind_holds (is_hopper d.body) _ told in
-    subst (Brought capacity setup past (step.Fall addr)) (sym is.1)
-    (there capacity setup past step.Fall (λ a. fall_entry d past ∷ []) addr d was
-    (fall_comes capacity setup d past (remaining d.serial (met d past) == 0) (paying_by d.body is.0) refl))
-
-jam_brought : (capacity : ℕ) (setup : Setup) (past news : List Entry) (addr : ℕ) (found : Option DeviceSetup) →
-    device_at setup.devices addr ≡ found → OfHopper found (λ d. news ≡ jam_entry d past ∷ []) →
-    Brought capacity setup past (step.Jam addr) news
-jam_brought capacity setup past news addr None was told = absurd told
-jam_brought capacity setup past news addr (Some d) was told =
-    let is = kind_holds (is_hopper d.body) _ told in
-    subst (Brought capacity setup past (step.Jam addr)) (sym is.1)
-    (there capacity setup past step.Jam (λ a. jam_entry d past ∷ []) addr d was
-    (jam_comes capacity setup d past (remaining d.serial (met d past) == 0) (paying_by d.body is.0) refl))
-
-reset_brought : (capacity : ℕ) (setup : Setup) (past news : List Entry) (addr : ℕ) (found : Option DeviceSetup) →
-    device_at setup.devices addr ≡ found → OfDevice found (λ d. news ≡ entry.Reset addr ∷ []) →
-    Brought capacity setup past (step.Reset addr) news
-reset_brought capacity setup past news addr None was told = absurd told
-reset_brought capacity setup past news addr (Some d) was told =
-    subst (Brought capacity setup past (step.Reset addr)) (sym told)
-    (there capacity setup past step.Reset (λ a. entry.Reset a ∷ []) addr d was (came _ _ _ _ is_reset))
+happening_brought : (capacity : ℕ) (setup : Setup) (past news : List Entry) (addr : ℕ) (what : Happening)
+    (found : Option DeviceSetup) → device_at setup.devices addr ≡ found →
+    OfKnowing what found (λ d. news ≡ happening_entry addr d past what ∷ []) →
+    Brought capacity setup past (step_of addr what) news
+happening_brought capacity setup past news addr what None was told = absurd told
+happening_brought capacity setup past news addr what (Some d) was told =
+    let is = kind_holds (known_to what (family_of d.body)) _ told in
+    subst (Brought capacity setup past (step_of addr what)) (sym is.1)
+    (there capacity setup past (λ a. step_of a what) (λ a. happening_entry a d past what ∷ []) addr d was
+    (happening_comes capacity setup d past what is.0))
 
 -- a command
 free_if : (at_work : Job) → unless (not (is_busy at_work)) Busy ≡ None → at_work ≡ free
@@ -606,11 +584,16 @@ crash_brought capacity setup past news (Some at) choice told = put_lost capacity
 -- each legal step brought one of these
 pub brought : (capacity : ℕ) (setup : Setup) (past news : List Entry) (s : Step) → Entries capacity setup past s news →
     Brought capacity setup past s news
-brought capacity setup past news (step.Coin addr place) told = coin_brought capacity setup past news addr place _ refl told
-brought capacity setup past news (step.Alien addr) told = alien_brought capacity setup past news addr _ refl told
-brought capacity setup past news (step.Fall addr) told = fall_brought capacity setup past news addr _ refl told
-brought capacity setup past news (step.Jam addr) told = jam_brought capacity setup past news addr _ refl told
-brought capacity setup past news (step.Reset addr) told = reset_brought capacity setup past news addr _ refl told
+brought capacity setup past news (step.Coin addr place) told =
+    happening_brought capacity setup past news addr (happening.Coin place) _ refl told
+brought capacity setup past news (step.Alien addr) told =
+    happening_brought capacity setup past news addr happening.Alien _ refl told
+brought capacity setup past news (step.Fall addr) told =
+    happening_brought capacity setup past news addr happening.Fall _ refl told
+brought capacity setup past news (step.Jam addr) told =
+    happening_brought capacity setup past news addr happening.Jam _ refl told
+brought capacity setup past news (step.Reset addr) told =
+    happening_brought capacity setup past news addr happening.Reset _ refl told
 brought capacity setup past news (step.Fault f) told = subst (Brought capacity setup past (step.Fault f)) (sym told) (faulted f)
 brought capacity setup past news (step.Command c) told =
     subst (Brought capacity setup past (step.Command c)) (sym told) (command_brought capacity setup past c _ refl)

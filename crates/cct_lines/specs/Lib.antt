@@ -6,6 +6,7 @@ pub use Rattle.cct_terms.specs.History
 pub use Rattle.cct_terms.specs.Setting
 pub use Rattle.cct_terms.specs.Acceptor
 pub use Rattle.cct_terms.specs.Hopper
+pub use Rattle.cct_terms.specs.Family
 pub use Rattle.cct_terms.specs.Device
 pub use Rattle.cct_terms.specs.Exchange
 pub use Rattle.cct_terms.specs.Setup

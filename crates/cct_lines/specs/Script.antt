@@ -1,9 +1,10 @@
 -- What a script says: its setup, its steps, and the first line that is refused, with its kind (docs/SCRIPT.md).
-use Rattle.std.specs.Prelude.{◌≤◌, ℕ, ◌+◌, ◌==◌, ◌&&◌, nat_lt, Bool, true, false, List, [], ◌∷◌, length, if◌then◌else◌, Option, Some, None, is_some, Result, Ok, Err, ⊤}
+use Rattle.std.specs.Prelude.{◌≤◌, ℕ, ◌+◌, ◌==◌, ◌&&◌, nat_lt, Bool, true, false, List, [], ◌∷◌, length, if◌then◌else◌, Option, Some, None, Result, Ok, Err, ⊤}
 use Rattle.std.specs.List.{slice_split, before_first}
 use Rattle.cct_lines.specs.terms.coin.TheConstants.{COIN_PLACES, PATHS}
 use Rattle.cct_lines.specs.terms.wire.TheConstants.{MOST_HEARD, MOST_SENT}
 use Rattle.cct_lines.specs.terms.device.Setup.{Setup}
+use Rattle.cct_lines.specs.terms.family.Happening.TheVariants as happening
 use Rattle.cct_lines.specs.declared.entry.TheConstants.{MOST_LINE, MOST_LINES}
 use Rattle.cct_lines.specs.declared.setup.SetupLine.{SetupLine}
 use Rattle.cct_lines.specs.declared.setup.SetupLine.TheVariants as says
@@ -16,7 +17,7 @@ use Rattle.cct_lines.specs.declared.command.Step.{Step}
 use Rattle.cct_lines.specs.declared.command.Step.TheVariants as step
 use Rattle.cct_lines.specs.declared.entry.LineKind.{LineKind}
 use Rattle.cct_lines.specs.declared.entry.LineKind.TheVariants as kind
-use Rattle.cct_lines.specs.Exchange.{device_at, acceptor_there, hopper_there}
+use Rattle.cct_lines.specs.Exchange.{device_at, known_there}
 use Rattle.cct_lines.specs.Grammar.{is_space, setup_line, step_line, added}
 
 -- The byte is a line feed.
@@ -56,13 +57,13 @@ read_setup_line setup (Err why) = refuses why
 read_setup_line setup (Ok says.Begin) = opens (at_steps setup)
 read_setup_line setup (Ok line) = opened (added setup line)
 
--- A step names a device that the setup has, and of the kind that it needs.
+-- Where a step befalls a device, the setup has that device, and its family knows this.
 abbrev pub is_known : Setup → Step → Bool
-is_known setup (step.Coin addr place) = acceptor_there (device_at setup.devices addr)
-is_known setup (step.Alien addr) = acceptor_there (device_at setup.devices addr)
-is_known setup (step.Fall addr) = hopper_there (device_at setup.devices addr)
-is_known setup (step.Jam addr) = hopper_there (device_at setup.devices addr)
-is_known setup (step.Reset addr) = is_some (device_at setup.devices addr)
+is_known setup (step.Coin addr place) = known_there (happening.Coin place) (device_at setup.devices addr)
+is_known setup (step.Alien addr) = known_there happening.Alien (device_at setup.devices addr)
+is_known setup (step.Fall addr) = known_there happening.Fall (device_at setup.devices addr)
+is_known setup (step.Jam addr) = known_there happening.Jam (device_at setup.devices addr)
+is_known setup (step.Reset addr) = known_there happening.Reset (device_at setup.devices addr)
 is_known setup s = true
 
 -- A step of a script: one that names a device that isn't there is refused.

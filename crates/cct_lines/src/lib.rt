@@ -11,8 +11,8 @@ mod setup;
 
 pub use cct_terms::{
     BROADCAST, Bytes, COIN_PLACES, CheckKind, Coin, Coins, Credits, DEVICES, DeviceBody,
-    DeviceSetup, Devices, ENABLE_CODE, EVENTS, HOST, MOST_HEARD, MOST_NAME, MOST_SENT, Name, PATHS,
-    Pair, Piece, Reply, ReplyForm, Request, Sent, Setup, Texts, has_place,
+    DeviceSetup, Devices, ENABLE_CODE, EVENTS, Family, HOST, Happening, MOST_HEARD, MOST_NAME,
+    MOST_SENT, Name, PATHS, Pair, Piece, Reply, ReplyForm, Request, Sent, Setup, Texts, has_place,
 };
 pub use command::{Command, CommandNo, CrashAt, Step, WireFault};
 pub use device_set::DeviceSet;

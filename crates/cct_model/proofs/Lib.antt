@@ -7,6 +7,7 @@ pub use Rattle.cct_lines.proofs.Sound
 pub mod Polls
 pub mod Doses
 pub mod OpenOrders
+pub mod Knowing
 pub mod Rows
 pub mod Tries
 pub mod RowEnds

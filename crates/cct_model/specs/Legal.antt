@@ -4,6 +4,8 @@ use Rattle.cct_model.specs.terms.wire.TheConstants.{BROADCAST, HOST}
 use Rattle.cct_model.specs.terms.wire.CheckKind.{CheckKind}
 use Rattle.cct_model.specs.terms.device.DeviceSetup.{DeviceSetup}
 use Rattle.cct_model.specs.terms.device.Setup.{Setup}
+use Rattle.cct_model.specs.terms.family.Happening.{Happening}
+use Rattle.cct_model.specs.terms.family.Happening.TheVariants as happening
 use Rattle.cct_model.specs.lines.command.Command.{Command}
 use Rattle.cct_model.specs.lines.command.CommandNo.{CommandNo}
 use Rattle.cct_model.specs.lines.command.CrashAt.{CrashAt}
@@ -14,7 +16,7 @@ use Rattle.cct_model.specs.lines.entry.End.{End}
 use Rattle.cct_model.specs.lines.entry.Entry.{Entry}
 use Rattle.cct_model.specs.lines.entry.Entry.TheVariants as entry
 use Rattle.cct_model.specs.Acceptor.{accepts, path_of}
-use Rattle.cct_model.specs.Device.{is_acceptor, is_hopper}
+use Rattle.cct_model.specs.Family.{family_of, known_to}
 use Rattle.cct_model.specs.Hopper.{remaining}
 use Rattle.cct_model.specs.Exchange.{ask, asked, device_at}
 use Rattle.cct_model.specs.Line.{Line, exchange, put}
@@ -41,6 +43,22 @@ fall_entry d past = if remaining d.serial (met d past) == 0 then entry.NoFall d.
 -- The entry of a coin that may stick in a hopper: it does where the hopper has some left to pay.
 abbrev pub jam_entry : DeviceSetup → List Entry → Entry
 jam_entry d past = if remaining d.serial (met d past) == 0 then entry.NoJam d.addr else entry.Jammed d.addr
+
+-- The step by which something befalls the device at an address.
+abbrev pub step_of : ℕ → Happening → Step
+step_of addr (happening.Coin place) = step.Coin addr place
+step_of addr happening.Alien = step.Alien addr
+step_of addr happening.Fall = step.Fall addr
+step_of addr happening.Jam = step.Jam addr
+step_of addr happening.Reset = step.Reset addr
+
+-- The entry of what befalls the device at an address.
+abbrev pub happening_entry : ℕ → DeviceSetup → List Entry → Happening → Entry
+happening_entry addr d past (happening.Coin place) = coin_entry d past place
+happening_entry addr d past happening.Alien = entry.Alien addr
+happening_entry addr d past happening.Fall = fall_entry d past
+happening_entry addr d past happening.Jam = jam_entry d past
+happening_entry addr d past happening.Reset = entry.Reset addr
 
 -- The entry of a command: taken, or refused with its reason.
 abbrev pub command_entry : Command → Option CommandNo → Entry
@@ -103,13 +121,9 @@ abbrev pub OfDevice : Option DeviceSetup → (DeviceSetup → Type 0) → Type 0
 OfDevice None P = ⊥
 OfDevice (Some d) P = P d
 
--- A fact of the acceptor at an address; there has to be one.
-abbrev pub OfAcceptor : Option DeviceSetup → (DeviceSetup → Type 0) → Type 0
-OfAcceptor found P = OfDevice found (λ d. MatchBool (is_acceptor d.body) (P d) ⊥)
-
--- A fact of the hopper at an address; there has to be one.
-abbrev pub OfHopper : Option DeviceSetup → (DeviceSetup → Type 0) → Type 0
-OfHopper found P = OfDevice found (λ d. MatchBool (is_hopper d.body) (P d) ⊥)
+-- A fact of the device at an address; there has to be one, of a family that knows this.
+abbrev pub OfKnowing : Happening → Option DeviceSetup → (DeviceSetup → Type 0) → Type 0
+OfKnowing what found P = OfDevice found (λ d. MatchBool (known_to what (family_of d.body)) (P d) ⊥)
 
 -- A fact of the device at an address where there is one, else another.
 abbrev pub OfNext : Option DeviceSetup → (DeviceSetup → Type 0) → Type 0 → Type 0
@@ -165,16 +179,20 @@ abbrev pub EntriesOfCrash : Setup → List Entry → Option CrashAt → List Ent
 EntriesOfCrash setup past None news = news ≡ bare_crash past
 EntriesOfCrash setup past (Some at) news = CrashEntries past at.calls (due_at setup past at.addr) news
 
+-- The entries of what befalls the device at an address: one.
+abbrev pub EntriesOfHappening : Setup → List Entry → ℕ → Happening → List Entry → Type 0
+EntriesOfHappening setup past addr what news =
+    OfKnowing what (device_at setup.devices addr) (λ d. news ≡ happening_entry addr d past what ∷ [])
+
 -- The entries of a step after all that came before, newest first, over a journal that takes so many records. The choice of a
 -- loss of power is a disk's: here either outcome is one that it may have, where the gate was written and not yet synced.
 -- The end of a script is no step of a run.
 abbrev pub Entries : ℕ → Setup → List Entry → Step → List Entry → Type 0
-Entries capacity setup past (step.Coin addr place) news =
-    OfAcceptor (device_at setup.devices addr) (λ d. news ≡ coin_entry d past place ∷ [])
-Entries capacity setup past (step.Alien addr) news = OfAcceptor (device_at setup.devices addr) (λ d. news ≡ entry.Alien addr ∷ [])
-Entries capacity setup past (step.Fall addr) news = OfHopper (device_at setup.devices addr) (λ d. news ≡ fall_entry d past ∷ [])
-Entries capacity setup past (step.Jam addr) news = OfHopper (device_at setup.devices addr) (λ d. news ≡ jam_entry d past ∷ [])
-Entries capacity setup past (step.Reset addr) news = OfDevice (device_at setup.devices addr) (λ d. news ≡ entry.Reset addr ∷ [])
+Entries capacity setup past (step.Coin addr place) news = EntriesOfHappening setup past addr (happening.Coin place) news
+Entries capacity setup past (step.Alien addr) news = EntriesOfHappening setup past addr happening.Alien news
+Entries capacity setup past (step.Fall addr) news = EntriesOfHappening setup past addr happening.Fall news
+Entries capacity setup past (step.Jam addr) news = EntriesOfHappening setup past addr happening.Jam news
+Entries capacity setup past (step.Reset addr) news = EntriesOfHappening setup past addr happening.Reset news
 Entries capacity setup past (step.Fault f) news = news ≡ entry.Fault f ∷ []
 Entries capacity setup past (step.Command c) news = news ≡ command_entry c (refusal capacity setup past c) ∷ []
 Entries capacity setup past (step.Next addr) news = EntriesOfNext (heard_after setup past) setup past addr news

@@ -7,6 +7,7 @@ pub use Rattle.cct_lines.specs.History
 pub use Rattle.cct_lines.specs.Setting
 pub use Rattle.cct_lines.specs.Acceptor
 pub use Rattle.cct_lines.specs.Hopper
+pub use Rattle.cct_lines.specs.Family
 pub use Rattle.cct_lines.specs.Device
 pub use Rattle.cct_lines.specs.Exchange
 pub use Rattle.cct_lines.specs.Setup

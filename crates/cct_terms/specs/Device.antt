@@ -1,5 +1,5 @@
 -- A device of a setup: what it is, and what it replies after all that it met.
-use Rattle.std.specs.Prelude.{ℕ, ◌-◌, ◌<◌, ◌≤◌, ◌≡◌, ◌^◌, Bool, true, false, List, length, Option, Some, None, codes, slice_index_or, ⊤}
+use Rattle.std.specs.Prelude.{ℕ, ◌-◌, ◌<◌, ◌≤◌, ◌≡◌, ◌^◌, Bool, List, length, Option, Some, None, codes, slice_index_or, ⊤}
 use Rattle.std.specs.List.{All}
 use Rattle.std.specs.Option.{option_or}
 use Rattle.cct_terms.specs.declared.coin.TheConstants.{COIN_PLACES}
@@ -7,10 +7,12 @@ use Rattle.cct_terms.specs.declared.wire.TheConstants.{MOST_NAME}
 use Rattle.cct_terms.specs.declared.device.DeviceBody.{DeviceBody}
 use Rattle.cct_terms.specs.declared.device.DeviceBody.TheVariants.{Acceptor, Hopper}
 use Rattle.cct_terms.specs.declared.device.DeviceSetup.{DeviceSetup}
+use Rattle.cct_terms.specs.declared.family.Family.TheVariants as family
 use Rattle.cct_terms.specs.declared.request.Request.{Request}
 use Rattle.cct_terms.specs.declared.request.Request.TheVariants.{SimplePoll, MakerId, Category, ProductCode, SerialNumber, SoftwareRevision, BuildCode, CommsRevision, ResetDevice}
 use Rattle.cct_terms.specs.Reply.{Reply}
 use Rattle.cct_terms.specs.Reply as reply
+use Rattle.cct_terms.specs.Family.{family_of, is_same}
 use Rattle.cct_terms.specs.History.{Met}
 use Rattle.cct_terms.specs.Acceptor.{acceptor_reply}
 use Rattle.cct_terms.specs.Hopper.{hopper_reply}
@@ -57,13 +59,11 @@ IsHopper (Hopper life value) = ⊤
 
 -- Whether a device is a coin acceptor.
 abbrev pub is_acceptor : DeviceBody → Bool
-is_acceptor (Acceptor accepts values ids) = true
-is_acceptor (Hopper life value) = false
+is_acceptor body = is_same family.Acceptor (family_of body)
 
 -- Whether a device is a hopper.
 abbrev pub is_hopper : DeviceBody → Bool
-is_hopper (Acceptor accepts values ids) = false
-is_hopper (Hopper life value) = true
+is_hopper body = is_same family.Hopper (family_of body)
 
 -- The value of a coin place of a device, 0 where it has none.
 abbrev pub value_at : DeviceBody → ℕ → ℕ

@@ -4,12 +4,14 @@ use Rattle.std.specs.Option.{option_or, option_map}
 use Rattle.cct_terms.specs.declared.wire.TheConstants.{BROADCAST, HOST}
 use Rattle.cct_terms.specs.declared.wire.CheckKind.{CheckKind}
 use Rattle.cct_terms.specs.declared.device.DeviceSetup.{DeviceSetup}
+use Rattle.cct_terms.specs.declared.family.Happening.{Happening}
 use Rattle.cct_terms.specs.declared.request.Request.{Request}
 use Rattle.cct_terms.specs.declared.request.Request.TheVariants.{AddressPoll}
 use Rattle.cct_terms.specs.declared.request.ReplyForm.{ReplyForm}
 use Rattle.cct_terms.specs.Message.{Message, message, spelling}
 use Rattle.cct_terms.specs.Request.{header_of, data_of, request_of}
 use Rattle.cct_terms.specs.Reply.{Reply, reply_header, reply_data, reply_in}
+use Rattle.cct_terms.specs.Family.{family_of, known_to}
 use Rattle.cct_terms.specs.History.{Met}
 use Rattle.cct_terms.specs.Device.{is_acceptor, is_hopper, reply_of}
 
@@ -112,6 +114,11 @@ by_address (d ∷ ds) = put_by_address d (by_address ds)
 abbrev pub device_at : List DeviceSetup → ℕ → Option DeviceSetup
 device_at [] addr = None
 device_at (d ∷ ds) addr = if d.addr == addr then Some d else device_at ds addr
+
+-- Whether there is a device, of a family that knows this.
+abbrev pub known_there : Happening → Option DeviceSetup → Bool
+known_there what (Some d) = known_to what (family_of d.body)
+known_there what None = false
 
 -- Whether the device at an address is a coin acceptor.
 abbrev pub acceptor_there : Option DeviceSetup → Bool

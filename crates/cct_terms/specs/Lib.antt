@@ -5,6 +5,7 @@ pub mod History
 pub mod Setting
 pub mod Acceptor
 pub mod Hopper
+pub mod Family
 pub mod Device
 pub mod Exchange
 pub mod Setup

@@ -3,8 +3,9 @@ ghost use Rattle.std.specs.Prelude.{◌≡◌, ◌<◌, ◌≤◌, ◌==◌, Lis
 ghost use Rattle.std.specs.Option.{option_map};
 ghost use Rattle.cct_terms.specs.Device.{is_acceptor, is_hopper, value_at};
 ghost use Rattle.cct_terms.specs.Exchange.{device_at};
+ghost use Rattle.cct_terms.specs.Family.{family_of};
 
-use crate::{COIN_PLACES, CheckKind, Name};
+use crate::{COIN_PLACES, CheckKind, Family, Name};
 use arrayvec::ArrayVec;
 use std::alloc::AllocError;
 use std::marker::Model;
@@ -46,13 +47,23 @@ impl Default for DeviceBody {
 }
 
 impl DeviceBody {
+    /// Its family.
+    pub fn family(&self) -> Family
+        ensures { result ≡ family_of self.now }
+    {
+        match self {
+            DeviceBody::Acceptor { .. } => Family::Acceptor,
+            DeviceBody::Hopper { .. } => Family::Hopper,
+        }
+    }
+
     /// Whether it is a coin acceptor.
     pub fn is_acceptor(&self) -> bool
         ensures { result ≡ is_acceptor self.now }
     {
-        match self {
-            DeviceBody::Acceptor { .. } => true,
-            DeviceBody::Hopper { .. } => false,
+        match self.family() {
+            Family::Acceptor => true,
+            Family::Hopper => false,
         }
     }
 
@@ -60,9 +71,9 @@ impl DeviceBody {
     pub fn is_hopper(&self) -> bool
         ensures { result ≡ is_hopper self.now }
     {
-        match self {
-            DeviceBody::Acceptor { .. } => false,
-            DeviceBody::Hopper { .. } => true,
+        match self.family() {
+            Family::Acceptor => false,
+            Family::Hopper => true,
         }
     }
 

@@ -1,84 +1,121 @@
 -- What one step leaves of the host and the bus.
 use Rattle.std.proofs.Common.{◌≡◌, ℕ, Bool, true, false, cond, List, [], ◌∷◌, ◌++◌, reverse, refl, sym, ap, subst}
-use Rattle.std.proofs.Common.{◌∙◌, Option, Some, None}
-use Rattle.std.specs.Prelude.{IsTrue, MatchBool, is_some, not}
+use Rattle.std.proofs.Common.{◌∙◌, Option}
+use Rattle.std.specs.Prelude.{◌==◌, not}
 use Rattle.std.proofs.lemmas.List.{reverse-reverse}
 use Rattle.cct_model.specs.terms.coin.Coin.{Coin}
 use Rattle.cct_model.specs.terms.device.DeviceSetup.{DeviceSetup}
 use Rattle.cct_model.specs.terms.device.Setup.{Setup}
+use Rattle.cct_model.specs.terms.family.Happening.{Happening}
+use Rattle.cct_model.specs.terms.family.Happening.TheVariants as happening
 use Rattle.cct_model.specs.lines.command.Command.{Command}
 use Rattle.cct_model.specs.lines.command.CommandNo.{CommandNo}
 use Rattle.cct_model.specs.lines.entry.Entry.{Entry}
 use Rattle.cct_model.specs.lines.entry.Entry.TheVariants as entry
 use Rattle.cct_model.specs.lines.entry.Totals.{Totals}
 use Rattle.cct_model.specs.Acceptor.{accepts}
-use Rattle.cct_model.specs.Device.{is_acceptor, is_hopper}
-use Rattle.cct_model.specs.Exchange.{acceptor_there}
-use Rattle.cct_model.specs.Legal.{EntriesOfNext, OfAcceptor, OfDevice, OfHopper, coin_entry, command_entry}
+use Rattle.cct_model.specs.Exchange.{device_at}
+use Rattle.cct_model.specs.Hopper.{remaining}
+use Rattle.cct_model.specs.Legal.{Entries, EntriesOfHappening, EntriesOfNext, command_entry, happening_entry, step_of}
 use Rattle.cct_model.specs.Money.{totals}
+use Rattle.cct_model.specs.Records.{records}
 use Rattle.cct_model.specs.Refusal.{refusal}
 use Rattle.cct_model.specs.Transcript.{heard_after, met}
-use Rattle.cct_acceptor.specs.declared.acceptor.Inserted.{Inserted}
+use Rattle.cct_model.proofs.Knowing.{knowing_both}
 use Rattle.cct_acceptor.specs.declared.acceptor.Inserted.TheVariants as taken
-use Rattle.cct_acceptor.specs.Acceptor.{inserted}
 use Rattle.cct_bus.specs.declared.bus.Bus.{Bus}
+use Rattle.cct_bus.specs.declared.outcome.Outcome.{Outcome}
+use Rattle.cct_bus.specs.declared.outcome.Outcome.TheVariants as outcome
 use Rattle.cct_bus.specs.Bus as wires
+use Rattle.cct_bus.specs.Outcome.{becomes, of_effect, of_inserted}
 use Rattle.cct_disk.specs.declared.disk.Disk.{Ghosts}
 use Rattle.cct_host.specs.declared.host.Host.{Host}
 use Rattle.cct_host.specs.Attempt.{HeardBy, news_of}
 use Rattle.cct_host.specs.Host as hosts
 use Rattle.cct_host.specs.Host.{PutSuits}
-use Rattle.cct_host.proofs.Lines.{IsQuiet, accepted_quiet, inhibited_quiet}
+use Rattle.cct_host.proofs.Commands.{address_there}
+use Rattle.cct_host.proofs.Lines.{IsQuiet, accepted_quiet, alien_quiet, fall_quiet, inhibited_quiet, jam_quiet, reset_quiet}
 use Rattle.cct_host.proofs.Quiet.{balance_quiet, host_quiet}
-use Rattle.cct_world.specs.Step.{entry_of, fall_told, jam_told}
+use Rattle.cct_world.specs.Restarts.{kept_in}
+use Rattle.cct_world.specs.Step.{crashes, entry_told}
 use Rattle.cct_world.proofs.Wires.{balance_wire, command_wire, linked}
 
 -- a report with one entry
 pub one_entry : (before after : List Entry) (e : Entry) → before ≡ [] → after ≡ before ++ e ∷ [] → after ≡ e ∷ []
 one_entry before after e none is = is ∙ ap (λ es. es ++ e ∷ []) none
 
-match_true : (test : Bool) (A : Type 0) → IsTrue test → A → MatchBool test A ⊥
-match_true true A holds a = a
-match_true false A holds a = absurd cc
+-- the entries of what befalls a device are those of its step
+pub entries_are : (capacity : ℕ) (setup : Setup) (past : List Entry) (addr : ℕ) (what : Happening) (news : List Entry)
+    → EntriesOfHappening setup past addr what news → Entries capacity setup past (step_of addr what) news
+entries_are capacity setup past addr (happening.Coin place) news are = are
+entries_are capacity setup past addr happening.Alien news are = are
+entries_are capacity setup past addr happening.Fall news are = are
+entries_are capacity setup past addr happening.Jam news are = are
+entries_are capacity setup past addr happening.Reset news are = are
 
--- a fact of the device that is there
-pub of_acceptor : (found : Option DeviceSetup) (A : Type 0) → IsTrue (acceptor_there found) → A
-    → OfAcceptor found (λ d. A)
-of_acceptor None A there a = absurd cc
-of_acceptor (Some d) A there a = match_true (is_acceptor d.body) A there a
+-- by what becomes of it, it is told as it is to be
+entry_is : (d : DeviceSetup) (addr : ℕ) (what : Happening) (past : List Entry) → d.addr ≡ addr
+    → entry_told addr what (becomes what d.serial (met d past)) ≡ happening_entry addr d past what
+entry_is d addr (happening.Coin place) past is =
+    ap (λ a. entry_told a (happening.Coin place) (becomes (happening.Coin place) d.serial (met d past))) (sym is)
+    ∙ by_taken (accepts (met d past) place) _
+  where
+    by_taken : (took : Bool) (c : Coin)
+        → entry_told d.addr (happening.Coin place) (of_inserted (cond took (taken.Accepted c) taken.Inhibited))
+        ≡ cond took (entry.Accepted d.addr c) (entry.Inhibited d.addr place)
+    by_taken true c = refl
+    by_taken false c = refl
+entry_is d addr happening.Alien past is = refl
+entry_is d addr happening.Fall past is =
+    ap (λ a. entry_told a happening.Fall (becomes happening.Fall d.serial (met d past))) (sym is)
+    ∙ by_left (remaining d.serial (met d past) == 0)
+  where
+    by_left : (none : Bool) → entry_told d.addr happening.Fall (of_effect (not none))
+        ≡ cond none (entry.NoFall d.addr) (entry.Fell d.addr)
+    by_left true = refl
+    by_left false = refl
+entry_is d addr happening.Jam past is =
+    ap (λ a. entry_told a happening.Jam (becomes happening.Jam d.serial (met d past))) (sym is)
+    ∙ by_left (remaining d.serial (met d past) == 0)
+  where
+    by_left : (none : Bool) → entry_told d.addr happening.Jam (of_effect (not none))
+        ≡ cond none (entry.NoJam d.addr) (entry.Jammed d.addr)
+    by_left true = refl
+    by_left false = refl
+entry_is d addr happening.Reset past is = refl
 
-pub of_device : (found : Option DeviceSetup) (A : Type 0) → IsTrue (is_some found) → A → OfDevice found (λ d. A)
-of_device None A there a = absurd cc
-of_device (Some d) A there a = a
+-- and changes no job, no epoch, no open order and no record
+happening_quiet : (d : DeviceSetup) (addr : ℕ) (what : Happening) (past : List Entry)
+    → IsQuiet past (happening_entry addr d past what)
+happening_quiet d addr (happening.Coin place) past = by_taken (accepts (met d past) place) _
+  where
+    by_taken : (took : Bool) (c : Coin) → IsQuiet past (cond took (entry.Accepted d.addr c) (entry.Inhibited d.addr place))
+    by_taken true c = accepted_quiet past d.addr c
+    by_taken false c = inhibited_quiet past d.addr place
+happening_quiet d addr happening.Alien past = alien_quiet past addr
+happening_quiet d addr happening.Fall past = fall_quiet (remaining d.serial (met d past) == 0) past d.addr
+happening_quiet d addr happening.Jam past = jam_quiet (remaining d.serial (met d past) == 0) past d.addr
+happening_quiet d addr happening.Reset past = reset_quiet past addr
 
--- a coin
-coin_by : (took : Bool) (addr place : ℕ) (c : Coin)
-    → entry_of (cond took (taken.Accepted c) taken.Inhibited) addr place ≡ cond took (entry.Accepted addr c)
-    (entry.Inhibited addr place)
-coin_by true addr place c = refl
-coin_by false addr place c = refl
+-- it tells no loss of power, puts no record, and tells none as kept
+abbrev IsPlain : List Entry → Type 0
+IsPlain news = (crashes news ≡ 0) × (records news ≡ []) × (kept_in news ≡ [])
 
-coin_is : (d : DeviceSetup) (addr place : ℕ) (past : List Entry) (result : Inserted) → d.addr ≡ addr
-    → result ≡ inserted (met d past) place → entry_of result addr place ≡ coin_entry d past place
-coin_is d addr place past result is told =
-    ap (λ r. entry_of r addr place) told
-    ∙ ap (λ a. entry_of (inserted (met d past) place) a place) (sym is)
-    ∙ coin_by (accepts (met d past) place) d.addr place _
+one_plain : (addr : ℕ) (what : Happening) (became : Outcome) → IsPlain (entry_told addr what became ∷ [])
+one_plain addr (happening.Coin place) (outcome.Accepted c) = (refl, refl, refl)
+one_plain addr (happening.Coin place) became = (refl, refl, refl)
+one_plain addr happening.Alien became = (refl, refl, refl)
+one_plain addr happening.Fall outcome.Done = (refl, refl, refl)
+one_plain addr happening.Fall became = (refl, refl, refl)
+one_plain addr happening.Jam outcome.Done = (refl, refl, refl)
+one_plain addr happening.Jam became = (refl, refl, refl)
+one_plain addr happening.Reset became = (refl, refl, refl)
 
-coin_quiet : (took : Bool) (addr place : ℕ) (c : Coin) (past : List Entry)
-    → IsQuiet past (cond took (entry.Accepted addr c) (entry.Inhibited addr place))
-coin_quiet true addr place c past = accepted_quiet past addr c
-coin_quiet false addr place c past = inhibited_quiet past addr place
-
--- a coin that falls out of a hopper, or sticks in it
-pub fall_by : (none : Bool) (addr : ℕ)
-    → fall_told (not none) addr ≡ cond none (entry.NoFall addr) (entry.Fell addr)
-fall_by true addr = refl
-fall_by false addr = refl
-
-pub jam_by : (none : Bool) (addr : ℕ) → jam_told (not none) addr ≡ cond none (entry.NoJam addr) (entry.Jammed addr)
-jam_by true addr = refl
-jam_by false addr = refl
+pub told_plain : (before after : List Entry) (addr : ℕ) (what : Happening) (became : Outcome) (e : Entry) → before ≡ []
+    → after ≡ before ++ e ∷ [] → e ≡ entry_told addr what became → IsPlain (reverse after)
+told_plain before after addr what became e none is told =
+    subst (λ es. IsPlain (reverse es)) (sym (one_entry before after e none is ∙ ap (λ x. x ∷ []) told))
+    (one_plain addr what became)
 
 module _ {D : Type 0} {g : Ghosts D} where
   -- what a step leaves that gave this report
@@ -132,55 +169,20 @@ module _ {D : Type 0} {g : Ghosts D} where
       subst (λ r. (reverse r ≡ command_entry c (refusal capacity setup past c) ∷ []) × Left host bus past r) (sym is)
       (ap (λ n. command_entry c n ∷ []) answer, (stands, command_wire bus past c refused wired))
 
-  -- what a coin gives and leaves
-  abbrev pub CoinGoes : Option DeviceSetup → Host D g → Bus → List Entry → ℕ → List Entry → Type 0
-  CoinGoes found host bus past place report =
-      OfAcceptor found (λ d. reverse report ≡ coin_entry d past place ∷ []) × Left host bus past report
+  -- what something that befalls a device gives and leaves
+  abbrev pub HappeningGoes : Setup → Happening → ℕ → Host D g → Bus → List Entry → List Entry → Type 0
+  HappeningGoes setup what addr host bus past report =
+      EntriesOfHappening setup past addr what (reverse report) × Left host bus past report
 
-  coin_at : (kind : Bool) (d : DeviceSetup) (addr place : ℕ) (host : Host D g) (bus : Bus) (past report : List Entry)
-      (result : Inserted) → d.addr ≡ addr
-      → MatchBool kind ((result ≡ inserted (met d past) place) × wires.StandsFor bus (coin_entry d past place ∷ past)) ⊥
-      → report ≡ entry_of result addr place ∷ [] → hosts.StandsFor host past
-      → MatchBool kind (reverse report ≡ coin_entry d past place ∷ []) ⊥ × Left host bus past report
-  coin_at true d addr place host bus past report result here told said stands =
-      one_goes host bus past (coin_entry d past place) report
-      (said ∙ ap (λ x. x ∷ []) (coin_is d addr place past result here told.0))
-      (coin_quiet (accepts (met d past) place) d.addr place _ past) stands told.1
-  coin_at false d addr place host bus past report result here told said stands = absurd told
-
-  pub coin_goes : (found : Option DeviceSetup) (addr place : ℕ) (host : Host D g) (bus : Bus) (past report : List Entry)
-      (result : Inserted) → ((d : DeviceSetup) → found ≡ Some d → d.addr ≡ addr)
-      → OfAcceptor found
-      (λ d. (result ≡ inserted (met d past) place) × wires.StandsFor bus (coin_entry d past place ∷ past))
-      → report ≡ entry_of result addr place ∷ [] → hosts.StandsFor host past
-      → CoinGoes found host bus past place report
-  coin_goes None addr place host bus past report result there told said stands = absurd told
-  coin_goes (Some d) addr place host bus past report result there told said stands =
-      coin_at (is_acceptor d.body) d addr place host bus past report result (there d refl) told said stands
-
-  -- what a coin that may fall or stick gives and leaves
-  abbrev pub HopperGoes : Option DeviceSetup → (DeviceSetup → Entry) → Host D g → Bus → List Entry → List Entry → Type 0
-  HopperGoes found said host bus past report =
-      OfHopper found (λ d. reverse report ≡ said d ∷ []) × Left host bus past report
-
-  hopper_at : (kind : Bool) (d : DeviceSetup) (addr : ℕ) (host : Host D g) (bus : Bus) (past report : List Entry)
-      (told : Bool → ℕ → Entry) (said : DeviceSetup → Entry) (is : Bool) (result : Bool) → d.addr ≡ addr
-      → told is d.addr ≡ said d → IsQuiet past (said d)
-      → MatchBool kind ((result ≡ is) × wires.StandsFor bus (said d ∷ past)) ⊥
-      → report ≡ told result addr ∷ [] → hosts.StandsFor host past
-      → MatchBool kind (reverse report ≡ said d ∷ []) ⊥ × Left host bus past report
-  hopper_at true d addr host bus past report told said is result here same quiet goes report_is stands =
-      one_goes host bus past (said d) report
-      (report_is ∙ ap (λ x. x ∷ []) (ap (λ b. told b addr) goes.0 ∙ ap (told is) (sym here) ∙ same)) quiet stands goes.1
-  hopper_at false d addr host bus past report told said is result here same quiet goes report_is stands = absurd goes
-
-  pub hopper_goes : (found : Option DeviceSetup) (addr : ℕ) (host : Host D g) (bus : Bus) (past report : List Entry)
-      (told : Bool → ℕ → Entry) (said : DeviceSetup → Entry) (is : DeviceSetup → Bool) (result : Bool)
-      → ((d : DeviceSetup) → found ≡ Some d → d.addr ≡ addr) → ((d : DeviceSetup) → told (is d) d.addr ≡ said d)
-      → ((d : DeviceSetup) → IsQuiet past (said d))
-      → OfHopper found (λ d. (result ≡ is d) × wires.StandsFor bus (said d ∷ past))
-      → report ≡ told result addr ∷ [] → hosts.StandsFor host past → HopperGoes found said host bus past report
-  hopper_goes None addr host bus past report told said is result there same quiet goes report_is stands = absurd goes
-  hopper_goes (Some d) addr host bus past report told said is result there same quiet goes report_is stands =
-      hopper_at (is_hopper d.body) d addr host bus past report told said (is d) result (there d refl) (same d)
-      (quiet d) goes report_is stands
+  pub happening_goes : (setup : Setup) (addr : ℕ) (what : Happening) (host : Host D g) (bus : Bus)
+      (past report : List Entry) (became : Outcome) → wires.Befalls setup past addr what became bus
+      → report ≡ entry_told addr what became ∷ [] → hosts.StandsFor host past
+      → HappeningGoes setup what addr host bus past report
+  happening_goes setup addr what host bus past report became befalls said stands =
+      knowing_both what (device_at setup.devices addr)
+      (λ d. (became ≡ becomes what d.serial (met d past)) × wires.StandsFor bus (happening_entry addr d past what ∷ past))
+      (λ d. reverse report ≡ happening_entry addr d past what ∷ []) (Left host bus past report)
+      (λ d at goes. one_goes host bus past (happening_entry addr d past what) report
+      (said ∙ ap (λ x. x ∷ []) (ap (entry_told addr what) goes.0
+      ∙ entry_is d addr what past (address_there setup.devices addr d at)))
+      (happening_quiet d addr what past) stands goes.1) befalls

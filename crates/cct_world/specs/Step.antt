@@ -1,11 +1,13 @@
--- Steps, the entries of coins, and losses of power.
-use Rattle.std.specs.Prelude.{◌≡◌, ℕ, zero, suc, ◌+◌, ◌≤◌, Bool, true, false, List, [], ◌∷◌, Option, if◌then◌else◌}
+-- Steps, the entries of what befalls devices, and losses of power.
+use Rattle.std.specs.Prelude.{◌≡◌, ℕ, zero, suc, ◌+◌, ◌≤◌, Bool, true, false, List, [], ◌∷◌, Option}
+use Rattle.cct_model.specs.terms.family.Happening.{Happening}
+use Rattle.cct_model.specs.terms.family.Happening.TheVariants as happening
 use Rattle.cct_model.specs.lines.command.Step.{Step}
 use Rattle.cct_model.specs.lines.command.Step.TheVariants as step
 use Rattle.cct_model.specs.lines.entry.Entry.{Entry}
 use Rattle.cct_model.specs.lines.entry.Entry.TheVariants as entry
-use Rattle.cct_acceptor.specs.declared.acceptor.Inserted.{Inserted}
-use Rattle.cct_acceptor.specs.declared.acceptor.Inserted.TheVariants as inserted
+use Rattle.cct_bus.specs.declared.outcome.Outcome.{Outcome}
+use Rattle.cct_bus.specs.declared.outcome.Outcome.TheVariants as outcome
 use Rattle.cct_edge.specs.Faults.{next_count}
 use Rattle.cct_journal.specs.Stands.{CutOnce, GoesOn, Outlasts}
 use Rattle.cct_host.specs.declared.refusal.CrashNo.{CrashNo}
@@ -13,18 +15,16 @@ use Rattle.cct_host.specs.declared.refusal.CrashNo.TheVariants as crash_no
 use Rattle.cct_world.specs.declared.refusal.WorldNo.{WorldNo}
 use Rattle.cct_world.specs.declared.refusal.WorldNo.TheVariants as world_no
 
--- The entry of what becomes of a coin of a place at an address.
-abbrev pub entry_of : Inserted → ℕ → ℕ → Entry
-entry_of (inserted.Accepted c) addr place = entry.Accepted addr c
-entry_of inserted.Inhibited addr place = entry.Inhibited addr place
-
--- The entry of a coin that may fall out of a hopper at an address, by whether it does.
-abbrev pub fall_told : Bool → ℕ → Entry
-fall_told fell addr = if fell then entry.Fell addr else entry.NoFall addr
-
--- The entry of a coin that may stick in a hopper at an address, by whether it does.
-abbrev pub jam_told : Bool → ℕ → Entry
-jam_told stuck addr = if stuck then entry.Jammed addr else entry.NoJam addr
+-- The entry of what befell the device at an address, by what became of it.
+abbrev pub entry_told : ℕ → Happening → Outcome → Entry
+entry_told addr (happening.Coin place) (outcome.Accepted c) = entry.Accepted addr c
+entry_told addr (happening.Coin place) became = entry.Inhibited addr place
+entry_told addr happening.Alien became = entry.Alien addr
+entry_told addr happening.Fall outcome.Done = entry.Fell addr
+entry_told addr happening.Fall became = entry.NoFall addr
+entry_told addr happening.Jam outcome.Done = entry.Jammed addr
+entry_told addr happening.Jam became = entry.NoJam addr
+entry_told addr happening.Reset became = entry.Reset addr
 
 -- Why a step isn't played, where a host isn't started again behind a loss of power.
 abbrev pub unplayed : CrashNo → WorldNo

@@ -1,9 +1,10 @@
 //! The machine of a world: the host, and the bus with its devices.
-ghost use Rattle.std.specs.Prelude.{◌≡◌, ◌≢◌, ◌≤◌, ◌+◌, [], IfErr, IsTrue, List, OnErr, OnOk, false, is_some, length, reverse};
+ghost use Rattle.std.specs.Prelude.{◌≡◌, ◌≢◌, ◌≤◌, ◌+◌, [], IfErr, IsTrue, List, OnErr, OnOk, false, length, reverse};
 ghost use Rattle.cct_model.specs.lines.command.Step.TheVariants as step;
-ghost use Rattle.cct_model.specs.Exchange.{acceptor_there, device_at, hopper_there};
+ghost use Rattle.cct_model.specs.Exchange.{device_at, known_there};
+ghost use Rattle.cct_model.specs.Family.{IsPlaced};
 ghost use Rattle.cct_model.specs.lines.entry.Entry.{Entry};
-ghost use Rattle.cct_model.specs.Legal.{is_played};
+ghost use Rattle.cct_model.specs.Legal.{is_played, step_of};
 ghost use Rattle.cct_model.specs.Money.{totals};
 ghost use Rattle.cct_model.specs.Records.{records};
 ghost use Rattle.cct_model.specs.Script.{IsCrash, IsFault, IsInRange, is_known};
@@ -13,16 +14,15 @@ ghost use Rattle.cct_journal.specs.Stands.{CutOnce, GoesOn, Outlasts};
 ghost use Rattle.cct_host.specs.Host as hosts;
 ghost use Rattle.cct_host.specs.Restarting.{crash_news};
 ghost use Rattle.cct_world.specs.Restarts.{kept_in};
-ghost use Rattle.cct_world.specs.Step.{CutsIn, LastsIn, crashes, crashes_of, entry_of, fall_told, is_next, jam_told, unplayed};
+ghost use Rattle.cct_world.specs.Step.{CutsIn, LastsIn, crashes, crashes_of, entry_told, is_next, unplayed};
 
 use crate::refusal::WorldNo;
 use arrayvec::ArrayVec;
-use cct_acceptor::Inserted;
-use cct_bus::Bus;
+use cct_bus::{Bus, Outcome};
 use cct_disk::Disk;
 use cct_edge::Failed;
 use cct_host::{CrashNo, Crashed, Host};
-use cct_model::{COIN_PLACES, Command, CrashAt, Entry, Step, Totals, WireFault};
+use cct_model::{Command, CrashAt, Entry, Happening, Step, Totals, WireFault};
 
 /// The host and the bus of a world. They stand in a box, so that a world that is moved costs a pointer.
 #[derive(Drop)]
@@ -39,11 +39,11 @@ impl<D: Disk> Machine<'_, D> {
         ensures { result ≡ is_known (setup_of self.now) step.now }
     {
         match step {
-            Step::Coin { addr, .. } => self.bus.is_acceptor(*addr),
-            Step::Alien { addr } => self.bus.is_acceptor(*addr),
-            Step::Fall { addr } => self.bus.is_hopper(*addr),
-            Step::Jam { addr } => self.bus.is_hopper(*addr),
-            Step::Reset { addr } => self.bus.has_device(*addr),
+            Step::Coin { addr, place } => self.bus.knows(*addr, Happening::Coin { place: *place }),
+            Step::Alien { addr } => self.bus.knows(*addr, Happening::Alien),
+            Step::Fall { addr } => self.bus.knows(*addr, Happening::Fall),
+            Step::Jam { addr } => self.bus.knows(*addr, Happening::Jam),
+            Step::Reset { addr } => self.bus.knows(*addr, Happening::Reset),
             Step::Fault(_) => true,
             Step::Next { .. } => true,
             Step::Command(_) => true,
@@ -108,11 +108,13 @@ impl<D: Disk> Machine<'_, D> {
         ensures restarts { RestartsBy self.old self.new step.now (reverse report.new.items) }
     {
         match step {
-            Step::Coin { addr, place } => self.coin(*addr, *place, report),
-            Step::Alien { addr } => self.alien(*addr, report),
-            Step::Fall { addr } => self.fall(*addr, report),
-            Step::Jam { addr } => self.jam(*addr, report),
-            Step::Reset { addr } => self.reset(*addr, report),
+            Step::Coin { addr, place } => {
+                self.befall(*addr, Happening::Coin { place: *place }, report)
+            }
+            Step::Alien { addr } => self.befall(*addr, Happening::Alien, report),
+            Step::Fall { addr } => self.befall(*addr, Happening::Fall, report),
+            Step::Jam { addr } => self.befall(*addr, Happening::Jam, report),
+            Step::Reset { addr } => self.befall(*addr, Happening::Reset, report),
             Step::Fault(fault) => self.fault(fault, report),
             Step::Command(command) => self.command(command, report),
             Step::Balance => self.balance(report),
@@ -161,81 +163,20 @@ impl<D: Disk> Machine<'_, D> {
         }
     }
 
-    /// A coin falls into an acceptor.
-    fn coin(&mut self, addr: u8, place: u8, report: &mut ArrayVec<Entry, 8>)
-        requires there { IsTrue (acceptor_there (device_at (setup_of self.old).devices addr)) }
-        requires low { 1 ≤ place }
-        requires high { place ≤ COIN_PLACES }
+    /// Something befalls a device of a family that knows it.
+    fn befall(&mut self, addr: u8, what: Happening, report: &mut ArrayVec<Entry, 8>)
+        requires known { IsTrue (known_there what (device_at (setup_of self.old).devices addr)) }
+        requires placed { IsPlaced what }
         requires report { report.old.items ≡ [] }
         ensures setup { setup_of self.new ≡ setup_of self.old }
         ensures journal { hosts.journal_of self.new.host ≡ hosts.journal_of self.old.host }
-        ensures plays { Plays self.old self.new (step.Coin addr place) report.new.items }
+        ensures plays { Plays self.old self.new (step_of addr what) report.new.items }
         ensures told { crashes (reverse report.new.items) ≡ 0 }
         ensures recorded { records (reverse report.new.items) ≡ [] }
         ensures unkept { kept_in (reverse report.new.items) ≡ [] }
     {
-        let inserted = self.bus.coin(addr, place);
-        report.push(coin_entry(inserted, addr, place));
-    }
-
-    /// A piece that is no coin falls into an acceptor.
-    fn alien(&mut self, addr: u8, report: &mut ArrayVec<Entry, 8>)
-        requires there { IsTrue (acceptor_there (device_at (setup_of self.old).devices addr)) }
-        requires report { report.old.items ≡ [] }
-        ensures setup { setup_of self.new ≡ setup_of self.old }
-        ensures journal { hosts.journal_of self.new.host ≡ hosts.journal_of self.old.host }
-        ensures plays { Plays self.old self.new (step.Alien addr) report.new.items }
-        ensures told { crashes (reverse report.new.items) ≡ 0 }
-        ensures recorded { records (reverse report.new.items) ≡ [] }
-        ensures unkept { kept_in (reverse report.new.items) ≡ [] }
-    {
-        self.bus.alien(addr);
-        report.push(Entry::Alien { addr });
-    }
-
-    /// A coin may fall out of a hopper: it does where the hopper has some left to pay.
-    fn fall(&mut self, addr: u8, report: &mut ArrayVec<Entry, 8>)
-        requires there { IsTrue (hopper_there (device_at (setup_of self.old).devices addr)) }
-        requires report { report.old.items ≡ [] }
-        ensures setup { setup_of self.new ≡ setup_of self.old }
-        ensures journal { hosts.journal_of self.new.host ≡ hosts.journal_of self.old.host }
-        ensures plays { Plays self.old self.new (step.Fall addr) report.new.items }
-        ensures told { crashes (reverse report.new.items) ≡ 0 }
-        ensures recorded { records (reverse report.new.items) ≡ [] }
-        ensures unkept { kept_in (reverse report.new.items) ≡ [] }
-    {
-        let does = self.bus.fall(addr);
-        report.push(fall_told(does, addr));
-    }
-
-    /// A coin may stick in a hopper: it does where the hopper has some left to pay.
-    fn jam(&mut self, addr: u8, report: &mut ArrayVec<Entry, 8>)
-        requires there { IsTrue (hopper_there (device_at (setup_of self.old).devices addr)) }
-        requires report { report.old.items ≡ [] }
-        ensures setup { setup_of self.new ≡ setup_of self.old }
-        ensures journal { hosts.journal_of self.new.host ≡ hosts.journal_of self.old.host }
-        ensures plays { Plays self.old self.new (step.Jam addr) report.new.items }
-        ensures told { crashes (reverse report.new.items) ≡ 0 }
-        ensures recorded { records (reverse report.new.items) ≡ [] }
-        ensures unkept { kept_in (reverse report.new.items) ≡ [] }
-    {
-        let does = self.bus.jam(addr);
-        report.push(jam_told(does, addr));
-    }
-
-    /// A device starts again as after power-up.
-    fn reset(&mut self, addr: u8, report: &mut ArrayVec<Entry, 8>)
-        requires there { IsTrue (is_some (device_at (setup_of self.old).devices addr)) }
-        requires report { report.old.items ≡ [] }
-        ensures setup { setup_of self.new ≡ setup_of self.old }
-        ensures journal { hosts.journal_of self.new.host ≡ hosts.journal_of self.old.host }
-        ensures plays { Plays self.old self.new (step.Reset addr) report.new.items }
-        ensures told { crashes (reverse report.new.items) ≡ 0 }
-        ensures recorded { records (reverse report.new.items) ≡ [] }
-        ensures unkept { kept_in (reverse report.new.items) ≡ [] }
-    {
-        self.bus.reset(addr);
-        report.push(Entry::Reset { addr });
+        let outcome = self.bus.befall(addr, what);
+        report.push(entry_told(addr, what, outcome));
     }
 
     /// The wire has a fault in the next exchange.
@@ -343,34 +284,27 @@ fn unplayed(why: CrashNo) -> WorldNo
     }
 }
 
-/// The entry of what becomes of a coin.
-fn coin_entry(inserted: Inserted, addr: u8, place: u8) -> Entry
-    ensures { result ≡ entry_of inserted addr place }
+/// The entry of what befell the device at an address, by what became of it.
+fn entry_told(addr: u8, what: Happening, outcome: Outcome) -> Entry
+    ensures { result ≡ entry_told addr what outcome }
 {
-    match inserted {
-        Inserted::Accepted(coin) => Entry::Accepted { addr, coin },
-        Inserted::Inhibited => Entry::Inhibited { addr, place },
-    }
-}
-
-/// The entry of a coin that may fall out of a hopper, by whether it does.
-fn fall_told(fell: bool, addr: u8) -> Entry
-    ensures { result ≡ fall_told fell addr }
-{
-    if fell {
-        Entry::Fell { addr }
-    } else {
-        Entry::NoFall { addr }
-    }
-}
-
-/// The entry of a coin that may stick in a hopper, by whether it does.
-fn jam_told(stuck: bool, addr: u8) -> Entry
-    ensures { result ≡ jam_told stuck addr }
-{
-    if stuck {
-        Entry::Jammed { addr }
-    } else {
-        Entry::NoJam { addr }
+    match what {
+        Happening::Coin { place } => match outcome {
+            Outcome::Accepted(coin) => Entry::Accepted { addr, coin },
+            Outcome::Done => Entry::Inhibited { addr, place },
+            Outcome::Nothing => Entry::Inhibited { addr, place },
+        },
+        Happening::Alien => Entry::Alien { addr },
+        Happening::Fall => match outcome {
+            Outcome::Done => Entry::Fell { addr },
+            Outcome::Accepted(_) => Entry::NoFall { addr },
+            Outcome::Nothing => Entry::NoFall { addr },
+        },
+        Happening::Jam => match outcome {
+            Outcome::Done => Entry::Jammed { addr },
+            Outcome::Accepted(_) => Entry::NoJam { addr },
+            Outcome::Nothing => Entry::NoJam { addr },
+        },
+        Happening::Reset => Entry::Reset { addr },
     }
 }

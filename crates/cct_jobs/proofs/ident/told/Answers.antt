@@ -7,12 +7,12 @@ use Rattle.cct_jobs.proofs.ident.told.Goals as goal
 
 pub returns-in-Some-clause-device : goal.returns-in-Some-clause-device
 returns-in-Some-clause-device c = λ d command since state owed failed y at.
-    let next : question_after c.args.device.is_acceptor c.args.question ≡ Some c.in-Some.question = cc in
+    let next : question_after c.args.device.family c.args.question ≡ Some c.in-Some.question = cc in
     subst (λ (job : Job). Stands d job command (exchange (Some c.args.question) (Some y) ∷ since) state owed)
     (sym c.first_try.ensures)
     (ident_on at c.in-Some.question y next)
 
 pub returns-in-None-clause-device : goal.returns-in-None-clause-device
 returns-in-None-clause-device c = λ d command since state owed failed y at.
-    let last : question_after c.args.device.is_acceptor c.args.question ≡ None = cc in
+    let last : question_after c.args.device.family c.args.question ≡ None = cc in
     ident_told at y last

@@ -1,8 +1,14 @@
-use Rattle.std.proofs.Common.{◌∙◌, Some, ap, refl, subst}
+use Rattle.std.proofs.Common.{◌∙◌, ◌∷◌, Some, ap, refl, subst, sym}
+use Rattle.cct_model.specs.terms.request.TheConstants.{ENABLE_CODE}
+use Rattle.cct_model.specs.terms.request.Request.TheVariants.{Enable, StopNow}
+use Rattle.cct_model.specs.Line.{exchange}
+use Rattle.cct_model.specs.Reply.{reply_shown}
 use Rattle.cct_model.specs.Request.{form_of}
 use Rattle.cct_jobs.specs.declared.payout.Payout.{Payout}
 use Rattle.cct_jobs.specs.declared.stage.Stage.TheVariants.{Pays}
-use Rattle.cct_jobs.specs.Jobs.{Asking, payout_request}
+use Rattle.cct_jobs.specs.declared.job.Job.{Job}
+use Rattle.cct_jobs.specs.Jobs.{Asking, Stands, payout_request}
+use Rattle.cct_jobs.proofs.Payments.{enabled_counts, stop_waits}
 use Rattle.cct_jobs.proofs.Stages.{as_answered}
 use Rattle.cct_jobs.proofs.payment.answered.Goals as goal
 
@@ -44,3 +50,22 @@ returns-in-Recounts-clause-device c = λ d command since state owed failed at.
     c.life_in-in-Recounts.ensures.value
     (c.closes.ensures.device d c.args.device c.in-Recounts.closing command since state owed failed
     (subst (λ (r : Payout). Asking d c.args.device (Pays r) failed command since state owed) c.in-Recounts.is at))
+
+pub returns-in-Enables-clause-device : goal.returns-in-Enables-clause-device
+returns-in-Enables-clause-device c = λ d command since state owed failed at.
+    as_answered d _ command since state owed _ _ _ _ (ap payout_request c.in-Enables.is) refl
+    (subst (λ (job : Job). Stands d job command (exchange (Some (Enable ENABLE_CODE)) (Some (reply_shown c.args.reply.now)) ∷ since) state owed)
+    (sym c.first_try.ensures)
+    (enabled_counts (reply_shown c.args.reply.now)
+    (subst (λ (r : Payout). Asking d c.args.device (Pays r) failed command since state owed) c.in-Enables.is at)))
+
+pub returns-in-Stops-clause-device : goal.returns-in-Stops-clause-device
+unfolding form_of
+returns-in-Stops-clause-device c = λ d command since state owed failed at.
+    let a = c.in-Stops in
+    as_answered d _ command since state owed _ _ _ _ (ap payout_request a.is) refl
+    (subst (λ (job : Job). Stands d job command (exchange (Some StopNow) (Some (reply_shown c.args.reply.now)) ∷ since)
+    state owed) (sym c.settles.ensures)
+    (stop_waits (reply_shown c.args.reply.now)
+    (c.requires.wanted ∙ ap (λ (r : Payout). form_of (payout_request r)) a.is)
+    (subst (λ (r : Payout). Asking d c.args.device (Pays r) failed command since state owed) a.is at)))

@@ -1,8 +1,9 @@
-use Rattle.std.proofs.Common.{◌∙◌, ap, subst}
+use Rattle.std.proofs.Common.{◌∙◌, ap, refl, subst}
 use Rattle.cct_model.specs.Request.{form_of}
 use Rattle.cct_jobs.specs.declared.stage.Stage.{Stage}
+use Rattle.cct_jobs.specs.declared.stage.Stage.TheVariants.{StartReads}
 use Rattle.cct_jobs.specs.Jobs.{Asking, request_of}
-use Rattle.cct_jobs.proofs.Stages.{as_answered}
+use Rattle.cct_jobs.proofs.Stages.{as_answered, stage_on}
 use Rattle.cct_jobs.proofs.start.answered.Goals as goal
 
 pub credits_in-requires : goal.credits_in-requires
@@ -14,3 +15,10 @@ returns-in-StartReads-clause-device c = λ d command since state owed failed at.
     as_answered d _ command since state owed _ _ _ _ (ap request_of c.in-StartReads.is) c.credits_in.ensures
     (c.after_reset.ensures.device d command since state owed failed
     (subst (λ (s : Stage). Asking d c.args.device s failed command since state owed) c.in-StartReads.is at))
+
+pub returns-in-StartResets-clause-device : goal.returns-in-StartResets-clause-device
+returns-in-StartResets-clause-device c = λ d command since state owed failed at.
+    let a = c.in-StartResets in
+    let here = subst (λ (s : Stage). Asking d c.args.device s failed command since state owed) a.is at in
+    as_answered d _ command since state owed _ _ _ _ (ap request_of a.is) refl
+    (stage_on here _ (StartReads a.mask) c.first_try.ensures tt _ refl tt tt refl)

@@ -1,0 +1,32 @@
+use Rattle.std.proofs.Common.{◌∙◌, [], ◌∷◌, ap, subst}
+use Rattle.cct_world.proofs.Steps.{HappeningGoes, entries_are, happening_goes, one_entry, told_plain}
+use Rattle.cct_bus.specs.Bus as wires
+use Rattle.cct_host.specs.Host as hosts
+use Rattle.cct_world.specs.Machine.{capacity_in}
+use Rattle.cct_world.proofs.machine.Machine.befall.Goals as goal
+
+pub returns-clause-plays : goal.returns-clause-plays
+returns-clause-plays g c past stands suits survives =
+    let machine = c.args.self.now in
+    let bus = c.befall-outcome.new.self in
+    let report = c.push.new.self.items in
+    let said = one_entry _ _ _ c.requires.report c.push.ensures.items ∙ ap (λ e. e ∷ []) c.entry_told.ensures in
+    let goes = happening_goes (wires.setup_of machine.bus) c.args.addr c.args.what machine.host bus past report
+    c.befall-outcome.result (c.befall-outcome.ensures.stands past stands.bus) said stands.host in
+    let here =
+    subst (λ s. HappeningGoes s c.args.what c.args.addr machine.host bus past report) machine.same goes in (
+      entries_are (capacity_in machine) (hosts.setup_of machine.host) past c.args.addr c.args.what _ here.0,
+      record { host = here.1.0; bus = here.1.1 },
+    )
+
+pub returns-clause-told : goal.returns-clause-told
+returns-clause-told g c =
+    (told_plain _ _ _ _ _ _ c.requires.report c.push.ensures.items c.entry_told.ensures).0
+
+pub returns-clause-recorded : goal.returns-clause-recorded
+returns-clause-recorded g c =
+    (told_plain _ _ _ _ _ _ c.requires.report c.push.ensures.items c.entry_told.ensures).1
+
+pub returns-clause-unkept : goal.returns-clause-unkept
+returns-clause-unkept g c =
+    (told_plain _ _ _ _ _ _ c.requires.report c.push.ensures.items c.entry_told.ensures).2
