@@ -19,6 +19,7 @@ use Rattle.cct_model.specs.Device.{is_acceptor, is_hopper}
 use Rattle.cct_model.specs.Exchange.{acceptor_there, device_at, hopper_there}
 use Rattle.cct_model.specs.Job as model
 use Rattle.cct_model.specs.Rows as table
+use Rattle.cct_model.specs.Rows.{has_waits}
 use Rattle.cct_model.specs.Job.{address_of}
 use Rattle.cct_model.specs.Line.{Line}
 use Rattle.cct_model.specs.Order.{order}
@@ -26,7 +27,8 @@ use Rattle.cct_model.specs.Refusal.{View, first_of, id_refusal, is_busy, last_id
 use Rattle.cct_model.specs.Transcript.{lines_of, sale_lines, scan_lines}
 use Rattle.cct_jobs.specs.declared.job.Job.{Job}
 use Rattle.cct_host.specs.declared.dues.Dues.{Dues}
-use Rattle.cct_jobs.specs.Jobs.{IsRunning, MayBegin, Stands, end_of_job, halts, is_of_device, order_of}
+use Rattle.cct_jobs.specs.Ahead.{ahead}
+use Rattle.cct_jobs.specs.Jobs.{IsRunning, MayBegin, Stands, end_of_job, is_of_device, order_of}
 use Rattle.cct_jobs.specs.Sales.{StandsSale}
 use Rattle.cct_jobs.specs.Scans.{StandsScan}
 use Rattle.cct_host.specs.Desk.{Keeps, Works}
@@ -55,7 +57,7 @@ halts_is : (d : DeviceSetup) (job : Option Job) (j : model.Job) (state : EpochSt
     → is_running job ≡ true → Works (device d) job j state owed → halts_in job ≡ table.can_halt d j
 halts_is d None model.free state owed runs works = refl
 halts_is d (Some job) (model.works c since) state owed runs works =
-    halts_known d job c since state owed (halts job) refl works
+    halts_known d job c since state owed (has_waits (ahead job)) refl works
     (sym (end_known d job c since state owed (end_of_job job) refl works) ∙ none_of (end_of_job job) runs)
 halts_is d None (model.works c since) state owed runs works = absurd works
 halts_is d (Some job) model.free state owed runs works = absurd works
@@ -184,7 +186,7 @@ address_there (e ∷ es) addr d is = there_by (e.addr == addr) e d (device_at es
 pub command_taken : (setup : Setup) (d : DeviceSetup) (c : Command) (before : Option Job) (job : Job)
     (state : EpochState) (owed after : Dues) (last : ℕ) (past : List Entry) → last ≡ last_id setup past
     → is_of_device c ≡ true → is_running before ≡ true → after.order ≡ owed.order
-    → after.id ≡ running_id (model.works c [])
+    → after.id ≡ running_id d (model.works c [])
     → device_at setup.devices (address_of c) ≡ Some d → refusal_beside d before state owed last c ≡ None
     → MayBegin c setup.devices state (order_of owed.order) → Stands d job c [] state (order_of owed.order)
     → Keeps (device d) before state owed (lines_of d past)
@@ -198,7 +200,7 @@ command_taken setup d c before job state owed after last past is_last of_device 
           (subst (Stands d job c [] state) keeps.knows.1 stands)) (
             keeps.knows.0,
             ap order_of ordered ∙ keeps.knows.1,
-            named ∙ ap running_id (sym (begins_own c setup.devices state (order_of owed.order) _ may)),
+            named ∙ ap (running_id d) (sym (begins_own c setup.devices state (order_of owed.order) _ may)),
           ),
     )
 

@@ -6,18 +6,17 @@ use Rattle.cct_model.specs.terms.wire.TheConstants.{HOST}
 use Rattle.cct_model.specs.terms.device.DeviceSetup.{DeviceSetup}
 use Rattle.cct_model.specs.terms.device.Setup.{Setup}
 use Rattle.cct_model.specs.lines.command.Command.{Command}
-use Rattle.cct_model.specs.lines.command.Command.TheVariants as command
 use Rattle.cct_model.specs.lines.entry.End.{End}
 use Rattle.cct_model.specs.lines.entry.Entry.{Entry}
 use Rattle.cct_model.specs.declared.judging.EpochState.{EpochState}
 use Rattle.cct_model.specs.declared.judging.OpenOrder.{OpenOrder}
 use Rattle.cct_model.specs.Exchange.{device_at}
 use Rattle.cct_model.specs.Job as model
-use Rattle.cct_model.specs.Job.{done}
-use Rattle.cct_model.specs.Rows.{row, row_of_sale}
+use Rattle.cct_model.specs.Rows.{puts_in, row, row_of_sale}
 use Rattle.cct_model.specs.Legal.{due_of, due_of_sale, due_there, record_due}
 use Rattle.cct_model.specs.Line.{Line}
-use Rattle.cct_model.specs.Money.{coins_of, freed_by, hopper_value, reserved_at_work, reserved_by, sum_over}
+use Rattle.cct_model.specs.Rows as table
+use Rattle.cct_model.specs.Money.{coins_of, freed_by, hopper_value, reserved_at_work, reserved_by, sum_over, reserved_by_sale}
 use Rattle.cct_model.specs.Order.{order}
 use Rattle.cct_model.specs.Refusal.{held, holds_at, job_holds, order_holds, sale_holds}
 use Rattle.cct_model.specs.Transcript.{lines_of, sale_lines}
@@ -28,38 +27,44 @@ use Rattle.cct_jobs.specs.declared.job.Need.TheVariants as need
 use Rattle.cct_jobs.specs.declared.owed.Owed.{Owed}
 use Rattle.cct_jobs.specs.declared.payout.Payout.TheVariants.{Enables, Counts}
 use Rattle.cct_jobs.specs.declared.stage.Stage.{Stage}
-use Rattle.cct_jobs.specs.declared.stage.Stage.TheVariants.{Reads, Looks, Pays}
+use Rattle.cct_jobs.specs.declared.stage.Stage.TheVariants.{IdentAsks, Reads, Looks, Pays}
+use Rattle.cct_jobs.specs.declared.target.Target.{Target}
 use Rattle.cct_jobs.specs.declared.stage.Visit.TheVariants.{Round, Stop}
-use Rattle.cct_jobs.specs.Jobs.{Needs, Stands, closes_order, coins_reserved, end_of_job, is_closing, may_put_of, need_of, newest_end, order_of, price_reserved, stage_puts}
+use Rattle.cct_jobs.specs.Ahead.{ahead, coins_in, price_in, stage_ahead}
+use Rattle.cct_jobs.specs.Jobs.{Needs, Stands, end_of_job, need_of, newest_end, order_of}
 use Rattle.cct_jobs.specs.Sales.{NeedsSale, StandsSale, newest_sale_end}
 use Rattle.cct_jobs.proofs.Needs.{end_known, may_put_known, need_known}
 use Rattle.cct_jobs.proofs.Reserves.{closes_known, frees_by, reserves_known}
+use Rattle.cct_jobs.proofs.Told.{ident_none}
 use Rattle.cct_jobs.proofs.Sales.{price_freed, sale_end_known, sale_may_put, sale_need_known, sale_price}
 use Rattle.cct_host.specs.declared.desk.JobDesk.{JobDesk}
 use Rattle.cct_host.specs.declared.desks.Desks.{Desks}
 use Rattle.cct_host.specs.Desk.{AllSit, Sits, Works, held_at, held_in, reserved_over}
 use Rattle.cct_host.specs.Desks.{StandsFor, amount_at_desk, due_at_desk, held_of, reserved_of, setup_of}
-use Rattle.cct_host.specs.Held.{coins_by, due_by, held_by, order_left, price_by, put_in}
+use Rattle.cct_host.specs.Held.{coins_by, due_by, held_by, price_by, put_in}
 use Rattle.cct_host.specs.Place.{device, sales}
 use Rattle.cct_host.specs.Running.{is_running}
 
 -- a job puts two records at the most
 
-few_stage : (stage : Stage) → stage_puts stage ≤ 2
-few_stage (Reads Round recorded) = omega arith
-few_stage (Reads Stop recorded) = omega arith
-few_stage (Looks Round recorded read) = omega arith
-few_stage (Looks Stop recorded read) = omega arith
-few_stage (Pays (Enables id count halted)) = omega arith
-few_stage (Pays (Counts id count halted)) = omega arith
-few_stage (Pays row) = omega arith
-few_stage stage = omega arith
+few_stage : (stage : Stage) (target : Target) → puts_in (stage_ahead target stage) ≤ 2
+few_stage (Reads Round recorded) target = omega arith
+few_stage (Reads Stop recorded) target = omega arith
+few_stage (Looks Round recorded read) target = omega arith
+few_stage (Looks Stop recorded read) target = omega arith
+few_stage (IdentAsks question) target =
+    let none = ident_none puts_in (λ q behind rows. refl) target question in
+    omega (arith, none)
+few_stage (Pays (Enables id count halted)) target = omega arith
+few_stage (Pays (Counts id count halted)) target = omega arith
+few_stage (Pays row) target = omega arith
+few_stage stage target = omega arith
 
-few_puts : (job : Job) → may_put_of job ≤ 2
-few_puts (Asks target stage failed) = few_stage stage
+few_puts : (job : Job) → puts_in (ahead job) ≤ 2
+few_puts (Asks target stage failed) = few_stage stage target
 few_puts job = omega arith
 
-pub few_left : (job : Job) (n : ℕ) → n ≡ may_put_of job → n ≤ 2
+pub few_left : (job : Job) (n : ℕ) → n ≡ puts_in (ahead job) → n ≤ 2
 few_left job n is = let few = few_puts job in omega arith
 
 -- a job that runs, by its lines
@@ -79,27 +84,15 @@ plus_none n = omega arith
 
 -- what it holds
 
-left_of : (c : Command) (since : List Line) (owed : Option OpenOrder) (job : Job) → closes_order job ≡ is_closing c
-    → order_left (Some job) owed ≡ order_holds (model.works c since) owed
-left_of c since None job is = refl
-left_of (command.Pay addr id count) since (Some o) job is = ap (λ b. cond b 0 1) is
-left_of (command.Settle addr) since (Some o) job is = ap (λ b. cond b 0 1) is
-left_of c since (Some o) job is = ap (λ b. cond b 0 1) is
-
-free_left : (owed : Option OpenOrder) → order_left None owed ≡ order_holds model.free owed
-free_left None = refl
-free_left (Some o) = refl
-
 held_works : (d : DeviceSetup) (lines : List Line) (job : Option Job) (j : model.Job) (owed : Option OpenOrder)
     → is_running job ≡ true → Works (device d) job j (model.epoch lines) (order lines) → owed ≡ order lines
-    → held_by job owed ≡ job_holds d lines j + order_holds j (order lines)
-held_works d lines None model.free owed runs works is =
-    ap (λ n. 0 + n) (free_left owed ∙ ap (order_holds model.free) is)
+    → held_by job owed ≡ job_holds d (model.epoch lines) j + order_holds (table.closes_order d j) (order lines)
+held_works d lines None model.free owed runs works is = ap (λ o. 0 + order_holds false o) is
 held_works d lines (Some job) (model.works c since) owed runs works is =
     let on = on_of d job c since _ _ runs works in
     ap₂ (λ m n. m + n) (may_put_known d job c since _ _ _ refl works on)
-    (left_of c since owed job (closes_known d job c since _ _ _ refl works on)
-    ∙ ap (order_holds (model.works c since)) is)
+    (ap (λ b. order_holds b owed) (closes_known d job c since _ _ _ refl works on)
+    ∙ ap (order_holds (table.closes_order d (model.works c since))) is)
 held_works d lines None (model.works c since) owed runs works is = absurd works
 held_works d lines (Some job) model.free owed runs works is = absurd works
 
@@ -125,7 +118,7 @@ sale_held_works : (job : Option Job) (j : model.Job) (owed : Option Owed) (state
     → held_by job (order_of owed) ≡ sale_holds j
 sale_held_works None model.free owed state left runs works none = ap (λ o. held_by None (order_of o)) none
 sale_held_works (Some job) (model.works c since) owed state left runs works none =
-    ap (λ o. held_by (Some job) (order_of o)) none ∙ plus_none (may_put_of job)
+    ap (λ o. held_by (Some job) (order_of o)) none ∙ plus_none (puts_in (ahead job))
     ∙ sale_may_put job c since _ refl works (sale_on job c since runs works)
 sale_held_works None (model.works c since) owed state left runs works none = absurd works
 sale_held_works (Some job) model.free owed state left runs works none = absurd works
@@ -193,7 +186,7 @@ no_coins value = omega arith
 
 reserved_works : (setup : Setup) (d : DeviceSetup) (lines : List Line) (job : Option Job) (j : model.Job)
     → is_running job ≡ true → Works (device d) job j (model.epoch lines) (order lines)
-    → coins_of setup d.addr (coins_by job) ≡ reserved_by setup j
+    → coins_of setup d.addr (coins_by job) ≡ reserved_by setup d j
 reserved_works setup d lines None model.free runs works = no_coins (hopper_value (device_at setup.devices d.addr))
 reserved_works setup d lines (Some job) (model.works c since) runs works =
     reserves_known setup d job c since _ _ _ refl works (on_of d job c since _ _ runs works)
@@ -201,7 +194,7 @@ reserved_works setup d lines None (model.works c since) runs works = absurd work
 reserved_works setup d lines (Some job) model.free runs works = absurd works
 
 reserved_each : (setup : Setup) (ds : List DeviceSetup) (ks : List JobDesk) (past : List Entry) → AllSit past ds ks
-    → reserved_over setup ds ks ≡ sum_over (λ d. reserved_by setup (model.job (lines_of d past))) ds
+    → reserved_over setup ds ks ≡ sum_over (λ d. reserved_by setup d (model.job (lines_of d past))) ds
 reserved_each setup [] ks past all = refl
 reserved_each setup (d ∷ ds) [] past all = absurd all
 reserved_each setup (d ∷ ds) (k ∷ ks) past all =
@@ -209,7 +202,7 @@ reserved_each setup (d ∷ ds) (k ∷ ks) past all =
     (reserved_each setup ds ks past all.1)
 
 price_works : (setup : Setup) (job : Option Job) (j : model.Job) (state : EpochState) (owed : Option OpenOrder)
-    → is_running job ≡ true → Works sales job j state owed → price_by job ≡ reserved_by setup j
+    → is_running job ≡ true → Works sales job j state owed → price_by job ≡ reserved_by_sale setup j
 price_works setup None model.free state owed runs works = refl
 price_works setup (Some job) (model.works c since) state owed runs works =
     sale_price setup job c since _ refl works (sale_on job c since runs works)
@@ -227,7 +220,7 @@ reserved_is desks past stands =
 
 frees_need : (n : Need) (setup : Setup) (d : DeviceSetup) (job : Job) (c : Command) (since : List Line)
     (state : EpochState) (owed : Option OpenOrder) → need_of job ≡ n → Stands d job c since state owed
-    → IfSome (put_in n) (λ r. coins_of setup d.addr (coins_reserved job) ≡ freed_by setup r)
+    → IfSome (put_in n) (λ r. coins_of setup d.addr (coins_in (ahead job)) ≡ freed_by setup r)
 frees_need need.Exchange setup d job c since state owed is at = tt
 frees_need (need.Put r) setup d job c since state owed is at = frees_by setup d job c since state owed r is at
 frees_need (need.Done end) setup d job c since state owed is at = tt
@@ -250,7 +243,7 @@ frees_is setup d k sale past addr amount found is here amount_is sits =
     (frees_works setup d k.job _ _ _ sits.works)))
 
 sale_frees_need : (n : Need) (setup : Setup) (job : Job) (c : Command) (since : List Line) → need_of job ≡ n
-    → StandsSale job c since → IfSome (put_in n) (λ r. price_reserved job ≡ freed_by setup r)
+    → StandsSale job c since → IfSome (put_in n) (λ r. price_in (ahead job) ≡ freed_by setup r)
 sale_frees_need need.Exchange setup job c since is at = tt
 sale_frees_need (need.Put r) setup job c since is at = price_freed setup job c since r is at
 sale_frees_need (need.Done end) setup job c since is at = tt

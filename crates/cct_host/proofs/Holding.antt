@@ -1,7 +1,13 @@
 -- How what a desk holds and reserves changes, whatever happened before.
-use Rattle.std.proofs.Common.{◌≡◌, ℕ, ◌+◌, ◌≤◌, true, false, cond, List, [], ◌∷◌, refl, sym, ap, subst, ◌∙◌, Option, Some, None, arith}
+use Rattle.std.proofs.Common.{◌≡◌, ℕ, ◌+◌, ◌≤◌, Bool, true, false, List, [], ◌∷◌, refl, sym, ap, subst, ◌∙◌, Option, Some, None, arith}
 use Rattle.std.specs.Prelude.{IsTrue, is_some}
 use Rattle.cct_model.specs.terms.device.DeviceSetup.{DeviceSetup}
+use Rattle.cct_model.specs.terms.device.Setup.{Setup}
+use Rattle.cct_model.specs.Exchange.{device_at}
+use Rattle.cct_model.specs.terms.request.Request.{Request}
+use Rattle.cct_model.specs.Job.{address_of, ident_requests}
+use Rattle.cct_model.specs.Rows.{has_closes, has_waits, need_in, puts_in, rows_for, rows_of, telling}
+use Rattle.cct_model.proofs.Rows.{told_fact}
 use Rattle.cct_model.specs.lines.command.Command.{Command}
 use Rattle.cct_model.specs.lines.command.Command.TheVariants as command
 use Rattle.cct_model.specs.lines.entry.End.{End}
@@ -12,30 +18,34 @@ use Rattle.cct_model.specs.declared.judging.EpochState.{EpochState}
 use Rattle.cct_model.specs.declared.judging.OpenOrder.{OpenOrder}
 use Rattle.cct_model.specs.Line.{put}
 use Rattle.std.specs.Option.{IfSome}
-use Rattle.cct_model.specs.Refusal.{state_fails, state_tests}
+use Rattle.cct_model.specs.Refusal.{order_holds, state_fails, state_tests, unless}
+use Rattle.cct_model.specs.Device.{is_hopper}
+use Rattle.cct_model.specs.lines.command.CommandNo.TheVariants.{NoPayout, WrongKind}
+use Rattle.std.specs.Option.{option_or}
 use Rattle.cct_jobs.specs.declared.job.Job.{Job}
 use Rattle.cct_jobs.specs.declared.job.Job.TheVariants.{StartPuts, RoundPuts, StopPuts, StopEnds, OrderOpens, OrderCloses, SalePuts, Done}
 use Rattle.cct_jobs.specs.declared.job.Need.{Need}
 use Rattle.cct_jobs.specs.declared.job.Need.TheVariants as need
-use Rattle.cct_jobs.specs.Jobs.{IsPut, after_put, closes_order, coins_asked, coins_reserved, end_of_job, is_closing, is_of_device, may_put_of, need_of, order_of, price_reserved, records_of}
+use Rattle.cct_jobs.specs.Ahead.{ahead, coins_in, price_in}
+use Rattle.cct_jobs.specs.Jobs.{IsPut, after_put, end_of_job, is_of_device, need_of, order_of}
 use Rattle.cct_jobs.specs.Sales.{StandsSale}
 use Rattle.cct_host.specs.declared.dues.Dues.{Dues}
 use Rattle.cct_host.specs.Exchange.{HoldsLess}
 use Rattle.cct_host.specs.Held.{coins_by, due_by, held_by, order_left, price_by, put_in, puts_left, sells_only}
-use Rattle.cct_host.specs.Running.{Settles, busy_by, is_halt, needed, refusal_beside, sale_refusal, seen_at}
+use Rattle.cct_host.specs.Running.{Settles, busy_by, halting_refusal, is_halt, needed, refusal_beside, rows_begun, sale_refusal, seen_at}
 use Rattle.cct_laws.proofs.Tests.{Pass, all_pass}
 use Rattle.cct_host.proofs.Commands.{owed_where_free}
 
 -- what a job that went on or is gone may put
 put_left_by : (end : Option End) (new : Job) (kept : Option Job) (addr : ℕ) (report reported : List Entry)
-    → Settles end new addr kept report reported → puts_left kept ≤ may_put_of new
+    → Settles end new addr kept report reported → puts_left kept ≤ puts_in (ahead new)
 put_left_by None new kept addr report reported settled =
-    subst (λ k. puts_left k ≤ may_put_of new) (sym settled.0) (omega arith)
+    subst (λ k. puts_left k ≤ puts_in (ahead new)) (sym settled.0) (omega arith)
 put_left_by (Some end) new kept addr report reported settled =
-    subst (λ k. puts_left k ≤ may_put_of new) (sym settled.0) (omega arith)
+    subst (λ k. puts_left k ≤ puts_in (ahead new)) (sym settled.0) (omega arith)
 
 pub put_left : (new : Job) (kept : Option Job) (addr : ℕ) (report reported : List Entry)
-    → Settles (end_of_job new) new addr kept report reported → puts_left kept ≤ may_put_of new
+    → Settles (end_of_job new) new addr kept report reported → puts_left kept ≤ puts_in (ahead new)
 put_left new kept addr report reported settled = put_left_by (end_of_job new) new kept addr report reported settled
 
 coins_left_by : (end : Option End) (old new : Job) (kept : Option Job) (addr : ℕ)
@@ -55,7 +65,7 @@ ask_reserves old new kept addr report reported less settled =
 
 -- after a put
 
-coins_put : (job : Job) → IsPut (need_of job) → coins_reserved (after_put job) ≡ 0
+coins_put : (job : Job) → IsPut (need_of job) → coins_in (ahead (after_put job)) ≡ 0
 coins_put (StartPuts target mask) is = refl
 coins_put (RoundPuts entry end) is = refl
 coins_put (StopPuts target entry None) is = refl
@@ -67,7 +77,7 @@ coins_put (SalePuts id price) is = refl
 coins_put job is = absurd is
 
 none_after : (end : Option End) (new : Job) (kept : Option Job) (addr : ℕ) (report reported : List Entry)
-    → coins_reserved new ≡ 0 → Settles end new addr kept report reported → coins_by kept ≡ 0
+    → coins_in (ahead new) ≡ 0 → Settles end new addr kept report reported → coins_by kept ≡ 0
 none_after None new kept addr report reported none settled = ap coins_by settled.0 ∙ none
 none_after (Some end) new kept addr report reported none settled = ap coins_by settled.0
 
@@ -75,7 +85,7 @@ pub put_clears : (job new : Job) (kept : Option Job) (addr : ℕ) (report report
     → IsPut (need_of job) → new ≡ after_put job → Settles (end_of_job new) new addr kept report reported
     → coins_by kept ≡ 0
 put_clears job new kept addr report reported is goes settled =
-    none_after (end_of_job new) new kept addr report reported (ap coins_reserved goes ∙ coins_put job is) settled
+    none_after (end_of_job new) new kept addr report reported (ap (λ j. coins_in (ahead j)) goes ∙ coins_put job is) settled
 
 -- a sale asks nothing, and its put ends it
 pub sale_never_asks : (job : Job) (P : Type 0) → sells_only (Some job) ≡ true → need_of job ≡ need.Exchange → P
@@ -99,7 +109,7 @@ some_put (need.Put entry) P p = p
 some_put (need.Done end) P p = tt
 
 -- what is about to be put may be put
-due_puts : (job : Job) → IfSome (put_in (need_of job)) (λ r. 1 ≤ may_put_of job)
+due_puts : (job : Job) → IfSome (put_in (need_of job)) (λ r. 1 ≤ puts_in (ahead job))
 due_puts (StartPuts target mask) = omega arith
 due_puts (RoundPuts entry end) = omega arith
 due_puts (StopPuts target entry end) = omega arith
@@ -133,53 +143,80 @@ free_job d job state owed last (command.Ident addr) no_halt of_device free =
 free_job d job state owed last c no_halt of_device free = just_free job (passes d job state owed last c free).1.1.0
 
 -- the room that its command needs
-plain_room : (new : Job) (owed : Option OpenOrder) (n : ℕ) → closes_order new ≡ false → may_put_of new ≡ n
+plain_room : (new : Job) (owed : Option OpenOrder) (n : ℕ) → has_closes (ahead new) ≡ false → puts_in (ahead new) ≡ n
     → held_by (Some new) owed ≤ held_by None owed + n
 plain_room new None n is puts = omega (arith, puts)
 plain_room new (Some o) n is puts =
-    subst (λ b. may_put_of new + cond b 0 1 ≤ 0 + 1 + n) (sym is) (omega (arith, puts))
+    subst (λ b. puts_in (ahead new) + order_holds b (Some o) ≤ 0 + 1 + n) (sym is) (omega (arith, puts))
 
-closing_room : (new : Job) (owed : Option OpenOrder) (n : ℕ) → closes_order new ≡ true → may_put_of new ≤ n
+closing_room : (new : Job) (owed : Option OpenOrder) (n : ℕ) → has_closes (ahead new) ≡ true → puts_in (ahead new) ≤ n
     → held_by (Some new) owed ≤ n
 closing_room new None n is puts = omega (arith, puts)
 closing_room new (Some o) n is puts =
-    subst (λ b. may_put_of new + cond b 0 1 ≤ n) (sym is) (omega (arith, puts))
+    subst (λ b. puts_in (ahead new) + order_holds b (Some o) ≤ n) (sym is) (omega (arith, puts))
 
-settles_room : (new : Job) (owed : Option OpenOrder) → IsTrue (is_some owed) → closes_order new ≡ true
-    → may_put_of new ≡ 1 → held_by (Some new) owed ≤ held_by None owed + 0
+settles_room : (new : Job) (owed : Option OpenOrder) → IsTrue (is_some owed) → has_closes (ahead new) ≡ true
+    → puts_in (ahead new) ≡ 1 → held_by (Some new) owed ≤ held_by None owed + 0
 settles_room new None there is puts = absurd cc
 settles_room new (Some o) there is puts = closing_room new (Some o) (0 + 1 + 0) is (omega (arith, puts))
 
+told_closes : (qs : List Request) → has_closes (telling qs) ≡ false
+told_closes = told_fact (λ rows. has_closes rows ≡ false) refl (λ q behind rows none. none)
+
+told_puts : (qs : List Request) → puts_in (telling qs) ≡ 0
+told_puts = told_fact (λ rows. puts_in rows ≡ 0) refl (λ q behind rows none. none)
+
 room_by : (d : DeviceSetup) (job : Option Job) (state : EpochState) (owed : Dues) (last : ℕ) (c : Command) (new : Job)
-    → refusal_beside d job state owed last c ≡ None → may_put_of new ≡ records_of c → closes_order new ≡ is_closing c
-    → held_by (Some new) (order_of owed.order) ≤ held_by None (order_of owed.order) + needed c
-room_by d job state owed last (command.Pay addr id count) new free puts closes =
-    let room = closing_room new (order_of owed.order) 2 closes (omega (arith, puts)) in
+    → refusal_beside d job state owed last c ≡ None → ahead new ≡ rows_of d c
+    → held_by (Some new) (order_of owed.order) ≤ held_by None (order_of owed.order) + need_in (rows_of d c)
+room_by d job state owed last (command.Pay addr id count) new free rows =
+    let puts : puts_in (ahead new) ≡ 2 = ap puts_in rows in
+    let room = closing_room new (order_of owed.order) 2 (ap has_closes rows) (omega (arith, puts)) in
     omega (arith, room)
-room_by d job state owed last (command.Settle addr) new free puts closes =
+room_by d job state owed last (command.Settle addr) new free rows =
     settles_room new (order_of owed.order) (owed_where_free (order_of owed.order)
-    (passes d job state owed last (command.Settle addr) free).1.1.1.0) closes puts
-room_by d job state owed last (command.Vend id price) new free puts closes = plain_room new _ 1 closes puts
-room_by d job state owed last (command.Start addr mask) new free puts closes = plain_room new _ 1 closes puts
-room_by d job state owed last (command.Round addr) new free puts closes = plain_room new _ 1 closes puts
-room_by d job state owed last (command.Stop addr) new free puts closes = plain_room new _ 2 closes puts
-room_by d job state owed last c new free puts closes = plain_room new _ 0 closes puts
+    (passes d job state owed last (command.Settle addr) free).1.1.1.0) (ap has_closes rows) (ap puts_in rows)
+room_by d job state owed last (command.Start addr mask) new free rows =
+    plain_room new _ 1 (ap has_closes rows) (ap puts_in rows)
+room_by d job state owed last (command.Round addr) new free rows =
+    plain_room new _ 1 (ap has_closes rows) (ap puts_in rows)
+room_by d job state owed last (command.Stop addr) new free rows =
+    plain_room new _ 2 (ap has_closes rows) (ap puts_in rows)
+room_by d job state owed last (command.Ident addr) new free rows =
+    let room = plain_room new (order_of owed.order) 0 (ap has_closes rows ∙ told_closes (ident_requests d.body))
+    (ap puts_in rows ∙ told_puts (ident_requests d.body)) in
+    omega (arith, room)
+room_by d job state owed last c new free rows = plain_room new _ 0 (ap has_closes rows) (ap puts_in rows)
 
-pub begun_holds : (d : DeviceSetup) (job : Option Job) (state : EpochState) (owed : Dues) (last : ℕ) (c : Command)
-    (new : Job) → is_halt c ≡ false → is_of_device c ≡ true → refusal_beside d job state owed last c ≡ None
-    → may_put_of new ≡ records_of c → closes_order new ≡ is_closing c
-    → held_by (Some new) (order_of owed.order) ≤ held_by job (order_of owed.order) + needed c
-begun_holds d job state owed last c new no_halt of_device free puts closes =
-    subst (λ j. held_by (Some new) (order_of owed.order) ≤ held_by j (order_of owed.order) + needed c)
+-- the rows of a command's job at its device
+rows_there : (d : DeviceSetup) (c : Command) → is_of_device c ≡ true → rows_for (Some d) c ≡ rows_of d c
+rows_there d command.Scan of_device = absurd cc
+rows_there d (command.Vend id price) of_device = absurd cc
+rows_there d c of_device = refl
+
+pub rows_begin : (setup : Setup) (d : DeviceSetup) (c : Command) → is_of_device c ≡ true
+    → device_at setup.devices (address_of c) ≡ Some d → rows_begun setup c ≡ rows_of d c
+rows_begin setup d c of_device there = ap (λ found. rows_for found c) there ∙ rows_there d c of_device
+
+pub begun_holds : (setup : Setup) (d : DeviceSetup) (job : Option Job) (state : EpochState) (owed : Dues) (last : ℕ)
+    (c : Command) (new : Job) → is_halt c ≡ false → is_of_device c ≡ true
+    → refusal_beside d job state owed last c ≡ None → device_at setup.devices (address_of c) ≡ Some d
+    → ahead new ≡ rows_of d c
+    → held_by (Some new) (order_of owed.order) ≤ held_by job (order_of owed.order) + needed setup c
+begun_holds setup d job state owed last c new no_halt of_device free there rows =
+    subst (λ j. held_by (Some new) (order_of owed.order) ≤ held_by j (order_of owed.order) + needed setup c)
     (sym (free_job d job state owed last c no_halt of_device free))
-    (room_by d job state owed last c new free puts closes)
+    (subst (λ begun. held_by (Some new) (order_of owed.order) ≤ held_by None (order_of owed.order) + need_in begun)
+    (sym (rows_begin setup d c of_device there)) (room_by d job state owed last c new free rows))
 
-pub begun_reserves : (d : DeviceSetup) (job : Option Job) (state : EpochState) (owed : Dues) (last : ℕ) (c : Command)
-    (new : Job) → is_halt c ≡ false → is_of_device c ≡ true → refusal_beside d job state owed last c ≡ None
-    → coins_reserved new ≡ coins_asked c
-    → coins_by (Some new) ≡ coins_by job + coins_asked c
-begun_reserves d job state owed last c new no_halt of_device free coins =
-    subst (λ j. coins_reserved new ≡ coins_by j + coins_asked c)
+pub begun_reserves : (setup : Setup) (d : DeviceSetup) (job : Option Job) (state : EpochState) (owed : Dues) (last : ℕ)
+    (c : Command) (new : Job) → is_halt c ≡ false → is_of_device c ≡ true
+    → refusal_beside d job state owed last c ≡ None → device_at setup.devices (address_of c) ≡ Some d
+    → ahead new ≡ rows_of d c → coins_by (Some new) ≡ coins_by job + coins_in (rows_begun setup c)
+begun_reserves setup d job state owed last c new no_halt of_device free there rows =
+    let coins : coins_in (ahead new) ≡ coins_in (rows_begun setup c) =
+    ap coins_in (rows ∙ sym (rows_begin setup d c of_device there)) in
+    subst (λ j. coins_in (ahead new) ≡ coins_by j + coins_in (rows_begun setup c))
     (sym (free_job d job state owed last c no_halt of_device free)) (omega (arith, coins))
 
 -- a sale that begins
@@ -188,16 +225,16 @@ sale_free None id last free = refl
 sale_free (Some job) id last free = absurd cc
 
 pub sale_room : (job : Option Job) (id last : ℕ) (new : Job) (owed : Option OpenOrder)
-    → sale_refusal job id last ≡ None → may_put_of new ≡ 1 → closes_order new ≡ false
+    → sale_refusal job id last ≡ None → puts_in (ahead new) ≡ 1 → has_closes (ahead new) ≡ false
     → held_by (Some new) owed ≤ held_by job owed + 1
 sale_room job id last new owed free puts closes =
     subst (λ j. held_by (Some new) owed ≤ held_by j owed + 1) (sym (sale_free job id last free))
     (plain_room new owed 1 closes puts)
 
 pub sale_reserves : (job : Option Job) (id last price : ℕ) (new : Job) → sale_refusal job id last ≡ None
-    → price_reserved new ≡ price → price_by (Some new) ≡ price_by job + price
+    → price_in (ahead new) ≡ price → price_by (Some new) ≡ price_by job + price
 sale_reserves job id last price new free is =
-    subst (λ j. price_reserved new ≡ price_by j + price) (sym (sale_free job id last free)) (omega (arith, is))
+    subst (λ j. price_in (ahead new) ≡ price_by j + price) (sym (sale_free job id last free)) (omega (arith, is))
 
 pub sells_begun : (job : Job) (c : Command) → StandsSale job c [] → sells_only (Some job) ≡ true
 sells_begun (SalePuts id price) c stands = refl
@@ -207,29 +244,43 @@ sells_begun (Done end) c stands =
 sells_begun job c stands = absurd stands
 
 -- a halt
-halt_needs : (c : Command) → is_halt c ≡ true → needed c ≡ 0
-halt_needs (command.Halt addr) is = refl
-halt_needs c is = absurd cc
+halt_rows : (found : Option DeviceSetup) (c : Command) → is_halt c ≡ true → rows_for found c ≡ []
+halt_rows None (command.Halt addr) is = refl
+halt_rows (Some d) (command.Halt addr) is = refl
+halt_rows found c is = absurd cc
 
-halt_asks : (c : Command) → is_halt c ≡ true → coins_asked c ≡ 0
-halt_asks (command.Halt addr) is = refl
-halt_asks c is = absurd cc
-
-same_left : (old new : Job) (owed : Option OpenOrder) → closes_order new ≡ closes_order old
+same_left : (old new : Job) (owed : Option OpenOrder) → has_closes (ahead new) ≡ has_closes (ahead old)
     → order_left (Some new) owed ≡ order_left (Some old) owed
-same_left old new None is = refl
-same_left old new (Some o) is = ap (λ b. cond b 0 1) is
+same_left old new owed is = ap (λ b. order_holds b owed) is
 
-pub halt_holds : (c : Command) (job : Option Job) (old new : Job) (owed : Option OpenOrder) → is_halt c ≡ true
-    → job ≡ Some old → may_put_of new ≡ may_put_of old → closes_order new ≡ closes_order old
-    → held_by (Some new) owed ≤ held_by job owed + needed c
-halt_holds c job old new owed halt was puts closes =
+pub halt_holds : (setup : Setup) (c : Command) (job : Option Job) (old new : Job) (owed : Option OpenOrder) → is_halt c ≡ true
+    → job ≡ Some old → puts_in (ahead new) ≡ puts_in (ahead old) → has_closes (ahead new) ≡ has_closes (ahead old)
+    → held_by (Some new) owed ≤ held_by job owed + needed setup c
+halt_holds setup c job old new owed halt was puts closes =
     let same = same_left old new owed closes in
-    let none = halt_needs c halt in
-    subst (λ j. held_by (Some new) owed ≤ held_by j owed + needed c) (sym was) (omega (arith, same, none, puts))
+    let none = ap need_in (halt_rows (device_at setup.devices (address_of c)) c halt) in
+    subst (λ j. held_by (Some new) owed ≤ held_by j owed + needed setup c) (sym was) (omega (arith, same, none, puts))
 
-pub halt_reserves : (c : Command) (job : Option Job) (old new : Job) → is_halt c ≡ true → job ≡ Some old
-    → coins_reserved new ≡ coins_reserved old → coins_by (Some new) ≡ coins_by job + coins_asked c
-halt_reserves c job old new halt was coins =
-    let none = halt_asks c halt in
-    subst (λ j. coins_reserved new ≡ coins_by j + coins_asked c) (sym was) (omega (arith, none, coins))
+pub halt_reserves : (setup : Setup) (c : Command) (job : Option Job) (old new : Job) → is_halt c ≡ true
+    → job ≡ Some old → coins_in (ahead new) ≡ coins_in (ahead old)
+    → coins_by (Some new) ≡ coins_by job + coins_in (rows_begun setup c)
+halt_reserves setup c job old new halt was coins =
+    let none = ap coins_in (halt_rows (device_at setup.devices (address_of c)) c halt) in
+    subst (λ j. coins_in (ahead new) ≡ coins_by j + coins_in (rows_begun setup c)) (sym was)
+    (omega (arith, none, coins))
+
+pub halt_puts : (job : Option Job) (old new : Job) (more : ℕ) → job ≡ Some old → puts_in (ahead new) ≡ puts_in (ahead old)
+    → puts_left (Some new) ≤ puts_left job + more
+halt_puts job old new more was puts =
+    subst (λ j. puts_in (ahead new) ≤ puts_left j + more) (sym was) (omega (arith, puts))
+
+-- a halt that isn't refused finds a job that can be halted
+pub halt_finds : (d : DeviceSetup) (job : Option Job) (old : Job) → halting_refusal d job ≡ None → job ≡ Some old
+    → has_waits (ahead old) ≡ true
+halt_finds d job old free was =
+    by_tests (is_hopper d.body) (has_waits (ahead old)) (subst (λ j. halting_refusal d j ≡ None) was free)
+  where
+    by_tests : (hopper waits : Bool) → option_or (unless hopper WrongKind) (unless waits NoPayout) ≡ None → waits ≡ true
+    by_tests true true free = refl
+    by_tests true false free = absurd cc
+    by_tests false waits free = absurd cc

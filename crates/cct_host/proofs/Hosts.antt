@@ -9,7 +9,7 @@ use Rattle.cct_model.specs.lines.record.Record.{Record}
 use Rattle.cct_model.specs.lines.entry.Entry.{Entry}
 use Rattle.cct_model.specs.Legal.{EntriesOfNext, command_entry, due_at}
 use Rattle.cct_model.specs.Records.{records}
-use Rattle.cct_model.specs.Refusal.{room_refusal, state_refusal}
+use Rattle.cct_model.specs.Refusal.{refusal, state_refusal}
 use Rattle.cct_disk.specs.declared.disk.Disk.{Ghosts}
 use Rattle.cct_disk.specs.Disk.{IsTrusted}
 use Rattle.cct_journal.specs.Journal as journals
@@ -110,7 +110,8 @@ module _ {D : Type 0} {g : Ghosts D} where
 
   -- a command that is tried with room for it is taken or refused as it has to be
   pub tried_answers : (old new : Host D g) (c : Command) (result : Result Unit CommandNo)
-      → ((past : List Entry) → Keeps old past → None ≡ room_refusal (capacity_in old) (setup_of old) past c)
+      → ((past : List Entry) → Keeps old past
+      → option_or (state_refusal (setup_of old) past c) None ≡ refusal (capacity_in old) (setup_of old) past c)
       → all_desks.Answers old.desks new.desks c result
       → ((before : List Record) → ledgers.StandsFor old.ledger before (all_desks.reserved_of old.desks)
       → ledgers.StandsFor new.ledger before (all_desks.reserved_of new.desks))
@@ -118,7 +119,7 @@ module _ {D : Type 0} {g : Ghosts D} where
   tried_answers old new c result room desks ledger same past stands =
       let told = desks past stands.keeps.desks in
       let quiet = command_records c (no_of result) past in (
-        told.0 ∙ nothing_behind _ ∙ ap (option_or (state_refusal (setup_of old) past c)) (room past stands.keeps),
+        told.0 ∙ nothing_behind _ ∙ room past stands.keeps,
         record {
           keeps = record {
             desks = told.1;

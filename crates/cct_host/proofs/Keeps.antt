@@ -13,9 +13,11 @@ use Rattle.cct_model.specs.Line.{Line}
 use Rattle.cct_model.specs.Line as line
 use Rattle.cct_model.specs.Job as model
 use Rattle.cct_model.specs.Legal.{with_end}
-use Rattle.cct_model.specs.Job.{address_of}
+use Rattle.cct_model.specs.Job.{address_of, ident_requests}
+use Rattle.cct_model.specs.Rows.{id_in}
+use Rattle.cct_model.proofs.Rows.{told_fact}
 use Rattle.cct_model.specs.Order.{order, order_by}
-use Rattle.cct_model.specs.Refusal.{running_id}
+use Rattle.cct_model.specs.Refusal.{running_id, sale_id}
 use Rattle.cct_model.specs.Transcript.{lines_of, owner, sale_lines, sold_line}
 use Rattle.cct_jobs.specs.declared.job.Job.{Job}
 use Rattle.cct_host.specs.declared.dues.Dues.{Dues}
@@ -27,20 +29,26 @@ use Rattle.cct_host.specs.Running.{Settles, dues_left, is_halt}
 use Rattle.cct_host.proofs.Lines.{IsQuiet, job_asked, own_ended, own_put, own_taken}
 
 -- a line more of a job is of the same payment
-running_line : (x : Line) (j : model.Job) → running_id (model.with_line x j) ≡ running_id j
-running_line x model.free = refl
-running_line x (model.works (command.Pay addr id count) since) = refl
-running_line x (model.works (command.Vend id price) since) = refl
-running_line x (model.works c since) = refl
+running_line : (d : DeviceSetup) (x : Line) (j : model.Job) → running_id d (model.with_line x j) ≡ running_id d j
+running_line d x model.free = refl
+running_line d x (model.works c since) = refl
+
+-- an identification begins no id
+pub no_id_told : (d : DeviceSetup) (addr : ℕ) → 0 ≡ running_id d (model.works (command.Ident addr) [])
+no_id_told d addr = sym (told_fact (λ rows. id_in rows ≡ 0) refl (λ q behind rows none. none) (ident_requests d.body))
+
+sale_line : (x : Line) (j : model.Job) → sale_id (model.with_line x j) ≡ sale_id j
+sale_line x model.free = refl
+sale_line x (model.works c since) = refl
 
 -- what is known of an epoch, of an open order and of a payment, where they stay
 pub knows_same : (place : Place) (state : EpochState) (owed : Dues) (old new : List Line)
     → model.job new ≡ model.job old → model.epoch new ≡ model.epoch old → order new ≡ order old
     → Knows place state owed old → Knows place state owed new
 knows_same (device d) state owed old new jobs same ordered knows =
-    (knows.0 ∙ sym same, knows.1 ∙ sym ordered, knows.2 ∙ sym (ap running_id jobs))
+    (knows.0 ∙ sym same, knows.1 ∙ sym ordered, knows.2 ∙ sym (ap (running_id d) jobs))
 knows_same scans state owed old new jobs same ordered knows = tt
-knows_same sales state owed old new jobs same ordered knows = (knows.0, knows.1 ∙ sym (ap running_id jobs))
+knows_same sales state owed old new jobs same ordered knows = (knows.0, knows.1 ∙ sym (ap sale_id jobs))
 
 -- what is known where a job goes on, and where it ended
 knows_kept : (place : Place) (state : EpochState) (owed : Dues) (job : Job) (lines : List Line)
@@ -88,7 +96,7 @@ pub asked_keeps : (place : Place) (c : Command) (since : List Line) (state : Epo
 asked_keeps (device d) c since state owed sent heard new lines stands was knows = record {
   works = subst (λ j. Works (device d) (Some new) (model.with_line (line_at (device d) sent heard) j)
       (model.epoch lines) (order lines)) (sym was) stands;
-  knows = (knows.0, knows.1, knows.2 ∙ sym (running_line (line_at (device d) sent heard) (model.job lines)));
+  knows = (knows.0, knows.1, knows.2 ∙ sym (running_line d (line_at (device d) sent heard) (model.job lines)));
 }
 asked_keeps scans c since state owed sent heard new lines stands was knows = record {
   works = subst (λ j. Works scans (Some new) j (model.epoch (line_at scans sent heard ∷ lines))
@@ -99,7 +107,7 @@ asked_keeps scans c since state owed sent heard new lines stands was knows = rec
 asked_keeps sales c since state owed sent heard new lines stands was knows = record {
   works = subst (λ j. Works sales (Some new) (model.with_line (line_at sales sent heard) j)
       (model.epoch lines) (order lines)) (sym was) stands;
-  knows = (knows.0, knows.1 ∙ sym (running_line (line_at sales sent heard) (model.job lines)));
+  knows = (knows.0, knows.1 ∙ sym (sale_line (line_at sales sent heard) (model.job lines)));
 }
 
 -- after a put, which moved the epoch and the open order
@@ -107,7 +115,7 @@ pub put_keeps : (d : DeviceSetup) (c : Command) (since : List Line) (r : Record)
     (state : EpochState) (owed : Dues) (new : Job) → owner past r ≡ d.addr
     → ((after : EpochState) → Stands d new c (line.put r ∷ since) after (order_by r (order (lines_of d past))))
     → model.job (lines_of d past) ≡ model.works c since → state ≡ model.epoch_by r (model.epoch (lines_of d past))
-    → order_of owed.order ≡ order_by r (order (lines_of d past)) → owed.id ≡ running_id (model.job (lines_of d past))
+    → order_of owed.order ≡ order_by r (order (lines_of d past)) → owed.id ≡ running_id d (model.job (lines_of d past))
     → Keeps (device d) (Some new) state owed (lines_of d (entry.Put r ∷ past))
 put_keeps d c since r past state owed new own stands was moved ordered same =
     subst (Keeps (device d) (Some new) state owed) (sym (own_put d r past own)) (record {
@@ -115,20 +123,20 @@ put_keeps d c since r past state owed new own stands was moved ordered same =
           (λ j. Works (device d) (Some new) (model.with_line (line.put r) j)
           (model.epoch_by r (model.epoch (lines_of d past))) (order_by r (order (lines_of d past)))) (sym was)
           (stands _);
-      knows = (moved, ordered, same ∙ sym (running_line (line.put r) (model.job (lines_of d past))));
+      knows = (moved, ordered, same ∙ sym (running_line d (line.put r) (model.job (lines_of d past))));
     })
 
 -- after the put of a sale
 pub sold_keeps : (c : Command) (since : List Line) (r : Record) (past : List Entry) (state : EpochState) (owed : Dues)
     (new : Job) → sold_line r ≡ line.put r ∷ [] → StandsSale new c (line.put r ∷ since)
     → model.job (sale_lines past) ≡ model.works c since → owed.order ≡ None
-    → owed.id ≡ running_id (model.job (sale_lines past))
+    → owed.id ≡ sale_id (model.job (sale_lines past))
     → Keeps sales (Some new) state owed (sale_lines (entry.Put r ∷ past))
 sold_keeps c since r past state owed new sold stands was none same =
     subst (Keeps sales (Some new) state owed) (sym (ap (λ ls. ls ++ sale_lines past) sold)) (record {
       works = subst (λ j. Works sales (Some new) (model.with_line (line.put r) j)
           (model.epoch (line.put r ∷ sale_lines past)) (order (line.put r ∷ sale_lines past))) (sym was) stands;
-      knows = (none, same ∙ sym (running_line (line.put r) (model.job (sale_lines past))));
+      knows = (none, same ∙ sym (sale_line (line.put r) (model.job (sale_lines past))));
     })
 
 -- after a command that was taken
@@ -159,9 +167,10 @@ halt_works d (command.Halt addr) old new (model.works c since) state owed halt g
 halt_works d (command.Halt addr) old new model.free state owed halt goes works = absurd works
 halt_works d k old new j state owed halt goes works = absurd cc
 
-halt_runs_on : (c : Command) (j : model.Job) → is_halt c ≡ true → running_id (model.begun c j) ≡ running_id j
-halt_runs_on (command.Halt addr) j halt = running_line (line.taken (command.Halt addr)) j
-halt_runs_on k j halt = absurd cc
+halt_runs_on : (d : DeviceSetup) (c : Command) (j : model.Job) → is_halt c ≡ true →
+    running_id d (model.begun c j) ≡ running_id d j
+halt_runs_on d (command.Halt addr) j halt = running_line d (line.taken (command.Halt addr)) j
+halt_runs_on d k j halt = absurd cc
 
 -- after a halt that was taken
 pub halt_keeps : (d : DeviceSetup) (c : Command) (old new : Job) (state : EpochState) (owed : Dues)
@@ -171,7 +180,7 @@ pub halt_keeps : (d : DeviceSetup) (c : Command) (old new : Job) (state : EpochS
 halt_keeps d c old new state owed past here halt goes keeps =
     subst (Keeps (device d) (Some new) state owed) (sym (own_taken (device d) c past here)) (record {
       works = halt_works d c old new (model.job (lines_of d past)) _ _ halt goes keeps.works;
-      knows = (keeps.knows.0, keeps.knows.1, keeps.knows.2 ∙ sym (halt_runs_on c (model.job (lines_of d past)) halt));
+      knows = (keeps.knows.0, keeps.knows.1, keeps.knows.2 ∙ sym (halt_runs_on d c (model.job (lines_of d past)) halt));
     })
 
 -- what stays of a job after its entry, and its end where it brought one

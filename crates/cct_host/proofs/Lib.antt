@@ -15,6 +15,7 @@ pub mod Quiet
 pub mod Recalling
 pub mod Records
 pub mod Standing
+pub mod Rooms
 pub mod Starting
 pub mod Talks
 pub mod Turning

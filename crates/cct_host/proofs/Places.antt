@@ -263,7 +263,7 @@ paying_is [] (m ∷ ms) past all = absurd all
 paying_is (d ∷ ds) [] past all = absurd all
 paying_is (d ∷ ds) (m ∷ ms) past all =
     ap (λ id. max id (greatest_paying ms)) all.0.knows.2
-    ∙ ap (max (running_id (model.job (lines_of d past)))) (paying_is ds ms past all.1)
+    ∙ ap (max (running_id d (model.job (lines_of d past)))) (paying_is ds ms past all.1)
 
 pub last_is : (desks : Desks) (past : List Entry) (last : ℕ) → StandsFor desks past
     → last ≡ max desks.last (working_id desks) → last ≡ last_id (setup_of desks) past

@@ -11,7 +11,7 @@ use Rattle.cct_model.specs.Job as model
 use Rattle.cct_model.specs.Money.{coins_of, hopper_value}
 use Rattle.cct_model.specs.Order.{order}
 use Rattle.cct_model.specs.Records.{epoch_in, greatest_id, order_in, records}
-use Rattle.cct_model.specs.Refusal.{running_id}
+use Rattle.cct_model.specs.Refusal.{running_id, sale_id}
 use Rattle.cct_model.specs.Transcript.{lines_of, sale_lines, scan_lines}
 use Rattle.cct_disk.specs.declared.disk.Disk.{Ghosts}
 use Rattle.cct_disk.specs.Disk.{IsTrusted}
@@ -44,7 +44,7 @@ recalled_sits d k past before free same unused recalls = record {
   knows = (
     recalls.epoch_is ∙ ap (epoch_in d.addr) (sym same) ∙ sym (epoch_recorded d past),
     recalls.order_is ∙ ap (order_in d.addr) (sym same) ∙ sym (order_recorded d past),
-    recalls.id_is ∙ sym (ap running_id free),
+    recalls.id_is ∙ sym (ap (running_id d) free),
   );
 }
 
@@ -73,7 +73,7 @@ free_sale k past none free = record {
       (subst (λ j. Works sales j model.free (model.epoch (sale_lines past)) (order (sale_lines past))) (sym free.0) tt);
   knows = (
     ap (λ (x : Dues). x.order) free.2,
-    ap (λ (x : Dues). x.id) free.2 ∙ sym (ap running_id none),
+    ap (λ (x : Dues). x.id) free.2 ∙ sym (ap sale_id none),
   );
 }
 

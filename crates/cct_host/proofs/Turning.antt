@@ -16,16 +16,19 @@ use Rattle.cct_model.specs.lines.command.CommandNo.{CommandNo}
 use Rattle.cct_model.specs.lines.record.Record.{Record}
 use Rattle.cct_model.specs.Exchange.{device_at}
 use Rattle.cct_model.specs.Money.{coins_of, hopper_value}
-use Rattle.cct_model.specs.Job.{address_of}
+use Rattle.cct_model.specs.Job.{address_of, ident_requests}
+use Rattle.cct_model.specs.Rows.{rows_of}
+use Rattle.cct_model.proofs.Rows.{told_fact}
 use Rattle.cct_jobs.specs.declared.job.Job.{Job}
-use Rattle.cct_jobs.specs.Jobs.{coins_asked, is_of_device}
+use Rattle.cct_jobs.specs.Ahead.{coins_in}
+use Rattle.cct_jobs.specs.Jobs.{is_of_device}
 use Rattle.cct_host.specs.declared.desk.JobDesk.{JobDesk}
 use Rattle.cct_host.specs.declared.desks.Desks.{Desks}
 use Rattle.cct_host.specs.Desk.{held_at, puts_at, reserved_over, sum_in}
 use Rattle.cct_host.specs.Desks.{due_at_desk, held_of, puts_of}
 use Rattle.cct_host.specs.Held.{coins_by, due_by, puts_left}
-use Rattle.cct_host.specs.Running.{amount_of}
-use Rattle.cct_host.proofs.Holding.{due_left}
+use Rattle.cct_host.specs.Running.{amount_of, rows_begun}
+use Rattle.cct_host.proofs.Holding.{due_left, rows_begin}
 use Rattle.cct_host.proofs.Places.{is_at, refilled}
 
 -- an answer passes on
@@ -166,11 +169,21 @@ pub no_coins : (value : ℕ) → 0 * value ≡ 0
 no_coins value = omega arith
 
 -- what a command at a device reserves
-pub amount_asked : (setup : Setup) (c : Command) (addr : ℕ) → is_of_device c ≡ true → address_of c ≡ addr
-    → coins_of setup addr (coins_asked c) ≡ amount_of setup c
-amount_asked setup (command.Pay at id count) addr of_device here = ap (λ a. coins_of setup a count) (sym here)
-amount_asked setup (command.Vend id price) addr of_device here = absurd cc
-amount_asked setup c addr of_device here = no_coins (hopper_value (device_at setup.devices addr))
+rows_ask : (setup : Setup) (d : DeviceSetup) (c : Command) (addr : ℕ) → is_of_device c ≡ true → address_of c ≡ addr
+    → coins_of setup addr (coins_in (rows_of d c)) ≡ amount_of setup c
+rows_ask setup d (command.Pay at id count) addr of_device here = ap (λ a. coins_of setup a count) (sym here)
+rows_ask setup d (command.Vend id price) addr of_device here = absurd cc
+rows_ask setup d (command.Ident at) addr of_device here =
+    ap (coins_of setup addr) (told_fact (λ rows. coins_in rows ≡ 0) refl (λ q behind rows none. none) (ident_requests d.body))
+    ∙ no_coins (hopper_value (device_at setup.devices addr))
+rows_ask setup d c addr of_device here = no_coins (hopper_value (device_at setup.devices addr))
+
+pub amount_asked : (setup : Setup) (d : DeviceSetup) (c : Command) (addr : ℕ) → is_of_device c ≡ true
+    → address_of c ≡ addr → device_at setup.devices (address_of c) ≡ Some d
+    → coins_of setup addr (coins_in (rows_begun setup c)) ≡ amount_of setup c
+amount_asked setup d c addr of_device here there =
+    ap (λ rows. coins_of setup addr (coins_in rows)) (rows_begin setup d c of_device there)
+    ∙ rows_ask setup d c addr of_device here
 
 -- an attempt frees
 less_value : (old new value : ℕ) → new ≤ old → new * value ≤ old * value

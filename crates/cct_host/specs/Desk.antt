@@ -13,7 +13,7 @@ use Rattle.cct_model.specs.Job as model
 use Rattle.cct_model.specs.Legal.{command_entry}
 use Rattle.cct_model.specs.Money.{coins_of}
 use Rattle.cct_model.specs.Order.{order}
-use Rattle.cct_model.specs.Refusal.{last_id, state_refusal, running_id}
+use Rattle.cct_model.specs.Refusal.{last_id, state_refusal, running_id, sale_id}
 use Rattle.cct_jobs.specs.declared.job.Job.{Job}
 use Rattle.cct_host.specs.declared.dues.Dues.{Dues}
 use Rattle.cct_jobs.specs.Jobs.{order_of}
@@ -33,9 +33,9 @@ Works place (Some job) model.free state owed = ⊥
 -- id and no order, and of scans nothing.
 abbrev pub Knows : Place → EpochState → Dues → List Line → Type 0
 Knows (device d) state owed lines =
-    (state ≡ model.epoch lines) × (order_of owed.order ≡ order lines) × (owed.id ≡ running_id (model.job lines))
+    (state ≡ model.epoch lines) × (order_of owed.order ≡ order lines) × (owed.id ≡ running_id d (model.job lines))
 Knows scans state owed lines = ⊤
-Knows sales state owed lines = (owed.order ≡ None) × (owed.id ≡ running_id (model.job lines))
+Knows sales state owed lines = (owed.order ≡ None) × (owed.id ≡ sale_id (model.job lines))
 
 -- A job, an epoch and an open order are those of a place, by its lines.
 pub record Keeps (place : Place) (job : Option Job) (state : EpochState) (owed : Dues)

@@ -1,5 +1,5 @@
 -- What the job at a place is still to do: the records that it may put, what it reserves, and the record that is next.
-use Rattle.std.specs.Prelude.{ℕ, ◌+◌, Bool, true, false, if◌then◌else◌, Option, Some, None, ⊤}
+use Rattle.std.specs.Prelude.{ℕ, ◌+◌, Bool, true, false, Option, Some, None, ⊤}
 use Rattle.std.proofs.Props.{props}
 use Rattle.cct_model.specs.lines.record.Record.{Record}
 use Rattle.cct_model.specs.lines.record.Record.TheVariants as record_of
@@ -9,18 +9,20 @@ use Rattle.cct_jobs.specs.declared.job.Need.TheVariants as need
 use Rattle.cct_record.specs.Body.{Encodable}
 use Rattle.cct_jobs.specs.declared.job.Job.{Job}
 use Rattle.cct_jobs.specs.declared.job.Job.TheVariants.{RoundPuts, StopPuts, OrderCloses, SalePuts}
-use Rattle.cct_jobs.specs.Jobs.{PutsFit, closes_order, coins_reserved, may_put_of, need_of, price_reserved}
+use Rattle.cct_model.specs.Rows.{has_closes, puts_in}
+use Rattle.cct_model.specs.Refusal.{order_holds}
+use Rattle.cct_jobs.specs.Ahead.{ahead, coins_in, price_in}
+use Rattle.cct_jobs.specs.Jobs.{PutsFit, need_of}
 
 -- How many records the job at a place may still put.
 abbrev pub puts_left : Option Job → ℕ
 puts_left None = 0
-puts_left (Some job) = may_put_of job
+puts_left (Some job) = puts_in (ahead job)
 
 -- One record for the open order of a place that no job there is at work to close.
 abbrev pub order_left : Option Job → Option OpenOrder → ℕ
-order_left job None = 0
-order_left None (Some o) = 1
-order_left (Some job) (Some o) = if closes_order job then 0 else 1
+order_left None owed = order_holds false owed
+order_left (Some job) owed = order_holds (has_closes (ahead job)) owed
 
 -- How many records are held for a place.
 abbrev pub held_by : Option Job → Option OpenOrder → ℕ
@@ -39,7 +41,7 @@ due_by (Some job) = put_in (need_of job)
 -- What the job at a place reserves besides coins.
 abbrev pub price_by : Option Job → ℕ
 price_by None = 0
-price_by (Some job) = price_reserved job
+price_by (Some job) = price_in (ahead job)
 
 -- The job at a place, if there is one, is a sale that is still to be put.
 abbrev pub sells_only : Option Job → Bool
@@ -50,7 +52,7 @@ sells_only (Some job) = false
 -- How many coins the job at a place reserves.
 abbrev pub coins_by : Option Job → ℕ
 coins_by None = 0
-coins_by (Some job) = coins_reserved job
+coins_by (Some job) = coins_in (ahead job)
 
 -- What the job at a place is about to put, if it is about to put something, can be spelt in a journal.
 abbrev pub FitsIn : Option Job → Type 0

@@ -12,10 +12,14 @@ use Rattle.cct_model.specs.lines.entry.Entry.{Entry}
 use Rattle.cct_model.specs.lines.entry.Entry.TheVariants as entry
 use Rattle.cct_model.specs.declared.judging.EpochState.{EpochState}
 use Rattle.cct_model.specs.Device.{is_acceptor, is_hopper}
-use Rattle.cct_model.specs.Refusal.{View, first_of, id_refusal, money_in, room_in, state_fails, state_tests, tests_of, unless}
+use Rattle.cct_model.specs.Exchange.{device_at}
+use Rattle.cct_model.specs.Job.{address_of}
+use Rattle.cct_model.specs.Rows.{TableRow, has_waits, need_in, rows_for}
+use Rattle.cct_model.specs.Refusal.{View, first_of, id_refusal, money_in, state_fails, state_tests, tests_of, unless}
 use Rattle.cct_jobs.specs.declared.job.Job.{Job}
 use Rattle.cct_host.specs.declared.dues.Dues.{Dues}
-use Rattle.cct_jobs.specs.Jobs.{end_of_job, halts, order_of}
+use Rattle.cct_jobs.specs.Ahead.{ahead}
+use Rattle.cct_jobs.specs.Jobs.{end_of_job, order_of}
 
 -- The job at a place, if there is one, isn't done.
 abbrev pub is_running : Option Job → Bool
@@ -42,7 +46,7 @@ is_halt c = false
 -- There is a job that can be halted.
 abbrev pub halts_in : Option Job → Bool
 halts_in None = false
-halts_in (Some job) = halts job
+halts_in (Some job) = has_waits (ahead job)
 
 -- The tests of a halt: the device is a hopper, and there is a payout that could be stopped.
 abbrev pub halting_refusal : DeviceSetup → Option Job → Option CommandNo
@@ -67,10 +71,13 @@ refusal_beside d job state owed last c = first_of (state_fails (seen_at d job st
 abbrev pub sale_refusal : Option Job → ℕ → ℕ → Option CommandNo
 sale_refusal job id last = option_or (busy_by job) (id_refusal id last)
 
--- How many records a command needs room for beside those that are held. A settlement needs none, since one is held for
--- its order.
-abbrev pub needed : Command → ℕ
-needed c = room_in (tests_of c)
+-- The rows of the job that a command begins.
+abbrev pub rows_begun : Setup → Command → List TableRow
+rows_begun setup c = rows_for (device_at setup.devices (address_of c)) c
+
+-- How many records a command needs room for beside those that are held.
+abbrev pub needed : Setup → Command → ℕ
+needed setup c = need_in (rows_begun setup c)
 
 -- What a command reserves until its order is opened or its sale is put.
 abbrev pub amount_of : Setup → Command → ℕ

@@ -11,12 +11,14 @@ ghost use Rattle.cct_model.specs.Job.{address_of, counted, epoch_by, works};
 ghost use Rattle.cct_model.specs.Order.{order_by};
 ghost use Rattle.cct_model.specs.Records.{id_of};
 ghost use Rattle.cct_model.specs.Refusal.{id_refusal, order_refusal, running_id, running_refusal, settle_refusal, start_refusal};
+ghost use Rattle.cct_model.specs.Rows.{puts_in};
 ghost use Rattle.cct_record.specs.Body.{Encodable};
-ghost use Rattle.cct_jobs.specs.Jobs.{MayBegin, coins_asked, is_of_device, order_of, records_of};
+ghost use Rattle.cct_jobs.specs.Ahead.{coins_in};
+ghost use Rattle.cct_jobs.specs.Jobs.{MayBegin, is_of_device, order_of};
 ghost use Rattle.cct_ledger.specs.Orders.{has_id};
 ghost use Rattle.cct_host.specs.Held.{FitsIn, FitsIn-prop, coins_by, due_by, order_left, price_by, put_in, puts_left, sells_only};
 ghost use Rattle.cct_host.specs.Place as places;
-ghost use Rattle.cct_host.specs.Running.{acceptor_refusal, busy_by, halting_refusal, halts_in, hopper_refusal, id_left, is_halt, is_running, needed, refusal_beside, sale_refusal};
+ghost use Rattle.cct_host.specs.Running.{acceptor_refusal, busy_by, halting_refusal, halts_in, hopper_refusal, id_left, is_halt, is_running, needed, refusal_beside, rows_begun, sale_refusal};
 
 use crate::dues::Dues;
 use crate::exchange::{converse, settled};
@@ -68,9 +70,9 @@ impl JobDesk {
         requires there { device_at setup.now.devices (address_of command.now) ≡ Some device.now }
         requires of_device { is_of_device command.now ≡ true }
         ensures stays { OnErr result (self.new ≡ self.old) }
-        ensures holds { OnOk result (held_at self.new ≤ held_at self.old + needed command.now) }
-        ensures puts { OnOk result (puts_at self.new ≤ puts_at self.old + records_of command.now) }
-        ensures reserves { OnOk result (coins_by self.new.job ≡ coins_by self.old.job + coins_asked command.now) }
+        ensures holds { OnOk result (held_at self.new ≤ held_at self.old + needed setup.now command.now) }
+        ensures puts { OnOk result (puts_at self.new ≤ puts_at self.old + puts_in (rows_begun setup.now command.now)) }
+        ensures reserves { OnOk result (coins_by self.new.job ≡ coins_by self.old.job + coins_in (rows_begun setup.now command.now)) }
         ensures commands { device.now.serial < 2 ^ 24
             → CommandsAbove setup.now last (places.device device.now) self.old self.new command.now result }
     {
@@ -106,9 +108,9 @@ impl JobDesk {
         requires there { device_at setup.now.devices (address_of command.now) ≡ Some device.now }
         requires halt { is_halt command.now ≡ true }
         ensures stays { OnErr result (self.new ≡ self.old) }
-        ensures holds { OnOk result (held_at self.new ≤ held_at self.old + needed command.now) }
-        ensures puts { OnOk result (puts_at self.new ≤ puts_at self.old + records_of command.now) }
-        ensures reserves { OnOk result (coins_by self.new.job ≡ coins_by self.old.job + coins_asked command.now) }
+        ensures holds { OnOk result (held_at self.new ≤ held_at self.old + needed setup.now command.now) }
+        ensures puts { OnOk result (puts_at self.new ≤ puts_at self.old + puts_in (rows_begun setup.now command.now)) }
+        ensures reserves { OnOk result (coins_by self.new.job ≡ coins_by self.old.job + coins_in (rows_begun setup.now command.now)) }
         ensures commands { Commands setup.now (places.device device.now) self.old self.new command.now result }
     {
         match self.halting_refusal(device) {
@@ -161,9 +163,9 @@ impl JobDesk {
         requires no_halt { is_halt command.now ≡ false }
         requires of_device { is_of_device command.now ≡ true }
         ensures stays { OnErr result (self.new ≡ self.old) }
-        ensures holds { OnOk result (held_at self.new ≤ held_at self.old + needed command.now) }
-        ensures puts { OnOk result (puts_at self.new ≤ puts_at self.old + records_of command.now) }
-        ensures reserves { OnOk result (coins_by self.new.job ≡ coins_by self.old.job + coins_asked command.now) }
+        ensures holds { OnOk result (held_at self.new ≤ held_at self.old + needed setup.now command.now) }
+        ensures puts { OnOk result (puts_at self.new ≤ puts_at self.old + puts_in (rows_begun setup.now command.now)) }
+        ensures reserves { OnOk result (coins_by self.new.job ≡ coins_by self.old.job + coins_in (rows_begun setup.now command.now)) }
         ensures commands { device.now.serial < 2 ^ 24
             → CommandsAbove setup.now last (places.device device.now) self.old self.new command.now result }
     {
@@ -581,8 +583,9 @@ fn is_halt(command: &Command) -> bool
 }
 
 /// The id of the payment or the sale that a command begins, or 0.
+#[tactic(auto, using(crate::proofs::Keeps::no_id_told))]
 fn id_begun(command: &Command) -> u32
-    ensures { result ≡ running_id (works command.now []) }
+    ensures { (d : DeviceSetup) → is_of_device command.now ≡ true → result ≡ running_id d (works command.now []) }
 {
     match *command {
         Command::Pay { id, .. } => id,

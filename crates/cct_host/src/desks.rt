@@ -11,14 +11,15 @@ ghost use Rattle.cct_model.specs.Legal.{due_at};
 ghost use Rattle.cct_model.specs.Money.{freed_by};
 ghost use Rattle.cct_model.specs.Records.{epoch_in, owner_in};
 ghost use Rattle.cct_model.specs.Refusal.{held};
+ghost use Rattle.cct_model.specs.Rows.{puts_in};
 ghost use Rattle.cct_model.specs.Setup.{IsSoundSetup};
 ghost use Rattle.cct_ledger.specs.Orders.{has_id};
 ghost use Rattle.cct_ledger.specs.Told.{is_of_money};
 ghost use Rattle.cct_record.specs.Body.{Encodable};
-ghost use Rattle.cct_jobs.specs.Jobs.{is_of_device, order_of, records_of};
+ghost use Rattle.cct_jobs.specs.Jobs.{is_of_device, order_of};
 ghost use Rattle.cct_host.specs.Desk.{IsFree, puts_at};
 ghost use Rattle.cct_host.specs.Held.{sells_only};
-ghost use Rattle.cct_host.specs.Running.{amount_of, needed};
+ghost use Rattle.cct_host.specs.Running.{amount_of, needed, rows_begun};
 ghost use Rattle.cct_host.specs.Sound.{IsSoundSetup-prop};
 
 use crate::desk::{JobDesk, greater, id_of};
@@ -78,8 +79,8 @@ impl<'s> Desks<'s> {
     pub fn command(&mut self, command: &Command) -> Result<(), CommandNo>
         ensures setup { setup_of self.new ≡ setup_of self.old }
         ensures stays { OnErr result (Stays self.old self.new) }
-        ensures holds { OnOk result (held_of self.new ≤ held_of self.old + needed command.now) }
-        ensures puts { OnOk result (puts_of self.new ≤ puts_of self.old + records_of command.now) }
+        ensures holds { OnOk result (held_of self.new ≤ held_of self.old + needed (setup_of self.old) command.now) }
+        ensures puts { OnOk result (puts_of self.new ≤ puts_of self.old + puts_in (rows_begun (setup_of self.old) command.now)) }
         ensures reserves { OnOk result (reserved_of self.new
             ≡ reserved_of self.old + amount_of (setup_of self.old) command.now) }
         ensures answers { Answers self.old self.new command.now result }
@@ -107,8 +108,8 @@ impl<'s> Desks<'s> {
         requires address { address_of command.now ≡ addr }
         ensures setup { setup_of self.new ≡ setup_of self.old }
         ensures stays { OnErr result (Stays self.old self.new) }
-        ensures holds { OnOk result (held_of self.new ≤ held_of self.old + needed command.now) }
-        ensures puts { OnOk result (puts_of self.new ≤ puts_of self.old + records_of command.now) }
+        ensures holds { OnOk result (held_of self.new ≤ held_of self.old + needed (setup_of self.old) command.now) }
+        ensures puts { OnOk result (puts_of self.new ≤ puts_of self.old + puts_in (rows_begun (setup_of self.old) command.now)) }
         ensures reserves { OnOk result (reserved_of self.new
             ≡ reserved_of self.old + amount_of (setup_of self.old) command.now) }
         ensures answers { Answers self.old self.new command.now result }

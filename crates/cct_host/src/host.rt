@@ -1,5 +1,6 @@
 //! The host over its journal: a record is put before its entry is told, and no put finds the journal full.
 ghost use Rattle.std.specs.Prelude.{◌≡◌, ◌≢◌, ◌≤◌, ◌+◌, length, List, [], Option, Some, None, Err, IfErr, IfOk, IfSome, MatchResult, OnErr, OnOk, IsTrue, false, is_ok, reverse};
+ghost use Rattle.std.specs.Option.{option_or};
 ghost use Rattle.arrayvec.specs.ArrayVec.{array_vec_len};
 ghost use Rattle.cct_edge.specs.Faults.{Rose};
 ghost use Rattle.cct_model.specs.lines.entry.Entry.{Entry};
@@ -16,8 +17,8 @@ ghost use Rattle.cct_journal.specs.Stands.{CutOnce, GoesOn, Outlasts};
 ghost use Rattle.cct_laws.specs.Restart.{CrashSuits, due_in};
 ghost use Rattle.cct_ledger.specs.Ledger as ledgers;
 ghost use Rattle.cct_host.specs.Desks as all_desks;
-ghost use Rattle.cct_jobs.specs.Jobs.{records_of};
-ghost use Rattle.cct_host.specs.Running.{amount_of, needed};
+ghost use Rattle.cct_model.specs.Rows.{puts_in};
+ghost use Rattle.cct_host.specs.Running.{amount_of, needed, rows_begun};
 
 use crate::Desks;
 use crate::advance::advance;
@@ -123,10 +124,12 @@ impl<'s, D: Disk> Host<'s, D> {
     fn room_refusal(&self, command: &Command) -> Option<CommandNo>
         ensures affords { result ≡ None → amount_of (setup_of self.now) command.now
             ≤ ledgers.available_of self.now.ledger }
-        ensures fits { result ≡ None → 1 ≤ records_of command.now → journals.used_of self.now.journal
-            + all_desks.held_of self.now.desks + needed command.now ≤ capacity_in self.now }
+        ensures fits { result ≡ None → 1 ≤ puts_in (rows_begun (setup_of self.now) command.now)
+            → journals.used_of self.now.journal
+            + all_desks.held_of self.now.desks + needed (setup_of self.now) command.now ≤ capacity_in self.now }
         ensures stands { (past : List Entry) → Keeps self.now past
-            → result ≡ refusals.room_refusal (capacity_in self.now) (setup_of self.now) past command.now }
+            → option_or (refusals.state_refusal (setup_of self.now) past command.now) result
+            ≡ refusals.refusal (capacity_in self.now) (setup_of self.now) past command.now }
     {
         match *command {
             Command::Start { .. } => self.full_refusal(1),
@@ -346,8 +349,8 @@ fn take(desks: &mut Desks<'_>, ledger: &mut Ledger<'_>, command: &Command) -> Re
     ensures same { ledgers.setup_of ledger.new ≡ ledgers.setup_of ledger.old }
     ensures reserved { ledgers.reserved_of ledger.new ≡ all_desks.reserved_of desks.new }
     ensures counted { ledgers.applied ledger.new ≡ ledgers.applied ledger.old }
-    ensures holds { all_desks.held_of desks.new ≤ all_desks.held_of desks.old + needed command.now }
-    ensures puts { all_desks.puts_of desks.new ≤ all_desks.puts_of desks.old + records_of command.now }
+    ensures holds { all_desks.held_of desks.new ≤ all_desks.held_of desks.old + needed (all_desks.setup_of desks.old) command.now }
+    ensures puts { all_desks.puts_of desks.new ≤ all_desks.puts_of desks.old + puts_in (rows_begun (all_desks.setup_of desks.old) command.now) }
     ensures stays { OnErr result (all_desks.Stays desks.old desks.new × (ledger.new ≡ ledger.old)) }
     ensures answers { all_desks.Answers desks.old desks.new command.now result }
     ensures stands { (before : List Record)

@@ -1,5 +1,5 @@
 -- What an exchange with its hopper makes of a payment and of a settlement.
-use Rattle.std.proofs.Common.{◌≡◌, ℕ, Bool, true, false, cond, List, ◌∷◌, refl, sym, ap, ◌∙◌, Option, Some, None, arith}
+use Rattle.std.proofs.Common.{◌≡◌, ℕ, suc, ◌==◌, Bool, true, false, cond, List, ◌∷◌, refl, sym, ap, ◌∙◌, Option, Some, None}
 use Rattle.cct_model.specs.lines.command.Command.{Command}
 use Rattle.cct_model.specs.lines.command.Command.TheVariants as command
 use Rattle.cct_model.specs.lines.entry.End.{End}
@@ -32,7 +32,7 @@ use Rattle.cct_jobs.specs.Jobs.{Asking, Stands, closing_end, newest_end, opened_
 use Rattle.cct_jobs.proofs.Moves.{exchange_moves, exchange_stays, stop_stays}
 use Rattle.cct_jobs.proofs.Payouts.{payout_goes_on}
 use Rattle.cct_jobs.proofs.Puts.{close_row_is, open_row_is}
-use Rattle.cct_jobs.proofs.Stages.{end_after}
+use Rattle.cct_jobs.proofs.Stages.{end_after, line_on}
 use Rattle.cct_model.specs.Request.{header_of}
 
 module _ {d : DeviceSetup} {device : Target} {row : Payout} {failed : ℕ} {c : Command} {since : List Line}
@@ -49,15 +49,10 @@ pub enabled_counts : {d : DeviceSetup} {device : Target} {id count failed : ℕ}
     → Asking d device (Pays (Enables id count halted)) failed c since state owed
     → Asking d device (Pays (Counts id count halted)) 0 c (exchange (Some (Enable ENABLE_CODE)) (Some y) ∷ since) state
     owed
-enabled_counts {d} {c = c} {since = since} y at = record {
-  device_is = at.device_is;
-  is_here = at.is_here;
-  ahead_is = exchange_moves d c since (Enable ENABLE_CODE) (Some y) _ at.ahead_is refl;
-  suits = at.suits;
-  knows = at.knows;
-  trying = record { counted = refl; few = omega arith };
-  goes_on = answer_goes_on at (Enable ENABLE_CODE) y;
-}
+enabled_counts {d} {id = id} {count = count} {halted = halted} {c = c} {since = since} y at =
+    line_on at (Pays (Counts id count halted)) (exchange (Some (Enable ENABLE_CODE)) (Some y))
+    (exchange_moves d c since (Enable ENABLE_CODE) (Some y) _ at.ahead_is refl) at.suits at.knows refl
+    (answer_goes_on at (Enable ENABLE_CODE) y)
 
 -- its life count is read
 pub count_opens : {d : DeviceSetup} {device : Target} {id count failed : ℕ} {halted : Bool} {c : Command}
@@ -93,69 +88,22 @@ count_opens {d} {device} {id} {count} {halted = halted} {c = c} {since = since} 
 
 -- the row at which a payout is settled
 
+-- no try of another row failed then
+none_failed : (asked q : Request) (got : Option Reply) (since : List Line) → (header_of asked == header_of q) ≡ false
+    → 0 ≡ tries (header_of q) (exchange (Some asked) got ∷ since)
+none_failed asked q None since other = sym (ap (λ b. cond b (suc (tries (header_of q) since)) 0) other)
+none_failed asked q (Some y) since other = refl
+
 module _ {d : DeviceSetup} {device : Target} {own : Owed} {serial failed : ℕ} {c : Command} {since : List Line}
     {state : EpochState} {owed : Option OpenOrder} where
-  -- nor does a dispense that isn't acknowledged
-  unheard_goes_on : {halted : Bool} → Asking d device (Pays (Dispenses serial own halted)) failed c since state owed
-      → newest_end d c (exchange (Some (Dispense serial own.order.count)) None ∷ since) state ≡ None
-  unheard_goes_on at =
+  -- nor does a dispense end it, whatever is heard of it
+  dispense_goes_on : {halted : Bool} (got : Option Reply) → Asking d device (Pays (Dispenses serial own halted)) failed c since state owed
+      → newest_end d c (exchange (Some (Dispense serial own.order.count)) got ∷ since) state ≡ None
+  dispense_goes_on None at =
       let line = exchange (Some (Dispense serial own.order.count)) None in
       ap (λ rows. end_failed (from rows (judged_in c since state))
       (tries (header_of (Dispense serial own.order.count)) (line ∷ since))) at.ahead_is
-
-  unmarked_waits : (got : Option Reply)
-      → Asking d device (Pays (Dispenses serial own false)) failed c since state owed
-      → Asking d device (Pays (Waits closing_of.Payment own)) 0 c
-      (exchange (Some (Dispense serial own.order.count)) got ∷ since) state owed
-  unmarked_waits None at = record {
-    device_is = at.device_is;
-    is_here = at.is_here;
-    ahead_is =
-        exchange_moves d c since (Dispense serial own.order.count) None _ at.ahead_is
-        refl;
-    suits = tt;
-    knows = (at.knows.0, at.knows.1, refl);
-    trying = record { counted = refl; few = omega arith };
-    goes_on = unheard_goes_on at;
-  }
-  unmarked_waits (Some y) at = record {
-    device_is = at.device_is;
-    is_here = at.is_here;
-    ahead_is =
-        exchange_moves d c since (Dispense serial own.order.count) (Some y) _ at.ahead_is
-        refl;
-    suits = tt;
-    knows = (at.knows.0, at.knows.1, refl);
-    trying = record { counted = refl; few = omega arith };
-    goes_on = answer_goes_on at (Dispense serial own.order.count) y;
-  }
-
-  marked_stops : (got : Option Reply)
-      → Asking d device (Pays (Dispenses serial own true)) failed c since state owed
-      → Asking d device (Pays (Stops closing_of.Payment own)) 0 c
-      (exchange (Some (Dispense serial own.order.count)) got ∷ since) state owed
-  marked_stops None at = record {
-    device_is = at.device_is;
-    is_here = at.is_here;
-    ahead_is =
-        exchange_moves d c since (Dispense serial own.order.count) None _ at.ahead_is
-        refl;
-    suits = tt;
-    knows = at.knows;
-    trying = record { counted = refl; few = omega arith };
-    goes_on = unheard_goes_on at;
-  }
-  marked_stops (Some y) at = record {
-    device_is = at.device_is;
-    is_here = at.is_here;
-    ahead_is =
-        exchange_moves d c since (Dispense serial own.order.count) (Some y) _ at.ahead_is
-        refl;
-    suits = tt;
-    knows = at.knows;
-    trying = record { counted = refl; few = omega arith };
-    goes_on = answer_goes_on at (Dispense serial own.order.count) y;
-  }
+  dispense_goes_on (Some y) at = answer_goes_on at (Dispense serial own.order.count) y
 
 -- the dispense is sent, whatever was heard of it
 pub dispense_leaves : (d : DeviceSetup) (device : Target) (own : Owed) (halted : Bool) (serial failed : ℕ) (c : Command)
@@ -163,8 +111,14 @@ pub dispense_leaves : (d : DeviceSetup) (device : Target) (own : Owed) (halted :
     → Asking d device (Pays (Dispenses serial own halted)) failed c since state owed
     → Stands d (Asks device (Pays (settling closing_of.Payment own halted)) 0) c
     (exchange (Some (Dispense serial own.order.count)) got ∷ since) state owed
-dispense_leaves d device own true serial failed c since state owed got at = marked_stops got at
-dispense_leaves d device own false serial failed c since state owed got at = unmarked_waits got at
+dispense_leaves d device own true serial failed c since state owed got at =
+    line_on at (Pays (Stops closing_of.Payment own)) (exchange (Some (Dispense serial own.order.count)) got)
+    (exchange_moves d c since (Dispense serial own.order.count) got _ at.ahead_is refl) tt at.knows
+    (none_failed (Dispense serial own.order.count) StopNow got since refl) (dispense_goes_on got at)
+dispense_leaves d device own false serial failed c since state owed got at =
+    line_on at (Pays (Waits closing_of.Payment own)) (exchange (Some (Dispense serial own.order.count)) got)
+    (exchange_moves d c since (Dispense serial own.order.count) got _ at.ahead_is refl) tt
+    (at.knows.0, at.knows.1, sym (none_failed (Dispense serial own.order.count) StopNow got since refl)) (none_failed (Dispense serial own.order.count) GetStatus got since refl) (dispense_goes_on got at)
 
 -- how the payout goes
 
@@ -173,42 +127,27 @@ module _ {d : DeviceSetup} {device : Target} {closing : Closing} {own : Owed} {f
   pub status_paid : (y : Reply) (paid : Bool) → paid ≡ nothing_left y → paid ≡ true
       → Asking d device (Pays (Waits closing own)) failed c since state owed
       → Asking d device (Pays (Recounts closing own)) 0 c (exchange (Some GetStatus) (Some y) ∷ since) state owed
-  status_paid y paid told is at = record {
-    device_is = at.device_is;
-    is_here = at.is_here;
-    ahead_is = exchange_moves d c since GetStatus (Some y) _ at.ahead_is (sym told ∙ is);
-    suits = tt;
-    knows = at.knows.1;
-    trying = record { counted = refl; few = omega arith };
-    goes_on = answer_goes_on at GetStatus y;
-  }
+  status_paid y paid told is at =
+      line_on at (Pays (Recounts closing own)) (exchange (Some GetStatus) (Some y))
+      (exchange_moves d c since GetStatus (Some y) _ at.ahead_is (sym told ∙ is)) tt at.knows.1 refl
+      (answer_goes_on at GetStatus y)
 
   pub status_goes_on : (y : Reply) (paid : Bool) → paid ≡ nothing_left y → paid ≡ false
       → Asking d device (Pays (Waits closing own)) failed c since state owed
       → Asking d device (Pays (Waits closing own)) 0 c (exchange (Some GetStatus) (Some y) ∷ since) state owed
-  status_goes_on y paid told is at = record {
-    device_is = at.device_is;
-    is_here = at.is_here;
-    ahead_is = exchange_stays d c since GetStatus (Some y) _ at.ahead_is (sym told ∙ is);
-    suits = tt;
-    knows = (at.knows.0, at.knows.1, refl);
-    trying = record { counted = refl; few = omega arith };
-    goes_on = answer_goes_on at GetStatus y;
-  }
+  status_goes_on y paid told is at =
+      line_on at (Pays (Waits closing own)) (exchange (Some GetStatus) (Some y))
+      (exchange_stays d c since GetStatus (Some y) _ at.ahead_is (sym told ∙ is)) tt (at.knows.0, at.knows.1, refl) refl
+      (answer_goes_on at GetStatus y)
 
   -- the hopper is stopped
   pub stop_waits : (y : Reply) → form_shown y ≡ Some form.Remaining
       → Asking d device (Pays (Stops closing own)) failed c since state owed
       → Asking d device (Pays (Waits closing own)) 0 c (exchange (Some StopNow) (Some y) ∷ since) state owed
-  stop_waits y wanted at = record {
-    device_is = at.device_is;
-    is_here = at.is_here;
-    ahead_is = exchange_stays d c since StopNow (Some y) _ at.ahead_is (stop_stays y wanted);
-    suits = tt;
-    knows = (refl, at.knows.1, refl);
-    trying = record { counted = refl; few = omega arith };
-    goes_on = answer_goes_on at StopNow y;
-  }
+  stop_waits y wanted at =
+      line_on at (Pays (Waits closing own)) (exchange (Some StopNow) (Some y))
+      (exchange_stays d c since StopNow (Some y) _ at.ahead_is (stop_stays y wanted)) tt (refl, at.knows.1, refl) refl
+      (answer_goes_on at StopNow y)
 
 -- the end that a record brings which closes an order
 

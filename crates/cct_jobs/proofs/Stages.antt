@@ -167,7 +167,21 @@ module _ {d : DeviceSetup} {device : Target} {stage : Stage} {failed : ℕ} {c :
       (from (stage_ahead device stage) (judged_in c since state)) y (judged_in c (exchange (Some q) (Some y) ∷ since) state)
   end_after q y = ap (λ rows. end_answered rows y (judged_in c (exchange (Some q) (Some y) ∷ since) state)) left_is
 
-  -- an answer leads on to the next stage
+  -- a line leads on to the next stage, which no try has failed yet
+  pub line_on : (next : Stage) (line : Line) → rest d c (line ∷ since) ≡ stage_ahead device next → Suits next device
+      → Knows next (line ∷ since) state owed → 0 ≡ tries (header_of (request_of next)) (line ∷ since)
+      → newest_end d c (line ∷ since) state ≡ None → Asking d device next 0 c (line ∷ since) state owed
+  line_on next line rows suits knows fresh on = record {
+    device_is = at.device_is;
+    is_here = at.is_here;
+    ahead_is = rows;
+    suits = suits;
+    knows = knows;
+    trying = record { counted = fresh; few = omega arith };
+    goes_on = on;
+  }
+
+  -- and so does an answer
   pub stage_on : (job : Job) (next : Stage) → job ≡ Asks device next 0 → IsSettled stage → (y : Reply)
       → but_first (stage_ahead device stage) ≡ stage_ahead device next → Suits next device
       → Knows next (exchange (Some (request_of stage)) (Some y) ∷ since) state owed
@@ -176,15 +190,7 @@ module _ {d : DeviceSetup} {device : Target} {stage : Stage} {failed : ℕ} {c :
       → Stands d job c (exchange (Some (request_of stage)) (Some y) ∷ since) state owed
   stage_on job next begun settled y rows suits knows on =
       subst (λ j. Stands d j c (exchange (Some (request_of stage)) (Some y) ∷ since) state owed) (sym begun)
-      (record {
-        device_is = at.device_is;
-        is_here = at.is_here;
-        ahead_is = answered_rest settled y ∙ rows;
-        suits = suits;
-        knows = knows;
-        trying = record { counted = refl; few = omega arith };
-        goes_on = end_after (request_of stage) y ∙ on;
-      })
+      (line_on next _ (answered_rest settled y ∙ rows) suits knows refl (end_after (request_of stage) y ∙ on))
 
 -- the credits that a round or a stop reads end it never
 pub read_on : (visit : Visit) (device : Target) (y : Reply) (meant means : Judged)
@@ -212,20 +218,14 @@ module _ {d : DeviceSetup} {device : Target} {question : Request} {failed : ℕ}
         let n = place_of question (questions_of device) in
         let more : slice_get (questions_of device) (suc n) ≡ Some next = next_is ∙ e in
         let place : place_of next (questions_of device) ≡ suc n = placed device.family (suc n) next more in
-        record {
-          device_is = at.device_is;
-          is_here = at.is_here;
-          ahead_is =
-              answered_rest at tt y
-              ∙ sym (after_next (telling (questions_of device)) n)
-              ∙ ap (after (telling (questions_of device))) (sym place);
-          suits = ap (slice_get (questions_of device)) place ∙ more;
-          knows = tt;
-          trying = record { counted = refl; few = omega arith };
-          goes_on = end_after at question y
-              ∙ told_end (questions_of device) n _ y _ question at.suits
-              ∙ ap (λ b. cond b (Some Told) None) (question_within (questions_of device) (suc n) next more);
-        }
+        line_on at (IdentAsks next) (exchange (Some question) (Some y))
+        (answered_rest at tt y
+        ∙ sym (after_next (telling (questions_of device)) n)
+        ∙ ap (after (telling (questions_of device))) (sym place))
+        (ap (slice_get (questions_of device)) place ∙ more) tt refl
+        (end_after at question y
+        ∙ told_end (questions_of device) n _ y _ question at.suits
+        ∙ ap (λ b. cond b (Some Told) None) (question_within (questions_of device) (suc n) next more))
 
     pub ident_told : (y : Reply) → question_after device.family question ≡ None
         → newest_end d c (exchange (Some question) (Some y) ∷ since) state ≡ Some Told

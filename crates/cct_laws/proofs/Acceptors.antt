@@ -1,10 +1,9 @@
 -- What holds of an acceptor is kept by all that can come over an honest wire.
-use Rattle.std.proofs.Common.{◌≡◌, ℕ, ◌==◌, cond, Bool, true, false, List, [], ◌∷◌, refl, sym, subst, Option, Some, None, le_refl, rules}
-use Rattle.cct_model.specs.terms.device.DeviceBody.{DeviceBody}
-use Rattle.cct_model.specs.terms.device.DeviceBody.TheVariants.{Acceptor, Hopper}
+use Rattle.std.proofs.Common.{◌≡◌, true, List, [], ◌∷◌, refl, ap, sym, subst, Option, Some, None, le_refl, arith, rules}
 use Rattle.cct_model.specs.terms.device.DeviceSetup.{DeviceSetup}
 use Rattle.cct_model.specs.terms.request.Request.{Request}
-use Rattle.cct_model.specs.terms.request.Request.TheVariants.{SimplePoll, AddressPoll}
+use Rattle.cct_model.specs.terms.request.Request.TheVariants.{SimplePoll, AddressPoll, ResetDevice, ReadCredits, SetMaster, GetMask, SetMask}
+use Rattle.cct_model.specs.terms.coin.Credits.{Credits}
 use Rattle.cct_model.specs.lines.record.Record.{Record}
 use Rattle.cct_model.specs.lines.record.Record.TheVariants as record_of
 use Rattle.cct_model.specs.declared.judging.Judged.{Judged}
@@ -18,156 +17,166 @@ use Rattle.cct_model.specs.History.{Met, heard}
 use Rattle.cct_model.specs.Device.{IsAcceptor}
 use Rattle.cct_model.specs.Line.{Line, exchange, put, crashed}
 use Rattle.cct_model.specs.Order.{order}
-use Rattle.cct_model.specs.Job.{works, job, sends, puts, ident_requests, Payment, payment_in, epoch, credits_read, judged_in}
-use Rattle.cct_model.specs.Rows.{row, row_at, end_of, rows_of, done}
-use Rattle.cct_model.proofs.Rows.{IfSends, Each, EachRow, puts_only, both_hold, each_ask, AnswerEnds, answer_end, PutEnds, each_asked, told_only, each_put, each_told, Asks, puts_none, put_end}
-use Rattle.cct_laws.specs.Kept.{Fate, unheard, silenced, answered, IsForOthers, is_for_acceptor, with_ended}
+use Rattle.cct_model.specs.Job.{works, job, sends, puts, ident_requests, Payment, payment_in, epoch, credits_read, judged_in, address_of}
+use Rattle.cct_model.specs.Rows.{Then, ends_as, if_quiet, if_posted, new_epoch, reading, epoch_end, TableRow, asks_for, asks_once, waits_for_coins, puts_due, row, rows_of, rest, from, first, done, sent_once, end_of, end_kept, end_by_record}
+use Rattle.cct_model.proofs.Rows.{EachRow, EachBefore, before_on, fact_after, Behind, behind_answer, behind_record, PutEnds, each_told, put_end}
+use Rattle.cct_laws.specs.Kept.{Fate, IsForOthers, is_for_acceptor, with_ended}
 use Rattle.cct_laws.proofs.EitherKind.{for_acceptor}
 use Rattle.cct_laws.specs.Since.{IsKept}
 use Rattle.cct_model.specs.Claims.{mark, base, InOrder, Covers, Pace}
-use Rattle.cct_laws.proofs.World.{world, closed, On, on_nothing}
-use Rattle.cct_laws.proofs.Fits.{book, StateOf, Fits}
-use Rattle.cct_laws.proofs.Moves.{Sound, sound_line, Keeps, KeepsAsk, FitsBehind, IfOther, IsMild, keeps_accepted, keeps_inhibited, keeps_alien, keeps_reset, keeps_taken, keeps_with_ended, keeps_exchange, on_heard, fits_at, failure_other, IsOtherEnd}
-use Rattle.cct_laws.proofs.Starts.{start_asks, start_puts}
-use Rattle.cct_laws.proofs.Rounds.{round_asks, round_puts}
-use Rattle.cct_laws.proofs.Stops.{stop_asks, stop_puts}
+use Rattle.cct_laws.proofs.World.{World, world, closed}
+use Rattle.cct_laws.proofs.Fits.{Book, book, StateOf, FitsAt, Fits, at_on}
+use Rattle.cct_laws.proofs.Moves.{Sound, sound_line, Keeps, KeepsAsk, AtRows, IfOther, IsMild, IsNeutral, keeps_accepted, keeps_inhibited, keeps_alien, keeps_reset, keeps_taken, keeps_with_ended, answered_at, next_at, on_heard, fits_at, by_fate, request_is, entry_is, IsOtherEnd}
+use Rattle.cct_laws.proofs.Starts.{resets, reads_quiet, opens, begins}
+use Rattle.cct_laws.proofs.Rounds.{reads, looks}
+use Rattle.cct_laws.proofs.Stops.{shuts, over_put, judged_put}
+use Rattle.cct_laws.proofs.Leads.{Leads, leads}
 use Rattle.cct_model.specs.declared.judging.EpochState.{EpochState}
+use Rattle.cct_model.proofs.Tries.{left_asks, due_sends}
+use Rattle.cct_model.proofs.RowEnds.{rest_asks}
 
--- a job at an acceptor that reads and records nothing
-abbrev pub IsPlain : Command → Type 0
-IsPlain (command.Start addr mask) = ⊥
-IsPlain (command.Round addr) = ⊥
-IsPlain (command.Stop addr) = ⊥
-IsPlain c = is_for_acceptor c ≡ true
+-- the rows of a job at an acceptor, and what each leads to
+pub left_leads : (d : DeviceSetup) (c : Command) (since : List Line) → is_for_acceptor c ≡ true → IsCommand c →
+    EachBefore Leads (rest d c since)
+left_leads d c since suited in_range =
+    fact_after (EachBefore Leads) (before_on Leads) (rows_of d c) (done (rows_of d c) since) (leads d c suited in_range)
 
--- what it asks opens no place
-plain_ident : (body : DeviceBody) → Each IsMild (ident_requests body)
-plain_ident (Acceptor accepts values ids) = search rules
-plain_ident (Hopper life value) = search rules
+-- a request that changes nothing
+neutral_mild : (q : Request) → IsNeutral q → IsMild q
+neutral_mild (SetMask mask) neutral = absurd neutral
+neutral_mild (SetMaster value) neutral = absurd neutral
+neutral_mild q neutral = tt
 
-plain_if : (b : Bool) (q r : Request) → IsMild q → IsMild r → IsMild (cond b q r)
-plain_if true q r plain other = plain
-plain_if false q r plain other = other
+neutral_told : (w : World) (lines : List Line) (c : Command) (since : List Line) (rows : List TableRow) (q : Request)
+    (y : Reply) → IsNeutral q → FitsAt w (book lines) rows (credits_read since) (judged_in c since (epoch lines)) →
+    FitsAt w (book (exchange (Some q) (Some y) ∷ lines)) rows (credits_read (exchange (Some q) (Some y) ∷ since))
+    (judged_in c (exchange (Some q) (Some y) ∷ since) (epoch lines))
+neutral_told w lines c since rows ReadCredits y neutral fits = absurd neutral
+neutral_told w lines c since rows GetMask y neutral fits = absurd neutral
+neutral_told w lines c since rows q y neutral fits = fits
 
-plain_command : (d : DeviceSetup) (c : Command) → IsPlain c → EachRow (Asks IsMild) (rows_of d c)
-plain_command d (command.Start addr mask) plain = absurd plain
-plain_command d (command.Ident addr) plain = each_asked IsMild (ident_requests d.body) (plain_ident d.body)
-plain_command d (command.Path addr place path) plain =
-    (plain_if (place == 0) _ _ tt tt, (plain_if (place == 0) _ _ tt tt, tt))
-plain_command d c plain = search rules
+neutral_passes : (w : World) (b : Book) (q : Request) (behind : Then) (rows : List TableRow) (credits : Option Credits)
+    (judged : Judged) → IsNeutral q → FitsAt w b (asks_for q behind ∷ rows) credits judged →
+    FitsAt w b rows credits judged
+neutral_passes w b ResetDevice behind rows credits judged neutral fits = absurd neutral
+neutral_passes w b ReadCredits behind rows credits judged neutral fits = absurd neutral
+neutral_passes w b GetMask behind rows credits judged neutral fits = absurd neutral
+neutral_passes w b (SetMaster value) behind rows credits judged neutral fits = absurd neutral
+neutral_passes w b q behind rows credits judged neutral fits = fits
 
--- it puts nothing
-plain_puts_none : (d : DeviceSetup) (c : Command) → IsPlain c → puts_only puts_none (rows_of d c) ≡ true
-plain_puts_none d (command.Start addr mask) plain = absurd plain
-plain_puts_none d (command.Round addr) plain = absurd plain
-plain_puts_none d (command.Stop addr) plain = absurd plain
-plain_puts_none d (command.Pay addr id count) plain = absurd cc
-plain_puts_none d (command.Settle addr) plain = absurd cc
-plain_puts_none d (command.Ident addr) plain = told_only puts_none (ident_requests d.body)
-plain_puts_none d c plain = refl
+asks_neutral : (d : DeviceSetup) (past : List Met) (lines : List Line) (c : Command) (since : List Line) (q : Request)
+    (behind : Then) (rows : List TableRow) (asked : Option Request) (got : Option Reply) →
+    AtRows d past lines c since (asks_for q behind ∷ rows) → IsNeutral q → Behind IsOtherEnd behind →
+    FitsAt (world past lines) (book lines) (asks_for q behind ∷ rows) (credits_read since)
+    (judged_in c since (epoch lines)) →
+    Fate d past q asked got → KeepsAsk d past lines c since q asked got
+asks_neutral d past lines c since q behind rows asked got at neutral other fits fate =
+    let mild = neutral_mild q neutral in
+    by_fate d past lines c since q asked got (ap sent_once at.rest_is) mild at.is_job at.keeps (λ y gives.
+    let now = heard (Some q) ∷ past in
+    let line = exchange (Some q) (Some y) in
+    let on = on_heard past lines q mild in
+    let later =
+    neutral_passes (world past lines) (book lines) q behind rows (credits_read since) (judged_in c since (epoch lines))
+    neutral fits in
+    answered_at d past lines c since (asks_for q behind ∷ rows) q y at
+    (keeps_with_ended d now (line ∷ lines) _ (behind_answer IsOtherEnd behind y _ other)
+    (next_at d past lines c since (asks_for q behind) rows q y at refl on
+    (neutral_told (world now lines) lines c since rows q y neutral
+    (at_on (world past lines) (world now lines) (book lines) rows (credits_read since) (judged_in c since (epoch lines))
+    on later))))) fate
 
-pub plain_row : (d : DeviceSetup) (c : Command) (rows : ℕ) (judged : Judged) (p : Payment) → IsPlain c →
-    IfSends IsMild (row_at d c rows judged p)
-plain_row d c rows judged p plain =
-    both_hold IsMild (λ r. ⊥) (row_at d c rows judged p)
-    (each_ask IsMild d c rows judged p (plain_command d c plain))
-    (each_put (λ r. ⊥) puts_none d c rows judged p (plain_puts_none d c plain) (λ due none. absurd cc))
+-- a job at the acceptor asks something: what the first of its rows asks
 
--- it needs nothing, and its ends are no items
-plain_fits : (d : DeviceSetup) (now : List Met) (lines : List Line) (c : Command) (since : List Line) → IsPlain c →
-    FitsBehind d now lines c since
-plain_fits d now lines (command.Start addr mask) since plain = absurd plain
-plain_fits d now lines (command.Round addr) since plain = absurd plain
-plain_fits d now lines (command.Stop addr) since plain = absurd plain
-plain_fits d now lines c since plain = tt
-
-plain_ends : (d : DeviceSetup) (c : Command) → IsPlain c → EachRow (AnswerEnds IsOtherEnd) (rows_of d c)
-plain_ends d (command.Round addr) plain = absurd plain
-plain_ends d (command.Ident addr) plain =
-    each_told (AnswerEnds IsOtherEnd) (λ q. tt) (λ q. tt) (ident_requests d.body)
-plain_ends d c plain = search rules
-
-plain_end : (d : DeviceSetup) (c : Command) (q : Request) (got : Option Reply) (since : List Line)
-    (state : EpochState) → IsPlain c → IfOther (end_of d c (exchange (Some q) got) since state)
-plain_end d c q None since state plain = failure_other d c q since state
-plain_end d c q (Some y) since state plain = answer_end IsOtherEnd d c (Some q) y since state (plain_ends d c plain)
-
-plain_line : (d : DeviceSetup) (past now : List Met) (lines : List Line) (c : Command) (since : List Line) (q : Request)
-    (got : Option Reply) → IsPlain c → job lines ≡ works c since → On (world past lines) (world now lines) →
-    Keeps d past lines →
-    Keeps d now (with_ended (end_of d c (exchange (Some q) got) since (epoch lines)) (exchange (Some q) got ∷ lines))
-plain_line d past now lines c since q got plain is_job on keeps =
-    let line = exchange (Some q) got in
-    keeps_with_ended d now (line ∷ lines) _ (plain_end d c q got since (epoch lines) plain)
-    (keeps_exchange d past now lines c since (Some q) got is_job on keeps.sound
-    (plain_fits d now (line ∷ lines) c (line ∷ since) plain))
-
-plain_fate : (d : DeviceSetup) (past : List Met) (lines : List Line) (c : Command) (since : List Line) (q : Request)
-    (asked : Option Request) (got : Option Reply) → IsPlain c → job lines ≡ works c since → IsMild q →
-    Keeps d past lines → Fate d past q asked got → KeepsAsk d past lines c since q asked got
-plain_fate d past lines c since q asked got plain is_job mild keeps unheard =
-    plain_line d past (heard None ∷ past) lines c since q None plain is_job (on_nothing (world past lines)) keeps
-plain_fate d past lines c since q asked got plain is_job mild keeps silenced =
-    plain_line d past (heard (Some q) ∷ past) lines c since q None plain is_job (on_heard past lines q mild) keeps
-plain_fate d past lines c since q asked got plain is_job mild keeps (answered y gives) =
-    plain_line d past (heard (Some q) ∷ past) lines c since q (Some y) plain is_job (on_heard past lines q mild) keeps
-
-plain_asks : (d : DeviceSetup) (past : List Met) (lines : List Line) (c : Command) (since : List Line) (q : Request)
-    (asked : Option Request) (got : Option Reply) → IsPlain c → job lines ≡ works c since →
-    row d c since (epoch lines) (order lines) ≡ sends q → Keeps d past lines → Fate d past q asked got →
+as_asked : (d : DeviceSetup) (past : List Met) (lines : List Line) (c : Command) (since : List Line) (x q : Request)
+    (asked : Option Request) (got : Option Reply) → sends x ≡ sends q →
+    (Fate d past x asked got → KeepsAsk d past lines c since x asked got) → Fate d past q asked got →
     KeepsAsk d past lines c since q asked got
-plain_asks d past lines c since q asked got plain is_job row_is keeps fate =
-    let mild : IsMild q =
-    subst (IfSends IsMild) row_is
-    (plain_row d c (done (rows_of d c) since) (judged_in c since (epoch lines)) (payment_in since (order lines)) plain) in
-    plain_fate d past lines c since q asked got plain is_job mild keeps fate
+as_asked d past lines c since x q asked got row keeps =
+    subst (λ r. Fate d past r asked got → KeepsAsk d past lines c since r asked got) (request_is x q row) keeps
 
--- a job at the acceptor asks something
+asks_at : (d : DeviceSetup) (past : List Met) (lines : List Line) (c : Command) (since : List Line)
+    (rows : List TableRow) (p : Payment) (q : Request) (asked : Option Request) (got : Option Reply) →
+    IsAcceptor d.body → EachBefore Leads rows → AtRows d past lines c since rows →
+    FitsAt (world past lines) (book lines) rows (credits_read since) (judged_in c since (epoch lines)) →
+    first (address_of c) (judged_in c since (epoch lines)) p rows ≡ sends q → Fate d past q asked got →
+    KeepsAsk d past lines c since q asked got
+asks_at d past lines c since [] p q asked got accepting each at fits row = absurd cc
+asks_at d past lines c since (asks_for ResetDevice behind ∷ rows) p q asked got accepting each at fits row =
+    as_asked d past lines c since ResetDevice q asked got row
+    (resets d past lines c since behind rows asked got at each.0.0 each.0.1 fits)
+asks_at d past lines c since (asks_for ReadCredits if_quiet ∷ rows) p q asked got accepting each at fits row =
+    as_asked d past lines c since ReadCredits q asked got row
+    (reads_quiet d past lines c since rows asked got accepting at each.0 fits.0 fits.1)
+asks_at d past lines c since (asks_for ReadCredits behind ∷ rows) p q asked got accepting each at fits row =
+    as_asked d past lines c since ReadCredits q asked got row
+    (reads d past lines c since behind rows asked got accepting at each.0.0 each.0.1 fits.0 fits.1)
+asks_at d past lines c since (asks_for (SetMaster value) behind ∷ rows) p q asked got accepting each at fits row =
+    as_asked d past lines c since (SetMaster value) q asked got row
+    (shuts d past lines c since value behind rows asked got each.0.0 at each.0.1 each.0.2 fits)
+asks_at d past lines c since (asks_for GetMask behind ∷ rows) p q asked got accepting each at fits row =
+    as_asked d past lines c since GetMask q asked got row
+    (looks d past lines c since behind rows asked got accepting at each.0.0 each.0.1 fits.0 fits.1)
+asks_at d past lines c since (asks_for x behind ∷ rows) p q asked got accepting each at fits row =
+    as_asked d past lines c since x q asked got row
+    (asks_neutral d past lines c since x behind rows asked got at each.0.0 each.0.1 fits)
+asks_at d past lines c since (asks_once (SetMask mask) (ends_as end) (ends_as other) ∷ rows) p q asked got accepting each
+    at fits row =
+    as_asked d past lines c since (SetMask mask) q asked got row
+    (opens d past lines c since mask end other rows asked got each.0.0 at each.0.1 each.0.2 fits)
+asks_at d past lines c since (asks_once x behind without ∷ rows) p q asked got accepting each at fits row =
+    absurd each.0
+asks_at d past lines c since (waits_for_coins ∷ rows) p q asked got accepting each at fits row = absurd each.0
+asks_at d past lines c since (puts_due due behind ∷ rows) p q asked got accepting each at fits row =
+    absurd (due_sends (address_of c) (judged_in c since (epoch lines)) p due q row)
 
 keeps_asks : (d : DeviceSetup) (past : List Met) (lines : List Line) (c : Command) (since : List Line) (q : Request)
     (asked : Option Request) (got : Option Reply) → IsAcceptor d.body → is_for_acceptor c ≡ true → IsCommand c →
     job lines ≡ works c since → row d c since (epoch lines) (order lines) ≡ sends q → Fate d past q asked got →
     Keeps d past lines → KeepsAsk d past lines c since q asked got
-keeps_asks d past lines (command.Start addr mask) since q asked got accepting suited in_range is_job row_is fate keeps =
-    let c = command.Start addr mask in
-    start_asks d past lines addr mask since q asked got (judged_in c since (epoch lines)) (payment_in since (order lines)) (done (rows_of d c) since) accepting in_range is_job refl
-    (fits_at d past lines (command.Start addr mask) since is_job keeps) row_is keeps fate
-keeps_asks d past lines (command.Round addr) since q asked got accepting suited in_range is_job row_is fate keeps =
-    let c = command.Round addr in
-    round_asks d past lines addr since (judged_in c since (epoch lines)) q asked got (payment_in since (order lines)) (done (rows_of d c) since) accepting is_job refl
-    (fits_at d past lines c since is_job keeps) row_is keeps fate
-keeps_asks d past lines (command.Stop addr) since q asked got accepting suited in_range is_job row_is fate keeps =
-    let c = command.Stop addr in
-    stop_asks d past lines addr since (judged_in c since (epoch lines)) q asked got (payment_in since (order lines)) (done (rows_of d c) since) accepting is_job refl
-    (fits_at d past lines c since is_job keeps) row_is keeps fate
 keeps_asks d past lines c since q asked got accepting suited in_range is_job row_is fate keeps =
-    plain_asks d past lines c since q asked got suited is_job row_is keeps fate
+    asks_at d past lines c since (rest d c since) (payment_in since (order lines)) q asked got accepting
+    (left_leads d c since suited in_range)
+    (record {
+      is_job = is_job;
+      rest_is = refl;
+      left_is = left_asks d c since (epoch lines) (order lines) q row_is;
+      keeps = keeps;
+    })
+    (fits_at d past lines c since is_job keeps) (rest_asks d c since (epoch lines) (order lines) q row_is) fate
 
--- it puts a record
-pub plain_puts : (d : DeviceSetup) (lines : List Line) (c : Command) (since : List Line) (r : Record) → IsPlain c →
-    row d c since (epoch lines) (order lines) ≡ puts r → ⊥
-plain_puts d lines c since r plain row_is =
-    subst (IfSends IsMild) row_is
-    (plain_row d c (done (rows_of d c) since) (judged_in c since (epoch lines)) (payment_in since (order lines)) plain)
+-- it puts a record: what the first of its rows puts
+puts_at : (d : DeviceSetup) (past : List Met) (lines : List Line) (c : Command) (since : List Line)
+    (rows : List TableRow) (p : Payment) (r : Record) → job lines ≡ works c since → rest d c since ≡ rows →
+    EachBefore Leads rows →
+    FitsAt (world past lines) (book lines) rows (credits_read since) (judged_in c since (epoch lines)) →
+    first (address_of c) (judged_in c since (epoch lines)) p (from rows (judged_in c since (epoch lines))) ≡ puts r →
+    Keeps d past lines → Keeps d past (with_ended (end_kept rows r) (put r ∷ lines))
+puts_at d past lines c since [] p r is_job rest_is each fits row keeps = absurd cc
+puts_at d past lines c since (asks_for q behind ∷ rows) p r is_job rest_is each fits row keeps = absurd cc
+puts_at d past lines c since (asks_once q behind without ∷ rows) p r is_job rest_is each fits row keeps = absurd cc
+puts_at d past lines c since (waits_for_coins ∷ rows) p r is_job rest_is each fits row keeps = absurd each.0
+puts_at d past lines c since (puts_due (new_epoch mask) behind ∷ rows) p r is_job rest_is each fits row keeps =
+    subst (λ e. Keeps d past (with_ended (end_by_record behind e) (put e ∷ lines)))
+    (entry_is (record_of.Epoch (address_of c) mask) r row)
+    (keeps_with_ended d past _ _ (behind_record IsOtherEnd behind (record_of.Epoch (address_of c) mask) each.0.1)
+    (begins d past lines c since (puts_due (new_epoch mask) behind) rows (address_of c) mask each.0.0 is_job rest_is
+    each.0.2 fits.0 fits.1 fits.2 keeps))
+puts_at d past lines c since (puts_due reading (if_posted of_reading) ∷ rows) p r is_job rest_is each fits row keeps =
+    judged_put d past lines c since of_reading rows (address_of c) (judged_in c since (epoch lines)) p r is_job rest_is
+    each.0.0 each.0.1 fits.0 fits.1 row keeps
+puts_at d past lines c since (puts_due epoch_end (ends_as end) ∷ rows) p r is_job rest_is each fits row keeps =
+    over_put d past lines (address_of c) (puts_due epoch_end (ends_as end) ∷ rows) end r refl each.0 row fits.shut
+    (λ near. omega (arith, fits.marked)) keeps.sound
+puts_at d past lines c since (puts_due due behind ∷ rows) p r is_job rest_is each fits row keeps = absurd each.0
 
 keeps_puts : (d : DeviceSetup) (past : List Met) (lines : List Line) (c : Command) (since : List Line) (r : Record) →
     is_for_acceptor c ≡ true → IsCommand c →
     job lines ≡ works c since → row d c since (epoch lines) (order lines) ≡ puts r → Keeps d past lines →
     Keeps d past (with_ended (end_of d c (put r) since (epoch lines)) (put r ∷ lines))
-keeps_puts d past lines (command.Start addr mask) since r suited in_range is_job row_is keeps =
-    let c = command.Start addr mask in
-    start_puts d past lines addr mask since r (judged_in c since (epoch lines)) (payment_in since (order lines)) (done (rows_of d c) since) in_range is_job refl
-    (fits_at d past lines (command.Start addr mask) since is_job keeps) row_is keeps
-keeps_puts d past lines (command.Round addr) since r suited in_range is_job row_is keeps =
-    let c = command.Round addr in
-    round_puts d past lines addr (credits_read since) (judged_in c since (epoch lines)) r (payment_in since (order lines)) (done (rows_of d c) since)
-    (fits_at d past lines c since is_job keeps) row_is keeps
-keeps_puts d past lines (command.Stop addr) since r suited in_range is_job row_is keeps =
-    let c = command.Stop addr in
-    stop_puts d past lines addr since (judged_in c since (epoch lines)) r (payment_in since (order lines)) (done (rows_of d c) since) is_job refl
-    (fits_at d past lines c since is_job keeps) row_is keeps
 keeps_puts d past lines c since r suited in_range is_job row_is keeps =
-    absurd (plain_puts d lines c since r suited row_is)
+    puts_at d past lines c since (rest d c since) (payment_in since (order lines)) r is_job refl
+    (left_leads d c since suited in_range) (fits_at d past lines c since is_job keeps) row_is keeps
 
 -- the host loses its power
 keeps_crashed : (d : DeviceSetup) (past : List Met) (lines : List Line) → Keeps d past lines → Keeps d past (crashed ∷ lines)

@@ -28,9 +28,10 @@ put_caused : (d : DeviceSetup) (past : List Entry) (c : Command) (since : List L
     IsRanged d (job (lines_of d past)) → AtWork d past c since → row_after d past c since ≡ puts r → HoldsAt d (Masks d) past →
     HasCause d past r
 put_caused d past c since (record_of.Broken addr seen counter posted) accepting ranged at_work is_row masks =
-    λ here. masks_break d (since_epoch d past) (met d past) (lines_of d past) c since addr seen counter posted
-    (for_acceptor d.body c accepting (subst (IsRanged d) at_work.job_is ranged).1) at_work.job_is at_work.is_here is_row
-    masks
+    λ here.
+    let in_range = subst (IsRanged d) at_work.job_is ranged in
+    masks_break d (since_epoch d past) (met d past) (lines_of d past) c since addr seen counter posted
+    (for_acceptor d.body c accepting in_range.1) in_range.0 at_work.job_is at_work.is_here is_row masks
 put_caused d past c since r accepting ranged at_work is_row masks = tt
 
 causes_there : (capacity : ℕ) (setup : Setup) (d : DeviceSetup) (past news : List Entry) (s : Step) →

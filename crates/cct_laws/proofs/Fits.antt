@@ -1,23 +1,23 @@
 -- What holds of an acceptor beside its epoch, and what the rows of a job need besides; every move of the acceptor keeps
 -- both.
-use Rattle.std.proofs.Common.{◌≡◌, ℕ, zero, suc, ◌+◌, ◌-◌, ◌≤◌, List, length, take, ap, ◌∙◌, Option, Some, None}
+use Rattle.std.proofs.Common.{◌≡◌, ℕ, ◌+◌, ◌-◌, ◌≤◌, Bool, true, false, List, [], ◌∷◌, length, take, ap, ◌∙◌, Option, Some, None}
 use Rattle.std.specs.Prelude.{⊤}
 use Rattle.cct_model.specs.terms.coin.Coin.{Coin}
 use Rattle.cct_model.specs.terms.coin.Credits.{Credits}
+use Rattle.cct_model.specs.terms.request.Request.TheVariants.{ResetDevice, ReadCredits, SetMaster, GetMask, SetMask}
 use Rattle.cct_model.specs.lines.record.Record.{Record}
 use Rattle.cct_model.specs.lines.record.Record.TheVariants as record_of
 use Rattle.cct_model.specs.declared.judging.Judged.{Judged}
 use Rattle.cct_model.specs.declared.judging.Judged.TheVariants.{Nothing, Reading, Broken}
 use Rattle.cct_model.specs.declared.judging.EpochState.{EpochState}
 use Rattle.cct_model.specs.declared.judging.EpochState.TheVariants.{Idle, Running}
-use Rattle.cct_model.specs.lines.command.Command.{Command}
-use Rattle.cct_model.specs.lines.command.Command.TheVariants as command
 use Rattle.cct_model.specs.Line.{Line}
 use Rattle.cct_model.specs.Job.{Job, free, works, epoch, credits_read, judged_in}
 use Rattle.cct_model.specs.Reading.{distance, posted_of}
-use Rattle.cct_model.specs.Claims.{coins, arrivals, reading, looking, mark, base, fewer, AreNewest, IsNear}
+use Rattle.cct_model.specs.Claims as claims
+use Rattle.cct_model.specs.Claims.{coins, arrivals, looking, mark, base, fewer, AreNewest, IsNear}
 use Rattle.cct_laws.proofs.World.{World, Shut, Silent, IsLive, Tracks, On, mask_at, tracks_on, closed}
-use Rattle.cct_model.specs.Rows.{done, rows_of}
+use Rattle.cct_model.specs.Rows.{if_quiet, new_epoch, reading, epoch_end, TableRow, asks_for, asks_once, waits_for_coins, puts_due, rest}
 use Rattle.cct_model.specs.terms.device.DeviceSetup.{DeviceSetup}
 
 -- what the lines tell that no piece changes: the mark, the base and the epoch, the coins and the number of pieces before
@@ -35,8 +35,8 @@ book lines = record {
   mark = mark lines;
   base = base lines;
   epoch = epoch lines;
-  known = coins (reading lines);
-  came = arrivals (reading lines);
+  known = coins (claims.reading lines);
+  came = arrivals (claims.reading lines);
   seen = coins (looking lines);
 }
 
@@ -131,40 +131,79 @@ pub record Waits (w : World) (b : Book) (mask : ℕ) : Type 0 where
   pub based : b.base ≡ Some begun
   pub few : length w.events + begun ≤ w.arrivals
 
--- what a start needs after so many rows
-abbrev pub FitsStart : World → Book → ℕ → ℕ → Type 0
-FitsStart w b mask zero = IsIdle b.epoch
-FitsStart w b mask (suc zero) = IsIdle b.epoch × Silent w
-FitsStart w b mask (suc (suc zero)) = IsIdle b.epoch × Silent w × (length w.events + b.came ≤ w.arrivals)
-FitsStart w b mask (suc (suc (suc zero))) = Waits w b mask
-FitsStart w b mask (suc (suc (suc (suc rows)))) = ⊤
+-- among these rows is one that ends the epoch
+abbrev pub ends_epoch : List TableRow → Bool
+ends_epoch [] = false
+ends_epoch (puts_due epoch_end behind ∷ rows) = true
+ends_epoch (row ∷ rows) = ends_epoch rows
 
--- what a round needs
-abbrev pub FitsRound : World → Book → ℕ → Option Credits → Judged → Type 0
-FitsRound w b zero credits judged = IsRunning b.epoch
-FitsRound w b (suc zero) credits judged = HeldIn w b b.epoch credits
-FitsRound w b (suc (suc zero)) credits judged = Ready w b judged
-FitsRound w b (suc (suc (suc rows))) credits judged = ⊤
+abbrev pub IfOver : Bool → Type 0 → Type 0
+IfOver true F = F
+IfOver false F = ⊤
 
--- what a stop needs: no coin comes behind its first row
-abbrev pub FitsStop : World → Book → ℕ → Option Credits → Judged → Type 0
-FitsStop w b zero credits judged = IsRunning b.epoch
-FitsStop w b (suc zero) credits judged = IsRunning b.epoch × Shut w
-FitsStop w b (suc (suc zero)) credits judged = HeldIn w b b.epoch credits × Shut w × (length w.coins ≡ length b.known)
-FitsStop w b (suc (suc (suc zero))) credits judged = Ready w b judged × Shut w × (length w.coins ≡ length b.known)
-FitsStop w b (suc (suc (suc (suc zero)))) credits judged = Rests w b.mark
-FitsStop w b (suc (suc (suc (suc (suc rows))))) credits judged = ⊤
+pub if_over : (over : Bool) (F G : Type 0) → (F → G) → IfOver over F → IfOver over G
+if_over true F G weaker fact = weaker fact
+if_over false F G weaker fact = tt
 
-abbrev pub FitsFor : World → Book → Command → ℕ → Option Credits → Judged → Type 0
-FitsFor w b (command.Start addr mask) rows credits judged = FitsStart w b mask rows
-FitsFor w b (command.Round addr) rows credits judged = FitsRound w b rows credits judged
-FitsFor w b (command.Stop addr) rows credits judged = FitsStop w b rows credits judged
-FitsFor w b c rows credits judged = ⊤
+-- every coin is inhibited, and none came since the last reading
+abbrev pub IsStill : World → Book → Type 0
+IsStill w b = Shut w × (length w.coins ≡ length b.known)
+
+-- what a job needs, by the first of the rows that are left: no epoch runs before the row that begins one, and the acceptor
+-- is silent from its reset on; one runs before its readings, and where the rows end it, no coin comes any more from the
+-- row on that inhibits all coins. What a row asks besides needs what the rows after it need.
+abbrev pub FitsAt : World → Book → List TableRow → Option Credits → Judged → Type 0
+FitsAt w b [] credits judged = ⊤
+FitsAt w b (asks_for ResetDevice behind ∷ rows) credits judged = IsIdle b.epoch
+FitsAt w b (asks_for ReadCredits if_quiet ∷ rows) credits judged = IsIdle b.epoch × Silent w
+FitsAt w b (asks_for ReadCredits behind ∷ rows) credits judged = IsRunning b.epoch × IfOver (ends_epoch rows) (Shut w)
+FitsAt w b (asks_for (SetMaster value) behind ∷ rows) credits judged = IsRunning b.epoch
+FitsAt w b (asks_for GetMask behind ∷ rows) credits judged =
+    HeldIn w b b.epoch credits × IfOver (ends_epoch rows) (IsStill w b)
+FitsAt w b (asks_for q behind ∷ rows) credits judged = FitsAt w b rows credits judged
+FitsAt w b (asks_once (SetMask mask) behind without ∷ rows) credits judged = Waits w b mask
+FitsAt w b (asks_once q behind without ∷ rows) credits judged = ⊤
+FitsAt w b (waits_for_coins ∷ rows) credits judged = ⊤
+FitsAt w b (puts_due (new_epoch mask) behind ∷ rows) credits judged =
+    IsIdle b.epoch × Silent w × (length w.events + b.came ≤ w.arrivals)
+FitsAt w b (puts_due reading behind ∷ rows) credits judged = Ready w b judged × IfOver (ends_epoch rows) (IsStill w b)
+FitsAt w b (puts_due epoch_end behind ∷ rows) credits judged = Rests w b.mark
+FitsAt w b (puts_due due behind ∷ rows) credits judged = ⊤
+
+-- what the rows after one need, of whatever it brings: a reset, quiet credits, credits, that every coin is inhibited, a
+-- mask, an epoch, and a reading that goes into an epoch which ends
+abbrev pub AfterReset : List TableRow → Type 0
+AfterReset rows = (w : World) (b : Book) (credits : Option Credits) (judged : Judged) → IsIdle b.epoch → Silent w →
+    FitsAt w b rows credits judged
+
+abbrev pub AfterQuiet : List TableRow → Type 0
+AfterQuiet rows = (w : World) (b : Book) (credits : Option Credits) (judged : Judged) → IsIdle b.epoch → Silent w →
+    length w.events + b.came ≤ w.arrivals → FitsAt w b rows credits judged
+
+abbrev pub AfterCredits : List TableRow → Type 0
+AfterCredits rows = (w : World) (b : Book) (credits : Option Credits) (judged : Judged) → HeldIn w b b.epoch credits →
+    IfOver (ends_epoch rows) (IsStill w b) → FitsAt w b rows credits judged
+
+abbrev pub AfterShut : List TableRow → Type 0
+AfterShut rows = (w : World) (b : Book) (credits : Option Credits) (judged : Judged) → IsRunning b.epoch → Shut w →
+    FitsAt w b rows credits judged
+
+abbrev pub AfterMask : List TableRow → Type 0
+AfterMask rows = (w : World) (b : Book) (credits : Option Credits) (judged : Judged) → Ready w b judged →
+    IfOver (ends_epoch rows) (IsStill w b) → FitsAt w b rows credits judged
+
+abbrev pub AfterEpoch : ℕ → List TableRow → Type 0
+AfterEpoch mask rows = (w : World) (b : Book) (credits : Option Credits) (judged : Judged) → Waits w b mask →
+    FitsAt w b rows credits judged
+
+abbrev pub AfterReading : List TableRow → Type 0
+AfterReading rows = (w : World) (b : Book) (credits : Option Credits) (judged : Judged) → Rests w b.mark →
+    FitsAt w b rows credits judged
 
 -- what a job needs
 abbrev pub Fits : DeviceSetup → World → Book → Job → Type 0
 Fits d w b free = ⊤
-Fits d w b (works c since) = FitsFor w b c (done (rows_of d c) since) (credits_read since) (judged_in c since b.epoch)
+Fits d w b (works c since) = FitsAt w b (rest d c since) (credits_read since) (judged_in c since b.epoch)
 
 -- a move of the acceptor keeps it all
 
@@ -223,35 +262,33 @@ waits_on w v b mask on waits = record {
   few = on.few waits.begun waits.few;
 }
 
-start_on : (w v : World) (b : Book) (mask rows : ℕ) → On w v → FitsStart w b mask rows → FitsStart v b mask rows
-start_on w v b mask zero on fits = fits
-start_on w v b mask (suc zero) on fits = (fits.0, on.silent fits.1)
-start_on w v b mask (suc (suc zero)) on fits = (fits.0, on.silent fits.1, on.few b.came fits.2)
-start_on w v b mask (suc (suc (suc zero))) on fits = waits_on w v b mask on fits
-start_on w v b mask (suc (suc (suc (suc rows)))) on fits = fits
+still_on : (w v : World) (b : Book) (over : Bool) → On w v → IfOver over (IsStill w b) → IfOver over (IsStill v b)
+still_on w v b over on =
+    if_over over (IsStill w b) (IsStill v b) (λ still. (on.shut still.0, ap length (on.same still.0) ∙ still.1))
 
-round_on : (w v : World) (b : Book) (rows : ℕ) (credits : Option Credits) (judged : Judged) → On w v → FitsRound w b rows credits judged → FitsRound v b rows credits judged
-round_on w v b zero credits judged on fits = fits
-round_on w v b (suc zero) credits judged on fits = held_on w v b b.epoch credits on fits
-round_on w v b (suc (suc zero)) credits judged on fits = ready_on w v b judged on fits
-round_on w v b (suc (suc (suc rows))) credits judged on fits = fits
+pub at_on : (w v : World) (b : Book) (rows : List TableRow) (credits : Option Credits) (judged : Judged) → On w v →
+    FitsAt w b rows credits judged → FitsAt v b rows credits judged
+at_on w v b [] credits judged on fits = tt
+at_on w v b (asks_for ResetDevice behind ∷ rows) credits judged on fits = fits
+at_on w v b (asks_for ReadCredits if_quiet ∷ rows) credits judged on fits = (fits.0, on.silent fits.1)
+at_on w v b (asks_for ReadCredits behind ∷ rows) credits judged on fits =
+    (fits.0, if_over (ends_epoch rows) (Shut w) (Shut v) on.shut fits.1)
+at_on w v b (asks_for (SetMaster value) behind ∷ rows) credits judged on fits = fits
+at_on w v b (asks_for GetMask behind ∷ rows) credits judged on fits =
+    (held_on w v b b.epoch credits on fits.0, still_on w v b (ends_epoch rows) on fits.1)
+at_on w v b (asks_for q behind ∷ rows) credits judged on fits = at_on w v b rows credits judged on fits
+at_on w v b (asks_once (SetMask mask) behind without ∷ rows) credits judged on fits = waits_on w v b mask on fits
+at_on w v b (asks_once q behind without ∷ rows) credits judged on fits = tt
+at_on w v b (waits_for_coins ∷ rows) credits judged on fits = tt
+at_on w v b (puts_due (new_epoch mask) behind ∷ rows) credits judged on fits =
+    (fits.0, on.silent fits.1, on.few b.came fits.2)
+at_on w v b (puts_due reading behind ∷ rows) credits judged on fits =
+    (ready_on w v b judged on fits.0, still_on w v b (ends_epoch rows) on fits.1)
+at_on w v b (puts_due epoch_end behind ∷ rows) credits judged on fits = rests_on w v b.mark on fits
+at_on w v b (puts_due due behind ∷ rows) credits judged on fits = tt
 
-stop_on : (w v : World) (b : Book) (rows : ℕ) (credits : Option Credits) (judged : Judged) → On w v → FitsStop w b rows credits judged → FitsStop v b rows credits judged
-stop_on w v b zero credits judged on fits = fits
-stop_on w v b (suc zero) credits judged on fits = (fits.0, on.shut fits.1)
-stop_on w v b (suc (suc zero)) credits judged on fits =
-    (held_on w v b b.epoch credits on fits.0, on.shut fits.1, ap length (on.same fits.1) ∙ fits.2)
-stop_on w v b (suc (suc (suc zero))) credits judged on fits =
-    (ready_on w v b judged on fits.0, on.shut fits.1, ap length (on.same fits.1) ∙ fits.2)
-stop_on w v b (suc (suc (suc (suc zero)))) credits judged on fits = rests_on w v b.mark on fits
-stop_on w v b (suc (suc (suc (suc (suc rows))))) credits judged on fits = fits
-
-pub for_on : (w v : World) (b : Book) (c : Command) (rows : ℕ) (credits : Option Credits) (judged : Judged) → On w v → FitsFor w b c rows credits judged → FitsFor v b c rows credits judged
-for_on w v b (command.Start addr mask) rows credits judged on fits = start_on w v b mask rows on fits
-for_on w v b (command.Round addr) rows credits judged on fits = round_on w v b rows credits judged on fits
-for_on w v b (command.Stop addr) rows credits judged on fits = stop_on w v b rows credits judged on fits
-for_on w v b c rows credits judged on fits = tt
-
-pub fits_on : (d : DeviceSetup) (w v : World) (b : Book) (at_work : Job) → On w v → Fits d w b at_work → Fits d v b at_work
+pub fits_on : (d : DeviceSetup) (w v : World) (b : Book) (at_work : Job) → On w v → Fits d w b at_work →
+    Fits d v b at_work
 fits_on d w v b free on fits = tt
-fits_on d w v b (works c since) on fits = for_on w v b c (done (rows_of d c) since) (credits_read since) (judged_in c since b.epoch) on fits
+fits_on d w v b (works c since) on fits =
+    at_on w v b (rest d c since) (credits_read since) (judged_in c since b.epoch) on fits

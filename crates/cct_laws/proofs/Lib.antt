@@ -73,6 +73,7 @@ pub mod Texts
 pub mod Told
 pub mod Tries
 mod LastRows
+mod Leads
 pub mod Unmoved
 pub mod Unodd
 pub mod Used

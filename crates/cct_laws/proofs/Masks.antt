@@ -1,5 +1,5 @@
 -- Which inhibit mask an acceptor has while its epoch runs, by what it met since the epoch began.
-use Rattle.std.proofs.Common.{◌≡◌, ◌≢◌, ℕ, zero, suc, true, cond, List, [], ◌∷◌, refl, ap, sym, ◌∙◌, subst, Option, Some, None, inl, inr, eq-eqb, rules}
+use Rattle.std.proofs.Common.{◌≡◌, ◌≢◌, ℕ, true, cond, List, [], ◌∷◌, refl, ap, sym, ◌∙◌, subst, Option, Some, None, inl, inr, eq-eqb}
 use Rattle.std.specs.Prelude.{⊤}
 use Rattle.cct_model.specs.terms.device.DeviceSetup.{DeviceSetup}
 use Rattle.cct_model.specs.terms.request.Request.{Request}
@@ -10,7 +10,6 @@ use Rattle.cct_model.specs.declared.judging.Judged.{Judged}
 use Rattle.cct_model.specs.declared.judging.EpochState.{EpochState}
 use Rattle.cct_model.specs.declared.judging.EpochState.TheVariants.{Idle, Running}
 use Rattle.cct_model.specs.lines.command.Command.{Command}
-use Rattle.cct_model.specs.lines.command.Command.TheVariants as command
 use Rattle.cct_model.specs.lines.entry.End.{End}
 use Rattle.cct_model.specs.Reply.{Reply}
 use Rattle.cct_model.specs.History.{Met, coin, alien, reset, heard}
@@ -21,16 +20,21 @@ use Rattle.cct_model.specs.terms.coin.Coin.{Coin}
 use Rattle.cct_model.specs.Device.{IsAcceptor}
 use Rattle.cct_model.specs.Line.{Line, exchange, put}
 use Rattle.cct_model.specs.Order.{order}
-use Rattle.cct_model.specs.Job.{works, job, Row, sends, puts, no_row, payment_in, epoch, counted, epoch_by, address_of, judged_in, Payment}
-use Rattle.cct_model.specs.Rows.{row, row_at, done, rows_of}
+use Rattle.cct_model.specs.Job.{works, job, sends, puts, payment_in, epoch, counted, epoch_by, address_of, credits_read, judged_in, Payment}
+use Rattle.cct_model.specs.Rows.{ends_as, TableRow, asks_for, asks_once, waits_for_coins, puts_due, row, rest, first}
+use Rattle.cct_model.specs.Script.{IsCommand}
+use Rattle.cct_model.specs.terms.coin.Credits.{Credits}
 use Rattle.cct_laws.proofs.EitherKind.{for_acceptor}
 use Rattle.cct_laws.specs.Kept.{is_for_acceptor, Fate, unheard, silenced, answered, IsForOthers, with_ended}
 use Rattle.cct_laws.specs.Since.{since_record, mask_set_in, IsMaskedBy, MayBreak, IsKeptSince}
-use Rattle.cct_model.proofs.Rows.{IfSends, RowHolds, each_ask}
+use Rattle.cct_model.proofs.Rows.{EachBefore}
 use Rattle.cct_laws.proofs.World.{World, Silent, IsLive, mask_at, world}
-use Rattle.cct_laws.proofs.Fits.{Book, book, StateOf, IsRunning, FitsStart}
-use Rattle.cct_laws.proofs.Moves.{Keeps, IsMild, fits_at}
-use Rattle.cct_laws.proofs.Acceptors.{plain_row, keeps_kept}
+use Rattle.cct_laws.proofs.Fits.{Book, book, StateOf, IsRunning, FitsAt}
+use Rattle.cct_laws.proofs.Moves.{Keeps, fits_at, request_is}
+use Rattle.cct_laws.proofs.Acceptors.{left_leads, keeps_kept}
+use Rattle.cct_laws.proofs.Leads.{Leads}
+use Rattle.cct_model.proofs.RowEnds.{rest_asks}
+use Rattle.cct_model.proofs.Tries.{due_sends}
 use Rattle.cct_laws.proofs.Putting.{Puts, row_puts}
 
 -- while an epoch runs, the mask is that which was set since, and that is the epoch's
@@ -80,43 +84,27 @@ reset_masked Idle since past = tt
 reset_masked (Running mask counter) since past = inr (refl, refl)
 
 -- what the rows of a job send
-abbrev IfAsks : EpochState → Row → Type 0
-IfAsks state what = RowHolds (Asks state) (λ r. ⊤) what
+first_asks : (w : World) (b : Book) (addr : ℕ) (credits : Option Credits) (judged : Judged) (p : Payment)
+    (rows : List TableRow) (q : Request) → EachBefore Leads rows → FitsAt w b rows credits judged →
+    first addr judged p rows ≡ sends q → Asks b.epoch q
+first_asks w b addr credits judged p [] q each fits row = absurd cc
+first_asks w b addr credits judged p (asks_for (SetMask mask) behind ∷ rows) q each fits row = absurd each.0.0
+first_asks w b addr credits judged p (asks_for x behind ∷ rows) q each fits row =
+    subst (Asks b.epoch) (request_is x q row) tt
+first_asks w b addr credits judged p (asks_once (SetMask mask) (ends_as end) (ends_as other) ∷ rows) q each fits row =
+    subst (Asks b.epoch) (request_is (SetMask mask) q row) fits.running
+first_asks w b addr credits judged p (asks_once x behind without ∷ rows) q each fits row = absurd each.0
+first_asks w b addr credits judged p (waits_for_coins ∷ rows) q each fits row = absurd each.0
+first_asks w b addr credits judged p (puts_due due behind ∷ rows) q each fits row =
+    absurd (due_sends addr judged p due q row)
 
-start_asks : (d : DeviceSetup) (w : World) (b : Book) (addr mask : ℕ) (judged : Judged) (p : Payment) (rows : ℕ) →
-    FitsStart w b mask rows → IfAsks b.epoch (row_at d (command.Start addr mask) rows judged p)
-start_asks d w b addr mask judged p zero fits = tt
-start_asks d w b addr mask judged p (suc zero) fits = tt
-start_asks d w b addr mask judged p (suc (suc zero)) fits = tt
-start_asks d w b addr mask judged p (suc (suc (suc zero))) fits = fits.running
-start_asks d w b addr mask judged p (suc (suc (suc (suc rows)))) fits = tt
-
-mild_asks : (state : EpochState) (q : Request) → IsMild q → Asks state q
-mild_asks state (SetMask mask) mild = absurd mild
-mild_asks state q mild = tt
-
-plain_asks : (state : EpochState) (what : Row) → IfSends IsMild what → IfAsks state what
-plain_asks state (sends q) plain = mild_asks state q plain
-plain_asks state (puts r) plain = absurd plain
-plain_asks state no_row plain = tt
-
-row_asks : (d : DeviceSetup) (past : List Met) (lines : List Line) (c : Command) (work : List Line) →
-    is_for_acceptor c ≡ true → job lines ≡ works c work → Keeps d past lines →
-    IfAsks (epoch lines) (row d c work (epoch lines) (order lines))
-row_asks d past lines (command.Start addr mask) work suited is_job keeps =
-    let c = command.Start addr mask in
-    start_asks d (world past lines) (book lines) addr mask (judged_in c work (epoch lines)) (payment_in work (order lines))
-    (done (rows_of d c) work)
-    (fits_at d past lines (command.Start addr mask) work is_job keeps)
-row_asks d past lines (command.Round addr) work suited is_job keeps =
-    let judged = judged_in (command.Round addr) work (epoch lines) in
-    each_ask (Asks (epoch lines)) d (command.Round addr) (done (rows_of d (command.Round addr)) work) judged (payment_in work (order lines)) (search rules)
-row_asks d past lines (command.Stop addr) work suited is_job keeps =
-    let judged = judged_in (command.Stop addr) work (epoch lines) in
-    each_ask (Asks (epoch lines)) d (command.Stop addr) (done (rows_of d (command.Stop addr)) work) judged (payment_in work (order lines)) (search rules)
-row_asks d past lines c work suited is_job keeps =
-    plain_asks (epoch lines) (row d c work (epoch lines) (order lines))
-    (plain_row d c (done (rows_of d c) work) (judged_in c work (epoch lines)) (payment_in work (order lines)) suited)
+row_asks : (d : DeviceSetup) (past : List Met) (lines : List Line) (c : Command) (work : List Line) (q : Request) →
+    is_for_acceptor c ≡ true → IsCommand c → job lines ≡ works c work → Keeps d past lines →
+    row d c work (epoch lines) (order lines) ≡ sends q → Asks (epoch lines) q
+row_asks d past lines c work q suited in_range is_job keeps row_is =
+    first_asks (world past lines) (book lines) (address_of c) (credits_read work) (judged_in c work (epoch lines))
+    (payment_in work (order lines)) (rest d c work) q (left_leads d c work suited in_range)
+    (fits_at d past lines c work is_job keeps) (rest_asks d c work (epoch lines) (order lines) q row_is)
 
 -- an exchange of a job, and its end if there is one
 
@@ -163,19 +151,19 @@ masks_kept d accepting =
       asks = λ since past lines c work q asked got at_work is_row fate holds. record {
         keeps = kept.asks since past lines c work q asked got at_work is_row fate holds.keeps;
         masked = with_ended_masked _ (exchange (Some q) got ∷ lines) (heard asked ∷ since) (heard asked ∷ past)
-            (fate_masked d (epoch lines) q asked got since past (subst (IfAsks (epoch lines)) is_row (row_asks d past lines c work (for_acceptor d.body c accepting at_work.suited) at_work.job_is holds.keeps)) fate holds.masked);
+            (fate_masked d (epoch lines) q asked got since past (row_asks d past lines c work q (for_acceptor d.body c accepting at_work.suited) at_work.in_range at_work.job_is holds.keeps is_row) fate holds.masked);
       };
       crashes = λ since past lines holds. record { keeps = kept.crashes since past lines holds.keeps; masked = holds.masked };
       keeps = λ since past lines c work r at_work is_row holds. record {
         keeps = kept.keeps since past lines c work r at_work is_row holds.keeps;
         masked = put_masked d (epoch lines) r since past lines
-            (row_puts d past lines c work r (for_acceptor d.body c accepting at_work.suited) at_work.job_is at_work.is_here
+            (row_puts d past lines c work r (for_acceptor d.body c accepting at_work.suited) at_work.in_range at_work.job_is at_work.is_here
             is_row holds.keeps) holds.masked;
       };
       puts = λ since past lines c work r at_work is_row holds. record {
         keeps = kept.puts since past lines c work r at_work is_row holds.keeps;
         masked = with_ended_masked _ (put r ∷ lines) (since_record d r since) past
-            (put_masked d (epoch lines) r since past lines (row_puts d past lines c work r (for_acceptor d.body c accepting at_work.suited) at_work.job_is at_work.is_here is_row holds.keeps) holds.masked);
+            (put_masked d (epoch lines) r since past lines (row_puts d past lines c work r (for_acceptor d.body c accepting at_work.suited) at_work.in_range at_work.job_is at_work.is_here is_row holds.keeps) holds.masked);
       };
     }
 
@@ -216,8 +204,8 @@ unset_cause (m ∷ since) none = unset_cause since none
 
 -- a job that has a break to put
 pub masks_break : (d : DeviceSetup) (since past : List Met) (lines : List Line) (c : Command) (work : List Line)
-    (addr seen counter : ℕ) (posted : List Coin) → is_for_acceptor c ≡ true → job lines ≡ works c work → address_of c ≡ d.addr →
+    (addr seen counter : ℕ) (posted : List Coin) → is_for_acceptor c ≡ true → IsCommand c → job lines ≡ works c work → address_of c ≡ d.addr →
     row d c work (epoch lines) (order lines) ≡ puts (record_of.Broken addr seen counter posted) → Masks d since past lines → MayBreak since
-masks_break d since past lines c work addr seen counter posted suited is_job here is_row holds =
-    let puts_it = row_puts d past lines c work (record_of.Broken addr seen counter posted) suited is_job here is_row holds.keeps in
+masks_break d since past lines c work addr seen counter posted suited in_range is_job here is_row holds =
+    let puts_it = row_puts d past lines c work (record_of.Broken addr seen counter posted) suited in_range is_job here is_row holds.keeps in
     unset_cause since (silent_unset (epoch lines) since past lines puts_it.1 puts_it.0 holds.keeps.sound.state holds.masked)

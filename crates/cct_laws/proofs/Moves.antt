@@ -1,5 +1,5 @@
 -- What holds of an acceptor after every step, and how pieces, commands, ends and exchanges keep it.
-use Rattle.std.proofs.Common.{◌≡◌, ℕ, suc, ◌≤◌, cond, true, false, List, ◌∷◌, length, refl, sym, subst, Option, Some, None, arith, rules}
+use Rattle.std.proofs.Common.{◌≡◌, ℕ, suc, ◌≤◌, cond, true, false, List, ◌∷◌, length, refl, sym, subst, Option, Some, None, arith, rules, [], ◌==◌, Bool}
 use Rattle.std.specs.Prelude.{⊤}
 use Rattle.cct_model.specs.terms.coin.Coin.{Coin}
 use Rattle.cct_model.specs.terms.device.DeviceSetup.{DeviceSetup}
@@ -20,13 +20,18 @@ use Rattle.cct_model.specs.Device.{reply_of}
 use Rattle.cct_model.specs.Line.{Line, accepted, inhibited, exchange, taken, ended}
 use Rattle.cct_model.specs.Line as line
 use Rattle.cct_model.specs.Job.{works, job, with_line, epoch, credits_read, judged_in, sends, puts, ident_requests}
-use Rattle.cct_model.specs.Rows.{rows_of, end_of, done, rest, sent_once}
-use Rattle.cct_model.proofs.Rows.{IfEnd, EachRow, BareEnds, each_told, failed_end}
+use Rattle.cct_model.specs.Rows.{Then, TableRow, asks_for, telling, rows_of, end_of, end_answered, ends_first, after, rest, left, sent_once}
+use Rattle.cct_model.proofs.Rows.{IfEnd, Each, EachRow, BareEnds, each_told, failed_end, after_none, ended_leaves}
+use Rattle.cct_model.specs.terms.coin.Credits.{Credits}
+use Rattle.cct_model.specs.terms.device.DeviceBody.{DeviceBody}
+use Rattle.cct_model.specs.terms.device.DeviceBody.TheVariants.{Acceptor, Hopper}
+use Rattle.cct_model.specs.declared.judging.Judged.{Judged}
+use Rattle.cct_model.specs.declared.judging.Judged.TheVariants.{Nothing}
 use Rattle.cct_model.specs.Refusal.{start_refusal, running_refusal}
 use Rattle.cct_model.specs.Claims.{coins, mark, base, OrderAt, CoverAt, PaceAt, InOrder, Covers, Pace}
 use Rattle.cct_laws.specs.Kept.{is_for_acceptor, Fate, unheard, silenced, answered, with_ended, IsTaken}
 use Rattle.cct_laws.proofs.World.{World, world, On, on_coin, on_piece, on_reset, on_master, on_path, on_default, on_nothing}
-use Rattle.cct_laws.proofs.Fits.{Book, book, StateOf, IsIdle, IsRunning, FitsFor, Fits, state_on, for_on, fits_on}
+use Rattle.cct_laws.proofs.Fits.{Book, book, StateOf, IsIdle, IsRunning, FitsAt, Fits, state_on, at_on, fits_on}
 use Rattle.cct_model.proofs.RowEnds.{failed_stays}
 
 -- what holds after every line
@@ -129,12 +134,65 @@ running_taken : (state : EpochState) → running_refusal state ≡ None → IsRu
 running_taken Idle fine = absurd cc
 running_taken (Running mask counter) fine = tt
 
-taken_fits : (d : DeviceSetup) (w : World) (lines : List Line) (c : Command) → is_for_acceptor c ≡ true → IsTaken d c (epoch lines) → Fits d w (book lines) (job (taken c ∷ lines))
-taken_fits d w lines (command.Start addr mask) played fine = idle_taken mask d (epoch lines) fine
-taken_fits d w lines (command.Round addr) played fine = running_taken (epoch lines) fine
-taken_fits d w lines (command.Stop addr) played fine = running_taken (epoch lines) fine
+-- a request that changes nothing of what the rows after it need
+abbrev pub IsNeutral : Request → Type 0
+IsNeutral ResetDevice = ⊥
+IsNeutral ReadCredits = ⊥
+IsNeutral GetMask = ⊥
+IsNeutral (SetMaster value) = ⊥
+IsNeutral (SetMask mask) = ⊥
+IsNeutral q = ⊤
+
+pub neutral_if : (b : Bool) (q r : Request) → IsNeutral q → IsNeutral r → IsNeutral (cond b q r)
+neutral_if true q r one other = one
+neutral_if false q r one other = other
+
+pub ident_neutral : (body : DeviceBody) → Each IsNeutral (ident_requests body)
+ident_neutral (Acceptor accepts values ids) = search rules
+ident_neutral (Hopper life value) = search rules
+
+neutral_fits : (w : World) (b : Book) (q : Request) (behind : Then) (rows : List TableRow) (credits : Option Credits)
+    (judged : Judged) → IsNeutral q → FitsAt w b rows credits judged →
+    FitsAt w b (asks_for q behind ∷ rows) credits judged
+neutral_fits w b ResetDevice behind rows credits judged neutral fits = absurd neutral
+neutral_fits w b ReadCredits behind rows credits judged neutral fits = absurd neutral
+neutral_fits w b GetMask behind rows credits judged neutral fits = absurd neutral
+neutral_fits w b (SetMaster value) behind rows credits judged neutral fits = absurd neutral
+neutral_fits w b q behind rows credits judged neutral fits = fits
+
+told_fits : (w : World) (b : Book) (qs : List Request) (credits : Option Credits) (judged : Judged) →
+    Each IsNeutral qs → FitsAt w b (telling qs) credits judged
+told_fits w b [] credits judged each = tt
+told_fits w b (q ∷ []) credits judged each = neutral_fits w b q _ [] credits judged each.0 tt
+told_fits w b (q ∷ r ∷ qs) credits judged each =
+    neutral_fits w b q _ (telling (r ∷ qs)) credits judged each.0 (told_fits w b (r ∷ qs) credits judged each.1)
+
+begun_fits : (d : DeviceSetup) (w : World) (b : Book) (c : Command) → is_for_acceptor c ≡ true → IsTaken d c b.epoch →
+    FitsAt w b (rows_of d c) None Nothing
+begun_fits d w b (command.Start addr mask) played fine = idle_taken mask d b.epoch fine
+begun_fits d w b (command.Round addr) played fine = (running_taken b.epoch fine, tt)
+begun_fits d w b (command.Stop addr) played fine = running_taken b.epoch fine
+begun_fits d w b (command.Ident addr) played fine =
+    told_fits w b (ident_requests d.body) None Nothing (ident_neutral d.body)
+begun_fits d w b (command.Path addr place path) played fine =
+    neutral_fits w b _ _ _ None Nothing (neutral_if (place == 0) _ _ tt tt)
+    (neutral_fits w b _ _ _ None Nothing (neutral_if (place == 0) _ _ tt tt) tt)
+begun_fits d w b c played fine = absurd cc
+
+judged_none : (c : Command) (state : EpochState) → judged_in c [] state ≡ Nothing
+judged_none c Idle = refl
+judged_none c (Running mask counter) = refl
+
+begins_fits : (d : DeviceSetup) (w : World) (b : Book) (c : Command) → is_for_acceptor c ≡ true →
+    IsTaken d c b.epoch → Fits d w b (works c [])
+begins_fits d w b c played fine =
+    subst (λ judged. FitsAt w b (after (rows_of d c) 0) None judged) (sym (judged_none c b.epoch))
+    (subst (λ rows. FitsAt w b rows None Nothing) (sym (after_none (rows_of d c))) (begun_fits d w b c played fine))
+
+taken_fits : (d : DeviceSetup) (w : World) (lines : List Line) (c : Command) → is_for_acceptor c ≡ true →
+    IsTaken d c (epoch lines) → Fits d w (book lines) (job (taken c ∷ lines))
 taken_fits d w lines (command.Halt addr) played fine = absurd cc
-taken_fits d w lines c played fine = tt
+taken_fits d w lines c played fine = begins_fits d w (book lines) c played fine
 
 pub keeps_taken : (d : DeviceSetup) (past : List Met) (lines : List Line) (c : Command) → is_for_acceptor c ≡ true → IsTaken d c (epoch lines) →
     Keeps d past lines → Keeps d past (taken c ∷ lines)
@@ -153,7 +211,8 @@ sound_exchange past now lines asked got on sound =
 
 -- what a job needs after an exchange
 abbrev pub FitsBehind : DeviceSetup → List Met → List Line → Command → List Line → Type 0
-FitsBehind d now lines c since = FitsFor (world now lines) (book lines) c (done (rows_of d c) since) (credits_read since) (judged_in c since (epoch lines))
+FitsBehind d now lines c since =
+    FitsAt (world now lines) (book lines) (rest d c since) (credits_read since) (judged_in c since (epoch lines))
 
 pub keeps_exchange : (d : DeviceSetup) (past now : List Met) (lines : List Line) (c : Command) (since : List Line) (asked : Option Request) (got : Option Reply) → job lines ≡ works c since →
     On (world past lines) (world now lines) → Sound past lines → FitsBehind d now (exchange asked got ∷ lines) c (exchange asked got ∷ since) → Keeps d now (exchange asked got ∷ lines)
@@ -180,7 +239,7 @@ failure_other d c q since state = failed_end IsOtherEnd d c q since state (bare_
 
 -- it tells nothing of credits, a mask or a reading
 unanswered_fits : (d : DeviceSetup) (now : List Met) (lines : List Line) (c : Command) (since : List Line) (q : Request) →
-    FitsFor (world now lines) (book lines) c (done (rows_of d c) (exchange (Some q) None ∷ since)) (credits_read since) (judged_in c since (epoch lines)) →
+    FitsAt (world now lines) (book lines) (rest d c (exchange (Some q) None ∷ since)) (credits_read since) (judged_in c since (epoch lines)) →
     FitsBehind d now (exchange (Some q) None ∷ lines) c (exchange (Some q) None ∷ since)
 unanswered_fits d now lines c since ReadCredits fits = fits
 unanswered_fits d now lines c since GetMask fits = fits
@@ -192,8 +251,8 @@ keeps_failed : (d : DeviceSetup) (past now : List Met) (lines : List Line) (c : 
     Keeps d now (with_ended (end_of d c (exchange (Some q) None) since (epoch lines)) (exchange (Some q) None ∷ lines))
 keeps_failed d past now lines c since q again is_job on keeps =
     let line = exchange (Some q) None in
-    let before = for_on (world past lines) (world now lines) (book lines) c (done (rows_of d c) since) (credits_read since) (judged_in c since (epoch lines)) on (fits_at d past lines c since is_job keeps) in
-    let stays = subst (λ n. FitsFor (world now lines) (book lines) c n (credits_read since) (judged_in c since (epoch lines))) (sym (failed_stays (rows_of d c) (Some q) since again)) before in
+    let before = at_on (world past lines) (world now lines) (book lines) (rest d c since) (credits_read since) (judged_in c since (epoch lines)) on (fits_at d past lines c since is_job keeps) in
+    let stays = subst (λ n. FitsAt (world now lines) (book lines) (after (rows_of d c) n) (credits_read since) (judged_in c since (epoch lines))) (sym (failed_stays (rows_of d c) (Some q) since again)) before in
     keeps_with_ended d now (line ∷ lines) _ (failure_other d c q since (epoch lines))
     (keeps_exchange d past now lines c since (Some q) None is_job on keeps.sound (unanswered_fits d now lines c since q stays))
 
@@ -220,6 +279,42 @@ by_fate d past lines c since q asked got again mild is_job keeps replied unheard
 by_fate d past lines c since q asked got again mild is_job keeps replied silenced =
     keeps_failed d past (heard (Some q) ∷ past) lines c since q again is_job (on_heard past lines q mild) keeps
 by_fate d past lines c since q asked got again mild is_job keeps replied (answered y gives) = replied y gives
+
+-- a job stands at these rows
+pub record AtRows (d : DeviceSetup) (past : List Met) (lines : List Line) (c : Command) (since : List Line)
+    (rows : List TableRow) : Type 0 where
+  pub is_job : job lines ≡ works c since
+  pub rest_is : rest d c since ≡ rows
+  pub left_is : left d c since (epoch lines) ≡ rows
+  pub keeps : Keeps d past lines
+
+-- an answer to the first of them brings its end
+pub answered_at : (d : DeviceSetup) (past : List Met) (lines : List Line) (c : Command) (since : List Line)
+    (rows : List TableRow) (q : Request) (y : Reply) → AtRows d past lines c since rows →
+    Keeps d (heard (Some q) ∷ past)
+    (with_ended (end_answered rows y (judged_in c (exchange (Some q) (Some y) ∷ since) (epoch lines)))
+    (exchange (Some q) (Some y) ∷ lines)) →
+    KeepsAsk d past lines c since q (Some q) (Some y)
+answered_at d past lines c since rows q y at keeps =
+    let line = exchange (Some q) (Some y) in
+    subst (λ first_rows. Keeps d (heard (Some q) ∷ past)
+    (with_ended (end_answered first_rows y (judged_in c (line ∷ since) (epoch lines))) (line ∷ lines))) (sym at.left_is)
+    keeps
+
+-- and leaves those after it
+pub next_at : (d : DeviceSetup) (past : List Met) (lines : List Line) (c : Command) (since : List Line) (r : TableRow)
+    (rows : List TableRow) (q : Request) (y : Reply) → AtRows d past lines c since (r ∷ rows) →
+    ends_first (r ∷ rows) (Some y) ≡ true → On (world past lines) (world (heard (Some q) ∷ past) lines) →
+    FitsAt (world (heard (Some q) ∷ past) lines) (book (exchange (Some q) (Some y) ∷ lines)) rows
+    (credits_read (exchange (Some q) (Some y) ∷ since)) (judged_in c (exchange (Some q) (Some y) ∷ since) (epoch lines)) →
+    Keeps d (heard (Some q) ∷ past) (exchange (Some q) (Some y) ∷ lines)
+next_at d past lines c since r rows q y at ends on fits =
+    let line = exchange (Some q) (Some y) in
+    let now = heard (Some q) ∷ past in
+    keeps_exchange d past now lines c since (Some q) (Some y) at.is_job on at.keeps.sound
+    (subst (λ later. FitsAt (world now lines) (book (line ∷ lines)) later (credits_read (line ∷ since))
+    (judged_in c (line ∷ since) (epoch lines)))
+    (sym (ended_leaves (rows_of d c) (Some q) (Some y) since r rows at.rest_is ends)) fits)
 
 -- a row tells its request or its record
 pub request_is : (q r : Request) → sends q ≡ sends r → q ≡ r

@@ -86,9 +86,9 @@ pub legal_caused : (capacity : ℕ) (setup : Setup) (steps : List Step) (transcr
     row d c since (epoch (lines_in d transcript)) (order (lines_in d transcript)) ≡ puts (record_of.Broken addr seen counter posted) → MayBreak (since_epoch_in d transcript)
 legal_caused capacity setup steps transcript d c since addr seen counter posted sound own accepting in_range legal honest is_job is_row =
     let here : address_of c ≡ d.addr = subst (IsAt d.addr) is_job (job_at d (onto [] transcript)) in
+    let ranged = subst (IsRanged d) is_job (ranged_legal capacity setup steps transcript d sound own in_range legal) in
     masks_break d (since_epoch_in d transcript) (met d (onto [] transcript)) (lines_in d transcript) c since addr seen counter posted
-    (for_acceptor d.body c accepting (subst (IsRanged d) is_job (ranged_legal capacity setup steps transcript d sound own in_range legal)).1)
-    is_job here is_row
+    (for_acceptor d.body c accepting ranged.1) ranged.0 is_job here is_row
     (legal_masks capacity setup steps transcript d sound own accepting in_range legal honest)
 
 pub legal_causes : (capacity : ℕ) (setup : Setup) (steps : List Step) (transcript : List Entry) (d : DeviceSetup) → IsSoundSetup setup → IsOf setup d → IsAcceptor d.body → All IsInRange steps →

@@ -179,11 +179,6 @@ pub record Steady (d : DeviceSetup) (lines : List Line) : Type 0 where
 free_on : (d : DeviceSetup) → HasTriesLeft d free
 free_on d = record { few = omega arith; none_of_once = tt }
 
--- a line that is no such end
-abbrev IsHeard : Line → Type 0
-IsHeard (ended NoAnswer) = ⊥
-IsHeard l = ⊤
-
 -- a line more, which is no such end
 steady_line : (d : DeviceSetup) (l : Line) (lines : List Line) →
     ((older : List Line) → failed_in (job older) < 3 → GivenUpAt older l) →

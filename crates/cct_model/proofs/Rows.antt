@@ -1,6 +1,6 @@
 -- What the rows of a job at a device send and put, and how they end: the walks over the rows that are left, and that each
 -- record is of the job's address.
-use Rattle.std.proofs.Common.{◌≡◌, ◌∙◌, ℕ, ◌≤◌, ◌-◌, ◌==◌, ◌&&◌, nat_le, zero, suc, cond, true, false, Bool, List, [], ◌∷◌, length, slice_get, arith, refl, ap, sym, subst, Option, Some, None, true≢false}
+use Rattle.std.proofs.Common.{◌≡◌, ◌∙◌, ℕ, ◌-◌, ◌==◌, ◌&&◌, nat_le, zero, suc, cond, true, false, Bool, List, [], ◌∷◌, length, slice_get, arith, refl, ap, sym, subst, Option, Some, None, true≢false}
 use Rattle.std.specs.Prelude.{⊤}
 use Rattle.std.proofs.lemmas.Bool.{and_parts}
 use Rattle.std.proofs.lemmas.Bool.Decides.{nat_tests}
@@ -19,7 +19,7 @@ use Rattle.cct_model.specs.declared.judging.OpenOrder.{OpenOrder}
 use Rattle.cct_model.specs.lines.command.Command.{Command}
 use Rattle.cct_model.specs.lines.command.Command.TheVariants as command
 use Rattle.cct_model.specs.lines.entry.End.{End}
-use Rattle.cct_model.specs.lines.entry.End.TheVariants.{Posted, Unquiet, Clean, Broke, NoAnswer, Told, PathSet, Closed, OddLife}
+use Rattle.cct_model.specs.lines.entry.End.TheVariants.{Unquiet, Clean, Broke, NoAnswer, Told, PathSet, Closed, OddLife}
 use Rattle.cct_model.specs.lines.entry.Entry.{Entry}
 use Rattle.cct_model.specs.Reply.{Reply}
 use Rattle.cct_model.specs.Reply as reply
@@ -158,15 +158,18 @@ after_line P rows (exchange q y) since same less = by_end (ends_first (after row
     by_end false = same
 after_line P rows l since same less = same
 
--- so it takes back none that was done
-pub done_grows : (rows : List TableRow) (l : Line) (since : List Line) → done rows since ≤ done rows (l ∷ since)
-done_grows rows (put r) since = omega arith
-done_grows rows (exchange q y) since = by_end (ends_first (after rows (done rows since)) y)
-  where
-    by_end : (over : Bool) → done rows since ≤ cond over (suc (done rows since)) (done rows since)
-    by_end true = omega arith
-    by_end false = omega arith
-done_grows rows l since = omega arith
+-- a line that ends the first of the rows that were left leaves those after it
+pub ended_leaves : (rows : List TableRow) (asked : Option Request) (got : Option Reply) (since : List Line)
+    (r : TableRow) (later : List TableRow) → after rows (done rows since) ≡ r ∷ later →
+    ends_first (r ∷ later) got ≡ true → after rows (done rows (exchange asked got ∷ since)) ≡ later
+ended_leaves rows asked got since r later is ends =
+    ap (λ over. after rows (cond over (suc (done rows since)) (done rows since)))
+    (ap (λ left_rows. ends_first left_rows got) is ∙ ends)
+    ∙ after_next rows (done rows since) ∙ ap but_first is
+
+pub put_leaves : (rows : List TableRow) (since : List Line) (r : TableRow) (later : List TableRow) →
+    after rows (done rows since) ≡ r ∷ later → after rows (suc (done rows since)) ≡ later
+put_leaves rows since r later is = after_next rows (done rows since) ∙ ap but_first is
 
 -- a fact of the rows that ask for one thing after the other, which holds before any
 pub told_fact : (F : List TableRow → Type 0) → F [] →
@@ -335,18 +338,6 @@ pub each_put : (Q : Record → Type 0) (test : Due → Bool) (d : DeviceSetup) (
 each_put Q test d c n means p only holds =
     each_due Q d c n means p (puts_by Q test (address_of c) means p holds (rows_of d c) only)
 
--- what is asked one after the other, with nothing put
-abbrev pub puts_none : Due → Bool
-puts_none due = false
-
-pub each_sent : (P : Request → Type 0) (Q : Record → Type 0) (d : DeviceSetup) (addr n : ℕ) (means : Judged)
-    (p : Payment) → Each P (ident_requests d.body) → RowHolds P Q (row_at d (command.Ident addr) n means p)
-each_sent P Q d addr n means p each =
-    both_hold P Q (row_at d (command.Ident addr) n means p)
-    (each_ask P d (command.Ident addr) n means p (each_asked P (ident_requests d.body) each))
-    (each_put Q puts_none d (command.Ident addr) n means p (told_only puts_none (ident_requests d.body))
-    (λ due none. absurd cc))
-
 -- the row of a question, and the end that its answer brings
 pub told_first : (addr : ℕ) (qs : List Request) (n : ℕ) (means : Judged) (p : Payment) (q : Request) →
     slice_get qs n ≡ Some q → first addr means p (from (after (telling qs) n) means) ≡ sends q
@@ -391,23 +382,6 @@ none_waits rows n none = by_found (has_waits (after rows n)) refl
 
 pub told_no_waits : (qs : List Request) → has_waits (telling qs) ≡ false
 told_no_waits = told_fact (λ rows. has_waits rows ≡ false) refl (λ q behind rows none. none)
-
--- what a round puts
-abbrev pub round_left : List TableRow
-round_left = puts_due reading (if_posted (Some Posted)) ∷ []
-
--- the row behind which a round ends, and the one at which a stop puts its last reading
-pub round_at : (d : DeviceSetup) (addr : ℕ) (means : Judged) (p : Payment) →
-    row_at d (command.Round addr) 2 means p ≡ put_or no_row means
-round_at d addr Nothing p = refl
-round_at d addr (Reading r) p = refl
-round_at d addr (Broken r) p = refl
-
-pub stop_at : (d : DeviceSetup) (addr : ℕ) (means : Judged) (p : Payment) →
-    row_at d (command.Stop addr) 3 means p ≡ put_or (puts (record_of.EpochEnd addr)) means
-stop_at d addr Nothing p = refl
-stop_at d addr (Reading r) p = refl
-stop_at d addr (Broken r) p = refl
 
 -- a fact of an end, if there is one
 abbrev pub IfEnd : (End → Type 0) → Option End → Type 0
@@ -456,7 +430,7 @@ close_end P (record_of.Closed id paid unpaid) closed odd = closed
 close_end P (record_of.Odd id life_before life_after) closed odd = odd
 close_end P r closed odd = tt
 
-behind_answer : (P : End → Type 0) (behind : Then) (y : Reply) (means : Judged) → Behind P behind →
+pub behind_answer : (P : End → Type 0) (behind : Then) (y : Reply) (means : Judged) → Behind P behind →
     IfEnd P (end_by_answer behind y means)
 behind_answer P goes_on y means holds = tt
 behind_answer P (ends_as end) y means holds = holds
@@ -473,7 +447,7 @@ pub behind_bare : (P : End → Type 0) (behind : Then) → Behind P behind → I
 behind_bare P (ends_as end) holds = holds
 behind_bare P behind holds = tt
 
-behind_record : (P : End → Type 0) (behind : Then) (r : Record) → Behind P behind →
+pub behind_record : (P : End → Type 0) (behind : Then) (r : Record) → Behind P behind →
     IfEnd P (end_by_record behind r)
 behind_record P goes_on r holds = tt
 behind_record P (ends_as end) r holds = holds

@@ -1,7 +1,8 @@
-use Rattle.std.proofs.Common.{[], refl, sym, subst, ◌∙◌}
+use Rattle.std.proofs.Common.{[], ap, arith, refl, sym, subst, ◌∙◌}
+use Rattle.cct_model.specs.Rows.{puts_in}
 use Rattle.cct_jobs.specs.Jobs.{Stands}
 use Rattle.cct_host.proofs.Commands.{command_refused, command_taken, may_begin}
-use Rattle.cct_host.proofs.Holding.{begun_holds, begun_reserves}
+use Rattle.cct_host.proofs.Holding.{begun_holds, begun_reserves, rows_begin}
 use Rattle.cct_host.proofs.desk.JobDesk.begin.Goals as goal
 
 pub returns-in-Some-clause-commands : goal.returns-in-Some-clause-commands
@@ -15,7 +16,7 @@ returns-in-None-clause-commands c fits past is_last sits =
     let free = sym c.refusal.ensures ∙ c.in-None.is in
     command_taken c.args.setup.now c.args.device.now c.args.command.now c.args.self.now.job c.begin.result
     c.args.self.now.epoch c.args.self.now.dues _ c.args.last past is_last
-    c.requires.of_device c.args.self.now.runs refl c.id_begun-self.ensures c.requires.there free
+    c.requires.of_device c.args.self.now.runs refl (c.id_begun-self.ensures c.args.device.now c.requires.of_device) c.requires.there free
     (may_begin c.args.setup.now.devices c.args.device.now c.args.self.now.job c.args.self.now.epoch
     c.args.self.now.dues c.args.last c.args.command.now
     c.requires.no_halt c.requires.of_device c.requires.there free)
@@ -25,13 +26,20 @@ returns-in-None-clause-commands c fits past is_last sits =
 pub returns-in-None-clause-holds : goal.returns-in-None-clause-holds
 returns-in-None-clause-holds c =
     let desk = c.args.self.now in
-    begun_holds c.args.device.now desk.job desk.epoch desk.dues c.args.last c.args.command.now c.begin.result
-    c.requires.no_halt c.requires.of_device (sym c.refusal.ensures ∙ c.in-None.is)
-    c.begin.ensures.may_put c.begin.ensures.closes
+    begun_holds c.args.setup.now c.args.device.now desk.job desk.epoch desk.dues c.args.last c.args.command.now c.begin.result
+    c.requires.no_halt c.requires.of_device (sym c.refusal.ensures ∙ c.in-None.is) c.requires.there
+    (c.begin.ensures.rows c.args.device.now c.requires.there c.requires.of_device)
+
+pub returns-in-None-clause-puts : goal.returns-in-None-clause-puts
+returns-in-None-clause-puts c =
+    let rows = c.begin.ensures.rows c.args.device.now c.requires.there c.requires.of_device
+    ∙ sym (rows_begin c.args.setup.now c.args.device.now c.args.command.now c.requires.of_device c.requires.there) in
+    let puts = ap puts_in rows in
+    omega (arith, puts)
 
 pub returns-in-None-clause-reserves : goal.returns-in-None-clause-reserves
 returns-in-None-clause-reserves c =
     let desk = c.args.self.now in
-    begun_reserves c.args.device.now desk.job desk.epoch desk.dues c.args.last c.args.command.now c.begin.result
-    c.requires.no_halt c.requires.of_device (sym c.refusal.ensures ∙ c.in-None.is)
-    c.begin.ensures.reserves
+    begun_reserves c.args.setup.now c.args.device.now desk.job desk.epoch desk.dues c.args.last c.args.command.now
+    c.begin.result c.requires.no_halt c.requires.of_device (sym c.refusal.ensures ∙ c.in-None.is) c.requires.there
+    (c.begin.ensures.rows c.args.device.now c.requires.there c.requires.of_device)

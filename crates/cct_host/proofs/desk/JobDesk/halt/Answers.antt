@@ -1,7 +1,9 @@
-use Rattle.std.proofs.Common.{sym, ◌∙◌}
+use Rattle.std.proofs.Common.{ap, sym, ◌∙◌}
 use Rattle.cct_host.proofs.Commands.{halt_refused, halt_taken}
+use Rattle.cct_model.specs.Rows.{has_closes, puts_in}
+use Rattle.cct_jobs.specs.Ahead.{coins_in}
 use Rattle.cct_jobs.specs.Jobs.{order_of}
-use Rattle.cct_host.proofs.Holding.{halt_holds, halt_reserves}
+use Rattle.cct_host.proofs.Holding.{halt_finds, halt_holds, halt_puts, halt_reserves}
 use Rattle.cct_host.proofs.desk.JobDesk.halt.Goals as goal
 
 pub returns-in-Some-clause-commands : goal.returns-in-Some-clause-commands
@@ -20,10 +22,20 @@ returns-in-Some-take-clause-commands c past sits =
 pub returns-in-Some-take-clause-holds : goal.returns-in-Some-take-clause-holds
 returns-in-Some-take-clause-holds c =
     let desk = c.args.self.now in
-    halt_holds c.args.command.now desk.job c.in-Some-take.job c.halt.result (order_of desk.dues.order) c.requires.halt
-    (sym c.take.ensures.value ∙ c.in-Some-take.is) c.halt.ensures.may_put c.halt.ensures.closes
+    halt_holds c.args.setup.now c.args.command.now desk.job c.in-Some-take.job c.halt.result (order_of desk.dues.order) c.requires.halt
+    (sym c.take.ensures.value ∙ c.in-Some-take.is) (ap puts_in c.halt.ensures.ahead) (ap has_closes c.halt.ensures.ahead)
 
 pub returns-in-Some-take-clause-reserves : goal.returns-in-Some-take-clause-reserves
 returns-in-Some-take-clause-reserves c =
-    halt_reserves c.args.command.now c.args.self.now.job c.in-Some-take.job c.halt.result c.requires.halt
-    (sym c.take.ensures.value ∙ c.in-Some-take.is) c.halt.ensures.reserves
+    halt_reserves c.args.setup.now c.args.command.now c.args.self.now.job c.in-Some-take.job c.halt.result c.requires.halt
+    (sym c.take.ensures.value ∙ c.in-Some-take.is) (ap coins_in c.halt.ensures.ahead)
+
+pub returns-in-Some-take-clause-puts : goal.returns-in-Some-take-clause-puts
+returns-in-Some-take-clause-puts c =
+    halt_puts c.args.self.now.job c.in-Some-take.job c.halt.result _ (sym c.take.ensures.value ∙ c.in-Some-take.is)
+    (ap puts_in c.halt.ensures.ahead)
+
+pub halt-requires : goal.halt-requires
+halt-requires c =
+    halt_finds c.args.device.now c.args.self.now.job c.in-Some-take.job (sym c.halting_refusal.ensures ∙ c.in-None.is)
+    (sym c.take.ensures.value ∙ c.in-Some-take.is)

@@ -1,5 +1,7 @@
-use Rattle.std.proofs.Common.{refl, sym, ◌∙◌}
+use Rattle.std.proofs.Common.{ap, refl, sym, ◌∙◌}
 use Rattle.cct_model.specs.lines.command.Command.TheVariants as command
+use Rattle.cct_model.specs.Rows.{has_closes, puts_in}
+use Rattle.cct_jobs.specs.Ahead.{price_in}
 use Rattle.cct_jobs.specs.Jobs.{order_of}
 use Rattle.cct_host.proofs.Commands.{sale_refused, sale_taken}
 use Rattle.cct_host.proofs.Holding.{sale_reserves, sale_room, sells_begun}
@@ -22,12 +24,13 @@ pub returns-in-None-clause-holds : goal.returns-in-None-clause-holds
 returns-in-None-clause-holds c =
     let desk = c.args.self.now in
     sale_room desk.job c.args.id c.args.last c.begin.result (order_of desk.dues.order)
-    (sym c.sale_refusal.ensures ∙ c.in-None.is) c.begin.ensures.may_put c.begin.ensures.closes
+    (sym c.sale_refusal.ensures ∙ c.in-None.is) (ap puts_in (c.begin.ensures.other_rows refl))
+    (ap has_closes (c.begin.ensures.other_rows refl))
 
 pub returns-in-None-clause-reserves : goal.returns-in-None-clause-reserves
 returns-in-None-clause-reserves c =
     sale_reserves c.args.self.now.job c.args.id c.args.last c.args.price c.begin.result
-    (sym c.sale_refusal.ensures ∙ c.in-None.is) c.begin.ensures.price
+    (sym c.sale_refusal.ensures ∙ c.in-None.is) (ap price_in (c.begin.ensures.other_rows refl))
 
 pub returns-in-None-clause-sells : goal.returns-in-None-clause-sells
 returns-in-None-clause-sells c = λ sells.

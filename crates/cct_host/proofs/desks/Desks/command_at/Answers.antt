@@ -4,11 +4,12 @@ use Rattle.std.proofs.lemmas.List.{set-get_or}
 use Rattle.cct_model.specs.lines.command.CommandNo.TheVariants.{NoDevice}
 use Rattle.cct_model.specs.Exchange.{device_at}
 use Rattle.cct_model.specs.Legal.{command_entry}
-use Rattle.cct_jobs.specs.Jobs.{coins_asked, records_of}
+use Rattle.cct_model.specs.Rows.{puts_in}
+use Rattle.cct_jobs.specs.Ahead.{coins_in}
 use Rattle.cct_host.specs.Desk.{held_at, no_of, puts_at}
 use Rattle.cct_host.specs.Desks.{reserved_of}
 use Rattle.cct_host.specs.Place.{AreAt}
-use Rattle.cct_host.specs.Running.{needed}
+use Rattle.cct_host.specs.Running.{needed, rows_begun}
 use Rattle.cct_host.proofs.Commands.{absent_refused, stays_by}
 use Rattle.cct_host.proofs.Lines.{command_at, command_last, refused_quiet}
 use Rattle.cct_host.proofs.Places.{absent, desk_lent, desk_sits, device_found, device_turn, fits_three, found_in, is_at, last_is, refilled}
@@ -82,7 +83,7 @@ returns-in-Some-clause-holds c =
     let lent = c.as_slice-devices.ensures.value in
     let within : i < length c.args.self.now.setup.now.devices = subst (λ ds. i < length ds) lent c.in-Some.ensures.within in
     ok_by c.command.result _ _ c.command.ensures.holds
-    (sum_turn held_at ks _ i c.index-deref_mut-index.result c.command.new.self _ (needed c.args.command.now) c.deref_mut.ensures.value
+    (sum_turn held_at ks _ i c.index-deref_mut-index.result c.command.new.self _ (needed c.args.self.now.setup.now c.args.command.now) c.deref_mut.ensures.value
     (subst (λ n. i < n) (sym c.args.self.now.many) within))
 
 pub returns-in-Some-clause-puts : goal.returns-in-Some-clause-puts
@@ -93,7 +94,8 @@ returns-in-Some-clause-puts c =
     let within : i < length c.args.self.now.setup.now.devices =
     subst (λ ds. i < length ds) lent c.in-Some.ensures.within in
     ok_by c.command.result _ _ c.command.ensures.puts
-    (sum_turn puts_at ks _ i c.index-deref_mut-index.result c.command.new.self _ (records_of c.args.command.now)
+    (sum_turn puts_at ks _ i c.index-deref_mut-index.result c.command.new.self _ 
+    (puts_in (rows_begun c.args.self.now.setup.now c.args.command.now))
     c.deref_mut.ensures.value (subst (λ n. i < n) (sym c.args.self.now.many) within))
 
 pub returns-in-Some-clause-reserves : goal.returns-in-Some-clause-reserves
@@ -108,7 +110,8 @@ returns-in-Some-clause-reserves c =
     let is = c.index-devices-index.is ∙ ap (λ ds. get_or ds i d) lent in
     ok_by c.command.result _ _ c.command.ensures.reserves
     (λ coins. reserved_turn setup ks _ i d c.args.addr c.index-deref_mut-index.result c.command.new.self
-    (coins_asked c.args.command.now) _ c.deref_mut.ensures.value c.args.self.now.many within is
+    (coins_in (rows_begun setup c.args.command.now)) _ c.deref_mut.ensures.value c.args.self.now.many within is
     (device_found setup.devices i d c.args.addr found is).2 coins
     ∙ ap (λ n. reserved_of c.args.self.now + n)
-    (amount_asked setup c.args.command.now c.args.addr c.requires.of_device c.requires.address))
+    (amount_asked setup d c.args.command.now c.args.addr c.requires.of_device c.requires.address
+    (ap (device_at setup.devices) c.requires.address ∙ (device_found setup.devices i d c.args.addr found is).1)))
