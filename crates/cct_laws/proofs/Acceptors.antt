@@ -20,14 +20,14 @@ use Rattle.cct_model.specs.Order.{order}
 use Rattle.cct_model.specs.Job.{works, job, sends, puts, ident_requests, Payment, payment_in, epoch, credits_read, judged_in, address_of}
 use Rattle.cct_model.specs.Rows.{Then, ends_as, if_quiet, if_posted, new_epoch, reading, epoch_end, TableRow, asks_for, asks_once, waits_for_coins, puts_due, row, rows_of, rest, from, first, done, sent_once, end_of, end_kept, end_by_record}
 use Rattle.cct_model.proofs.Rows.{EachRow, EachBefore, before_on, fact_after, Behind, behind_answer, behind_record, PutEnds, each_told, put_end}
-use Rattle.cct_laws.specs.Kept.{Fate, IsForOthers, is_for_acceptor, with_ended}
+use Rattle.cct_laws.specs.Kept.{Fate, unheard, silenced, answered, IsForOthers, is_for_acceptor, with_ended}
 use Rattle.cct_laws.proofs.EitherKind.{for_acceptor}
 use Rattle.cct_laws.specs.Since.{IsKept}
 use Rattle.cct_model.specs.Claims.{mark, base, InOrder, Covers, Pace}
-use Rattle.cct_laws.proofs.World.{World, world, closed}
+use Rattle.cct_laws.proofs.World.{World, world, closed, on_nothing}
 use Rattle.cct_laws.proofs.Fits.{Book, book, StateOf, FitsAt, Fits, at_on}
-use Rattle.cct_laws.proofs.Moves.{Sound, sound_line, Keeps, KeepsAsk, AtRows, IfOther, IsMild, IsNeutral, keeps_accepted, keeps_inhibited, keeps_alien, keeps_reset, keeps_taken, keeps_with_ended, answered_at, next_at, on_heard, fits_at, by_fate, request_is, entry_is, IsOtherEnd}
-use Rattle.cct_laws.proofs.Starts.{resets, reads_quiet, opens, begins}
+use Rattle.cct_laws.proofs.Moves.{Sound, sound_line, sound_exchange, keeps_ended, Keeps, KeepsAsk, AtRows, IfOther, IsMild, IsNeutral, keeps_accepted, keeps_inhibited, keeps_alien, keeps_reset, keeps_taken, keeps_with_ended, answered_at, next_at, on_heard, fits_at, by_fate, request_is, entry_is, IsOtherEnd}
+use Rattle.cct_laws.proofs.Starts.{resets, reads_quiet, unsure, opens, begins}
 use Rattle.cct_laws.proofs.Rounds.{reads, looks}
 use Rattle.cct_laws.proofs.Stops.{shuts, over_put, judged_put}
 use Rattle.cct_laws.proofs.Leads.{Leads, leads}
@@ -86,6 +86,28 @@ asks_neutral d past lines c since q behind rows asked got at neutral other fits 
     (at_on (world past lines) (world now lines) (book lines) rows (credits_read since) (judged_in c since (epoch lines))
     on later))))) fate
 
+-- or that is sent once
+neutral_once : (d : DeviceSetup) (past : List Met) (lines : List Line) (c : Command) (since : List Line) (q : Request)
+    (end other : End) (rows : List TableRow) (asked : Option Request) (got : Option Reply) →
+    AtRows d past lines c since (asks_once q (ends_as end) (ends_as other) ∷ rows) → IsNeutral q → IsOtherEnd end →
+    IsOtherEnd other → Fate d past q asked got → KeepsAsk d past lines c since q asked got
+neutral_once d past lines c since q end other rows asked got at neutral is_end is_other unheard =
+    let now = heard None ∷ past in
+    unsure d past now lines c since q end other rows at
+    (keeps_ended d now (exchange (Some q) None ∷ lines) other is_other
+    (sound_exchange past now lines (Some q) None (on_nothing (world past lines)) at.keeps.sound))
+neutral_once d past lines c since q end other rows asked got at neutral is_end is_other silenced =
+    let now = heard (Some q) ∷ past in
+    unsure d past now lines c since q end other rows at
+    (keeps_ended d now (exchange (Some q) None ∷ lines) other is_other
+    (sound_exchange past now lines (Some q) None (on_heard past lines q (neutral_mild q neutral)) at.keeps.sound))
+neutral_once d past lines c since q end other rows asked got at neutral is_end is_other (answered y gives) =
+    let now = heard (Some q) ∷ past in
+    let line = exchange (Some q) (Some y) in
+    answered_at d past lines c since (asks_once q (ends_as end) (ends_as other) ∷ rows) q y at
+    (keeps_ended d now (line ∷ lines) end is_end
+    (sound_exchange past now lines (Some q) (Some y) (on_heard past lines q (neutral_mild q neutral)) at.keeps.sound))
+
 -- a job at the acceptor asks something: what the first of its rows asks
 
 as_asked : (d : DeviceSetup) (past : List Met) (lines : List Line) (c : Command) (since : List Line) (x q : Request)
@@ -124,6 +146,10 @@ asks_at d past lines c since (asks_once (SetMask mask) (ends_as end) (ends_as ot
     at fits row =
     as_asked d past lines c since (SetMask mask) q asked got row
     (opens d past lines c since mask end other rows asked got each.0.0 at each.0.1 each.0.2 fits)
+asks_at d past lines c since (asks_once x (ends_as end) (ends_as other) ∷ rows) p q asked got accepting each at fits
+    row =
+    as_asked d past lines c since x q asked got row
+    (neutral_once d past lines c since x end other rows asked got at each.0.0 each.0.1 each.0.2)
 asks_at d past lines c since (asks_once x behind without ∷ rows) p q asked got accepting each at fits row =
     absurd each.0
 asks_at d past lines c since (waits_for_coins ∷ rows) p q asked got accepting each at fits row = absurd each.0

@@ -230,16 +230,9 @@ job_at d (e ∷ past) = entry_at d past e (job_at d past)
 -- the job of a command that was taken
 pub begun_at_work : (body : DeviceBody) (c : Command) (lines : List Line) → suits body c ≡ true →
     job (taken c ∷ lines) ≡ works c []
-begun_at_work (Acceptor accepts values ids) (command.Start addr mask) lines suited = refl
-begun_at_work (Acceptor accepts values ids) (command.Round addr) lines suited = refl
-begun_at_work (Acceptor accepts values ids) (command.Stop addr) lines suited = refl
-begun_at_work (Acceptor accepts values ids) (command.Ident addr) lines suited = refl
-begun_at_work (Acceptor accepts values ids) (command.Path addr place path) lines suited = refl
-begun_at_work (Acceptor accepts values ids) c lines suited = absurd cc
-begun_at_work (Hopper life value) (command.Pay addr id count) lines suited = refl
-begun_at_work (Hopper life value) (command.Settle addr) lines suited = refl
-begun_at_work (Hopper life value) (command.Ident addr) lines suited = refl
-begun_at_work (Hopper life value) c lines suited = absurd cc
+begun_at_work (Acceptor accepts values ids) (command.Halt addr) lines suited = absurd cc
+begun_at_work (Hopper life value) (command.Halt addr) lines suited = absurd cc
+begun_at_work body c lines suited = refl
 
 -- the device of a setup at an address
 pub of_found : (setup : Setup) (addr : ℕ) (d : DeviceSetup) → device_at setup.devices addr ≡ Some d → IsOf setup d

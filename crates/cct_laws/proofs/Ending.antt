@@ -543,15 +543,13 @@ ends_along capacity setup d c (suc nexts) past (s ∷ steps) end played come ids
 
 -- a job has a row
 has_rows : (d : DeviceSetup) (body : DeviceBody) (c : Command) → suits body c ≡ true → 0 < row_count d c
-has_rows d body (command.Start addr mask) suited = omega arith
-has_rows d body (command.Round addr) suited = omega arith
-has_rows d body (command.Stop addr) suited = omega arith
-has_rows d body (command.Pay addr id count) suited = omega arith
-has_rows d body (command.Settle addr) suited = omega arith
-has_rows d body (command.Ident addr) suited = omega arith
-has_rows d body (command.Path addr place path) suited = omega arith
-has_rows d (Acceptor accepts values ids) c suited = absurd cc
-has_rows d (Hopper life value) c suited = absurd cc
+has_rows d (Acceptor accepts values ids) (command.Halt addr) suited = absurd cc
+has_rows d (Acceptor accepts values ids) command.Scan suited = absurd cc
+has_rows d (Acceptor accepts values ids) (command.Vend id price) suited = absurd cc
+has_rows d (Hopper life value) (command.Halt addr) suited = absurd cc
+has_rows d (Hopper life value) command.Scan suited = absurd cc
+has_rows d (Hopper life value) (command.Vend id price) suited = absurd cc
+has_rows d body c suited = omega arith
 
 needs_by : (pays : Bool) (rows halts come : ℕ) → cond pays (rows + halts) rows ≤ come → rows + cond pays halts 0 ≤ come
 needs_by true rows halts come enough = enough

@@ -1,13 +1,12 @@
 -- A job that ends for want of an answer had a fault set for each of its last three exchanges.
-use Rattle.std.proofs.Common.{◌≡◌, ℕ, zero, suc, ◌==◌, ◌≤◌, cond, true, false, Bool, List, [], ◌∷◌, ◌++◌, refl, sym, subst, Option, Some, None, inl, inr, MatchBool, arith, All, eq-eqb, eqb-true}
+use Rattle.std.proofs.Common.{◌≡◌, ℕ, zero, suc, ◌==◌, ◌≤◌, cond, true, false, Bool, List, [], ◌∷◌, ◌++◌, not, refl, ap, sym, ◌∙◌, subst, Option, Some, None, inl, inr, MatchBool, arith, All, eq-eqb, eqb-true}
 use Rattle.std.proofs.lemmas.Bool.{true≢false, false≢true}
-use Rattle.std.proofs.lemmas.Bool.Decides.{nat_tests}
 use Rattle.cct_model.specs.terms.wire.CheckKind.{CheckKind}
 use Rattle.cct_model.specs.terms.wire.CheckKind.TheVariants.{Simple, Crc}
 use Rattle.cct_model.specs.terms.device.DeviceSetup.{DeviceSetup}
 use Rattle.cct_model.specs.terms.device.Setup.{Setup}
 use Rattle.cct_model.specs.terms.request.Request.{Request}
-use Rattle.cct_model.specs.terms.request.Request.TheVariants.{SetMask, Dispense, CipherDispense}
+use Rattle.cct_model.specs.terms.request.Request.TheVariants.{Dispense}
 use Rattle.cct_model.specs.lines.record.Record.{Record}
 use Rattle.cct_model.specs.lines.command.Command.{Command}
 use Rattle.cct_model.specs.lines.command.Command.TheVariants as command
@@ -33,8 +32,8 @@ use Rattle.cct_laws.specs.Tries.{failed_tries, failed_in, HasThreeTries, ScanTri
 use Rattle.cct_model.proofs.Doses.{job_undosed}
 use Rattle.cct_laws.proofs.Faults.{legal_fails_but, legal_echoes}
 use Rattle.cct_laws.proofs.Scans.{IsPoll, tries_more, scan_line_is, legal_scans}
-use Rattle.cct_laws.proofs.Tries.{AskedAgain, asked_again, asks_again, again_in, GivenUpAt, tries_by, legal_given_up}
-use Rattle.cct_model.proofs.Tries.{is_asked_again}
+use Rattle.cct_laws.proofs.Tries.{asks_again, again_in, GivenUpAt, tries_by, legal_given_up}
+use Rattle.cct_model.proofs.Tries.{is_once_header, is_asked_again}
 
 -- fewer of the newest exchanges
 fewer_by : (here : Bool) (P Q R S : Type 0) → (P → R) → (Q → S) → MatchBool here P Q → MatchBool here R S
@@ -110,22 +109,25 @@ none_counted true n = omega arith
 none_counted false n = omega arith
 
 -- a header that is asked again has no more failed tries than are counted
-away_from : (h n : ℕ) → (n == h) ≡ false → (h == n) ≡ false
-away_from h n other = grind (arith, nat_tests)
+other_header : (p q : Request) → is_asked_again p ≡ false → is_asked_again q ≡ true →
+    (header_of p == header_of q) ≡ false
+other_header p q once again = by_test (header_of p == header_of q) refl
+  where
+    by_test : (same : Bool) → (header_of p == header_of q) ≡ same → same ≡ false
+    by_test false test = refl
+    by_test true test =
+        let is : is_asked_again p ≡ is_asked_again q = ap (λ h. not (is_once_header h)) (eqb-true _ _ test) in
+        sym again ∙ sym is ∙ once
 
-other_header : (p q : Request) → is_asked_again p ≡ false → AskedAgain q → (header_of p == header_of q) ≡ false
-other_header (SetMask mask) q once again = away_from 231 (header_of q) again.no_mask
-other_header (Dispense serial count) q once again = away_from 167 (header_of q) again.no_dispense
-other_header CipherDispense q once again = away_from 167 (header_of q) again.no_dispense
-other_header p q once again = absurd cc
-
-again_by : (asks_it : Bool) (p q : Request) (since : List Line) → is_asked_again p ≡ asks_it → AskedAgain q →
+again_by : (asks_it : Bool) (p q : Request) (since : List Line) → is_asked_again p ≡ asks_it →
+    is_asked_again q ≡ true →
     cond (header_of p == header_of q) (suc (tries (header_of q) since)) 0 ≤
     cond asks_it (suc (tries (header_of p) since)) 0
 again_by true p q since test again = tries_by (header_of q) (Some p) None since
 again_by false p q since test again = rw (other_header p q test again) (omega arith)
 
-again_most : (q : Request) (since : List Line) → AskedAgain q → tries (header_of q) since ≤ counted_tries since
+again_most : (q : Request) (since : List Line) → is_asked_again q ≡ true →
+    tries (header_of q) since ≤ counted_tries since
 again_most q [] again = omega arith
 again_most q (exchange None found ∷ since) again = omega arith
 again_most q (exchange (Some p) (Some y) ∷ since) again = omega arith
@@ -135,7 +137,7 @@ again_most q (l ∷ since) again = again_most q since again
 
 failed_more : (asks_it : Bool) (q : Request) (since : List Line) → is_asked_again q ≡ asks_it →
     cond asks_it (suc (tries (header_of q) since)) 0 ≤ suc (counted_tries since)
-failed_more true q since test = omega (arith, again_most q since (asked_again q test))
+failed_more true q since test = omega (arith, again_most q since test)
 failed_more false q since test = omega arith
 
 one_more : (asks : Option Request) (found : Option Reply) (j : Job) →

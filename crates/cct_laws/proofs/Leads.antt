@@ -1,6 +1,6 @@
 -- What each row of a job at an acceptor leads to: the rows after it need no more than it brings, and no end but a clean one
 -- is an item.
-use Rattle.std.proofs.Common.{◌≡◌, ◌≤◌, ◌==◌, true, List, [], ◌∷◌, refl}
+use Rattle.std.proofs.Common.{◌≡◌, ◌≤◌, ◌==◌, true, List, [], ◌∷◌, refl, rules}
 use Rattle.cct_model.specs.terms.device.DeviceSetup.{DeviceSetup}
 use Rattle.cct_model.specs.terms.request.Request.{Request}
 use Rattle.cct_model.specs.terms.request.Request.TheVariants.{ResetDevice, ReadCredits, SetMaster, GetMask, SetMask}
@@ -25,6 +25,7 @@ Leads (asks_for (SetMaster value) behind) rows = (value ≡ 0) × Behind IsOther
 Leads (asks_for GetMask behind) rows = IsAfterLook behind × AfterMask rows
 Leads (asks_for q behind) rows = IsNeutral q × Behind IsOtherEnd behind
 Leads (asks_once (SetMask mask) (ends_as end) (ends_as other)) rows = (1 ≤ mask) × IsOtherEnd end × IsOtherEnd other
+Leads (asks_once q (ends_as end) (ends_as other)) rows = IsNeutral q × IsOtherEnd end × IsOtherEnd other
 Leads (puts_due (new_epoch mask) behind) rows = (1 ≤ mask) × Behind IsOtherEnd behind × AfterEpoch mask rows
 Leads (puts_due reading (if_posted of_reading)) rows = IsAfterReading of_reading rows × IsOverNext rows
 Leads (puts_due epoch_end (ends_as end)) rows = IsOtherEnd end
@@ -73,4 +74,6 @@ leads d (command.Path addr place path) suited range = (
   neutral_leads _ goes_on _ (neutral_if (place == 0) _ _ tt tt) tt,
   (neutral_leads _ (path_told place) [] (neutral_if (place == 0) _ _ tt tt) (λ number. tt), tt),
 )
-leads d c suited range = absurd cc
+leads d (command.Pay addr id count) suited range = absurd cc
+leads d (command.Settle addr) suited range = absurd cc
+leads d c suited range = search rules

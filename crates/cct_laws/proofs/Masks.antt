@@ -93,6 +93,8 @@ first_asks w b addr credits judged p (asks_for x behind ∷ rows) q each fits ro
     subst (Asks b.epoch) (request_is x q row) tt
 first_asks w b addr credits judged p (asks_once (SetMask mask) (ends_as end) (ends_as other) ∷ rows) q each fits row =
     subst (Asks b.epoch) (request_is (SetMask mask) q row) fits.running
+first_asks w b addr credits judged p (asks_once x (ends_as end) (ends_as other) ∷ rows) q each fits row =
+    subst (Asks b.epoch) (request_is x q row) tt
 first_asks w b addr credits judged p (asks_once x behind without ∷ rows) q each fits row = absurd each.0
 first_asks w b addr credits judged p (waits_for_coins ∷ rows) q each fits row = absurd each.0
 first_asks w b addr credits judged p (puts_due due behind ∷ rows) q each fits row =

@@ -6,13 +6,12 @@ use Rattle.cct_model.specs.terms.device.DeviceBody.{DeviceBody}
 use Rattle.cct_model.specs.terms.device.DeviceBody.TheVariants.{Acceptor, Hopper}
 use Rattle.cct_model.specs.terms.device.DeviceSetup.{DeviceSetup}
 use Rattle.cct_model.specs.terms.request.Request.{Request}
-use Rattle.cct_model.specs.terms.request.Request.TheVariants.{ResetDevice, SetMask, Enable, Dispense, GetStatus, GetLife, StopNow, CipherDispense}
+use Rattle.cct_model.specs.terms.request.Request.TheVariants.{ResetDevice, Enable, Dispense, GetStatus, GetLife, StopNow}
 use Rattle.cct_model.specs.lines.record.Record.{Record}
 use Rattle.cct_model.specs.lines.record.Record.TheVariants as record_of
 use Rattle.cct_model.specs.declared.judging.Judged.{Judged}
 use Rattle.cct_model.specs.declared.judging.OpenOrder.{OpenOrder}
 use Rattle.cct_model.specs.lines.command.Command.{Command}
-use Rattle.cct_model.specs.lines.command.Command.TheVariants as command
 use Rattle.cct_model.specs.lines.entry.End.{End}
 use Rattle.cct_model.specs.Reply.{Reply}
 use Rattle.cct_model.specs.Reply as reply
@@ -283,10 +282,8 @@ pub record Dispenses (v : View) (owed : Option OpenOrder) (own serial count : �
 
 -- of what is sent once, a hopper is sent a dispense alone
 abbrev pub IsSent : View → Option OpenOrder → ℕ → Next → Request → Type 0
-IsSent v owed own F (SetMask mask) = ⊥
-IsSent v owed own F CipherDispense = ⊥
 IsSent v owed own F (Dispense serial count) = Dispenses v owed own serial count F
-IsSent v owed own F q = ⊤
+IsSent v owed own F q = IsAgain q
 
 -- a record opens or closes an order as it may, and keeps what is owed and what its job needs
 pub record Puts (d : DeviceSetup) (past : List Met) (lines : List Line) (life : Option ℕ) (F : Next) (r : Record) :
@@ -355,15 +352,13 @@ closed_next own start behind (puts_due due next ∷ rows) linked w owed life = a
 
 state_fits : (d : DeviceSetup) (past : List Met) (lines : List Line) (life : Option ℕ) (F : Next) (marked : Bool) →
     RowFits d past lines life F (state_row marked)
-state_fits d past lines life F true = tt
-state_fits d past lines life F false = tt
+state_fits d past lines life F true = refl
+state_fits d past lines life F false = refl
 
 -- what is asked again is no dispense
 again_sent : (v : View) (owed : Option OpenOrder) (own : ℕ) (F : Next) (q : Request) → IsAgain q → IsSent v owed own F q
-again_sent v owed own F (SetMask mask) again = absurd (true≢false (sym again))
 again_sent v owed own F (Dispense serial count) again = absurd (true≢false (sym again))
-again_sent v owed own F CipherDispense again = absurd (true≢false (sym again))
-again_sent v owed own F q again = tt
+again_sent v owed own F q again = again
 
 fresh_open : (v : View) (owed : Option OpenOrder) (count : ℕ) → IsFresh v owed count → IsOpen owed
 fresh_open v None count fresh = absurd fresh
@@ -539,20 +534,18 @@ asks_sent : (d : DeviceSetup) (past : List Met) (lines : List Line) (c : Command
     row d c work (epoch lines) (order lines) ≡ sends q → Pays d past lines →
     IsSent (view d past lines) (order lines) d.serial (NextOf d c work) q → Fate d past q asked got →
     PaysAsk d past lines c work q asked got
-asks_sent d past lines c work (SetMask mask) asked got paying is_job row_is pays sent fate = absurd sent
-asks_sent d past lines c work CipherDispense asked got paying is_job row_is pays sent fate = absurd sent
 asks_sent d past lines c work (Dispense serial count) asked got paying is_job row_is pays sent fate =
     asks_dispense d past lines c work serial count asked got paying is_job
     (row_once d c work (epoch lines) (order lines) (Dispense serial count) row_is refl) sent pays fate
 asks_sent d past lines c work q asked got paying is_job row_is pays sent fate =
     let now = heard (Some q) ∷ past in
-    let again = row_again d c work (epoch lines) (order lines) q row_is refl in
-    asks_many d past lines c work q asked got refl again is_job pays (λ y gives.
+    let again = row_again d c work (epoch lines) (order lines) q row_is sent in
+    asks_many d past lines c work q asked got sent again is_job pays (λ y gives.
     left_next d c work (start_of d.body) (view d now lines) (order lines) (life_read (exchange (Some q) (Some y) ∷ work))
     (ends_first (rest d c work) (Some y))
     (rows_next d past lines (view d now lines) (order lines) work (address_of c) (judged_in c work (epoch lines))
     (payment_in work (order lines)) (rest d c work) q y (ends_first (rest d c work) (Some y)) paying
-    (less_heard d past lines (Some q) refl) again (fits_at d past lines c work is_job pays)
+    (less_heard d past lines (Some q) sent) again (fits_at d past lines c work is_job pays)
     (rest_asks d c work (epoch lines) (order lines) q row_is) gives refl)) fate
 
 pub pays_asks : (d : DeviceSetup) (past : List Met) (lines : List Line) (c : Command) (work : List Line) (q : Request)

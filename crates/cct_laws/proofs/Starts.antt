@@ -102,17 +102,17 @@ sound_opened past lines mask got some waits sound =
     sound_line past (heard (Some (SetMask mask)) ∷ past) lines (exchange (Some (SetMask mask)) got) tt (λ _. tt) sound.marked
     (opened_state (world past lines) (book lines) mask some waits) sound
 
--- it is sent once, whatever is heard of it
-unsure : (d : DeviceSetup) (past now : List Met) (lines : List Line) (c : Command) (since : List Line) (mask : ℕ)
+-- what is sent once ends its job without an answer too
+pub unsure : (d : DeviceSetup) (past now : List Met) (lines : List Line) (c : Command) (since : List Line) (q : Request)
     (end other : End) (rows : List TableRow) →
-    AtRows d past lines c since (asks_once (SetMask mask) (ends_as end) (ends_as other) ∷ rows) →
-    Keeps d now (with_ended (Some other) (exchange (Some (SetMask mask)) None ∷ lines)) →
-    Keeps d now (with_ended (end_of d c (exchange (Some (SetMask mask)) None) since (epoch lines))
-    (exchange (Some (SetMask mask)) None ∷ lines))
-unsure d past now lines c since mask end other rows at keeps =
-    let line = exchange (Some (SetMask mask)) None in
+    AtRows d past lines c since (asks_once q (ends_as end) (ends_as other) ∷ rows) →
+    Keeps d now (with_ended (Some other) (exchange (Some q) None ∷ lines)) →
+    Keeps d now (with_ended (end_of d c (exchange (Some q) None) since (epoch lines))
+    (exchange (Some q) None ∷ lines))
+unsure d past now lines c since q end other rows at keeps =
+    let line = exchange (Some q) None in
     subst (λ first_rows. Keeps d now (with_ended (end_failed first_rows
-    (tries (header_of (SetMask mask)) (line ∷ since))) (line ∷ lines))) (sym at.left_is) keeps
+    (tries (header_of q) (line ∷ since))) (line ∷ lines))) (sym at.left_is) keeps
 
 pub opens : (d : DeviceSetup) (past : List Met) (lines : List Line) (c : Command) (since : List Line) (mask : ℕ)
     (end other : End) (rows : List TableRow) (asked : Option Request) (got : Option Reply) → 1 ≤ mask →
@@ -121,12 +121,12 @@ pub opens : (d : DeviceSetup) (past : List Met) (lines : List Line) (c : Command
     KeepsAsk d past lines c since (SetMask mask) asked got
 opens d past lines c since mask end other rows asked got some at is_end is_other waits unheard =
     let now = heard None ∷ past in
-    unsure d past now lines c since mask end other rows at
+    unsure d past now lines c since (SetMask mask) end other rows at
     (keeps_ended d now (exchange (Some (SetMask mask)) None ∷ lines) other is_other
     (sound_exchange past now lines (Some (SetMask mask)) None (on_nothing (world past lines)) at.keeps.sound))
 opens d past lines c since mask end other rows asked got some at is_end is_other waits silenced =
     let now = heard (Some (SetMask mask)) ∷ past in
-    unsure d past now lines c since mask end other rows at
+    unsure d past now lines c since (SetMask mask) end other rows at
     (keeps_ended d now (exchange (Some (SetMask mask)) None ∷ lines) other is_other
     (sound_opened past lines mask None some waits at.keeps.sound))
 opens d past lines c since mask end other rows asked got some at is_end is_other waits (answered y gives) =

@@ -7,7 +7,6 @@ use Rattle.cct_model.specs.terms.device.DeviceSetup.{DeviceSetup}
 use Rattle.cct_model.specs.terms.device.Setup.{Setup}
 use Rattle.cct_model.specs.terms.request.Request.TheVariants.{AddressPoll, SimplePoll}
 use Rattle.cct_model.specs.lines.command.Command.{Command}
-use Rattle.cct_model.specs.lines.command.Command.TheVariants as command
 use Rattle.cct_model.specs.lines.command.Step.{Step}
 use Rattle.cct_model.specs.lines.entry.End.{End}
 use Rattle.cct_model.specs.lines.entry.Entry.{Entry}
@@ -22,20 +21,20 @@ use Rattle.cct_model.specs.Line.{Line, scanned}
 use Rattle.cct_model.specs.Order.{order}
 use Rattle.cct_model.specs.Job.{Job, free, works, job, with_line, Row, sends, puts, epoch}
 use Rattle.cct_model.specs.Scan.{scan_row, end_of_scan, poll_of}
-use Rattle.cct_model.specs.Script.{IsCommand, IsInRange}
+use Rattle.cct_model.specs.Script.{IsInRange}
 use Rattle.cct_model.specs.Legal.{with_end, Legal}
 use Rattle.cct_model.specs.Transcript.{met, lines_of, scan_lines, scan_line, heard_after, got_by, onto}
 use Rattle.cct_model.proofs.Polls.{poll_line}
 use Rattle.cct_text.specs.Written.{IsEnd, IsWritten}
 use Rattle.cct_text.proofs.Whole.{text_is_one}
 use Rattle.cct_laws.specs.Ids.{Ids}
-use Rattle.cct_laws.specs.Law.{IsOf, IsCommandOfBytes, HasBytes}
+use Rattle.cct_laws.specs.Law.{IsOf, HasBytes}
 use Rattle.cct_laws.proofs.Setups.{found_in}
 use Rattle.cct_laws.proofs.Brought.{Comes, takes_coin, leaves_coin, leaves_alien, drops_coin, drops_none, jams, jams_none, is_reset, AtWork, row_after, AtDevice, came, took, halted, idled, made_exchange, made_put, wire_of, wire_end, record_end, poll_wire, poll_end, Brought, of_device, faulted, refused, began_scan, began_sale, nobody, polled, sold, balanced, lost_power, lost_in_put, lost_in_sale}
 use Rattle.cct_laws.proofs.Seen.{unscanned, along}
 use Rattle.cct_terms.proofs.OfBytes.{IfThere}
 use Rattle.cct_laws.proofs.Lists.{Fine, IsAsked, fine_begun, row_asked, fine_more, scan_ends}
-use Rattle.cct_laws.proofs.Told.{FitsCommand, IsTold, AllTold, all_written, heard_bytes, FitsAsk, ask_bytes, poll_fits, FitsJob, job_fits, FitsRow, row_fits, exchange_ends, put_ends}
+use Rattle.cct_laws.proofs.Told.{IsTold, AllTold, all_written, heard_bytes, FitsAsk, ask_bytes, poll_fits, FitsJob, job_fits, FitsRow, row_fits, exchange_ends, put_ends}
 
 -- what holds of a past
 abbrev FineJob : Job → Type 0
@@ -50,13 +49,6 @@ with_end_told : (past : List Entry) (addr : ℕ) (e : Entry) (end : Option End) 
     AllTold past → AllTold (with_end addr e end ++ past)
 with_end_told past addr e None is ends told = (is, told)
 with_end_told past addr e (Some end) is ends told = (ends, (is, told))
-
--- a command
-command_fits : (c : Command) → IsCommand c → IsCommandOfBytes c → FitsCommand c
-command_fits (command.Start addr mask) range small = small.1
-command_fits (command.Pay addr id count) range small = omega (arith, range.2)
-command_fits (command.Path addr place path) range small = (omega (arith, range.0), omega (arith, range.2))
-command_fits c range small = tt
 
 small_at : (setup : Setup) (d : DeviceSetup) → IsSoundSetup setup → IsOf setup d → d.addr < 256
 small_at setup d sound own =
@@ -93,8 +85,8 @@ told_there : (capacity : ℕ) (setup : Setup) (d : DeviceSetup) (past news : Lis
 told_there capacity setup d past _ _ sound own range bytes (came s e m ls comes) told =
     (came_told d (met d past) s e m ls range comes, told)
 told_there capacity setup d past _ _ sound own range bytes (took c suited here is_free is_taken is_owed lets) told =
-    (command_fits c range bytes, told)
-told_there capacity setup d past _ _ sound own range bytes (halted paying can) told = (tt, told)
+    ((range, bytes), told)
+told_there capacity setup d past _ _ sound own range bytes (halted paying can) told = ((range, bytes), told)
 told_there capacity setup d past _ _ sound own range bytes (idled is_free) told = (tt, told)
 told_there capacity setup d past _ _ sound own range bytes (made_exchange c since q at_work is_row) told =
     let sent = ask d.kind d.addr q in
@@ -165,11 +157,11 @@ good_step capacity setup sound past _ _ says ids (of_device d s news own at_it) 
 good_step capacity setup sound past _ _ says ids (faulted f) good =
     record { told = (says.1, good.told); scan = good.scan }
 good_step capacity setup sound past _ _ says ids (refused c why was) good =
-    record { told = (command_fits c says.0 says.1, good.told); scan = good.scan }
+    record { told = (says, good.told); scan = good.scan }
 good_step capacity setup sound past _ _ says ids (began_scan is_free) good =
-    record { told = (tt, good.told); scan = fine_begun }
+    record { told = (says, good.told); scan = fine_begun }
 good_step capacity setup sound past _ _ says ids (began_sale id price is_free lets) good =
-    record { told = (tt, good.told); scan = good.scan }
+    record { told = (says, good.told); scan = good.scan }
 good_step capacity setup sound past _ _ says ids (nobody addr none) good =
     record { told = (tt, good.told); scan = good.scan }
 good_step capacity setup sound past _ _ says ids (polled c since check addr none is_job is_row) good =

@@ -38,18 +38,17 @@ use Rattle.cct_model.specs.Job.{Job, free, works, job, begun, with_line, credits
 use Rattle.cct_model.specs.Rows.{row, end_of, rows_of, done}
 use Rattle.cct_model.specs.Transcript.{pending, heard_by_devices, heard_by_host, met, answers, heard_after, got_by, dispensed_by, doses, doses_of, owner, lines_of}
 use Rattle.cct_model.proofs.Requests.{request_short}
+use Rattle.cct_model.specs.Script as script
+use Rattle.cct_laws.specs.Law.{IsCommandOfBytes}
 use Rattle.cct_text.specs.Written.{IsMask, IsCommand, IsRecord, IsFault, IsEnd, IsWritten}
 use Rattle.cct_terms.proofs.OfBytes.{Bytes, IfThere, bytes_are, are_bytes, bytes_more}
 use Rattle.cct_model.proofs.Rows.{Puts, Each, RowHolds, JudgedHolds, EachRow, both_hold, exchange_end, put_end, Asks, each_ask, AnswerEnds, BareEnds, PutEnds, each_due, each_asked, each_told}
 use Rattle.cct_laws.proofs.Bytes.{spelled_bytes, FitsReply, got_fits}
 use Rattle.cct_laws.proofs.Answering.{FitsMet, FitsAll, there_or, answer_bytes, asks_fit}
 
--- a command whose mask has 16 bits, and whose count, place and path are bytes
+-- a command in its range that says bytes
 abbrev pub FitsCommand : Command → Type 0
-FitsCommand (command.Start addr mask) = mask < 65536
-FitsCommand (command.Pay addr id count) = count < 256
-FitsCommand (command.Path addr place path) = (place < 256) × (path < 256)
-FitsCommand c = ⊤
+FitsCommand c = script.IsCommand c × IsCommandOfBytes c
 
 -- an entry tells bytes and masks in range; a load's sums are none of a script's entries
 abbrev pub IsTold : Entry → Type 0
@@ -72,7 +71,7 @@ AllTold (e ∷ past) = IsTold e × AllTold past
 
 -- such an entry is written
 command_written : (c : Command) → FitsCommand c → IsCommand c
-command_written (command.Start addr mask) h = omega (arith, h)
+command_written (command.Start addr mask) h = omega (arith, h.1.1)
 command_written c h = tt
 
 told_written : (e : Entry) → IsTold e → IsWritten e
@@ -249,7 +248,7 @@ with_line_fits l free h k = tt
 with_line_fits l (works c since) h k = (k.0, (h, k.1))
 
 begun_fits : (c : Command) (j : Job) → FitsCommand c → FitsJob j → FitsJob (begun c j)
-begun_fits (command.Halt addr) j h k = with_line_fits (taken (command.Halt addr)) j tt k
+begun_fits (command.Halt addr) j h k = with_line_fits (taken (command.Halt addr)) j h k
 begun_fits c j h k = (h, tt)
 
 job_of_lines : (lines : List Line) → FitsLines lines → FitsJob (job lines)
@@ -324,25 +323,27 @@ command_asks : (d : DeviceSetup) (c : Command) (since : List Line) → FitsJob (
     EachRow (Asks FitsAsk) (rows_of d c)
 unfolding data_of
 command_asks d (command.Start addr mask) since h =
-    (tt, (tt, (tt, ((omega arith, (omega (arith, h.0), tt)), tt))))
+    (tt, (tt, (tt, ((omega arith, (omega (arith, h.0.1.1), tt)), tt))))
 command_asks d (command.Round addr) since h = (tt, (tt, (tt, tt)))
 command_asks d (command.Stop addr) since h = ((omega arith, tt), (tt, (tt, (tt, (tt, tt)))))
 command_asks d (command.Pay addr id count) since h = (
   (omega arith, tt),
-  (tt, (tt, ((omega arith, (omega arith, (omega arith, (h.0, tt)))), ((tt, tt), (tt, (tt, tt)))))),
+  (tt, (tt, ((omega arith, (omega arith, (omega arith, (omega (arith, h.0.0.2), tt)))), ((tt, tt), (tt, (tt, tt)))))),
 )
 command_asks d (command.Settle addr) since h = ((tt, tt), (tt, (tt, tt)))
 command_asks d (command.Ident addr) since h = each_asked FitsAsk (ident_requests d.body) (ident_fits d.body)
-command_asks d (command.Path addr place path) since h = (
-  poll_fits (place == 0) _ _ (h.0.1, tt) (h.0.0, (h.0.1, tt)),
-  (poll_fits (place == 0) _ _ tt (h.0.0, tt), tt),
-)
+command_asks d (command.Path addr place path) since h =
+    let of_place : place < 256 = omega (arith, h.0.0.0) in
+    let of_path : path < 256 = omega (arith, h.0.0.2) in (
+      poll_fits (place == 0) _ _ (of_path, tt) (of_place, (of_path, tt)),
+      (poll_fits (place == 0) _ _ tt (of_place, tt), tt),
+    )
 command_asks d c since h = tt
 
 command_puts : (d : DeviceSetup) (c : Command) (since : List Line) (state : EpochState) (owed : Option OpenOrder) →
     FitsJob (works c since) →
     EachRow (Puts IsRecord (address_of c) (judged_in c since state) (payment_in since owed)) (rows_of d c)
-command_puts d (command.Start addr mask) since state owed h = (tt, (tt, (omega (arith, h.0), (tt, tt))))
+command_puts d (command.Start addr mask) since state owed h = (tt, (tt, (omega (arith, h.0.1.1), (tt, tt))))
 command_puts d (command.Round addr) since state owed h =
     (tt, (tt, (judged_fits (command.Round addr) since state h.1, tt)))
 command_puts d (command.Stop addr) since state owed h =
@@ -355,8 +356,7 @@ command_puts d (command.Settle addr) since state owed h = (tt, (tt, ((λ o life 
 command_puts d (command.Ident addr) since state owed h =
     each_told (Puts IsRecord addr (judged_in (command.Ident addr) since state) (payment_in since owed)) (λ q. tt) (λ q. tt)
     (ident_requests d.body)
-command_puts d (command.Path addr place path) since state owed h = (tt, (tt, tt))
-command_puts d c since state owed h = tt
+command_puts d c since state owed h = search rules
 
 pub row_fits : (d : DeviceSetup) (c : Command) (since : List Line) (state : EpochState) (owed : Option OpenOrder) →
     FitsJob (works c since) → FitsRow (row d c since state owed)

@@ -5,7 +5,7 @@ use Rattle.std.proofs.lemmas.Bool.Decides.{nat_tests}
 use Rattle.cct_model.specs.terms.device.DeviceSetup.{DeviceSetup}
 use Rattle.cct_model.specs.terms.device.Setup.{Setup}
 use Rattle.cct_model.specs.terms.request.Request.{Request}
-use Rattle.cct_model.specs.terms.request.Request.TheVariants.{SetMask, Dispense, CipherDispense}
+use Rattle.cct_model.specs.terms.request.Request.TheVariants.{Dispense}
 use Rattle.cct_model.specs.lines.record.Record.{Record}
 use Rattle.cct_model.specs.declared.judging.Judged.{Judged}
 use Rattle.cct_model.specs.declared.judging.EpochState.{EpochState}
@@ -47,17 +47,10 @@ use Rattle.cct_model.proofs.Tries.{is_asked_again, IfHeard, fails_as, IsHeardEnd
 use Rattle.cct_model.proofs.RowEnds.{IfOnce, once_sent, failed_stays, once_goes, rest_asks, fails_rest}
 use Rattle.cct_model.specs.declared.judging.OpenOrder.{OpenOrder}
 
--- what is asked again has a header that what is sent once doesn't have
-pub record AskedAgain (q : Request) : Type 0 where
-  pub no_mask : (header_of q == 231) ≡ false
-  pub no_dispense : (header_of q == 167) ≡ false
-  fits : FitsItsBytes q
-
-pub asked_again : (q : Request) → is_asked_again q ≡ true → AskedAgain q
-asked_again (SetMask mask) again = absurd cc
-asked_again (Dispense serial count) again = absurd cc
-asked_again CipherDispense again = absurd cc
-asked_again q again = record { no_mask = refl; no_dispense = refl; fits = λ serial count is. cc }
+-- what is asked again fits its bytes
+again_fits : (q : Request) → is_asked_again q ≡ true → FitsItsBytes q
+again_fits (Dispense serial count) again = absurd cc
+again_fits q again = λ serial count is. cc
 
 -- what is sent once dispenses under the device's own serial number, if it dispenses
 abbrev IsOwnDose : ℕ → Request → Type 0
@@ -78,7 +71,7 @@ pub sent_fits : (d : DeviceSetup) (c : Command) (since : List Line) (state : Epo
     (q : Request) → d.serial < 2 ^ 24 → row d c since state owed ≡ sends q → FitsItsBytes q
 sent_fits d c since state owed q low is =
     elim (fails_rest d c since state owed q is) [
-      | inl again ↦ (asked_again q again.0).fits
+      | inl again ↦ again_fits q again.0
       | inr once ↦ own_fits d.serial q low
           (once_sent (IsOwnDose d.serial) (address_of c) (judged_in c since state) (payment_in since owed) (rest d c since) q
           (rest_asks d c since state owed q is) once.1

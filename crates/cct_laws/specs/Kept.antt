@@ -15,7 +15,7 @@ use Rattle.cct_model.specs.Hopper.{taken_of}
 use Rattle.cct_model.specs.Device.{IsHopper, reply_of}
 use Rattle.cct_model.specs.Line.{Line, ended}
 use Rattle.cct_model.specs.Job.{works, job, address_of}
-use Rattle.cct_model.specs.Refusal.{start_refusal, running_refusal}
+use Rattle.cct_model.specs.Refusal.{Test, at_a_device, at_an_acceptor, at_a_hopper, with_no_job, tests_of, start_refusal, running_refusal}
 use Rattle.cct_model.specs.Script.{IsCommand}
 
 -- What becomes of a request to a device over an honest wire, as what the device heard and what the host got: the
@@ -45,21 +45,25 @@ abbrev pub with_ended : Option End → List Line → List Line
 with_ended None lines = lines
 with_ended (Some end) lines = ended end ∷ lines
 
+-- The tests of a command that begins a job at an acceptor: a device is there, of this kind where it matters, and no job.
+abbrev pub begins_at_acceptor : List Test → Bool
+begins_at_acceptor (at_a_device ∷ at_an_acceptor ∷ with_no_job ∷ tests) = true
+begins_at_acceptor (at_a_device ∷ with_no_job ∷ tests) = true
+begins_at_acceptor tests = false
+
+-- Those of a command that begins a job at a hopper.
+abbrev pub begins_at_hopper : List Test → Bool
+begins_at_hopper (at_a_device ∷ at_a_hopper ∷ with_no_job ∷ tests) = true
+begins_at_hopper (at_a_device ∷ with_no_job ∷ tests) = true
+begins_at_hopper tests = false
+
 -- A command that begins a job at an acceptor.
 abbrev pub is_for_acceptor : Command → Bool
-is_for_acceptor (command.Start addr mask) = true
-is_for_acceptor (command.Round addr) = true
-is_for_acceptor (command.Stop addr) = true
-is_for_acceptor (command.Ident addr) = true
-is_for_acceptor (command.Path addr place path) = true
-is_for_acceptor c = false
+is_for_acceptor c = begins_at_acceptor (tests_of c)
 
 -- A command that begins a job at a hopper.
 abbrev pub is_for_hopper : Command → Bool
-is_for_hopper (command.Pay addr id count) = true
-is_for_hopper (command.Settle addr) = true
-is_for_hopper (command.Ident addr) = true
-is_for_hopper c = false
+is_for_hopper c = begins_at_hopper (tests_of c)
 
 -- A command begins a job at a device of this kind.
 abbrev pub suits : DeviceBody → Command → Bool
