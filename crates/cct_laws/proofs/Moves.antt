@@ -177,7 +177,9 @@ begun_fits d w b (command.Ident addr) played fine =
 begun_fits d w b (command.Path addr place path) played fine =
     neutral_fits w b _ _ _ None Nothing (neutral_if (place == 0) _ _ tt tt)
     (neutral_fits w b _ _ _ None Nothing (neutral_if (place == 0) _ _ tt tt) tt)
-begun_fits d w b c played fine = absurd cc
+begun_fits d w b (command.Pay addr id count) played fine = absurd cc
+begun_fits d w b (command.Settle addr) played fine = absurd cc
+begun_fits d w b c played fine = search rules
 
 judged_none : (c : Command) (state : EpochState) → judged_in c [] state ≡ Nothing
 judged_none c Idle = refl
