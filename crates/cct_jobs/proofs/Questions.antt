@@ -1,19 +1,19 @@
 -- The questions of an identification, each after the one before.
-use Rattle.std.proofs.Common.{◌≡◌, ℕ, ◌+◌, suc, zero, ◌<◌, ◌&&◌, Bool, true, false, List, [], ◌∷◌, length, map, refl, ap, subst, cond, Option, Some, None, arith}
+use Rattle.std.proofs.Common.{◌≡◌, ℕ, ◌+◌, suc, zero, ◌<◌, ◌&&◌, Bool, true, false, true≢false, List, [], ◌∷◌, length, map, refl, ap, sym, ◌∙◌, subst, Option, Some, None, arith}
 use Rattle.std.proofs.lemmas.Bool.Decides.{nat_tests}
-use Rattle.std.specs.Prelude.{◌==◌, not, slice_get}
+use Rattle.std.specs.Prelude.{◌==◌, slice_get}
 use Rattle.std.specs.List.{list_all}
 use Rattle.cct_model.specs.terms.device.DeviceBody.{DeviceBody}
 use Rattle.cct_model.specs.terms.device.DeviceBody.TheVariants.{Acceptor, Hopper}
 use Rattle.cct_model.specs.terms.family.Family.{Family}
 use Rattle.cct_model.specs.terms.family.Family.TheVariants as family
 use Rattle.cct_model.specs.terms.request.Request.{Request}
-use Rattle.cct_model.specs.terms.request.Request.TheVariants.{SetDefault, SetPath, GetDefault, GetPath}
-use Rattle.cct_model.specs.Job.{ident_requests, path_set, path_read}
+use Rattle.cct_model.specs.Job.{ident_requests}
 use Rattle.cct_model.specs.Family.{family_of}
 use Rattle.cct_msg.specs.Forms.{FitsItsBytes}
 use Rattle.cct_jobs.specs.Ahead.{body_of, place_of}
-use Rattle.cct_jobs.specs.Jobs.{is_once, question_after}
+use Rattle.cct_jobs.specs.Jobs.{question_after}
+use Rattle.cct_model.proofs.Tries.{IsAgain, is_asked_again}
 
 -- what stands behind each element
 abbrev behind_each : List Request → List (Option Request)
@@ -94,19 +94,9 @@ other n m less = grind (arith, nat_tests, less)
 pub question_within : (xs : List Request) (n : ℕ) (q : Request) → slice_get xs n ≡ Some q → (length xs == n) ≡ false
 question_within xs n q e = other n (length xs) (below xs n q e)
 
--- a request that is sent again where it isn't answered
-abbrev is_again : Request → Bool
-is_again q = not (is_once q)
-
-not_true : (b : Bool) → not b ≡ true → b ≡ false
-not_true true e = absurd cc
-not_true false e = refl
-
--- it fits its bytes
-pub again_fits : (q : Request) → is_once q ≡ false → FitsItsBytes q
-again_fits q again number count e =
-    let once : is_once q ≡ true = ap is_once e in
-    absurd cc
+-- a request that is sent again fits its bytes
+pub again_fits : (q : Request) → IsAgain q → FitsItsBytes q
+again_fits q again number count e = absurd (true≢false (sym again ∙ ap is_asked_again e))
 
 both_true : (a b : Bool) → (a && b) ≡ true → (a ≡ true) × (b ≡ true)
 both_true true b e = (refl, e)
@@ -121,26 +111,10 @@ all_at test (x ∷ xs) zero q e at =
     subst (λ r. test r ≡ true) is (both_true (test x) (list_all test xs) e).0
 all_at test (x ∷ xs) (suc n) q e at = all_at test xs n q (both_true (test x) (list_all test xs) e).1 at
 
-each_again : (which : Family) → list_all is_again (questions which) ≡ true
+each_again : (which : Family) → list_all is_asked_again (questions which) ≡ true
 each_again family.Acceptor = refl
 each_again family.Hopper = refl
 
 -- so is every question
-pub question_again : (which : Family) (n : ℕ) (q : Request) → slice_get (questions which) n ≡ Some q → is_once q ≡ false
-question_again which n q at = not_true (is_once q) (all_at is_again (questions which) n q (each_again which) at)
-
-set_by : (b : Bool) (place path : ℕ) → is_once (cond b (SetDefault path) (SetPath place path)) ≡ false
-set_by true place path = refl
-set_by false place path = refl
-
--- so is a path that is set
-pub set_again : (place path : ℕ) → is_once (path_set place path) ≡ false
-set_again place path = set_by (place == 0) place path
-
-read_by : (b : Bool) (place : ℕ) → is_once (cond b GetDefault (GetPath place)) ≡ false
-read_by true place = refl
-read_by false place = refl
-
--- and one that is read back
-pub read_again : (place : ℕ) → is_once (path_read place) ≡ false
-read_again place = read_by (place == 0) place
+pub question_again : (which : Family) (n : ℕ) (q : Request) → slice_get (questions which) n ≡ Some q → IsAgain q
+question_again which n q at = all_at is_asked_again (questions which) n q (each_again which) at

@@ -28,7 +28,8 @@ use Rattle.cct_jobs.specs.Ahead.{place_of, questions_of, stage_ahead, visit_ahea
 use Rattle.cct_jobs.specs.Jobs.{Asking, Knows, Stands, Suits, Trying, after_failed, newest_end, question_after, request_of}
 use Rattle.cct_jobs.proofs.Moves.{IsSettled, answer_ends_first, exchange_moves, exchange_stays}
 use Rattle.cct_jobs.proofs.Payouts.{MarkedFor, first_of_payout, marked_for, payout_fits, payout_knows}
-use Rattle.cct_jobs.proofs.Questions.{next_question, last_question, placed, question_again, question_within, again_fits, read_again, set_again}
+use Rattle.cct_jobs.proofs.Questions.{next_question, last_question, placed, question_again, question_within, again_fits}
+use Rattle.cct_model.proofs.Tries.{path_set_again, path_read_again}
 use Rattle.cct_jobs.proofs.Left.{from_stage}
 use Rattle.cct_model.proofs.RowEnds.{unanswered_ends}
 use Rattle.cct_model.proofs.Rows.{after_next, but_first, told_first, told_end}
@@ -65,8 +66,8 @@ fits_of : (stage : Stage) (device : Target) → Suits stage device → FitsItsBy
 fits_of (StartSets mask) device suits = mask_fits mask
 fits_of (IdentAsks question) device suits =
     again_fits question (question_again device.family (place_of question (questions_of device)) question suits)
-fits_of (PathSets place path) device suits = again_fits _ (set_again place path)
-fits_of (PathReads place path) device suits = again_fits _ (read_again place)
+fits_of (PathSets place path) device suits = again_fits _ (path_set_again (place == 0) place path)
+fits_of (PathReads place path) device suits = again_fits _ (path_read_again (place == 0) place)
 fits_of (Pays row) device suits = payout_fits row device suits
 fits_of stage device suits = again_fits (request_of stage) refl
 

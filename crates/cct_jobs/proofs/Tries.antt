@@ -1,28 +1,24 @@
 -- What the definitions say of failed tries.
-use Rattle.std.proofs.Common.{◌≡◌, ◌≢◌, ◌↔◌, ℕ, suc, ◌==◌, Bool, true, false, cond, List, ◌∷◌, refl, ap, ◌∙◌, Some, None, arith, Option, subst, rules, sym, [], true≢false}
+use Rattle.std.proofs.Common.{◌≡◌, ◌≢◌, ◌↔◌, ℕ, suc, ◌==◌, Bool, true, false, cond, List, ◌∷◌, refl, ap, ◌∙◌, Some, None, arith, Option, subst, rules, sym, []}
 use Rattle.std.proofs.lemmas.Bool.{eqb-true, ne_eqb}
 use Rattle.cct_model.specs.lines.command.Command.{Command}
 use Rattle.cct_model.specs.lines.command.Command.TheVariants as command
-use Rattle.cct_model.specs.terms.device.DeviceBody.{DeviceBody}
 use Rattle.cct_model.specs.terms.device.DeviceSetup.{DeviceSetup}
-use Rattle.cct_model.specs.lines.entry.End.TheVariants.{NoAnswer, Told, StartUnsure}
+use Rattle.cct_model.specs.lines.entry.End.TheVariants.{NoAnswer, StartUnsure}
 use Rattle.cct_model.specs.terms.request.Request.{Request}
-use Rattle.cct_model.specs.terms.request.Request.TheVariants.{SetMask, SetDefault, GetDefault, SetPath, GetPath}
+use Rattle.cct_model.specs.terms.request.Request.TheVariants.{SetMask}
 use Rattle.cct_model.specs.declared.judging.EpochState.{EpochState}
 use Rattle.cct_model.specs.declared.judging.Judged.{Judged}
-use Rattle.cct_model.specs.Job.{end_of_tries, ident_requests, judged_in, tries, Payment, sends, address_of, state_row, payment_in}
-use Rattle.cct_model.specs.Rows.{end_of, TableRow, Then, asks_for, telling, rows_of, first, row, ends_as, goes_on, asks_once, path_told, end_failed, end_bare, puts_due, left, sent_once, waits_for_coins}
+use Rattle.cct_model.specs.Job.{end_of_tries, ident_requests, path_set, path_read, judged_in, tries, Payment, sends, address_of, state_row, payment_in}
+use Rattle.cct_model.specs.Rows.{end_of, TableRow, Then, asks_for, rows_of, first, row, goes_on, asks_once, path_told, end_failed, end_bare, puts_due, left, sent_once, waits_for_coins}
 use Rattle.cct_model.specs.Line.{Line, exchange}
 use Rattle.cct_model.specs.Reply.{Reply}
 use Rattle.cct_model.specs.Request.{header_of}
-use Rattle.cct_jobs.specs.Jobs.{is_once}
 use Rattle.cct_jobs.proofs.Stages.{tried}
-use Rattle.cct_model.proofs.RowEnds.{IfOnce, once_sent}
-use Rattle.cct_model.proofs.Rows.{Each, EachRow, IfEnd, answer_end, each_left, each_told}
+use Rattle.cct_model.proofs.Rows.{EachRow, IfEnd, answer_end, each_left, told_each}
 use Rattle.cct_model.specs.declared.judging.OpenOrder.{OpenOrder}
-use Rattle.cct_model.specs.terms.device.DeviceBody.TheVariants.{Acceptor, Hopper}
 use Rattle.std.specs.Prelude.{⊤}
-use Rattle.cct_model.proofs.Tries.{IsHeardEnd, asked_fails, same_request, answers_heard, due_sends}
+use Rattle.cct_model.proofs.Tries.{IsAgain, IsHeardEnd, ident_again, path_set_again, path_read_again, asked_fails, same_request, answers_heard, due_sends}
 
 cond_some : (b : Bool) → cond b (Some NoAnswer) None ≡ Some NoAnswer → b ≡ true
 cond_some true e = refl
@@ -31,37 +27,20 @@ cond_some false e = absurd cc
 by_tries : (failed : ℕ) → end_of_tries failed ≡ Some NoAnswer → failed ≡ 3
 by_tries failed e = eqb-true _ _ (cond_some (failed == 3) e)
 
--- what the table sends once is such a request
-sends_once : (d : DeviceSetup) (c : Command) → EachRow (IfOnce (λ q. is_once q ≡ true)) (rows_of d c)
-sends_once d (command.Ident addr) =
-    each_told (IfOnce (λ q. is_once q ≡ true)) (λ q. tt) (λ q. tt) (ident_requests d.body)
-sends_once d c = search rules
-
-fails_by_tries : (d : DeviceSetup) (c : Command) (q : Request) (since : List Line) (state : EpochState)
-    (owed : Option OpenOrder) → row d c since state owed ≡ sends q → is_once q ≡ false → (failed : ℕ)
-    → end_failed (left d c since state) failed ≡ end_of_tries failed
-fails_by_tries d c q since state owed is again failed = by_once (sent_once (left d c since state)) refl
-  where
-    by_once : (once : Bool) → sent_once (left d c since state) ≡ once
-        → end_failed (left d c since state) failed ≡ end_of_tries failed
-    by_once true once =
-        absurd (true≢false (sym (once_sent (λ x. is_once x ≡ true) (address_of c) (judged_in c since state)
-        (payment_in since owed) (left d c since state) q is once
-        (each_left (IfOnce (λ x. is_once x ≡ true)) d c since state (sends_once d c))) ∙ again))
-    by_once false other = asked_fails (left d c since state) failed other
-
--- the third failed try of what is sent again ends a job, and no other does
+-- the third failed try of a row that isn't sent once ends a job, and no other does
 pub third_ends : (d : DeviceSetup) (c : Command) (q : Request) (since : List Line) (state : EpochState)
-    (owed : Option OpenOrder) → row d c since state owed ≡ sends q → is_once q ≡ false
+    → sent_once (left d c since state) ≡ false
     → (end_of d c (exchange (Some q) None) since state ≡ Some NoAnswer) ↔ (tries (header_of q) since ≡ 2)
-third_ends d c q since state owed is again =
-    let fails = fails_by_tries d c q since state owed is again in (
-      λ ends.
-          let all : tries (header_of q) (exchange (Some q) None ∷ since) ≡ 3 = by_tries _ (sym (fails _) ∙ ends) in
-          let more = tried q since in
-          omega arith,
-      λ two. fails _ ∙ ap end_of_tries (tried q since ∙ ap suc two),
-    )
+third_ends d c q since state again = (
+  λ ends.
+      let all : tries (header_of q) (exchange (Some q) None ∷ since) ≡ 3 = by_tries _ (sym (fails _) ∙ ends) in
+      let more = tried q since in
+      omega arith,
+  λ two. fails _ ∙ ap end_of_tries (tried q since ∙ ap suc two),
+)
+  where
+    fails : (failed : ℕ) → end_failed (left d c since state) failed ≡ end_of_tries failed
+    fails failed = asked_fails (left d c since state) failed again
 
 -- a mask that isn't acknowledged ends its job unsure
 abbrev MasksEnd : TableRow → Type 0
@@ -70,33 +49,16 @@ MasksEnd (asks_for q behind) = ⊤
 MasksEnd (asks_once (SetMask mask) behind without) = end_bare without ≡ Some StartUnsure
 MasksEnd r = ⊤
 
-no_mask_set : (first : Bool) (place path : ℕ) (behind : Then)
-    → MasksEnd (asks_for (cond first (SetDefault path) (SetPath place path)) behind)
-no_mask_set true place path behind = tt
-no_mask_set false place path behind = tt
-
-no_mask_read : (first : Bool) (place : ℕ) (behind : Then)
-    → MasksEnd (asks_for (cond first GetDefault (GetPath place)) behind)
-no_mask_read true place behind = tt
-no_mask_read false place behind = tt
-
-no_mask : (q : Request) (behind : Then) → is_once q ≡ false → MasksEnd (asks_for q behind)
-no_mask (SetMask mask) behind once = absurd cc
-no_mask q behind once = tt
-
-told_masks : (qs : List Request) → Each (λ q. is_once q ≡ false) qs → EachRow MasksEnd (telling qs)
-told_masks [] each = tt
-told_masks (q ∷ []) each = (no_mask q (ends_as Told) each.0, tt)
-told_masks (q ∷ r ∷ qs) each = (no_mask q goes_on each.0, told_masks (r ∷ qs) each.1)
-
-ident_once : (body : DeviceBody) → Each (λ q. is_once q ≡ false) (ident_requests body)
-ident_once (Acceptor accepts values ids) = search rules
-ident_once (Hopper life value) = search rules
+no_mask : (q : Request) (behind : Then) → IsAgain q → MasksEnd (asks_for q behind)
+no_mask (SetMask mask) behind again = absurd cc
+no_mask q behind again = tt
 
 masks_end : (d : DeviceSetup) (c : Command) → EachRow MasksEnd (rows_of d c)
-masks_end d (command.Ident addr) = told_masks (ident_requests d.body) (ident_once d.body)
-masks_end d (command.Path addr place path) =
-    (no_mask_set (place == 0) place path goes_on, (no_mask_read (place == 0) place (path_told place), tt))
+masks_end d (command.Ident addr) = told_each IsAgain MasksEnd no_mask (ident_requests d.body) (ident_again d.body)
+masks_end d (command.Path addr place path) = (
+  no_mask (path_set place path) goes_on (path_set_again (place == 0) place path),
+  (no_mask (path_read place) (path_told place) (path_read_again (place == 0) place), tt),
+)
 masks_end d c = search rules
 
 first_unsure : (addr : ℕ) (means : Judged) (p : Payment) (rows : List TableRow) (mask failed : ℕ) → EachRow MasksEnd rows

@@ -63,12 +63,6 @@ payout_request (Waits closing own) = GetStatus
 payout_request (Stops closing own) = StopNow
 payout_request (Recounts closing own) = GetLife
 
--- A request that is sent once, whatever is heard of it: one that lets coins in, and one that pays coins out.
-abbrev pub is_once : Request → Bool
-is_once (SetMask mask) = true
-is_once (Dispense serial count) = true
-is_once q = false
-
 -- The request that a stage sends.
 abbrev pub request_of : Stage → Request
 request_of (StartResets mask) = ResetDevice
