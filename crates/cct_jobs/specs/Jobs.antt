@@ -330,14 +330,15 @@ Knows (Looks visit recorded read) since state owed = (state ≡ runs recorded) �
 Knows (Pays row) since state owed = KnowsPayout row since owed
 Knows stage since state owed = ⊤
 
--- What a stage of a job has that only its device can tell it: a payment's serial number fits its three bytes, and a
--- dispense is to the hopper's own; a question is one of those that the device is asked.
+-- A row of a payment has the hopper's own serial number, which fits its three bytes.
 abbrev pub SuitsPayout : Payout → Target → Type 0
 SuitsPayout (Enables id count halted) device = device.serial < 2 ^ 24
 SuitsPayout (Counts id count halted) device = device.serial < 2 ^ 24
 SuitsPayout (Dispenses serial own halted) device = (device.serial < 2 ^ 24) × (serial ≡ device.serial)
 SuitsPayout row device = ⊤
 
+-- A stage of a job has what only its device can tell it: of a payment that serial number, and of an identification one of
+-- the questions that the device is asked.
 abbrev pub Suits : Stage → Target → Type 0
 Suits (IdentAsks question) device =
     slice_get (questions_of device) (place_of question (questions_of device)) ≡ Some question

@@ -26,10 +26,11 @@ abbrev pub waiting : (Command → List TableRow) → Job → Option ℕ
 waiting table free = None
 waiting table (works c since) = waiting_in (after (table c) (done (table c) since))
 
--- The id that the job at a device is yet to record, and that of a sale.
+-- The id that the job at a device is yet to record.
 abbrev pub waiting_at : List Entry → DeviceSetup → Option ℕ
 waiting_at past d = waiting (rows_of d) (job (lines_of d past))
 
+-- The id that a sale is yet to record.
 abbrev pub waiting_sale : List Entry → Option ℕ
 waiting_sale past = waiting rows_of_sale (job (sale_lines past))
 
