@@ -1,4 +1,5 @@
 -- What a desk keeps, by the lines of its place.
+use Rattle.std.specs.Prelude.{unwrap_or}
 use Rattle.std.proofs.Common.{◌≡◌, ℕ, true, List, [], ◌∷◌, ◌++◌, refl, sym, ap, subst, ◌∙◌, Option, Some, None}
 use Rattle.cct_model.specs.terms.device.DeviceSetup.{DeviceSetup}
 use Rattle.cct_model.specs.lines.record.Record.{Record}
@@ -14,7 +15,7 @@ use Rattle.cct_model.specs.Line as line
 use Rattle.cct_model.specs.Job as model
 use Rattle.cct_model.specs.Legal.{with_end}
 use Rattle.cct_model.specs.Job.{address_of, ident_requests}
-use Rattle.cct_model.specs.Rows.{id_in}
+use Rattle.cct_model.specs.Rows.{id_ahead}
 use Rattle.cct_model.proofs.Rows.{told_fact}
 use Rattle.cct_model.specs.Order.{order, order_by}
 use Rattle.cct_model.specs.Refusal.{running_id, sale_id}
@@ -35,7 +36,9 @@ running_line d x (model.works c since) = refl
 
 -- an identification begins no id
 pub no_id_told : (d : DeviceSetup) (addr : ℕ) → 0 ≡ running_id d (model.works (command.Ident addr) [])
-no_id_told d addr = sym (told_fact (λ rows. id_in rows ≡ 0) refl (λ q behind rows none. none) (ident_requests d.body))
+no_id_told d addr =
+    sym (ap (λ found. unwrap_or found 0)
+    (told_fact (λ rows. id_ahead rows ≡ None) refl (λ q behind rows none. none) (ident_requests d.body)))
 
 sale_line : (x : Line) (j : model.Job) → sale_id (model.with_line x j) ≡ sale_id j
 sale_line x model.free = refl

@@ -23,14 +23,13 @@ use Rattle.cct_model.specs.Exchange.{device_at, acceptor_there, hopper_there}
 use Rattle.cct_model.specs.Line.{Line}
 use Rattle.cct_model.specs.Order.{close, life_between}
 use Rattle.cct_model.specs.Job.{puts, address_of, credits_read, mask_read, judged_by, judged_in, payment_in, Payment, ident_requests}
-use Rattle.cct_model.specs.Rows.{Then, Due, new_epoch, reading, epoch_end, new_order, order_end, sale, TableRow, asks_for, asks_once, waits_for_coins, puts_due, rows_of, from, rest, first, row}
+use Rattle.cct_model.specs.Rows.{id_ahead, Then, Due, new_epoch, reading, epoch_end, new_order, order_end, sale, TableRow, asks_for, asks_once, waits_for_coins, puts_due, rows_of, from, rest, first, row}
 use Rattle.cct_model.specs.Records.{is_open, epoch_in, order_in}
 use Rattle.cct_model.specs.Money.{coins_of, available_in}
 use Rattle.cct_model.specs.Refusal.{valueless, start_refusal, running_refusal}
 use Rattle.cct_model.specs.Following.{is_running, has_values, count_of, follows}
 use Rattle.cct_model.specs.Paid.{uses}
 use Rattle.cct_model.specs.Script.{IsCommand}
-use Rattle.cct_laws.specs.Ids.{waiting_in}
 use Rattle.cct_laws.specs.Kept.{suits}
 use Rattle.cct_laws.proofs.Orders.{Belongs}
 use Rattle.cct_model.proofs.Rows.{RowHolds, DueHolds, JudgedHolds, judged_holds, EachRow, each_from, each_left, each_told, fact_from, state_holds, due_holds}
@@ -87,7 +86,7 @@ NeedsOf d rows state owed = EachRow (IfPuts (DueNeeds d state owed)) rows
 
 -- and of the records: no order of the id that they are yet to record is open
 abbrev pub NewOf : List Record → List TableRow → Type 0
-NewOf before rows = (id : ℕ) → waiting_in rows ≡ Some id → is_open id before ≡ false
+NewOf before rows = (id : ℕ) → id_ahead rows ≡ Some id → is_open id before ≡ false
 
 -- what is put is in its range, and for the kind of the device
 abbrev IsRanged : DeviceSetup → Due → Type 0

@@ -25,13 +25,13 @@ use Rattle.cct_model.specs.History.{Met}
 use Rattle.cct_model.specs.Line.{Line, put, taken}
 use Rattle.cct_model.specs.Order.{order}
 use Rattle.cct_model.specs.Job.{job, with_line, epoch, puts, address_of, ident_requests}
-use Rattle.cct_model.specs.Rows.{rows_of, rows_of_sale, rest, done}
+use Rattle.cct_model.specs.Rows.{id_ahead, rows_of, rows_of_sale, rest, done}
 use Rattle.cct_model.specs.Records.{records, hopper_of}
 use Rattle.cct_model.specs.Legal.{with_end, keeping_crash}
 use Rattle.cct_model.specs.Refusal.{refusal}
 use Rattle.cct_model.specs.Transcript.{met, owner, opened_at, lines_of, sale_lines}
 use Rattle.cct_model.specs.Paid.{uses, IsFresh}
-use Rattle.cct_laws.specs.Ids.{waiting_in, waiting, waiting_at, waiting_sale, Ids}
+use Rattle.cct_laws.specs.Ids.{waiting, waiting_at, waiting_sale, Ids}
 use Rattle.cct_laws.specs.Law.{IsOf}
 use Rattle.cct_laws.specs.Recorded.{HasNoJob}
 use Rattle.cct_laws.proofs.Setups.{same_some, found_in}
@@ -186,7 +186,7 @@ opened_new setup past d c since opened a n life own ids work here opens = record
     after =
         ap (λ b. waiting (rows_of d) (job (cond b (put r ∷ []) [] ++ lines_of d past))) (eq-eqb a d.addr here)
         ∙ ap (λ j. waiting (rows_of d) (with_line (put r) j)) work.job_is
-        ∙ ap waiting_in (after_next (rows_of d c) (done (rows_of d c) since))
+        ∙ ap id_ahead (after_next (rows_of d c) (done (rows_of d c) since))
         ∙ opened_waits opened n (rest d c since) (one_after (rows_of d c) (done (rows_of d c) since) (one_id d c)) opens
 
     apart : (e : DeviceSetup) (other : ℕ) → IsOf setup e → waiting_at (entry.Put r ∷ past) e ≡ Some other →
@@ -240,7 +240,7 @@ ids_kept setup past r is_new ids = ids_less setup past (keeping_crash past r ++ 
 selling_waits : (past : List Entry) (id price : ℕ) (since : List Line) → Selling past id price since →
     waiting_sale past ≡ Some id
 selling_waits past id price since selling =
-    ap (waiting rows_of_sale) selling.job_is ∙ ap waiting_in selling.first
+    ap (waiting rows_of_sale) selling.job_is ∙ ap id_ahead selling.first
 
 pub sale_unused : (setup : Setup) (past : List Entry) (id price : ℕ) (since : List Line) → Ids setup past →
     Selling past id price since → Unused id (records past)

@@ -1,5 +1,6 @@
 -- That the id of a payment or of a sale that is not refused is a new one.
-use Rattle.std.proofs.Common.{◌≡◌, ◌≢◌, ℕ, ◌<◌, nat_le, cond, Bool, true, false, List, [], ◌∷◌, refl, Some, None, arith}
+use Rattle.std.specs.Prelude.{unwrap_or}
+use Rattle.std.proofs.Common.{◌≡◌, ◌≢◌, ℕ, ◌<◌, nat_le, cond, Bool, true, false, List, refl, ap, Some, None, arith}
 use Rattle.std.proofs.lemmas.Bool.Decides.{nat_tests}
 use Rattle.cct_model.specs.terms.device.DeviceSetup.{DeviceSetup}
 use Rattle.cct_model.specs.terms.device.Setup.{Setup}
@@ -7,13 +8,12 @@ use Rattle.cct_model.specs.lines.command.Command.TheVariants as command
 use Rattle.cct_model.specs.lines.command.CommandNo.TheVariants.{OldId}
 use Rattle.cct_model.specs.lines.entry.Entry.{Entry}
 use Rattle.cct_model.specs.Job.{Job, free, works, job}
-use Rattle.cct_model.specs.Rows.{new_epoch, reading, epoch_end, new_order, order_end, sale, TableRow, asks_for, asks_once, waits_for_coins, puts_due, rows_of, rows_of_sale, after, done, id_in}
+use Rattle.cct_model.specs.Rows.{id_ahead, TableRow, rows_of, rows_of_sale, after, done}
 use Rattle.cct_model.specs.Records.{records}
 use Rattle.cct_model.specs.Refusal.{id_refusal, running_id, sale_id, last_id, refusal}
 use Rattle.cct_model.specs.Transcript.{lines_of, sale_lines}
-use Rattle.cct_laws.specs.Ids.{waiting_in, waiting, waiting_at, waiting_sale}
+use Rattle.cct_laws.specs.Ids.{waiting, waiting_at, waiting_sale}
 use Rattle.cct_laws.specs.Law.{IsOf}
-use Rattle.cct_laws.proofs.Setups.{same_some}
 use Rattle.cct_laws.proofs.Sums.{greatest_holds}
 use Rattle.cct_laws.proofs.Tests.{tests_pass}
 use Rattle.cct_laws.proofs.Orders.{unused_above}
@@ -27,20 +27,9 @@ pub record IsNew (setup : Setup) (past : List Entry) (id : ℕ) : Type 0 where
   pub sale : (other : ℕ) → waiting_sale past ≡ Some other → id ≢ other
 
 -- the id that rows wait to record is theirs
-waits_own : (rows : List TableRow) (id : ℕ) → waiting_in rows ≡ Some id → id_in rows ≡ id
-waits_own [] id is = absurd cc
-waits_own (puts_due (new_order own count) behind ∷ rows) id is = same_some own id is
-waits_own (puts_due (sale own price) behind ∷ rows) id is = same_some own id is
-waits_own (puts_due (new_epoch mask) behind ∷ rows) id is = waits_own rows id is
-waits_own (puts_due reading behind ∷ rows) id is = waits_own rows id is
-waits_own (puts_due epoch_end behind ∷ rows) id is = waits_own rows id is
-waits_own (puts_due order_end behind ∷ rows) id is = waits_own rows id is
-waits_own (asks_for q behind ∷ rows) id is = waits_own rows id is
-waits_own (asks_once q behind without ∷ rows) id is = waits_own rows id is
-waits_own (waits_for_coins ∷ rows) id is = waits_own rows id is
-
-left_own : (rows : List TableRow) (n id : ℕ) → OneId rows → waiting_in (after rows n) ≡ Some id → id_in rows ≡ id
-left_own rows n id one is = waits_own rows id (after_waits rows n id one is)
+left_own : (rows : List TableRow) (n id : ℕ) → OneId rows → id_ahead (after rows n) ≡ Some id →
+    unwrap_or (id_ahead rows) 0 ≡ id
+left_own rows n id one is = ap (λ found. unwrap_or found 0) (after_waits rows n id one is)
 
 waits_run : (d : DeviceSetup) (j : Job) (id : ℕ) → waiting (rows_of d) j ≡ Some id → running_id d j ≡ id
 waits_run d free id is = absurd cc

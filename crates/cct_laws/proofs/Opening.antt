@@ -15,9 +15,8 @@ use Rattle.cct_model.specs.declared.judging.OpenOrder.{OpenOrder}
 use Rattle.cct_model.specs.Line.{Line}
 use Rattle.cct_model.specs.Order.{close, life_between}
 use Rattle.cct_model.specs.Job.{credits_read, mask_read, judged_by, ident_requests, Payment, judged_in, payment_in, address_of}
-use Rattle.cct_model.specs.Rows.{row, Due, TableRow, asks_for, asks_once, waits_for_coins, puts_due, new_order, rows_of, from, rest, left, first, done, sale, new_epoch, reading, epoch_end, order_end, Then}
+use Rattle.cct_model.specs.Rows.{id_ahead, row, Due, TableRow, asks_for, asks_once, waits_for_coins, puts_due, new_order, rows_of, from, rest, left, first, done, sale, new_epoch, reading, epoch_end, order_end, Then}
 use Rattle.cct_model.proofs.Rows.{RowHolds, EachRow, each_told, each_left, JudgedHolds, judged_holds, due_holds, state_holds, DueHolds, but_first}
-use Rattle.cct_laws.specs.Ids.{waiting_in}
 use Rattle.cct_laws.proofs.Waits.{OneId, one_id, one_after}
 
 -- the first of these rows is to open an order of so many coins, with this id
@@ -26,12 +25,12 @@ Opens id count (puts_due (new_order own many) behind ∷ rows) = (own ≡ id) ×
 Opens id count rows = ⊥
 
 -- it is the id that these rows wait to record, and those after it wait with none
-pub opens_waits : (id count : ℕ) (rows : List TableRow) → Opens id count rows → waiting_in rows ≡ Some id
+pub opens_waits : (id count : ℕ) (rows : List TableRow) → Opens id count rows → id_ahead rows ≡ Some id
 opens_waits id count (puts_due (new_order own many) behind ∷ rows) opens = ap Some opens.0
 opens_waits id count rows opens = absurd opens
 
 pub opened_waits : (id count : ℕ) (rows : List TableRow) → OneId rows → Opens id count rows →
-    waiting_in (but_first rows) ≡ None
+    id_ahead (but_first rows) ≡ None
 opened_waits id count (puts_due (new_order own many) behind ∷ rows) one opens = one.0
 opened_waits id count rows one opens = absurd opens
 

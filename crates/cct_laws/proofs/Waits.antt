@@ -15,17 +15,17 @@ use Rattle.cct_model.specs.lines.entry.Entry.TheVariants as entry
 use Rattle.cct_model.specs.Exchange.{asked, asks_of}
 use Rattle.cct_model.specs.Line.{Line, accepted, inhibited, alien, fell, reset, exchange, scanned, put, taken, ended, crashed}
 use Rattle.cct_model.specs.Job.{Job, free, works, job, begun, with_line, address_of, ident_requests}
-use Rattle.cct_model.specs.Rows.{new_epoch, reading, epoch_end, new_order, order_end, sale, TableRow, asks_for, asks_once, waits_for_coins, puts_due, telling, rows_of, rows_of_sale, after, done}
+use Rattle.cct_model.specs.Rows.{id_ahead, new_epoch, reading, epoch_end, new_order, order_end, sale, TableRow, asks_for, asks_once, waits_for_coins, puts_due, telling, rows_of, rows_of_sale, after, done}
 use Rattle.cct_model.specs.Transcript.{met, owner, lines_of, sale_lines, sold_line, heard_by_devices, pending, got_by, doses_of}
-use Rattle.cct_laws.specs.Ids.{waiting_in, waiting}
+use Rattle.cct_laws.specs.Ids.{waiting}
 use Rattle.cct_model.proofs.Doses.{job_undosed}
 use Rattle.cct_model.proofs.Rows.{but_first, after_none, after_line, fact_after, EachBefore, before_on, told_fact}
 
 -- after a row that records an id, and after one that may be passed over, none records one
 abbrev IdLast : TableRow → List TableRow → Type 0
-IdLast (puts_due (new_order id count) behind) rows = waiting_in rows ≡ None
-IdLast (puts_due (sale id price) behind) rows = waiting_in rows ≡ None
-IdLast (puts_due reading behind) rows = waiting_in rows ≡ None
+IdLast (puts_due (new_order id count) behind) rows = id_ahead rows ≡ None
+IdLast (puts_due (sale id price) behind) rows = id_ahead rows ≡ None
+IdLast (puts_due reading behind) rows = id_ahead rows ≡ None
 IdLast r rows = ⊤
 
 abbrev pub OneId : List TableRow → Type 0
@@ -43,12 +43,12 @@ pub one_after : (rows : List TableRow) (n : ℕ) → OneId rows → OneId (after
 one_after = fact_after OneId (before_on IdLast)
 
 -- what is asked one after the other records none
-pub told_waits : (qs : List Request) → waiting_in (telling qs) ≡ None
-told_waits = told_fact (λ rows. waiting_in rows ≡ None) refl (λ q behind rows none. none)
+pub told_waits : (qs : List Request) → id_ahead (telling qs) ≡ None
+told_waits = told_fact (λ rows. id_ahead rows ≡ None) refl (λ q behind rows none. none)
 
 -- an id that rows wait to record was to be recorded before
-first_waits : (rows : List TableRow) (id : ℕ) → OneId rows → waiting_in (but_first rows) ≡ Some id →
-    waiting_in rows ≡ Some id
+first_waits : (rows : List TableRow) (id : ℕ) → OneId rows → id_ahead (but_first rows) ≡ Some id →
+    id_ahead rows ≡ Some id
 first_waits [] id one is = is
 first_waits (puts_due (new_order own count) behind ∷ rows) id one is = absurd (none-some id (sym one.0 ∙ is))
 first_waits (puts_due (sale own price) behind ∷ rows) id one is = absurd (none-some id (sym one.0 ∙ is))
@@ -60,8 +60,8 @@ first_waits (asks_for q behind ∷ rows) id one is = is
 first_waits (asks_once q behind without ∷ rows) id one is = is
 first_waits (waits_for_coins ∷ rows) id one is = is
 
-pub after_waits : (rows : List TableRow) (n id : ℕ) → OneId rows → waiting_in (after rows n) ≡ Some id →
-    waiting_in rows ≡ Some id
+pub after_waits : (rows : List TableRow) (n id : ℕ) → OneId rows → id_ahead (after rows n) ≡ Some id →
+    id_ahead rows ≡ Some id
 after_waits [] n id one is = is
 after_waits (r ∷ rows) zero id one is = is
 after_waits (r ∷ rows) (suc n) id one is = first_waits (r ∷ rows) id one (after_waits rows n id one.1 is)
@@ -79,19 +79,19 @@ with_line_waits : (table : Command → List TableRow) → OneIdEach table → (l
 with_line_waits table one l free id is = absurd cc
 with_line_waits table one l (works c since) id is =
     let rows = after (table c) (done (table c) since) in
-    after_line (λ later. waiting_in later ≡ Some id → waiting_in rows ≡ Some id) (table c) l since (λ same. same)
+    after_line (λ later. id_ahead later ≡ Some id → id_ahead rows ≡ Some id) (table c) l since (λ same. same)
     (first_waits rows id (one_after (table c) (done (table c) since) (one c))) is
 
 -- a line begins no job that waits
 abbrev StartsNone : (Command → List TableRow) → Line → Type 0
-StartsNone table (taken c) = waiting_in (table c) ≡ None
+StartsNone table (taken c) = id_ahead (table c) ≡ None
 StartsNone table l = ⊤
 
 begun_waits : (table : Command → List TableRow) → OneIdEach table → (c : Command) (j : Job) →
-    waiting_in (table c) ≡ None → WaitsLess table j (begun c j)
+    id_ahead (table c) ≡ None → WaitsLess table j (begun c j)
 begun_waits table one (command.Halt addr) j none id is = with_line_waits table one (taken (command.Halt addr)) j id is
 begun_waits table one c j none id is =
-    absurd (none-some id (sym none ∙ sym (ap waiting_in (after_none (table c))) ∙ is))
+    absurd (none-some id (sym none ∙ sym (ap id_ahead (after_none (table c))) ∙ is))
 
 line_waits : (table : Command → List TableRow) → OneIdEach table → (l : Line) (lines : List Line) →
     StartsNone table l → WaitsLess table (job lines) (job (l ∷ lines))
@@ -119,7 +119,7 @@ wire_waits table one false l dosed lines none same id is = ap (waiting table) (s
 -- an entry begins no job that waits
 abbrev pub BeginsNone : Entry → Type 0
 BeginsNone (entry.Taken c) =
-    ((d : DeviceSetup) → waiting_in (rows_of d c) ≡ None) × (waiting_in (rows_of_sale c) ≡ None)
+    ((d : DeviceSetup) → id_ahead (rows_of d c) ≡ None) × (id_ahead (rows_of_sale c) ≡ None)
 BeginsNone e = ⊤
 
 -- at a device

@@ -1,5 +1,5 @@
 -- Which ids are used, and by whom: what the jobs wait to record, and which orders are whose.
-use Rattle.std.specs.Prelude.{◌≡◌, ℕ, false, List, [], ◌∷◌, Option, Some, None}
+use Rattle.std.specs.Prelude.{◌≡◌, ℕ, false, List, Option, Some, None}
 use Rattle.std.specs.List.{list_any}
 use Rattle.cct_model.specs.terms.device.DeviceSetup.{DeviceSetup}
 use Rattle.cct_model.specs.terms.device.Setup.{Setup}
@@ -8,23 +8,16 @@ use Rattle.cct_model.specs.lines.entry.Entry.{Entry}
 use Rattle.cct_model.specs.declared.judging.OpenOrder.{OpenOrder}
 use Rattle.cct_model.specs.Order.{order}
 use Rattle.cct_model.specs.Job.{Job, free, works, job}
-use Rattle.cct_model.specs.Rows.{new_order, sale, TableRow, puts_due, rows_of, rows_of_sale, after, done}
+use Rattle.cct_model.specs.Rows.{TableRow, rows_of, rows_of_sale, after, done, id_ahead}
 use Rattle.cct_model.specs.Records.{records, order_named}
 use Rattle.cct_model.specs.Transcript.{lines_of, sale_lines}
 use Rattle.cct_model.specs.Paid.{uses}
 use Rattle.cct_laws.specs.Law.{IsOf}
 
--- The id that these rows are yet to record: of an order or of a sale; none where they record none.
-abbrev pub waiting_in : List TableRow → Option ℕ
-waiting_in [] = None
-waiting_in (puts_due (new_order id count) behind ∷ rows) = Some id
-waiting_in (puts_due (sale id price) behind ∷ rows) = Some id
-waiting_in (row ∷ rows) = waiting_in rows
-
 -- The id that a job is yet to record, by the rows of its command.
 abbrev pub waiting : (Command → List TableRow) → Job → Option ℕ
 waiting table free = None
-waiting table (works c since) = waiting_in (after (table c) (done (table c) since))
+waiting table (works c since) = id_ahead (after (table c) (done (table c) since))
 
 -- The id that the job at a device is yet to record.
 abbrev pub waiting_at : List Entry → DeviceSetup → Option ℕ

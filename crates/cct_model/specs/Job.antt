@@ -1,5 +1,5 @@
--- The job at an address, read off its lines: which command began it, which of its rows are done, and how it ends. And
--- the epoch of an acceptor, read off its records.
+-- The job at an address, read off its lines: which command began it, what it has read, and how often a row failed. And the
+-- epoch of an acceptor, read off its records.
 use Rattle.std.specs.Prelude.{ℕ, suc, ◌==◌, Bool, List, [], ◌∷◌, map, if◌then◌else◌, Option, Some, None}
 use Rattle.std.specs.Option.{option_or}
 use Rattle.cct_model.specs.terms.wire.TheConstants.{BROADCAST, HOST}

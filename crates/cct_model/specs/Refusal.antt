@@ -1,5 +1,5 @@
 -- Why a command is refused: the tests of each, in their order.
-use Rattle.std.specs.Prelude.{ℕ, ◌+◌, max, ◌==◌, ◌&&◌, nat_le, Bool, true, false, not, is_some, List, [], ◌∷◌, length, find, if◌then◌else◌, Option, Some, None}
+use Rattle.std.specs.Prelude.{ℕ, ◌+◌, max, ◌==◌, ◌&&◌, nat_le, Bool, true, false, not, is_some, List, [], ◌∷◌, length, find, unwrap_or, if◌then◌else◌, Option, Some, None}
 use Rattle.std.specs.Option.{option_map, option_or}
 use Rattle.cct_model.specs.terms.device.DeviceBody.{DeviceBody}
 use Rattle.cct_model.specs.terms.device.DeviceSetup.{DeviceSetup}
@@ -18,7 +18,7 @@ use Rattle.cct_model.specs.Exchange.{acceptor_there, device_at, hopper_there}
 use Rattle.cct_model.specs.Line.{Line}
 use Rattle.cct_model.specs.Order.{order}
 use Rattle.cct_model.specs.Job.{Job, free, works, job, coin_places, epoch, address_of}
-use Rattle.cct_model.specs.Rows.{rows_of, rows_of_sale, rows_for, left, left_of_sale, puts_in, need_in, id_in, closes_order, can_halt}
+use Rattle.cct_model.specs.Rows.{rows_of, rows_of_sale, rows_for, left, left_of_sale, puts_in, need_in, id_ahead, closes_order, can_halt}
 use Rattle.cct_model.specs.Records.{records, greatest_id}
 use Rattle.cct_model.specs.Money.{sum_over, coins_of, available}
 use Rattle.cct_model.specs.Transcript.{lines_of, scan_lines, sale_lines}
@@ -194,12 +194,12 @@ short_refusal setup past wanted =
 -- The id of the order that the job at a device is at work to record or has recorded, 0 of another job.
 abbrev pub running_id : DeviceSetup → Job → ℕ
 running_id d free = 0
-running_id d (works c since) = id_in (rows_of d c)
+running_id d (works c since) = unwrap_or (id_ahead (rows_of d c)) 0
 
--- The id of a sale.
+-- The id of a sale, 0 of no sale.
 abbrev pub sale_id : Job → ℕ
 sale_id free = 0
-sale_id (works c since) = id_in (rows_of_sale c)
+sale_id (works c since) = unwrap_or (id_ahead (rows_of_sale c)) 0
 
 -- The greatest such id among devices.
 abbrev pub greatest_running : List Entry → List DeviceSetup → ℕ

@@ -214,12 +214,12 @@ need_in (puts_due order_end behind ∷ rows) = need_in rows
 need_in (puts_due due behind ∷ rows) = suc (need_in rows)
 need_in (row ∷ rows) = need_in rows
 
--- The id that these rows record, 0 where they record none.
-abbrev pub id_in : List TableRow → ℕ
-id_in [] = 0
-id_in (puts_due (new_order id count) behind ∷ rows) = id
-id_in (puts_due (sale id price) behind ∷ rows) = id
-id_in (row ∷ rows) = id_in rows
+-- The id that these rows record: of an order or of a sale; none where they record none.
+abbrev pub id_ahead : List TableRow → Option ℕ
+id_ahead [] = None
+id_ahead (puts_due (new_order id count) behind ∷ rows) = Some id
+id_ahead (puts_due (sale id price) behind ∷ rows) = Some id
+id_ahead (row ∷ rows) = id_ahead rows
 
 -- The end that an answer brings behind a row, beside what the reading then means.
 abbrev pub end_by_answer : Then → Reply → Judged → Option End
