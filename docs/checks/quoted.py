@@ -36,15 +36,15 @@ def bytes_of(table: markdown.Table) -> str:
 
 
 def code(root: Path):
-    """Each block of Rust that a document shows below the name of a file stands in that file, and each table of bytes below
+    """Each block of Rust, or of a definition, that a document shows below the name of a file stands in that file, and each table of bytes below
     one spells a string of bytes in a block of its section."""
     count, faults = 0, []
     for path in [root / "README.md", *sorted(root.glob("docs/*.md"))]:
         tables, blocks = markdown.read(path)
         shown = {}
         for block in blocks:
-            named = [name for name in markdown.quoted(block.above) if re.fullmatch(r"crates/.*\.rt", name)]
-            if block.words == "rust" and named:
+            named = [name for name in markdown.quoted(block.above) if re.fullmatch(r"crates/.*\.(rt|antt)", name)]
+            if block.words in ("rust", "antt") and named:
                 count += 1
                 shown[block.section] = shown.get(block.section, "") + "\n".join(block.lines)
                 faults += stands(root, block, named[-1])
