@@ -36,8 +36,8 @@ def bytes_of(table: markdown.Table) -> str:
 
 
 def code(root: Path):
-    """Each block of Rust or of definitions that a document shows below the name of a file stands in that file, and each table of bytes below
-    one spells a string of bytes in a block of its section."""
+    """Each block of Rust or of definitions that a document shows below the name of a file stands in that file, and each
+    table of bytes below one spells a string of bytes in a block of its section."""
     count, faults = 0, []
     for path in [root / "README.md", *sorted(root.glob("docs/*.md"))]:
         tables, blocks = markdown.read(path)
