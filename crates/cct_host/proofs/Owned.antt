@@ -44,7 +44,7 @@ vend_owns past addr id price (suc rows) p = tt
 
 sale_row_owns : (past : List Entry) (addr : ℕ) (c : Command) (since : List Line)
     → IfSome (record_due (row_of_sale c since)) (ClosesItsOwn past addr)
-sale_row_owns past addr (command.Vend id price) since = 
+sale_row_owns past addr (command.Vend id price) since =
     vend_owns past addr id price (done (rows_of_sale (command.Vend id price)) since) (payment_in since None)
 sale_row_owns past addr c since = tt
 

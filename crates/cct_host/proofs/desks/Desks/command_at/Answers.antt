@@ -94,7 +94,7 @@ returns-in-Some-clause-puts c =
     let within : i < length c.args.self.now.setup.now.devices =
     subst (λ ds. i < length ds) lent c.in-Some.ensures.within in
     ok_by c.command.result _ _ c.command.ensures.puts
-    (sum_turn puts_at ks _ i c.index-deref_mut-index.result c.command.new.self _ 
+    (sum_turn puts_at ks _ i c.index-deref_mut-index.result c.command.new.self _
     (puts_in (rows_begun c.args.self.now.setup.now c.args.command.now))
     c.deref_mut.ensures.value (subst (λ n. i < n) (sym c.args.self.now.many) within))
 
