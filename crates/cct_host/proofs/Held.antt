@@ -1,5 +1,5 @@
 -- How many records are held, what is about to be put, and what jobs reserve, by the lines of the places.
-use Rattle.std.proofs.Common.{◌≡◌, ℕ, ◌+◌, ◌*◌, ◌≤◌, ◌==◌, Bool, true, false, cond, List, [], ◌∷◌, refl, sym, ap, ap₂, subst, ◌∙◌, Option, Some, None, arith}
+use Rattle.std.proofs.Common.{◌≡◌, ℕ, ◌+◌, ◌*◌, ◌≤◌, ◌==◌, Bool, true, false, cond, List, [], ◌∷◌, length, refl, sym, ap, ap₂, subst, ◌∙◌, Option, Some, None, arith}
 use Rattle.std.specs.Prelude.{is_some, not}
 use Rattle.std.specs.Option.{IfSome}
 use Rattle.cct_model.specs.terms.wire.TheConstants.{HOST}
@@ -12,7 +12,7 @@ use Rattle.cct_model.specs.declared.judging.EpochState.{EpochState}
 use Rattle.cct_model.specs.declared.judging.OpenOrder.{OpenOrder}
 use Rattle.cct_model.specs.Exchange.{device_at}
 use Rattle.cct_model.specs.Job as model
-use Rattle.cct_model.specs.Rows.{puts_in, row, row_of_sale}
+use Rattle.cct_model.specs.Rows.{has_closes, puts_in, row, row_of_sale}
 use Rattle.cct_model.specs.Legal.{due_of, due_of_sale, due_there, record_due}
 use Rattle.cct_model.specs.Line.{Line}
 use Rattle.cct_model.specs.Rows as table
@@ -41,7 +41,7 @@ use Rattle.cct_host.specs.declared.desk.JobDesk.{JobDesk}
 use Rattle.cct_host.specs.declared.desks.Desks.{Desks}
 use Rattle.cct_host.specs.Desk.{AllSit, Sits, Works, held_at, held_in, reserved_over}
 use Rattle.cct_host.specs.Desks.{StandsFor, amount_at_desk, due_at_desk, held_of, reserved_of, setup_of}
-use Rattle.cct_host.specs.Held.{coins_by, due_by, held_by, price_by, put_in}
+use Rattle.cct_host.specs.Held.{coins_by, due_by, held_by, order_left, price_by, put_in, puts_left}
 use Rattle.cct_host.specs.Place.{device, sales}
 use Rattle.cct_host.specs.Running.{is_running}
 
@@ -66,6 +66,38 @@ few_puts job = omega arith
 
 pub few_left : (job : Job) (n : ℕ) → n ≡ puts_in (ahead job) → n ≤ 2
 few_left job n is = let few = few_puts job in omega arith
+
+-- at most three records are held for a desk
+
+few_at_work : (job : Option Job) → puts_left job ≤ 2
+few_at_work None = omega arith
+few_at_work (Some job) = few_puts job
+
+one_order : (closes : Bool) (owed : Option OpenOrder) → order_holds closes owed ≤ 1
+one_order true None = omega arith
+one_order true (Some o) = omega arith
+one_order false None = omega arith
+one_order false (Some o) = omega arith
+
+one_left : (job : Option Job) (owed : Option OpenOrder) → order_left job owed ≤ 1
+one_left None owed = one_order false owed
+one_left (Some job) owed = one_order (has_closes (ahead job)) owed
+
+few_held : (k : JobDesk) → held_at k ≤ 3
+few_held k =
+    let few = few_at_work k.job in
+    let one = one_left k.job (order_of k.dues.order) in
+    omega arith
+
+few_held_in : (ks : List JobDesk) → held_in ks ≤ 3 * length ks
+few_held_in [] = omega arith
+few_held_in (k ∷ ks) = let here = few_held k in let rest = few_held_in ks in omega arith
+
+pub few_held_of : (desks : Desks) → held_of desks ≤ 3 * (length desks.devices.items + 1)
+few_held_of desks =
+    let each = few_held_in desks.devices.items in
+    let sale = few_held desks.sale in
+    omega arith
 
 -- a job that runs, by its lines
 

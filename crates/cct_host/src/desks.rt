@@ -172,6 +172,15 @@ impl<'s> Desks<'s> {
         JobDesk::held_in(self.devices.as_slice()) + self.sale.held()
     }
 
+    /// A bound on how many records are held, told without a look at the desks: three for each device and for the sale.
+    pub(crate) fn most_held(&self) -> u32
+        ensures most { held_of self.now ≤ result }
+        ensures few { result ≤ 3 * (DEVICES + 1) }
+        ensures stands { (past : List Entry) → StandsFor self.now past → held (setup_of self.now) past ≤ result }
+    {
+        3 * (self.devices.len() as u32 + 1)
+    }
+
     /// The record that the job at an address is about to put, if it is about to put one.
     pub fn due(&self, addr: u8) -> Option<Record>
         ensures value { result ≡ due_on self.now addr }

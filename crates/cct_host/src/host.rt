@@ -171,12 +171,17 @@ impl<'s, D: Disk> Host<'s, D> {
             → result ≡ refusals.full_refusal (setup_of self.now) past need (capacity_in self.now) }
     {
         let used = self.journal.used();
-        let held = self.desks.held();
-        let wanted = u64::from(used) + u64::from(held) + u64::from(need);
-        if wanted <= u64::from(self.journal.capacity()) {
+        let most = self.desks.most_held();
+        let capacity = u64::from(self.journal.capacity());
+        if u64::from(used) + u64::from(most) + u64::from(need) <= capacity {
             None
         } else {
-            Some(CommandNo::JournalFull { used, held, need })
+            let held = self.desks.held();
+            if u64::from(used) + u64::from(held) + u64::from(need) <= capacity {
+                None
+            } else {
+                Some(CommandNo::JournalFull { used, held, need })
+            }
         }
     }
 
