@@ -147,7 +147,9 @@ fn go_on<L: Link>(
 {
     let reserved = desks.reserved_at(addr);
     desks.next(addr, link, report);
-    ledger.release(reserved - desks.reserved_at(addr));
+    if reserved > 0 {
+        ledger.release(reserved - desks.reserved_at(addr));
+    }
 }
 
 /// The ledger takes the record that was put, if one was. One that doesn't follow those before it would leave the ledger
