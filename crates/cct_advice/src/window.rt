@@ -40,10 +40,14 @@ impl Window {
         }
     }
 
-    /// Adds the bytes of a take.
+    /// Adds the bytes of a take. After the line `begin` only their line feeds matter.
     pub(crate) fn note(&mut self, piece: &[u8]) {
-        for byte in piece {
-            self.count(*byte);
+        if self.begun.is_some() {
+            self.feeds = self.feeds.saturating_add(feeds_in(piece));
+        } else {
+            for byte in piece {
+                self.count(*byte);
+            }
         }
         let from = piece.len().saturating_sub(LONGEST);
         self.keep(&piece[from..]);
@@ -107,11 +111,5 @@ fn spelt_on(len: usize, byte: u8) -> Option<usize> {
 
 /// How many line feeds there are.
 fn feeds_in(bytes: &[u8]) -> u64 {
-    let mut count: u64 = 0;
-    for byte in bytes {
-        if *byte == b'\n' {
-            count = count.saturating_add(1);
-        }
-    }
-    count
+    bytes.iter().filter(|byte| **byte == b'\n').count() as u64
 }
