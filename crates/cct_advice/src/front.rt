@@ -25,8 +25,9 @@ impl Front {
     /// Keeps the front of this piece in place of the one before.
     pub(crate) fn note(&mut self, piece: &[u8]) {
         let len = piece.len().min(ROOM);
-        self.bytes[..len].copy_from_slice(&piece[..len]);
-        self.len = len;
+        let mut bytes = [0; ROOM];
+        bytes[..len].copy_from_slice(&piece[..len]);
+        *self = Front { bytes, len };
     }
 
     /// The bytes kept.
