@@ -111,11 +111,9 @@ one_plain addr happening.Jam outcome.Done = (refl, refl, refl)
 one_plain addr happening.Jam became = (refl, refl, refl)
 one_plain addr happening.Reset became = (refl, refl, refl)
 
-pub told_plain : (before after : List Entry) (addr : ℕ) (what : Happening) (became : Outcome) (e : Entry) → before ≡ []
-    → after ≡ before ++ e ∷ [] → e ≡ entry_told addr what became → IsPlain (reverse after)
-told_plain before after addr what became e none is told =
-    subst (λ es. IsPlain (reverse es)) (sym (one_entry before after e none is ∙ ap (λ x. x ∷ []) told))
-    (one_plain addr what became)
+pub told_plain : (after : List Entry) (addr : ℕ) (what : Happening) (became : Outcome)
+    → after ≡ entry_told addr what became ∷ [] → IsPlain (reverse after)
+told_plain after addr what became told = subst (λ es. IsPlain (reverse es)) (sym told) (one_plain addr what became)
 
 module _ {D : Type 0} {g : Ghosts D} where
   -- what a step leaves that gave this report

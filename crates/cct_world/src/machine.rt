@@ -1,5 +1,5 @@
 //! The machine of a world: the host, and the bus with its devices.
-ghost use Rattle.std.specs.Prelude.{◌≡◌, ◌≢◌, ◌≤◌, ◌+◌, [], IfErr, IsTrue, List, OnErr, OnOk, false, length, reverse};
+ghost use Rattle.std.specs.Prelude.{◌∷◌, ◌≡◌, ◌≢◌, ◌≤◌, ◌+◌, [], IfErr, IsTrue, List, OnErr, OnOk, false, length, reverse};
 ghost use Rattle.cct_model.specs.lines.command.Step.TheVariants as step;
 ghost use Rattle.cct_model.specs.Exchange.{device_at, known_there};
 ghost use Rattle.cct_model.specs.Family.{IsPlaced};
@@ -176,7 +176,7 @@ impl<D: Disk> Machine<'_, D> {
         ensures unkept { kept_in (reverse report.new.items) ≡ [] }
     {
         let outcome = self.bus.befall(addr, what);
-        report.push(entry_told(addr, what, outcome));
+        tell(addr, what, outcome, report);
     }
 
     /// The wire has a fault in the next exchange.
@@ -284,27 +284,29 @@ fn unplayed(why: CrashNo) -> WorldNo
     }
 }
 
-/// The entry of what befell the device at an address, by what became of it.
-fn entry_told(addr: u8, what: Happening, outcome: Outcome) -> Entry
-    ensures { result ≡ entry_told addr what outcome }
+/// Tells what befell the device at an address, by what became of it. An entry is wide, so it is made where it is told.
+#[tactic(auto, using(crate::proofs::Steps::one_entry))]
+fn tell(addr: u8, what: Happening, outcome: Outcome, report: &mut ArrayVec<Entry, 8>)
+    requires { report.old.items ≡ [] }
+    ensures { report.new.items ≡ entry_told addr what outcome ∷ [] }
 {
     match what {
         Happening::Coin { place } => match outcome {
-            Outcome::Accepted(coin) => Entry::Accepted { addr, coin },
-            Outcome::Done => Entry::Inhibited { addr, place },
-            Outcome::Nothing => Entry::Inhibited { addr, place },
+            Outcome::Accepted(coin) => report.push(Entry::Accepted { addr, coin }),
+            Outcome::Done => report.push(Entry::Inhibited { addr, place }),
+            Outcome::Nothing => report.push(Entry::Inhibited { addr, place }),
         },
-        Happening::Alien => Entry::Alien { addr },
+        Happening::Alien => report.push(Entry::Alien { addr }),
         Happening::Fall => match outcome {
-            Outcome::Done => Entry::Fell { addr },
-            Outcome::Accepted(_) => Entry::NoFall { addr },
-            Outcome::Nothing => Entry::NoFall { addr },
+            Outcome::Done => report.push(Entry::Fell { addr }),
+            Outcome::Accepted(_) => report.push(Entry::NoFall { addr }),
+            Outcome::Nothing => report.push(Entry::NoFall { addr }),
         },
         Happening::Jam => match outcome {
-            Outcome::Done => Entry::Jammed { addr },
-            Outcome::Accepted(_) => Entry::NoJam { addr },
-            Outcome::Nothing => Entry::NoJam { addr },
+            Outcome::Done => report.push(Entry::Jammed { addr }),
+            Outcome::Accepted(_) => report.push(Entry::NoJam { addr }),
+            Outcome::Nothing => report.push(Entry::NoJam { addr }),
         },
-        Happening::Reset => Entry::Reset { addr },
+        Happening::Reset => report.push(Entry::Reset { addr }),
     }
 }

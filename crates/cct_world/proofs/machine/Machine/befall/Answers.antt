@@ -1,5 +1,5 @@
-use Rattle.std.proofs.Common.{◌∙◌, [], ◌∷◌, ap, subst}
-use Rattle.cct_world.proofs.Steps.{HappeningGoes, entries_are, happening_goes, one_entry, told_plain}
+use Rattle.std.proofs.Common.{subst}
+use Rattle.cct_world.proofs.Steps.{HappeningGoes, entries_are, happening_goes, told_plain}
 use Rattle.cct_bus.specs.Bus as wires
 use Rattle.cct_host.specs.Host as hosts
 use Rattle.cct_world.specs.Machine.{capacity_in}
@@ -9,10 +9,9 @@ pub returns-clause-plays : goal.returns-clause-plays
 returns-clause-plays g c past stands suits survives =
     let machine = c.args.self.now in
     let bus = c.befall-outcome.new.self in
-    let report = c.push.new.self.items in
-    let said = one_entry _ _ _ c.requires.report c.push.ensures.items ∙ ap (λ e. e ∷ []) c.entry_told.ensures in
+    let report = c.tell.new.report.items in
     let goes = happening_goes (wires.setup_of machine.bus) c.args.addr c.args.what machine.host bus past report
-    c.befall-outcome.result (c.befall-outcome.ensures.stands past stands.bus) said stands.host in
+    c.befall-outcome.result (c.befall-outcome.ensures.stands past stands.bus) c.tell.ensures stands.host in
     let here =
     subst (λ s. HappeningGoes s c.args.what c.args.addr machine.host bus past report) machine.same goes in (
       entries_are (capacity_in machine) (hosts.setup_of machine.host) past c.args.addr c.args.what _ here.0,
@@ -21,12 +20,12 @@ returns-clause-plays g c past stands suits survives =
 
 pub returns-clause-told : goal.returns-clause-told
 returns-clause-told g c =
-    (told_plain _ _ _ _ _ _ c.requires.report c.push.ensures.items c.entry_told.ensures).0
+    (told_plain _ _ _ _ c.tell.ensures).0
 
 pub returns-clause-recorded : goal.returns-clause-recorded
 returns-clause-recorded g c =
-    (told_plain _ _ _ _ _ _ c.requires.report c.push.ensures.items c.entry_told.ensures).1
+    (told_plain _ _ _ _ c.tell.ensures).1
 
 pub returns-clause-unkept : goal.returns-clause-unkept
 returns-clause-unkept g c =
-    (told_plain _ _ _ _ _ _ c.requires.report c.push.ensures.items c.entry_told.ensures).2
+    (told_plain _ _ _ _ c.tell.ensures).2
