@@ -12,7 +12,7 @@ use Rattle.cct_model.specs.Legal.{Legal}
 use Rattle.cct_model.specs.lines.entry.Entry.TheVariants as entry
 use Rattle.cct_model.specs.Script.{script, Refusal}
 use Rattle.cct_model.specs.Transcript.{onto}
-use Rattle.cct_laws.proofs.Scripts.{played_in_order, played_covers, played_fresh, played_paid}
+use Rattle.cct_laws.proofs.text.Scripts.{played_in_order, played_covers, played_fresh, played_paid}
 use Rattle.cct_journal.specs.Image.{IsBlank, IsFirstByteFrom}
 use Rattle.cct_bench.specs.declared.outcome.Status.{Status}
 use Rattle.cct_bench.specs.declared.outcome.Status.TheVariants as status

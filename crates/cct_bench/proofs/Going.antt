@@ -17,7 +17,7 @@ use Rattle.cct_model.specs.Script.{Script, script, closed_script, unfinished}
 use Rattle.cct_model.specs.Setup.{IsSoundSetup}
 use Rattle.cct_model.specs.Transcript.{onto}
 use Rattle.cct_laws.proofs.Onto.{legal_more, transcript_on}
-use Rattle.cct_laws.proofs.Scripts.{setup_sound, front_of_today}
+use Rattle.cct_laws.proofs.text.Scripts.{setup_sound, front_of_today}
 use Rattle.cct_script.specs.Giving.{Standing}
 use Rattle.cct_world.specs.Early.{LegalBeforeLoss}
 use Rattle.cct_world.specs.Machine.{StepSuits}

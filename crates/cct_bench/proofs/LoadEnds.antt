@@ -11,8 +11,8 @@ use Rattle.cct_model.specs.lines.entry.Entry.{Entry}
 use Rattle.cct_model.specs.Legal.{Legal}
 use Rattle.cct_model.specs.Script.{IsInRange}
 use Rattle.cct_model.specs.Transcript.{onto}
-use Rattle.cct_laws.proofs.Coinless.{each_covers, each_in_order}
-use Rattle.cct_laws.proofs.Payments.{legal_fresh, legal_paid}
+use Rattle.cct_laws.proofs.acceptor.Coinless.{each_covers, each_in_order}
+use Rattle.cct_laws.proofs.orders.Payments.{legal_fresh, legal_paid}
 use Rattle.cct_journal.specs.Image.{IsBlank, capacity_of}
 use Rattle.cct_journal.specs.Stands.{GoesOn, Outlasts}
 use Rattle.cct_disk.specs.declared.disk.Disk.{Ghosts}

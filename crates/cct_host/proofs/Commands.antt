@@ -34,7 +34,7 @@ use Rattle.cct_jobs.specs.Scans.{StandsScan}
 use Rattle.cct_host.specs.Desk.{Keeps, Works}
 use Rattle.cct_host.specs.Place.{Place, device, sales, scans}
 use Rattle.cct_host.specs.Running.{busy_by, halting_refusal, halts_in, is_halt, is_running, refusal_beside, sale_refusal, seen_at}
-use Rattle.cct_laws.proofs.Tests.{Pass, all_pass, test_holds}
+use Rattle.cct_laws.proofs.jobs.Tests.{Pass, all_pass, test_holds}
 use Rattle.cct_jobs.proofs.Halts.{halts_known}
 use Rattle.cct_jobs.proofs.Needs.{end_known}
 use Rattle.cct_host.proofs.Keeps.{GoesByHalt, halt_keeps, keeps_quiet, taken_keeps}

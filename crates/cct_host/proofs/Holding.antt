@@ -33,7 +33,7 @@ use Rattle.cct_host.specs.declared.dues.Dues.{Dues}
 use Rattle.cct_host.specs.Exchange.{HoldsLess}
 use Rattle.cct_host.specs.Held.{coins_by, due_by, held_by, order_left, price_by, put_in, puts_left, sells_only}
 use Rattle.cct_host.specs.Running.{Settles, busy_by, halting_refusal, is_halt, needed, refusal_beside, rows_begun, sale_refusal, seen_at}
-use Rattle.cct_laws.proofs.Tests.{Pass, all_pass}
+use Rattle.cct_laws.proofs.jobs.Tests.{Pass, all_pass}
 use Rattle.cct_host.proofs.Commands.{owed_where_free}
 
 -- what a job that went on or is gone may put

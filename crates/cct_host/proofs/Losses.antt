@@ -19,8 +19,8 @@ use Rattle.cct_journal.specs.Image.{Keeps}
 use Rattle.cct_journal.specs.Journal as journals
 use Rattle.cct_journal.specs.Losing.{LeavesWith, LeftBy}
 use Rattle.cct_laws.specs.Restart.{CrashSuits, calls_in, due_in}
-use Rattle.cct_laws.proofs.Recalling.{follow_at}
-use Rattle.cct_laws.proofs.Restarts.{crash_bare, crash_frees, crash_keeps}
+use Rattle.cct_laws.proofs.money.Recalling.{follow_at}
+use Rattle.cct_laws.proofs.money.Restarts.{crash_bare, crash_frees, crash_keeps}
 use Rattle.cct_laws.proofs.Setups.{same_some}
 use Rattle.cct_host.specs.declared.host.Host.{Host}
 use Rattle.cct_host.specs.declared.refusal.CrashNo.{CrashNo}

@@ -18,7 +18,7 @@ use Rattle.cct_disk.specs.Disk.{IsTrusted}
 use Rattle.cct_journal.specs.Journal as journals
 use Rattle.cct_ledger.specs.Ledger as ledgers
 use Rattle.cct_laws.specs.Recorded.{HasNoJob}
-use Rattle.cct_laws.proofs.Recorded.{epoch_recorded, order_recorded}
+use Rattle.cct_laws.proofs.money.Recorded.{epoch_recorded, order_recorded}
 use Rattle.cct_host.specs.declared.desk.JobDesk.{JobDesk}
 use Rattle.cct_host.specs.declared.desks.Desks.{Desks}
 use Rattle.cct_host.specs.declared.dues.Dues.{Dues}

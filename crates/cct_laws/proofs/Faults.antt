@@ -25,13 +25,13 @@ use Rattle.cct_laws.specs.Faults.{IsFaultSet, FailsByFault, is_dispense, FailsBy
 use Rattle.cct_laws.specs.Ids.{Ids}
 use Rattle.cct_laws.specs.Kept.{WorksAt}
 use Rattle.cct_laws.specs.Law.{IsOf, EachEntry, IsAnswered}
-use Rattle.cct_laws.proofs.Asked.{asked_at, undisturbed_at, undisturbed_accepting}
-use Rattle.cct_laws.proofs.Brought.{AtDevice, came, took, halted, idled, made_exchange, made_put, row_after, wire_of, wire_end, record_end, poll_wire, poll_end, Brought, of_device, faulted, refused, began_scan, began_sale, nobody, polled, sold, balanced, lost_power, lost_in_put, lost_in_sale, brought}
+use Rattle.cct_laws.proofs.jobs.Asked.{asked_at, undisturbed_at, undisturbed_accepting}
+use Rattle.cct_laws.proofs.jobs.Brought.{AtDevice, came, took, halted, idled, made_exchange, made_put, row_after, wire_of, wire_end, record_end, poll_wire, poll_end, Brought, of_device, faulted, refused, began_scan, began_sale, nobody, polled, sold, balanced, lost_power, lost_in_put, lost_in_sale, brought}
 use Rattle.cct_model.proofs.Doses.{AreDoses}
 use Rattle.cct_laws.proofs.Exchanges.{heard_under, heard_is}
 use Rattle.cct_laws.proofs.Echoes.{echo_off}
 use Rattle.cct_laws.proofs.Keeping.{IsRanged, ranged_step, works_at}
-use Rattle.cct_laws.proofs.Seen.{each_aside, each_with_end, loose, Lost, bare, kept_here, kept_elsewhere, seen_here, seen_aside, seen_lost, seen_from, along}
+use Rattle.cct_laws.proofs.jobs.Seen.{each_aside, each_with_end, loose, Lost, bare, kept_here, kept_elsewhere, seen_here, seen_aside, seen_lost, seen_from, along}
 
 none_some : {A : Type 0} {x : A} → None ≡ Some x → ⊥
 none_some e = cc

@@ -25,11 +25,11 @@ use Rattle.cct_laws.specs.Kept.{WorksAt, suits, with_ended}
 use Rattle.cct_laws.specs.KeptBoth.{IsKeptBoth}
 use Rattle.cct_laws.specs.Law.{IsOf}
 use Rattle.cct_laws.specs.Since.{since_record, since_epoch}
-use Rattle.cct_laws.proofs.Asked.{asked_at, fate_at}
-use Rattle.cct_laws.proofs.Brought.{Comes, takes_coin, leaves_coin, leaves_alien, drops_coin, drops_none, jams, jams_none, is_reset, AtDevice, came, took, halted, idled, made_exchange, made_put, AtWork, Brought, wire_of, wire_end, record_end, begun_at_work}
+use Rattle.cct_laws.proofs.jobs.Asked.{asked_at, fate_at}
+use Rattle.cct_laws.proofs.jobs.Brought.{Comes, takes_coin, leaves_coin, leaves_alien, drops_coin, drops_none, jams, jams_none, is_reset, AtDevice, came, took, halted, idled, made_exchange, made_put, AtWork, Brought, wire_of, wire_end, record_end, begun_at_work}
 use Rattle.cct_model.proofs.Doses.{job_undosed}
-use Rattle.cct_laws.proofs.Ids.{put_owned}
-use Rattle.cct_laws.proofs.Seen.{AreForOthers, Passes, ArePassed, IsLoose, loose, loose_line, loose_met, Lost, bare, kept_here, kept_elsewhere, seen_here, seen_aside, seen_lost, seen_from, since_elsewhere, passed_job, lines_wire, lines_ended, lines_put, lines_taken, lines_kept, lines_kept_elsewhere}
+use Rattle.cct_laws.proofs.orders.Ids.{put_owned}
+use Rattle.cct_laws.proofs.jobs.Seen.{AreForOthers, Passes, ArePassed, IsLoose, loose, loose_line, loose_met, Lost, bare, kept_here, kept_elsewhere, seen_here, seen_aside, seen_lost, seen_from, since_elsewhere, passed_job, lines_wire, lines_ended, lines_put, lines_taken, lines_kept, lines_kept_elsewhere}
 
 -- the command of a job is in its range, and for the kind of its device
 abbrev pub IsRanged : DeviceSetup → Job → Type 0

@@ -2,20 +2,20 @@
 //! at every step and after each disk call of a put, over the definitions of `cct_model`: each is a clause of a function
 //! without parameters, whose body is empty.
 //!
-//! Each goes by cases on what one step brought (`Brought` of `proofs/Brought.antt`, to which `brought` leads from the
-//! definition of legal), or on how that is seen from one device (`seen_from` of `proofs/Seen.antt`); `along` there
-//! carries a fact over all steps.
+//! Each goes by cases on what one step brought (`Brought` of `proofs/jobs/Brought.antt`, to which `brought` leads from
+//! the definition of legal), or on how that is seen from one device (`seen_from` of `proofs/jobs/Seen.antt`); `along`
+//! there carries a fact over all steps.
 //!
 //! A crate above cites the lemmas behind them, each of which is named in its function's `Answers.antt`; and beside them
 //! `kept_legal`, `kept_since_legal` and `kept_hopper_legal` of `proofs/Whole.antt`, by which any fact of a device holds
-//! that each thing that can come keeps; `along` of `proofs/Seen.antt`, by which one of all entries does; `setup_sound`,
-//! `steps_of_today` and `front_of_today` of `proofs/Scripts.antt`, and there `played_in_order`, `played_covers`,
-//! `played_paid` and `played_fresh`, which say four laws of the front of a script; and `legal_written` of
-//! `proofs/Texts.antt`. For a host that starts again over its records there are `proofs/Recalling.antt`, which says
-//! what each record more tells, and `proofs/Restarts.antt`, which says what entries a loss of power leaves.
-//! `books_legal` of `proofs/Books.antt` says of every legal past that ids are in order and the books are kept; and
-//! `kept_due_allowed` of `proofs/Journal.antt` and `kept_crash_suits` of `proofs/Restarts.antt`, that a ledger then takes
-//! what a job is about to put, and that a loss of power is survived.
+//! that each thing that can come keeps; `along` of `proofs/jobs/Seen.antt`, by which one of all entries does;
+//! `setup_sound`, `steps_of_today` and `front_of_today` of `proofs/text/Scripts.antt`, and there `played_in_order`,
+//! `played_covers`, `played_paid` and `played_fresh`, which say four laws of the front of a script; and `legal_written`
+//! of `proofs/text/Texts.antt`. For a host that starts again over its records there are `proofs/money/Recalling.antt`,
+//! which says what each record more tells, and `proofs/money/Restarts.antt`, which says what entries a loss of power
+//! leaves. `books_legal` of `proofs/money/Books.antt` says of every legal past that ids are in order and the books are
+//! kept; and `kept_due_allowed` of `proofs/money/Journal.antt` and `kept_crash_suits` of `proofs/money/Restarts.antt`,
+//! that a ledger then takes what a job is about to put, and that a loss of power is survived.
 #![tactic(auto)]
 
 ghost use Rattle.std.specs.Prelude.{ℕ, ◌≡◌, ◌<◌, ◌≤◌, ◌⊎◌, false, List, [], ◌++◌, None, true, Option, Some, ◌≢◌, ◌+◌, ◌-◌, length};

@@ -9,9 +9,9 @@ use Rattle.cct_model.specs.Script.{IsInRange}
 use Rattle.cct_model.specs.Setup.{IsSoundSetup}
 use Rattle.cct_model.specs.Transcript.{onto}
 use Rattle.cct_laws.specs.Ids.{Ids}
-use Rattle.cct_laws.proofs.Books.{Books, books_legal}
-use Rattle.cct_laws.proofs.Journal.{kept_due_allowed}
-use Rattle.cct_laws.proofs.Restarts.{kept_crash_suits}
+use Rattle.cct_laws.proofs.money.Books.{Books, books_legal}
+use Rattle.cct_laws.proofs.money.Journal.{kept_due_allowed}
+use Rattle.cct_laws.proofs.money.Restarts.{kept_crash_suits}
 use Rattle.cct_host.proofs.Owned.{AreOwned}
 use Rattle.cct_world.specs.Machine.{StepSuits}
 use Rattle.cct_world.proofs.Suited.{step_suits}

@@ -1,4 +1,4 @@
-use Rattle.cct_laws.proofs.GivenUp.{legal_ends, legal_scan_ends}
+use Rattle.cct_laws.proofs.jobs.GivenUp.{legal_ends, legal_scan_ends}
 use Rattle.cct_laws.proofs.a_job_given_up_had_three_faults.Goals as goal
 
 pub returns : goal.returns

@@ -1,4 +1,4 @@
-use Rattle.cct_laws.proofs.Ending.{job_ends}
+use Rattle.cct_laws.proofs.jobs.Ending.{job_ends}
 use Rattle.cct_laws.proofs.a_job_without_a_fault_ends.Goals as goal
 
 pub returns : goal.returns

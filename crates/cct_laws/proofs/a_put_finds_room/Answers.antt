@@ -1,4 +1,4 @@
-use Rattle.cct_laws.proofs.Journal.{legal_put, legal_room, legal_settle}
+use Rattle.cct_laws.proofs.money.Journal.{legal_put, legal_room, legal_settle}
 use Rattle.cct_laws.proofs.a_put_finds_room.Goals as goal
 
 pub returns : goal.returns

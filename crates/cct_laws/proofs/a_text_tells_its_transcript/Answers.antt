@@ -1,5 +1,5 @@
-use Rattle.cct_laws.proofs.Scripts.{played_texts}
-use Rattle.cct_laws.proofs.Texts.{legal_text}
+use Rattle.cct_laws.proofs.text.Scripts.{played_texts}
+use Rattle.cct_laws.proofs.text.Texts.{legal_text}
 use Rattle.cct_laws.proofs.a_text_tells_its_transcript.Goals as goal
 
 pub returns : goal.returns

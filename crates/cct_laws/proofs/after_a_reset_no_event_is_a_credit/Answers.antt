@@ -1,4 +1,4 @@
-use Rattle.cct_laws.proofs.Safety.{legal_silent, legal_unread}
+use Rattle.cct_laws.proofs.acceptor.Safety.{legal_silent, legal_unread}
 use Rattle.cct_laws.proofs.after_a_reset_no_event_is_a_credit.Goals as goal
 
 pub returns : goal.returns

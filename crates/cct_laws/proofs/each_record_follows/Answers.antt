@@ -1,6 +1,6 @@
 use Rattle.std.specs.Prelude.{[]}
 use Rattle.cct_model.specs.Transcript.{onto}
-use Rattle.cct_laws.proofs.Journal.{legal_follow, legal_due_follows}
+use Rattle.cct_laws.proofs.money.Journal.{legal_follow, legal_due_follows}
 use Rattle.cct_laws.proofs.each_record_follows.Goals as goal
 
 pub returns : goal.returns

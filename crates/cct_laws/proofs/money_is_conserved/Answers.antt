@@ -1,5 +1,5 @@
-use Rattle.cct_laws.proofs.Balances.{legal_balances}
-use Rattle.cct_laws.proofs.Journal.{legal_conserved, legal_covered}
+use Rattle.cct_laws.proofs.money.Balances.{legal_balances}
+use Rattle.cct_laws.proofs.money.Journal.{legal_conserved, legal_covered}
 use Rattle.cct_laws.proofs.money_is_conserved.Goals as goal
 
 pub returns : goal.returns

@@ -1,4 +1,4 @@
-use Rattle.cct_laws.proofs.Safety.{legal_shut}
+use Rattle.cct_laws.proofs.acceptor.Safety.{legal_shut}
 use Rattle.cct_laws.proofs.no_coin_is_accepted_without_an_epoch.Goals as goal
 
 pub returns : goal.returns

@@ -1,5 +1,5 @@
-use Rattle.cct_laws.proofs.Recorded.{epoch_recorded, held_recorded, last_recorded, order_recorded, restart_frees, totals_recorded}
-use Rattle.cct_laws.proofs.Restarts.{crash_frees}
+use Rattle.cct_laws.proofs.money.Recorded.{epoch_recorded, held_recorded, last_recorded, order_recorded, restart_frees, totals_recorded}
+use Rattle.cct_laws.proofs.money.Restarts.{crash_frees}
 use Rattle.cct_laws.proofs.records_tell_what_a_host_needs.Goals as goal
 
 pub returns : goal.returns

@@ -1,4 +1,4 @@
-use Rattle.cct_laws.proofs.Scripts.{setup_sound, steps_of_today, front_of_today}
+use Rattle.cct_laws.proofs.text.Scripts.{setup_sound, steps_of_today, front_of_today}
 use Rattle.cct_laws.proofs.scripts_are_in_range.Goals as goal
 
 pub returns : goal.returns

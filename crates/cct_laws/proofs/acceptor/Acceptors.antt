@@ -1,0 +1,329 @@
+-- What holds of an acceptor is kept by all that can come over an honest wire.
+use Rattle.std.proofs.Common.{◌≡◌, true, List, [], ◌∷◌, refl, ap, sym, subst, Option, Some, None, le_refl, arith, rules}
+use Rattle.cct_model.specs.terms.device.DeviceSetup.{DeviceSetup}
+use Rattle.cct_model.specs.terms.request.Request.{Request}
+use Rattle.cct_model.specs.terms.request.Request.TheVariants.{SimplePoll, AddressPoll, ResetDevice, ReadCredits, SetMaster, GetMask, SetMask}
+use Rattle.cct_model.specs.terms.coin.Credits.{Credits}
+use Rattle.cct_model.specs.lines.record.Record.{Record}
+use Rattle.cct_model.specs.lines.record.Record.TheVariants as record_of
+use Rattle.cct_model.specs.declared.judging.Judged.{Judged}
+use Rattle.cct_model.specs.lines.command.Command.{Command}
+use Rattle.cct_model.specs.lines.command.Command.TheVariants as command
+use Rattle.cct_model.specs.lines.entry.End.{End}
+use Rattle.cct_model.specs.lines.entry.End.TheVariants.{Clean}
+use Rattle.cct_model.specs.Reply.{Reply}
+use Rattle.cct_model.specs.Script.{IsCommand}
+use Rattle.cct_model.specs.History.{Met, heard}
+use Rattle.cct_model.specs.Device.{IsAcceptor}
+use Rattle.cct_model.specs.Line.{Line, exchange, put, crashed}
+use Rattle.cct_model.specs.Order.{order}
+use Rattle.cct_model.specs.Job.{works, job, sends, puts, ident_requests, Payment, payment_in, epoch, credits_read, judged_in, address_of}
+use Rattle.cct_model.specs.Rows.{Then, ends_as, if_quiet, if_posted, new_epoch, reading, epoch_end, TableRow, asks_for, asks_once, waits_for_coins, puts_due, row, rows_of, rest, from, first, done, sent_once, end_of, end_kept, end_by_record}
+use Rattle.cct_model.proofs.Rows.{EachRow, EachBefore, before_on, fact_after, Behind, behind_answer, behind_record, PutEnds, each_told, put_end}
+use Rattle.cct_laws.specs.Kept.{Fate, unheard, silenced, answered, IsForOthers, is_for_acceptor, with_ended}
+use Rattle.cct_laws.proofs.EitherKind.{for_acceptor}
+use Rattle.cct_laws.specs.Since.{IsKept}
+use Rattle.cct_model.specs.Claims.{mark, base, InOrder, Covers, Pace}
+use Rattle.cct_laws.proofs.acceptor.World.{World, world, closed, on_nothing}
+use Rattle.cct_laws.proofs.acceptor.Fits.{Book, book, StateOf, FitsAt, Fits, at_on}
+use Rattle.cct_laws.proofs.acceptor.Moves.{Sound, sound_line, sound_exchange, keeps_ended, Keeps, KeepsAsk, AtRows, IfOther, IsMild, IsNeutral, keeps_accepted, keeps_inhibited, keeps_alien, keeps_reset, keeps_taken, keeps_with_ended, answered_at, next_at, on_heard, fits_at, by_fate, request_is, entry_is, IsOtherEnd}
+use Rattle.cct_laws.proofs.acceptor.Starts.{resets, reads_quiet, unsure, opens, begins}
+use Rattle.cct_laws.proofs.acceptor.Rounds.{reads, looks}
+use Rattle.cct_laws.proofs.acceptor.Stops.{shuts, over_put, judged_put}
+use Rattle.cct_laws.proofs.acceptor.Leads.{Leads, leads}
+use Rattle.cct_model.specs.declared.judging.EpochState.{EpochState}
+use Rattle.cct_model.proofs.Tries.{left_asks, due_sends}
+use Rattle.cct_model.proofs.RowEnds.{rest_asks}
+
+-- the rows of a job at an acceptor, and what each leads to
+pub left_leads : (d : DeviceSetup) (c : Command) (since : List Line) → is_for_acceptor c ≡ true → IsCommand c →
+    EachBefore Leads (rest d c since)
+left_leads d c since suited in_range =
+    fact_after (EachBefore Leads) (before_on Leads) (rows_of d c) (done (rows_of d c) since) (leads d c suited in_range)
+
+-- a request that changes nothing
+neutral_mild : (q : Request) → IsNeutral q → IsMild q
+neutral_mild (SetMask mask) neutral = absurd neutral
+neutral_mild (SetMaster value) neutral = absurd neutral
+neutral_mild q neutral = tt
+
+neutral_told : (w : World) (lines : List Line) (c : Command) (since : List Line) (rows : List TableRow) (q : Request)
+    (y : Reply) → IsNeutral q → FitsAt w (book lines) rows (credits_read since) (judged_in c since (epoch lines)) →
+    FitsAt w (book (exchange (Some q) (Some y) ∷ lines)) rows (credits_read (exchange (Some q) (Some y) ∷ since))
+    (judged_in c (exchange (Some q) (Some y) ∷ since) (epoch lines))
+neutral_told w lines c since rows ReadCredits y neutral fits = absurd neutral
+neutral_told w lines c since rows GetMask y neutral fits = absurd neutral
+neutral_told w lines c since rows q y neutral fits = fits
+
+neutral_passes : (w : World) (b : Book) (q : Request) (behind : Then) (rows : List TableRow) (credits : Option Credits)
+    (judged : Judged) → IsNeutral q → FitsAt w b (asks_for q behind ∷ rows) credits judged →
+    FitsAt w b rows credits judged
+neutral_passes w b ResetDevice behind rows credits judged neutral fits = absurd neutral
+neutral_passes w b ReadCredits behind rows credits judged neutral fits = absurd neutral
+neutral_passes w b GetMask behind rows credits judged neutral fits = absurd neutral
+neutral_passes w b (SetMaster value) behind rows credits judged neutral fits = absurd neutral
+neutral_passes w b q behind rows credits judged neutral fits = fits
+
+asks_neutral : (d : DeviceSetup) (past : List Met) (lines : List Line) (c : Command) (since : List Line) (q : Request)
+    (behind : Then) (rows : List TableRow) (asked : Option Request) (got : Option Reply) →
+    AtRows d past lines c since (asks_for q behind ∷ rows) → IsNeutral q → Behind IsOtherEnd behind →
+    FitsAt (world past lines) (book lines) (asks_for q behind ∷ rows) (credits_read since)
+    (judged_in c since (epoch lines)) →
+    Fate d past q asked got → KeepsAsk d past lines c since q asked got
+asks_neutral d past lines c since q behind rows asked got at neutral other fits fate =
+    let mild = neutral_mild q neutral in
+    by_fate d past lines c since q asked got (ap sent_once at.rest_is) mild at.is_job at.keeps (λ y gives.
+    let now = heard (Some q) ∷ past in
+    let line = exchange (Some q) (Some y) in
+    let on = on_heard past lines q mild in
+    let later =
+    neutral_passes (world past lines) (book lines) q behind rows (credits_read since) (judged_in c since (epoch lines))
+    neutral fits in
+    answered_at d past lines c since (asks_for q behind ∷ rows) q y at
+    (keeps_with_ended d now (line ∷ lines) _ (behind_answer IsOtherEnd behind y _ other)
+    (next_at d past lines c since (asks_for q behind) rows q y at refl on
+    (neutral_told (world now lines) lines c since rows q y neutral
+    (at_on (world past lines) (world now lines) (book lines) rows (credits_read since) (judged_in c since (epoch lines))
+    on later))))) fate
+
+-- or that is sent once
+neutral_once : (d : DeviceSetup) (past : List Met) (lines : List Line) (c : Command) (since : List Line) (q : Request)
+    (end other : End) (rows : List TableRow) (asked : Option Request) (got : Option Reply) →
+    AtRows d past lines c since (asks_once q (ends_as end) (ends_as other) ∷ rows) → IsNeutral q → IsOtherEnd end →
+    IsOtherEnd other → Fate d past q asked got → KeepsAsk d past lines c since q asked got
+neutral_once d past lines c since q end other rows asked got at neutral is_end is_other unheard =
+    let now = heard None ∷ past in
+    unsure d past now lines c since q end other rows at
+    (keeps_ended d now (exchange (Some q) None ∷ lines) other is_other
+    (sound_exchange past now lines (Some q) None (on_nothing (world past lines)) at.keeps.sound))
+neutral_once d past lines c since q end other rows asked got at neutral is_end is_other silenced =
+    let now = heard (Some q) ∷ past in
+    unsure d past now lines c since q end other rows at
+    (keeps_ended d now (exchange (Some q) None ∷ lines) other is_other
+    (sound_exchange past now lines (Some q) None (on_heard past lines q (neutral_mild q neutral)) at.keeps.sound))
+neutral_once d past lines c since q end other rows asked got at neutral is_end is_other (answered y gives) =
+    let now = heard (Some q) ∷ past in
+    let line = exchange (Some q) (Some y) in
+    answered_at d past lines c since (asks_once q (ends_as end) (ends_as other) ∷ rows) q y at
+    (keeps_ended d now (line ∷ lines) end is_end
+    (sound_exchange past now lines (Some q) (Some y) (on_heard past lines q (neutral_mild q neutral)) at.keeps.sound))
+
+-- a job at the acceptor asks something: what the first of its rows asks
+
+as_asked : (d : DeviceSetup) (past : List Met) (lines : List Line) (c : Command) (since : List Line) (x q : Request)
+    (asked : Option Request) (got : Option Reply) → sends x ≡ sends q →
+    (Fate d past x asked got → KeepsAsk d past lines c since x asked got) → Fate d past q asked got →
+    KeepsAsk d past lines c since q asked got
+as_asked d past lines c since x q asked got row keeps =
+    subst (λ r. Fate d past r asked got → KeepsAsk d past lines c since r asked got) (request_is x q row) keeps
+
+asks_at : (d : DeviceSetup) (past : List Met) (lines : List Line) (c : Command) (since : List Line)
+    (rows : List TableRow) (p : Payment) (q : Request) (asked : Option Request) (got : Option Reply) →
+    IsAcceptor d.body → EachBefore Leads rows → AtRows d past lines c since rows →
+    FitsAt (world past lines) (book lines) rows (credits_read since) (judged_in c since (epoch lines)) →
+    first (address_of c) (judged_in c since (epoch lines)) p rows ≡ sends q → Fate d past q asked got →
+    KeepsAsk d past lines c since q asked got
+asks_at d past lines c since [] p q asked got accepting each at fits row = absurd cc
+asks_at d past lines c since (asks_for ResetDevice behind ∷ rows) p q asked got accepting each at fits row =
+    as_asked d past lines c since ResetDevice q asked got row
+    (resets d past lines c since behind rows asked got at each.0.0 each.0.1 fits)
+asks_at d past lines c since (asks_for ReadCredits if_quiet ∷ rows) p q asked got accepting each at fits row =
+    as_asked d past lines c since ReadCredits q asked got row
+    (reads_quiet d past lines c since rows asked got accepting at each.0 fits.0 fits.1)
+asks_at d past lines c since (asks_for ReadCredits behind ∷ rows) p q asked got accepting each at fits row =
+    as_asked d past lines c since ReadCredits q asked got row
+    (reads d past lines c since behind rows asked got accepting at each.0.0 each.0.1 fits.0 fits.1)
+asks_at d past lines c since (asks_for (SetMaster value) behind ∷ rows) p q asked got accepting each at fits row =
+    as_asked d past lines c since (SetMaster value) q asked got row
+    (shuts d past lines c since value behind rows asked got each.0.0 at each.0.1 each.0.2 fits)
+asks_at d past lines c since (asks_for GetMask behind ∷ rows) p q asked got accepting each at fits row =
+    as_asked d past lines c since GetMask q asked got row
+    (looks d past lines c since behind rows asked got accepting at each.0.0 each.0.1 fits.0 fits.1)
+asks_at d past lines c since (asks_for x behind ∷ rows) p q asked got accepting each at fits row =
+    as_asked d past lines c since x q asked got row
+    (asks_neutral d past lines c since x behind rows asked got at each.0.0 each.0.1 fits)
+asks_at d past lines c since (asks_once (SetMask mask) (ends_as end) (ends_as other) ∷ rows) p q asked got accepting each
+    at fits row =
+    as_asked d past lines c since (SetMask mask) q asked got row
+    (opens d past lines c since mask end other rows asked got each.0.0 at each.0.1 each.0.2 fits)
+asks_at d past lines c since (asks_once x (ends_as end) (ends_as other) ∷ rows) p q asked got accepting each at fits
+    row =
+    as_asked d past lines c since x q asked got row
+    (neutral_once d past lines c since x end other rows asked got at each.0.0 each.0.1 each.0.2)
+asks_at d past lines c since (asks_once x behind without ∷ rows) p q asked got accepting each at fits row =
+    absurd each.0
+asks_at d past lines c since (waits_for_coins ∷ rows) p q asked got accepting each at fits row = absurd each.0
+asks_at d past lines c since (puts_due due behind ∷ rows) p q asked got accepting each at fits row =
+    absurd (due_sends (address_of c) (judged_in c since (epoch lines)) p due q row)
+
+keeps_asks : (d : DeviceSetup) (past : List Met) (lines : List Line) (c : Command) (since : List Line) (q : Request)
+    (asked : Option Request) (got : Option Reply) → IsAcceptor d.body → is_for_acceptor c ≡ true → IsCommand c →
+    job lines ≡ works c since → row d c since (epoch lines) (order lines) ≡ sends q → Fate d past q asked got →
+    Keeps d past lines → KeepsAsk d past lines c since q asked got
+keeps_asks d past lines c since q asked got accepting suited in_range is_job row_is fate keeps =
+    asks_at d past lines c since (rest d c since) (payment_in since (order lines)) q asked got accepting
+    (left_leads d c since suited in_range)
+    (record {
+      is_job = is_job;
+      rest_is = refl;
+      left_is = left_asks d c since (epoch lines) (order lines) q row_is;
+      keeps = keeps;
+    })
+    (fits_at d past lines c since is_job keeps) (rest_asks d c since (epoch lines) (order lines) q row_is) fate
+
+-- it puts a record: what the first of its rows puts
+puts_at : (d : DeviceSetup) (past : List Met) (lines : List Line) (c : Command) (since : List Line)
+    (rows : List TableRow) (p : Payment) (r : Record) → job lines ≡ works c since → rest d c since ≡ rows →
+    EachBefore Leads rows →
+    FitsAt (world past lines) (book lines) rows (credits_read since) (judged_in c since (epoch lines)) →
+    first (address_of c) (judged_in c since (epoch lines)) p (from rows (judged_in c since (epoch lines))) ≡ puts r →
+    Keeps d past lines → Keeps d past (with_ended (end_kept rows r) (put r ∷ lines))
+puts_at d past lines c since [] p r is_job rest_is each fits row keeps = absurd cc
+puts_at d past lines c since (asks_for q behind ∷ rows) p r is_job rest_is each fits row keeps = absurd cc
+puts_at d past lines c since (asks_once q behind without ∷ rows) p r is_job rest_is each fits row keeps = absurd cc
+puts_at d past lines c since (waits_for_coins ∷ rows) p r is_job rest_is each fits row keeps = absurd each.0
+puts_at d past lines c since (puts_due (new_epoch mask) behind ∷ rows) p r is_job rest_is each fits row keeps =
+    subst (λ e. Keeps d past (with_ended (end_by_record behind e) (put e ∷ lines)))
+    (entry_is (record_of.Epoch (address_of c) mask) r row)
+    (keeps_with_ended d past _ _ (behind_record IsOtherEnd behind (record_of.Epoch (address_of c) mask) each.0.1)
+    (begins d past lines c since (puts_due (new_epoch mask) behind) rows (address_of c) mask each.0.0 is_job rest_is
+    each.0.2 fits.0 fits.1 fits.2 keeps))
+puts_at d past lines c since (puts_due reading (if_posted of_reading) ∷ rows) p r is_job rest_is each fits row keeps =
+    judged_put d past lines c since of_reading rows (address_of c) (judged_in c since (epoch lines)) p r is_job rest_is
+    each.0.0 each.0.1 fits.0 fits.1 row keeps
+puts_at d past lines c since (puts_due epoch_end (ends_as end) ∷ rows) p r is_job rest_is each fits row keeps =
+    over_put d past lines (address_of c) (puts_due epoch_end (ends_as end) ∷ rows) end r refl each.0 row fits.shut
+    (λ near. omega (arith, fits.marked)) keeps.sound
+puts_at d past lines c since (puts_due due behind ∷ rows) p r is_job rest_is each fits row keeps = absurd each.0
+
+keeps_puts : (d : DeviceSetup) (past : List Met) (lines : List Line) (c : Command) (since : List Line) (r : Record) →
+    is_for_acceptor c ≡ true → IsCommand c →
+    job lines ≡ works c since → row d c since (epoch lines) (order lines) ≡ puts r → Keeps d past lines →
+    Keeps d past (with_ended (end_of d c (put r) since (epoch lines)) (put r ∷ lines))
+keeps_puts d past lines c since r suited in_range is_job row_is keeps =
+    puts_at d past lines c since (rest d c since) (payment_in since (order lines)) r is_job refl
+    (left_leads d c since suited in_range) (fits_at d past lines c since is_job keeps) row_is keeps
+
+-- the host loses its power
+keeps_crashed : (d : DeviceSetup) (past : List Met) (lines : List Line) → Keeps d past lines → Keeps d past (crashed ∷ lines)
+keeps_crashed d past lines keeps = record {
+  sound = sound_line past past lines crashed tt (λ _. tt) keeps.sound.marked keeps.sound.state keeps.sound;
+  fits = tt;
+}
+
+-- no put ends a job clean
+other_puts : (d : DeviceSetup) (c : Command) → EachRow (PutEnds IsOtherEnd) (rows_of d c)
+other_puts d (command.Ident addr) = each_told (PutEnds IsOtherEnd) (λ q. tt) (λ q. tt) (ident_requests d.body)
+other_puts d c = search rules
+
+pub put_other : (d : DeviceSetup) (c : Command) (r : Record) (since : List Line) (state : EpochState) →
+    IfOther (end_of d c (put r) since state)
+put_other d c r since state = put_end IsOtherEnd d c r since state (other_puts d c)
+
+-- what holds behind another end held before it
+unended : (d : DeviceSetup) (past : List Met) (lines : List Line) (end : Option End) → IfOther end → Keeps d past (with_ended end lines) →
+    Sound past lines
+unended d past lines None other keeps = keeps.sound
+unended d past lines (Some Clean) other keeps = absurd other
+unended d past lines (Some end) other keeps = record {
+  in_order = keeps.sound.in_order.1;
+  covers = λ pace. (keeps.sound.covers (tt, pace)).1;
+  marked = keeps.sound.marked;
+  state = keeps.sound.state;
+}
+
+-- a record behind a loss of power tells what it would have told before it
+sound_kept : (past : List Met) (lines : List Line) (r : Record) → Sound past (put r ∷ lines) →
+    Sound past (put r ∷ crashed ∷ lines)
+sound_kept past lines (record_of.Epoch addr mask) sound = record {
+  in_order = (sound.in_order.0, (tt, sound.in_order.1));
+  covers = λ pace. let before = sound.covers (pace.0, pace.1.1) in (before.0, (tt, before.1));
+  marked = sound.marked;
+  state = sound.state;
+}
+sound_kept past lines (record_of.Reading addr counter lost posted) sound = record {
+  in_order = (sound.in_order.0, (tt, sound.in_order.1));
+  covers = λ pace. let before = sound.covers (pace.0, pace.1.1) in (before.0, (tt, before.1));
+  marked = sound.marked;
+  state = sound.state;
+}
+sound_kept past lines (record_of.Broken addr seen counter posted) sound = record {
+  in_order = (sound.in_order.0, (tt, sound.in_order.1));
+  covers = λ pace. let before = sound.covers (pace.0, pace.1.1) in (before.0, (tt, before.1));
+  marked = sound.marked;
+  state = sound.state;
+}
+sound_kept past lines r sound = record {
+  in_order = (sound.in_order.0, (tt, sound.in_order.1));
+  covers = λ pace. let before = sound.covers (pace.0, pace.1.1) in (before.0, (tt, before.1));
+  marked = sound.marked;
+  state = sound.state;
+}
+
+keeps_kept_record : (d : DeviceSetup) (past : List Met) (lines : List Line) (c : Command) (since : List Line)
+    (r : Record) → Keeps d past (with_ended (end_of d c (put r) since (epoch lines)) (put r ∷ lines)) →
+    Keeps d past (put r ∷ crashed ∷ lines)
+keeps_kept_record d past lines c since r keeps = record {
+  sound = sound_kept past lines r (unended d past (put r ∷ lines) _ (put_other d c r since (epoch lines)) keeps);
+  fits = tt;
+}
+
+-- a piece that changes nothing
+
+keeps_same : (d : DeviceSetup) (past now : List Met) (lines : List Line) → world now lines ≡ world past lines → Keeps d past lines → Keeps d now lines
+keeps_same d past now lines same keeps = record {
+  sound = record {
+    in_order = keeps.sound.in_order;
+    covers = keeps.sound.covers;
+    marked = keeps.sound.marked;
+    state = subst (λ w. StateOf w (mark lines) (base lines) (epoch lines)) (sym same) keeps.sound.state;
+  };
+  fits = subst (λ w. Fits d w (book lines) (job lines)) (sym same) keeps.fits;
+}
+
+keeps_passed : (d : DeviceSetup) (past : List Met) (lines : List Line) (asked : Option Request) → IsForOthers asked → Keeps d past lines → Keeps d (heard asked ∷ past) lines
+keeps_passed d past lines None others keeps = keeps_same d past (heard None ∷ past) lines refl keeps
+keeps_passed d past lines (Some AddressPoll) others keeps = keeps_same d past (heard (Some AddressPoll) ∷ past) lines refl keeps
+keeps_passed d past lines (Some SimplePoll) others keeps = keeps_same d past (heard (Some SimplePoll) ∷ past) lines refl keeps
+keeps_passed d past lines (Some q) others keeps = absurd others
+
+-- before anything came
+keeps_start : (d : DeviceSetup) → Keeps d [] []
+keeps_start d = record {
+  sound = record {
+    in_order = tt;
+    covers = λ _. tt;
+    marked = le_refl 0;
+    state = record { shut = closed (world [] []) refl; marked = refl };
+  };
+  fits = tt;
+}
+
+-- it holds after all that can come
+pub keeps_kept : (d : DeviceSetup) → IsAcceptor d.body → IsKept d (Keeps d)
+keeps_kept d accepting = record {
+  starts = keeps_start d;
+  accepts = λ since past lines place least most is keeps. keeps_accepted d past lines place least is keeps;
+  inhibits = λ since past lines place is keeps. keeps_inhibited d past lines place is keeps;
+  aliens = λ since past lines keeps. keeps_alien d past lines keeps;
+  resets = λ since past lines keeps. keeps_reset d past lines keeps;
+  elsewhere = λ since past lines asked others keeps. keeps_passed d past lines asked others keeps;
+  takes = λ since past lines c no_job here in_range suited fine keeps. keeps_taken d past lines c suited fine keeps;
+  asks = λ since past lines c work q asked got at row_is fate keeps.
+      keeps_asks d past lines c work q asked got accepting (for_acceptor d.body c accepting at.suited) at.in_range at.job_is
+      row_is fate keeps;
+  crashes = λ since past lines keeps. keeps_crashed d past lines keeps;
+  keeps = λ since past lines c work r at row_is keeps.
+      keeps_kept_record d past lines c work r
+      (keeps_puts d past lines c work r (for_acceptor d.body c accepting at.suited) at.in_range at.job_is row_is keeps);
+  puts = λ since past lines c work r at row_is keeps.
+      keeps_puts d past lines c work r (for_acceptor d.body c accepting at.suited) at.in_range at.job_is row_is keeps;
+}
+
+-- posts are accepted coins in their order, none twice
+pub kept_in_order : (d : DeviceSetup) (past : List Met) (lines : List Line) → Keeps d past lines → InOrder lines
+kept_in_order d past lines keeps = keeps.sound.in_order
+
+-- under the pace no coin is lost in silence
+pub kept_covers : (d : DeviceSetup) (past : List Met) (lines : List Line) → Keeps d past lines → Pace lines → Covers lines
+kept_covers d past lines keeps = keeps.sound.covers

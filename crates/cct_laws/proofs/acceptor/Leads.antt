@@ -1,0 +1,79 @@
+-- What each row of a job at an acceptor leads to: the rows after it need no more than it brings, and no end but a clean one
+-- is an item.
+use Rattle.std.proofs.Common.{◌≡◌, ◌≤◌, ◌==◌, true, List, [], ◌∷◌, refl, rules}
+use Rattle.cct_model.specs.terms.device.DeviceSetup.{DeviceSetup}
+use Rattle.cct_model.specs.terms.request.Request.{Request}
+use Rattle.cct_model.specs.terms.request.Request.TheVariants.{ResetDevice, ReadCredits, SetMaster, GetMask, SetMask}
+use Rattle.cct_model.specs.lines.command.Command.{Command}
+use Rattle.cct_model.specs.lines.command.Command.TheVariants as command
+use Rattle.cct_model.specs.lines.entry.End.TheVariants.{Told}
+use Rattle.cct_model.specs.Job.{ident_requests}
+use Rattle.cct_model.specs.Rows.{Then, goes_on, ends_as, if_quiet, path_told, if_posted, new_epoch, reading, epoch_end, TableRow, asks_for, asks_once, puts_due, telling, rows_of}
+use Rattle.cct_model.specs.Script.{IsCommand}
+use Rattle.cct_model.proofs.Rows.{Behind, Each, EachBefore}
+use Rattle.cct_laws.specs.Kept.{is_for_acceptor}
+use Rattle.cct_laws.proofs.acceptor.Fits.{AfterReset, AfterQuiet, AfterCredits, AfterShut, AfterMask, AfterEpoch}
+use Rattle.cct_laws.proofs.acceptor.Moves.{IsOtherEnd, IsNeutral, neutral_if, ident_neutral}
+use Rattle.cct_laws.proofs.acceptor.Rounds.{IsAfterLook, IsAfterReading}
+use Rattle.cct_laws.proofs.acceptor.Stops.{IsOverNext}
+
+abbrev pub Leads : TableRow → List TableRow → Type 0
+Leads (asks_for ResetDevice behind) rows = Behind IsOtherEnd behind × AfterReset rows
+Leads (asks_for ReadCredits if_quiet) rows = AfterQuiet rows
+Leads (asks_for ReadCredits behind) rows = Behind IsOtherEnd behind × AfterCredits rows
+Leads (asks_for (SetMaster value) behind) rows = (value ≡ 0) × Behind IsOtherEnd behind × AfterShut rows
+Leads (asks_for GetMask behind) rows = IsAfterLook behind × AfterMask rows
+Leads (asks_for q behind) rows = IsNeutral q × Behind IsOtherEnd behind
+Leads (asks_once (SetMask mask) (ends_as end) (ends_as other)) rows = (1 ≤ mask) × IsOtherEnd end × IsOtherEnd other
+Leads (asks_once q (ends_as end) (ends_as other)) rows = IsNeutral q × IsOtherEnd end × IsOtherEnd other
+Leads (puts_due (new_epoch mask) behind) rows = (1 ≤ mask) × Behind IsOtherEnd behind × AfterEpoch mask rows
+Leads (puts_due reading (if_posted of_reading)) rows = IsAfterReading of_reading rows × IsOverNext rows
+Leads (puts_due epoch_end (ends_as end)) rows = IsOtherEnd end
+Leads r rows = ⊥
+
+-- a request that changes nothing
+neutral_leads : (q : Request) (behind : Then) (rows : List TableRow) → IsNeutral q → Behind IsOtherEnd behind →
+    Leads (asks_for q behind) rows
+neutral_leads ResetDevice behind rows neutral other = absurd neutral
+neutral_leads ReadCredits behind rows neutral other = absurd neutral
+neutral_leads GetMask behind rows neutral other = absurd neutral
+neutral_leads (SetMaster value) behind rows neutral other = absurd neutral
+neutral_leads q behind rows neutral other = (neutral, other)
+
+told_leads : (qs : List Request) → Each IsNeutral qs → EachBefore Leads (telling qs)
+told_leads [] each = tt
+told_leads (q ∷ []) each = (neutral_leads q (ends_as Told) [] each.0 tt, tt)
+told_leads (q ∷ r ∷ qs) each =
+    (neutral_leads q goes_on (telling (r ∷ qs)) each.0 tt, told_leads (r ∷ qs) each.1)
+
+-- the table
+pub leads : (d : DeviceSetup) (c : Command) → is_for_acceptor c ≡ true → IsCommand c → EachBefore Leads (rows_of d c)
+leads d (command.Start addr mask) suited some = (
+  (tt, λ w b credits judged idle silent. (idle, silent)),
+  (
+    (λ w b credits judged idle silent few. (idle, silent, few)),
+    ((some, tt, λ w b credits judged waits. waits), ((some, tt, tt), tt)),
+  ),
+)
+leads d (command.Round addr) suited range = (
+  (tt, λ w b credits judged held still. (held, still)),
+  ((tt, λ w b credits judged ready still. (ready, still)), ((tt, tt), tt)),
+)
+leads d (command.Stop addr) suited range = (
+  (refl, tt, λ w b credits judged running shut. (running, shut)),
+  (
+    (tt, λ w b credits judged held still. (held, still)),
+    (
+      (tt, λ w b credits judged ready still. (ready, still)),
+      (((refl, λ w b credits judged rests. rests), tt), (tt, tt)),
+    ),
+  ),
+)
+leads d (command.Ident addr) suited range = told_leads (ident_requests d.body) (ident_neutral d.body)
+leads d (command.Path addr place path) suited range = (
+  neutral_leads _ goes_on _ (neutral_if (place == 0) _ _ tt tt) tt,
+  (neutral_leads _ (path_told place) [] (neutral_if (place == 0) _ _ tt tt) (λ number. tt), tt),
+)
+leads d (command.Pay addr id count) suited range = absurd cc
+leads d (command.Settle addr) suited range = absurd cc
+leads d c suited range = search rules

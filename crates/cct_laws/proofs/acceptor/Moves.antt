@@ -1,0 +1,326 @@
+-- What holds of an acceptor after every step, and how pieces, commands, ends and exchanges keep it.
+use Rattle.std.proofs.Common.{◌≡◌, ℕ, suc, ◌≤◌, cond, true, false, List, ◌∷◌, length, refl, sym, subst, Option, Some, None, arith, rules, [], ◌==◌, Bool}
+use Rattle.std.specs.Prelude.{⊤}
+use Rattle.cct_model.specs.terms.coin.Coin.{Coin}
+use Rattle.cct_model.specs.terms.device.DeviceSetup.{DeviceSetup}
+use Rattle.cct_model.specs.terms.request.Request.{Request}
+use Rattle.cct_model.specs.terms.request.Request.TheVariants.{ResetDevice, SetMask, SetMaster, SetPath, SetDefault, ReadCredits, GetMask}
+use Rattle.cct_model.specs.lines.record.Record.{Record}
+use Rattle.cct_model.specs.declared.judging.EpochState.{EpochState}
+use Rattle.cct_model.specs.declared.judging.EpochState.TheVariants.{Idle, Running}
+use Rattle.cct_model.specs.lines.command.Command.{Command}
+use Rattle.cct_model.specs.lines.command.Command.TheVariants as command
+use Rattle.cct_model.specs.lines.entry.End.{End}
+use Rattle.cct_model.specs.lines.entry.End.TheVariants.{Clean}
+use Rattle.cct_model.specs.Reply.{Reply}
+use Rattle.cct_model.specs.History.{Met, heard}
+use Rattle.cct_model.specs.History as met
+use Rattle.cct_model.specs.Acceptor.{accepts, path_of}
+use Rattle.cct_model.specs.Device.{reply_of}
+use Rattle.cct_model.specs.Line.{Line, accepted, inhibited, exchange, taken, ended}
+use Rattle.cct_model.specs.Line as line
+use Rattle.cct_model.specs.Job.{works, job, with_line, epoch, credits_read, judged_in, sends, puts, ident_requests}
+use Rattle.cct_model.specs.Rows.{Then, TableRow, asks_for, telling, rows_of, end_of, end_answered, ends_first, after, rest, left, sent_once}
+use Rattle.cct_model.proofs.Rows.{IfEnd, Each, EachRow, BareEnds, each_told, failed_end, after_none, ended_leaves}
+use Rattle.cct_model.specs.terms.coin.Credits.{Credits}
+use Rattle.cct_model.specs.terms.device.DeviceBody.{DeviceBody}
+use Rattle.cct_model.specs.terms.device.DeviceBody.TheVariants.{Acceptor, Hopper}
+use Rattle.cct_model.specs.declared.judging.Judged.{Judged}
+use Rattle.cct_model.specs.declared.judging.Judged.TheVariants.{Nothing}
+use Rattle.cct_model.specs.Refusal.{start_refusal, running_refusal}
+use Rattle.cct_model.specs.Claims.{coins, mark, base, OrderAt, CoverAt, PaceAt, InOrder, Covers, Pace}
+use Rattle.cct_laws.specs.Kept.{is_for_acceptor, Fate, unheard, silenced, answered, with_ended, IsTaken}
+use Rattle.cct_laws.proofs.acceptor.World.{World, world, On, on_coin, on_piece, on_reset, on_master, on_path, on_default, on_nothing}
+use Rattle.cct_laws.proofs.acceptor.Fits.{Book, book, StateOf, IsIdle, IsRunning, FitsAt, Fits, state_on, at_on, fits_on}
+use Rattle.cct_model.proofs.RowEnds.{failed_stays}
+
+-- what holds after every line
+pub record Sound (past : List Met) (lines : List Line) : Type 0 where
+  pub in_order : InOrder lines
+  pub covers : Pace lines → Covers lines
+  pub marked : mark lines ≤ length (coins lines)
+  pub state : StateOf (world past lines) (mark lines) (base lines) (epoch lines)
+
+-- what holds after every step
+pub record Keeps (d : DeviceSetup) (past : List Met) (lines : List Line) : Type 0 where
+  pub sound : Sound past lines
+  pub fits : Fits d (world past lines) (book lines) (job lines)
+
+-- what a line has to show
+pub sound_line : (past now : List Met) (lines : List Line) (line : Line) → OrderAt lines line → (PaceAt lines line → CoverAt lines line) →
+    mark (line ∷ lines) ≤ length (coins (line ∷ lines)) → StateOf (world now (line ∷ lines)) (mark (line ∷ lines)) (base (line ∷ lines)) (epoch (line ∷ lines)) →
+    Sound past lines → Sound now (line ∷ lines)
+sound_line past now lines line order cover marked state sound = record {
+  in_order = (order, sound.in_order);
+  covers = λ pace. (cover pace.0, sound.covers pace.1);
+  marked = marked;
+  state = state;
+}
+
+-- a piece
+
+record IsPiece (lines : List Line) (line : Line) : Type 0 where
+  orders : OrderAt lines line
+  covers : CoverAt lines line
+  book_stays : book (line ∷ lines) ≡ book lines
+  job_stays : job (line ∷ lines) ≡ job lines
+
+keeps_piece : (d : DeviceSetup) (past now : List Met) (lines : List Line) (line : Line) → IsPiece lines line → On (world past lines) (world now (line ∷ lines)) → Keeps d past lines → Keeps d now (line ∷ lines)
+keeps_piece d past now lines line piece on keeps =
+    let v = world now (line ∷ lines) in
+    let same = sym piece.book_stays in
+    let state = state_on (world past lines) v (mark lines) (base lines) (epoch lines) on keeps.sound.state in
+    let fits = fits_on d (world past lines) v (book lines) (job lines) on keeps.fits in
+    record {
+      sound = sound_line past now lines line piece.orders (λ _. piece.covers)
+          (subst (λ (b : Book). b.mark ≤ length (coins (line ∷ lines))) same (omega (arith, keeps.sound.marked, on.longer)))
+          (subst (λ (b : Book). StateOf v b.mark b.base b.epoch) same state) keeps.sound;
+      fits = subst (Fits d v (book (line ∷ lines))) (sym piece.job_stays) (subst (λ (b : Book). Fits d v b (job lines)) same fits);
+    }
+
+pub keeps_accepted : (d : DeviceSetup) (past : List Met) (lines : List Line) (place : ℕ) → 1 ≤ place → accepts past place ≡ true →
+    Keeps d past lines → Keeps d (met.coin place ∷ past) (accepted (record { place = place; path = path_of past place }) ∷ lines)
+keeps_accepted d past lines place has_place is keeps =
+    let w = world past lines in
+    let coin : Coin = record { place = place; path = path_of past place } in
+    let on = subst (λ b. On w (record { events = cond b (record { a = place; b = path_of past place }) (record { a = 0; b = 2 }) ∷ w.events; settings = w.settings; coins = coin ∷ w.coins; arrivals = suc w.arrivals }))
+    (sym is) (on_coin w coin has_place is) in
+    keeps_piece d past (met.coin place ∷ past) lines (accepted coin) (record { orders = tt; covers = tt; book_stays = refl; job_stays = refl }) on keeps
+
+pub keeps_inhibited : (d : DeviceSetup) (past : List Met) (lines : List Line) (place : ℕ) → accepts past place ≡ false →
+    Keeps d past lines → Keeps d (met.coin place ∷ past) (inhibited place ∷ lines)
+keeps_inhibited d past lines place is keeps =
+    let w = world past lines in
+    let on = subst (λ b. On w (record { events = cond b (record { a = place; b = path_of past place }) (record { a = 0; b = 2 }) ∷ w.events; settings = w.settings; coins = w.coins; arrivals = suc w.arrivals }))
+    (sym is) (on_piece w 2) in
+    keeps_piece d past (met.coin place ∷ past) lines (inhibited place) (record { orders = tt; covers = tt; book_stays = refl; job_stays = refl }) on keeps
+
+pub keeps_alien : (d : DeviceSetup) (past : List Met) (lines : List Line) → Keeps d past lines → Keeps d (met.alien ∷ past) (line.alien ∷ lines)
+keeps_alien d past lines keeps =
+    keeps_piece d past (met.alien ∷ past) lines line.alien (record { orders = tt; covers = tt; book_stays = refl; job_stays = refl }) (on_piece (world past lines) 1) keeps
+
+pub keeps_reset : (d : DeviceSetup) (past : List Met) (lines : List Line) → Keeps d past lines → Keeps d (met.reset ∷ past) (line.reset ∷ lines)
+keeps_reset d past lines keeps =
+    keeps_piece d past (met.reset ∷ past) lines line.reset (record { orders = tt; covers = tt; book_stays = refl; job_stays = refl }) (on_reset (world past lines)) keeps
+
+-- the end of a job
+
+-- an end but a clean one
+abbrev pub IsOtherEnd : End → Type 0
+IsOtherEnd Clean = ⊥
+IsOtherEnd end = ⊤
+
+abbrev pub IfOther : Option End → Type 0
+IfOther found = IfEnd IsOtherEnd found
+
+sound_ended : (past : List Met) (lines : List Line) (end : End) → IsOtherEnd end → Sound past lines → Sound past (ended end ∷ lines)
+sound_ended past lines Clean other sound = absurd other
+sound_ended past lines end other sound = sound_line past past lines (ended end) tt (λ _. tt) sound.marked sound.state sound
+
+pub keeps_ended : (d : DeviceSetup) (past : List Met) (lines : List Line) (end : End) → IsOtherEnd end → Sound past lines → Keeps d past (ended end ∷ lines)
+keeps_ended d past lines end other sound = record { sound = sound_ended past lines end other sound; fits = tt }
+
+pub keeps_with_ended : (d : DeviceSetup) (past : List Met) (lines : List Line) (end : Option End) → IfOther end → Keeps d past lines → Keeps d past (with_ended end lines)
+keeps_with_ended d past lines None other keeps = keeps
+keeps_with_ended d past lines (Some end) other keeps = keeps_ended d past lines end other keeps.sound
+
+-- a command is taken
+
+idle_taken : (mask : ℕ) (d : DeviceSetup) (state : EpochState) → start_refusal mask d state ≡ None → IsIdle state
+idle_taken mask d Idle fine = tt
+idle_taken mask d (Running running counter) fine = absurd cc
+
+running_taken : (state : EpochState) → running_refusal state ≡ None → IsRunning state
+running_taken Idle fine = absurd cc
+running_taken (Running mask counter) fine = tt
+
+-- a request that changes nothing of what the rows after it need
+abbrev pub IsNeutral : Request → Type 0
+IsNeutral ResetDevice = ⊥
+IsNeutral ReadCredits = ⊥
+IsNeutral GetMask = ⊥
+IsNeutral (SetMaster value) = ⊥
+IsNeutral (SetMask mask) = ⊥
+IsNeutral q = ⊤
+
+pub neutral_if : (b : Bool) (q r : Request) → IsNeutral q → IsNeutral r → IsNeutral (cond b q r)
+neutral_if true q r one other = one
+neutral_if false q r one other = other
+
+pub ident_neutral : (body : DeviceBody) → Each IsNeutral (ident_requests body)
+ident_neutral (Acceptor accepts values ids) = search rules
+ident_neutral (Hopper life value) = search rules
+
+neutral_fits : (w : World) (b : Book) (q : Request) (behind : Then) (rows : List TableRow) (credits : Option Credits)
+    (judged : Judged) → IsNeutral q → FitsAt w b rows credits judged →
+    FitsAt w b (asks_for q behind ∷ rows) credits judged
+neutral_fits w b ResetDevice behind rows credits judged neutral fits = absurd neutral
+neutral_fits w b ReadCredits behind rows credits judged neutral fits = absurd neutral
+neutral_fits w b GetMask behind rows credits judged neutral fits = absurd neutral
+neutral_fits w b (SetMaster value) behind rows credits judged neutral fits = absurd neutral
+neutral_fits w b q behind rows credits judged neutral fits = fits
+
+told_fits : (w : World) (b : Book) (qs : List Request) (credits : Option Credits) (judged : Judged) →
+    Each IsNeutral qs → FitsAt w b (telling qs) credits judged
+told_fits w b [] credits judged each = tt
+told_fits w b (q ∷ []) credits judged each = neutral_fits w b q _ [] credits judged each.0 tt
+told_fits w b (q ∷ r ∷ qs) credits judged each =
+    neutral_fits w b q _ (telling (r ∷ qs)) credits judged each.0 (told_fits w b (r ∷ qs) credits judged each.1)
+
+begun_fits : (d : DeviceSetup) (w : World) (b : Book) (c : Command) → is_for_acceptor c ≡ true → IsTaken d c b.epoch →
+    FitsAt w b (rows_of d c) None Nothing
+begun_fits d w b (command.Start addr mask) played fine = idle_taken mask d b.epoch fine
+begun_fits d w b (command.Round addr) played fine = (running_taken b.epoch fine, tt)
+begun_fits d w b (command.Stop addr) played fine = running_taken b.epoch fine
+begun_fits d w b (command.Ident addr) played fine =
+    told_fits w b (ident_requests d.body) None Nothing (ident_neutral d.body)
+begun_fits d w b (command.Path addr place path) played fine =
+    neutral_fits w b _ _ _ None Nothing (neutral_if (place == 0) _ _ tt tt)
+    (neutral_fits w b _ _ _ None Nothing (neutral_if (place == 0) _ _ tt tt) tt)
+begun_fits d w b (command.Pay addr id count) played fine = absurd cc
+begun_fits d w b (command.Settle addr) played fine = absurd cc
+begun_fits d w b c played fine = search rules
+
+judged_none : (c : Command) (state : EpochState) → judged_in c [] state ≡ Nothing
+judged_none c Idle = refl
+judged_none c (Running mask counter) = refl
+
+begins_fits : (d : DeviceSetup) (w : World) (b : Book) (c : Command) → is_for_acceptor c ≡ true →
+    IsTaken d c b.epoch → Fits d w b (works c [])
+begins_fits d w b c played fine =
+    subst (λ judged. FitsAt w b (after (rows_of d c) 0) None judged) (sym (judged_none c b.epoch))
+    (subst (λ rows. FitsAt w b rows None Nothing) (sym (after_none (rows_of d c))) (begun_fits d w b c played fine))
+
+taken_fits : (d : DeviceSetup) (w : World) (lines : List Line) (c : Command) → is_for_acceptor c ≡ true →
+    IsTaken d c (epoch lines) → Fits d w (book lines) (job (taken c ∷ lines))
+taken_fits d w lines (command.Halt addr) played fine = absurd cc
+taken_fits d w lines c played fine = begins_fits d w (book lines) c played fine
+
+pub keeps_taken : (d : DeviceSetup) (past : List Met) (lines : List Line) (c : Command) → is_for_acceptor c ≡ true → IsTaken d c (epoch lines) →
+    Keeps d past lines → Keeps d past (taken c ∷ lines)
+keeps_taken d past lines c played fine keeps = record {
+  sound = sound_line past past lines (taken c) tt (λ _. tt) keeps.sound.marked keeps.sound.state keeps.sound;
+  fits = taken_fits d (world past lines) lines c played fine;
+}
+
+-- an exchange
+
+pub sound_exchange : (past now : List Met) (lines : List Line) (asked : Option Request) (got : Option Reply) → On (world past lines) (world now lines) →
+    Sound past lines → Sound now (exchange asked got ∷ lines)
+sound_exchange past now lines asked got on sound =
+    sound_line past now lines (exchange asked got) tt (λ _. tt) sound.marked
+    (state_on (world past lines) (world now lines) (mark lines) (base lines) (epoch lines) on sound.state) sound
+
+-- what a job needs after an exchange
+abbrev pub FitsBehind : DeviceSetup → List Met → List Line → Command → List Line → Type 0
+FitsBehind d now lines c since =
+    FitsAt (world now lines) (book lines) (rest d c since) (credits_read since) (judged_in c since (epoch lines))
+
+pub keeps_exchange : (d : DeviceSetup) (past now : List Met) (lines : List Line) (c : Command) (since : List Line) (asked : Option Request) (got : Option Reply) → job lines ≡ works c since →
+    On (world past lines) (world now lines) → Sound past lines → FitsBehind d now (exchange asked got ∷ lines) c (exchange asked got ∷ since) → Keeps d now (exchange asked got ∷ lines)
+keeps_exchange d past now lines c since asked got is_job on sound fits = record {
+  sound = sound_exchange past now lines asked got on sound;
+  fits = subst (λ j. Fits d (world now lines) (book (exchange asked got ∷ lines)) (with_line (exchange asked got) j)) (sym is_job) fits;
+}
+
+pub fits_at : (d : DeviceSetup) (past : List Met) (lines : List Line) (c : Command) (since : List Line) → job lines ≡ works c since → Keeps d past lines → FitsBehind d past lines c since
+fits_at d past lines c since is_job keeps = subst (Fits d (world past lines) (book lines)) is_job keeps.fits
+
+-- what comes of an exchange
+abbrev pub KeepsAsk : DeviceSetup → List Met → List Line → Command → List Line → Request → Option Request → Option Reply → Type 0
+KeepsAsk d past lines c since q asked got =
+    Keeps d (heard asked ∷ past) (with_ended (end_of d c (exchange (Some q) got) since (epoch lines)) (exchange (Some q) got ∷ lines))
+
+bare_other : (d : DeviceSetup) (c : Command) → EachRow (BareEnds IsOtherEnd) (rows_of d c)
+bare_other d (command.Ident addr) = each_told (BareEnds IsOtherEnd) (λ q. tt) (λ q. tt) (ident_requests d.body)
+bare_other d c = search rules
+
+pub failure_other : (d : DeviceSetup) (c : Command) (q : Request) (since : List Line) (state : EpochState) →
+    IfOther (end_of d c (exchange (Some q) None) since state)
+failure_other d c q since state = failed_end IsOtherEnd d c q since state (bare_other d c) tt
+
+-- it tells nothing of credits, a mask or a reading
+unanswered_fits : (d : DeviceSetup) (now : List Met) (lines : List Line) (c : Command) (since : List Line) (q : Request) →
+    FitsAt (world now lines) (book lines) (rest d c (exchange (Some q) None ∷ since)) (credits_read since) (judged_in c since (epoch lines)) →
+    FitsBehind d now (exchange (Some q) None ∷ lines) c (exchange (Some q) None ∷ since)
+unanswered_fits d now lines c since ReadCredits fits = fits
+unanswered_fits d now lines c since GetMask fits = fits
+unanswered_fits d now lines c since q fits = fits
+
+-- an exchange without its reply is tried again, or ends the job
+keeps_failed : (d : DeviceSetup) (past now : List Met) (lines : List Line) (c : Command) (since : List Line) (q : Request) → sent_once (rest d c since) ≡ false → job lines ≡ works c since →
+    On (world past lines) (world now lines) → Keeps d past lines →
+    Keeps d now (with_ended (end_of d c (exchange (Some q) None) since (epoch lines)) (exchange (Some q) None ∷ lines))
+keeps_failed d past now lines c since q again is_job on keeps =
+    let line = exchange (Some q) None in
+    let before = at_on (world past lines) (world now lines) (book lines) (rest d c since) (credits_read since) (judged_in c since (epoch lines)) on (fits_at d past lines c since is_job keeps) in
+    let stays = subst (λ n. FitsAt (world now lines) (book lines) (after (rows_of d c) n) (credits_read since) (judged_in c since (epoch lines))) (sym (failed_stays (rows_of d c) (Some q) since again)) before in
+    keeps_with_ended d now (line ∷ lines) _ (failure_other d c q since (epoch lines))
+    (keeps_exchange d past now lines c since (Some q) None is_job on keeps.sound (unanswered_fits d now lines c since q stays))
+
+-- a request that opens no place
+abbrev pub IsMild : Request → Type 0
+IsMild (SetMask mask) = ⊥
+IsMild (SetMaster value) = value ≡ 0
+IsMild q = ⊤
+
+pub on_heard : (past : List Met) (lines : List Line) (q : Request) → IsMild q → On (world past lines) (world (heard (Some q) ∷ past) lines)
+on_heard past lines ResetDevice mild = on_reset (world past lines)
+on_heard past lines (SetMask mask) mild = absurd mild
+on_heard past lines (SetMaster value) mild = subst (λ n. On (world past lines) (world (heard (Some (SetMaster n)) ∷ past) lines)) (sym mild) (on_master (world past lines))
+on_heard past lines (SetPath place path) mild = on_path (world past lines) place path
+on_heard past lines (SetDefault path) mild = on_default (world past lines) path
+on_heard past lines q mild = on_nothing (world past lines)
+
+-- so what is left to show is what the reply brings
+pub by_fate : (d : DeviceSetup) (past : List Met) (lines : List Line) (c : Command) (since : List Line) (q : Request) (asked : Option Request) (got : Option Reply) →
+    sent_once (rest d c since) ≡ false → IsMild q → job lines ≡ works c since → Keeps d past lines →
+    ((y : Reply) → reply_of d past q ≡ Some y → KeepsAsk d past lines c since q (Some q) (Some y)) → Fate d past q asked got → KeepsAsk d past lines c since q asked got
+by_fate d past lines c since q asked got again mild is_job keeps replied unheard =
+    keeps_failed d past (heard None ∷ past) lines c since q again is_job (on_nothing (world past lines)) keeps
+by_fate d past lines c since q asked got again mild is_job keeps replied silenced =
+    keeps_failed d past (heard (Some q) ∷ past) lines c since q again is_job (on_heard past lines q mild) keeps
+by_fate d past lines c since q asked got again mild is_job keeps replied (answered y gives) = replied y gives
+
+-- a job stands at these rows
+pub record AtRows (d : DeviceSetup) (past : List Met) (lines : List Line) (c : Command) (since : List Line)
+    (rows : List TableRow) : Type 0 where
+  pub is_job : job lines ≡ works c since
+  pub rest_is : rest d c since ≡ rows
+  pub left_is : left d c since (epoch lines) ≡ rows
+  pub keeps : Keeps d past lines
+
+-- an answer to the first of them brings its end
+pub answered_at : (d : DeviceSetup) (past : List Met) (lines : List Line) (c : Command) (since : List Line)
+    (rows : List TableRow) (q : Request) (y : Reply) → AtRows d past lines c since rows →
+    Keeps d (heard (Some q) ∷ past)
+    (with_ended (end_answered rows y (judged_in c (exchange (Some q) (Some y) ∷ since) (epoch lines)))
+    (exchange (Some q) (Some y) ∷ lines)) →
+    KeepsAsk d past lines c since q (Some q) (Some y)
+answered_at d past lines c since rows q y at keeps =
+    let line = exchange (Some q) (Some y) in
+    subst (λ first_rows. Keeps d (heard (Some q) ∷ past)
+    (with_ended (end_answered first_rows y (judged_in c (line ∷ since) (epoch lines))) (line ∷ lines))) (sym at.left_is)
+    keeps
+
+-- and leaves those after it
+pub next_at : (d : DeviceSetup) (past : List Met) (lines : List Line) (c : Command) (since : List Line) (r : TableRow)
+    (rows : List TableRow) (q : Request) (y : Reply) → AtRows d past lines c since (r ∷ rows) →
+    ends_first (r ∷ rows) (Some y) ≡ true → On (world past lines) (world (heard (Some q) ∷ past) lines) →
+    FitsAt (world (heard (Some q) ∷ past) lines) (book (exchange (Some q) (Some y) ∷ lines)) rows
+    (credits_read (exchange (Some q) (Some y) ∷ since)) (judged_in c (exchange (Some q) (Some y) ∷ since) (epoch lines)) →
+    Keeps d (heard (Some q) ∷ past) (exchange (Some q) (Some y) ∷ lines)
+next_at d past lines c since r rows q y at ends on fits =
+    let line = exchange (Some q) (Some y) in
+    let now = heard (Some q) ∷ past in
+    keeps_exchange d past now lines c since (Some q) (Some y) at.is_job on at.keeps.sound
+    (subst (λ later. FitsAt (world now lines) (book (line ∷ lines)) later (credits_read (line ∷ since))
+    (judged_in c (line ∷ since) (epoch lines)))
+    (sym (ended_leaves (rows_of d c) (Some q) (Some y) since r rows at.rest_is ends)) fits)
+
+-- a row tells its request or its record
+pub request_is : (q r : Request) → sends q ≡ sends r → q ≡ r
+request_is q r row = cc
+
+pub entry_is : (a b : Record) → puts a ≡ puts b → a ≡ b
+entry_is a b row = cc

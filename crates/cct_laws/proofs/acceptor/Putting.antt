@@ -1,0 +1,101 @@
+-- What a record that a job has to put tells of its acceptor.
+use Rattle.std.proofs.Common.{◌≡◌, ℕ, true, List, [], ◌∷◌, subst, Option}
+use Rattle.std.specs.Prelude.{⊤}
+use Rattle.cct_model.specs.terms.coin.Credits.{Credits}
+use Rattle.cct_model.specs.terms.device.DeviceSetup.{DeviceSetup}
+use Rattle.cct_model.specs.lines.record.Record.{Record}
+use Rattle.cct_model.specs.lines.record.Record.TheVariants as record_of
+use Rattle.cct_model.specs.declared.judging.Judged.{Judged}
+use Rattle.cct_model.specs.declared.judging.Judged.TheVariants.{Nothing, Reading, Broken}
+use Rattle.cct_model.specs.declared.judging.EpochState.{EpochState}
+use Rattle.cct_model.specs.declared.judging.EpochState.TheVariants.{Idle, Running}
+use Rattle.cct_model.specs.lines.command.Command.{Command}
+use Rattle.cct_model.specs.History.{Met}
+use Rattle.cct_model.specs.Line.{Line}
+use Rattle.cct_model.specs.Job.{works, job, puts, epoch, credits_read, mask_read, address_of, judged_by, judged_in, Payment, payment_in}
+use Rattle.cct_model.specs.Rows.{Then, ends_as, if_posted, new_epoch, reading, epoch_end, TableRow, asks_for, asks_once, waits_for_coins, puts_due, row, rest, from, first}
+use Rattle.cct_model.specs.Script.{IsCommand}
+use Rattle.cct_model.specs.Order.{order}
+use Rattle.cct_laws.specs.Kept.{is_for_acceptor}
+use Rattle.cct_laws.proofs.acceptor.World.{World, Silent, world}
+use Rattle.cct_laws.proofs.acceptor.Fits.{Book, book, PostsAs, BreaksAs, Ready, IsRunning, FitsAt}
+use Rattle.cct_laws.proofs.acceptor.Moves.{Keeps, fits_at, entry_is}
+use Rattle.cct_laws.proofs.acceptor.Acceptors.{left_leads}
+use Rattle.cct_laws.proofs.acceptor.Leads.{Leads}
+use Rattle.cct_laws.proofs.acceptor.Stops.{IsOverNext}
+use Rattle.cct_model.proofs.Rows.{EachBefore}
+
+-- an epoch begins at the device's own address, and one that breaks runs; its acceptor is silent at both
+abbrev pub Puts : DeviceSetup → World → EpochState → Record → Type 0
+Puts d w state (record_of.Epoch addr mask) = (addr ≡ d.addr) × Silent w
+Puts d w state (record_of.Broken addr seen k posted) = IsRunning state × Silent w
+Puts d w state r = ⊤
+
+-- only an epoch that runs is judged broken
+abbrev IfBroken : EpochState → Judged → Type 0
+IfBroken state (Broken entry) = IsRunning state
+IfBroken state judged = ⊤
+
+judged_runs : (addr : ℕ) (state : EpochState) (credits : Option Credits) (seen : Option ℕ) → IfBroken state (judged_by addr state credits seen)
+judged_runs addr Idle credits seen = tt
+judged_runs addr (Running mask counter) credits seen = broken_runs mask counter (judged_by addr (Running mask counter) credits seen)
+  where
+    broken_runs : (mask counter : ℕ) (judged : Judged) → IfBroken (Running mask counter) judged
+    broken_runs mask counter Nothing = tt
+    broken_runs mask counter (Reading entry) = tt
+    broken_runs mask counter (Broken entry) = tt
+
+-- what was judged
+
+reading_puts : (d : DeviceSetup) (w : World) (b : Book) (entry : Record) → PostsAs w b entry → Puts d w b.epoch entry
+reading_puts d w b (record_of.Reading addr k lost posted) posts = tt
+reading_puts d w b r posts = absurd posts
+
+break_puts : (d : DeviceSetup) (w : World) (b : Book) (entry : Record) → IsRunning b.epoch → BreaksAs w b entry → Puts d w b.epoch entry
+break_puts d w b (record_of.Broken addr seen k posted) running breaks = (running, breaks.silent)
+break_puts d w b r running breaks = absurd breaks
+
+-- the first of the rows that are left
+
+end_puts : (d : DeviceSetup) (w : World) (b : Book) (addr : ℕ) (r : Record) → puts (record_of.EpochEnd addr) ≡ puts r → Puts d w b.epoch r
+end_puts d w b addr r row_is = subst (Puts d w b.epoch) (entry_is (record_of.EpochEnd addr) r row_is) tt
+
+over_puts : (d : DeviceSetup) (w : World) (b : Book) (addr : ℕ) (r : Record) (p : Payment) (rows : List TableRow) →
+    IsOverNext rows → first addr Nothing p rows ≡ puts r → Puts d w b.epoch r
+over_puts d w b addr r p [] over row_is = absurd cc
+over_puts d w b addr r p (puts_due epoch_end (ends_as end) ∷ rows) over row_is = end_puts d w b addr r row_is
+over_puts d w b addr r p rows over row_is = absurd over
+
+reading_row : (d : DeviceSetup) (w : World) (b : Book) (addr : ℕ) (r : Record) (judged : Judged) (p : Payment)
+    (behind : Then) (rows : List TableRow) → IfBroken b.epoch judged → IsOverNext rows → Ready w b judged →
+    first addr judged p (from (puts_due reading behind ∷ rows) judged) ≡ puts r → Puts d w b.epoch r
+reading_row d w b addr r Nothing p behind rows runs over ready row_is = over_puts d w b addr r p rows over row_is
+reading_row d w b addr r (Reading entry) p behind rows runs over ready row_is =
+    subst (Puts d w b.epoch) (entry_is entry r row_is) (reading_puts d w b entry ready)
+reading_row d w b addr r (Broken entry) p behind rows runs over ready row_is =
+    subst (Puts d w b.epoch) (entry_is entry r row_is) (break_puts d w b entry runs ready)
+
+first_puts : (d : DeviceSetup) (w : World) (b : Book) (addr : ℕ) (r : Record) (credits : Option Credits) (judged : Judged)
+    (p : Payment) (rows : List TableRow) → addr ≡ d.addr → IfBroken b.epoch judged → EachBefore Leads rows →
+    FitsAt w b rows credits judged → first addr judged p (from rows judged) ≡ puts r → Puts d w b.epoch r
+first_puts d w b addr r credits judged p [] here runs each fits row_is = absurd cc
+first_puts d w b addr r credits judged p (asks_for q behind ∷ rows) here runs each fits row_is = absurd cc
+first_puts d w b addr r credits judged p (asks_once q behind without ∷ rows) here runs each fits row_is = absurd cc
+first_puts d w b addr r credits judged p (waits_for_coins ∷ rows) here runs each fits row_is = absurd each.0
+first_puts d w b addr r credits judged p (puts_due (new_epoch mask) behind ∷ rows) here runs each fits row_is =
+    subst (Puts d w b.epoch) (entry_is (record_of.Epoch addr mask) r row_is) (here, fits.1)
+first_puts d w b addr r credits judged p (puts_due reading (if_posted of_reading) ∷ rows) here runs each fits row_is =
+    reading_row d w b addr r judged p (if_posted of_reading) rows runs each.0.1 fits.0 row_is
+first_puts d w b addr r credits judged p (puts_due epoch_end (ends_as end) ∷ rows) here runs each fits row_is =
+    end_puts d w b addr r row_is
+first_puts d w b addr r credits judged p (puts_due due behind ∷ rows) here runs each fits row_is = absurd each.0
+
+-- the row of any job at an acceptor
+pub row_puts : (d : DeviceSetup) (past : List Met) (lines : List Line) (c : Command) (since : List Line) (r : Record) →
+    is_for_acceptor c ≡ true → IsCommand c → job lines ≡ works c since → address_of c ≡ d.addr →
+    row d c since (epoch lines) (order lines) ≡ puts r → Keeps d past lines → Puts d (world past lines) (epoch lines) r
+row_puts d past lines c since r suited in_range is_job here row_is keeps =
+    first_puts d (world past lines) (book lines) (address_of c) r (credits_read since) (judged_in c since (epoch lines))
+    (payment_in since (order lines)) (rest d c since) here
+    (judged_runs (address_of c) (epoch lines) (credits_read since) (mask_read since))
+    (left_leads d c since suited in_range) (fits_at d past lines c since is_job keeps) row_is

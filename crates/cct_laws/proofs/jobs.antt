@@ -1,0 +1,12 @@
+-- What jobs do: their rows, tries and ends, and what each step brings.
+pub mod Asked
+pub mod Brought
+pub mod Ending
+pub mod GivenUp
+mod LastRows
+pub mod Scans
+pub mod Seen
+pub mod Tests
+pub mod Tries
+pub mod Unmoved
+pub mod Waits

@@ -1,0 +1,20 @@
+-- What the books say: sums, what is held, reserved and needed, room, and the laws of the journal.
+pub mod AllHeld
+pub mod AtWork
+pub mod Balances
+pub mod Books
+pub mod Counting
+pub mod Covered
+pub mod Fitted
+pub mod Follow
+pub mod Freed
+pub mod Held
+pub mod Journal
+pub mod Needed
+pub mod Recalling
+pub mod Recorded
+pub mod Restarts
+pub mod Room
+pub mod Spending
+pub mod Sums
+pub mod Worth
