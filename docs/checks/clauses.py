@@ -93,7 +93,7 @@ def read_crate(folder: Path) -> Crate:
             read_code(crate, path)
     for path in sorted(folder.glob("specs/**/*.antt")):
         read_definitions(crate, path)
-    for path in folder.glob("proofs/*.antt"):
+    for path in folder.glob("proofs/**/*.antt"):
         crate.lemmas.update(re.findall(r"^pub (\w+) :", path.read_text(), re.MULTILINE))
     return crate
 
