@@ -1,6 +1,4 @@
 //! The front of a piece.
-ghost use Rattle.std.specs.Prelude.{◌≤◌};
-ghost use Rattle.cct_advice.specs.declared.front.TheConstants.{ROOM};
 
 /// How many bytes of a piece are kept. The last lines that tell how a run ended are shorter.
 const ROOM: usize = 64;
@@ -10,7 +8,6 @@ const ROOM: usize = 64;
 pub(crate) struct Front {
     bytes: [u8; ROOM],
     len: usize,
-    ghost short: { len ≤ ROOM },
 }
 
 impl Front {
@@ -25,13 +22,12 @@ impl Front {
     /// Keeps the front of this piece in place of the one before.
     pub(crate) fn note(&mut self, piece: &[u8]) {
         let len = piece.len().min(ROOM);
-        let mut bytes = [0; ROOM];
-        bytes[..len].copy_from_slice(&piece[..len]);
-        *self = Front { bytes, len };
+        self.bytes[..len].copy_from_slice(&piece[..len]);
+        self.len = len;
     }
 
     /// The bytes kept.
     pub(crate) fn bytes(&self) -> &[u8] {
-        &self.bytes[..self.len]
+        &self.bytes[..self.len.min(ROOM)]
     }
 }
