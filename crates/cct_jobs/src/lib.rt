@@ -4,6 +4,7 @@
 #![tactic(auto)]
 
 mod asks;
+mod by_row;
 mod ident;
 mod job;
 mod laws;
