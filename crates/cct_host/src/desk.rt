@@ -1,6 +1,6 @@
 //! The host's desk for one place: a device, the address of all devices, where scans are, or that of sales.
 ghost use Rattle.std.specs.Prelude.{◌≡◌, ◌<◌, ◌≤◌, ◌^◌, ℕ, List, [], ◌∷◌, ◌++◌, ◌*◌, ◌+◌, length, Option, Some, None, true, false, max, IfSome, IsTrue, OnErr, OnOk};
-ghost use Rattle.std.specs.Option.{option_map, option_or};
+ghost use Rattle.std.specs.Option.{option_map};
 ghost use Rattle.arrayvec.specs.ArrayVec.{array_vec_len};
 ghost use Rattle.cct_model.specs.declared.judging.OpenOrder.{OpenOrder};
 ghost use Rattle.cct_model.specs.lines.entry.Entry.{Entry};
@@ -10,7 +10,7 @@ ghost use Rattle.cct_model.specs.Following as following;
 ghost use Rattle.cct_model.specs.Job.{address_of, counted, epoch_by, works};
 ghost use Rattle.cct_model.specs.Order.{order_by};
 ghost use Rattle.cct_model.specs.Records.{id_of};
-ghost use Rattle.cct_model.specs.Refusal.{id_refusal, order_refusal, running_id, running_refusal, settle_refusal, start_refusal};
+ghost use Rattle.cct_model.specs.Refusal.{running_id};
 ghost use Rattle.cct_model.specs.Rows.{puts_in};
 ghost use Rattle.cct_record.specs.Body.{Encodable};
 ghost use Rattle.cct_jobs.specs.Ahead.{coins_in};
@@ -18,7 +18,7 @@ ghost use Rattle.cct_jobs.specs.Jobs.{MayBegin, is_of_device, order_of};
 ghost use Rattle.cct_ledger.specs.Orders.{has_id};
 ghost use Rattle.cct_host.specs.Held.{FitsIn, FitsIn-prop, coins_by, due_by, order_left, price_by, put_in, puts_left, sells_only};
 ghost use Rattle.cct_host.specs.Place as places;
-ghost use Rattle.cct_host.specs.Running.{acceptor_refusal, busy_by, halting_refusal, halts_in, hopper_refusal, id_left, is_halt, is_running, needed, refusal_beside, rows_begun, sale_refusal};
+ghost use Rattle.cct_host.specs.Running.{id_left, is_halt, is_running, needed, rows_begun};
 
 use crate::dues::Dues;
 use crate::exchange::{converse, settled};
@@ -26,16 +26,16 @@ use crate::values::valueless;
 use arrayvec::ArrayVec;
 use cct_jobs::{Job, Need, Owed};
 use cct_model::{
-    Command, CommandNo, DEVICES, DeviceSetup, Entry, EpochState, Family, OpenOrder, Record, Setup,
+    Command, CommandNo, DEVICES, DeviceSetup, Entry, EpochState, OpenOrder, Record, Setup,
 };
 use cct_wire::Link;
 
 /// The job at a place, and the epoch or the open order that is recorded of a device there.
 #[derive(Drop)]
 pub(crate) struct JobDesk {
-    job: Option<Job>,
-    epoch: EpochState,
-    dues: Dues,
+    pub(crate) job: Option<Job>,
+    pub(crate) epoch: EpochState,
+    pub(crate) dues: Dues,
     ghost runs: { is_running job ≡ true },
     ghost fits: { FitsIn job } by { FitsIn-prop job },
 }
@@ -55,7 +55,7 @@ impl Default for JobDesk {
 }
 
 impl JobDesk {
-    ghost use Rattle.cct_host.specs.Desk.{Attempts, Commands, CommandsAbove, Keeps, RefusesAbove, Sits, greatest_paying, held_at, held_in, puts_at};
+    ghost use Rattle.cct_host.specs.Desk.{Attempts, Commands, CommandsAbove, Keeps, Sits, greatest_paying, held_at, held_in, puts_at};
     ghost use Rattle.cct_host.specs.Recalled.{may_begin};
 
     /// A command to the device of this desk is taken, or refused for the first reason that holds; a refused one changes
@@ -83,21 +83,6 @@ impl JobDesk {
         }
     }
 
-    /// Why a command to the device of this desk is refused, if it is: the first reason that holds, whatever room there
-    /// is for its records.
-    pub(crate) fn command_refusal(
-        &self,
-        command: &Command,
-        device: &DeviceSetup,
-        last: u32,
-    ) -> Option<CommandNo>
-        requires of_device { is_of_device command.now ≡ true }
-        ensures { (setup : Setup) → device_at setup.devices (address_of command.now) ≡ Some device.now
-            → RefusesAbove setup last (places.device device.now) self.now command.now result }
-    {
-        self.refusal(command, device, last)
-    }
-
     /// A halt is taken, or refused where no payout could be stopped; a refused one changes nothing.
     fn halt(
         &mut self,
@@ -122,32 +107,6 @@ impl JobDesk {
                 }
                 Ok(())
             }
-        }
-    }
-
-    /// Why a halt is refused, if it is.
-    fn halting_refusal(&self, device: &DeviceSetup) -> Option<CommandNo>
-        ensures { result ≡ halting_refusal device.now self.now.job }
-    {
-        match device.body.family() {
-            Family::Acceptor => Some(CommandNo::WrongKind),
-            Family::Hopper => {
-                if self.can_halt() {
-                    None
-                } else {
-                    Some(CommandNo::NoPayout)
-                }
-            }
-        }
-    }
-
-    /// Whether there is a job that can be halted.
-    fn can_halt(&self) -> bool
-        ensures { result ≡ halts_in self.now.job }
-    {
-        match &self.job {
-            Some(job) => job.can_halt(),
-            None => false,
         }
     }
 
@@ -272,124 +231,6 @@ impl JobDesk {
                 self.dues.id = id;
                 Ok(())
             }
-        }
-    }
-
-    /// Why a sale is refused, if it is: one runs, or its id isn't new.
-    pub(crate) fn sale_refusal(&self, id: u32, last: u32) -> Option<CommandNo>
-        ensures { result ≡ sale_refusal self.now.job id last }
-    {
-        match self.busy() {
-            Some(why) => Some(why),
-            None => id_refusal(id, last),
-        }
-    }
-
-    /// Why a command is refused, if it is.
-    fn refusal(&self, command: &Command, device: &DeviceSetup, last: u32) -> Option<CommandNo>
-        ensures { result ≡ refusal_beside device.now self.now.job self.now.epoch self.now.dues last command.now }
-    {
-        match *command {
-            Command::Start { mask, .. } => self.acceptor_refusal(
-                device,
-                self.start_refusal(device, mask),
-            ),
-            Command::Round { .. } => self.acceptor_refusal(device, self.running_refusal()),
-            Command::Stop { .. } => self.acceptor_refusal(device, self.running_refusal()),
-            Command::Path { .. } => self.acceptor_refusal(device, None),
-            Command::Pay { id, .. } => self.hopper_refusal(device, self.pay_refusal(id, last)),
-            Command::Settle { .. } => self.hopper_refusal(device, self.settle_refusal()),
-            Command::Halt { .. } => self.halting_refusal(device),
-            Command::Ident { .. } => self.busy(),
-            Command::Scan => self.busy(),
-            Command::Vend { id, .. } => self.sale_refusal(id, last),
-        }
-    }
-
-    /// Why a command to a coin acceptor is refused, if it is: a further reason is the last.
-    fn acceptor_refusal(
-        &self,
-        device: &DeviceSetup,
-        further: Option<CommandNo>,
-    ) -> Option<CommandNo>
-        ensures { result ≡ acceptor_refusal device.now self.now.job further }
-    {
-        match device.body.family() {
-            Family::Acceptor => self.busy_or(further),
-            Family::Hopper => Some(CommandNo::WrongKind),
-        }
-    }
-
-    /// Why a command to a hopper is refused, if it is: a further reason is the last.
-    fn hopper_refusal(&self, device: &DeviceSetup, further: Option<CommandNo>) -> Option<CommandNo>
-        ensures { result ≡ hopper_refusal device.now self.now.job further }
-    {
-        match device.body.family() {
-            Family::Acceptor => Some(CommandNo::WrongKind),
-            Family::Hopper => self.busy_or(further),
-        }
-    }
-
-    /// Why a command is refused where a job is here, and else a further reason.
-    fn busy_or(&self, further: Option<CommandNo>) -> Option<CommandNo>
-        ensures { result ≡ option_or (busy_by self.now.job) further }
-    {
-        match self.busy() {
-            Some(why) => Some(why),
-            None => further,
-        }
-    }
-
-    /// Why a payment is refused beside the open order and the last id: an order is open, or its id isn't new.
-    fn pay_refusal(&self, id: u32, last: u32) -> Option<CommandNo>
-        ensures { result ≡ option_or (order_refusal (order_of self.now.dues.order)) (id_refusal id last) }
-    {
-        match &self.dues.order {
-            None => id_refusal(id, last),
-            Some(owed) => Some(CommandNo::OrderOpen { id: owed.order.id }),
-        }
-    }
-
-    /// Why a settlement is refused beside the open order: there is none.
-    fn settle_refusal(&self) -> Option<CommandNo>
-        ensures { result ≡ settle_refusal (order_of self.now.dues.order) }
-    {
-        match &self.dues.order {
-            None => Some(CommandNo::NoOrder),
-            Some(_) => None,
-        }
-    }
-
-    /// Why a start with a mask is refused beside the epoch: one runs, or a place of the mask has no value.
-    fn start_refusal(&self, device: &DeviceSetup, mask: u16) -> Option<CommandNo>
-        ensures { result ≡ start_refusal mask device.now self.now.epoch }
-    {
-        match self.epoch {
-            EpochState::Idle => match valueless(&device.body, mask) {
-                None => None,
-                Some(place) => Some(CommandNo::NoValue { place }),
-            },
-            EpochState::Running { .. } => Some(CommandNo::EpochRuns),
-        }
-    }
-
-    /// Why a round or a stop is refused beside the epoch: none runs.
-    fn running_refusal(&self) -> Option<CommandNo>
-        ensures { result ≡ running_refusal self.now.epoch }
-    {
-        match self.epoch {
-            EpochState::Idle => Some(CommandNo::NoEpoch),
-            EpochState::Running { .. } => None,
-        }
-    }
-
-    /// Why a command is refused because of the job: there is one.
-    pub(crate) fn busy(&self) -> Option<CommandNo>
-        ensures { result ≡ busy_by self.now.job }
-    {
-        match self.job {
-            None => None,
-            Some(_) => Some(CommandNo::Busy),
         }
     }
 
@@ -591,17 +432,6 @@ fn id_begun(command: &Command) -> u32
         Command::Pay { id, .. } => id,
         Command::Vend { id, .. } => id,
         _ => 0,
-    }
-}
-
-/// Why an id is refused: it isn't above the last one.
-fn id_refusal(id: u32, last: u32) -> Option<CommandNo>
-    ensures { result ≡ id_refusal id last }
-{
-    if id <= last {
-        Some(CommandNo::OldId { last })
-    } else {
-        None
     }
 }
 

@@ -8,6 +8,7 @@ mod desks;
 mod dues;
 mod exchange;
 mod host;
+mod reasons;
 mod recall;
 mod refusal;
 mod restart;
