@@ -10,7 +10,9 @@ mod exchange;
 mod host;
 mod reasons;
 mod recall;
+mod recorded;
 mod refusal;
+mod reserves;
 mod restart;
 mod values;
 

@@ -1,5 +1,5 @@
 //! A job, by the row at which it stands.
-ghost use Rattle.std.specs.Prelude.{◌≡◌, ◌≢◌, ◌≤◌, ◌<◌, ◌^◌, List, ℕ, [], ◌∷◌, Option, Some, None, IsTrue, is_some, true, false};
+ghost use Rattle.std.specs.Prelude.{◌≡◌, ◌≤◌, ◌<◌, ◌^◌, List, ℕ, [], ◌∷◌, Option, Some, None, IsTrue, is_some, true, false};
 ghost use Rattle.std.specs.Option.{option_map};
 ghost use Rattle.cct_model.specs.lines.command.Command.{Command};
 ghost use Rattle.cct_model.specs.lines.command.Command.TheVariants as command;
