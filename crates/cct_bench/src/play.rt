@@ -18,18 +18,18 @@ ghost use Rattle.cct_world.specs.Step.{CutsIn, LastsIn};
 ghost use Rattle.cct_host.specs.Book.{HasBook};
 ghost use Rattle.cct_world.specs.World.{Breaks, StandsFor, disk_of, setup_of, used_of};
 ghost use Rattle.cct_bench.specs.Lines.{Came, EndsAt, IsNext};
-ghost use Rattle.cct_bench.specs.Disks.{Always, Books, IsReady, disks};
+ghost use Rattle.cct_bench.specs.Disks.{Books, IsReady, disks};
 ghost use Rattle.cct_world.specs.Sure.{Sure};
-ghost use Rattle.cct_bench.specs.Going.{Going, IsUnbegun};
-ghost use Rattle.cct_bench.specs.SetupLines.{TookOpening, TookSetup};
+ghost use Rattle.cct_bench.specs.Going.{Going};
+ghost use Rattle.cct_bench.specs.SetupLines.{TookSetup};
 ghost use Rattle.cct_bench.specs.Source.{OfBytes};
-ghost use Rattle.cct_text.specs.Writing.{Writes, Wrote, Broke, IsNothing, NeverBroke};
+ghost use Rattle.cct_text.specs.Writing.{Writes, Wrote, Broke};
 ghost use Rattle.cct_bench.specs.Playing.{CanPlay, PlaysOn};
-ghost use Rattle.cct_bench.specs.Run.{BeforeSteps, IsOfScript, IsUnopened, OverCut, Played, Ran, status_of, unplayed_by};
+ghost use Rattle.cct_bench.specs.Run.{IsOfScript, IsUnopened, OverCut, Played, Ran, status_of, unplayed_by};
 
 use crate::ending::{Ending, ending_at, finish_run, uncreated, unplayed_by};
 use crate::lines::behind_end;
-use crate::opening::{Opened, read_opening};
+use crate::opening::read_setup;
 use crate::outcome::Status;
 use crate::steps::{is_end, read_step};
 use arrayvec::ArrayVec;
@@ -68,38 +68,6 @@ pub fn opened<D: Disk>(disk: D) -> Result<Journal<D>, (Ending, D)>
     match Journal::create(disk) {
         Ok(journal) => Ok(journal),
         Err((disk, why)) => Err((uncreated(why), disk)),
-    }
-}
-
-/// Reads the setup of a script, and gives the number of the line behind it; or tells how the run ends.
-fn read_setup<S: Source>(
-    lines: &mut Lines,
-    setup: &mut Setup,
-    script: &mut S,
-) -> Result<u32, Ending>
-    requires lines { standing_of lines.old ≡ none_given }
-    requires setup { setup.old ≡ no_devices }
-    ensures opened { IfOk result (λ number.
-        Going Always (S.left script.old) (S.left script.new) (standing_of lines.new).held number (at_steps setup.new)
-        IsUnbegun IsNothing) }
-    ensures took { IfOk result (λ number.
-        TookOpening S.takes S.left script.old script.new (standing_of lines.new).held number (at_steps setup.new)) }
-    ensures next { IfOk result (λ number. IsNext number (standing_of lines.new)) }
-    ensures ended { IfErr result (λ how.
-        OfBytes (S.left script.old) (λ bytes.
-        Played Always bytes how (S.left script.new) IsNothing NeverBroke BeforeSteps)) }
-    ensures unread { result ≡ Err Ending.Unread → Rose (S.faults script.old) (S.faults script.new) }
-    ensures of_script { IfErr result IsOfScript }
-    ensures tells { TellsAsBefore (S.left script.old) (S.left script.new) }
-    ensures later { S.faults script.old ≤ S.faults script.new }
-{
-    let mut number = 1;
-    loop {
-        match read_opening(lines, setup, number, script) {
-            Ok(Opened::Added) => number += 1,
-            Ok(Opened::Begun) => return Ok(number + 1),
-            Err(why) => return Err(ending_at(number, why)),
-        }
     }
 }
 
