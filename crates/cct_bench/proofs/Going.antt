@@ -28,14 +28,14 @@ use Rattle.cct_world.proofs.Early.{early_more, early_none}
 use Rattle.cct_world.proofs.Suiting.{legal_suits}
 use Rattle.cct_bench.specs.declared.lines.ScriptStop.{ScriptStop}
 use Rattle.cct_bench.specs.declared.lines.ScriptStop.TheVariants as stop
-use Rattle.cct_bench.specs.declared.play.Ending.TheVariants as ending
+use Rattle.cct_bench.specs.declared.ending.Ending.TheVariants as ending
 use Rattle.cct_bench.specs.Lines.{said_from, IsNext, ScriptGoesOn, IsClosed, StopsAt, EndsAt, Came}
 use Rattle.cct_bench.specs.Disks.{Always, most_records}
 use Rattle.cct_bench.specs.Going.{AlsoSays, Going, IsUnbegun}
 use Rattle.cct_bench.specs.SetupLines.{TookOpening}
 use Rattle.cct_bench.specs.Source.{AreTold, OfBytes, to_come}
 use Rattle.cct_text.specs.Writing.{IsNothing}
-use Rattle.cct_bench.specs.declared.play.Ending.{Ending}
+use Rattle.cct_bench.specs.declared.ending.Ending.{Ending}
 use Rattle.cct_bench.specs.Run.{BeforeSteps, IsOfScript, IsUnopened, Played, Stops, ending_at, unplayed_by}
 use Rattle.cct_bench.proofs.Continuing.{ended}
 use Rattle.cct_bench.proofs.Staying.{IsDone, setup_stays}

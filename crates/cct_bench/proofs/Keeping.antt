@@ -36,8 +36,8 @@ use Rattle.cct_world.proofs.Lasting.{lasts_in, lasts_on, lasts_then, trusted_on,
 use Rattle.cct_world.proofs.Restarts.{behind_on}
 use Rattle.cct_world.proofs.Sure.{crashes_none, rose_just, sure_back, sure_survives}
 use Rattle.cct_world.proofs.Surviving.{survived_by}
-use Rattle.cct_bench.specs.declared.play.Ending.{Ending}
-use Rattle.cct_bench.specs.declared.play.Ending.TheVariants as ending
+use Rattle.cct_bench.specs.declared.ending.Ending.{Ending}
+use Rattle.cct_bench.specs.declared.ending.Ending.TheVariants as ending
 use Rattle.cct_bench.specs.Disks.{Books, IsReady, disks, most_records}
 use Rattle.cct_bench.specs.declared.play.TheConstants.{JOURNAL_BYTES}
 use Rattle.cct_bench.specs.Going.{Going, IsUnbegun}

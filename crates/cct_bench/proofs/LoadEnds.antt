@@ -40,8 +40,8 @@ use Rattle.cct_load.specs.Played.{PlaysLoad, Relies, first_line}
 use Rattle.cct_load.specs.Played as loads
 use Rattle.cct_bench.specs.declared.outcome.Status.{Status}
 use Rattle.cct_bench.specs.declared.outcome.Status.TheVariants as status
-use Rattle.cct_bench.specs.declared.play.Ending.{Ending}
-use Rattle.cct_bench.specs.declared.play.Ending.TheVariants as ending
+use Rattle.cct_bench.specs.declared.ending.Ending.{Ending}
+use Rattle.cct_bench.specs.declared.ending.Ending.TheVariants as ending
 use Rattle.cct_bench.specs.declared.play.TheConstants.{JOURNAL_BYTES}
 use Rattle.cct_bench.specs.Disks.{Disks, IsReady, disks, most_records}
 use Rattle.cct_bench.specs.Load.{LoadCloses, LoadEnds, LoadPlayed, LoadStops, Loaded, load_ending}

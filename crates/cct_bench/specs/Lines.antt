@@ -15,8 +15,8 @@ use Rattle.cct_script.specs.Giving.{Standing}
 use Rattle.cct_bench.specs.Source.{to_come}
 use Rattle.cct_bench.specs.declared.lines.ScriptStop.{ScriptStop}
 use Rattle.cct_bench.specs.declared.lines.ScriptStop.TheVariants as stop
-use Rattle.cct_bench.specs.declared.play.Ending.{Ending}
-use Rattle.cct_bench.specs.declared.play.Ending.TheVariants as ending
+use Rattle.cct_bench.specs.declared.ending.Ending.{Ending}
+use Rattle.cct_bench.specs.declared.ending.Ending.TheVariants as ending
 
 -- What the lines from this number on say.
 abbrev pub said_from : ℕ → Stage → List ℕ → Script

@@ -20,8 +20,8 @@ use Rattle.cct_edge.specs.Bytes.{AppendsFront}
 use Rattle.cct_edge.specs.declared.fault.Failed.{Failed}
 use Rattle.cct_bench.specs.declared.lines.ScriptStop.{ScriptStop}
 use Rattle.cct_bench.specs.declared.lines.ScriptStop.TheVariants as stop
-use Rattle.cct_bench.specs.declared.play.Ending.{Ending}
-use Rattle.cct_bench.specs.declared.play.Ending.TheVariants as ending
+use Rattle.cct_bench.specs.declared.ending.Ending.{Ending}
+use Rattle.cct_bench.specs.declared.ending.Ending.TheVariants as ending
 use Rattle.cct_bench.specs.declared.play.TheConstants.{JOURNAL_BYTES}
 use Rattle.cct_world.specs.Early.{LegalBeforeLoss}
 use Rattle.cct_world.specs.Restarts.{LosesAt, Survived}

@@ -29,11 +29,13 @@ use cct_edge::{Sink, Source};
 use cct_load::Load;
 use cct_model::Entry;
 use cct_text::TextLine;
+use ending::close;
 use loading::run_load;
-use play::{Bench, close};
+use play::Bench;
 use reporting::report;
 use std::alloc::Global;
 
+mod ending;
 mod lines;
 mod loading;
 mod opening;

@@ -12,8 +12,9 @@ ghost use Rattle.cct_bench.specs.Disks.{IsReady, disks};
 ghost use Rattle.cct_bench.specs.Load.{LoadPlayed, Loaded, load_ending};
 ghost use Rattle.cct_bench.specs.Run.{status_of};
 
+use crate::ending::{Ending, finish_run, unplayed_by};
 use crate::outcome::Status;
-use crate::play::{Ending, finish_run, opened, unplayed_by};
+use crate::play::opened;
 use cct_disk::Disk;
 use cct_edge::Sink;
 use cct_gen::load_setup;

@@ -3,12 +3,18 @@ ghost use Rattle.std.specs.Prelude.{◌≡◌, ◌≤◌, ◌+◌, Err, Ok, IfOk
 ghost use Rattle.std.specs.Result.{IfErr};
 ghost use Rattle.cct_edge.specs.Bytes.{TellsAsBefore};
 ghost use Rattle.cct_edge.specs.Faults.{Rose};
-ghost use Rattle.cct_model.specs.Script.{at_setup, opens, refuses, read_form};
-ghost use Rattle.cct_script.specs.Giving.{standing_of};
+ghost use Rattle.cct_model.specs.Script.{at_setup, at_steps, no_devices, opens, refuses, read_form};
+ghost use Rattle.cct_script.specs.Giving.{none_given, standing_of};
 ghost use Rattle.cct_bench.specs.Lines.{IsNext, ScriptGoesOn, StopsAt, Came};
-ghost use Rattle.cct_bench.specs.SetupLines.{OpensLine};
+ghost use Rattle.cct_bench.specs.SetupLines.{OpensLine, TookOpening};
 ghost use Rattle.cct_bench.specs.Setup.{stage_of, opened_by};
+ghost use Rattle.cct_text.specs.Writing.{IsNothing, NeverBroke};
+ghost use Rattle.cct_bench.specs.Disks.{Always};
+ghost use Rattle.cct_bench.specs.Going.{Going, IsUnbegun};
+ghost use Rattle.cct_bench.specs.Source.{OfBytes};
+ghost use Rattle.cct_bench.specs.Run.{BeforeSteps, IsOfScript, Played};
 
+use crate::ending::{Ending, ending_at};
 use crate::lines::{ScriptStop, before_end};
 use cct_edge::Source;
 use cct_model::{LineKind, Setup, SetupLine};
@@ -68,5 +74,37 @@ pub fn read_opening<S: Source>(
     match take_setup_line(setup, line) {
         Ok(opened) => Ok(opened),
         Err(kind) => Err(ScriptStop::Refused(kind)),
+    }
+}
+
+/// Reads the setup of a script, and gives the number of the line behind it; or tells how the run ends.
+pub fn read_setup<S: Source>(
+    lines: &mut Lines,
+    setup: &mut Setup,
+    script: &mut S,
+) -> Result<u32, Ending>
+    requires lines { standing_of lines.old ≡ none_given }
+    requires setup { setup.old ≡ no_devices }
+    ensures opened { IfOk result (λ number.
+        Going Always (S.left script.old) (S.left script.new) (standing_of lines.new).held number (at_steps setup.new)
+        IsUnbegun IsNothing) }
+    ensures took { IfOk result (λ number.
+        TookOpening S.takes S.left script.old script.new (standing_of lines.new).held number (at_steps setup.new)) }
+    ensures next { IfOk result (λ number. IsNext number (standing_of lines.new)) }
+    ensures ended { IfErr result (λ how.
+        OfBytes (S.left script.old) (λ bytes.
+        Played Always bytes how (S.left script.new) IsNothing NeverBroke BeforeSteps)) }
+    ensures unread { result ≡ Err Ending.Unread → Rose (S.faults script.old) (S.faults script.new) }
+    ensures of_script { IfErr result IsOfScript }
+    ensures tells { TellsAsBefore (S.left script.old) (S.left script.new) }
+    ensures later { S.faults script.old ≤ S.faults script.new }
+{
+    let mut number = 1;
+    loop {
+        match read_opening(lines, setup, number, script) {
+            Ok(Opened::Added) => number += 1,
+            Ok(Opened::Begun) => return Ok(number + 1),
+            Err(why) => return Err(ending_at(number, why)),
+        }
     }
 }

@@ -1,6 +1,6 @@
 //! A run: the script is read a line at a time, and each step is played and its entries are written before the next line
 //! is read.
-ghost use Rattle.std.specs.Prelude.{◌≡◌, ◌≢◌, false, ◌⊎◌, ℕ, ◌+◌, ◌≤◌, List, ◌∷◌, [], Option, Result, Ok, Err};
+ghost use Rattle.std.specs.Prelude.{◌≡◌, ◌≢◌, false, ◌⊎◌, ℕ, ◌+◌, ◌≤◌, List, [], Option, Result, Ok, Err};
 ghost use Rattle.std.specs.Prelude.{IfOk, IfErr, MatchResult, OnOk};
 ghost use Rattle.cct_edge.specs.Bytes.{TellsAsBefore};
 ghost use Rattle.cct_edge.specs.declared.fault.Failed.{Failed};
@@ -8,7 +8,6 @@ ghost use Rattle.cct_edge.specs.Faults.{Rose};
 ghost use Rattle.cct_model.specs.lines.entry.Entry.{Entry};
 ghost use Rattle.cct_model.specs.terms.device.Setup.{Setup};
 ghost use Rattle.cct_model.specs.Script.{no_devices, at_steps};
-ghost use Rattle.cct_model.specs.Text.{line_of};
 ghost use Rattle.cct_script.specs.Giving.{none_given, standing_of};
 ghost use Rattle.cct_disk.specs.Disk.{IsTrusted};
 ghost use Rattle.cct_journal.specs.Journal as journals;
@@ -19,80 +18,32 @@ ghost use Rattle.cct_world.specs.Step.{CutsIn, LastsIn};
 ghost use Rattle.cct_host.specs.Book.{HasBook};
 ghost use Rattle.cct_world.specs.World.{Breaks, StandsFor, disk_of, setup_of, used_of};
 ghost use Rattle.cct_bench.specs.Lines.{Came, EndsAt, IsNext};
-ghost use Rattle.cct_bench.specs.Disks.{Always, Books, IsReady, disks};
+ghost use Rattle.cct_bench.specs.Disks.{Books, IsReady, disks};
 ghost use Rattle.cct_world.specs.Sure.{Sure};
-ghost use Rattle.cct_bench.specs.Going.{Going, IsUnbegun};
-ghost use Rattle.cct_bench.specs.SetupLines.{TookOpening, TookSetup};
+ghost use Rattle.cct_bench.specs.Going.{Going};
+ghost use Rattle.cct_bench.specs.SetupLines.{TookSetup};
 ghost use Rattle.cct_bench.specs.Source.{OfBytes};
-ghost use Rattle.cct_text.specs.Writing.{Writes, Wrote, Broke, IsNothing, NeverBroke};
+ghost use Rattle.cct_text.specs.Writing.{Writes, Wrote, Broke};
 ghost use Rattle.cct_bench.specs.Playing.{CanPlay, PlaysOn};
-ghost use Rattle.cct_bench.specs.Run.{BeforeSteps, ClosedBy, IsOfScript, IsUnopened, OverCut, Played, Ran, ending_at};
-ghost use Rattle.cct_bench.specs.Run.{last_entry, listed, status_by, status_of, uncreated, unplayed_by};
+ghost use Rattle.cct_bench.specs.Run.{IsOfScript, IsUnopened, OverCut, Played, Ran, status_of, unplayed_by};
 
-use crate::lines::{ScriptStop, behind_end};
-use crate::opening::{Opened, read_opening};
+use crate::ending::{Ending, ending_at, finish_run, uncreated, unplayed_by};
+use crate::lines::behind_end;
+use crate::opening::read_setup;
 use crate::outcome::Status;
 use crate::steps::{is_end, read_step};
 use arrayvec::ArrayVec;
 use cct_disk::{Disk, MADE_LEN};
 use cct_edge::{Failed, Sink, Source};
-use cct_journal::{CreateNo, Journal};
-use cct_model::{Devices, Entry, LineKind, Setup, Step};
+use cct_journal::Journal;
+use cct_model::{Devices, Entry, Setup, Step};
 use cct_script::Lines;
-use cct_text::{TextLine, write_entries, write_entry};
-use cct_world::{World, WorldNo};
+use cct_text::{TextLine, write_entries};
+use cct_world::World;
 use std::alloc::Global;
 
 /// How many bytes the disk of a journal has: those of a file that is made for it.
 pub const JOURNAL_BYTES: u64 = MADE_LEN;
-
-/// How the steps of a script came to their end.
-#[derive(Clone, Copy, Debug, PartialEq, Eq)]
-pub enum Ending {
-    /// At the script's end.
-    Done,
-    /// At a line that is refused.
-    Refused { number: u32, kind: LineKind },
-    /// At a fault in reading.
-    Unread,
-    /// At a fault in writing.
-    Unwritten,
-    /// There was no memory for the machine.
-    NoMemory,
-    /// The disk failed, before the first byte of the script, in a put, or in a loss of power.
-    DiskFailed,
-    /// The disk isn't blank: this is its first byte that isn't 0.
-    NotBlank { at: u64 },
-    /// The disk has another length than a journal wants.
-    OtherSize { len: u64 },
-    /// The disk that a loss of power left has no journal.
-    JournalAlien,
-    /// The record of this index on it can't be read, or doesn't follow those before it.
-    JournalBad { index: u32 },
-    /// It has so many records, where so many were put.
-    RecordsLost { found: u32, put: u32 },
-}
-
-/// How a run ends where its script is read no further at a line of this number.
-fn ending_at(number: u32, why: ScriptStop) -> Ending
-    ensures { result ≡ ending_at number why }
-{
-    match why {
-        ScriptStop::Unread => Ending::Unread,
-        ScriptStop::Refused(kind) => Ending::Refused { number, kind },
-    }
-}
-
-/// How a run ends where no journal is created on its disk.
-fn uncreated(why: CreateNo) -> Ending
-    ensures { result ≡ uncreated why }
-{
-    match why {
-        CreateNo::Small { len } => Ending::OtherSize { len },
-        CreateNo::Disk => Ending::DiskFailed,
-        CreateNo::NotBlank { at } => Ending::NotBlank { at },
-    }
-}
 
 /// A new journal on a blank disk that has the length of one; or tells how the run ends, and gives the disk back.
 pub fn opened<D: Disk>(disk: D) -> Result<Journal<D>, (Ending, D)>
@@ -117,50 +68,6 @@ pub fn opened<D: Disk>(disk: D) -> Result<Journal<D>, (Ending, D)>
     match Journal::create(disk) {
         Ok(journal) => Ok(journal),
         Err((disk, why)) => Err((uncreated(why), disk)),
-    }
-}
-
-/// How a run ends where a step isn't played.
-pub fn unplayed_by(why: WorldNo) -> Ending
-    ensures { result ≡ unplayed_by why }
-{
-    match why {
-        WorldNo::Disk => Ending::DiskFailed,
-        WorldNo::Alien => Ending::JournalAlien,
-        WorldNo::BadRecord { index } => Ending::JournalBad { index },
-        WorldNo::Lost { found, put } => Ending::RecordsLost { found, put },
-    }
-}
-
-/// Reads the setup of a script, and gives the number of the line behind it; or tells how the run ends.
-fn read_setup<S: Source>(
-    lines: &mut Lines,
-    setup: &mut Setup,
-    script: &mut S,
-) -> Result<u32, Ending>
-    requires lines { standing_of lines.old ≡ none_given }
-    requires setup { setup.old ≡ no_devices }
-    ensures opened { IfOk result (λ number.
-        Going Always (S.left script.old) (S.left script.new) (standing_of lines.new).held number (at_steps setup.new)
-        IsUnbegun IsNothing) }
-    ensures took { IfOk result (λ number.
-        TookOpening S.takes S.left script.old script.new (standing_of lines.new).held number (at_steps setup.new)) }
-    ensures next { IfOk result (λ number. IsNext number (standing_of lines.new)) }
-    ensures ended { IfErr result (λ how.
-        OfBytes (S.left script.old) (λ bytes.
-        Played Always bytes how (S.left script.new) IsNothing NeverBroke BeforeSteps)) }
-    ensures unread { result ≡ Err Ending.Unread → Rose (S.faults script.old) (S.faults script.new) }
-    ensures of_script { IfErr result IsOfScript }
-    ensures tells { TellsAsBefore (S.left script.old) (S.left script.new) }
-    ensures later { S.faults script.old ≤ S.faults script.new }
-{
-    let mut number = 1;
-    loop {
-        match read_opening(lines, setup, number, script) {
-            Ok(Opened::Added) => number += 1,
-            Ok(Opened::Begun) => return Ok(number + 1),
-            Err(why) => return Err(ending_at(number, why)),
-        }
     }
 }
 
@@ -438,78 +345,5 @@ impl Bench {
     {
         let (how, disk) = self.play_over(alloc, script, out, disk);
         (finish_run(how, out, &mut self.desk.page.line), disk)
-    }
-}
-
-/// The last line of a run that came to this end, if it has one.
-fn last_entry(how: Ending) -> Option<Entry>
-    ensures { result ≡ last_entry how }
-{
-    match how {
-        Ending::Done => None,
-        Ending::Refused { number, kind } => Some(Entry::Line { number, kind }),
-        Ending::Unread => Some(Entry::ReadFault),
-        Ending::Unwritten => None,
-        Ending::NoMemory => None,
-        Ending::DiskFailed => Some(Entry::DiskFault),
-        Ending::NotBlank { at } => Some(Entry::NotBlank { at }),
-        Ending::OtherSize { len } => Some(Entry::DiskSize { len }),
-        Ending::JournalAlien => Some(Entry::JournalAlien),
-        Ending::JournalBad { index } => Some(Entry::JournalBad { index }),
-        Ending::RecordsLost { found, put } => Some(Entry::JournalLost { found, put }),
-    }
-}
-
-/// The status of a run that came to this end, where its last line is written.
-fn status_of(how: Ending) -> Status
-    ensures { result ≡ status_of how }
-{
-    match how {
-        Ending::Done => Status::Done,
-        Ending::Refused { .. } => Status::ScriptRefused,
-        Ending::Unread => Status::ReadFault,
-        Ending::Unwritten => Status::WriteFault,
-        Ending::NoMemory => Status::OutOfMemory,
-        Ending::DiskFailed => Status::DiskFault,
-        Ending::NotBlank { .. } => Status::NotBlank,
-        Ending::OtherSize { .. } => Status::DiskSize,
-        Ending::JournalAlien => Status::JournalLost,
-        Ending::JournalBad { .. } => Status::JournalLost,
-        Ending::RecordsLost { .. } => Status::JournalLost,
-    }
-}
-
-/// Ends a run that came to this end: its last line is written where it has one.
-pub fn finish_run<K: Sink>(how: Ending, out: &mut K, line: &mut TextLine) -> Status
-    ensures writes { (answer : Result (Unit {0}) Failed)
-        × Writes K.written K.puts out.old (listed (last_entry how)) answer out.new
-        × (result ≡ status_by answer (status_of how)) }
-    ensures tells { TellsAsBefore (K.written out.old) (K.written out.new) }
-    ensures cause { (result ≡ status_of how) ⊎ (Rose (K.faults out.old) (K.faults out.new)
-        × (result ≡ Status.WriteFault)) }
-    ensures later { K.faults out.old ≤ K.faults out.new }
-    ensures memory { how ≡ Ending.NoMemory → out.new ≡ out.old }
-{
-    let status = status_of(how);
-    match last_entry(how) {
-        Some(entry) => close(out, line, &entry, status),
-        None => status,
-    }
-}
-
-/// Writes a last line, and gives the status that it tells, or that of a fault in writing.
-pub fn close<K: Sink>(out: &mut K, line: &mut TextLine, entry: &Entry, status: Status) -> Status
-    ensures writes { (answer : Result (Unit {0}) Failed)
-        × Writes K.written K.puts out.old (entry.now ∷ []) answer out.new × (result ≡ status_by answer status) }
-    ensures one { (answer : Result (Unit {0}) Failed)
-        × K.puts out.old (line_of entry.now) answer out.new × (result ≡ status_by answer status) }
-    ensures closed { ClosedBy result status (line_of entry.now) (K.written out.old) (K.written out.new) }
-    ensures tells { TellsAsBefore (K.written out.old) (K.written out.new) }
-    ensures cause { result ≡ status ⊎ Rose (K.faults out.old) (K.faults out.new) }
-    ensures later { K.faults out.old ≤ K.faults out.new }
-{
-    match write_entry(out, line, entry) {
-        Ok(()) => status,
-        Err(_) => Status::WriteFault,
     }
 }

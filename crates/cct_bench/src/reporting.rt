@@ -11,8 +11,9 @@ ghost use Rattle.cct_bench.specs.Report.{IsDecided, Reported, image_known, line_
 ghost use Rattle.cct_bench.specs.Report.{size_known};
 ghost use Rattle.cct_bench.specs.Run.{status_by};
 
+use crate::ending::close;
 use crate::outcome::Status;
-use crate::play::{JOURNAL_BYTES, close};
+use crate::play::JOURNAL_BYTES;
 use cct_disk::Disk;
 use cct_edge::Sink;
 use cct_model::Entry;

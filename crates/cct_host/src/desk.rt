@@ -1,41 +1,34 @@
 //! The host's desk for one place: a device, the address of all devices, where scans are, or that of sales.
-ghost use Rattle.std.specs.Prelude.{◌≡◌, ◌<◌, ◌≤◌, ◌^◌, ℕ, List, [], ◌∷◌, ◌++◌, ◌*◌, ◌+◌, length, Option, Some, None, true, false, max, IfSome, IsTrue, OnErr, OnOk};
-ghost use Rattle.std.specs.Option.{option_map, option_or};
+ghost use Rattle.std.specs.Prelude.{◌≡◌, ◌<◌, ◌≤◌, ◌^◌, [], ◌+◌, Option, Some, None, true, false, IfSome, OnErr, OnOk};
+ghost use Rattle.std.specs.Option.{option_map};
 ghost use Rattle.arrayvec.specs.ArrayVec.{array_vec_len};
 ghost use Rattle.cct_model.specs.declared.judging.OpenOrder.{OpenOrder};
 ghost use Rattle.cct_model.specs.lines.entry.Entry.{Entry};
 ghost use Rattle.cct_model.specs.terms.device.Setup.{Setup};
 ghost use Rattle.cct_model.specs.Exchange.{device_at};
-ghost use Rattle.cct_model.specs.Following as following;
-ghost use Rattle.cct_model.specs.Job.{address_of, counted, epoch_by, works};
-ghost use Rattle.cct_model.specs.Order.{order_by};
-ghost use Rattle.cct_model.specs.Records.{id_of};
-ghost use Rattle.cct_model.specs.Refusal.{id_refusal, order_refusal, running_id, running_refusal, settle_refusal, start_refusal};
+ghost use Rattle.cct_model.specs.Job.{address_of, works};
+ghost use Rattle.cct_model.specs.Refusal.{running_id};
 ghost use Rattle.cct_model.specs.Rows.{puts_in};
-ghost use Rattle.cct_record.specs.Body.{Encodable};
 ghost use Rattle.cct_jobs.specs.Ahead.{coins_in};
-ghost use Rattle.cct_jobs.specs.Jobs.{MayBegin, is_of_device, order_of};
-ghost use Rattle.cct_ledger.specs.Orders.{has_id};
-ghost use Rattle.cct_host.specs.Held.{FitsIn, FitsIn-prop, coins_by, due_by, order_left, price_by, put_in, puts_left, sells_only};
+ghost use Rattle.cct_jobs.specs.Jobs.{is_of_device, order_of};
+ghost use Rattle.cct_host.specs.Held.{FitsIn, FitsIn-prop, coins_by, due_by, price_by, puts_left, sells_only};
 ghost use Rattle.cct_host.specs.Place as places;
-ghost use Rattle.cct_host.specs.Running.{acceptor_refusal, busy_by, halting_refusal, halts_in, hopper_refusal, id_left, is_halt, is_running, needed, refusal_beside, rows_begun, sale_refusal};
+ghost use Rattle.cct_host.specs.Running.{id_left, is_halt, is_running, needed, rows_begun};
 
 use crate::dues::Dues;
 use crate::exchange::{converse, settled};
-use crate::values::valueless;
+use crate::recorded::{epoch_by, id_of};
 use arrayvec::ArrayVec;
-use cct_jobs::{Job, Need, Owed};
-use cct_model::{
-    Command, CommandNo, DEVICES, DeviceSetup, Entry, EpochState, Family, OpenOrder, Record, Setup,
-};
+use cct_jobs::{Job, Need};
+use cct_model::{Command, CommandNo, DeviceSetup, Entry, EpochState, OpenOrder, Setup};
 use cct_wire::Link;
 
 /// The job at a place, and the epoch or the open order that is recorded of a device there.
 #[derive(Drop)]
 pub(crate) struct JobDesk {
-    job: Option<Job>,
-    epoch: EpochState,
-    dues: Dues,
+    pub(crate) job: Option<Job>,
+    pub(crate) epoch: EpochState,
+    pub(crate) dues: Dues,
     ghost runs: { is_running job ≡ true },
     ghost fits: { FitsIn job } by { FitsIn-prop job },
 }
@@ -55,8 +48,7 @@ impl Default for JobDesk {
 }
 
 impl JobDesk {
-    ghost use Rattle.cct_host.specs.Desk.{Attempts, Commands, CommandsAbove, Keeps, RefusesAbove, Sits, greatest_paying, held_at, held_in, puts_at};
-    ghost use Rattle.cct_host.specs.Recalled.{may_begin};
+    ghost use Rattle.cct_host.specs.Desk.{Attempts, Commands, CommandsAbove, held_at, puts_at};
 
     /// A command to the device of this desk is taken, or refused for the first reason that holds; a refused one changes
     /// nothing.
@@ -83,21 +75,6 @@ impl JobDesk {
         }
     }
 
-    /// Why a command to the device of this desk is refused, if it is: the first reason that holds, whatever room there
-    /// is for its records.
-    pub(crate) fn command_refusal(
-        &self,
-        command: &Command,
-        device: &DeviceSetup,
-        last: u32,
-    ) -> Option<CommandNo>
-        requires of_device { is_of_device command.now ≡ true }
-        ensures { (setup : Setup) → device_at setup.devices (address_of command.now) ≡ Some device.now
-            → RefusesAbove setup last (places.device device.now) self.now command.now result }
-    {
-        self.refusal(command, device, last)
-    }
-
     /// A halt is taken, or refused where no payout could be stopped; a refused one changes nothing.
     fn halt(
         &mut self,
@@ -122,32 +99,6 @@ impl JobDesk {
                 }
                 Ok(())
             }
-        }
-    }
-
-    /// Why a halt is refused, if it is.
-    fn halting_refusal(&self, device: &DeviceSetup) -> Option<CommandNo>
-        ensures { result ≡ halting_refusal device.now self.now.job }
-    {
-        match device.body.family() {
-            Family::Acceptor => Some(CommandNo::WrongKind),
-            Family::Hopper => {
-                if self.can_halt() {
-                    None
-                } else {
-                    Some(CommandNo::NoPayout)
-                }
-            }
-        }
-    }
-
-    /// Whether there is a job that can be halted.
-    fn can_halt(&self) -> bool
-        ensures { result ≡ halts_in self.now.job }
-    {
-        match &self.job {
-            Some(job) => job.can_halt(),
-            None => false,
         }
     }
 
@@ -190,49 +141,6 @@ impl JobDesk {
         }
     }
 
-    /// Whether an epoch with a mask may begin at the acceptor of this desk: none runs, and each place of the mask, which
-    /// isn't 0, has a value.
-    pub(crate) fn epoch_may_begin(&self, device: &DeviceSetup, mask: u16) -> bool
-        ensures { result ≡ may_begin device.now self.now.epoch mask }
-    {
-        device.body.is_acceptor()
-            && !self.epoch_runs()
-            && mask != 0
-            && valueless(&device.body, mask).is_none()
-    }
-
-    /// Whether an epoch runs.
-    pub(crate) fn epoch_runs(&self) -> bool
-        ensures { result ≡ following.is_running self.now.epoch }
-    {
-        match self.epoch {
-            EpochState::Idle => false,
-            EpochState::Running { .. } => true,
-        }
-    }
-
-    /// Whether the open order has this id.
-    pub(crate) fn owes(&self, id: u32) -> bool
-        ensures { result ≡ has_id id (order_of self.now.dues.order) }
-    {
-        match &self.dues.order {
-            Some(owed) => owed.order.id == id,
-            None => false,
-        }
-    }
-
-    /// A record of this desk's device is recalled: the epoch or the open order goes on by it.
-    pub(crate) fn recall(&mut self, entry: &Record)
-        requires encodable { Encodable entry.now }
-        ensures job { self.new.job ≡ self.old.job }
-        ensures epoch { self.new.epoch ≡ epoch_by entry.now self.old.epoch }
-        ensures order { order_of self.new.dues.order ≡ order_by entry.now (order_of self.old.dues.order) }
-        ensures id { self.new.dues.id ≡ self.old.dues.id }
-    {
-        self.epoch = epoch_by(entry, self.epoch);
-        self.dues.order = order_by(entry, self.dues.order);
-    }
-
     /// A scan is taken, or refused since one runs; a refused one changes nothing.
     pub(crate) fn scan(&mut self, command: &Command, setup: &Setup) -> Result<(), CommandNo>
         requires { command.now ≡ Command.Scan }
@@ -272,124 +180,6 @@ impl JobDesk {
                 self.dues.id = id;
                 Ok(())
             }
-        }
-    }
-
-    /// Why a sale is refused, if it is: one runs, or its id isn't new.
-    pub(crate) fn sale_refusal(&self, id: u32, last: u32) -> Option<CommandNo>
-        ensures { result ≡ sale_refusal self.now.job id last }
-    {
-        match self.busy() {
-            Some(why) => Some(why),
-            None => id_refusal(id, last),
-        }
-    }
-
-    /// Why a command is refused, if it is.
-    fn refusal(&self, command: &Command, device: &DeviceSetup, last: u32) -> Option<CommandNo>
-        ensures { result ≡ refusal_beside device.now self.now.job self.now.epoch self.now.dues last command.now }
-    {
-        match *command {
-            Command::Start { mask, .. } => self.acceptor_refusal(
-                device,
-                self.start_refusal(device, mask),
-            ),
-            Command::Round { .. } => self.acceptor_refusal(device, self.running_refusal()),
-            Command::Stop { .. } => self.acceptor_refusal(device, self.running_refusal()),
-            Command::Path { .. } => self.acceptor_refusal(device, None),
-            Command::Pay { id, .. } => self.hopper_refusal(device, self.pay_refusal(id, last)),
-            Command::Settle { .. } => self.hopper_refusal(device, self.settle_refusal()),
-            Command::Halt { .. } => self.halting_refusal(device),
-            Command::Ident { .. } => self.busy(),
-            Command::Scan => self.busy(),
-            Command::Vend { id, .. } => self.sale_refusal(id, last),
-        }
-    }
-
-    /// Why a command to a coin acceptor is refused, if it is: a further reason is the last.
-    fn acceptor_refusal(
-        &self,
-        device: &DeviceSetup,
-        further: Option<CommandNo>,
-    ) -> Option<CommandNo>
-        ensures { result ≡ acceptor_refusal device.now self.now.job further }
-    {
-        match device.body.family() {
-            Family::Acceptor => self.busy_or(further),
-            Family::Hopper => Some(CommandNo::WrongKind),
-        }
-    }
-
-    /// Why a command to a hopper is refused, if it is: a further reason is the last.
-    fn hopper_refusal(&self, device: &DeviceSetup, further: Option<CommandNo>) -> Option<CommandNo>
-        ensures { result ≡ hopper_refusal device.now self.now.job further }
-    {
-        match device.body.family() {
-            Family::Acceptor => Some(CommandNo::WrongKind),
-            Family::Hopper => self.busy_or(further),
-        }
-    }
-
-    /// Why a command is refused where a job is here, and else a further reason.
-    fn busy_or(&self, further: Option<CommandNo>) -> Option<CommandNo>
-        ensures { result ≡ option_or (busy_by self.now.job) further }
-    {
-        match self.busy() {
-            Some(why) => Some(why),
-            None => further,
-        }
-    }
-
-    /// Why a payment is refused beside the open order and the last id: an order is open, or its id isn't new.
-    fn pay_refusal(&self, id: u32, last: u32) -> Option<CommandNo>
-        ensures { result ≡ option_or (order_refusal (order_of self.now.dues.order)) (id_refusal id last) }
-    {
-        match &self.dues.order {
-            None => id_refusal(id, last),
-            Some(owed) => Some(CommandNo::OrderOpen { id: owed.order.id }),
-        }
-    }
-
-    /// Why a settlement is refused beside the open order: there is none.
-    fn settle_refusal(&self) -> Option<CommandNo>
-        ensures { result ≡ settle_refusal (order_of self.now.dues.order) }
-    {
-        match &self.dues.order {
-            None => Some(CommandNo::NoOrder),
-            Some(_) => None,
-        }
-    }
-
-    /// Why a start with a mask is refused beside the epoch: one runs, or a place of the mask has no value.
-    fn start_refusal(&self, device: &DeviceSetup, mask: u16) -> Option<CommandNo>
-        ensures { result ≡ start_refusal mask device.now self.now.epoch }
-    {
-        match self.epoch {
-            EpochState::Idle => match valueless(&device.body, mask) {
-                None => None,
-                Some(place) => Some(CommandNo::NoValue { place }),
-            },
-            EpochState::Running { .. } => Some(CommandNo::EpochRuns),
-        }
-    }
-
-    /// Why a round or a stop is refused beside the epoch: none runs.
-    fn running_refusal(&self) -> Option<CommandNo>
-        ensures { result ≡ running_refusal self.now.epoch }
-    {
-        match self.epoch {
-            EpochState::Idle => Some(CommandNo::NoEpoch),
-            EpochState::Running { .. } => None,
-        }
-    }
-
-    /// Why a command is refused because of the job: there is one.
-    pub(crate) fn busy(&self) -> Option<CommandNo>
-        ensures { result ≡ busy_by self.now.job }
-    {
-        match self.job {
-            None => None,
-            Some(_) => Some(CommandNo::Busy),
         }
     }
 
@@ -465,92 +255,6 @@ impl JobDesk {
         self.dues.id
     }
 
-    /// How many records are held for this place: those that its job may still put, and one for an open order that no
-    /// job is at work to close.
-    pub(crate) fn held(&self) -> u32
-        ensures value { result ≡ held_at self.now }
-        ensures few { result ≤ 3 }
-    {
-        self.puts_left() + self.order_left()
-    }
-
-    /// How many records are held for the places of desks.
-    pub(crate) fn held_in(desks: &[JobDesk]) -> u32
-        requires { length desks.now ≤ DEVICES }
-        ensures value { result ≡ held_in desks.now }
-        ensures few { result ≤ 3 * length desks.now }
-    {
-        match desks {
-            [] => 0,
-            [desk, rest @ ..] => desk.held() + JobDesk::held_in(rest),
-        }
-    }
-
-    /// How many records the job may still put.
-    #[tactic(auto, using(crate::proofs::Held::few_left))]
-    fn puts_left(&self) -> u32
-        ensures value { result ≡ puts_left self.now.job }
-        ensures few { result ≤ 2 }
-    {
-        match &self.job {
-            Some(job) => job.may_put(),
-            None => 0,
-        }
-    }
-
-    /// One record for the open order that no job is at work to close, if there is one.
-    fn order_left(&self) -> u32
-        ensures value { result ≡ order_left self.now.job (order_of self.now.dues.order) }
-        ensures few { result ≤ 1 }
-    {
-        match (&self.dues.order, &self.job) {
-            (None, _) => 0,
-            (Some(_), None) => 1,
-            (Some(_), Some(job)) => u32::from(!job.closes_order()),
-        }
-    }
-
-    /// The record that the job is about to put, if it is about to put one.
-    pub(crate) fn due(&self) -> Option<Record>
-        ensures value { result ≡ due_by self.now.job }
-        ensures fits { IfSome result Encodable }
-    {
-        match &self.job {
-            Some(job) => put_in(job.needs()),
-            None => None,
-        }
-    }
-
-    /// How many coins the job reserves.
-    pub(crate) fn coins_reserved(&self) -> u8
-        ensures { result ≡ coins_by self.now.job }
-    {
-        match &self.job {
-            Some(job) => job.coins_reserved(),
-            None => 0,
-        }
-    }
-
-    /// What the job reserves besides coins, in units of value.
-    pub(crate) fn price_reserved(&self) -> u32
-        ensures { result ≡ price_by self.now.job }
-    {
-        match &self.job {
-            Some(job) => job.price_reserved(),
-            None => 0,
-        }
-    }
-
-    /// The greatest id of the payments at work at desks.
-    pub(crate) fn greatest_paying(desks: &[JobDesk]) -> u32
-        ensures { result ≡ greatest_paying desks.now }
-    {
-        match desks {
-            [] => 0,
-            [desk, rest @ ..] => greater(desk.dues.id, JobDesk::greatest_paying(rest)),
-        }
-    }
-
     /// The id of the payment or the sale that is still at work, or 0.
     fn id_left(&self) -> u32
         ensures { result ≡ id_left self.now.job self.now.dues.id }
@@ -559,16 +263,6 @@ impl JobDesk {
             None => 0,
             Some(_) => self.dues.id,
         }
-    }
-}
-
-/// The record that is needed to be put, if one is.
-fn put_in(need: Need) -> Option<Record>
-    ensures { result ≡ put_in need }
-{
-    match need {
-        Need::Put(entry) => Some(entry),
-        _ => None,
     }
 }
 
@@ -591,86 +285,5 @@ fn id_begun(command: &Command) -> u32
         Command::Pay { id, .. } => id,
         Command::Vend { id, .. } => id,
         _ => 0,
-    }
-}
-
-/// Why an id is refused: it isn't above the last one.
-fn id_refusal(id: u32, last: u32) -> Option<CommandNo>
-    ensures { result ≡ id_refusal id last }
-{
-    if id <= last {
-        Some(CommandNo::OldId { last })
-    } else {
-        None
-    }
-}
-
-/// The id that a record uses, of an order that it opens or of a sale; 0 of others.
-pub(crate) fn id_of(entry: &Record) -> u32
-    ensures { result ≡ id_of entry.now }
-{
-    match entry {
-        Record::Opened { id, .. } => *id,
-        Record::Sold { id, .. } => *id,
-        _ => 0,
-    }
-}
-
-/// The greater of two ids.
-pub(crate) fn greater(one: u32, other: u32) -> u32
-    ensures { result ≡ max one other }
-{
-    one.max(other)
-}
-
-/// The epoch after a record: it begins with event counter 0, a reading moves its counter, and a break or its end ends
-/// it.
-fn epoch_by(entry: &Record, before: EpochState) -> EpochState
-    ensures { result ≡ epoch_by entry.now before }
-{
-    match entry {
-        Record::Epoch { mask, .. } => EpochState::Running {
-            mask: *mask,
-            counter: 0,
-        },
-        Record::Reading { counter, .. } => counted(*counter, before),
-        Record::Broken { .. } => EpochState::Idle,
-        Record::EpochEnd { .. } => EpochState::Idle,
-        _ => before,
-    }
-}
-
-/// The open order after a record: it is opened, closed, or as before.
-fn order_by(entry: &Record, before: Option<Owed>) -> Option<Owed>
-    requires encodable { Encodable entry.now }
-    ensures { order_of result ≡ order_by entry.now (order_of before) }
-{
-    match entry {
-        Record::Opened {
-            id,
-            addr,
-            count,
-            life,
-        } => Some(Owed {
-            order: OpenOrder {
-                id: *id,
-                addr: *addr,
-                count: *count,
-                life: *life,
-            },
-        }),
-        Record::Closed { .. } => None,
-        Record::Odd { .. } => None,
-        _ => before,
-    }
-}
-
-/// An epoch, where one runs, with another event counter.
-fn counted(counter: u8, before: EpochState) -> EpochState
-    ensures { result ≡ counted counter before }
-{
-    match before {
-        EpochState::Idle => EpochState::Idle,
-        EpochState::Running { mask, .. } => EpochState::Running { mask, counter },
     }
 }

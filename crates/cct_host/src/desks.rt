@@ -22,7 +22,9 @@ ghost use Rattle.cct_host.specs.Held.{sells_only};
 ghost use Rattle.cct_host.specs.Running.{amount_of, needed, rows_begun};
 ghost use Rattle.cct_host.specs.Sound.{IsSoundSetup-prop};
 
-use crate::desk::{JobDesk, greater, id_of};
+use crate::desk::JobDesk;
+use crate::recorded::id_of;
+use crate::reserves::greater;
 use arrayvec::ArrayVec;
 use cct_ledger::coins_of;
 use cct_model::{BROADCAST, Command, CommandNo, DEVICES, DeviceSetup, Entry, HOST, Record, Setup};

@@ -8,8 +8,11 @@ mod desks;
 mod dues;
 mod exchange;
 mod host;
+mod reasons;
 mod recall;
+mod recorded;
 mod refusal;
+mod reserves;
 mod restart;
 mod values;
 

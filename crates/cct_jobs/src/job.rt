@@ -1,6 +1,5 @@
 //! A job, by the row at which it stands.
-ghost use Rattle.std.specs.Prelude.{◌≡◌, ◌≢◌, ◌≤◌, ◌<◌, ◌^◌, List, ℕ, [], ◌∷◌, Option, Some, None, IsTrue, is_some, true, false};
-ghost use Rattle.std.specs.Option.{option_map};
+ghost use Rattle.std.specs.Prelude.{◌≡◌, ◌≤◌, ◌<◌, List, ℕ, ◌∷◌, Option, Some, None, true, false};
 ghost use Rattle.cct_model.specs.lines.command.Command.{Command};
 ghost use Rattle.cct_model.specs.lines.command.Command.TheVariants as command;
 ghost use Rattle.cct_model.specs.terms.device.DeviceSetup.{DeviceSetup};
@@ -9,10 +8,10 @@ ghost use Rattle.cct_model.specs.declared.judging.EpochState.{EpochState};
 ghost use Rattle.cct_model.specs.lines.record.Record.{Record};
 ghost use Rattle.cct_model.specs.terms.request.Request.{Request};
 ghost use Rattle.cct_model.specs.terms.wire.CheckKind.{CheckKind};
-ghost use Rattle.cct_model.specs.Exchange.{ask, device_at};
+ghost use Rattle.cct_model.specs.Exchange.{ask};
 ghost use Rattle.cct_model.specs.declared.judging.OpenOrder.{OpenOrder};
-ghost use Rattle.cct_model.specs.Job.{address_of, sends, works};
-ghost use Rattle.cct_model.specs.Rows.{can_halt, closes_order, has_closes, has_waits, left, left_of_sale, puts_in, row, rows_of, rows_of_sale};
+ghost use Rattle.cct_model.specs.Job.{sends, works};
+ghost use Rattle.cct_model.specs.Rows.{can_halt, closes_order, has_closes, has_waits, left, left_of_sale, puts_in, row};
 ghost use Rattle.cct_model.specs.Line.{Line, put, taken};
 ghost use Rattle.cct_model.specs.Money.{coins_of, reserved_by, reserved_by_sale};
 ghost use Rattle.cct_model.specs.Order.{order_by};
@@ -20,21 +19,15 @@ ghost use Rattle.cct_model.specs.Scan.{end_of_scan, poll_of, scan_row};
 ghost use Rattle.cct_model.specs.Transcript.{scan_line};
 ghost use Rattle.cct_record.specs.Body.{Encodable};
 ghost use Rattle.cct_jobs.specs.Ahead.{ahead, coins_in, price_in};
-ghost use Rattle.cct_jobs.specs.Jobs.{IsPut, IsRunning, MayBegin, Needs, PutsFit, Stands, after_halt, after_put, end_of_job, first_need, is_of_device, line_heard, need_of, newest_end, opened_by, order_of, owed_after, runs, sending_of};
+ghost use Rattle.cct_jobs.specs.Jobs.{IsPut, Needs, PutsFit, Stands, after_halt, after_put, end_of_job, line_heard, need_of, newest_end, order_of, owed_after, sending_of};
 ghost use Rattle.cct_jobs.specs.Sales.{NeedsSale, StandsSale, newest_sale_end};
 ghost use Rattle.cct_jobs.specs.Scans.{NeedsScan, StandsScan};
 
-use crate::asks::first_try;
 use crate::owed::Owed;
-use crate::payout::{Closing, Payout};
-use crate::stage::{Recorded, Stage, Visit};
-use crate::target::{Target, target_at};
-use crate::{asks, payment, scan};
-use cct_epoch::EpochState;
-use cct_model::{
-    BROADCAST, CheckKind, Command, DeviceSet, End, Listed, OpenOrder, Record, Request, Setup,
-};
-use std::alloc::AllocError;
+use crate::stage::Stage;
+use crate::target::Target;
+use crate::{asks, scan};
+use cct_model::{CheckKind, DeviceSet, End, Listed, Record, Request};
 
 /// A job of the host, by the row at which it stands.
 #[derive(Debug, Drop)]
@@ -128,80 +121,6 @@ pub struct Sending {
 }
 
 impl Job {
-    /// The job that a command begins at its address, beside the epoch of the acceptor and the open order of the hopper
-    /// there. Only a round and a stop look at the epoch, which has to run for them, and only a settlement at the order,
-    /// which it closes.
-    pub fn begin(
-        command: &Command,
-        setup: &Setup,
-        epoch: &EpochState,
-        order: Option<&OpenOrder>,
-    ) -> Job
-        requires may_begin { MayBegin command.now setup.now.devices epoch.now (option_map (λ o. o.now) order) }
-        requires life { (o : OpenOrder) → option_map (λ o. o.now) order ≡ Some o → o.life < 2 ^ 24 }
-        ensures device { (d : DeviceSetup) → device_at setup.now.devices (address_of command.now) ≡ Some d
-            → d.serial < 2 ^ 24 → is_of_device command.now ≡ true
-            → Stands d result command.now [] epoch.now (option_map (λ o. o.now) order.entry) }
-        ensures scan { command.now ≡ Command.Scan → StandsScan result [] }
-        ensures sale { (id price : ℕ) → command.now ≡ Command.Vend id price → StandsSale result command.now [] }
-        ensures needs { need_of result ≡ first_need command.now }
-        ensures runs { end_of_job result ≡ None }
-        ensures rows { (d : DeviceSetup) → device_at setup.now.devices (address_of command.now) ≡ Some d
-            → is_of_device command.now ≡ true → ahead result ≡ rows_of d command.now }
-        ensures other_rows { is_of_device command.now ≡ false → ahead result ≡ rows_of_sale command.now }
-        ensures fits { PutsFit result }
-    {
-        match *command {
-            Command::Start { addr, mask } => {
-                first_try(target_at(setup, addr), Stage::StartResets { mask })
-            }
-            Command::Round { addr } => first_try(
-                target_at(setup, addr),
-                Stage::Reads {
-                    visit: Visit::Round,
-                    recorded: recorded_in(epoch),
-                },
-            ),
-            Command::Stop { addr } => first_try(
-                target_at(setup, addr),
-                Stage::StopInhibits {
-                    recorded: recorded_in(epoch),
-                },
-            ),
-            Command::Ident { addr } => first_try(
-                target_at(setup, addr),
-                Stage::IdentAsks {
-                    question: Request::MakerId,
-                },
-            ),
-            Command::Path { addr, place, path } => {
-                first_try(target_at(setup, addr), Stage::PathSets { place, path })
-            }
-            Command::Pay { addr, id, count } => first_try(
-                target_at(setup, addr),
-                Stage::Pays {
-                    row: Payout::Enables {
-                        id,
-                        count,
-                        halted: false,
-                    },
-                },
-            ),
-            Command::Settle { addr } => first_try(
-                target_at(setup, addr),
-                Stage::Pays {
-                    row: Payout::Waits {
-                        closing: Closing::Settlement,
-                        owed: owed_in(order),
-                    },
-                },
-            ),
-            Command::Scan => Job::ScanCallsSimple { failed: 0 },
-            Command::Vend { id, price } => Job::SalePuts { id, price },
-            _ => unreachable!(),
-        }
-    }
-
     /// What the job needs next.
     #[tactic(auto, using(crate::proofs::Needs::need_known, crate::proofs::Needs::scan_need_known, crate::proofs::Needs::put_allowed, crate::proofs::Fits::put_fits, crate::proofs::Sales::sale_need_known))]
     pub fn needs(&self) -> Need
@@ -214,29 +133,6 @@ impl Job {
         ensures sale { (c : Command) (since : List Line) → StandsSale self.now c since → NeedsSale result c since }
     {
         self.need()
-    }
-
-    /// What the job needs next, by its row.
-    fn need(&self) -> Need
-        ensures { result ≡ need_of self.now }
-    {
-        match self {
-            Job::StartPuts { device, mask } => Need::Put(Record::Epoch {
-                addr: device.addr,
-                mask: *mask,
-            }),
-            Job::RoundPuts { entry, .. } => Need::Put(copied(entry)),
-            Job::StopPuts { entry, .. } => Need::Put(copied(entry)),
-            Job::StopEnds { device } => Need::Put(Record::EpochEnd { addr: device.addr }),
-            Job::OrderOpens { owed, .. } => Need::Put(opened(&owed.order)),
-            Job::OrderCloses { entry, .. } => Need::Put(copied(entry)),
-            Job::SalePuts { id, price } => Need::Put(Record::Sold {
-                id: *id,
-                price: *price,
-            }),
-            Job::Done(end) => Need::Done(*end),
-            _ => Need::Exchange,
-        }
     }
 
     /// The end of a job that is done, or none while it runs.
@@ -252,16 +148,6 @@ impl Job {
         self.told_end()
     }
 
-    /// The end that a job tells which is done.
-    fn told_end(&self) -> Option<End>
-        ensures { result ≡ end_of_job self.now }
-    {
-        match self {
-            Job::Done(end) => Some(*end),
-            _ => None,
-        }
-    }
-
     /// How many records the job may still put. A put that ends a stop with a break leaves none of its two.
     #[tactic(auto, using(crate::proofs::Sales::sale_may_put))]
     pub fn may_put(&self) -> u32
@@ -275,23 +161,6 @@ impl Job {
         self.records()
     }
 
-    /// How many records the job may still put, by its row.
-    fn records(&self) -> u32
-        ensures { result ≡ puts_in (ahead self.now) }
-    {
-        match self {
-            Job::Asks { stage, .. } => stage.may_put(),
-            Job::StartPuts { .. } => 1,
-            Job::RoundPuts { .. } => 1,
-            Job::StopPuts { .. } => 2,
-            Job::StopEnds { .. } => 1,
-            Job::OrderOpens { .. } => 2,
-            Job::OrderCloses { .. } => 1,
-            Job::SalePuts { .. } => 1,
-            _ => 0,
-        }
-    }
-
     /// Whether the job is a payment or a settlement, which is at work to close an order.
     #[tactic(auto, using(crate::proofs::Reserves::closes_known, crate::proofs::Sales::sale_never_closes))]
     pub fn closes_order(&self) -> bool
@@ -302,18 +171,6 @@ impl Job {
         ensures sale { (c : Command) (since : List Line) → StandsSale self.now c since → result ≡ false }
     {
         self.closes()
-    }
-
-    /// Whether the job is at work to close an order, by its row.
-    fn closes(&self) -> bool
-        ensures { result ≡ has_closes (ahead self.now) }
-    {
-        match self {
-            Job::Asks { stage, .. } => stage.closes_order(),
-            Job::OrderOpens { .. } => true,
-            Job::OrderCloses { .. } => true,
-            _ => false,
-        }
     }
 
     /// What the job reserves besides coins, in units of value: the price of a sale that is still to be put.
@@ -343,17 +200,6 @@ impl Job {
         self.coins()
     }
 
-    /// How many coins the job reserves, by its row.
-    fn coins(&self) -> u8
-        ensures { result ≡ coins_in (ahead self.now) }
-    {
-        match self {
-            Job::Asks { stage, .. } => stage.coins_reserved(),
-            Job::OrderOpens { owed, .. } => owed.order.count,
-            _ => 0,
-        }
-    }
-
     /// The request that the job sends next. The job stays at its row until it has heard what follows.
     pub fn sending(self) -> (Sending, Job)
         requires asks { need_of self ≡ Need.Exchange }
@@ -368,25 +214,6 @@ impl Job {
     {
         let sending = self.request();
         (sending, self)
-    }
-
-    /// The request that the job sends next.
-    fn request(&self) -> Sending
-        requires { need_of self.now ≡ Need.Exchange }
-        ensures { Some result ≡ sending_of self.now }
-    {
-        match self {
-            Job::Asks { device, stage, .. } => Sending {
-                to: device.addr,
-                kind: device.kind,
-                request: stage.request(),
-            },
-            Job::ScanCallsSimple { .. } => scan::poll(CheckKind::Simple, BROADCAST),
-            Job::ScanCallsCrc { .. } => scan::poll(CheckKind::Crc, BROADCAST),
-            Job::ScanPollsSimple { addr, .. } => scan::poll(CheckKind::Simple, *addr),
-            Job::ScanPollsCrc { addr, .. } => scan::poll(CheckKind::Crc, *addr),
-            _ => unreachable!(),
-        }
     }
 
     /// The job after its request was sent, and this was heard. A row whose reply isn't the wanted one is tried again, and
@@ -443,39 +270,6 @@ impl Job {
         self.after_put()
     }
 
-    /// The job after its record was put, by its row.
-    fn after_put(self) -> Job
-        requires { IsPut (need_of self) }
-        ensures { result ≡ after_put self }
-    {
-        match self {
-            Job::StartPuts { device, mask } => first_try(device, Stage::StartSets { mask }),
-            Job::RoundPuts { end, .. } => Job::Done(end),
-            Job::StopPuts { device, end, .. } => match end {
-                Some(end) => Job::Done(end),
-                None => Job::StopEnds { device },
-            },
-            Job::StopEnds { .. } => Job::Done(End::Stopped),
-            Job::OrderOpens {
-                device,
-                owed,
-                halted,
-            } => first_try(
-                device,
-                Stage::Pays {
-                    row: Payout::Dispenses {
-                        serial: device.serial,
-                        owed,
-                        halted,
-                    },
-                },
-            ),
-            Job::OrderCloses { end, .. } => Job::Done(end),
-            Job::SalePuts { .. } => Job::Done(End::Sold),
-            _ => unreachable!(),
-        }
-    }
-
     /// The order that is open at the job's device after its record was put, where this one was open before.
     #[tactic(auto, using(crate::proofs::Orders::put_owes, crate::proofs::Sales::sale_owes))]
     pub fn order_after(&self, before: Option<Owed>) -> Option<Owed>
@@ -486,17 +280,6 @@ impl Job {
         ensures value { result ≡ owed_after self.now before }
     {
         self.owed_after(before)
-    }
-
-    /// The order that is owed after the job's record was put, by its row.
-    fn owed_after(&self, before: Option<Owed>) -> Option<Owed>
-        ensures { result ≡ owed_after self.now before }
-    {
-        match self {
-            Job::OrderOpens { owed, .. } => Some(*owed),
-            Job::OrderCloses { .. } => None,
-            _ => before,
-        }
     }
 
     /// Whether the job can be halted: a payment up to the row that waits for the last coin, and a settlement at that
@@ -511,17 +294,6 @@ impl Job {
         ensures sale { (c : Command) (since : List Line) → StandsSale self.now c since → result ≡ false }
     {
         self.may_halt()
-    }
-
-    /// Whether the job can be halted, by its row.
-    fn may_halt(&self) -> bool
-        ensures { result ≡ has_waits (ahead self.now) }
-    {
-        match self {
-            Job::Asks { stage, .. } => stage.can_halt(),
-            Job::OrderOpens { .. } => true,
-            _ => false,
-        }
     }
 
     /// The job after it was halted: before its hopper is next asked how the payout goes, it is stopped. A job that is
@@ -539,70 +311,4 @@ impl Job {
     {
         self.halted()
     }
-
-    /// The job after it was halted, by its row.
-    fn halted(self) -> Job
-        requires { has_waits (ahead self) ≡ true }
-        ensures { result ≡ after_halt self }
-    {
-        match self {
-            Job::Asks {
-                device,
-                stage,
-                failed,
-            } => match stage {
-                Stage::Pays { row } => payment::halted(device, row, failed),
-                _ => unreachable!(),
-            },
-            Job::OrderOpens { device, owed, .. } => Job::OrderOpens {
-                device,
-                owed,
-                halted: true,
-            },
-            _ => unreachable!(),
-        }
-    }
-}
-
-/// What is recorded of an epoch, which has to run.
-fn recorded_in(epoch: &EpochState) -> Recorded
-    requires { IsRunning epoch.now }
-    ensures { epoch.now ≡ runs result }
-{
-    match *epoch {
-        EpochState::Running { mask, counter } => Recorded { mask, counter },
-        EpochState::Idle => unreachable!(),
-    }
-}
-
-/// The open order, whose life count is one that a hopper told.
-fn owed_in(order: Option<&OpenOrder>) -> Owed
-    requires there { IsTrue (is_some (option_map (λ o. o.now) order)) }
-    requires life { (o : OpenOrder) → option_map (λ o. o.now) order ≡ Some o → o.life < 2 ^ 24 }
-    ensures { option_map (λ o. o.now) order.entry ≡ Some result.order }
-{
-    match order {
-        Some(order) => Owed { order: *order },
-        None => unreachable!(),
-    }
-}
-
-/// The record that opens an order.
-fn opened(order: &OpenOrder) -> Record
-    ensures { result ≡ opened_by order.now }
-{
-    Record::Opened {
-        id: order.id,
-        addr: order.addr,
-        count: order.count,
-        life: order.life,
-    }
-}
-
-/// The same record.
-fn copied(entry: &Record) -> Record
-    ensures { result ≡ entry.now }
-{
-    let copy: Result<Record, AllocError> = entry.clone();
-    copy.unwrap()
 }

@@ -4,6 +4,8 @@
 #![tactic(auto)]
 
 mod asks;
+mod by_row;
+mod first_row;
 mod ident;
 mod job;
 mod laws;

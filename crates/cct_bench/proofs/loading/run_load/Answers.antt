@@ -6,7 +6,7 @@ use Rattle.cct_text.specs.Writing.{Broke, Wrote}
 use Rattle.cct_text.proofs.Writing.{wrote_none}
 use Rattle.cct_bench.specs.Disks.{disks}
 use Rattle.cct_bench.specs.Load.{LoadPlayed}
-use Rattle.cct_bench.specs.declared.play.Ending.TheVariants as ending
+use Rattle.cct_bench.specs.declared.ending.Ending.TheVariants as ending
 use Rattle.cct_bench.proofs.LoadEnds.{load_unopened, load_written}
 use Rattle.cct_bench.proofs.loading.run_load.Goals as goal
 use Rattle.cct_bench.proofs.loading.run_load.Goals.{in-Err, in-Ok}

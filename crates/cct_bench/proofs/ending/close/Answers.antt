@@ -1,7 +1,7 @@
 use Rattle.std.proofs.Common.{sym, ap}
 use Rattle.cct_bench.specs.Run.{status_by}
 use Rattle.cct_text.proofs.Writing.{writes_one}
-use Rattle.cct_bench.proofs.play.close.Goals as goal
+use Rattle.cct_bench.proofs.ending.close.Goals as goal
 
 pub returns-in-Ok-clause-writes : goal.returns-in-Ok-clause-writes
 returns-in-Ok-clause-writes g c =

@@ -2,7 +2,7 @@ use Rattle.std.proofs.Common.{Ok, sym, ap, ◌∙◌, subst}
 use Rattle.cct_text.specs.Writing.{Writes}
 use Rattle.cct_bench.specs.Run.{listed, status_by}
 use Rattle.cct_text.proofs.Writing.{wrote_none}
-use Rattle.cct_bench.proofs.play.finish_run.Goals as goal
+use Rattle.cct_bench.proofs.ending.finish_run.Goals as goal
 
 pub returns-in-Some-clause-writes : goal.returns-in-Some-clause-writes
 returns-in-Some-clause-writes g c =

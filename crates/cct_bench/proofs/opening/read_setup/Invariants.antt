@@ -1,7 +1,7 @@
 use Rattle.std.proofs.Common.{◌-◌}
 use Rattle.cct_script.specs.Giving.{standing_of}
 use Rattle.cct_bench.proofs.Going.{Opens}
-use Rattle.cct_bench.proofs.play.read_setup.Given as goal
+use Rattle.cct_bench.proofs.opening.read_setup.Given as goal
 
 abbrev pub invariant-loop-number : goal.invariant-loop-number
 invariant-loop-number g l =

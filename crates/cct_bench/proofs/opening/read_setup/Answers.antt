@@ -10,7 +10,7 @@ use Rattle.cct_bench.specs.Going.{Going, IsUnbegun}
 use Rattle.cct_bench.specs.Run.{BeforeSteps}
 use Rattle.cct_bench.proofs.SetupLines.{opening_begin, opening_more}
 use Rattle.cct_bench.proofs.Going.{going_begin, going_opens, played_stopped}
-use Rattle.cct_bench.proofs.play.read_setup.Goals as goal
+use Rattle.cct_bench.proofs.opening.read_setup.Goals as goal
 
 pub loop-number-init : goal.loop-number-init
 loop-number-init g c =

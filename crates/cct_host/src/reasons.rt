@@ -1,0 +1,192 @@
+//! Why a command to a desk is refused: the first reason that holds.
+ghost use Rattle.std.specs.Prelude.{◌≡◌, Option, true};
+ghost use Rattle.std.specs.Option.{option_or};
+ghost use Rattle.cct_model.specs.terms.device.Setup.{Setup};
+ghost use Rattle.cct_model.specs.Exchange.{device_at};
+ghost use Rattle.cct_model.specs.Job.{address_of};
+ghost use Rattle.cct_model.specs.Refusal.{id_refusal, order_refusal, running_refusal, settle_refusal, start_refusal};
+ghost use Rattle.cct_jobs.specs.Jobs.{is_of_device, order_of};
+ghost use Rattle.cct_host.specs.Desk.{RefusesAbove};
+ghost use Rattle.cct_host.specs.Place as places;
+ghost use Rattle.cct_host.specs.Running.{acceptor_refusal, busy_by, halting_refusal, halts_in, hopper_refusal, refusal_beside, sale_refusal};
+
+use crate::desk::JobDesk;
+use crate::values::valueless;
+use cct_model::{Command, CommandNo, DeviceSetup, EpochState, Family};
+
+impl JobDesk {
+    /// Why a command to the device of this desk is refused, if it is: the first reason that holds, whatever room there
+    /// is for its records.
+    pub(crate) fn command_refusal(
+        &self,
+        command: &Command,
+        device: &DeviceSetup,
+        last: u32,
+    ) -> Option<CommandNo>
+        requires of_device { is_of_device command.now ≡ true }
+        ensures { (setup : Setup) → device_at setup.devices (address_of command.now) ≡ Some device.now
+            → RefusesAbove setup last (places.device device.now) self.now command.now result }
+    {
+        self.refusal(command, device, last)
+    }
+
+    /// Why a halt is refused, if it is.
+    pub(crate) fn halting_refusal(&self, device: &DeviceSetup) -> Option<CommandNo>
+        ensures { result ≡ halting_refusal device.now self.now.job }
+    {
+        match device.body.family() {
+            Family::Acceptor => Some(CommandNo::WrongKind),
+            Family::Hopper => {
+                if self.can_halt() {
+                    None
+                } else {
+                    Some(CommandNo::NoPayout)
+                }
+            }
+        }
+    }
+
+    /// Whether there is a job that can be halted.
+    fn can_halt(&self) -> bool
+        ensures { result ≡ halts_in self.now.job }
+    {
+        match &self.job {
+            Some(job) => job.can_halt(),
+            None => false,
+        }
+    }
+
+    /// Why a sale is refused, if it is: one runs, or its id isn't new.
+    pub(crate) fn sale_refusal(&self, id: u32, last: u32) -> Option<CommandNo>
+        ensures { result ≡ sale_refusal self.now.job id last }
+    {
+        match self.busy() {
+            Some(why) => Some(why),
+            None => id_refusal(id, last),
+        }
+    }
+
+    /// Why a command is refused, if it is.
+    pub(crate) fn refusal(
+        &self,
+        command: &Command,
+        device: &DeviceSetup,
+        last: u32,
+    ) -> Option<CommandNo>
+        ensures { result ≡ refusal_beside device.now self.now.job self.now.epoch self.now.dues last command.now }
+    {
+        match *command {
+            Command::Start { mask, .. } => self.acceptor_refusal(
+                device,
+                self.start_refusal(device, mask),
+            ),
+            Command::Round { .. } => self.acceptor_refusal(device, self.running_refusal()),
+            Command::Stop { .. } => self.acceptor_refusal(device, self.running_refusal()),
+            Command::Path { .. } => self.acceptor_refusal(device, None),
+            Command::Pay { id, .. } => self.hopper_refusal(device, self.pay_refusal(id, last)),
+            Command::Settle { .. } => self.hopper_refusal(device, self.settle_refusal()),
+            Command::Halt { .. } => self.halting_refusal(device),
+            Command::Ident { .. } => self.busy(),
+            Command::Scan => self.busy(),
+            Command::Vend { id, .. } => self.sale_refusal(id, last),
+        }
+    }
+
+    /// Why a command to a coin acceptor is refused, if it is: a further reason is the last.
+    fn acceptor_refusal(
+        &self,
+        device: &DeviceSetup,
+        further: Option<CommandNo>,
+    ) -> Option<CommandNo>
+        ensures { result ≡ acceptor_refusal device.now self.now.job further }
+    {
+        match device.body.family() {
+            Family::Acceptor => self.busy_or(further),
+            Family::Hopper => Some(CommandNo::WrongKind),
+        }
+    }
+
+    /// Why a command to a hopper is refused, if it is: a further reason is the last.
+    fn hopper_refusal(&self, device: &DeviceSetup, further: Option<CommandNo>) -> Option<CommandNo>
+        ensures { result ≡ hopper_refusal device.now self.now.job further }
+    {
+        match device.body.family() {
+            Family::Acceptor => Some(CommandNo::WrongKind),
+            Family::Hopper => self.busy_or(further),
+        }
+    }
+
+    /// Why a command is refused where a job is here, and else a further reason.
+    fn busy_or(&self, further: Option<CommandNo>) -> Option<CommandNo>
+        ensures { result ≡ option_or (busy_by self.now.job) further }
+    {
+        match self.busy() {
+            Some(why) => Some(why),
+            None => further,
+        }
+    }
+
+    /// Why a payment is refused beside the open order and the last id: an order is open, or its id isn't new.
+    fn pay_refusal(&self, id: u32, last: u32) -> Option<CommandNo>
+        ensures { result ≡ option_or (order_refusal (order_of self.now.dues.order)) (id_refusal id last) }
+    {
+        match &self.dues.order {
+            None => id_refusal(id, last),
+            Some(owed) => Some(CommandNo::OrderOpen { id: owed.order.id }),
+        }
+    }
+
+    /// Why a settlement is refused beside the open order: there is none.
+    fn settle_refusal(&self) -> Option<CommandNo>
+        ensures { result ≡ settle_refusal (order_of self.now.dues.order) }
+    {
+        match &self.dues.order {
+            None => Some(CommandNo::NoOrder),
+            Some(_) => None,
+        }
+    }
+
+    /// Why a start with a mask is refused beside the epoch: one runs, or a place of the mask has no value.
+    fn start_refusal(&self, device: &DeviceSetup, mask: u16) -> Option<CommandNo>
+        ensures { result ≡ start_refusal mask device.now self.now.epoch }
+    {
+        match self.epoch {
+            EpochState::Idle => match valueless(&device.body, mask) {
+                None => None,
+                Some(place) => Some(CommandNo::NoValue { place }),
+            },
+            EpochState::Running { .. } => Some(CommandNo::EpochRuns),
+        }
+    }
+
+    /// Why a round or a stop is refused beside the epoch: none runs.
+    fn running_refusal(&self) -> Option<CommandNo>
+        ensures { result ≡ running_refusal self.now.epoch }
+    {
+        match self.epoch {
+            EpochState::Idle => Some(CommandNo::NoEpoch),
+            EpochState::Running { .. } => None,
+        }
+    }
+
+    /// Why a command is refused because of the job: there is one.
+    pub(crate) fn busy(&self) -> Option<CommandNo>
+        ensures { result ≡ busy_by self.now.job }
+    {
+        match self.job {
+            None => None,
+            Some(_) => Some(CommandNo::Busy),
+        }
+    }
+}
+
+/// Why an id is refused: it isn't above the last one.
+fn id_refusal(id: u32, last: u32) -> Option<CommandNo>
+    ensures { result ≡ id_refusal id last }
+{
+    if id <= last {
+        Some(CommandNo::OldId { last })
+    } else {
+        None
+    }
+}

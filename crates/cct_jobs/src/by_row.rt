@@ -1,0 +1,206 @@
+//! What each row of a job gives: the answer to a question that is put to the job, and the row after it.
+ghost use Rattle.std.specs.Prelude.{◌≡◌, Option, Some, true};
+ghost use Rattle.cct_model.specs.Rows.{has_closes, has_waits, puts_in};
+ghost use Rattle.cct_jobs.specs.Ahead.{ahead, coins_in};
+ghost use Rattle.cct_jobs.specs.Jobs.{IsPut, after_halt, after_put, end_of_job, need_of, opened_by, owed_after, sending_of};
+
+use crate::asks::first_try;
+use crate::job::{Job, Need, Sending};
+use crate::owed::Owed;
+use crate::payout::Payout;
+use crate::stage::Stage;
+use crate::{payment, scan};
+use cct_model::{BROADCAST, CheckKind, End, OpenOrder, Record};
+use std::alloc::AllocError;
+
+impl Job {
+    /// What the job needs next, by its row.
+    pub(crate) fn need(&self) -> Need
+        ensures { result ≡ need_of self.now }
+    {
+        match self {
+            Job::StartPuts { device, mask } => Need::Put(Record::Epoch {
+                addr: device.addr,
+                mask: *mask,
+            }),
+            Job::RoundPuts { entry, .. } => Need::Put(copied(entry)),
+            Job::StopPuts { entry, .. } => Need::Put(copied(entry)),
+            Job::StopEnds { device } => Need::Put(Record::EpochEnd { addr: device.addr }),
+            Job::OrderOpens { owed, .. } => Need::Put(opened(&owed.order)),
+            Job::OrderCloses { entry, .. } => Need::Put(copied(entry)),
+            Job::SalePuts { id, price } => Need::Put(Record::Sold {
+                id: *id,
+                price: *price,
+            }),
+            Job::Done(end) => Need::Done(*end),
+            _ => Need::Exchange,
+        }
+    }
+
+    /// The end that a job tells which is done.
+    pub(crate) fn told_end(&self) -> Option<End>
+        ensures { result ≡ end_of_job self.now }
+    {
+        match self {
+            Job::Done(end) => Some(*end),
+            _ => None,
+        }
+    }
+
+    /// How many records the job may still put, by its row.
+    pub(crate) fn records(&self) -> u32
+        ensures { result ≡ puts_in (ahead self.now) }
+    {
+        match self {
+            Job::Asks { stage, .. } => stage.may_put(),
+            Job::StartPuts { .. } => 1,
+            Job::RoundPuts { .. } => 1,
+            Job::StopPuts { .. } => 2,
+            Job::StopEnds { .. } => 1,
+            Job::OrderOpens { .. } => 2,
+            Job::OrderCloses { .. } => 1,
+            Job::SalePuts { .. } => 1,
+            _ => 0,
+        }
+    }
+
+    /// Whether the job is at work to close an order, by its row.
+    pub(crate) fn closes(&self) -> bool
+        ensures { result ≡ has_closes (ahead self.now) }
+    {
+        match self {
+            Job::Asks { stage, .. } => stage.closes_order(),
+            Job::OrderOpens { .. } => true,
+            Job::OrderCloses { .. } => true,
+            _ => false,
+        }
+    }
+
+    /// How many coins the job reserves, by its row.
+    pub(crate) fn coins(&self) -> u8
+        ensures { result ≡ coins_in (ahead self.now) }
+    {
+        match self {
+            Job::Asks { stage, .. } => stage.coins_reserved(),
+            Job::OrderOpens { owed, .. } => owed.order.count,
+            _ => 0,
+        }
+    }
+
+    /// The request that the job sends next.
+    pub(crate) fn request(&self) -> Sending
+        requires { need_of self.now ≡ Need.Exchange }
+        ensures { Some result ≡ sending_of self.now }
+    {
+        match self {
+            Job::Asks { device, stage, .. } => Sending {
+                to: device.addr,
+                kind: device.kind,
+                request: stage.request(),
+            },
+            Job::ScanCallsSimple { .. } => scan::poll(CheckKind::Simple, BROADCAST),
+            Job::ScanCallsCrc { .. } => scan::poll(CheckKind::Crc, BROADCAST),
+            Job::ScanPollsSimple { addr, .. } => scan::poll(CheckKind::Simple, *addr),
+            Job::ScanPollsCrc { addr, .. } => scan::poll(CheckKind::Crc, *addr),
+            _ => unreachable!(),
+        }
+    }
+
+    /// The job after its record was put, by its row.
+    pub(crate) fn after_put(self) -> Job
+        requires { IsPut (need_of self) }
+        ensures { result ≡ after_put self }
+    {
+        match self {
+            Job::StartPuts { device, mask } => first_try(device, Stage::StartSets { mask }),
+            Job::RoundPuts { end, .. } => Job::Done(end),
+            Job::StopPuts { device, end, .. } => match end {
+                Some(end) => Job::Done(end),
+                None => Job::StopEnds { device },
+            },
+            Job::StopEnds { .. } => Job::Done(End::Stopped),
+            Job::OrderOpens {
+                device,
+                owed,
+                halted,
+            } => first_try(
+                device,
+                Stage::Pays {
+                    row: Payout::Dispenses {
+                        serial: device.serial,
+                        owed,
+                        halted,
+                    },
+                },
+            ),
+            Job::OrderCloses { end, .. } => Job::Done(end),
+            Job::SalePuts { .. } => Job::Done(End::Sold),
+            _ => unreachable!(),
+        }
+    }
+
+    /// The order that is owed after the job's record was put, by its row.
+    pub(crate) fn owed_after(&self, before: Option<Owed>) -> Option<Owed>
+        ensures { result ≡ owed_after self.now before }
+    {
+        match self {
+            Job::OrderOpens { owed, .. } => Some(*owed),
+            Job::OrderCloses { .. } => None,
+            _ => before,
+        }
+    }
+
+    /// Whether the job can be halted, by its row.
+    pub(crate) fn may_halt(&self) -> bool
+        ensures { result ≡ has_waits (ahead self.now) }
+    {
+        match self {
+            Job::Asks { stage, .. } => stage.can_halt(),
+            Job::OrderOpens { .. } => true,
+            _ => false,
+        }
+    }
+
+    /// The job after it was halted, by its row.
+    pub(crate) fn halted(self) -> Job
+        requires { has_waits (ahead self) ≡ true }
+        ensures { result ≡ after_halt self }
+    {
+        match self {
+            Job::Asks {
+                device,
+                stage,
+                failed,
+            } => match stage {
+                Stage::Pays { row } => payment::halted(device, row, failed),
+                _ => unreachable!(),
+            },
+            Job::OrderOpens { device, owed, .. } => Job::OrderOpens {
+                device,
+                owed,
+                halted: true,
+            },
+            _ => unreachable!(),
+        }
+    }
+}
+
+/// The record that opens an order.
+fn opened(order: &OpenOrder) -> Record
+    ensures { result ≡ opened_by order.now }
+{
+    Record::Opened {
+        id: order.id,
+        addr: order.addr,
+        count: order.count,
+        life: order.life,
+    }
+}
+
+/// The same record.
+fn copied(entry: &Record) -> Record
+    ensures { result ≡ entry.now }
+{
+    let copy: Result<Record, AllocError> = entry.clone();
+    copy.unwrap()
+}

@@ -1,0 +1,121 @@
+//! The job that a command begins.
+ghost use Rattle.std.specs.Prelude.{◌≡◌, ◌<◌, ◌^◌, ℕ, [], Some, None, IsTrue, is_some, true, false};
+ghost use Rattle.std.specs.Option.{option_map};
+ghost use Rattle.cct_model.specs.lines.command.Command.{Command};
+ghost use Rattle.cct_model.specs.terms.device.DeviceSetup.{DeviceSetup};
+ghost use Rattle.cct_model.specs.declared.judging.OpenOrder.{OpenOrder};
+ghost use Rattle.cct_model.specs.Exchange.{device_at};
+ghost use Rattle.cct_model.specs.Job.{address_of};
+ghost use Rattle.cct_model.specs.Rows.{rows_of, rows_of_sale};
+ghost use Rattle.cct_jobs.specs.Ahead.{ahead};
+ghost use Rattle.cct_jobs.specs.Jobs.{IsRunning, MayBegin, PutsFit, Stands, end_of_job, first_need, is_of_device, need_of, runs};
+ghost use Rattle.cct_jobs.specs.Sales.{StandsSale};
+ghost use Rattle.cct_jobs.specs.Scans.{StandsScan};
+
+use crate::asks::first_try;
+use crate::job::Job;
+use crate::owed::Owed;
+use crate::payout::{Closing, Payout};
+use crate::stage::{Recorded, Stage, Visit};
+use crate::target::target_at;
+use cct_epoch::EpochState;
+use cct_model::{Command, OpenOrder, Request, Setup};
+
+impl Job {
+    /// The job that a command begins at its address, beside the epoch of the acceptor and the open order of the hopper
+    /// there. Only a round and a stop look at the epoch, which has to run for them, and only a settlement at the order,
+    /// which it closes.
+    pub fn begin(
+        command: &Command,
+        setup: &Setup,
+        epoch: &EpochState,
+        order: Option<&OpenOrder>,
+    ) -> Job
+        requires may_begin { MayBegin command.now setup.now.devices epoch.now (option_map (λ o. o.now) order) }
+        requires life { (o : OpenOrder) → option_map (λ o. o.now) order ≡ Some o → o.life < 2 ^ 24 }
+        ensures device { (d : DeviceSetup) → device_at setup.now.devices (address_of command.now) ≡ Some d
+            → d.serial < 2 ^ 24 → is_of_device command.now ≡ true
+            → Stands d result command.now [] epoch.now (option_map (λ o. o.now) order.entry) }
+        ensures scan { command.now ≡ Command.Scan → StandsScan result [] }
+        ensures sale { (id price : ℕ) → command.now ≡ Command.Vend id price → StandsSale result command.now [] }
+        ensures needs { need_of result ≡ first_need command.now }
+        ensures runs { end_of_job result ≡ None }
+        ensures rows { (d : DeviceSetup) → device_at setup.now.devices (address_of command.now) ≡ Some d
+            → is_of_device command.now ≡ true → ahead result ≡ rows_of d command.now }
+        ensures other_rows { is_of_device command.now ≡ false → ahead result ≡ rows_of_sale command.now }
+        ensures fits { PutsFit result }
+    {
+        match *command {
+            Command::Start { addr, mask } => {
+                first_try(target_at(setup, addr), Stage::StartResets { mask })
+            }
+            Command::Round { addr } => first_try(
+                target_at(setup, addr),
+                Stage::Reads {
+                    visit: Visit::Round,
+                    recorded: recorded_in(epoch),
+                },
+            ),
+            Command::Stop { addr } => first_try(
+                target_at(setup, addr),
+                Stage::StopInhibits {
+                    recorded: recorded_in(epoch),
+                },
+            ),
+            Command::Ident { addr } => first_try(
+                target_at(setup, addr),
+                Stage::IdentAsks {
+                    question: Request::MakerId,
+                },
+            ),
+            Command::Path { addr, place, path } => {
+                first_try(target_at(setup, addr), Stage::PathSets { place, path })
+            }
+            Command::Pay { addr, id, count } => first_try(
+                target_at(setup, addr),
+                Stage::Pays {
+                    row: Payout::Enables {
+                        id,
+                        count,
+                        halted: false,
+                    },
+                },
+            ),
+            Command::Settle { addr } => first_try(
+                target_at(setup, addr),
+                Stage::Pays {
+                    row: Payout::Waits {
+                        closing: Closing::Settlement,
+                        owed: owed_in(order),
+                    },
+                },
+            ),
+            Command::Scan => Job::ScanCallsSimple { failed: 0 },
+            Command::Vend { id, price } => Job::SalePuts { id, price },
+            _ => unreachable!(),
+        }
+    }
+}
+
+/// What is recorded of an epoch, which has to run.
+fn recorded_in(epoch: &EpochState) -> Recorded
+    requires { IsRunning epoch.now }
+    ensures { epoch.now ≡ runs result }
+{
+    match *epoch {
+        EpochState::Running { mask, counter } => Recorded { mask, counter },
+        EpochState::Idle => unreachable!(),
+    }
+}
+
+/// The open order, whose life count is one that a hopper told.
+fn owed_in(order: Option<&OpenOrder>) -> Owed
+    requires there { IsTrue (is_some (option_map (λ o. o.now) order)) }
+    requires life { (o : OpenOrder) → option_map (λ o. o.now) order ≡ Some o → o.life < 2 ^ 24 }
+    ensures { option_map (λ o. o.now) order.entry ≡ Some result.order }
+{
+    match order {
+        Some(order) => Owed { order: *order },
+        None => unreachable!(),
+    }
+}
