@@ -19,8 +19,8 @@ use Rattle.cct_bench.specs.declared.outcome.Status.TheVariants as status
 use Rattle.cct_bench.specs.declared.ending.Ending.{Ending}
 use Rattle.cct_bench.specs.declared.ending.Ending.TheVariants as ending
 use Rattle.cct_bench.specs.declared.play.TheConstants.{JOURNAL_BYTES}
-use Rattle.cct_world.specs.declared.refusal.WorldNo.{WorldNo}
-use Rattle.cct_world.specs.declared.refusal.WorldNo.TheVariants as world_no
+use Rattle.cct_host.specs.declared.refusal.CrashNo.{CrashNo}
+use Rattle.cct_host.specs.declared.refusal.CrashNo.TheVariants as crash_no
 use Rattle.cct_world.specs.Early.{LegalBeforeLoss}
 use Rattle.cct_world.specs.Restarts.{LosesAt, no_step}
 use Rattle.cct_world.specs.Sure.{First, IsCrash, Sure, losses_in}
@@ -194,8 +194,8 @@ module _ (bytes : List ℕ) (how : Ending) (left : Option (List ℕ)) (disks : D
       ) book
 
   -- what a loss of power left is told
-  ran_lost : (answer : Result (Unit {0}) Failed) (why : WorldNo) (tail : List Entry) → tail ≡ listed (last_entry how)
-      → ((P : WorldNo → Type 0) → P why → TellsOf P tail) → LastLine Before Written Breaks tail answer
+  ran_lost : (answer : Result (Unit {0}) Failed) (why : CrashNo) (tail : List Entry) → tail ≡ listed (last_entry how)
+      → ((P : CrashNo → Type 0) → P why → TellsOf P tail) → LastLine Before Written Breaks tail answer
       → Before p.transcript → OverLost disks (script bytes).setup (onto [] p.transcript) p.unplayed why
       → Ran bytes (status_by answer status.JournalLost) left Written Breaks disks source_failed disk_failed
   ran_lost answer why tail is tells line wrote over =
@@ -300,15 +300,15 @@ ran_ends bytes (ending.OtherSize len) answer left disks Before Written Broken Br
 ran_ends bytes ending.JournalAlien answer left disks Before Written Broken Breaks source_failed disk_failed caused line broke
     fails p =
     ran_lost bytes ending.JournalAlien left disks Before Written Broken Breaks source_failed disk_failed caused p answer
-    world_no.Alien (entry.JournalAlien ∷ []) refl (λ P is. is) line p.stops p.beside.over
+    crash_no.Alien (entry.JournalAlien ∷ []) refl (λ P is. is) line p.stops p.beside.over
 ran_ends bytes (ending.JournalBad index) answer left disks Before Written Broken Breaks source_failed disk_failed caused line broke
     fails p =
     ran_lost bytes (ending.JournalBad index) left disks Before Written Broken Breaks source_failed disk_failed caused p answer
-    (world_no.BadRecord index) (entry.JournalBad index ∷ []) refl (λ P is. is) line p.stops p.beside.over
+    (crash_no.BadRecord index) (entry.JournalBad index ∷ []) refl (λ P is. is) line p.stops p.beside.over
 ran_ends bytes (ending.RecordsLost found put) answer left disks Before Written Broken Breaks source_failed disk_failed caused line broke
     fails p =
     ran_lost bytes (ending.RecordsLost found put) left disks Before Written Broken Breaks source_failed disk_failed caused p answer
-    (world_no.Lost found put) (entry.JournalLost found put ∷ []) refl (λ P is. is) line p.stops p.beside.over
+    (crash_no.Lost found put) (entry.JournalLost found put ∷ []) refl (λ P is. is) line p.stops p.beside.over
 
 -- what was written before, and then the last line
 module _ {K : Type 0} (written : K → Option (List ℕ)) (puts : K → List ℕ → Result (Unit {0}) Failed → K → Type 0) where
@@ -414,26 +414,26 @@ none_next [] (s ∷ steps) none next = next
 none_next (s ∷ played) unplayed none next = none_next played unplayed (omega (arith, none)) next
 
 -- what a last line tells
-pub tells_loss : (P : WorldNo → Type 0) (tail : List Entry) → TellsOf P tail → TellsLoss tail
+pub tells_loss : (P : CrashNo → Type 0) (tail : List Entry) → TellsOf P tail → TellsLoss tail
 tells_loss P (entry.JournalAlien ∷ []) tells = tt
 tells_loss P (entry.JournalBad index ∷ []) tells = tt
 tells_loss P (entry.JournalLost found put ∷ []) tells = tt
 tells_loss P tail tells = absurd tells
 
-told_so : (P : WorldNo → Type 0) (Q : Type 0) (tail : List Entry) → ((why : WorldNo) → P why → Q) → TellsOf P tail → Q
-told_so P Q (entry.JournalAlien ∷ []) so tells = so world_no.Alien tells
-told_so P Q (entry.JournalBad index ∷ []) so tells = so (world_no.BadRecord index) tells
-told_so P Q (entry.JournalLost found put ∷ []) so tells = so (world_no.Lost found put) tells
+told_so : (P : CrashNo → Type 0) (Q : Type 0) (tail : List Entry) → ((why : CrashNo) → P why → Q) → TellsOf P tail → Q
+told_so P Q (entry.JournalAlien ∷ []) so tells = so crash_no.Alien tells
+told_so P Q (entry.JournalBad index ∷ []) so tells = so (crash_no.BadRecord index) tells
+told_so P Q (entry.JournalLost found put ∷ []) so tells = so (crash_no.Lost found put) tells
 told_so P Q tail so tells = absurd tells
 
 -- a step behind which no host starts again is a loss of power
 module _ (sure : Type 0) (Cut : ℕ → (ℕ → Option (List ℕ) → Type 0) → Type 0) (setup : Setup) (past : List Entry)
     (seen : Option (List ℕ)) where
-  is_crash : (why : WorldNo) (s : Step) → LosesAt sure Cut setup past seen why s → IsCrash s
+  is_crash : (why : CrashNo) (s : Step) → LosesAt sure Cut setup past seen why s → IsCrash s
   is_crash why (step.Crash at choice) loses = tt
   is_crash why s loses = absurd loses
 
-  first_crash : (why : WorldNo) (steps : List Step) → First (LosesAt sure Cut setup past seen why) steps
+  first_crash : (why : CrashNo) (steps : List Step) → First (LosesAt sure Cut setup past seen why) steps
       → First IsCrash steps
   first_crash why [] first = first
   first_crash why (s ∷ steps) first = is_crash why s first

@@ -22,8 +22,8 @@ use Rattle.cct_script.specs.Giving.{Standing}
 use Rattle.cct_world.specs.Early.{LegalBeforeLoss}
 use Rattle.cct_world.specs.Machine.{StepSuits}
 use Rattle.cct_world.specs.Step.{crashes, crashes_of}
-use Rattle.cct_world.specs.declared.refusal.WorldNo.{WorldNo}
-use Rattle.cct_world.specs.declared.refusal.WorldNo.TheVariants as world_no
+use Rattle.cct_host.specs.declared.refusal.CrashNo.{CrashNo}
+use Rattle.cct_host.specs.declared.refusal.CrashNo.TheVariants as crash_no
 use Rattle.cct_world.proofs.Early.{early_more, early_none}
 use Rattle.cct_world.proofs.Suiting.{legal_suits}
 use Rattle.cct_bench.specs.declared.lines.ScriptStop.{ScriptStop}
@@ -475,17 +475,17 @@ played_broke Relies left0 left left1 held rest number stage next setup Before Af
     )
 
 -- a step that isn't played leaves the transcript whole
-unplayed_stops : (Relies : List Entry → Type 0) (why : WorldNo) (bytes taken : List ℕ) (played unplayed : List Step)
+unplayed_stops : (Relies : List Entry → Type 0) (why : CrashNo) (bytes taken : List ℕ) (played unplayed : List Step)
     (transcript : List Entry) (Written : List Entry → Type 0) (Breaks : List Entry → List Entry → Type 0)
     → Written transcript → Stops Relies (unplayed_by why) bytes taken played unplayed transcript Written Breaks
-unplayed_stops Relies world_no.Disk bytes taken played unplayed transcript Written Breaks wrote = wrote
-unplayed_stops Relies world_no.Alien bytes taken played unplayed transcript Written Breaks wrote = wrote
-unplayed_stops Relies (world_no.BadRecord index) bytes taken played unplayed transcript Written Breaks wrote = wrote
-unplayed_stops Relies (world_no.Lost found put) bytes taken played unplayed transcript Written Breaks wrote = wrote
+unplayed_stops Relies crash_no.Disk bytes taken played unplayed transcript Written Breaks wrote = wrote
+unplayed_stops Relies crash_no.Alien bytes taken played unplayed transcript Written Breaks wrote = wrote
+unplayed_stops Relies (crash_no.BadRecord index) bytes taken played unplayed transcript Written Breaks wrote = wrote
+unplayed_stops Relies (crash_no.Lost found put) bytes taken played unplayed transcript Written Breaks wrote = wrote
 
 -- a step wasn't played
 pub played_torn : (Relies : List Entry → Type 0) (left0 left left1 : Option (List ℕ)) (held rest : List ℕ) (number : ℕ)
-    (stage next : Stage) (setup : Setup) (Before : List Step → List Entry → Type 0) (s : Step) (why : WorldNo)
+    (stage next : Stage) (setup : Setup) (Before : List Step → List Entry → Type 0) (s : Step) (why : CrashNo)
     (Written Written1 : List Entry → Type 0) (Breaks : List Entry → List Entry → Type 0)
     (Beside : Ending → Setup → List ℕ → List Step → List Step → List Entry → Type 0) →
     ((taken : List ℕ) (played unplayed : List Step) (past : List Entry) → Before played past

@@ -21,8 +21,8 @@ use Rattle.cct_journal.specs.Stands.{GoesOn, Outlasts}
 use Rattle.cct_journal.specs.declared.place.Place.{Place}
 use Rattle.cct_journal.proofs.Calls.{settled_leaves, stands_settled}
 use Rattle.cct_host.specs.Book.{HasBook, LeavesBook}
-use Rattle.cct_world.specs.declared.refusal.WorldNo.{WorldNo}
-use Rattle.cct_world.specs.declared.refusal.WorldNo.TheVariants as world_no
+use Rattle.cct_host.specs.declared.refusal.CrashNo.{CrashNo}
+use Rattle.cct_host.specs.declared.refusal.CrashNo.TheVariants as crash_no
 use Rattle.cct_world.specs.declared.world.World.{World}
 use Rattle.cct_world.specs.Holds.{Holds, WorldHolds}
 use Rattle.cct_world.specs.Machine.{LosesIn, StepSuits}
@@ -173,7 +173,7 @@ module _ {D : Type 0} {g : Ghosts D} where
   -- the disk failed in a step
   torn_over : (given left : D) (world : World D g) (s : Step) → IsReady (g.size given) (g.seen given)
       → (IsTrusted g.honest g.seen given → IsTrusted g.honest g.seen (disk_of world))
-      → Breaks world left world_no.Disk s
+      → Breaks world left crash_no.Disk s
       → (taken : List ℕ) (played unplayed : List Step) (past : List Entry) → WorldHolds given world played past
       → Over (disks g.size g.honest g.seen g.may_leave g.cuts g.cut_to given left) ending.DiskFailed (setup_of world) taken
       played (s ∷ unplayed) past
@@ -198,7 +198,7 @@ module _ {D : Type 0} {g : Ghosts D} where
   torn_over given left world s ready on breaks taken played unplayed past holds = absurd breaks
 
   -- a loss of power left something else than what stood on the disk
-  lost_over : (given left : D) (world : World D g) (why : WorldNo) (s : Step) → IsReady (g.size given) (g.seen given)
+  lost_over : (given left : D) (world : World D g) (why : CrashNo) (s : Step) → IsReady (g.size given) (g.seen given)
       → Outlasts g.size g.honest g.seen g.cuts given (disk_of world)
       → LastsIn s g.size g.honest g.seen g.cuts (disk_of world) left
       → CutsIn s g.size g.honest g.seen g.cuts g.cut_to (disk_of world) left
@@ -214,34 +214,34 @@ module _ {D : Type 0} {g : Ghosts D} where
   )
   lost_over given left world why s ready lasted lasts cut loses played unplayed past holds suits = absurd loses
 
-  unplayed_over : (given left : D) (world : World D g) (why : WorldNo) (s : Step)
+  unplayed_over : (given left : D) (world : World D g) (why : CrashNo) (s : Step)
       → IsReady (g.size given) (g.seen given) → Outlasts g.size g.honest g.seen g.cuts given (disk_of world)
       → LastsIn s g.size g.honest g.seen g.cuts (disk_of world) left
-      → (why ≢ world_no.Disk → CutsIn s g.size g.honest g.seen g.cuts g.cut_to (disk_of world) left)
+      → (why ≢ crash_no.Disk → CutsIn s g.size g.honest g.seen g.cuts g.cut_to (disk_of world) left)
       → Breaks world left why s → (taken : List ℕ) (played unplayed : List Step) (past : List Entry)
       → WorldHolds given world played past
       → (Sure (IsTrusted g.honest g.seen given) past → StepSuits (setup_of world) past s)
       → Over (disks g.size g.honest g.seen g.may_leave g.cuts g.cut_to given left) (unplayed_by why) (setup_of world) taken
       played (s ∷ unplayed) past
-  unplayed_over given left world world_no.Disk s ready on lasts lost breaks taken played unplayed past holds suits =
+  unplayed_over given left world crash_no.Disk s ready on lasts lost breaks taken played unplayed past holds suits =
       torn_over given left world s ready (trusted_on g.size g.honest g.seen g.cuts given (disk_of world) on) breaks taken
       played unplayed past holds
-  unplayed_over given left world world_no.Alien s ready on lasts lost breaks taken played unplayed past holds suits =
-      lost_over given left world world_no.Alien s ready on lasts (lost (λ is. cc is)) breaks played unplayed past holds suits
-  unplayed_over given left world (world_no.BadRecord index) s ready on lasts lost breaks taken played unplayed past holds
+  unplayed_over given left world crash_no.Alien s ready on lasts lost breaks taken played unplayed past holds suits =
+      lost_over given left world crash_no.Alien s ready on lasts (lost (λ is. cc is)) breaks played unplayed past holds suits
+  unplayed_over given left world (crash_no.BadRecord index) s ready on lasts lost breaks taken played unplayed past holds
       suits =
-      lost_over given left world (world_no.BadRecord index) s ready on lasts (lost (λ is. cc is)) breaks played unplayed past
+      lost_over given left world (crash_no.BadRecord index) s ready on lasts (lost (λ is. cc is)) breaks played unplayed past
       holds suits
-  unplayed_over given left world (world_no.Lost found put) s ready on lasts lost breaks taken played unplayed past holds
+  unplayed_over given left world (crash_no.Lost found put) s ready on lasts lost breaks taken played unplayed past holds
       suits =
-      lost_over given left world (world_no.Lost found put) s ready on lasts (lost (λ is. cc is)) breaks played unplayed past
+      lost_over given left world (crash_no.Lost found put) s ready on lasts (lost (λ is. cc is)) breaks played unplayed past
       holds suits
 
   -- a step that wasn't played
-  pub unplayed_cut : (given left : D) (world : World D g) (why : WorldNo) (s : Step)
+  pub unplayed_cut : (given left : D) (world : World D g) (why : CrashNo) (s : Step)
       → IsReady (g.size given) (g.seen given) → Outlasts g.size g.honest g.seen g.cuts given (disk_of world)
       → LastsIn s g.size g.honest g.seen g.cuts (disk_of world) left
-      → (why ≢ world_no.Disk → CutsIn s g.size g.honest g.seen g.cuts g.cut_to (disk_of world) left)
+      → (why ≢ crash_no.Disk → CutsIn s g.size g.honest g.seen g.cuts g.cut_to (disk_of world) left)
       → Breaks world left why s
       → (taken : List ℕ) (played unplayed : List Step) (past : List Entry) → WorldHolds given world played past
       → (Sure (IsTrusted g.honest g.seen given) past → StepSuits (setup_of world) past s)
@@ -353,8 +353,8 @@ module _ {K D : Type 0} {g : Ghosts D} (written : K → Option (List ℕ))
       × PlaysOn (IsTrusted g.honest g.seen (disk_of world)) (StandsFor world)
       (Books (setup_of world) g.honest g.seen g.may_leave last) (setup_of world) s
       (CutsIn s g.size g.honest g.seen g.cuts g.cut_to (disk_of world) last) (used_of world) many (g.seen last) (λ report. Writes written puts out report (Err failed) out1))
-      ⊎ ((why : WorldNo) × (how ≡ unplayed_by why) × Breaks world last why s
-      × (why ≢ world_no.Disk → CutsIn s g.size g.honest g.seen g.cuts g.cut_to (disk_of world) last) × (out1 ≡ out))
+      ⊎ ((why : CrashNo) × (how ≡ unplayed_by why) × Breaks world last why s
+      × (why ≢ crash_no.Disk → CutsIn s g.size g.honest g.seen g.cuts g.cut_to (disk_of world) last) × (out1 ≡ out))
 
   pub step_ends : (out out1 out2 : K) (left0 left left1 : Option (List ℕ)) (held rest : List ℕ) (number : ℕ)
       (stage : Stage) (how : Ending) (s : Step) (given last : D) (world : World D g)

@@ -18,8 +18,8 @@ use Rattle.cct_journal.specs.Stands.{GoesOn, Outlasts}
 use Rattle.cct_disk.specs.declared.disk.Disk.{Ghosts}
 use Rattle.cct_disk.specs.Disk.{IsTrusted}
 use Rattle.cct_text.specs.Writing.{Broke, Writes, Wrote}
-use Rattle.cct_world.specs.declared.refusal.WorldNo.{WorldNo}
-use Rattle.cct_world.specs.declared.refusal.WorldNo.TheVariants as world_no
+use Rattle.cct_host.specs.declared.refusal.CrashNo.{CrashNo}
+use Rattle.cct_host.specs.declared.refusal.CrashNo.TheVariants as crash_no
 use Rattle.cct_world.specs.declared.world.World.{World}
 use Rattle.cct_world.specs.Early.{LegalBeforeLoss}
 use Rattle.cct_world.specs.Restarts.{CutAt, LosesAt, no_step}
@@ -261,7 +261,7 @@ module _ {D : Type 0} {g : Ghosts D} (given left : D) (world : World D g)
   }
 
   -- why no host starts again
-  lost_by : (why : WorldNo) (unplayed : List Step) (past : List Entry)
+  lost_by : (why : CrashNo) (unplayed : List Step) (past : List Entry)
       → ((s : Step) → loads.FailsAt world left why past s
       → LosesAt (Relies world past) (Cut (disk_of world)) load_setup past (g.seen left) why s)
       → First (loads.FailsAt world left why past) unplayed → EndsLost ds load_setup past unplayed why
@@ -295,7 +295,7 @@ module _ {D : Type 0} {g : Ghosts D} (given left : D) (world : World D g)
           inr (last.0, (sums.0, λ sure. sums.1 (relies past sure), refl), refl, ready),
         ),
       )
-  told_by (load_end.Unplayed world_no.Disk) played unplayed past ends = (
+  told_by (load_end.Unplayed crash_no.Disk) played unplayed past ends = (
     _,
     (
       (
@@ -312,24 +312,24 @@ module _ {D : Type 0} {g : Ghosts D} (given left : D) (world : World D g)
       ends.1,
     ),
   )
-  told_by (load_end.Unplayed world_no.Alien) played unplayed past ends =
-      (_, ((lost_by world_no.Alien unplayed past (λ s loses. loses) ends.0, refl, ready), ends.1))
-  told_by (load_end.Unplayed (world_no.BadRecord index)) played unplayed past ends =
-      (_, ((lost_by (world_no.BadRecord index) unplayed past (λ s loses. loses) ends.0, refl, ready), ends.1))
-  told_by (load_end.Unplayed (world_no.Lost found put)) played unplayed past ends =
-      (_, ((lost_by (world_no.Lost found put) unplayed past (λ s loses. loses) ends.0, refl, ready), ends.1))
+  told_by (load_end.Unplayed crash_no.Alien) played unplayed past ends =
+      (_, ((lost_by crash_no.Alien unplayed past (λ s loses. loses) ends.0, refl, ready), ends.1))
+  told_by (load_end.Unplayed (crash_no.BadRecord index)) played unplayed past ends =
+      (_, ((lost_by (crash_no.BadRecord index) unplayed past (λ s loses. loses) ends.0, refl, ready), ends.1))
+  told_by (load_end.Unplayed (crash_no.Lost found put)) played unplayed past ends =
+      (_, ((lost_by (crash_no.Lost found put) unplayed past (λ s loses. loses) ends.0, refl, ready), ends.1))
 
   -- what the disk keeps
   book_by : (how : LoadEnd) (unplayed : List Step) (past : List Entry) → loads.Book world left how unplayed past
       → Book ds load_setup unplayed past (listed (last_entry (load_ending how)))
   book_by load_end.Done unplayed past book = book
   book_by load_end.Unwritten unplayed past book = book
-  book_by (load_end.Unplayed world_no.Disk) unplayed past book = first_by _ _ unplayed (λ s leaves. leaves) book
-  book_by (load_end.Unplayed world_no.Alien) unplayed past book =
+  book_by (load_end.Unplayed crash_no.Disk) unplayed past book = first_by _ _ unplayed (λ s leaves. leaves) book
+  book_by (load_end.Unplayed crash_no.Alien) unplayed past book =
       absurd (none_first unplayed (first_by _ (λ s. ⊥) unplayed (λ s never. never) book))
-  book_by (load_end.Unplayed (world_no.BadRecord index)) unplayed past book =
+  book_by (load_end.Unplayed (crash_no.BadRecord index)) unplayed past book =
       absurd (none_first unplayed (first_by _ (λ s. ⊥) unplayed (λ s never. never) book))
-  book_by (load_end.Unplayed (world_no.Lost found put)) unplayed past book =
+  book_by (load_end.Unplayed (crash_no.Lost found put)) unplayed past book =
       absurd (none_first unplayed (first_by _ (λ s. ⊥) unplayed (λ s never. never) book))
 
   -- and that another journal than was there never comes
@@ -337,12 +337,12 @@ module _ {D : Type 0} {g : Ghosts D} (given left : D) (world : World D g)
       → TellsLoss (listed (last_entry (load_ending how))) → ⊥
   keeps_by load_end.Done unplayed past book tells = tells
   keeps_by load_end.Unwritten unplayed past book tells = tells
-  keeps_by (load_end.Unplayed world_no.Disk) unplayed past book tells = tells
-  keeps_by (load_end.Unplayed world_no.Alien) unplayed past book tells =
+  keeps_by (load_end.Unplayed crash_no.Disk) unplayed past book tells = tells
+  keeps_by (load_end.Unplayed crash_no.Alien) unplayed past book tells =
       none_first unplayed (first_by _ (λ s. ⊥) unplayed (λ s never. never) book)
-  keeps_by (load_end.Unplayed (world_no.BadRecord index)) unplayed past book tells =
+  keeps_by (load_end.Unplayed (crash_no.BadRecord index)) unplayed past book tells =
       none_first unplayed (first_by _ (λ s. ⊥) unplayed (λ s never. never) book)
-  keeps_by (load_end.Unplayed (world_no.Lost found put)) unplayed past book tells =
+  keeps_by (load_end.Unplayed (crash_no.Lost found put)) unplayed past book tells =
       none_first unplayed (first_by _ (λ s. ⊥) unplayed (λ s never. never) book)
 
   pub load_played : (how : LoadEnd) → PlaysLoad world load how left Written Breaks

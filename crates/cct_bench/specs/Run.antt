@@ -27,8 +27,8 @@ use Rattle.cct_world.specs.Early.{LegalBeforeLoss}
 use Rattle.cct_world.specs.Restarts.{LosesAt, Survived}
 use Rattle.cct_world.specs.Step.{RoseBy, count_after, crashes}
 use Rattle.cct_world.specs.Sure.{First, IsCrash, MayFail, Sure, due_to}
-use Rattle.cct_world.specs.declared.refusal.WorldNo.{WorldNo}
-use Rattle.cct_world.specs.declared.refusal.WorldNo.TheVariants as world_no
+use Rattle.cct_host.specs.declared.refusal.CrashNo.{CrashNo}
+use Rattle.cct_host.specs.declared.refusal.CrashNo.TheVariants as crash_no
 use Rattle.cct_bench.specs.Disks.{Disks, IsReady, most_records}
 use Rattle.cct_bench.specs.Going.{IsUnbegun}
 use Rattle.cct_bench.specs.Money.{IsRight, RightBeforeLoss}
@@ -57,10 +57,10 @@ IsUntouched taken played = (taken ≡ []) × (played ≡ [])
 
 -- A last line tells why no host starts again behind a loss of power, and this holds of what it tells: that there is no
 -- journal, that a record can't be read or doesn't follow, or that there are other records than were put.
-abbrev pub TellsOf : (WorldNo → Type 0) → List Entry → Type 0
-TellsOf P (entry.JournalAlien ∷ []) = P world_no.Alien
-TellsOf P (entry.JournalBad index ∷ []) = P (world_no.BadRecord index)
-TellsOf P (entry.JournalLost found put ∷ []) = P (world_no.Lost found put)
+abbrev pub TellsOf : (CrashNo → Type 0) → List Entry → Type 0
+TellsOf P (entry.JournalAlien ∷ []) = P crash_no.Alien
+TellsOf P (entry.JournalBad index ∷ []) = P (crash_no.BadRecord index)
+TellsOf P (entry.JournalLost found put ∷ []) = P (crash_no.Lost found put)
 TellsOf P tail = ⊥
 
 -- A last line tells that a loss of power left another journal than was there.
@@ -69,7 +69,7 @@ TellsLoss = TellsOf (λ why. ⊤)
 
 -- The first step that wasn't played behind a past is a loss of power, and this is why no host starts again over what the
 -- disk then has that comes back.
-abbrev pub EndsLost : Disks → Setup → List Entry → List Step → WorldNo → Type 0
+abbrev pub EndsLost : Disks → Setup → List Entry → List Step → CrashNo → Type 0
 EndsLost disks setup past unplayed why =
     First (LosesAt (Sure disks.trusted past) disks.cut_at setup past disks.seen_after why) unplayed
 
@@ -173,11 +173,11 @@ IsUnopened size seen (ending.OtherSize len) = (size ≢ JOURNAL_BYTES) × (len �
 IsUnopened size seen how = ⊥
 
 -- How a run ends where a step isn't played.
-abbrev pub unplayed_by : WorldNo → Ending
-unplayed_by world_no.Disk = ending.DiskFailed
-unplayed_by world_no.Alien = ending.JournalAlien
-unplayed_by (world_no.BadRecord index) = ending.JournalBad index
-unplayed_by (world_no.Lost found put) = ending.RecordsLost found put
+abbrev pub unplayed_by : CrashNo → Ending
+unplayed_by crash_no.Disk = ending.DiskFailed
+unplayed_by crash_no.Alien = ending.JournalAlien
+unplayed_by (crash_no.BadRecord index) = ending.JournalBad index
+unplayed_by (crash_no.Lost found put) = ending.RecordsLost found put
 
 -- The script or its source brought the end.
 abbrev pub IsOfScript : Ending → Type 0
@@ -201,7 +201,7 @@ Stops Relies ending.NoMemory bytes taken played unplayed transcript Written Brea
 Stops Relies how bytes taken played unplayed transcript Written Breaks = Written transcript
 
 -- A disk was ready and isn't trusted, and no host starts again over it.
-abbrev pub OverLost : Disks → Setup → List Entry → List Step → WorldNo → Type 0
+abbrev pub OverLost : Disks → Setup → List Entry → List Step → CrashNo → Type 0
 OverLost disks setup past unplayed why =
     IsReady disks.size disks.seen × EndsLost disks setup past unplayed why × (disks.trusted → ⊥)
 
@@ -219,11 +219,11 @@ Over disks (ending.NotBlank at) setup taken played unplayed past =
     × ((image : List ℕ) → disks.seen ≡ Some image → IsFirstByteFrom 0 image at)
 Over disks (ending.OtherSize len) setup taken played unplayed past =
     (disks.size ≢ JOURNAL_BYTES) × IsUntouched taken played × (len ≡ disks.size)
-Over disks ending.JournalAlien setup taken played unplayed past = OverLost disks setup past unplayed world_no.Alien
+Over disks ending.JournalAlien setup taken played unplayed past = OverLost disks setup past unplayed crash_no.Alien
 Over disks (ending.JournalBad index) setup taken played unplayed past =
-    OverLost disks setup past unplayed (world_no.BadRecord index)
+    OverLost disks setup past unplayed (crash_no.BadRecord index)
 Over disks (ending.RecordsLost found put) setup taken played unplayed past =
-    OverLost disks setup past unplayed (world_no.Lost found put)
+    OverLost disks setup past unplayed (crash_no.Lost found put)
 Over disks how setup taken played unplayed past =
     IsReady disks.size disks.seen × (disks.trusted → disks.leaves setup None (reverse (records past)))
 

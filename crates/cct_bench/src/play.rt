@@ -12,7 +12,7 @@ ghost use Rattle.cct_script.specs.Giving.{none_given, standing_of};
 ghost use Rattle.cct_disk.specs.Disk.{IsTrusted};
 ghost use Rattle.cct_journal.specs.Journal as journals;
 ghost use Rattle.cct_journal.specs.Stands.{GoesOn, Outlasts};
-ghost use Rattle.cct_world.specs.declared.refusal.WorldNo.{WorldNo};
+ghost use Rattle.cct_host.specs.declared.refusal.CrashNo.{CrashNo};
 ghost use Rattle.cct_world.specs.Holds.{WorldHolds};
 ghost use Rattle.cct_world.specs.Step.{CutsIn, LastsIn};
 ghost use Rattle.cct_host.specs.Book.{HasBook};
@@ -102,7 +102,7 @@ impl Page {
             (Books (setup_of world.entry) D.honest D.seen D.may_leave e.1) (setup_of world.entry) step.now
             (CutsIn step.now D.size D.honest D.seen D.cuts D.cut_to (disk_of world.entry) e.1) (used_of world.entry)
             many (D.seen e.1) (λ report. Writes K.written K.puts out.old report (Err failed) out.new))
-            ⊎ ((why : WorldNo) × (e.0 ≡ unplayed_by why) × Breaks world.entry e.1 why step.now
+            ⊎ ((why : CrashNo) × (e.0 ≡ unplayed_by why) × Breaks world.entry e.1 why step.now
             × (why ≢ WorldNo.Disk
             → CutsIn step.now D.size D.honest D.seen D.cuts D.cut_to (disk_of world.entry) e.1)
             × (out.new ≡ out.old))) }

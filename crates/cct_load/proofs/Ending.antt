@@ -13,7 +13,7 @@ use Rattle.cct_disk.specs.Disk.{IsTrusted}
 use Rattle.cct_journal.specs.Stands.{Outlasts}
 use Rattle.cct_journal.proofs.Calls.{settled_leaves, stands_settled}
 use Rattle.cct_host.specs.Book.{LeavesBook}
-use Rattle.cct_world.specs.declared.refusal.WorldNo.{WorldNo}
+use Rattle.cct_host.specs.declared.refusal.CrashNo.{CrashNo}
 use Rattle.cct_world.specs.declared.world.World.{World}
 use Rattle.cct_world.specs.Restarts.{Survived, no_step}
 use Rattle.cct_world.specs.Step.{crashes}
@@ -60,7 +60,7 @@ module _ {D : Type 0} {g : Ghosts D} (world : World D g) (load : Load) (left : D
   }
 
   -- a step wasn't played
-  pub stopped_in : (why : WorldNo) → StoppedWithin world load.seed (5 + 18 * load.rounds) left why
+  pub stopped_in : (why : CrashNo) → StoppedWithin world load.seed (5 + 18 * load.rounds) left why
       → Written (first_line load ∷ []) → PlaysLoad world load (load_end.Unplayed why) left Written Breaks
   stopped_in why within wrote =
       let n = within.0 in

@@ -14,8 +14,8 @@ use Rattle.cct_journal.specs.Stands.{Outlasts}
 use Rattle.cct_host.specs.Book.{LeavesBook}
 use Rattle.cct_laws.specs.Restart.{due_in}
 use Rattle.cct_laws.proofs.Onto.{legal_more, transcript_on}
-use Rattle.cct_world.specs.declared.refusal.WorldNo.{WorldNo}
-use Rattle.cct_world.specs.declared.refusal.WorldNo.TheVariants as world_no
+use Rattle.cct_host.specs.declared.refusal.CrashNo.{CrashNo}
+use Rattle.cct_host.specs.declared.refusal.CrashNo.TheVariants as crash_no
 use Rattle.cct_world.specs.declared.world.World.{World}
 use Rattle.cct_world.specs.Early.{LegalBeforeLoss}
 use Rattle.cct_world.specs.Holds.{WorldHolds}
@@ -155,22 +155,22 @@ module _ {D : Type 0} {g : Ghosts D} (world : World D g) where
 
     module _ (s : Step) (lasted : Outlasts g.size g.honest g.seen g.cuts (disk_of world) (disk_of now))
         (lasts : LastsIn s g.size g.honest g.seen g.cuts (disk_of now) left) where
-      lost_at : (why : WorldNo) → CutsIn s g.size g.honest g.seen g.cuts g.cut_to (disk_of now) left
+      lost_at : (why : CrashNo) → CutsIn s g.size g.honest g.seen g.cuts g.cut_to (disk_of now) left
           → LosesIn now.machine.value left why s
           → LosesAt (Relies world past) (CutFor world left) load_setup past (g.seen left) why s
       lost_at why cut breaks =
           subst (λ setup. LosesAt (Relies world past) (CutFor world left) setup past (g.seen left) why s) same
           (loses_at (disk_of world) left now played past holds why s lasted lasts cut breaks)
 
-      fails_at : (why : WorldNo) → Breaks now left why s
-          → (why ≢ world_no.Disk → CutsIn s g.size g.honest g.seen g.cuts g.cut_to (disk_of now) left)
+      fails_at : (why : CrashNo) → Breaks now left why s
+          → (why ≢ crash_no.Disk → CutsIn s g.size g.honest g.seen g.cuts g.cut_to (disk_of now) left)
           → FailsAt world left why past s
-      fails_at world_no.Disk breaks lost = disk_fails s breaks
-      fails_at world_no.Alien breaks lost = lost_at world_no.Alien (lost (λ is. cc is)) breaks
-      fails_at (world_no.BadRecord index) breaks lost =
-          lost_at (world_no.BadRecord index) (lost (λ is. cc is)) breaks
-      fails_at (world_no.Lost found many) breaks lost =
-          lost_at (world_no.Lost found many) (lost (λ is. cc is)) breaks
+      fails_at crash_no.Disk breaks lost = disk_fails s breaks
+      fails_at crash_no.Alien breaks lost = lost_at crash_no.Alien (lost (λ is. cc is)) breaks
+      fails_at (crash_no.BadRecord index) breaks lost =
+          lost_at (crash_no.BadRecord index) (lost (λ is. cc is)) breaks
+      fails_at (crash_no.Lost found many) breaks lost =
+          lost_at (crash_no.Lost found many) (lost (λ is. cc is)) breaks
 
     disk_leaves : (s : Step) → HasTrusted world → IsTrusted g.honest g.seen (disk_of now)
         → FailsIn now.machine.value left s
@@ -185,21 +185,21 @@ module _ {D : Type 0} {g : Ghosts D} (world : World D g) where
         same (breaks past (holds.stands (inl given)) trusted)
     disk_leaves s given trusted breaks = absurd breaks
 
-    never_lost : (why : WorldNo) (s : Step) → HasTrusted world → IsTrusted g.honest g.seen (disk_of now)
+    never_lost : (why : CrashNo) (s : Step) → HasTrusted world → IsTrusted g.honest g.seen (disk_of now)
         → StepSuits (setup_of now) past s → LosesIn now.machine.value left why s → ⊥
     never_lost why (step.Crash at choice) given trusted here breaks = breaks.0 past (holds.stands (inl given)) here trusted
     never_lost why s given trusted here breaks = breaks
 
-    left_at : (why : WorldNo) (s : Step) → HasTrusted world → IsTrusted g.honest g.seen (disk_of now)
+    left_at : (why : CrashNo) (s : Step) → HasTrusted world → IsTrusted g.honest g.seen (disk_of now)
         → StepSuits (setup_of now) past s → Breaks now left why s → LeftAt world left why past s
-    left_at world_no.Disk s given trusted here breaks = disk_leaves s given trusted breaks
+    left_at crash_no.Disk s given trusted here breaks = disk_leaves s given trusted breaks
     left_at why s given trusted here breaks = never_lost why s given trusted here breaks
 
   -- a line wasn't played
-  pub goes_stops : (now : World D g) (left : D) (why : WorldNo) (sums : LoadSums) (seed n lines : ℕ) (s : Step)
+  pub goes_stops : (now : World D g) (left : D) (why : CrashNo) (sums : LoadSums) (seed n lines : ℕ) (s : Step)
       → n < lines → s ≡ line_at seed n → Goes now sums seed n → Breaks now left why s
       → LastsIn s g.size g.honest g.seen g.cuts (disk_of now) left
-      → (why ≢ world_no.Disk → CutsIn s g.size g.honest g.seen g.cuts g.cut_to (disk_of now) left)
+      → (why ≢ crash_no.Disk → CutsIn s g.size g.honest g.seen g.cuts g.cut_to (disk_of now) left)
       → StoppedWithin world seed lines left why
   goes_stops now left why sums seed n lines s within is goes breaks lasts lost =
       let past = onto [] goes.lines.transcript in

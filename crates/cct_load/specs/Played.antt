@@ -11,8 +11,8 @@ use Rattle.cct_model.specs.Transcript.{onto}
 use Rattle.cct_disk.specs.declared.disk.Disk.{Ghosts}
 use Rattle.cct_disk.specs.Disk.{IsTrusted}
 use Rattle.cct_host.specs.Book.{LeavesBook}
-use Rattle.cct_world.specs.declared.refusal.WorldNo.{WorldNo}
-use Rattle.cct_world.specs.declared.refusal.WorldNo.TheVariants as world_no
+use Rattle.cct_host.specs.declared.refusal.CrashNo.{CrashNo}
+use Rattle.cct_host.specs.declared.refusal.CrashNo.TheVariants as crash_no
 use Rattle.cct_world.specs.declared.world.World.{World}
 use Rattle.cct_world.specs.Early.{LegalBeforeLoss}
 use Rattle.cct_world.specs.Holds.{WorldHolds}
@@ -65,21 +65,21 @@ module _ {D : Type 0} {g : Ghosts D} (world : World D g) where
 
   -- Why the step behind a past wasn't played, where this disk is left: it failed in a `next` that was about to put a
   -- record, or in a loss of power; or it isn't the one that it was, which comes in a loss of power alone, and is told.
-  abbrev pub FailsAt : D → WorldNo → List Entry → Step → Type 0
-  FailsAt left world_no.Disk past s = MayFail (Relies past) load_setup past s
+  abbrev pub FailsAt : D → CrashNo → List Entry → Step → Type 0
+  FailsAt left crash_no.Disk past s = MayFail (Relies past) load_setup past s
   FailsAt left why past s =
       LosesAt (Relies past) (CutFor left) load_setup past (g.seen left) why s
 
   -- What a loss of power may leave on this disk, where the step behind a past wasn't played: each image stands for the
   -- records of the past, or, where a record was due, for these or for these and that record. Any reason but that the
   -- disk failed never comes on a trusted disk.
-  abbrev pub LeftAt : D → WorldNo → List Entry → Step → Type 0
-  LeftAt left world_no.Disk past s =
+  abbrev pub LeftAt : D → CrashNo → List Entry → Step → Type 0
+  LeftAt left crash_no.Disk past s =
       LeavesBook load_setup g.honest g.seen g.may_leave left (due_to load_setup past s) (reverse (records past))
   LeftAt left why past s = ⊥
 
   -- The step behind a past wasn't played, for this reason, and this disk is left.
-  pub record Stopped (left : D) (why : WorldNo) (s : Step) (played : List Step) (past : List Entry) : Type 0 where
+  pub record Stopped (left : D) (why : CrashNo) (s : Step) (played : List Step) (past : List Entry) : Type 0 where
     pub fails : FailsAt left why past s
     pub book : HasTrusted → LeftAt left why past s
     pub survived : SurvivedOn left played past
@@ -87,7 +87,7 @@ module _ {D : Type 0} {g : Ghosts D} (world : World D g) where
     pub just : (IsCrash s → ⊥) → g.cuts left ≡ count_after (crashes past) (g.cuts (disk_of world))
 
   -- One of so many lines of a load wasn't played, for this reason, and all lines before were; this disk is left.
-  abbrev pub StoppedWithin : ℕ → ℕ → D → WorldNo → Type 0
+  abbrev pub StoppedWithin : ℕ → ℕ → D → CrashNo → Type 0
   StoppedWithin seed lines left why =
       (n : ℕ) × (n < lines) × PlayedLines seed n (Stopped left why (line_at seed n) (lines_before seed n))
 

@@ -7,7 +7,7 @@ ghost use Rattle.cct_model.specs.lines.entry.Entry.{Entry};
 ghost use Rattle.cct_model.specs.lines.entry.Entry.TheVariants.{Balance};
 ghost use Rattle.cct_journal.specs.Stands.{Outlasts};
 ghost use Rattle.cct_text.specs.Writing.{Broke, Writes, Wrote};
-ghost use Rattle.cct_world.specs.declared.refusal.WorldNo.{WorldNo};
+ghost use Rattle.cct_host.specs.declared.refusal.CrashNo.{CrashNo};
 ghost use Rattle.cct_world.specs.World.{StandsFor, disk_of, setup_of};
 ghost use Rattle.cct_gen.specs.Load.{load_setup};
 ghost use Rattle.cct_load.specs.Sums.{SumsUp, sums_of};
@@ -113,7 +113,7 @@ pub fn play_load<K: Sink, D: Disk>(
     ensures write_cause { result.0 ≡ LoadEnd.Unwritten → Rose (K.faults out.old) (K.faults out.new) }
     ensures disk_cause { result.0 ≡ LoadEnd.Unplayed WorldNo.Disk
         → Rose (D.faults (disk_of world.entry)) (D.faults result.1) }
-    ensures lost_cause { (why : WorldNo) → why ≢ WorldNo.Disk → result.0 ≡ LoadEnd.Unplayed why
+    ensures lost_cause { (why : CrashNo) → why ≢ WorldNo.Disk → result.0 ≡ LoadEnd.Unplayed why
         → Rose (D.cuts (disk_of world.entry)) (D.cuts result.1) }
 
     // Sink and disk go on telling, and no count of faults falls.

@@ -14,7 +14,7 @@ use Rattle.cct_journal.specs.Stands.{Outlasts}
 use Rattle.cct_laws.specs.Restart.{due_in}
 use Rattle.cct_host.specs.Host.{put_by}
 use Rattle.cct_world.specs.declared.machine.Machine.{Machine}
-use Rattle.cct_world.specs.declared.refusal.WorldNo.{WorldNo}
+use Rattle.cct_host.specs.declared.refusal.CrashNo.{CrashNo}
 use Rattle.cct_world.specs.declared.world.World.{World}
 use Rattle.cct_world.specs.Holds.{Holds, WorldHolds}
 use Rattle.cct_world.specs.Machine.{LosesIn, due_of}
@@ -131,7 +131,7 @@ module _ {D : Type 0} {g : Ghosts D} where
 
   -- why no host starts again
   pub loses_at : (given left : D) (now : World D g) (played : List Step) (past : List Entry)
-      → WorldHolds given now played past → (why : WorldNo) (s : Step)
+      → WorldHolds given now played past → (why : CrashNo) (s : Step)
       → Outlasts g.size g.honest g.seen g.cuts given (disk_of now)
       → LastsIn s g.size g.honest g.seen g.cuts (disk_of now) left
       → CutsIn s g.size g.honest g.seen g.cuts g.cut_to (disk_of now) left → LosesIn now.machine.value left why s

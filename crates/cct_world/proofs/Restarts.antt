@@ -32,7 +32,7 @@ use Rattle.cct_host.specs.Starting.{StartsOver}
 use Rattle.cct_world.specs.declared.machine.Machine.{Machine}
 use Rattle.cct_world.specs.Machine.{Breaks, DueAsTold, StandsFor}
 use Rattle.cct_world.specs.Restarts.{CutAt, HasBad, Loses, Restarts, kept_in}
-use Rattle.cct_world.specs.Step.{count_after, unplayed}
+use Rattle.cct_world.specs.Step.{count_after}
 use Rattle.cct_world.proofs.Lasting.{lasts_on, lasts_then}
 
 -- records behind others
@@ -103,7 +103,7 @@ module _ {D : Type 0} {g : Ghosts D} where
 
   loses_by : (old new : Journal D g) (due : Option Record) (setup : Setup) (why : CrashNo)
       → (why ≡ crash_no.Disk → ⊥) → RefusesCrash old new due setup why
-      → Loses setup (journals.used_of old) due (g.seen (journals.disk_of new)) (unplayed why)
+      → Loses setup (journals.used_of old) due (g.seen (journals.disk_of new)) why
   loses_by old new due setup crash_no.Disk other refused = absurd (other refl)
   loses_by old new due setup crash_no.Alien other refused = refused
   loses_by old new due setup (crash_no.BadRecord index) other refused =
@@ -125,7 +125,7 @@ module _ {D : Type 0} {g : Ghosts D} where
       → IsTrusted g.honest g.seen (hosts.disk_of old.host) → ⊥)
       × DueAsTold old at
       × Loses (hosts.setup_of old.host) (journals.used_of (hosts.journal_of old.host)) (due_of old.host at)
-      (g.seen (hosts.disk_of host)) (unplayed why)
+      (g.seen (hosts.disk_of host)) why
   crash_loses old host at why other refused never due = (
     λ past stands suits trusted. other (never past stands.host suits trusted),
     λ past stands. due past stands.host,
@@ -142,7 +142,7 @@ module _ {D : Type 0} {g : Ghosts D} where
       (due_in (hosts.setup_of old.host) past at) (reverse (records past)))
       → ((past : List Entry) → hosts.StandsFor old.host past
       → due_of old.host at ≡ due_in (hosts.setup_of old.host) past at)
-      → Breaks old (hosts.disk_of host) (unplayed why) (step.Crash at choice)
+      → Breaks old (hosts.disk_of host) why (step.Crash at choice)
   crash_breaks old host at choice crash_no.Disk refused never left due =
       λ past stands trusted. left past stands.host trusted
   crash_breaks old host at choice crash_no.Alien refused never left due =

@@ -7,7 +7,7 @@ use Rattle.cct_model.specs.lines.command.Step.TheVariants as step
 use Rattle.cct_model.specs.lines.record.Record.{Record}
 use Rattle.cct_model.specs.lines.entry.Entry.{Entry}
 use Rattle.cct_model.specs.Records.{records}
-use Rattle.cct_world.specs.declared.refusal.WorldNo.{WorldNo}
+use Rattle.cct_host.specs.declared.refusal.CrashNo.{CrashNo}
 use Rattle.cct_world.specs.Restarts.{EachStep, IsWhole, Loses, LosesAt, RestartsAt, Survived, WasDue}
 use Rattle.cct_world.specs.Restarts.{no_step, one_step_more}
 use Rattle.cct_world.specs.Step.{crashes}
@@ -33,7 +33,7 @@ module _ (sure sure1 : Type 0) (Cut Cut1 : ℕ → (ℕ → Option (List ℕ) �
   due_by : (at : Option CrashAt) (due : Option Record) → WasDue sure setup past at due → WasDue sure1 setup past at due
   due_by at due was = record { none = was.none; told = λ is. was.told (more is) }
 
-  pub loses_by : (seen : Option (List ℕ)) (why : WorldNo) (s : Step) → LosesAt sure Cut setup past seen why s
+  pub loses_by : (seen : Option (List ℕ)) (why : CrashNo) (s : Step) → LosesAt sure Cut setup past seen why s
       → LosesAt sure1 Cut1 setup past seen why s
   loses_by seen why (step.Crash at choice) (due, was, cut) = (
     due,

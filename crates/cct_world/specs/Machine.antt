@@ -18,8 +18,8 @@ use Rattle.cct_host.specs.Host as hosts
 use Rattle.cct_host.specs.Host.{PutSuits}
 use Rattle.cct_host.specs.Restarting as restarting
 use Rattle.cct_world.specs.declared.machine.Machine.{Machine}
-use Rattle.cct_world.specs.declared.refusal.WorldNo.{WorldNo}
-use Rattle.cct_world.specs.declared.refusal.WorldNo.TheVariants as world_no
+use Rattle.cct_host.specs.declared.refusal.CrashNo.{CrashNo}
+use Rattle.cct_host.specs.declared.refusal.CrashNo.TheVariants as crash_no
 use Rattle.cct_world.specs.Restarts.{Loses, Restarts, kept_in}
 
 -- What a step takes for granted of the past: of a `next`, that the record that it puts, if it puts one, suits the
@@ -97,7 +97,7 @@ module _ {D : Type 0} {g : Ghosts D} where
 
   -- What a loss of power left isn't what stood on the disk, and this is why. That is told of no other step, and never of
   -- a trusted disk.
-  abbrev pub LosesIn : Machine D g → D → WorldNo → Step → Type 0
+  abbrev pub LosesIn : Machine D g → D → CrashNo → Step → Type 0
   LosesIn old left why (step.Crash at choice) =
       ((past : List Entry) → StandsFor old past → CrashSuits (setup_of old) past at → HasTrusted old → ⊥)
       × DueAsTold old at × Loses (setup_of old) (used_of old) (due_of old at) (g.seen left) why
@@ -112,6 +112,6 @@ module _ {D : Type 0} {g : Ghosts D} where
   RestartsBy old new s news = kept_in news ≡ []
 
   -- Why a step wasn't played, where this disk is left.
-  abbrev pub Breaks : Machine D g → D → WorldNo → Step → Type 0
-  Breaks old left world_no.Disk s = FailsIn old left s
+  abbrev pub Breaks : Machine D g → D → CrashNo → Step → Type 0
+  Breaks old left crash_no.Disk s = FailsIn old left s
   Breaks old left why s = LosesIn old left why s

@@ -13,8 +13,8 @@ use Rattle.cct_journal.specs.Stands.{Outlasts}
 use Rattle.cct_laws.specs.Restart.{due_in}
 use Rattle.cct_host.specs.Book.{FindsBad, FindsMany, FindsWhole}
 use Rattle.cct_host.specs.Restarting.{HasAll, IsLost, told_by}
-use Rattle.cct_world.specs.declared.refusal.WorldNo.{WorldNo}
-use Rattle.cct_world.specs.declared.refusal.WorldNo.TheVariants as world_no
+use Rattle.cct_host.specs.declared.refusal.CrashNo.{CrashNo}
+use Rattle.cct_host.specs.declared.refusal.CrashNo.TheVariants as crash_no
 use Rattle.cct_world.specs.Step.{count_after, crashes}
 
 -- An image has so many records of which none is missing, and the one of this index is the first that doesn't follow those
@@ -25,12 +25,12 @@ HasBad setup put due image index = (many : ℕ) × HasAll due many put × FindsB
 -- Why no host starts again behind a loss of power, where so many records were put and this one was due, if one was, by
 -- what a read of the disk then gives, where that is told: it has no journal; a record can't be read, or none is missing
 -- and this one doesn't follow; or it has so many, which are others than were put.
-abbrev pub Loses : Setup → ℕ → Option Record → Option (List ℕ) → WorldNo → Type 0
-Loses setup put due seen world_no.Disk = ⊥
-Loses setup put due seen world_no.Alien = (image : List ℕ) → seen ≡ Some image → IsAlien image
-Loses setup put due seen (world_no.BadRecord index) =
+abbrev pub Loses : Setup → ℕ → Option Record → Option (List ℕ) → CrashNo → Type 0
+Loses setup put due seen crash_no.Disk = ⊥
+Loses setup put due seen crash_no.Alien = (image : List ℕ) → seen ≡ Some image → IsAlien image
+Loses setup put due seen (crash_no.BadRecord index) =
     (image : List ℕ) → seen ≡ Some image → IsBadAt image index ⊎ HasBad setup put due image index
-Loses setup put due seen (world_no.Lost found many) =
+Loses setup put due seen (crash_no.Lost found many) =
     (many ≡ put) × IsLost due found put × ((image : List ℕ) → seen ≡ Some image → FindsMany setup image found)
 
 -- What a read gives, where that is told, has so many records, and each follows those before it.
@@ -82,7 +82,7 @@ pub record WasDue (sure : Type 0) (setup : Setup) (past : List Entry) (at : Opti
 
 -- The step behind a past is a loss of power, and this is why no host starts again behind it, by what a read gave right
 -- behind the cut, as it then still does; the cut was by the choice of the step.
-abbrev pub LosesAt : Type 0 → (ℕ → (ℕ → Option (List ℕ) → Type 0) → Type 0) → Setup → List Entry → Option (List ℕ) → WorldNo
+abbrev pub LosesAt : Type 0 → (ℕ → (ℕ → Option (List ℕ) → Type 0) → Type 0) → Setup → List Entry → Option (List ℕ) → CrashNo
     → Step → Type 0
 LosesAt sure Cut setup past seen why (step.Crash at choice) =
     (due : Option Record) × WasDue sure setup past at due

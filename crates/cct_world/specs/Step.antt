@@ -10,10 +10,6 @@ use Rattle.cct_bus.specs.declared.outcome.Outcome.{Outcome}
 use Rattle.cct_bus.specs.declared.outcome.Outcome.TheVariants as outcome
 use Rattle.cct_edge.specs.Faults.{next_count}
 use Rattle.cct_journal.specs.Stands.{CutOnce, GoesOn, Outlasts}
-use Rattle.cct_host.specs.declared.refusal.CrashNo.{CrashNo}
-use Rattle.cct_host.specs.declared.refusal.CrashNo.TheVariants as crash_no
-use Rattle.cct_world.specs.declared.refusal.WorldNo.{WorldNo}
-use Rattle.cct_world.specs.declared.refusal.WorldNo.TheVariants as world_no
 
 -- The entry of what befell the device at an address, by what became of it.
 abbrev pub entry_told : ℕ → Happening → Outcome → Entry
@@ -25,13 +21,6 @@ entry_told addr happening.Fall became = entry.NoFall addr
 entry_told addr happening.Jam outcome.Done = entry.Jammed addr
 entry_told addr happening.Jam became = entry.NoJam addr
 entry_told addr happening.Reset became = entry.Reset addr
-
--- Why a step isn't played, where a host isn't started again behind a loss of power.
-abbrev pub unplayed : CrashNo → WorldNo
-unplayed crash_no.Disk = world_no.Disk
-unplayed crash_no.Alien = world_no.Alien
-unplayed (crash_no.BadRecord index) = world_no.BadRecord index
-unplayed (crash_no.Lost found put) = world_no.Lost found put
 
 -- The step is a `next`.
 abbrev pub is_next : Step → Bool

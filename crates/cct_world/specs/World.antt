@@ -4,7 +4,7 @@ use Rattle.cct_model.specs.terms.device.Setup.{Setup}
 use Rattle.cct_model.specs.lines.command.Step.{Step}
 use Rattle.cct_model.specs.lines.entry.Entry.{Entry}
 use Rattle.cct_disk.specs.declared.disk.Disk.{Ghosts}
-use Rattle.cct_world.specs.declared.refusal.WorldNo.{WorldNo}
+use Rattle.cct_host.specs.declared.refusal.CrashNo.{CrashNo}
 use Rattle.cct_world.specs.declared.world.World.{World}
 use Rattle.cct_world.specs.Machine as machines
 
@@ -40,5 +40,5 @@ module _ {D : Type 0} {g : Ghosts D} where
   RestartsBy old new s news = machines.RestartsBy old.machine.value new.machine.value s news
 
   -- Why a step wasn't played, where this disk is left.
-  abbrev pub Breaks : World D g → D → WorldNo → Step → Type 0
+  abbrev pub Breaks : World D g → D → CrashNo → Step → Type 0
   Breaks old left why s = machines.Breaks old.machine.value left why s

@@ -2,8 +2,7 @@
 #![tactic(auto)]
 
 mod machine;
-mod refusal;
 mod world;
 
-pub use refusal::WorldNo;
+pub use cct_host::CrashNo as WorldNo;
 pub use world::World;

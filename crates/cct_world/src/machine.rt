@@ -14,14 +14,14 @@ ghost use Rattle.cct_journal.specs.Stands.{CutOnce, GoesOn, Outlasts};
 ghost use Rattle.cct_host.specs.Host as hosts;
 ghost use Rattle.cct_host.specs.Restarting.{crash_news};
 ghost use Rattle.cct_world.specs.Restarts.{kept_in};
-ghost use Rattle.cct_world.specs.Step.{CutsIn, LastsIn, crashes, crashes_of, entry_told, is_next, unplayed};
+ghost use Rattle.cct_world.specs.Step.{CutsIn, LastsIn, crashes, crashes_of, entry_told, is_next};
 
-use crate::refusal::WorldNo;
+use crate::WorldNo;
 use arrayvec::ArrayVec;
 use cct_bus::{Bus, Outcome};
 use cct_disk::Disk;
 use cct_edge::Failed;
-use cct_host::{CrashNo, Crashed, Host};
+use cct_host::{Crashed, Host};
 use cct_model::{Command, CrashAt, Entry, Happening, Step, Totals, WireFault};
 
 /// The host and the bus of a world. They stand in a box, so that a world that is moved costs a pointer.
@@ -159,7 +159,7 @@ impl<D: Disk> Machine<'_, D> {
                 tell_crash(crashed, report);
                 Ok(())
             }
-            Err(why) => Err(unplayed(why)),
+            Err(why) => Err(why),
         }
     }
 
@@ -269,18 +269,6 @@ fn tell_crash(crashed: Crashed, report: &mut ArrayVec<Entry, 8>)
     report.push(Entry::Crash { records });
     if let Some(entry) = kept {
         report.push(Entry::Kept(entry));
-    }
-}
-
-/// Why a step isn't played, where the host isn't started again behind a loss of power.
-fn unplayed(why: CrashNo) -> WorldNo
-    ensures { result ≡ unplayed why }
-{
-    match why {
-        CrashNo::Disk => WorldNo::Disk,
-        CrashNo::Alien => WorldNo::Alien,
-        CrashNo::BadRecord { index } => WorldNo::BadRecord { index },
-        CrashNo::Lost { found, put } => WorldNo::Lost { found, put },
     }
 }
 

@@ -14,8 +14,8 @@ ghost use Rattle.cct_host.specs.Book.{HasBook};
 ghost use Rattle.cct_world.specs.Machine as machines;
 ghost use Rattle.cct_world.specs.Step.{CutsIn, LastsIn, crashes, crashes_of};
 
+use crate::WorldNo;
 use crate::machine::Machine;
-use crate::refusal::WorldNo;
 use arrayvec::ArrayVec;
 use cct_bus::Bus;
 use cct_disk::Disk;

@@ -1,7 +1,3 @@
-use Rattle.std.proofs.Common.{subst, sym}
-use Rattle.cct_model.specs.lines.command.Step.TheVariants.{Crash}
-use Rattle.cct_host.specs.Host.{disk_of}
-use Rattle.cct_world.specs.Machine.{Breaks}
 use Rattle.cct_world.proofs.Restarts.{crash_breaks, crash_restarts, restarts_count}
 use Rattle.cct_world.proofs.machine.Machine.crash.Goals as goal
 
@@ -27,6 +23,5 @@ returns-in-Err-clause-breaks g c =
     let machine = c.args.self.now in
     let host = c.restart.new.self in
     let restart = c.in-Err.ensures in
-    subst (λ why. Breaks machine (disk_of host) why (Crash c.args.at c.args.choice)) (sym c.unplayed.ensures)
-    (crash_breaks machine host c.args.at c.args.choice c.in-Err.why restart.refused restart.never restart.left
-    c.restart.ensures.due)
+    crash_breaks machine host c.args.at c.args.choice c.in-Err.why restart.refused restart.never restart.left
+    c.restart.ensures.due
