@@ -13,6 +13,7 @@ ghost use Rattle.cct_disk.specs.Disk.{IsTrusted};
 ghost use Rattle.cct_journal.specs.Journal as journals;
 ghost use Rattle.cct_journal.specs.Stands.{GoesOn, Outlasts};
 ghost use Rattle.cct_host.specs.declared.refusal.CrashNo.{CrashNo};
+ghost use Rattle.cct_host.specs.declared.refusal.CrashNo.TheVariants as crash_no;
 ghost use Rattle.cct_world.specs.Holds.{WorldHolds};
 ghost use Rattle.cct_world.specs.Step.{CutsIn, LastsIn};
 ghost use Rattle.cct_host.specs.Book.{HasBook};
@@ -103,7 +104,7 @@ impl Page {
             (CutsIn step.now D.size D.honest D.seen D.cuts D.cut_to (disk_of world.entry) e.1) (used_of world.entry)
             many (D.seen e.1) (λ report. Writes K.written K.puts out.old report (Err failed) out.new))
             ⊎ ((why : CrashNo) × (e.0 ≡ unplayed_by why) × Breaks world.entry e.1 why step.now
-            × (why ≢ WorldNo.Disk
+            × (why ≢ crash_no.Disk
             → CutsIn step.now D.size D.honest D.seen D.cuts D.cut_to (disk_of world.entry) e.1)
             × (out.new ≡ out.old))) }
         ensures memory { IfErr result (λ e. e.0 ≢ Ending.NoMemory) }
