@@ -111,5 +111,8 @@ fn spelt_on(len: usize, byte: u8) -> Option<usize> {
 
 /// How many line feeds there are.
 fn feeds_in(bytes: &[u8]) -> u64 {
-    bytes.iter().filter(|byte| **byte == b'\n').count() as u64
+    bytes.iter().fold(
+        0,
+        |feeds: u64, byte| feeds.wrapping_add(u64::from(*byte == b'\n')),
+    )
 }
