@@ -26,10 +26,13 @@ fn setup() -> DeviceSetup
     }
 }
 
-/// What the acceptor says to a piece: nothing where it is silent.
-fn answer(acceptor: &mut Acceptor<'_>, piece: &[u8]) -> ArrayVec<u8, MOST_SENT> {
+/// What the acceptor says to bytes that come one by one and a gap after them: nothing where it is silent.
+fn answer(acceptor: &mut Acceptor<'_>, bytes: &[u8]) -> ArrayVec<u8, MOST_SENT> {
     let mut answer = ArrayVec::new();
-    acceptor.hear(piece, &mut answer);
+    for byte in bytes {
+        acceptor.byte(*byte);
+    }
+    acceptor.gap(&mut answer);
     answer
 }
 

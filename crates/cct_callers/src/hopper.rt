@@ -27,10 +27,13 @@ fn setup() -> DeviceSetup
     }
 }
 
-/// What the hopper says to a piece: nothing where it is silent.
-fn answer(hopper: &mut Hopper<'_>, piece: &[u8]) -> ArrayVec<u8, MOST_SENT> {
+/// What the hopper says to bytes that come one by one and a gap after them: nothing where it is silent.
+fn answer(hopper: &mut Hopper<'_>, bytes: &[u8]) -> ArrayVec<u8, MOST_SENT> {
     let mut answer = ArrayVec::new();
-    hopper.hear(piece, &mut answer);
+    for byte in bytes {
+        hopper.byte(*byte);
+    }
+    hopper.gap(&mut answer);
     answer
 }
 
