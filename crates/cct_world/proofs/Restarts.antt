@@ -32,7 +32,7 @@ use Rattle.cct_host.specs.Starting.{StartsOver}
 use Rattle.cct_world.specs.declared.machine.Machine.{Machine}
 use Rattle.cct_world.specs.Machine.{Breaks, DueAsTold, StandsFor}
 use Rattle.cct_world.specs.Restarts.{CutAt, HasBad, Loses, Restarts, kept_in}
-use Rattle.cct_world.specs.Step.{count_after}
+use Rattle.cct_world.specs.Step.{count_after, crashes}
 use Rattle.cct_world.proofs.Lasting.{lasts_on, lasts_then}
 
 -- records behind others
@@ -69,19 +69,23 @@ next_counts before after addr what used many none is counts =
     ∙ ap (λ rs. used + length rs)
     (sym (ap records (news_are before after addr what none is) ∙ news_records addr what))
 
--- and that none is told as kept
-news_unkept : (addr : ℕ) (what : Attempt) → kept_in (news_of addr what) ≡ []
-news_unkept addr idle = refl
-news_unkept addr (asked sent heard None) = refl
-news_unkept addr (asked sent heard (Some end)) = refl
-news_unkept addr (put r None) = refl
-news_unkept addr (put r (Some end)) = refl
+-- and that they tell no power cut, and none as kept
+abbrev IsCalm : List Entry → Type 0
+IsCalm news = (crashes news ≡ 0) × (kept_in news ≡ [])
 
-pub next_unkept : (before after : List Entry) (addr : ℕ) (what : Attempt) → before ≡ []
-    → after ≡ before ++ reverse (news_of addr what) → kept_in (reverse after) ≡ []
-next_unkept before after addr what none is = ap kept_in (news_are before after addr what none is) ∙ news_unkept addr what
+news_calm : (addr : ℕ) (what : Attempt) → IsCalm (news_of addr what)
+news_calm addr idle = (refl, refl)
+news_calm addr (asked sent heard None) = (refl, refl)
+news_calm addr (asked sent heard (Some end)) = (refl, refl)
+news_calm addr (put r None) = (refl, refl)
+news_calm addr (put r (Some end)) = (refl, refl)
 
--- the records of a loss of power
+pub next_told : (before after : List Entry) (addr : ℕ) (what : Attempt) → before ≡ []
+    → after ≡ before ++ reverse (news_of addr what) → IsCalm (reverse after)
+next_told before after addr what none is =
+    subst IsCalm (sym (news_are before after addr what none is)) (news_calm addr what)
+
+-- the records of a power cut
 told_records : (many : ℕ) (kept : Option Record) → records (told_by many kept) ≡ put_by kept
 told_records many None = refl
 told_records many (Some r) = refl

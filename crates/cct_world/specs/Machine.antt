@@ -1,5 +1,5 @@
 -- A host and a bus that stand for all that happened on them.
-use Rattle.std.specs.Prelude.{◌≡◌, Bool, ℕ, List, [], ◌++◌, Option, Some, reverse, ⊤}
+use Rattle.std.specs.Prelude.{◌≡◌, ◌≢◌, ◌≤◌, ◌+◌, Bool, false, ℕ, List, [], ◌++◌, length, Option, Some, reverse, ⊤}
 use Rattle.cct_model.specs.terms.device.Setup.{Setup}
 use Rattle.cct_model.specs.lines.command.CrashAt.{CrashAt}
 use Rattle.cct_model.specs.lines.command.Step.{Step}
@@ -8,6 +8,7 @@ use Rattle.cct_model.specs.lines.record.Record.{Record}
 use Rattle.cct_model.specs.lines.entry.Entry.{Entry}
 use Rattle.cct_model.specs.Legal.{Entries, due_at}
 use Rattle.cct_model.specs.Records.{records}
+use Rattle.cct_edge.specs.Faults.{Caused, Rose}
 use Rattle.cct_disk.specs.declared.disk.Disk.{Ghosts}
 use Rattle.cct_disk.specs.Disk.{IsTrusted}
 use Rattle.cct_bus.specs.Bus as wires
@@ -21,6 +22,7 @@ use Rattle.cct_world.specs.declared.machine.Machine.{Machine}
 use Rattle.cct_host.specs.declared.refusal.CrashNo.{CrashNo}
 use Rattle.cct_host.specs.declared.refusal.CrashNo.TheVariants as crash_no
 use Rattle.cct_world.specs.Restarts.{Loses, Restarts, kept_in}
+use Rattle.cct_world.specs.Step.{CutsIn, LastsIn, crashes, crashes_of}
 
 -- What a step takes for granted of the past: of a `next`, that the record that it puts, if it puts one, suits the
 -- records before it; and of a loss of power, that the records follow one another, with the one whose put it interrupts.
@@ -115,3 +117,37 @@ module _ {D : Type 0} {g : Ghosts D} where
   abbrev pub Breaks : Machine D g → D → CrashNo → Step → Type 0
   Breaks old left crash_no.Disk s = FailsIn old left s
   Breaks old left why s = LosesIn old left why s
+
+  -- A step that makes no call of the disk gave these entries, oldest first: the setup and the journal stay, the machine
+  -- goes on by the entries, and they tell no power cut and no record, neither as put nor as kept.
+  pub record PlaysUndisturbed (old new : Machine D g) (s : Step) (report : List Entry) : Type 0 where
+    pub setup : setup_of new ≡ setup_of old
+    pub journal : hosts.journal_of new.host ≡ hosts.journal_of old.host
+    pub plays : Plays old new s report
+    pub told : crashes (reverse report) ≡ 0
+    pub recorded : records (reverse report) ≡ []
+    pub unkept : kept_in (reverse report) ≡ []
+
+  -- A step was played, and gave these entries, oldest first. The setup stays, no put of the journal failed, and the machine
+  -- goes on by the entries. Just a power cut tells one; the journal counts the records that they tell more, and after a
+  -- power cut the disk has what they tell. The disk goes on, and only a power cut cuts it, once and by its choice.
+  pub record StepPlayed (old new : Machine D g) (s : Step) (report : List Entry) : Type 0 where
+    pub setup : setup_of new ≡ setup_of old
+    pub whole : has_failed new ≡ false
+    pub plays : Plays old new s report
+    pub told : crashes (reverse report) ≡ crashes_of s
+    pub counts : used_of new ≡ used_of old + length (records (reverse report))
+    pub restarts : RestartsBy old new s (reverse report)
+    pub cut : CutsIn s g.size g.honest g.seen g.cuts g.cut_to (disk_of old) (disk_of new)
+    pub lasts : LastsIn s g.size g.honest g.seen g.cuts (disk_of old) (disk_of new)
+    pub later : g.faults (disk_of old) ≤ g.faults (disk_of new)
+
+  -- A step wasn't played, for this reason; it gave no entry, and this disk is left. That the disk failed has its cause;
+  -- for any other reason the step is a power cut, which cut the disk once, by its choice.
+  pub record StepUnplayed (old : Machine D g) (left : D) (why : CrashNo) (s : Step) (report : List Entry) : Type 0 where
+    pub breaks : Breaks old left why s
+    pub empty : report ≡ []
+    pub cause : Caused (g.faults (disk_of old)) (g.faults left) (why ≡ crash_no.Disk)
+    pub cut : why ≢ crash_no.Disk → CutsIn s g.size g.honest g.seen g.cuts g.cut_to (disk_of old) left
+    pub lost : why ≢ crash_no.Disk → Rose (g.cuts (disk_of old)) (g.cuts left)
+    pub lasts : LastsIn s g.size g.honest g.seen g.cuts (disk_of old) left

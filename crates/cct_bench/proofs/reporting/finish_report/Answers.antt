@@ -12,11 +12,12 @@ returns-in-Unwritten-clause-writes g c =
     let sink = g.K.Sink in
     rw c.in-Unwritten.is (Ok tt, wrote_none sink.written sink.puts c.args.out.now, refl)
 
-pub returns-in-DiskFailed-clause-writes : goal.returns-in-DiskFailed-clause-writes
-returns-in-DiskFailed-clause-writes g c = rw c.in-DiskFailed.is c.close.ensures.writes
+pub returns-in-Unread-Disk-clause-writes : goal.returns-in-Unread-Disk-clause-writes
+returns-in-Unread-Disk-clause-writes g c = rw c.in-Unread-Disk.is c.close.ensures.writes
 
-pub returns-in-Alien-clause-writes : goal.returns-in-Alien-clause-writes
-returns-in-Alien-clause-writes g c = rw c.in-Alien.is c.close-in-Alien.ensures.writes
+pub returns-in-Unread-Alien-clause-writes : goal.returns-in-Unread-Alien-clause-writes
+returns-in-Unread-Alien-clause-writes g c = rw c.in-Unread-Alien.is c.close-in-Unread-Alien.ensures.writes
 
-pub returns-in-Bad-clause-writes : goal.returns-in-Bad-clause-writes
-returns-in-Bad-clause-writes g c = rw c.in-Bad.is c.close-in-Bad.ensures.writes
+pub returns-in-Unread-BadRecord-clause-writes : goal.returns-in-Unread-BadRecord-clause-writes
+returns-in-Unread-BadRecord-clause-writes g c =
+    rw c.in-Unread-BadRecord.is c.close-in-Unread-BadRecord.ensures.writes

@@ -39,9 +39,12 @@ loop-index-preserved g c =
       told = λ records held. one.told records (before.told records held);
       place = one.place ∙ before.place;
       reads = reads_then before.reads one.reads;
-      later = omega (arith, before.later, one.later);
-      tells = one.tells ∙ before.tells;
-      sink_later = omega (arith, before.sink_later, one.sink_later);
+      later = omega (arith, before.later, one.disk_cause.later);
+      sink = record {
+        tells = one.sink.tells ∙ before.sink.tells;
+        later = omega (arith, before.sink.later, one.sink.later);
+        rose = λ never. absurd never;
+      };
     }
 
 pub returns-in-Ok-write_entry-clause-lines : goal.returns-in-Ok-write_entry-clause-lines

@@ -10,8 +10,8 @@ use Rattle.cct_laws.specs.Restart.{due_in}
 use Rattle.cct_world.specs.Step.{crashes, crashes_of}
 
 -- What is claimed of a past may be relied on: the disk was trusted, or no loss of power is told.
-abbrev pub Sure : Type 0 → List Entry → Type 0
-Sure trusted past = trusted ⊎ (crashes past ≡ 0)
+abbrev pub IsReliable : Type 0 → List Entry → Type 0
+IsReliable trusted past = trusted ⊎ (crashes past ≡ 0)
 
 -- How many of these steps are losses of power.
 abbrev pub losses_in : List Step → ℕ

@@ -8,7 +8,7 @@ use Rattle.cct_model.specs.lines.entry.Entry.{Entry}
 use Rattle.cct_edge.specs.Faults.{next_count}
 use Rattle.cct_world.specs.Machine.{Survives}
 use Rattle.cct_world.specs.Step.{CutsIn, RoseBy, count_after, crashes, crashes_of, crashes_told}
-use Rattle.cct_world.specs.Sure.{IsCrash, Sure}
+use Rattle.cct_world.specs.Relying.{IsCrash, IsReliable}
 
 -- losses of power that entries tell behind others
 pub crashes-append : (xs ys : List Entry) → crashes (xs ++ ys) ≡ crashes xs + crashes ys
@@ -22,17 +22,17 @@ crashes_none (step.Crash at choice) none = absurd (none tt)
 crashes_none s none = refl
 
 -- what may be relied on behind some entries may be before them
-pub sure_back : (trusted : Type 0) (news past : List Entry) → Sure trusted (news ++ past) → Sure trusted past
-sure_back trusted news past (inl is) = inl is
-sure_back trusted news past (inr none) = inr (omega (arith, none, crashes-append news past))
+pub reliable_back : (trusted : Type 0) (news past : List Entry) → IsReliable trusted (news ++ past) → IsReliable trusted past
+reliable_back trusted news past (inl is) = inl is
+reliable_back trusted news past (inr none) = inr (omega (arith, none, crashes-append news past))
 
 -- what a step takes for granted of the disk is so where the past with its entries may be relied on
-pub sure_survives : (given trusted : Type 0) → (given → trusted) → (news past : List Entry) (s : Step)
-    → crashes news ≡ crashes_of s → Sure given (news ++ past) → Survives trusted s
-sure_survives given trusted on news past (step.Crash at choice) told (inl is) = on is
-sure_survives given trusted on news past (step.Crash at choice) told (inr none) =
+pub reliable_survives : (given trusted : Type 0) → (given → trusted) → (news past : List Entry) (s : Step)
+    → crashes news ≡ crashes_of s → IsReliable given (news ++ past) → Survives trusted s
+reliable_survives given trusted on news past (step.Crash at choice) told (inl is) = on is
+reliable_survives given trusted on news past (step.Crash at choice) told (inr none) =
     absurd (omega (arith, none, told, crashes-append news past))
-sure_survives given trusted on news past s told sure = tt
+reliable_survives given trusted on news past s told sure = tt
 
 -- a count that went up by just so many
 pub rose_just : (many before now : ℕ) → now ≡ count_after many before → RoseBy many before now

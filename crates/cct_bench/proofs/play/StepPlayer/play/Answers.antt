@@ -5,7 +5,7 @@ use Rattle.cct_world.specs.World.{StandsFor, disk_of, setup_of, used_of}
 use Rattle.cct_text.specs.Writing.{Writes}
 use Rattle.cct_world.proofs.Holding.{restarts_in}
 use Rattle.cct_bench.proofs.Keeping.{books_play}
-use Rattle.cct_bench.proofs.play.Page.play.Goals as goal
+use Rattle.cct_bench.proofs.play.StepPlayer.play.Goals as goal
 
 pub returns-in-Err-write_entries-clause-ended : goal.returns-in-Err-write_entries-clause-ended
 returns-in-Err-write_entries-clause-ended g c =
@@ -15,7 +15,7 @@ returns-in-Err-write_entries-clause-ended g c =
     let next = c.in-Ok.world in
     let last = c.into_disk.result in
     let s = c.args.step.now in
-    let played = c.in-Ok.ensures in
+    let played = c.in-Ok.ensures.played in
     let is = c.into_disk.ensures in
     let failed = c.in-Err-write_entries.field-0 in
     inl (
