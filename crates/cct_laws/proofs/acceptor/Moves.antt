@@ -21,7 +21,8 @@ use Rattle.cct_model.specs.Line.{Line, accepted, inhibited, exchange, taken, end
 use Rattle.cct_model.specs.Line as line
 use Rattle.cct_model.specs.Job.{works, job, with_line, epoch, credits_read, judged_in, sends, puts, ident_requests}
 use Rattle.cct_model.specs.Rows.{Then, TableRow, asks_for, telling, rows_of, end_of, end_answered, ends_first, after, rest, left, sent_once}
-use Rattle.cct_model.proofs.Rows.{IfEnd, Each, EachRow, BareEnds, each_told, failed_end, after_none, ended_leaves}
+use Rattle.cct_model.proofs.Requests.{Each}
+use Rattle.cct_model.proofs.Rows.{IfEnd, EachRow, BareEnds, each_told, failed_end, after_none, ended_leaves}
 use Rattle.cct_model.specs.terms.coin.Credits.{Credits}
 use Rattle.cct_model.specs.terms.device.DeviceBody.{DeviceBody}
 use Rattle.cct_model.specs.terms.device.DeviceBody.TheVariants.{Acceptor, Hopper}

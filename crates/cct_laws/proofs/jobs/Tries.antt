@@ -30,7 +30,7 @@ use Rattle.cct_model.specs.Legal.{Legal}
 use Rattle.cct_model.specs.Order.{order}
 use Rattle.cct_model.specs.Transcript.{pending, met, own, lines_of, heard_by_devices, heard_after, got_by, doses_of, onto}
 use Rattle.cct_msg.specs.Forms.{FitsItsBytes}
-use Rattle.cct_msg.proofs.Exchanges.{asked_back}
+use Rattle.cct_msg.proofs.Exchanges.{again_fits, serial_fits, asked_back}
 use Rattle.cct_laws.specs.Ending.{IsEndOf}
 use Rattle.cct_laws.specs.Ids.{Ids}
 use Rattle.cct_laws.specs.Kept.{with_ended}
@@ -39,18 +39,13 @@ use Rattle.cct_laws.specs.Tries.{failed_by, failed_tries, failed_in, TriesAt}
 use Rattle.cct_laws.proofs.jobs.Brought.{Comes, takes_coin, leaves_coin, leaves_alien, drops_coin, drops_none, jams, jams_none, is_reset, AtDevice, came, took, halted, idled, made_exchange, made_put, Brought, wire_of, wire_end, record_end, begun_at_work}
 use Rattle.cct_model.proofs.Doses.{AreDoses, doses_are, job_undosed}
 use Rattle.cct_laws.proofs.orders.Ids.{put_owned}
-use Rattle.cct_laws.proofs.orders.HopperReplies.{serial_fits}
 use Rattle.cct_laws.proofs.Setups.{found_in}
 use Rattle.cct_model.proofs.Rows.{IfEnd, RowHolds, EachRow, answer_end, put_end, Asks, AnswerEnds, PutEnds, each_told, each_after, state_holds, but_first, after_next, EachBefore, before_on, fact_after, told_fact}
 use Rattle.cct_laws.proofs.jobs.Seen.{ArePassed, loose, loose_line, Lost, bare, kept_here, kept_elsewhere, seen_here, seen_aside, seen_lost, seen_from, along, any_steps, lines_wire, lines_with_end, lines_put, lines_taken, lines_kept, lines_kept_elsewhere}
-use Rattle.cct_model.proofs.Tries.{is_asked_again, IfHeard, fails_as, IsHeardEnd, answers_heard, puts_heard, due_sends, same_request, left_asks, asked_fails}
+use Rattle.cct_model.proofs.Requests.{is_asked_again}
+use Rattle.cct_model.proofs.Tries.{IfHeard, fails_as, IsHeardEnd, answers_heard, puts_heard, due_sends, same_request, left_asks, asked_fails}
 use Rattle.cct_model.proofs.RowEnds.{IfOnce, once_sent, failed_stays, once_goes, rest_asks, fails_rest}
 use Rattle.cct_model.specs.declared.judging.OpenOrder.{OpenOrder}
-
--- what is asked again fits its bytes
-again_fits : (q : Request) → is_asked_again q ≡ true → FitsItsBytes q
-again_fits (Dispense serial count) again = absurd cc
-again_fits q again = λ serial count is. cc
 
 -- what is sent once dispenses under the device's own serial number, if it dispenses
 abbrev IsOwnDose : ℕ → Request → Type 0

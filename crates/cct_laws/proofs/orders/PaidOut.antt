@@ -37,7 +37,8 @@ use Rattle.cct_laws.specs.PaidOut.{shows_none, paid_out_by, is_paid_out}
 use Rattle.cct_laws.proofs.EitherKind.{for_hopper}
 use Rattle.cct_model.proofs.Rows.{but_first, after_none, after_next, EachBefore, before_on, fact_after, told_fact}
 use Rattle.cct_laws.proofs.Whole.{kept_hopper_legal}
-use Rattle.cct_model.proofs.Tries.{IsAgain, due_sends}
+use Rattle.cct_model.proofs.Requests.{IsAgain}
+use Rattle.cct_model.proofs.Tries.{due_sends}
 use Rattle.cct_model.proofs.RowEnds.{rest_asks, again_row, stays_again}
 use Rattle.cct_model.specs.declared.judging.EpochState.{EpochState}
 use Rattle.cct_model.specs.declared.judging.OpenOrder.{OpenOrder}

@@ -42,7 +42,8 @@ use Rattle.cct_model.specs.Script as script
 use Rattle.cct_laws.specs.Law.{IsCommandOfBytes}
 use Rattle.cct_text.specs.Written.{IsMask, IsCommand, IsRecord, IsFault, IsEnd, IsWritten}
 use Rattle.cct_terms.proofs.OfBytes.{Bytes, IfThere, bytes_are, are_bytes, bytes_more}
-use Rattle.cct_model.proofs.Rows.{Puts, Each, RowHolds, JudgedHolds, EachRow, both_hold, exchange_end, put_end, Asks, each_ask, AnswerEnds, BareEnds, PutEnds, each_due, each_asked, each_told}
+use Rattle.cct_model.proofs.Requests.{Each}
+use Rattle.cct_model.proofs.Rows.{Puts, RowHolds, JudgedHolds, EachRow, both_hold, exchange_end, put_end, Asks, each_ask, AnswerEnds, BareEnds, PutEnds, each_due, each_asked, each_told}
 use Rattle.cct_laws.proofs.text.Bytes.{spelled_bytes, FitsReply, got_fits}
 use Rattle.cct_laws.proofs.text.Answering.{FitsMet, FitsAll, there_or, answer_bytes, asks_fit}
 
