@@ -12,5 +12,7 @@ pub mod Odd
 pub mod PaidOut
 pub mod Recorded
 pub mod Restart
+pub mod Right
+pub mod Scope
 pub mod Since
 pub mod Tries

@@ -1,8 +1,5 @@
 -- Each test of each command, in its order: a past in which the later tests hold too.
-use Rattle.std.proofs.Common.{◌≡◌, List, [], ◌∷◌, replicate, false, Some, None, refl}
-use Rattle.std.specs.Prelude.{codes}
-use Rattle.cct_model.specs.terms.wire.CheckKind.TheVariants.{Simple}
-use Rattle.cct_model.specs.terms.device.DeviceBody.TheVariants.{Acceptor}
+use Rattle.std.proofs.Common.{◌≡◌, List, [], ◌∷◌, replicate, Some, None, refl}
 use Rattle.cct_model.specs.terms.device.Setup.{Setup}
 use Rattle.cct_model.specs.lines.command.Command.TheVariants.{Start, Round, Stop, Pay, Settle, Halt, Scan, Ident, Path, Vend}
 use Rattle.cct_model.specs.lines.command.CommandNo.TheVariants.{NoDevice, WrongKind, Busy, EpochRuns, NoEpoch, NoValue, OrderOpen, NoOrder, NoPayout, OldId, Short, JournalFull}
@@ -18,7 +15,7 @@ use Rattle.cct_model.specs.Exchange.{asked, asks_of, after_echo, got}
 use Rattle.cct_model.specs.Transcript.{got_by}
 use Rattle.cct_model.specs.Reading.{distance, judge}
 use Rattle.cct_model.specs.Refusal.{refusal, held}
-use Rattle.cct_model.proofs.Machine.{setup, texts, coin, wire}
+use Rattle.cct_model.proofs.Machine.{setup, acceptor_of, coin, wire}
 
 -- an epoch runs and a coin of value 100 was posted, no job is at work, and two records are used
 abbrev posted : List Entry
@@ -58,17 +55,7 @@ empty = wire 3 "030001a656" "030001a6560104030001000400f3" ∷ sent
 
 -- an acceptor whose places 3 and 5 have no value
 abbrev sparse : Setup
-sparse = record {
-  devices =
-      record {
-        addr = 2;
-        kind = Simple;
-        serial = 1;
-        texts = texts;
-        named = false;
-        body = Acceptor 0 (100 ∷ 100 ∷ 0 ∷ 100 ∷ 0 ∷ replicate 11 100) (replicate 16 (codes "XX100A"));
-      } ∷ [];
-}
+sparse = record { devices = acceptor_of (100 ∷ 100 ∷ 0 ∷ 100 ∷ 0 ∷ replicate 11 100) ∷ [] }
 
 -- a start
 start_nowhere : refusal 0 setup crowded (Start 9 65535) ≡ Some NoDevice

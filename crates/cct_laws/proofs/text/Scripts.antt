@@ -143,39 +143,23 @@ front_of_today bytes played rest fronts =
 pub steps_of_today : (bytes : List ℕ) → AreOfToday (script bytes).steps
 steps_of_today bytes = front_of_today bytes (script bytes).steps [] (sym (append-nil (script bytes).steps))
 
--- a script that was played up to a step posts in order at each device
-pub played_in_order : (capacity : ℕ) (bytes : List ℕ) (played rest : List Step) (transcript : List Entry)
-    (d : DeviceSetup) → (script bytes).steps ≡ played ++ rest →
-    Legal capacity (script bytes).setup played transcript → Honest transcript → IsOf (script bytes).setup d →
-    InOrder (lines_in d transcript)
-played_in_order capacity bytes played rest transcript d fronts legal honest own =
-    each_in_order capacity (script bytes).setup played transcript d (setup_sound bytes) own
-    (front_of_today bytes played rest fronts).in_range legal honest
+-- the money of a legal transcript is right
+pub legal_right : (capacity : ℕ) (setup : Setup) (steps : List Step) (transcript : List Entry) → IsSoundSetup setup →
+    All IsInRange steps → Legal capacity setup steps transcript → IsRight setup transcript
+legal_right capacity setup steps transcript sound in_range legal = record {
+  fresh = legal_fresh capacity setup steps transcript sound legal;
+  in_order = λ d own honest. each_in_order capacity setup steps transcript d sound own in_range legal honest;
+  covers = λ d own honest. each_covers capacity setup steps transcript d sound own in_range legal honest;
+  paid = λ d own paying honest. legal_paid capacity setup steps transcript d sound own paying in_range legal honest;
+}
 
--- under the pace loses none in silence
-pub played_covers : (capacity : ℕ) (bytes : List ℕ) (played rest : List Step) (transcript : List Entry)
-    (d : DeviceSetup) → (script bytes).steps ≡ played ++ rest →
-    Legal capacity (script bytes).setup played transcript → Honest transcript → IsOf (script bytes).setup d →
-    Pace (lines_in d transcript) → Covers (lines_in d transcript)
-played_covers capacity bytes played rest transcript d fronts legal honest own =
-    each_covers capacity (script bytes).setup played transcript d (setup_sound bytes) own
-    (front_of_today bytes played rest fronts).in_range legal honest
-
--- and pays each order of a hopper at most once
-pub played_paid : (capacity : ℕ) (bytes : List ℕ) (played rest : List Step) (transcript : List Entry)
-    (d : DeviceSetup) → (script bytes).steps ≡ played ++ rest →
-    Legal capacity (script bytes).setup played transcript → Honest transcript → IsOf (script bytes).setup d →
-    IsHopper d.body → Paid (lines_in d transcript)
-played_paid capacity bytes played rest transcript d fronts legal honest own paying =
-    legal_paid capacity (script bytes).setup played transcript d (setup_sound bytes) own paying
-    (front_of_today bytes played rest fronts).in_range legal honest
-
--- whatever the wire does, no id stands in two records
-pub played_fresh : (capacity : ℕ) (bytes : List ℕ) (played rest : List Step) (transcript : List Entry) →
+-- so is that of a script that was played up to a step
+pub played_right : (capacity : ℕ) (bytes : List ℕ) (played rest : List Step) (transcript : List Entry) →
     (script bytes).steps ≡ played ++ rest → Legal capacity (script bytes).setup played transcript →
-    AreFresh (records (onto [] transcript))
-played_fresh capacity bytes played rest transcript fronts legal =
-    legal_fresh capacity (script bytes).setup played transcript (setup_sound bytes) legal
+    IsRight (script bytes).setup transcript
+played_right capacity bytes played rest transcript fronts legal =
+    legal_right capacity (script bytes).setup played transcript (setup_sound bytes)
+    (front_of_today bytes played rest fronts).in_range legal
 
 -- the texts of two scripts that were played up to a step tell their transcripts, whatever the journals take
 pub played_texts : (capacity room : ℕ) (bytes other : List ℕ) (played rest others more : List Step)
