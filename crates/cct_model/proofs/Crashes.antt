@@ -1,4 +1,4 @@
--- The host loses its power: what is kept, and how it goes on over its records.
+-- The power is cut: what is kept, and how the host restarts over its records.
 use Rattle.std.proofs.Common.{List, [], ◌∷◌, ◌++◌, false, Some, None, inl, inr, arith, refl}
 use Rattle.cct_model.specs.terms.wire.CheckKind.TheVariants.{Simple}
 use Rattle.cct_model.specs.terms.device.DeviceBody.TheVariants.{Hopper}
@@ -125,7 +125,7 @@ unfolding message spelling data_of request_of requests_with form_of reply_data r
     life_between close
 four_calls_plays = (refl, (refl, (refl, (refl, (inr (omega arith, refl), (refl, (refl, (refl, (refl, tt)))))))))
 
--- a crash before the dispense: the order is open, and a settlement closes it without one
+-- a power cut before the dispense: the order is open, and a settlement closes it without one
 abbrev pub settled_after : List Row
 settled_after =
     ordered
@@ -346,7 +346,7 @@ unfolding message spelling data_of request_of requests_with form_of reply_data r
     life_between close
 epoch_not_kept_plays = (refl, (refl, (refl, (inl (omega arith, refl), (refl, (refl, tt))))))
 
--- a crash keeps the fault that is set for the next exchange, and the device its state
+-- a power cut keeps the fault that is set for the next exchange, and the device its state
 abbrev fault_stays : List Row
 fault_stays =
     one (step.Fault (fault.HostHears [])) (entry.Fault (fault.HostHears []))
@@ -362,7 +362,7 @@ unfolding message spelling data_of request_of requests_with form_of reply_data r
     life_between close
 fault_stays_plays = search
 
--- two orders whose ids stand in the journal out of order are open after a crash
+-- two orders whose ids stand in the journal out of order are open after a restart
 abbrev two_hoppers : List Row
 two_hoppers =
     one (step.Command (command.Pay 3 41 1)) (entry.Taken (command.Pay 3 41 1))

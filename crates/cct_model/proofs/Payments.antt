@@ -161,7 +161,7 @@ unfolding message spelling data_of request_of requests_with form_of reply_data r
     life_between close
 halted_plays = search
 
--- a second halt behind the first stop sends a second one, which stops nothing
+-- a second halt after the first stop sends a second one, which stops nothing
 abbrev halted_twice : List Row
 halted_twice =
     dispensed

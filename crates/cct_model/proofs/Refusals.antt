@@ -17,11 +17,11 @@ use Rattle.cct_model.specs.Reading.{distance, judge}
 use Rattle.cct_model.specs.Refusal.{refusal, held}
 use Rattle.cct_model.proofs.Machine.{setup, acceptor_of, coin, wire}
 
--- an epoch runs and a coin of value 100 was posted, no job is at work, and two records are used
+-- an epoch runs and a coin of value 100 was posted, no job is running, and two records are used
 abbrev posted : List Entry
 posted = Ended 2 end_of.Posted ∷ Put (Reading 2 1 0 (coin 5 1 ∷ [])) ∷ Put (Epoch 2 65535) ∷ []
 
--- an order is open that no job is at work to close
+-- an order is open that no job is to close
 abbrev owing : List Entry
 owing = Put (Opened 41 3 4 0) ∷ posted
 
@@ -283,11 +283,11 @@ vend_full = refl
 vend_last : refusal 3 setup posted (Vend 5 100) ≡ None
 vend_last = refl
 
--- an id of a job that put nothing is free again behind its end
+-- an id of a job that put nothing is free again after its end
 id_given_up : refusal 65535 setup (Ended 3 end_of.NoAnswer ∷ paying) (Pay 3 42 4) ≡ None
 id_given_up = refl
 
--- how many records are held: by an order without a job, by a payment up to its opened order and behind it
+-- how many records are held: by an order without a job, by a payment up to its opened order and after it
 holds_nothing : held setup posted ≡ 0
 holds_nothing = refl
 

@@ -377,7 +377,7 @@ abbrev pub IfEnd : (End → Type 0) → Option End → Type 0
 IfEnd P None = ⊤
 IfEnd P (Some end) = P end
 
--- a fact of each end that is brought behind a row
+-- a fact of each end that is brought after a row
 abbrev pub Behind : (End → Type 0) → Then → Type 0
 Behind P goes_on = ⊤
 Behind P (ends_as end) = P end

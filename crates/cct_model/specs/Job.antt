@@ -41,7 +41,7 @@ abbrev pub begun : Command → Job → Job
 begun (command.Halt addr) before = with_line (taken (command.Halt addr)) before
 begun c before = works c []
 
--- The job at an address: that of the last command taken there, and none where it has ended or the host lost its power.
+-- The job at an address: that of the last command taken there, and none where it has ended or the power was cut.
 abbrev pub job : List Line → Job
 job [] = free
 job (taken c ∷ past) = begun c (job past)

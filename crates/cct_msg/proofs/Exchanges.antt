@@ -28,10 +28,10 @@ pub again_fits : (q : Request) → IsAgain q → FitsItsBytes q
 again_fits q again number count e = absurd (true≢false (sym again ∙ ap is_asked_again e))
 
 -- and so does a dispense under a serial number of three bytes
-pub serial_fits : (serial count : ℕ) → serial < 2 ^ 24 → FitsItsBytes (Dispense serial count)
-serial_fits serial count short number many e = subst (λ n. n < 2 ^ 24) (same e) short
+pub serial_fits : (own count : ℕ) → own < 2 ^ 24 → FitsItsBytes (Dispense own count)
+serial_fits own count short number many e = subst (λ n. n < 2 ^ 24) (same e) short
   where
-    same : Dispense serial count ≡ Dispense number many → serial ≡ number
+    same : Dispense own count ≡ Dispense number many → own ≡ number
     same e = cc
 
 -- what the host asks is asked

@@ -26,7 +26,7 @@ request_back (SetMask mask) fits = ap (λ n. Some (SetMask n)) (two_back mask)
 request_back (Dispense serial count) fits = ap (λ n. Some (Dispense n count)) (three_back serial (fits serial count refl))
 request_back q fits = refl
 
--- a request has nine data bytes at the most
+-- a request has at most nine data bytes
 pub request_short : (q : Request) → length (data_of q) ≤ 9
 unfolding data_of
 request_short (Dispense serial count) = omega arith

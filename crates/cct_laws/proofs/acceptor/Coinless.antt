@@ -35,6 +35,7 @@ use Rattle.cct_model.specs.Transcript.{dispensed_by, doses}
 use Rattle.cct_laws.specs.Kept.{is_for_hopper, with_ended}
 use Rattle.cct_laws.specs.KeptHopper.{IsKeptHopper}
 use Rattle.cct_laws.specs.Law.{IsOf, lines_in}
+use Rattle.cct_laws.specs.Scope.{EachHopper}
 use Rattle.cct_laws.proofs.acceptor.Acceptors.{put_other}
 use Rattle.cct_laws.proofs.EitherKind.{for_hopper, kind_of}
 use Rattle.cct_laws.proofs.acceptor.Moves.{IfOther, IsOtherEnd, failure_other}
@@ -163,9 +164,7 @@ coinless_kept d paying = record {
       (puts_of_order d c work (epoch lines) (order lines) r (for_hopper d.body c paying at.suited) row_is) less);
 }
 
-legal_coinless : (capacity : ℕ) (setup : Setup) (steps : List Step) (transcript : List Entry) (d : DeviceSetup) →
-    IsSoundSetup setup → IsOf setup d → IsHopper d.body → All IsInRange steps → Legal capacity setup steps transcript →
-    Honest transcript → InOrder (lines_in d transcript) × Covers (lines_in d transcript)
+legal_coinless : EachHopper (λ d transcript. InOrder (lines_in d transcript) × Covers (lines_in d transcript))
 legal_coinless capacity setup steps transcript d sound own paying in_range legal honest =
     let less = kept_hopper_legal capacity setup steps transcript d (λ past lines. Coinless lines) sound own paying in_range
     legal honest (coinless_kept d paying) in

@@ -1,5 +1,5 @@
 -- No order is ever closed with life counts that don't fit it.
-use Rattle.std.proofs.Common.{◌≡◌, ℕ, ◌==◌, ◌||◌, cond, true, false, Bool, List, [], ◌++◌, refl, subst, Option, Some, None, All, rules, sym, ap, ◌∷◌, ◌∙◌}
+use Rattle.std.proofs.Common.{◌≡◌, ℕ, ◌==◌, ◌||◌, cond, true, false, Bool, List, [], ◌++◌, refl, subst, Option, Some, None, rules, sym, ap, ◌∷◌, ◌∙◌}
 use Rattle.std.specs.Prelude.{⊤}
 use Rattle.cct_model.specs.terms.coin.Credits.{Credits}
 use Rattle.cct_model.specs.terms.wire.CheckKind.{CheckKind}
@@ -29,7 +29,7 @@ use Rattle.cct_model.specs.Order.{order}
 use Rattle.cct_model.specs.Job.{job, epoch, puts, judged_in, judged_by, credits_read, mask_read, payment_in, ident_requests, end_of_close, address_of}
 use Rattle.cct_model.specs.Rows.{row, end_of, TableRow, Due, puts_due, rows_of, Then, end_kept, new_epoch, ends_as, end_by_record, if_posted, if_closed, reading, asks_for, epoch_end, asks_once, waits_for_coins, new_order, rest, sale, order_end, done}
 use Rattle.cct_model.specs.Scan.{end_of_scan, end_by_row, scan_row, scan_tries}
-use Rattle.cct_model.specs.Legal.{with_end, Legal}
+use Rattle.cct_model.specs.Legal.{with_end}
 use Rattle.cct_model.specs.Script.{IsInRange}
 use Rattle.cct_model.specs.Honest.{Honest, HonestPast}
 use Rattle.cct_model.specs.Transcript.{met, lines_of, onto}
@@ -37,6 +37,7 @@ use Rattle.cct_laws.specs.Ids.{Ids}
 use Rattle.cct_laws.specs.Kept.{is_for_acceptor, suits}
 use Rattle.cct_laws.specs.Law.{IsOf, EachEntry}
 use Rattle.cct_laws.specs.Odd.{IsNotOdd, FitsLife}
+use Rattle.cct_laws.specs.Scope.{EachTranscript}
 use Rattle.cct_laws.proofs.jobs.Brought.{Comes, takes_coin, leaves_coin, leaves_alien, drops_coin, drops_none, jams, jams_none, is_reset, AtDevice, came, took, halted, idled, made_exchange, made_put, AtWork, Brought, of_device, faulted, refused, began_scan, began_sale, nobody, polled, sold, balanced, lost_power, lost_in_put, lost_in_sale, row_after, wire_of, wire_end, record_end, poll_wire, poll_end}
 use Rattle.cct_laws.proofs.EitherKind.{both_hopper}
 use Rattle.cct_laws.proofs.Keeping.{IsRanged, ranged_step, kept_step}
@@ -247,9 +248,8 @@ fit_step capacity setup sound past news s range ids told all = record {
   );
 }
 
-pub legal_life : (capacity : ℕ) (setup : Setup) (steps : List Step) (transcript : List Entry) →
-    IsSoundSetup setup → All IsInRange steps → Legal capacity setup steps transcript → Honest transcript →
-    EachEntry FitsLife (onto [] transcript)
+pub legal_life : EachTranscript (λ capacity setup transcript. Honest transcript → EachEntry FitsLife (onto []
+    transcript))
 legal_life capacity setup steps transcript sound in_range legal honest =
     ((along capacity setup IsInRange (AllFit setup) sound (fit_step capacity setup sound) steps (onto [] transcript) in_range
     legal (record {

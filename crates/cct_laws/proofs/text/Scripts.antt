@@ -3,7 +3,6 @@ use Rattle.std.proofs.Common.{◌≡◌, ℕ, ◌+◌, nat_lt, Bool, true, false
 use Rattle.std.specs.Prelude.{⊤}
 use Rattle.std.specs.List.{AllByRecursion, slice_split}
 use Rattle.std.proofs.lemmas.List.Elements.{All-from_recursion, All-weaker, All-nil}
-use Rattle.cct_model.specs.terms.device.DeviceSetup.{DeviceSetup}
 use Rattle.cct_model.specs.terms.device.Setup.{Setup}
 use Rattle.cct_model.specs.lines.setup.SetupLine.{SetupLine}
 use Rattle.cct_model.specs.lines.setup.SetupLine.TheVariants as says
@@ -12,20 +11,16 @@ use Rattle.cct_model.specs.lines.command.Step.TheVariants as step
 use Rattle.cct_model.specs.lines.entry.Entry.{Entry}
 use Rattle.cct_model.specs.lines.entry.LineKind.{LineKind}
 use Rattle.cct_model.specs.lines.entry.LineKind.TheVariants as kind
-use Rattle.cct_model.specs.Claims.{InOrder, Covers, Pace}
-use Rattle.cct_model.specs.Device.{IsSound, IsHopper}
+use Rattle.cct_model.specs.Device.{IsSound}
 use Rattle.cct_model.specs.Grammar.{setup_line, step_line, added}
 use Rattle.cct_model.specs.Legal.{Legal, is_played}
 use Rattle.cct_model.specs.Script.{Stage, at_setup, at_steps, at_end, setup_at, Read, opens, plays, refuses, opened, read_setup_line, read_step_line, read_form, most_lines, most_bytes, is_over, read_line, Script, stage_after, goes_on, script_from, no_devices, script, is_line_feed, IsInRange}
 use Rattle.cct_model.proofs.Added.{AreAll, KeepsEach, added_keeps}
 use Rattle.cct_model.specs.Text.{text}
 use Rattle.cct_text.proofs.Whole.{text_is_one}
-use Rattle.cct_model.specs.Honest.{Honest}
-use Rattle.cct_model.specs.Paid.{Paid, AreFresh}
-use Rattle.cct_model.specs.Records.{records}
-use Rattle.cct_model.specs.Transcript.{onto}
 use Rattle.cct_model.specs.Setup.{IsSoundSetup}
-use Rattle.cct_laws.specs.Law.{IsOf, HasBytes, AreOfToday, lines_in}
+use Rattle.cct_laws.specs.Law.{HasBytes, AreOfToday}
+use Rattle.cct_laws.specs.Scope.{EachTranscript}
 use Rattle.cct_laws.proofs.acceptor.Coinless.{each_in_order, each_covers}
 use Rattle.cct_laws.proofs.orders.Payments.{legal_paid, legal_fresh}
 use Rattle.cct_laws.proofs.text.Said.{KeepsSound, IfSaid, IsToday, setup_said, step_said}
@@ -144,8 +139,7 @@ pub steps_of_today : (bytes : List ℕ) → AreOfToday (script bytes).steps
 steps_of_today bytes = front_of_today bytes (script bytes).steps [] (sym (append-nil (script bytes).steps))
 
 -- the money of a legal transcript is right
-pub legal_right : (capacity : ℕ) (setup : Setup) (steps : List Step) (transcript : List Entry) → IsSoundSetup setup →
-    All IsInRange steps → Legal capacity setup steps transcript → IsRight setup transcript
+pub legal_right : EachTranscript (λ capacity setup transcript. IsRight setup transcript)
 legal_right capacity setup steps transcript sound in_range legal = record {
   fresh = legal_fresh capacity setup steps transcript sound legal;
   in_order = λ d own honest. each_in_order capacity setup steps transcript d sound own in_range legal honest;
