@@ -11,7 +11,7 @@ use Rattle.cct_model.specs.Honest.{Honest}
 use Rattle.cct_model.specs.Legal.{Legal}
 use Rattle.cct_model.specs.Script.{IsCommand, IsInRange}
 use Rattle.cct_model.specs.Setup.{IsSoundSetup}
-use Rattle.cct_laws.specs.Kept.{suits}
+use Rattle.cct_laws.specs.DeviceJobs.{suits}
 use Rattle.cct_laws.specs.Law.{IsOf}
 
 -- A fact of each legal transcript of a sound setup, over a journal that takes so many records. The steps are in range.

@@ -13,10 +13,10 @@
 //!   that each thing that can come keeps; `along` of `proofs/jobs/Seen.antt`, by which one of all entries does;
 //! - `setup_sound`, `steps_of_today` and `front_of_today` of `proofs/text/Scripts.antt`, and there `legal_right` and
 //!   `played_right`, which say four laws at once; `legal_written` of `proofs/text/Texts.antt`;
-//! - for a host that restarts over its records `proofs/money/Recalling.antt`, which says what each record more tells, and
+//! - for a host that restarts over its records `proofs/money/Replaying.antt`, which says what each record more tells, and
 //!   `proofs/money/Restarts.antt`, which says what entries a power cut leaves;
 //! - `books_legal` of `proofs/money/Books.antt`: of every legal past, ids are in order and the books are kept;
-//! - `kept_due_allowed` of `proofs/money/Journal.antt` and `kept_crash_suits` of `proofs/money/Restarts.antt`: a ledger then
+//! - `kept_due_allowed` of `proofs/money/Journal.antt` and `kept_restart_suits` of `proofs/money/Restarts.antt`: a ledger then
 //!   takes what a job is about to put, and a power cut is survived.
 #![tactic(auto)]
 
@@ -44,7 +44,7 @@ ghost use Rattle.cct_model.specs.Device.{IsAcceptor};
 ghost use Rattle.cct_model.specs.Exchange.{ask, by_address};
 ghost use Rattle.cct_model.specs.Job.{works, job, epoch, sends, puts, Payment};
 ghost use Rattle.cct_model.specs.Rows.{row, row_at};
-ghost use Rattle.cct_model.specs.Legal.{EntriesOfCrash, Legal, LegalFrom, due_at};
+ghost use Rattle.cct_model.specs.Legal.{EntriesOfRestart, Legal, LegalFrom, due_at};
 ghost use Rattle.cct_model.specs.Line.{Line};
 ghost use Rattle.cct_model.specs.Reading.{coins_among};
 ghost use Rattle.cct_model.specs.Script.{IsInRange, script};
@@ -62,10 +62,10 @@ ghost use Rattle.cct_model.specs.Refusal.{held, last_id, refusal};
 ghost use Rattle.cct_model.specs.Following.{all_follow, follows, is_allowed};
 ghost use Rattle.cct_model.specs.Paid.{Paid, OfOrder, AreFresh, dispenses, fallen};
 ghost use Rattle.cct_laws.specs.Honesty.{DamagesHonestly};
-ghost use Rattle.cct_laws.specs.Kept.{IsRefused};
+ghost use Rattle.cct_laws.specs.DeviceJobs.{IsRefused};
 ghost use Rattle.cct_laws.specs.Balanced.{IsBalanced, IsConserved};
 ghost use Rattle.cct_laws.specs.Coins.{all_fallen, all_paid};
-ghost use Rattle.cct_laws.specs.Odd.{FitsLife};
+ghost use Rattle.cct_laws.specs.LifeCounts.{FitsLife};
 ghost use Rattle.cct_laws.specs.PaidOut.{is_paid_out};
 ghost use Rattle.cct_laws.specs.Recorded.{HasNoJob, IsRestart, open_orders, totals_in};
 ghost use Rattle.cct_laws.specs.Ending.{nexts_at, EndsRound, IsUndisturbed, nexts_needed, is_payment, EndsAs, IsPaidOut};
@@ -74,7 +74,7 @@ ghost use Rattle.cct_model.specs.Honest.{Honest, IsHonestFault};
 ghost use Rattle.cct_laws.specs.Law.{AreOfToday, AreRising, Begins, EachEntry, HasBytes, IsAnswered, IsOf, IsUnanswered, NamesNoPut, lines_in};
 ghost use Rattle.cct_laws.specs.Right.{IsRight};
 ghost use Rattle.cct_laws.specs.Scope.{EachAcceptor, EachHopper, EachTranscript, IsCommandFor};
-ghost use Rattle.cct_laws.specs.Since.{since_epoch_in, mask_set_in, IsMaskedBy, MayBreak, HaveCauses};
+ghost use Rattle.cct_laws.specs.SinceEpoch.{since_epoch_in, mask_set_in, IsMaskedBy, MayBreak, HaveCauses};
 ghost use Rattle.cct_laws.specs.Tries.{TriesAt, ScanTriesAt, HasFewTries, failed_in};
 
 /// Where no fault is set for the next exchange, a job at a device of a sound setup, begun by a command that suits the
@@ -376,8 +376,8 @@ pub fn records_tell_what_a_host_needs()
         → order (lines_of d past) ≡ order_in d.addr (records past) }
     // After a power cut, which leaves no job.
     ensures restart { (past : List Entry) → IsRestart past → HasNoJob past }
-    ensures crash { (setup : Setup) (past : List Entry) (at : Option CrashAt) (news : List Entry)
-        → EntriesOfCrash setup past at news → HasNoJob (news ++ past) }
+    ensures entries { (setup : Setup) (past : List Entry) (at : Option CrashAt) (news : List Entry)
+        → EntriesOfRestart setup past at news → HasNoJob (news ++ past) }
     ensures totals { (setup : Setup) (past : List Entry) → HasNoJob past
         → totals setup past ≡ totals_in setup (records past) }
     ensures last_id { (setup : Setup) (past : List Entry) → HasNoJob past

@@ -28,7 +28,7 @@ use Rattle.cct_model.specs.lines.entry.Entry.TheVariants as entry
 use Rattle.cct_model.specs.lines.entry.End.TheVariants as end_of
 use Rattle.cct_model.proofs.Machine.{Row, after, setup, acceptor, hopper, starting, funded, coin, one, wire}
 use Rattle.cct_model.proofs.Payments.{paid, lost_ack, halted, one_after_another}
-use Rattle.cct_model.proofs.Crashes.{two_calls, four_calls, order_not_kept, goes_on_falling, settled_after, epoch_not_kept}
+use Rattle.cct_model.proofs.Restarts.{two_calls, four_calls, order_not_kept, goes_on_falling, settled_after, epoch_not_kept}
 
 -- two lists of entries of which one passes a test and the other doesn't are not the same
 differ : (test : List Entry → Bool) (xs ys : List Entry) → test xs ≡ true → test ys ≡ false → xs ≡ ys → ⊥
@@ -60,9 +60,9 @@ keeps_counter wanted (entry.Kept (record_of.Reading addr counter lost posted) �
 keeps_counter wanted past = false
 
 -- after a record kept, the host restarts over so many records
-abbrev starts_over : ℕ → List Entry → Bool
-starts_over wanted (entry.Kept r ∷ entry.Crash records ∷ past) = records == wanted
-starts_over wanted past = false
+abbrev restarts_over : ℕ → List Entry → Bool
+restarts_over wanted (entry.Kept r ∷ entry.Crash records ∷ past) = records == wanted
+restarts_over wanted past = false
 
 -- the newest entry refuses a command
 abbrev is_refused : List Entry → Bool
@@ -344,7 +344,7 @@ counted_wrong : Entries 65535 setup posting (crash_at 2 4) (entry.Kept its_readi
 unfolding message spelling data_of request_of requests_with form_of reply_data reply_in has_place acceptor_reply
     hopper_reply common_reply reply_of ask asked asks_of asker after_echo got heard_after got_by distance judge
     life_between close
-counted_wrong e = elim e [ inl w ↦ absurd (omega (w.0, arith)) | inr w ↦ differ (starts_over 1) _ _ refl refl w.1 ]
+counted_wrong e = elim e [ inl w ↦ absurd (omega (w.0, arith)) | inr w ↦ differ (restarts_over 1) _ _ refl refl w.1 ]
 
 -- a payment whose order was not kept
 abbrev order_lost : List Entry

@@ -24,4 +24,4 @@ pub data Line : Type 0 where
   put : (entry : Record) → Line
   taken : (command : Command) → Line
   ended : (end : End) → Line
-  crashed : Line
+  restarted : Line

@@ -114,7 +114,7 @@ own d past (entry.Wire addr sent piece) =
 own d past (entry.Put r) = at (owner past r) d (line.put r)
 own d past (entry.Kept r) = at (owner past r) d (line.put r)
 own d past (entry.Ended addr end) = at addr d (line.ended end)
-own d past (entry.Crash records) = line.crashed ∷ []
+own d past (entry.Crash records) = line.restarted ∷ []
 own d past e = []
 
 -- The lines of a device's address.
@@ -140,7 +140,7 @@ abbrev pub scan_own : Entry → List Line
 scan_own (entry.Taken command) = at_scan (address_of command) (line.taken command)
 scan_own (entry.Wire addr sent piece) = at_scan addr (scan_line sent piece)
 scan_own (entry.Ended addr end) = at_scan addr (line.ended end)
-scan_own (entry.Crash records) = line.crashed ∷ []
+scan_own (entry.Crash records) = line.restarted ∷ []
 scan_own e = []
 
 -- The lines of address 0.
@@ -163,7 +163,7 @@ sale_own (entry.Taken command) = at_sale (address_of command) (line.taken comman
 sale_own (entry.Put r) = sold_line r
 sale_own (entry.Kept r) = sold_line r
 sale_own (entry.Ended addr end) = at_sale addr (line.ended end)
-sale_own (entry.Crash records) = line.crashed ∷ []
+sale_own (entry.Crash records) = line.restarted ∷ []
 sale_own e = []
 
 -- The lines of address 1.

@@ -12,7 +12,7 @@ use Rattle.cct_model.specs.Rows.{Then, goes_on, ends_as, if_quiet, path_told, if
 use Rattle.cct_model.specs.Script.{IsCommand}
 use Rattle.cct_model.proofs.Requests.{Each}
 use Rattle.cct_model.proofs.Rows.{Behind, EachBefore}
-use Rattle.cct_laws.specs.Kept.{is_for_acceptor}
+use Rattle.cct_laws.specs.DeviceJobs.{is_for_acceptor}
 use Rattle.cct_laws.proofs.acceptor.Fits.{AfterReset, AfterQuiet, AfterCredits, AfterShut, AfterMask, AfterEpoch}
 use Rattle.cct_laws.proofs.acceptor.Moves.{IsOtherEnd, IsNeutral, neutral_if, ident_neutral}
 use Rattle.cct_laws.proofs.acceptor.Rounds.{IsAfterLook, IsAfterReading}

@@ -30,7 +30,7 @@ use Rattle.cct_model.specs.declared.judging.Judged.{Judged}
 use Rattle.cct_model.specs.declared.judging.Judged.TheVariants.{Nothing}
 use Rattle.cct_model.specs.Refusal.{start_refusal, running_refusal}
 use Rattle.cct_model.specs.Claims.{coins, mark, base, OrderAt, CoverAt, PaceAt, InOrder, Covers, Pace}
-use Rattle.cct_laws.specs.Kept.{is_for_acceptor, Fate, unheard, silenced, answered, with_ended, IsTaken}
+use Rattle.cct_laws.specs.DeviceJobs.{is_for_acceptor, Fate, unheard, silenced, answered, with_ended, IsTaken}
 use Rattle.cct_laws.proofs.acceptor.World.{World, world, On, on_coin, on_piece, on_reset, on_master, on_path, on_default, on_nothing}
 use Rattle.cct_laws.proofs.acceptor.Fits.{Book, book, StateOf, IsIdle, IsRunning, FitsAt, Fits, state_on, at_on, fits_on}
 use Rattle.cct_model.proofs.RowEnds.{failed_stays}

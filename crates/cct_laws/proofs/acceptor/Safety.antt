@@ -15,7 +15,7 @@ use Rattle.cct_model.specs.Rows.{row}
 use Rattle.cct_model.specs.Claims.{mark, base}
 use Rattle.cct_model.specs.Transcript.{met, onto}
 use Rattle.cct_laws.specs.Law.{lines_in}
-use Rattle.cct_laws.specs.Since.{since_epoch_in, mask_set_in, IsMaskedBy, MayBreak, HaveCauses}
+use Rattle.cct_laws.specs.SinceEpoch.{since_epoch_in, mask_set_in, IsMaskedBy, MayBreak, HaveCauses}
 use Rattle.cct_laws.specs.Scope.{EachAcceptor}
 use Rattle.cct_laws.proofs.acceptor.Newest.{coins_among-append}
 use Rattle.cct_laws.proofs.acceptor.Causes.{causes_go_on}

@@ -22,7 +22,7 @@ use Rattle.cct_model.specs.History.{Met}
 use Rattle.cct_model.specs.Reply.{Reply}
 use Rattle.cct_model.specs.Device.{IsSound}
 use Rattle.cct_model.specs.Setup.{IsSoundSetup}
-use Rattle.cct_model.specs.Line.{Line, dispensed, exchange, put, taken, ended, crashed}
+use Rattle.cct_model.specs.Line.{Line, dispensed, exchange, put, taken, ended, restarted}
 use Rattle.cct_model.specs.Job.{Job, free, works, job, with_line, epoch, judged_in, sends, ident_requests, Payment, payment_in, tries, tries_after, address_of}
 use Rattle.cct_model.specs.Rows.{end_of, left, rows_of, TableRow, asks_for, asks_once, waits_for_coins, puts_due, telling, after, first, rest, row, done, sent_once}
 use Rattle.cct_model.specs.Claims.{AllPast}
@@ -33,7 +33,7 @@ use Rattle.cct_msg.specs.Forms.{FitsItsBytes}
 use Rattle.cct_msg.proofs.Exchanges.{again_fits, serial_fits, asked_back}
 use Rattle.cct_laws.specs.Ending.{IsEndOf}
 use Rattle.cct_laws.specs.Ids.{Ids}
-use Rattle.cct_laws.specs.Kept.{with_ended}
+use Rattle.cct_laws.specs.DeviceJobs.{with_ended}
 use Rattle.cct_laws.specs.Law.{IsOf, lines_in}
 use Rattle.cct_laws.specs.Tries.{failed_by, failed_tries, failed_in, TriesAt}
 use Rattle.cct_laws.proofs.jobs.Brought.{Comes, takes_coin, leaves_coin, leaves_alien, drops_coin, drops_none, jams, jams_none, is_reset, AtDevice, came, took, halted, idled, made_exchange, made_put, Brought, wire_of, wire_end, record_end, begun_at_work}
@@ -407,18 +407,18 @@ steady_there capacity setup d past _ _ sound own ids (made_put c since r at_work
     (steady_line d (put r) (lines_of d past) (λ older few. few) (with_put d r (job (lines_of d past))) steady))
 
 -- a loss of power
-steady_crash : (d : DeviceSetup) (lines : List Line) → Steady d lines → Steady d (crashed ∷ lines)
-steady_crash d lines steady = steady_line d crashed lines (λ older few. few) (free_on d) steady
+steady_restart : (d : DeviceSetup) (lines : List Line) → Steady d lines → Steady d (restarted ∷ lines)
+steady_restart d lines steady = steady_line d restarted lines (λ older few. few) (free_on d) steady
 
 steady_lost : (d : DeviceSetup) (past news : List Entry) → Lost d past news → Steady d (lines_of d past) →
     Steady d (lines_of d (news ++ past))
-steady_lost d past _ bare steady = steady_crash d (lines_of d past) steady
+steady_lost d past _ bare steady = steady_restart d (lines_of d past) steady
 steady_lost d past _ (kept_here c since r at_work is_row owned) steady =
     subst (Steady d) (sym (lines_kept d past r owned))
-    (steady_line d (put r) (crashed ∷ lines_of d past) (λ older few. few) (free_on d)
-    (steady_crash d (lines_of d past) steady))
+    (steady_line d (put r) (restarted ∷ lines_of d past) (λ older few. few) (free_on d)
+    (steady_restart d (lines_of d past) steady))
 steady_lost d past _ (kept_elsewhere r away caused) steady =
-    subst (Steady d) (sym (lines_kept_elsewhere d past r away)) (steady_crash d (lines_of d past) steady)
+    subst (Steady d) (sym (lines_kept_elsewhere d past r away)) (steady_restart d (lines_of d past) steady)
 
 steady_step : (capacity : ℕ) (setup : Setup) (d : DeviceSetup) → IsSoundSetup setup → IsOf setup d →
     (past news : List Entry) (s : Step) → ⊤ → Ids setup past → Brought capacity setup past s news →

@@ -29,7 +29,7 @@ use Rattle.cct_laws.specs.Ids.{Ids}
 use Rattle.cct_laws.specs.Law.{IsOf}
 use Rattle.cct_laws.specs.Scope.{EachTranscript}
 use Rattle.cct_laws.proofs.money.AllHeld.{holds_put}
-use Rattle.cct_laws.proofs.money.AtWork.{available_both}
+use Rattle.cct_laws.proofs.money.Reserved.{available_both}
 use Rattle.cct_laws.proofs.money.Books.{Books, selling_holds, due_follows, books_legal}
 use Rattle.cct_laws.proofs.jobs.Brought.{row_after, Selling, Due, from_job, from_sale, is_due}
 use Rattle.cct_laws.proofs.money.Freed.{due_frees, allows}

@@ -27,7 +27,7 @@ use Rattle.cct_model.specs.Order.{order}
 use Rattle.cct_model.specs.Job.{job, with_line, epoch, puts, address_of, ident_requests}
 use Rattle.cct_model.specs.Rows.{id_ahead, rows_of, rows_of_sale, rest, done}
 use Rattle.cct_model.specs.Records.{records, hopper_of}
-use Rattle.cct_model.specs.Legal.{with_end, keeping_crash}
+use Rattle.cct_model.specs.Legal.{with_end, keeping_restart}
 use Rattle.cct_model.specs.Refusal.{refusal}
 use Rattle.cct_model.specs.Transcript.{met, owner, opened_at, lines_of, sale_lines}
 use Rattle.cct_model.specs.Paid.{uses, IsFresh}
@@ -226,15 +226,15 @@ ids_put setup past r puts_new ids = ids_less setup past (entry.Put r ∷ past) (
 }) ids
 
 ids_kept : (setup : Setup) (past : List Entry) (r : Record) → IsFresh (records past) r → Ids setup past →
-    Ids setup (keeping_crash past r ++ past)
-ids_kept setup past r is_new ids = ids_less setup past (keeping_crash past r ++ past) (record {
+    Ids setup (keeping_restart past r ++ past)
+ids_kept setup past r is_new ids = ids_less setup past (keeping_restart past r ++ past) (record {
   grows = one_more r is_new;
   devices = λ e own id is. absurd (none-some id (sym (ap (waiting (rows_of e)) (freed.devices e)) ∙ is));
   sale = λ id is. absurd (none-some id (sym (ap (waiting rows_of_sale) freed.sale) ∙ is));
 }) ids
   where
-    freed : HasNoJob (keeping_crash past r ++ past)
-    freed = restart_frees (keeping_crash past r ++ past) tt
+    freed : HasNoJob (keeping_restart past r ++ past)
+    freed = restart_frees (keeping_restart past r ++ past) tt
 
 -- the id of a sale that is about to put its record
 selling_waits : (past : List Entry) (id price : ℕ) (since : List Line) → Selling past id price since →

@@ -23,7 +23,7 @@ use Rattle.cct_model.specs.Rows.{row, new_epoch, reading, epoch_end, new_order, 
 use Rattle.cct_model.specs.Transcript.{doses, met, onto}
 use Rattle.cct_model.proofs.Hoppers.{left_heard, remaining_fall, remaining_jam, remaining_heard}
 use Rattle.cct_model.proofs.Doses.{job_undosed, same_over, doses_are}
-use Rattle.cct_laws.specs.Kept.{Fate, unheard, silenced, answered, IsForOthers, is_for_hopper, WorksAt, with_ended}
+use Rattle.cct_laws.specs.DeviceJobs.{Fate, unheard, silenced, answered, IsForOthers, is_for_hopper, WorksAt, with_ended}
 use Rattle.cct_laws.specs.KeptHopper.{IsKeptHopper}
 use Rattle.cct_laws.specs.Law.{lines_in}
 use Rattle.cct_laws.specs.PaidOut.{shows_none, paid_out_by, is_paid_out}
@@ -268,7 +268,7 @@ rests_kept d paying = record {
       (λ none. rests_heard d.serial past asked (others_untaken d.serial past asked others) none) rests;
   takes = λ past lines c no_job here in_range played fine rests out. ((rests out).0, taken_aside d c (job lines) played);
   halts = λ past lines can rests out. ((rests out).0, halted_aside d d.addr (job lines) (rests out).1);
-  crashes = λ past lines rests out. ((rests out).0, tt);
+  restarts = λ past lines rests out. ((rests out).0, tt);
   asks = λ past lines c work q asked got at row_is fate rests.
       rests_ended d (heard asked ∷ past) (exchange (Some q) got ∷ doses d.body d.serial past asked ++ lines) _
       (rests_exchange d past lines c work q asked got paying at row_is fate rests);

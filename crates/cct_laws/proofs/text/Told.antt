@@ -30,7 +30,7 @@ use Rattle.cct_model.specs.History.{Met, coin, alien, fall, jam, reset}
 use Rattle.cct_model.specs.Device.{IsSound}
 use Rattle.cct_model.specs.Exchange.{ask, asked, asks_of, asking, answer, got, put_by_address, by_address}
 use Rattle.cct_model.specs.Hopper.{taken_of}
-use Rattle.cct_model.specs.Line.{Line, accepted, inhibited, fell, exchange, scanned, put, taken, ended, crashed}
+use Rattle.cct_model.specs.Line.{Line, accepted, inhibited, fell, exchange, scanned, put, taken, ended, restarted}
 use Rattle.cct_model.specs.Line as line
 use Rattle.cct_model.specs.Reading.{judge}
 use Rattle.cct_model.specs.Order.{close, life_between}
@@ -256,7 +256,7 @@ job_of_lines : (lines : List Line) → FitsLines lines → FitsJob (job lines)
 job_of_lines [] h = tt
 job_of_lines (taken c ∷ lines) h = begun_fits c (job lines) h.0 (job_of_lines lines h.1)
 job_of_lines (ended end ∷ lines) h = tt
-job_of_lines (crashed ∷ lines) h = tt
+job_of_lines (restarted ∷ lines) h = tt
 job_of_lines (exchange asks found ∷ lines) h = with_line_fits (exchange asks found) (job lines) h.0 (job_of_lines lines h.1)
 job_of_lines (scanned check addr rest ∷ lines) h = with_line_fits (scanned check addr rest) (job lines) tt (job_of_lines lines h.1)
 job_of_lines (put r ∷ lines) h = with_line_fits (put r) (job lines) tt (job_of_lines lines h.1)
