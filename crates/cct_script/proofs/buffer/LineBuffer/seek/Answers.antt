@@ -14,7 +14,7 @@ returns-in_err-fill-clause-fills g c =
     ap (position is_line_feed) (sym c.held-held.ensures.value) ∙ sym c.in_default.ensures in
     let fill = c.fill.ensures in
     let h = seeks-on g.S.Source.left g.S.Source.faults _ _ _ _ _ _
-    c.loop-at.invariant.seeks fill.fills fill.tells fill.cause.later none in
+    c.loop-at.invariant.seeks fill.fills fill.serves.tells fill.serves.later none in
     h.fills
 
 pub returns-in_err-fill-clause-still : goal.returns-in_err-fill-clause-still
@@ -23,7 +23,7 @@ returns-in_err-fill-clause-still g c some =
     ap (position is_line_feed) (sym c.held-held.ensures.value) ∙ sym c.in_default.ensures in
     let fill = c.fill.ensures in
     let h = seeks-on g.S.Source.left g.S.Source.faults _ _ _ _ _ _
-    c.loop-at.invariant.seeks fill.fills fill.tells fill.cause.later none in
+    c.loop-at.invariant.seeks fill.fills fill.serves.tells fill.serves.later none in
     (h.still some).0
 
 pub returns-then-branch-eq0-clause-still : goal.returns-then-branch-eq0-clause-still
@@ -32,7 +32,7 @@ returns-then-branch-eq0-clause-still g c some =
     ap (position is_line_feed) (sym c.held-held.ensures.value) ∙ sym c.in_default.ensures in
     let fill = c.fill.ensures in
     let h = seeks-on g.S.Source.left g.S.Source.faults _ _ _ _ _ _
-    c.loop-at.invariant.seeks fill.fills fill.tells fill.cause.later none in
+    c.loop-at.invariant.seeks fill.fills fill.serves.tells fill.serves.later none in
     (h.still some).0
 
 pub returns-in_err-fill-clause-takes : goal.returns-in_err-fill-clause-takes
@@ -68,7 +68,7 @@ loop-at-preserved g c =
     let fill = c.in_ok-fill.ensures in
     record {
       seeks = seeks-on g.S.Source.left g.S.Source.faults _ _ _ _ _ _
-          c.loop-at.invariant.seeks fill.fills fill.tells fill.cause.later none;
+          c.loop-at.invariant.seeks fill.fills fill.serves.tells fill.serves.later none;
       takes = takes-on g.S.Source.takes g.S.Source.left _ _ _ _ _ _ c.in_ok-fill.field-0
           c.loop-at.invariant.takes none room fill.one fill.fills fill.count;
     }
