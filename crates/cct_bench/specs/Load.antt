@@ -22,8 +22,9 @@ use Rattle.cct_bench.specs.declared.ending.Ending.{Ending}
 use Rattle.cct_bench.specs.declared.ending.Ending.TheVariants as ending
 use Rattle.cct_bench.specs.declared.play.TheConstants.{JOURNAL_BYTES}
 use Rattle.cct_bench.specs.Disks.{Disks, IsReady, most_records}
-use Rattle.cct_bench.specs.Money.{IsRight, RightBeforeLoss}
-use Rattle.cct_bench.specs.Run.{RecordsLeftByLine, EndsLost, TellsLoss, TellsOf, last_entry, listed, status_of}
+use Rattle.cct_laws.specs.Right.{IsRight}
+use Rattle.cct_bench.specs.Money.{RightBeforeLoss}
+use Rattle.cct_bench.specs.Run.{EndsLost, RecordsLeftByLine, TellsLoss, TellsOf, last_entry, listed, status_of}
 
 -- of a load over a disk: the steps that were played and those that weren't, and the past of those played
 module _ (disks : Disks) (seed rounds : ℕ) (played unplayed : List Step) (past : List Entry) where
