@@ -1,7 +1,7 @@
 -- What a host finds behind a loss of power, and what it makes of it.
 use Rattle.std.proofs.Common.{◌≡◌, ◌⊎◌, inl, inr, ℕ, ◌+◌, ◌<◌, true, List, [], ◌∷◌, ◌++◌, length, reverse, Option, Some, None, refl, sym, ap, subst, ◌∙◌, arith, append_assoc, append-nil, length-append, true≢false}
 use Rattle.std.specs.Option.{IfSome}
-use Rattle.std.specs.Prelude.{Err, IfErr, IfOk, Ok, OnErr, Result, is_some}
+use Rattle.std.specs.Prelude.{Err, IfErr, IfOk, Ok, Result, is_some}
 use Rattle.std.proofs.lemmas.Bool.{and_from}
 use Rattle.std.proofs.lemmas.List.{length-reverse, reverse-append, reverse-reverse}
 use Rattle.cct_model.specs.terms.device.Setup.{Setup}
@@ -24,13 +24,14 @@ use Rattle.cct_laws.proofs.money.Restarts.{crash_bare, crash_frees, crash_keeps}
 use Rattle.cct_laws.proofs.Setups.{same_some}
 use Rattle.cct_host.specs.declared.host.Host.{Host}
 use Rattle.cct_host.specs.declared.refusal.CrashNo.{CrashNo}
+use Rattle.cct_host.specs.declared.refusal.CrashNo.TheVariants as crash_no
 use Rattle.cct_host.specs.declared.recall.Recollection.{Recollection}
 use Rattle.cct_host.specs.declared.restart.Crashed.{Crashed}
 use Rattle.cct_host.specs.Book.{HasBook, LeavesBook, ReadsBook}
 use Rattle.cct_host.specs.Desks as all_desks
 use Rattle.cct_host.specs.Host.{StandsFor, disk_of, journal_of, put_by, setup_of}
 use Rattle.cct_host.specs.Replaying.{GoesOver, Recollects}
-use Rattle.cct_host.specs.Restarting.{Crashes, IsLost, KeptBy, due_of, told_by}
+use Rattle.cct_host.specs.Restarting.{Crashes, IsLost, JournalFails, JournalRestarts, KeptBy, RestartFails, Restarts, due_of, told_by}
 use Rattle.cct_host.specs.Starting.{IsFirstBad, StartsOver, WentOver}
 use Rattle.cct_host.proofs.Putting.{one_turned}
 use Rattle.cct_host.proofs.Starting.{started_stands}
@@ -51,10 +52,10 @@ pub if_lost : {T : Type 0} (result : Result T CrashNo) (P R : CrashNo → Type 0
 if_lost (Ok x) P R p goes = tt
 if_lost (Err why) P R p goes = goes why p
 
-pub on_lost : {T : Type 0} (result : Result T CrashNo) (P : CrashNo → Type 0) (R : Type 0) → IfErr result P
-    → ((why : CrashNo) → P why → R) → OnErr result R
-on_lost (Ok x) P R p goes = tt
-on_lost (Err why) P R p goes = goes why p
+pub if_both_lost : {T : Type 0} (result : Result T CrashNo) (P Q R : CrashNo → Type 0) → IfErr result P → IfErr result Q
+    → ((why : CrashNo) → P why → Q why → R why) → IfErr result R
+if_both_lost (Ok x) P Q R p q goes = tt
+if_both_lost (Err why) P Q R p q goes = goes why p q
 
 -- the records that are left are those that were put, with what was kept
 
@@ -263,3 +264,52 @@ module _ {D : Type 0} {g : Ghosts D} where
       (sym (due past stands.keeps.desks))
       (subst (λ ls. IfSome (due_in (setup_of old) past at) (λ r. follows (setup_of old) ls r ≡ true)) (sym back)
       suits.due))
+
+  -- a restart, by that of its journal
+  pub restarts_by : (old new : Host D g) (at : Option CrashAt) (choice : ℕ) (crashed : Crashed)
+      → setup_of new ≡ setup_of old
+      → ((past : List Entry) → all_desks.StandsFor old.desks past → due_of old at ≡ due_in (setup_of old) past at)
+      → JournalRestarts (calls_in at) (due_of old at) choice (journal_of old) (journal_of new) crashed.kept
+      → crashed.records ≡ journals.used_of (journal_of new)
+      → ((rs : List Record) → ReadsBook (setup_of new) g.seen (disk_of new) (journals.place_of (journal_of new)) rs
+      → WentOver new.desks new.ledger (reverse rs))
+      → Restarts old at choice new crashed
+  restarts_by old new at choice crashed same due restarts records over =
+      let counts = records ∙ restarts.counts in
+      record {
+        setup = same;
+        whole = restarts.whole;
+        crashes = crashes_by old new at crashed due over (restarts.stands (setup_of old)) counts;
+        found = restarts.found (setup_of new);
+        recalls = starts_over new over;
+        records = records;
+        counts = counts;
+        kept = restarts.kept_is;
+        due = λ past stands. due past stands.keeps.desks;
+        cut = restarts.cut;
+        outlasts = restarts.outlasts;
+        later = restarts.later;
+      }
+
+  -- and one that fails
+  pub fails_by : (old new : Host D g) (at : Option CrashAt) (choice : ℕ) (why : CrashNo)
+      → ((past : List Entry) → all_desks.StandsFor old.desks past → due_of old at ≡ due_in (setup_of old) past at)
+      → JournalFails (due_of old at) choice (journal_of old) (journal_of new) why
+      → ((rs : List Record)
+      → HasBook (setup_of old) g.honest g.seen g.may_leave (disk_of old) (journals.place_of (journal_of old)) rs
+      → all_follow (setup_of old) (reverse rs) ≡ true
+      → IfSome (due_of old at) (λ r. follows (setup_of old) (reverse rs) r ≡ true) → why ≡ crash_no.Disk)
+      → RestartFails old at choice (disk_of new) why
+  fails_by old new at choice why due fails never = record {
+    refused = (journal_of new, refl, fails.refused (setup_of old));
+    never = λ past stands suits trusted. never_by old past at (why ≡ crash_no.Disk) due never stands suits trusted;
+    leaves = λ past stands trusted.
+        subst (λ d. LeavesBook (setup_of old) g.honest g.seen g.may_leave (disk_of new) d (reverse (records past)))
+        (due past stands.keeps.desks)
+        (fails.leaves (setup_of old) (reverse (records past)) (stands.book trusted));
+    due = λ past stands. due past stands.keeps.desks;
+    cause = fails.cause;
+    cut = fails.cut;
+    outlasts = fails.outlasts;
+    later = fails.later;
+  }

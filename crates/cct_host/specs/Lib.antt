@@ -8,6 +8,7 @@ pub mod Held
 pub mod Desk
 pub mod Desks
 pub mod Recalled
+pub mod Parts
 pub mod Host
 pub mod Starting
 pub mod Book

@@ -1,25 +1,30 @@
 -- A host that starts again behind a loss of power.
-use Rattle.std.specs.Prelude.{◌≡◌, ◌≢◌, ◌⊎◌, ℕ, ◌+◌, ◌<◌, List, [], ◌∷◌, ◌++◌, length, Option, Some, None, ⊤}
+use Rattle.std.specs.Prelude.{◌≡◌, ◌≢◌, ◌⊎◌, ℕ, ◌+◌, ◌<◌, ◌≤◌, List, [], ◌∷◌, ◌++◌, false, length, reverse, Option, Some, None, ⊤}
 use Rattle.std.specs.Option.{IfSome}
 use Rattle.cct_model.specs.terms.device.Setup.{Setup}
 use Rattle.cct_model.specs.lines.command.CrashAt.{CrashAt}
 use Rattle.cct_model.specs.lines.record.Record.{Record}
 use Rattle.cct_model.specs.lines.entry.Entry.{Entry}
 use Rattle.cct_model.specs.lines.entry.Entry.TheVariants as entry
+use Rattle.cct_edge.specs.Faults.{Rose}
 use Rattle.cct_model.specs.Legal.{EntriesOfCrash}
+use Rattle.cct_model.specs.Records as model_records
 use Rattle.cct_disk.specs.declared.disk.Disk.{Ghosts}
 use Rattle.cct_disk.specs.Disk.{IsTrusted}
 use Rattle.cct_journal.specs.declared.journal.Journal.{Journal}
 use Rattle.cct_journal.specs.Image.{IsAlien, IsBadAt}
 use Rattle.cct_journal.specs.Journal as journals
+use Rattle.cct_journal.specs.Stands.{CutOnce, Outlasts}
+use Rattle.cct_laws.specs.Restart.{CrashSuits, due_in}
 use Rattle.cct_host.specs.declared.desks.Desks.{Desks}
 use Rattle.cct_host.specs.declared.host.Host.{Host}
 use Rattle.cct_host.specs.declared.refusal.CrashNo.{CrashNo}
 use Rattle.cct_host.specs.declared.refusal.CrashNo.TheVariants.{Disk, Alien, BadRecord, Lost}
 use Rattle.cct_host.specs.declared.restart.Crashed.{Crashed}
-use Rattle.cct_host.specs.Book.{FindsBad, FindsMany}
+use Rattle.cct_host.specs.Book.{FindsBad, FindsMany, HasBook, LeavesBook, ReadsBook}
 use Rattle.cct_host.specs.Desks as all_desks
-use Rattle.cct_host.specs.Host.{StandsFor, disk_of, put_by, setup_of}
+use Rattle.cct_host.specs.Host.{StandsFor, disk_of, has_failed, journal_of, put_by, setup_of}
+use Rattle.cct_host.specs.Starting.{StartsOver}
 
 -- The record that is due where a loss of power comes, if one is.
 abbrev pub due_for : Desks → Option CrashAt → Option Record
@@ -78,6 +83,38 @@ module _ {D : Type 0} {g : Ghosts D} where
   RefusesWith old due setup disk why =
       (new : Journal D g) × (journals.disk_of new ≡ disk) × RefusesCrash old new due setup why
 
+  -- A journal is restarted after a power cut, by this choice, which came after so many of the four disk calls of a put, where
+  -- this record was due, if one was: that was kept of it, or nothing.
+  pub record JournalRestarts (calls : ℕ) (due : Option Record) (choice : ℕ) (old new : Journal D g) (kept : Option Record)
+      : Type 0 where
+    -- what it has
+    pub whole : journals.has_failed new ≡ false
+    pub kept_is : IfSome kept (λ r. due ≡ Some r)
+    pub counts : journals.used_of new ≡ journals.used_of old + length (put_by kept)
+    pub found : (setup : Setup) → Opens setup new
+    pub stands : (setup : Setup) (records : List Record)
+        → HasBook setup g.honest g.seen g.may_leave (journals.disk_of old) (journals.place_of old) records
+        → KeptBy calls due kept
+        × HasBook setup g.honest g.seen g.may_leave (journals.disk_of new) (journals.place_of new) (records ++ put_by kept)
+    -- the disk
+    pub cut : CutOnce g.size g.honest g.seen g.cuts g.cut_to choice (journals.disk_of old) (journals.disk_of new)
+    pub outlasts : Outlasts g.size g.honest g.seen g.cuts (journals.disk_of old) (journals.disk_of new)
+    pub later : g.faults (journals.disk_of old) ≤ g.faults (journals.disk_of new)
+
+  -- No host starts over a journal after such a power cut, for this reason.
+  pub record JournalFails (due : Option Record) (choice : ℕ) (old new : Journal D g) (why : CrashNo) : Type 0 where
+    -- why, and what the disk may then keep
+    pub refused : (setup : Setup) → RefusesCrash old new due setup why
+    pub leaves : (setup : Setup) (records : List Record)
+        → HasBook setup g.honest g.seen g.may_leave (journals.disk_of old) (journals.place_of old) records
+        → LeavesBook setup g.honest g.seen g.may_leave (journals.disk_of new) due records
+    pub cause : why ≡ Disk → Rose (g.faults (journals.disk_of old)) (g.faults (journals.disk_of new))
+    -- the disk
+    pub cut : why ≢ Disk
+        → CutOnce g.size g.honest g.seen g.cuts g.cut_to choice (journals.disk_of old) (journals.disk_of new)
+    pub outlasts : Outlasts g.size g.honest g.seen g.cuts (journals.disk_of old) (journals.disk_of new)
+    pub later : g.faults (journals.disk_of old) ≤ g.faults (journals.disk_of new)
+
   -- The record that is due at a host where a loss of power comes, if one is.
   abbrev pub due_of : Host D g → Option CrashAt → Option Record
   due_of host at = due_for host.desks at
@@ -88,3 +125,38 @@ module _ {D : Type 0} {g : Ghosts D} where
   Crashes old new at crashed =
       (past : List Entry) → StandsFor old past → IsTrusted g.honest g.seen (disk_of old)
       → EntriesOfCrash (setup_of old) past at (crash_news crashed) × StandsFor new (crash_news crashed ++ past)
+
+  -- A host starts again after a power cut, by this choice, over what its disk then keeps.
+  pub record Restarts (old : Host D g) (at : Option CrashAt) (choice : ℕ) (new : Host D g) (crashed : Crashed) : Type 0 where
+    pub setup : setup_of new ≡ setup_of old
+    pub whole : has_failed new ≡ false
+    -- what it tells, and what it then stands for
+    pub crashes : Crashes old new at crashed
+    pub found : Opens (setup_of new) (journal_of new)
+    pub recalls : (records : List Record)
+        → ReadsBook (setup_of new) g.seen (disk_of new) (journals.place_of (journal_of new)) records
+        → StartsOver new (reverse records)
+    pub records : crashed.records ≡ journals.used_of (journal_of new)
+    pub counts : crashed.records ≡ journals.used_of (journal_of old) + length (put_by crashed.kept)
+    pub kept : IfSome crashed.kept (λ r. due_of old at ≡ Some r)
+    pub due : (past : List Entry) → StandsFor old past → due_of old at ≡ due_in (setup_of old) past at
+    -- the disk
+    pub cut : CutOnce g.size g.honest g.seen g.cuts g.cut_to choice (disk_of old) (disk_of new)
+    pub outlasts : Outlasts g.size g.honest g.seen g.cuts (disk_of old) (disk_of new)
+    pub later : g.faults (disk_of old) ≤ g.faults (disk_of new)
+
+  -- A host doesn't start again after a power cut, for this reason, and this disk is left.
+  pub record RestartFails (old : Host D g) (at : Option CrashAt) (choice : ℕ) (left : D) (why : CrashNo) : Type 0 where
+    -- why, and what the disk may then keep
+    pub refused : RefusesWith (journal_of old) (due_of old at) (setup_of old) left why
+    pub never : (past : List Entry) → StandsFor old past → CrashSuits (setup_of old) past at
+        → IsTrusted g.honest g.seen (disk_of old) → why ≡ Disk
+    pub leaves : (past : List Entry) → StandsFor old past → IsTrusted g.honest g.seen (disk_of old)
+        → LeavesBook (setup_of old) g.honest g.seen g.may_leave left (due_in (setup_of old) past at)
+        (reverse (model_records.records past))
+    pub due : (past : List Entry) → StandsFor old past → due_of old at ≡ due_in (setup_of old) past at
+    pub cause : why ≡ Disk → Rose (g.faults (disk_of old)) (g.faults left)
+    -- the disk
+    pub cut : why ≢ Disk → CutOnce g.size g.honest g.seen g.cuts g.cut_to choice (disk_of old) left
+    pub outlasts : Outlasts g.size g.honest g.seen g.cuts (disk_of old) left
+    pub later : g.faults (disk_of old) ≤ g.faults left

@@ -17,6 +17,7 @@ ghost use Rattle.cct_journal.specs.Stands.{CutOnce, GoesOn, Outlasts};
 ghost use Rattle.cct_laws.specs.Restart.{CrashSuits, due_in};
 ghost use Rattle.cct_ledger.specs.Ledger as ledgers;
 ghost use Rattle.cct_host.specs.Desks as all_desks;
+ghost use Rattle.cct_host.specs.Parts.{BelongTogether, BelongTogether-prop};
 ghost use Rattle.cct_model.specs.Rows.{puts_in};
 ghost use Rattle.cct_host.specs.Running.{amount_of, needed, rows_begun};
 
@@ -42,16 +43,13 @@ pub struct Host<'s, D: Disk> {
     desks: Desks<'s>,
     ledger: Ledger<'s>,
     journal: Journal<D>,
-    ghost same: { ledgers.setup_of ledger ≡ all_desks.setup_of desks },
-    ghost reserved: { ledgers.reserved_of ledger ≡ all_desks.reserved_of desks },
-    ghost counted: { ledgers.applied ledger ≤ journals.used_of journal },
-    ghost room: { journals.used_of journal + all_desks.puts_of desks ≤ capacity_of (D.size (journals.disk_of journal)) },
+    ghost together: { BelongTogether desks ledger journal } by { BelongTogether-prop desks ledger journal },
 }
 
 impl<'s, D: Disk> Host<'s, D> {
     ghost use Rattle.cct_host.specs.Book.{HasBook, LeavesBook, ReadsBook};
     ghost use Rattle.cct_host.specs.Host.{Answers, Fails, Keeps, Nexts, StandsFor, Stays, capacity_in, disk_of, has_failed, journal_of, put_by, setup_of};
-    ghost use Rattle.cct_host.specs.Restarting.{Crashes, Opens, RefusesCrash, RefusesWith, due_of};
+    ghost use Rattle.cct_host.specs.Restarting.{RestartFails, Restarts};
     ghost use Rattle.cct_host.specs.Starting.{RefusesStart, StartsOver};
 
     /// The host over a journal, whose records it goes over, oldest first: it has no job, and the epochs, open orders
@@ -231,38 +229,8 @@ impl<'s, D: Disk> Host<'s, D> {
         requires whole { has_failed self.old ≡ false }
         requires few { IsCrash at }
         ensures setup { setup_of self.new ≡ setup_of self.old }
-        ensures whole { OnOk result (has_failed self.new ≡ false) }
-
-        // what it tells, and what it then stands for
-        ensures crashes { IfOk result (Crashes self.old self.new at) }
-        ensures found { OnOk result (Opens (setup_of self.new) (journal_of self.new)) }
-        ensures recalls { OnOk result ((records : List Record)
-            → ReadsBook (setup_of self.new) D.seen (disk_of self.new) (journals.place_of (journal_of self.new)) records
-            → StartsOver self.new (reverse records)) }
-        ensures records { IfOk result (λ crashed. crashed.records ≡ journals.used_of (journal_of self.new)) }
-        ensures counts { IfOk result (λ crashed. crashed.records
-            ≡ journals.used_of (journal_of self.old) + length (put_by crashed.kept)) }
-        ensures kept { IfOk result (λ crashed. IfSome crashed.kept (λ r. due_of self.old at ≡ Some r)) }
-        ensures due { (past : List Entry) → StandsFor self.old past
-            → due_of self.old at ≡ due_in (setup_of self.old) past at }
-
-        // why it isn't started again, and what its disk may then keep
-        ensures refused { IfErr result (RefusesCrash (journal_of self.old) (journal_of self.new) (due_of self.old at)
-            (setup_of self.old)) }
-        ensures never { IfErr result (λ why. (past : List Entry) → StandsFor self.old past
-            → CrashSuits (setup_of self.old) past at → IsTrusted D.honest D.seen (disk_of self.old)
-            → why ≡ CrashNo.Disk) }
-        ensures left { OnErr result ((past : List Entry) → StandsFor self.old past
-            → IsTrusted D.honest D.seen (disk_of self.old)
-            → LeavesBook (setup_of self.old) D.honest D.seen D.may_leave (disk_of self.new)
-            (due_in (setup_of self.old) past at) (reverse (records past))) }
-        ensures cause { result ≡ Err CrashNo.Disk → Rose (D.faults (disk_of self.old)) (D.faults (disk_of self.new)) }
-
-        // the disk
-        ensures cut { result ≢ Err CrashNo.Disk
-            → CutOnce D.size D.honest D.seen D.cuts D.cut_to choice (disk_of self.old) (disk_of self.new) }
-        ensures outlasts { Outlasts D.size D.honest D.seen D.cuts (disk_of self.old) (disk_of self.new) }
-        ensures later { D.faults (disk_of self.old) ≤ D.faults (disk_of self.new) }
+        ensures restarts { IfOk result (Restarts self.old at choice self.new) }
+        ensures fails { IfErr result (RestartFails self.old at choice (disk_of self.new)) }
     {
         restart(
             &mut self.desks,
@@ -281,42 +249,8 @@ impl<'s, D: Disk> Host<'s, D> {
     ) -> Result<(Host<'s, D>, Crashed), (D, CrashNo)>
         requires whole { has_failed self ≡ false }
         requires few { IsCrash at }
-        ensures setup { IfOk result (λ again. setup_of again.0 ≡ setup_of self.entry) }
-        ensures whole { IfOk result (λ again. has_failed again.0 ≡ false) }
-
-        // what it tells, and what it then stands for
-        ensures crashes { IfOk result (λ again. Crashes self.entry again.0 at again.1) }
-        ensures found { IfOk result (λ again. Opens (setup_of again.0) (journal_of again.0)) }
-        ensures recalls { IfOk result (λ again. (records : List Record)
-            → ReadsBook (setup_of again.0) D.seen (disk_of again.0) (journals.place_of (journal_of again.0)) records
-            → StartsOver again.0 (reverse records)) }
-        ensures records { IfOk result (λ again. again.1.records ≡ journals.used_of (journal_of again.0)) }
-        ensures counts { IfOk result (λ again. again.1.records
-            ≡ journals.used_of (journal_of self.entry) + length (put_by again.1.kept)) }
-        ensures kept { IfOk result (λ again. IfSome again.1.kept (λ r. due_of self.entry at ≡ Some r)) }
-
-        // why it isn't started again, and what its disk may then keep
-        ensures refused { IfErr result (λ e. RefusesWith (journal_of self.entry) (due_of self.entry at)
-            (setup_of self.entry) e.0 e.1) }
-        ensures never { IfErr result (λ e. (past : List Entry) → StandsFor self.entry past
-            → CrashSuits (setup_of self.entry) past at → IsTrusted D.honest D.seen (disk_of self.entry)
-            → e.1 ≡ CrashNo.Disk) }
-        ensures left { IfErr result (λ e. (past : List Entry) → StandsFor self.entry past
-            → IsTrusted D.honest D.seen (disk_of self.entry)
-            → LeavesBook (setup_of self.entry) D.honest D.seen D.may_leave e.0 (due_in (setup_of self.entry) past at) (reverse (records past))) }
-        ensures cause { IfErr result (λ e. e.1 ≡ CrashNo.Disk
-            → Rose (D.faults (disk_of self.entry)) (D.faults e.0)) }
-
-        // the disk
-        ensures cut { MatchResult result
-            (λ again. CutOnce D.size D.honest D.seen D.cuts D.cut_to choice (disk_of self.entry) (disk_of again.0))
-            (λ e. e.1 ≢ CrashNo.Disk
-            → CutOnce D.size D.honest D.seen D.cuts D.cut_to choice (disk_of self.entry) e.0) }
-        ensures outlasts { MatchResult result
-            (λ again. Outlasts D.size D.honest D.seen D.cuts (disk_of self.entry) (disk_of again.0))
-            (λ e. Outlasts D.size D.honest D.seen D.cuts (disk_of self.entry) e.0) }
-        ensures later { MatchResult result (λ again. D.faults (disk_of self.entry) ≤ D.faults (disk_of again.0))
-            (λ e. D.faults (disk_of self.entry) ≤ D.faults e.0) }
+        ensures restarts { IfOk result (λ again. Restarts self.entry at choice again.0 again.1) }
+        ensures fails { IfErr result (λ e. RestartFails self.entry at choice e.0 e.1) }
     {
         let mut host = self;
         match host.restart(at, choice) {

@@ -13,5 +13,5 @@ returns-in-None-clause-answers g c =
 
 pub invariant_of-self-clause-room : goal.invariant_of-self-clause-room
 invariant_of-self-clause-room g c =
-    room_kept (puts_in (rows_begun (setup_of c.args.self.now) c.args.command.now)) _ _ _ _ _ _ _ c.args.self.now.room c.take.ensures.puts
+    room_kept (puts_in (rows_begun (setup_of c.args.self.now) c.args.command.now)) _ _ _ _ _ _ _ c.args.self.now.together.fits c.take.ensures.puts
     (puts_held c.take.new.desks) c.take.ensures.holds (c.room_refusal.ensures.fits c.in-None.is)
