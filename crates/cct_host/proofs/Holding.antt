@@ -103,6 +103,10 @@ put_ends_sale job new kept addr report reported sells goes settled = absurd cc
 pub is_put_by : (n : Need) (r : Record) → n ≡ need.Put r → IsPut n
 is_put_by n r is = subst IsPut (sym is) tt
 
+-- where something is asked, nothing is put
+pub none_put : (job : Job) → need_of job ≡ need.Exchange → (P : Type 0) → IfSome (due_by (Some job)) (λ r. P)
+none_put job asks P = subst (λ n. IfSome (put_in n) (λ r. P)) (sym asks) tt
+
 pub some_put : (n : Need) (P : Type 0) → P → IfSome (put_in n) (λ r. P)
 some_put need.Exchange P p = tt
 some_put (need.Put entry) P p = p
@@ -160,11 +164,11 @@ settles_room : (new : Job) (owed : Option OpenOrder) → IsTrue (is_some owed) �
 settles_room new None there is puts = absurd cc
 settles_room new (Some o) there is puts = closing_room new (Some o) (0 + 1 + 0) is (omega (arith, puts))
 
-told_closes : (qs : List Request) → has_closes (telling qs) ≡ false
-told_closes = told_fact (λ rows. has_closes rows ≡ false) refl (λ q behind rows none. none)
-
-told_puts : (qs : List Request) → puts_in (telling qs) ≡ 0
-told_puts = told_fact (λ rows. puts_in rows ≡ 0) refl (λ q behind rows none. none)
+-- an identification closes no order, puts nothing and reserves nothing
+pub only_tells : (qs : List Request)
+    → (has_closes (telling qs) ≡ false) × (puts_in (telling qs) ≡ 0) × (coins_in (telling qs) ≡ 0)
+only_tells = told_fact (λ rows. (has_closes rows ≡ false) × (puts_in rows ≡ 0) × (coins_in rows ≡ 0)) (refl, refl, refl)
+    (λ q behind rows none. none)
 
 room_by : (d : DeviceSetup) (job : Option Job) (state : EpochState) (owed : Dues) (last : ℕ) (c : Command) (new : Job)
     → refusal_beside d job state owed last c ≡ None → ahead new ≡ rows_of d c
@@ -183,8 +187,8 @@ room_by d job state owed last (command.Round addr) new free rows =
 room_by d job state owed last (command.Stop addr) new free rows =
     plain_room new _ 2 (ap has_closes rows) (ap puts_in rows)
 room_by d job state owed last (command.Ident addr) new free rows =
-    let room = plain_room new (order_of owed.order) 0 (ap has_closes rows ∙ told_closes (ident_requests d.body))
-    (ap puts_in rows ∙ told_puts (ident_requests d.body)) in
+    let tells = only_tells (ident_requests d.body) in
+    let room = plain_room new (order_of owed.order) 0 (ap has_closes rows ∙ tells.0) (ap puts_in rows ∙ tells.1) in
     omega (arith, room)
 room_by d job state owed last c new free rows = plain_room new _ 0 (ap has_closes rows) (ap puts_in rows)
 

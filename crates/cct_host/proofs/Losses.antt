@@ -124,16 +124,6 @@ module _ {D : Type 0} (g : Ghosts D) where
       left_with disk calls due kept rs stands.image by stands.held.keeps_synced stands.held.tells stands.held.only
       stands.keeps
 
-  -- the same by what is due, and by how many calls were made
-  pub kept_stands : (setup : Setup) (journal : Journal D g) (calls many : ℕ) (due found kept : Option Record) (rs : List Record)
-      → calls ≡ many → due ≡ found
-      → KeptBy calls due kept × HasBook setup g.honest g.seen g.may_leave (journals.disk_of journal)
-      (journals.place_of journal) (rs ++ put_by kept)
-      → KeptBy many found kept × HasBook setup g.honest g.seen g.may_leave (journals.disk_of journal)
-      (journals.place_of journal) (rs ++ put_by kept)
-  kept_stands setup journal calls many due found kept rs counts is stands =
-      (subst (λ n. KeptBy n found kept) counts (subst (λ d. KeptBy calls d kept) is stands.0), stands.1)
-
   -- a read gives what stands
   pub stands_read : (setup : Setup) (disk : D) (place : Place) (rs : List Record)
       → HasBook setup g.honest g.seen g.may_leave disk place rs → ReadsBook setup g.seen disk place rs
@@ -154,6 +144,41 @@ first_bad first now setup index rs is same over =
     subst (IsFirstBad setup rs) here
     (subst (λ ls. IsFirstBad setup ls bad.0) (reverse-reverse rs)
     (subst (λ s. IsFirstBad s (reverse (reverse rs)) bad.0) (over.setup ∙ same) bad.2))
+
+module _ {D : Type 0} {g : Ghosts D} where
+  -- a restart of the journal, by what is due, and by how many calls were made
+  pub restarts_at : (calls many : ℕ) (due found : Option Record) (choice : ℕ) (old new : Journal D g) (kept : Option Record)
+      → calls ≡ many → due ≡ found → JournalRestarts calls due choice old new kept
+      → JournalRestarts many found choice old new kept
+  restarts_at calls many due found choice old new kept counts is restarts =
+      subst (λ n. JournalRestarts n found choice old new kept) counts
+      (subst (λ d. JournalRestarts calls d choice old new kept) is restarts)
+
+  -- no host starts over a record that doesn't follow
+  pub bad_fails : (setup : Setup) (calls : ℕ) (due : Option Record) (choice : ℕ) (old new : Journal D g)
+      (kept : Option Record) (index : ℕ) → JournalRestarts calls due choice old new kept
+      → ((rs : List Record) → ReadsBook setup g.seen (journals.disk_of new) (journals.place_of new) rs
+      → IsFirstBad setup rs index)
+      → JournalFails setup due choice old new (crash_no.BadRecord index)
+  bad_fails setup calls due choice old new kept index restarts bad = record {
+    refused = λ image tells.
+        let found = restarts.found setup image tells in
+        inr (
+          record { kept = kept; kept_is = restarts.kept_is; count = restarts.counts },
+          (
+            found.0,
+            found.1,
+            found.2,
+            bad found.0 (record { image = image; tells = tells; stands = found.1; count = sym found.2 }),
+          ),
+        );
+    leaves = λ rs stands.
+        let left = restarts.stands setup rs stands in
+        stands_leave g setup _ _ calls due kept rs left.0 left.1;
+    cause = record { later = restarts.later; rose = λ is. absurd cc };
+    cut = λ other. restarts.cut;
+    outlasts = restarts.outlasts;
+  }
 
 -- records that follow one another have no first bad one
 pub none_bad : (setup : Setup) (rs : List Record) (index : ℕ) → all_follow setup (reverse rs) ≡ true
@@ -294,22 +319,21 @@ module _ {D : Type 0} {g : Ghosts D} where
   -- and one that fails
   pub fails_by : (old new : Host D g) (at : Option CrashAt) (choice : ℕ) (why : CrashNo)
       → ((past : List Entry) → all_desks.StandsFor old.desks past → due_of old at ≡ due_in (setup_of old) past at)
-      → JournalFails (due_of old at) choice (journal_of old) (journal_of new) why
+      → JournalFails (setup_of old) (due_of old at) choice (journal_of old) (journal_of new) why
       → ((rs : List Record)
       → HasBook (setup_of old) g.honest g.seen g.may_leave (disk_of old) (journals.place_of (journal_of old)) rs
       → all_follow (setup_of old) (reverse rs) ≡ true
       → IfSome (due_of old at) (λ r. follows (setup_of old) (reverse rs) r ≡ true) → why ≡ crash_no.Disk)
       → RestartFails old at choice (disk_of new) why
   fails_by old new at choice why due fails never = record {
-    refused = (journal_of new, refl, fails.refused (setup_of old));
+    refused = (journal_of new, refl, fails.refused);
     never = λ past stands suits trusted. never_by old past at (why ≡ crash_no.Disk) due never stands suits trusted;
     leaves = λ past stands trusted.
         subst (λ d. LeavesBook (setup_of old) g.honest g.seen g.may_leave (disk_of new) d (reverse (records past)))
         (due past stands.keeps.desks)
-        (fails.leaves (setup_of old) (reverse (records past)) (stands.book trusted));
+        (fails.leaves (reverse (records past)) (stands.book trusted));
     due = λ past stands. due past stands.keeps.desks;
     cause = fails.cause;
     cut = fails.cut;
     outlasts = fails.outlasts;
-    later = fails.later;
   }

@@ -1,5 +1,5 @@
 -- A host that starts over records has all of a past without a job that has these records.
-use Rattle.std.proofs.Common.{◌≡◌, ◌+◌, List, [], ◌∷◌, length, refl, reverse, sym, ap, ap₂, subst, ◌∙◌}
+use Rattle.std.proofs.Common.{◌≡◌, ◌+◌, ◌≤◌, List, [], ◌∷◌, length, refl, reverse, sym, ap, ap₂, subst, ◌∙◌, arith}
 use Rattle.std.specs.List.{All}
 use Rattle.std.proofs.lemmas.List.Elements.{All-head, All-tail}
 use Rattle.cct_model.specs.terms.device.DeviceSetup.{DeviceSetup}
@@ -15,7 +15,9 @@ use Rattle.cct_model.specs.Refusal.{running_id, sale_id}
 use Rattle.cct_model.specs.Transcript.{lines_of, sale_lines, scan_lines}
 use Rattle.cct_disk.specs.declared.disk.Disk.{Ghosts}
 use Rattle.cct_disk.specs.Disk.{IsTrusted}
+use Rattle.cct_journal.specs.declared.journal.Journal.{Journal}
 use Rattle.cct_journal.specs.Journal as journals
+use Rattle.cct_ledger.specs.declared.ledger.Ledger.{Ledger}
 use Rattle.cct_ledger.specs.Ledger as ledgers
 use Rattle.cct_laws.specs.Recorded.{HasNoJob}
 use Rattle.cct_laws.proofs.money.Recorded.{epoch_recorded, order_recorded}
@@ -28,6 +30,7 @@ use Rattle.cct_host.specs.Desk.{AllSit, IsFree, Sits, Works, puts_at, reserved_o
 use Rattle.cct_host.specs.Desks as all_desks
 use Rattle.cct_host.specs.Held.{coins_by, price_by, puts_left}
 use Rattle.cct_host.specs.Host.{Keeps, StandsFor, disk_of, setup_of}
+use Rattle.cct_host.specs.Parts.{BelongTogether}
 use Rattle.cct_host.specs.Place.{device, sales, scans}
 use Rattle.cct_host.specs.Recalled.{AllRecall, AreUnused, IsUnused, Recalls, RecallsAt}
 use Rattle.cct_host.specs.Starting.{StartsOver}
@@ -120,6 +123,19 @@ pub nothing_yet : HasNoJob []
 nothing_yet = record { devices = λ d. refl; scan = refl; sale = refl }
 
 module _ {D : Type 0} {g : Ghosts D} where
+  -- parts without a job belong together
+  pub free_together : (desks : Desks) (ledger : Ledger) (journal : Journal D g) → AreUnused desks
+      → ledgers.setup_of ledger ≡ all_desks.setup_of desks → ledgers.reserved_of ledger ≡ 0
+      → ledgers.applied ledger ≤ journals.used_of journal → BelongTogether desks ledger journal
+  free_together desks ledger journal unused same none counted =
+      let puts = nothing_put desks unused in
+      record {
+        same = same;
+        reserved = none ∙ sym (nothing_reserved desks unused);
+        counted = counted;
+        fits = omega (arith, puts, journal.placed.fits);
+      }
+
   pub started_keeps : (host : Host D g) (past : List Entry) (before : List Record) → HasNoJob past
       → records past ≡ before → StartsOver host before → Keeps host past
   started_keeps host past before none same starts = record {

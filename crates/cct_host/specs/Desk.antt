@@ -1,5 +1,6 @@
 -- The host's desk for one place: its job, its epoch and its open order, beside what happened.
-use Rattle.std.specs.Prelude.{◌≡◌, ℕ, ◌+◌, List, [], ◌∷◌, ◌++◌, Option, Some, None, Result, Ok, Err, ⊤, max, reverse}
+use Rattle.std.specs.Prelude.{◌≡◌, ◌≤◌, ◌<◌, ℕ, ◌+◌, List, [], ◌∷◌, ◌++◌, Option, Some, None, Result, Ok, Err, ⊤, max, reverse, true}
+use Rattle.std.specs.Option.{IfSome}
 use Rattle.cct_model.specs.terms.device.DeviceSetup.{DeviceSetup}
 use Rattle.cct_model.specs.terms.device.Setup.{Setup}
 use Rattle.cct_model.specs.lines.command.Command.{Command}
@@ -14,12 +15,15 @@ use Rattle.cct_model.specs.Legal.{command_entry}
 use Rattle.cct_model.specs.Money.{coins_of}
 use Rattle.cct_model.specs.Order.{order}
 use Rattle.cct_model.specs.Refusal.{last_id, state_refusal, running_id, sale_id}
+use Rattle.cct_model.specs.Rows.{puts_in}
+use Rattle.cct_jobs.specs.Ahead.{coins_in}
 use Rattle.cct_jobs.specs.declared.job.Job.{Job}
 use Rattle.cct_host.specs.declared.dues.Dues.{Dues}
 use Rattle.cct_jobs.specs.Jobs.{order_of}
 use Rattle.cct_host.specs.declared.desk.JobDesk.{JobDesk}
 use Rattle.cct_host.specs.Attempt.{Attempt, HeardBy, Links, news_of, put_of, used_by}
-use Rattle.cct_host.specs.Held.{coins_by, due_by, held_by, puts_left}
+use Rattle.cct_host.specs.Held.{coins_by, due_by, held_by, price_by, puts_left, sells_only}
+use Rattle.cct_host.specs.Running.{needed, rows_begun}
 use Rattle.cct_host.specs.Place.{AreAt, NextAt, OwnsAt, Place, StandsAt, addr_of, device, lines_at, sales, scans}
 
 -- What the host has at a place is the job that its lines tell, beside the epoch and the open order.
@@ -92,6 +96,26 @@ held_at desk = held_by desk.job (order_of desk.dues.order)
 -- How many records the job at a desk may still put.
 abbrev pub puts_at : JobDesk → ℕ
 puts_at desk = puts_left desk.job
+
+-- A taken command takes room at a desk: for so many records that are held and so many that the job may put, at most; and
+-- its job reserves so much more.
+pub record Takes (held puts : ℕ) (reserved : Option Job → ℕ) (amount : ℕ) (old new : JobDesk) : Type 0 where
+  pub holds : held_at new ≤ held_at old + held
+  pub puts : puts_at new ≤ puts_at old + puts
+  pub reserves : reserved new.job ≡ reserved old.job + amount
+
+-- The same of a command to a device, by the rows that it begins.
+abbrev pub TakesFor : Setup → Command → JobDesk → JobDesk → Type 0
+TakesFor setup c old new =
+    Takes (needed setup c) (puts_in (rows_begun setup c)) coins_by (coins_in (rows_begun setup c)) old new
+
+-- An attempt of a job frees room at its desk: that of a record that it puts, and then all coins that it reserved.
+pub record Frees (job : Option Job) (desk : JobDesk) : Type 0 where
+  pub left : puts_at desk ≤ puts_left job
+  pub puts : IfSome (due_by job) (λ r. puts_at desk < puts_left job)
+  pub reserves : coins_by desk.job ≤ coins_by job
+  pub clears : IfSome (due_by job) (λ r. coins_by desk.job ≡ 0)
+  pub sells : sells_only job ≡ true → desk.job ≡ None
 
 -- A sum over desks.
 abbrev pub sum_in : (JobDesk → ℕ) → List JobDesk → ℕ

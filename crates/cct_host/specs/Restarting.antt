@@ -6,7 +6,7 @@ use Rattle.cct_model.specs.lines.command.CrashAt.{CrashAt}
 use Rattle.cct_model.specs.lines.record.Record.{Record}
 use Rattle.cct_model.specs.lines.entry.Entry.{Entry}
 use Rattle.cct_model.specs.lines.entry.Entry.TheVariants as entry
-use Rattle.cct_edge.specs.Faults.{Rose}
+use Rattle.cct_edge.specs.Faults.{Caused}
 use Rattle.cct_model.specs.Legal.{EntriesOfCrash}
 use Rattle.cct_model.specs.Records as model_records
 use Rattle.cct_disk.specs.declared.disk.Disk.{Ghosts}
@@ -102,18 +102,18 @@ module _ {D : Type 0} {g : Ghosts D} where
     pub later : g.faults (journals.disk_of old) ≤ g.faults (journals.disk_of new)
 
   -- No host starts over a journal after such a power cut, for this reason.
-  pub record JournalFails (due : Option Record) (choice : ℕ) (old new : Journal D g) (why : CrashNo) : Type 0 where
+  pub record JournalFails (setup : Setup) (due : Option Record) (choice : ℕ) (old new : Journal D g) (why : CrashNo) : Type 0
+      where
     -- why, and what the disk may then keep
-    pub refused : (setup : Setup) → RefusesCrash old new due setup why
-    pub leaves : (setup : Setup) (records : List Record)
+    pub refused : RefusesCrash old new due setup why
+    pub leaves : (records : List Record)
         → HasBook setup g.honest g.seen g.may_leave (journals.disk_of old) (journals.place_of old) records
         → LeavesBook setup g.honest g.seen g.may_leave (journals.disk_of new) due records
-    pub cause : why ≡ Disk → Rose (g.faults (journals.disk_of old)) (g.faults (journals.disk_of new))
+    pub cause : Caused (g.faults (journals.disk_of old)) (g.faults (journals.disk_of new)) (why ≡ Disk)
     -- the disk
     pub cut : why ≢ Disk
         → CutOnce g.size g.honest g.seen g.cuts g.cut_to choice (journals.disk_of old) (journals.disk_of new)
     pub outlasts : Outlasts g.size g.honest g.seen g.cuts (journals.disk_of old) (journals.disk_of new)
-    pub later : g.faults (journals.disk_of old) ≤ g.faults (journals.disk_of new)
 
   -- The record that is due at a host where a loss of power comes, if one is.
   abbrev pub due_of : Host D g → Option CrashAt → Option Record
@@ -155,8 +155,7 @@ module _ {D : Type 0} {g : Ghosts D} where
         → LeavesBook (setup_of old) g.honest g.seen g.may_leave left (due_in (setup_of old) past at)
         (reverse (model_records.records past))
     pub due : (past : List Entry) → StandsFor old past → due_of old at ≡ due_in (setup_of old) past at
-    pub cause : why ≡ Disk → Rose (g.faults (disk_of old)) (g.faults left)
+    pub cause : Caused (g.faults (disk_of old)) (g.faults left) (why ≡ Disk)
     -- the disk
     pub cut : why ≢ Disk → CutOnce g.size g.honest g.seen g.cuts g.cut_to choice (disk_of old) left
     pub outlasts : Outlasts g.size g.honest g.seen g.cuts (disk_of old) left
-    pub later : g.faults (disk_of old) ≤ g.faults left

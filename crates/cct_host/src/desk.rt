@@ -1,5 +1,5 @@
 //! The host's desk for one place: a device, the address of all devices, where scans are, or that of sales.
-ghost use Rattle.std.specs.Prelude.{◌≡◌, ◌<◌, ◌≤◌, ◌^◌, [], ◌+◌, Option, Some, None, true, false, IfSome, OnErr, OnOk};
+ghost use Rattle.std.specs.Prelude.{◌≡◌, ◌<◌, ◌≤◌, ◌^◌, [], Option, Some, None, true, false, OnErr, OnOk};
 ghost use Rattle.std.specs.Option.{option_map};
 ghost use Rattle.arrayvec.specs.ArrayVec.{array_vec_len};
 ghost use Rattle.cct_model.specs.declared.judging.OpenOrder.{OpenOrder};
@@ -8,12 +8,10 @@ ghost use Rattle.cct_model.specs.terms.device.Setup.{Setup};
 ghost use Rattle.cct_model.specs.Exchange.{device_at};
 ghost use Rattle.cct_model.specs.Job.{address_of, works};
 ghost use Rattle.cct_model.specs.Refusal.{running_id};
-ghost use Rattle.cct_model.specs.Rows.{puts_in};
-ghost use Rattle.cct_jobs.specs.Ahead.{coins_in};
 ghost use Rattle.cct_jobs.specs.Jobs.{is_of_device, order_of};
-ghost use Rattle.cct_host.specs.Held.{FitsIn, FitsIn-prop, coins_by, due_by, price_by, puts_left, sells_only};
+ghost use Rattle.cct_host.specs.Held.{FitsIn, FitsIn-prop, price_by, sells_only};
 ghost use Rattle.cct_host.specs.Place as places;
-ghost use Rattle.cct_host.specs.Running.{id_left, is_halt, is_running, needed, rows_begun};
+ghost use Rattle.cct_host.specs.Running.{id_left, is_halt, is_running};
 
 use crate::dues::Dues;
 use crate::exchange::{converse, settled};
@@ -48,7 +46,7 @@ impl Default for JobDesk {
 }
 
 impl JobDesk {
-    ghost use Rattle.cct_host.specs.Desk.{Attempts, Commands, CommandsAbove, held_at, puts_at};
+    ghost use Rattle.cct_host.specs.Desk.{Attempts, Commands, CommandsAbove, Frees, Takes, TakesFor, puts_at};
 
     /// A command to the device of this desk is taken, or refused for the first reason that holds; a refused one changes
     /// nothing.
@@ -62,9 +60,7 @@ impl JobDesk {
         requires there { device_at setup.now.devices (address_of command.now) ≡ Some device.now }
         requires of_device { is_of_device command.now ≡ true }
         ensures stays { OnErr result (self.new ≡ self.old) }
-        ensures holds { OnOk result (held_at self.new ≤ held_at self.old + needed setup.now command.now) }
-        ensures puts { OnOk result (puts_at self.new ≤ puts_at self.old + puts_in (rows_begun setup.now command.now)) }
-        ensures reserves { OnOk result (coins_by self.new.job ≡ coins_by self.old.job + coins_in (rows_begun setup.now command.now)) }
+        ensures takes { OnOk result (TakesFor setup.now command.now self.old self.new) }
         ensures commands { device.now.serial < 2 ^ 24
             → CommandsAbove setup.now last (places.device device.now) self.old self.new command.now result }
     {
@@ -85,9 +81,7 @@ impl JobDesk {
         requires there { device_at setup.now.devices (address_of command.now) ≡ Some device.now }
         requires halt { is_halt command.now ≡ true }
         ensures stays { OnErr result (self.new ≡ self.old) }
-        ensures holds { OnOk result (held_at self.new ≤ held_at self.old + needed setup.now command.now) }
-        ensures puts { OnOk result (puts_at self.new ≤ puts_at self.old + puts_in (rows_begun setup.now command.now)) }
-        ensures reserves { OnOk result (coins_by self.new.job ≡ coins_by self.old.job + coins_in (rows_begun setup.now command.now)) }
+        ensures takes { OnOk result (TakesFor setup.now command.now self.old self.new) }
         ensures commands { Commands setup.now (places.device device.now) self.old self.new command.now result }
     {
         match self.halting_refusal(device) {
@@ -114,9 +108,7 @@ impl JobDesk {
         requires no_halt { is_halt command.now ≡ false }
         requires of_device { is_of_device command.now ≡ true }
         ensures stays { OnErr result (self.new ≡ self.old) }
-        ensures holds { OnOk result (held_at self.new ≤ held_at self.old + needed setup.now command.now) }
-        ensures puts { OnOk result (puts_at self.new ≤ puts_at self.old + puts_in (rows_begun setup.now command.now)) }
-        ensures reserves { OnOk result (coins_by self.new.job ≡ coins_by self.old.job + coins_in (rows_begun setup.now command.now)) }
+        ensures takes { OnOk result (TakesFor setup.now command.now self.old self.new) }
         ensures commands { device.now.serial < 2 ^ 24
             → CommandsAbove setup.now last (places.device device.now) self.old self.new command.now result }
     {
@@ -166,9 +158,7 @@ impl JobDesk {
         last: u32,
     ) -> Result<(), CommandNo>
         ensures stays { OnErr result (self.new ≡ self.old) }
-        ensures holds { OnOk result (held_at self.new ≤ held_at self.old + 1) }
-        ensures puts { OnOk result (puts_at self.new ≤ puts_at self.old + 1) }
-        ensures reserves { OnOk result (price_by self.new.job ≡ price_by self.old.job + price) }
+        ensures takes { OnOk result (Takes 1 1 price_by price self.old self.new) }
         ensures sells { sells_only self.old.job ≡ true → sells_only self.new.job ≡ true }
         ensures commands { CommandsAbove setup.now last places.sales self.old self.new (Command.Vend id price) result }
     {
@@ -194,11 +184,7 @@ impl JobDesk {
         requires room { array_vec_len report.old ≤ 6 }
         ensures attempts { Attempts L.gives link.old link.new addr self.old.job self.old.epoch self.old.dues
             self.new result report.old.items report.new.items }
-        ensures left { puts_at self.new ≤ puts_at self.old }
-        ensures puts { IfSome (due_by self.old.job) (λ r. puts_at self.new < puts_at self.old) }
-        ensures reserves { coins_by self.new.job ≤ coins_by self.old.job }
-        ensures clears { IfSome (due_by self.old.job) (λ r. coins_by self.new.job ≡ 0) }
-        ensures sells { sells_only self.old.job ≡ true → self.new.job ≡ None }
+        ensures frees { Frees self.old.job self.new }
     {
         match self.job.take() {
             None => {
@@ -222,11 +208,7 @@ impl JobDesk {
         requires room { array_vec_len report.old ≤ 6 }
         ensures attempts { Attempts L.gives link.old link.new addr (Some job) self.old.epoch self.old.dues
             self.new result report.old.items report.new.items }
-        ensures left { puts_at self.new ≤ puts_left (Some job) }
-        ensures puts { IfSome (due_by (Some job)) (λ r. puts_at self.new < puts_left (Some job)) }
-        ensures reserves { coins_by self.new.job ≤ coins_by (Some job) }
-        ensures clears { IfSome (due_by (Some job)) (λ r. coins_by self.new.job ≡ 0) }
-        ensures sells { sells_only (Some job) ≡ true → self.new.job ≡ None }
+        ensures frees { Frees (Some job) self.new }
     {
         match job.needs() {
             Need::Exchange => {

@@ -11,7 +11,6 @@ ghost use Rattle.cct_model.specs.Legal.{due_at};
 ghost use Rattle.cct_model.specs.Money.{freed_by};
 ghost use Rattle.cct_model.specs.Records.{epoch_in, owner_in};
 ghost use Rattle.cct_model.specs.Refusal.{held};
-ghost use Rattle.cct_model.specs.Rows.{puts_in};
 ghost use Rattle.cct_model.specs.Setup.{IsSoundSetup};
 ghost use Rattle.cct_ledger.specs.Orders.{has_id};
 ghost use Rattle.cct_ledger.specs.Told.{is_of_money};
@@ -19,7 +18,6 @@ ghost use Rattle.cct_record.specs.Body.{Encodable};
 ghost use Rattle.cct_jobs.specs.Jobs.{is_of_device, order_of};
 ghost use Rattle.cct_host.specs.Desk.{IsFree, puts_at};
 ghost use Rattle.cct_host.specs.Held.{sells_only};
-ghost use Rattle.cct_host.specs.Running.{amount_of, needed, rows_begun};
 ghost use Rattle.cct_host.specs.Sound.{IsSoundSetup-prop};
 
 use crate::desk::JobDesk;
@@ -51,7 +49,7 @@ pub struct Desks<'s> {
 }
 
 impl<'s> Desks<'s> {
-    ghost use Rattle.cct_host.specs.Desks.{Answers, Nexts, Refuses, StandsFor, Stays, amount_at_desk, amount_on, desk_there, due_at_desk, due_on, held_of, puts_of, reserved_of, setup_of, working_id};
+    ghost use Rattle.cct_host.specs.Desks.{Answers, FreesIn, Nexts, Refuses, StandsFor, Stays, TakesIn, amount_at_desk, amount_on, desk_there, due_at_desk, due_on, held_of, puts_of, reserved_of, setup_of, working_id};
     ghost use Rattle.cct_host.specs.Recalled.{AreUnused, Recalls};
 
     /// The desks of a host to which nothing has happened: there is no job, and no epoch runs.
@@ -81,10 +79,7 @@ impl<'s> Desks<'s> {
     pub fn command(&mut self, command: &Command) -> Result<(), CommandNo>
         ensures setup { setup_of self.new ≡ setup_of self.old }
         ensures stays { OnErr result (Stays self.old self.new) }
-        ensures holds { OnOk result (held_of self.new ≤ held_of self.old + needed (setup_of self.old) command.now) }
-        ensures puts { OnOk result (puts_of self.new ≤ puts_of self.old + puts_in (rows_begun (setup_of self.old) command.now)) }
-        ensures reserves { OnOk result (reserved_of self.new
-            ≡ reserved_of self.old + amount_of (setup_of self.old) command.now) }
+        ensures takes { OnOk result (TakesIn command.now self.old self.new) }
         ensures answers { Answers self.old self.new command.now result }
     {
         match *command {
@@ -110,10 +105,7 @@ impl<'s> Desks<'s> {
         requires address { address_of command.now ≡ addr }
         ensures setup { setup_of self.new ≡ setup_of self.old }
         ensures stays { OnErr result (Stays self.old self.new) }
-        ensures holds { OnOk result (held_of self.new ≤ held_of self.old + needed (setup_of self.old) command.now) }
-        ensures puts { OnOk result (puts_of self.new ≤ puts_of self.old + puts_in (rows_begun (setup_of self.old) command.now)) }
-        ensures reserves { OnOk result (reserved_of self.new
-            ≡ reserved_of self.old + amount_of (setup_of self.old) command.now) }
+        ensures takes { OnOk result (TakesIn command.now self.old self.new) }
         ensures answers { Answers self.old self.new command.now result }
     {
         let devices = self.setup.devices.as_slice();
@@ -320,13 +312,7 @@ impl<'s> Desks<'s> {
     /// or a put, and where the job is then done its end, which frees the address. With no job the address is idle.
     pub fn next<L: Link>(&mut self, addr: u8, link: &mut L, report: &mut ArrayVec<Entry, 8>)
         requires room { array_vec_len report.old ≤ 6 }
-        ensures setup { setup_of self.new ≡ setup_of self.old }
-        ensures left { puts_of self.new ≤ puts_of self.old }
-        ensures puts { IfSome (due_on self.old addr) (λ r. puts_of self.new < puts_of self.old) }
-        ensures reserves { amount_on self.new addr ≤ amount_on self.old addr }
-        ensures clears { IfSome (due_on self.old addr) (λ r. amount_on self.new addr ≡ 0) }
-        ensures frees { reserved_of self.new + (amount_on self.old addr - amount_on self.new addr)
-            ≡ reserved_of self.old }
+        ensures frees { FreesIn addr self.old self.new }
         ensures nexts { Nexts L.gives link.old link.new addr self.old self.new report.old.items report.new.items }
     {
         match index_of(self.setup.devices.as_slice(), addr) {
@@ -343,13 +329,7 @@ impl<'s> Desks<'s> {
         requires bare { device_at (setup_of self.old).devices addr ≡ None }
         requires nobody { desk_there self.old addr ≡ None }
         requires room { array_vec_len report.old ≤ 6 }
-        ensures setup { setup_of self.new ≡ setup_of self.old }
-        ensures left { puts_of self.new ≤ puts_of self.old }
-        ensures puts { IfSome (due_on self.old addr) (λ r. puts_of self.new < puts_of self.old) }
-        ensures reserves { amount_on self.new addr ≤ amount_on self.old addr }
-        ensures clears { IfSome (due_on self.old addr) (λ r. amount_on self.new addr ≡ 0) }
-        ensures frees { reserved_of self.new + (amount_on self.old addr - amount_on self.new addr)
-            ≡ reserved_of self.old }
+        ensures frees { FreesIn addr self.old self.new }
         ensures nexts { Nexts L.gives link.old link.new addr self.old self.new report.old.items report.new.items }
     {
         if addr == BROADCAST {

@@ -2,7 +2,7 @@
 ghost use Rattle.std.specs.Prelude.{◌≡◌, ◌≢◌, ◌≤◌, ◌+◌, length, List, [], Option, Some, None, Err, IfErr, IfOk, IfSome, MatchResult, OnErr, OnOk, IsTrue, false, is_ok, reverse};
 ghost use Rattle.std.specs.Option.{option_or};
 ghost use Rattle.arrayvec.specs.ArrayVec.{array_vec_len};
-ghost use Rattle.cct_edge.specs.Faults.{Rose};
+ghost use Rattle.cct_edge.specs.Faults.{Caused, HasCause};
 ghost use Rattle.cct_model.specs.lines.entry.Entry.{Entry};
 ghost use Rattle.cct_model.specs.lines.record.Record.{Record};
 ghost use Rattle.cct_model.specs.Money.{totals};
@@ -17,7 +17,7 @@ ghost use Rattle.cct_journal.specs.Stands.{CutOnce, GoesOn, Outlasts};
 ghost use Rattle.cct_laws.specs.Restart.{CrashSuits, due_in};
 ghost use Rattle.cct_ledger.specs.Ledger as ledgers;
 ghost use Rattle.cct_host.specs.Desks as all_desks;
-ghost use Rattle.cct_host.specs.Parts.{BelongTogether, BelongTogether-prop};
+ghost use Rattle.cct_host.specs.Parts.{BelongTogether, BelongTogether-prop, GoOnTogether};
 ghost use Rattle.cct_model.specs.Rows.{puts_in};
 ghost use Rattle.cct_host.specs.Running.{amount_of, needed, rows_begun};
 
@@ -70,8 +70,8 @@ impl<'s, D: Disk> Host<'s, D> {
         ensures refused { IfErr result (λ e. (records : List Record)
             → ReadsBook setup.now D.seen (journals.disk_of journal) (journals.place_of journal) records
             → RefusesStart e.1 setup.now records) }
-        ensures cause { IfErr result (λ e. e.1 ≡ StartNo.Disk
-            → Rose (D.faults (journals.disk_of journal)) (D.faults e.0)) }
+        ensures cause { MatchResult result (λ host. D.faults (journals.disk_of journal) ≤ D.faults (disk_of host))
+            (λ e. Caused (D.faults (journals.disk_of journal)) (D.faults e.0) (e.1 ≡ StartNo.Disk)) }
 
         // over a journal without records
         ensures starts { journals.used_of journal ≡ 0 → IsTrue (is_ok result) }
@@ -88,8 +88,6 @@ impl<'s, D: Disk> Host<'s, D> {
             (journals.disk_of journal) (disk_of host))
             (λ e. OnlyReads D.size D.honest D.seen D.may_leave D.moment D.left_since D.cuts
             (journals.disk_of journal) e.0) }
-        ensures later { MatchResult result (λ host. D.faults (journals.disk_of journal) ≤ D.faults (disk_of host))
-            (λ e. D.faults (journals.disk_of journal) ≤ D.faults e.0) }
     {
         let mut desks = Desks::new(setup);
         let mut ledger = Ledger::new(setup);
@@ -204,9 +202,8 @@ impl<'s, D: Disk> Host<'s, D> {
         ensures stays { OnErr result (report.new ≡ report.old) }
         ensures link { OnErr result (link.new ≡ link.old) }
         ensures fails { OnErr result (Fails self.old self.new addr) }
-        ensures cause { OnErr result (Rose (D.faults (disk_of self.old)) (D.faults (disk_of self.new))) }
+        ensures cause { HasCause (D.faults (disk_of self.old)) (D.faults (disk_of self.new)) result }
         ensures goes_on { GoesOn D.size D.honest D.seen D.cuts (disk_of self.old) (disk_of self.new) }
-        ensures later { D.faults (disk_of self.old) ≤ D.faults (disk_of self.new) }
     {
         advance(
             &mut self.desks,
@@ -284,17 +281,10 @@ impl<'s, D: Disk> Host<'s, D> {
 fn take(desks: &mut Desks<'_>, ledger: &mut Ledger<'_>, command: &Command) -> Result<(), CommandNo>
     requires available { amount_of (all_desks.setup_of desks.old) command.now ≤ ledgers.available_of ledger.old }
     requires reserved { ledgers.reserved_of ledger.old ≡ all_desks.reserved_of desks.old }
-    ensures setup { all_desks.setup_of desks.new ≡ all_desks.setup_of desks.old }
-    ensures same { ledgers.setup_of ledger.new ≡ ledgers.setup_of ledger.old }
-    ensures reserved { ledgers.reserved_of ledger.new ≡ all_desks.reserved_of desks.new }
-    ensures counted { ledgers.applied ledger.new ≡ ledgers.applied ledger.old }
-    ensures holds { all_desks.held_of desks.new ≤ all_desks.held_of desks.old + needed (all_desks.setup_of desks.old) command.now }
-    ensures puts { all_desks.puts_of desks.new ≤ all_desks.puts_of desks.old + puts_in (rows_begun (all_desks.setup_of desks.old) command.now) }
+    ensures together { GoOnTogether desks.old desks.new ledger.old ledger.new }
+    ensures takes { OnOk result (all_desks.TakesIn command.now desks.old desks.new) }
     ensures stays { OnErr result (all_desks.Stays desks.old desks.new × (ledger.new ≡ ledger.old)) }
     ensures answers { all_desks.Answers desks.old desks.new command.now result }
-    ensures stands { (before : List Record)
-        → ledgers.StandsFor ledger.old before (all_desks.reserved_of desks.old)
-        → ledgers.StandsFor ledger.new before (all_desks.reserved_of desks.new) }
 {
     let amount = amount_of(desks.setup(), command);
     desks.command(command)?;

@@ -1,22 +1,21 @@
 //! A host that starts goes over the records of its journal: it reads them, or is shown them as they are found.
 ghost use Rattle.std.specs.Prelude.{◌≡◌, ◌≤◌, ◌<◌, ◌+◌, ◌-◌, ◌^◌, List, [], ◌∷◌, Err, IfErr, IsTrue, OnErr, OnOk, false, is_ok, reverse};
-ghost use Rattle.cct_edge.specs.Faults.{Rose};
 ghost use Rattle.cct_model.specs.lines.record.Record.{Record};
 ghost use Rattle.cct_model.specs.Following.{follows};
 ghost use Rattle.cct_model.specs.Setup.{IsSoundSetup};
 ghost use Rattle.cct_record.specs.Body.{Encodable};
-ghost use Rattle.cct_journal.specs.Image.{capacity_of};
 ghost use Rattle.cct_journal.specs.Journal as journals;
 ghost use Rattle.cct_ledger.specs.Ledger as ledgers;
 ghost use Rattle.cct_host.specs.Book.{ReadsBook};
 ghost use Rattle.cct_host.specs.Desks as all_desks;
-ghost use Rattle.cct_host.specs.Recalled.{AreUnused, Recalls};
-ghost use Rattle.cct_host.specs.Starting.{OnlyReadIn, RefusesStart, WentOver, WentOverFirst};
+ghost use Rattle.cct_host.specs.Parts.{BelongTogether};
+ghost use Rattle.cct_host.specs.Recalled.{Recalls};
+ghost use Rattle.cct_host.specs.Starting.{OnlyReadIn, RefusesStart, ReplaysOne, WentOver, WentOverFirst};
 
 use crate::Desks;
 use crate::refusal::StartNo;
 use cct_disk::Disk;
-use cct_journal::{Journal, ReadNo, Replay};
+use cct_journal::{Journal, Replay};
 use cct_ledger::{Ledger, NotAllowed};
 use cct_model::{Record, Setup};
 
@@ -34,11 +33,7 @@ pub(crate) fn recall<D: Disk>(
 
     // what holds of the parts of a host
     ensures setup { all_desks.setup_of desks.new ≡ all_desks.setup_of desks.old }
-    ensures same { ledgers.setup_of ledger.new ≡ all_desks.setup_of desks.new }
-    ensures reserved { ledgers.reserved_of ledger.new ≡ all_desks.reserved_of desks.new }
-    ensures counted { ledgers.applied ledger.new ≤ journals.used_of journal.new }
-    ensures fits { journals.used_of journal.new + all_desks.puts_of desks.new
-        ≤ capacity_of (D.size (journals.disk_of journal.new)) }
+    ensures together { BelongTogether desks.new ledger.new journal.new }
 
     // what they tell
     ensures over { OnOk result ((records : List Record)
@@ -53,10 +48,8 @@ pub(crate) fn recall<D: Disk>(
         → RefusesStart why (all_desks.setup_of desks.old) records) }
 
     // the journal
-    ensures reads { OnlyReadIn journal.old journal.new }
+    ensures reads { OnlyReadIn journal.old journal.new (result ≡ Err StartNo.Disk) }
     ensures untouched { journals.used_of journal.old ≡ 0 → journal.new ≡ journal.old }
-    ensures cause { result ≡ Err StartNo.Disk → Rose (D.faults (journals.disk_of journal.old))
-        (D.faults (journals.disk_of journal.new)) }
 {
     for index in 0..journal.used() {
         recall_next(desks, ledger, journal, index)?;
@@ -74,11 +67,7 @@ fn recall_next<D: Disk>(
     requires within { index < journals.used_of journal.old }
     requires counted { ledgers.applied ledger.old ≤ index }
     requires same { ledgers.setup_of ledger.old ≡ all_desks.setup_of desks.old }
-    ensures setup { all_desks.setup_of desks.new ≡ all_desks.setup_of desks.old }
-    ensures same { ledgers.setup_of ledger.new ≡ all_desks.setup_of desks.new }
-    ensures unused { AreUnused desks.old → AreUnused desks.new }
-    ensures reserved { ledgers.reserved_of ledger.new ≡ ledgers.reserved_of ledger.old }
-    ensures counted { ledgers.applied ledger.new ≤ index + 1 }
+    ensures replays { ReplaysOne desks.old desks.new ledger.old ledger.new }
     ensures over { OnOk result ((records : List Record)
         → ReadsBook (all_desks.setup_of desks.old) D.seen (journals.disk_of journal.old)
         (journals.place_of journal.old) records
@@ -89,15 +78,9 @@ fn recall_next<D: Disk>(
         (journals.place_of journal.old) records
         → WentOverFirst desks.old ledger.old records index
         → RefusesStart why (all_desks.setup_of desks.old) records) }
-    ensures reads { OnlyReadIn journal.old journal.new }
-    ensures cause { result ≡ Err StartNo.Disk → Rose (D.faults (journals.disk_of journal.old))
-        (D.faults (journals.disk_of journal.new)) }
+    ensures reads { OnlyReadIn journal.old journal.new (result ≡ Err StartNo.Disk) }
 {
-    let entry = match journal.read_at(index) {
-        Ok(entry) => entry,
-        Err(ReadNo::Disk) => return Err(StartNo::Disk),
-        Err(ReadNo::BadRecord { index }) => return Err(StartNo::BadRecord { index }),
-    };
+    let entry = journal.read_at(index)?;
     match recall_entry(desks, ledger, &entry) {
         Ok(()) => Ok(()),
         Err(NotAllowed) => Err(StartNo::BadRecord { index }),
@@ -113,11 +96,7 @@ fn recall_entry(
     requires few { ledgers.applied ledger.old < 2 ^ 32 - 1 }
     requires encodable { Encodable entry.now }
     requires same { ledgers.setup_of ledger.old ≡ all_desks.setup_of desks.old }
-    ensures setup { all_desks.setup_of desks.new ≡ all_desks.setup_of desks.old }
-    ensures same { ledgers.setup_of ledger.new ≡ all_desks.setup_of desks.new }
-    ensures unused { AreUnused desks.old → AreUnused desks.new }
-    ensures reserved { ledgers.reserved_of ledger.new ≡ ledgers.reserved_of ledger.old }
-    ensures counted { ledgers.applied ledger.new ≤ ledgers.applied ledger.old + 1 }
+    ensures replays { ReplaysOne desks.old desks.new ledger.old ledger.new }
     ensures over { OnOk result ((before : List Record) → WentOver desks.old ledger.old before
         → WentOver desks.new ledger.new (entry.now ∷ before)) }
     ensures refused { OnErr result ((before : List Record) → WentOver desks.old ledger.old before

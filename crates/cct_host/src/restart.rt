@@ -63,7 +63,8 @@ pub(crate) fn restart<'s, D: Disk>(
         → WentOver desks.new ledger.new (reverse records)) }
 
     // why it isn't
-    ensures fails { IfErr result (JournalFails (due_for desks.old at) choice journal.old journal.new) }
+    ensures fails { IfErr result (JournalFails (all_desks.setup_of desks.old) (due_for desks.old at) choice journal.old
+        journal.new) }
     ensures never { IfErr result (λ why. (records : List Record)
         → HasBook (all_desks.setup_of desks.old) D.honest D.seen D.may_leave (journals.disk_of journal.old)
         (journals.place_of journal.old) records
@@ -140,7 +141,7 @@ fn lose<D: Disk, R: Replay>(
     ensures told { OnOk result ((setup : Setup) (records : List Record)
         → ReadsBook setup D.seen (journals.disk_of journal.new) (journals.place_of journal.new) records
         → R.replayed 0 replay.old (reverse records) replay.new) }
-    ensures fails { IfErr result (JournalFails due choice journal.old journal.new) }
+    ensures fails { IfErr result (λ why. (setup : Setup) → JournalFails setup due choice journal.old journal.new why) }
     ensures never { IfErr result (λ why. (setup : Setup) (records : List Record)
         → HasBook setup D.honest D.seen D.may_leave (journals.disk_of journal.old) (journals.place_of journal.old) records
         → why ≡ CrashNo.Disk) }

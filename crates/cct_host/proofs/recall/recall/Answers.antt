@@ -1,26 +1,21 @@
-use Rattle.std.proofs.Common.{arith, sym, ◌∙◌}
+use Rattle.std.proofs.Common.{ap, arith, ◌∙◌}
+use Rattle.cct_journal.specs.declared.place.Place.{Place}
 use Rattle.cct_host.proofs.Records.{went_all}
-use Rattle.cct_host.proofs.Starting.{nothing_put, nothing_reserved}
+use Rattle.cct_host.proofs.Starting.{free_together}
 use Rattle.cct_host.proofs.recall.recall.Goals as goal
 
-pub returns-clause-reserved : goal.returns-clause-reserved
-returns-clause-reserved g c =
-    c.loop-index.invariant.reserved ∙ sym (nothing_reserved c.loop-index.desks c.loop-index.invariant.unused)
+pub returns-clause-together : goal.returns-clause-together
+returns-clause-together g c =
+    let before = c.loop-index.invariant in
+    free_together c.loop-index.desks c.loop-index.ledger c.loop-index.journal before.unused before.same before.reserved
+    (omega (arith, before.counted, ap (λ (p : Place). p.used) before.reads.place, c.loop-index.auto.index-end, c.used-index-end.ensures.value))
 
-pub returns-clause-fits : goal.returns-clause-fits
-returns-clause-fits g c =
-    let none = nothing_put c.loop-index.desks c.loop-index.invariant.unused in
-    omega (arith, none, c.loop-index.journal.placed.fits)
-
-pub returns-in_err-recall_next-clause-reserved : goal.returns-in_err-recall_next-clause-reserved
-returns-in_err-recall_next-clause-reserved g c =
-    c.recall_next.ensures.reserved ∙ c.loop-index.invariant.reserved
-    ∙ sym (nothing_reserved c.recall_next.new.desks (c.recall_next.ensures.unused c.loop-index.invariant.unused))
-
-pub returns-in_err-recall_next-clause-fits : goal.returns-in_err-recall_next-clause-fits
-returns-in_err-recall_next-clause-fits g c =
-    let none = nothing_put c.recall_next.new.desks (c.recall_next.ensures.unused c.loop-index.invariant.unused) in
-    omega (arith, none, c.recall_next.new.journal.placed.fits)
+pub returns-in_err-recall_next-clause-together : goal.returns-in_err-recall_next-clause-together
+returns-in_err-recall_next-clause-together g c =
+    let before = c.loop-index.invariant in
+    let replays = c.recall_next.ensures.replays in
+    free_together c.recall_next.new.desks c.recall_next.new.ledger c.recall_next.new.journal
+    (replays.unused before.unused) replays.same (replays.reserved ∙ before.reserved) (omega arith)
 
 pub returns-clause-over : goal.returns-clause-over
 returns-clause-over g c records reads =

@@ -21,6 +21,6 @@ invariant-loop-index g l = record {
       (journals.place_of l.fn.journal) records
       → WentOverFirst l.desks l.ledger records l.index;
   fresh : l.index ≡ 0 → WentOver l.desks l.ledger [];
-  reads : OnlyReadIn l.fn.journal l.journal;
+  reads : OnlyReadIn l.fn.journal l.journal ⊥;
   untouched : l.index ≡ 0 → l.journal ≡ l.fn.journal;
 }

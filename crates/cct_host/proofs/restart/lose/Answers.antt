@@ -43,14 +43,14 @@ returns-in-Ok-clause-fails g c =
     let restarted = c.restart.ensures in
     let found = c.in-Ok.ensures in
     if_lost c.kept_in.result _ _ c.kept_in.ensures.lost
-    (λ why lost. record {
-      refused = λ setup. subst (RefusesCrash c.args.journal.now c.restart.new.self c.args.due setup) (sym lost.0)
+    (λ why lost setup. record {
+      refused = subst (RefusesCrash c.args.journal.now c.restart.new.self c.args.due setup) (sym lost.0)
           (found.counted, c.used-put.ensures.value, lost.1, found.found);
-      leaves = λ setup records stands.
+      leaves = λ records stands.
           let left = found.stands records stands in
           absurd (none_lost c.args.calls c.args.due records left.0 c.in-Ok.found c.used-put.result left.1
           (found.counted ∙ left.2.count) (c.used-put.ensures.value ∙ stands.count) lost.1);
-      cause = λ is. let told = lost.0 in absurd cc;
+      cause = record { later = restarted.later; rose = λ is. let told = lost.0 in absurd cc };
       cut = λ other. restarted.cut (λ is. cc);
       outlasts = record {
         same_size = restarted.size;
@@ -58,7 +58,6 @@ returns-in-Ok-clause-fails g c =
         same_telling = restarted.tells;
         later_cuts = restarted.cuts;
       };
-      later = restarted.later;
     })
 
 pub returns-in-Ok-clause-never : goal.returns-in-Ok-clause-never
@@ -70,12 +69,15 @@ returns-in-Ok-clause-never g c =
     (c.in-Ok.ensures.counted ∙ left.2.count) (c.used-put.ensures.value ∙ stands.count) lost.1))
 
 pub returns-in-Err-Disk-clause-fails : goal.returns-in-Err-Disk-clause-fails
-returns-in-Err-Disk-clause-fails g c =
+returns-in-Err-Disk-clause-fails g c setup =
     let restarted = c.restart.ensures in
     record {
-      refused = λ setup. tt;
-      leaves = λ setup records stands. c.in-Err-Disk.ensures.left records stands;
-      cause = λ is. restarted.cause (c.in-Err-Disk.is ∙ ap Err c.in-Err-Disk.field-0-is);
+      refused = tt;
+      leaves = λ records stands. c.in-Err-Disk.ensures.left records stands;
+      cause = record {
+        later = restarted.later;
+        rose = λ is. restarted.cause (c.in-Err-Disk.is ∙ ap Err c.in-Err-Disk.field-0-is);
+      };
       cut = λ other. absurd (other refl);
       outlasts = record {
         same_size = restarted.size;
@@ -83,17 +85,16 @@ returns-in-Err-Disk-clause-fails g c =
         same_telling = restarted.tells;
         later_cuts = restarted.cuts;
       };
-      later = restarted.later;
     }
 
 pub returns-in-Err-Alien-clause-fails : goal.returns-in-Err-Alien-clause-fails
-returns-in-Err-Alien-clause-fails g c =
+returns-in-Err-Alien-clause-fails g c setup =
     let restarted = c.restart.ensures in
     record {
-      refused = λ setup image tells. subst (λ why. RefusesOpen why image) c.in-Err-Alien.field-0-is
+      refused = λ image tells. subst (λ why. RefusesOpen why image) c.in-Err-Alien.field-0-is
           (c.in-Err-Alien.ensures.refused image tells);
-      leaves = λ setup records stands. c.in-Err-Alien.ensures.left records stands;
-      cause = λ is. absurd cc;
+      leaves = λ records stands. c.in-Err-Alien.ensures.left records stands;
+      cause = record { later = restarted.later; rose = λ is. absurd cc };
       cut = λ other. restarted.cut (λ is. cc);
       outlasts = record {
         same_size = restarted.size;
@@ -101,7 +102,6 @@ returns-in-Err-Alien-clause-fails g c =
         same_telling = restarted.tells;
         later_cuts = restarted.cuts;
       };
-      later = restarted.later;
     }
 
 pub returns-in-Err-Alien-clause-never : goal.returns-in-Err-Alien-clause-never
@@ -110,14 +110,14 @@ returns-in-Err-Alien-clause-never g c setup records stands =
     absurd cc
 
 pub returns-in-Err-BadRecord-clause-fails : goal.returns-in-Err-BadRecord-clause-fails
-returns-in-Err-BadRecord-clause-fails g c =
+returns-in-Err-BadRecord-clause-fails g c setup =
     let restarted = c.restart.ensures in
     record {
-      refused = λ setup image tells. inl (subst (IsBadAt image) (sym c.in-Err-BadRecord.index-is)
+      refused = λ image tells. inl (subst (IsBadAt image) (sym c.in-Err-BadRecord.index-is)
           (subst (λ why. RefusesOpen why image) c.in-Err-BadRecord.field-0-is
           (c.in-Err-BadRecord.ensures.refused image tells)));
-      leaves = λ setup records stands. c.in-Err-BadRecord.ensures.left records stands;
-      cause = λ is. absurd cc;
+      leaves = λ records stands. c.in-Err-BadRecord.ensures.left records stands;
+      cause = record { later = restarted.later; rose = λ is. absurd cc };
       cut = λ other. restarted.cut (λ is. cc);
       outlasts = record {
         same_size = restarted.size;
@@ -125,7 +125,6 @@ returns-in-Err-BadRecord-clause-fails g c =
         same_telling = restarted.tells;
         later_cuts = restarted.cuts;
       };
-      later = restarted.later;
     }
 
 pub returns-in-Err-BadRecord-clause-never : goal.returns-in-Err-BadRecord-clause-never

@@ -34,10 +34,11 @@ pub returns-in-Some-clause-fails : goal.returns-in-Some-clause-fails
 returns-in-Some-clause-fails g c =
     let restarts = restarts_at _ _ _ _ _ _ _ c.in-Ok.kept c.calls_in.ensures c.due_for-due.ensures.value
     c.in-Ok.ensures.restarts in
-    bad_fails _ _ c.args.choice c.args.journal.now c.lose.new.journal c.in-Ok.kept c.in-Some.index restarts
-    (λ setup records reads.
-    first_bad c.new-recalled.result c.lose.new.replay setup c.in-Some.index records c.in-Some.is ?
-    (c.in-Ok.ensures.told setup records reads))
+    let setup = setup_of c.args.desks.now in
+    bad_fails setup _ _ c.args.choice c.args.journal.now c.lose.new.journal c.in-Ok.kept c.in-Some.index restarts
+    (λ records reads.
+    first_bad c.new-recalled.result c.lose.new.replay setup c.in-Some.index records c.in-Some.is
+    (c.new-recalled.ensures.setup ∙ c.setup-setup.ensures) (c.in-Ok.ensures.told setup records reads))
 
 pub returns-in-Some-clause-never : goal.returns-in-Some-clause-never
 returns-in-Some-clause-never g c records stands follow fits =
@@ -53,12 +54,15 @@ returns-in-Some-clause-never g c records stands follow fits =
 
 pub returns-in-Err-clause-together : goal.returns-in-Err-clause-together
 returns-in-Err-clause-together g c =
-    free_together c.new.result c.new-in-Err.result c.lose.new.journal c.new.ensures.recalls.unused ? ? ?
+    free_together c.new.result c.new-in-Err.result c.lose.new.journal c.new.ensures.recalls.unused
+    (c.new-in-Err.ensures.setup ∙ sym c.new.ensures.setup) c.new-in-Err.ensures.reserved
+    (omega (arith, c.new-in-Err.ensures.counted))
 
 pub returns-in-Err-clause-fails : goal.returns-in-Err-clause-fails
 returns-in-Err-clause-fails g c =
-    subst (λ due. JournalFails due c.args.choice c.args.journal.now c.lose.new.journal c.in-Err.why)
-    c.due_for-due.ensures.value c.in-Err.ensures.fails
+    let setup = setup_of c.args.desks.now in
+    subst (λ due. JournalFails setup due c.args.choice c.args.journal.now c.lose.new.journal c.in-Err.why)
+    c.due_for-due.ensures.value (c.in-Err.ensures.fails setup)
 
 pub returns-in-Err-clause-never : goal.returns-in-Err-clause-never
 returns-in-Err-clause-never g c records stands follow fits =

@@ -2,7 +2,7 @@ use Rattle.std.proofs.Common.{ap, arith, refl, sym, ◌∙◌}
 use Rattle.cct_jobs.specs.Jobs.{need_of}
 use Rattle.cct_host.specs.Held.{put_in}
 use Rattle.cct_host.proofs.Attempts.{ask_attempts, asks_next, no_scan, put_attempts, puts_next, sells_next}
-use Rattle.cct_host.proofs.Holding.{ask_reserves, is_put_by, put_clears, put_ends_sale, put_left, sale_never_asks, some_put}
+use Rattle.cct_host.proofs.Holding.{ask_reserves, is_put_by, none_put, put_clears, put_ends_sale, put_left, sale_never_asks, some_put}
 use Rattle.cct_host.proofs.desk.JobDesk.attempt.Goals as goal
 
 pub returns-in-Exchange-clause-attempts : goal.returns-in-Exchange-clause-attempts
@@ -34,45 +34,30 @@ returns-in-Put-clause-attempts g c =
     c.id_left-self-in-Put.ensures)
     c.id_of-id.ensures
 
-pub returns-in-Exchange-clause-left : goal.returns-in-Exchange-clause-left
-returns-in-Exchange-clause-left g c =
+pub returns-in-Exchange-clause-frees : goal.returns-in-Exchange-clause-frees
+returns-in-Exchange-clause-frees g c =
+    let asks = sym c.needs.ensures.value ∙ c.in-Exchange.is in
+    let nothing = none_put c.args.job asks in
     let most = put_left c.converse-job.result _ c.args.addr _ _ c.settled-self.ensures.settled in
-    omega (arith, most, c.converse-job.ensures.holds.puts)
+    record {
+      left = omega (arith, most, c.converse-job.ensures.holds.puts);
+      puts = nothing _;
+      reserves = ask_reserves c.args.job c.converse-job.result _ c.args.addr _ _ c.converse-job.ensures.holds
+          c.settled-self.ensures.settled;
+      clears = nothing _;
+      sells = λ sells. sale_never_asks c.args.job _ sells asks;
+    }
 
-pub returns-in-Exchange-clause-reserves : goal.returns-in-Exchange-clause-reserves
-returns-in-Exchange-clause-reserves g c =
-    ask_reserves c.args.job c.converse-job.result _ c.args.addr _ _ c.converse-job.ensures.holds
-    c.settled-self.ensures.settled
-
-pub returns-in-Put-clause-left : goal.returns-in-Put-clause-left
-returns-in-Put-clause-left g c =
-    let most = put_left c.was_put.result _ c.args.addr _ _ c.settled-self-in-Put.ensures.settled in
-    omega (arith, most, c.was_put.ensures.may_put)
-
-pub returns-in-Put-clause-puts : goal.returns-in-Put-clause-puts
-returns-in-Put-clause-puts g c =
-    let most = put_left c.was_put.result _ c.args.addr _ _ c.settled-self-in-Put.ensures.settled in
-    some_put (need_of c.args.job) _ (omega (arith, most, c.was_put.ensures.may_put))
-
-pub returns-in-Put-clause-reserves : goal.returns-in-Put-clause-reserves
-returns-in-Put-clause-reserves g c =
+pub returns-in-Put-clause-frees : goal.returns-in-Put-clause-frees
+returns-in-Put-clause-frees g c =
+    let settled = c.settled-self-in-Put.ensures.settled in
+    let most = put_left c.was_put.result _ c.args.addr _ _ settled in
     let none = put_clears c.args.job c.was_put.result _ c.args.addr _ _
-    (is_put_by _ c.in-Put.entry (sym c.needs.ensures.value ∙ c.in-Put.is)) c.was_put.ensures.value
-    c.settled-self-in-Put.ensures.settled in
-    omega (arith, none)
-
-pub returns-in-Put-clause-clears : goal.returns-in-Put-clause-clears
-returns-in-Put-clause-clears g c =
-    some_put (need_of c.args.job) _
-    (put_clears c.args.job c.was_put.result _ c.args.addr _ _
-    (is_put_by _ c.in-Put.entry (sym c.needs.ensures.value ∙ c.in-Put.is)) c.was_put.ensures.value
-    c.settled-self-in-Put.ensures.settled)
-
-pub returns-in-Exchange-clause-sells : goal.returns-in-Exchange-clause-sells
-returns-in-Exchange-clause-sells g c = λ sells.
-    sale_never_asks c.args.job _ sells (sym c.needs.ensures.value ∙ c.in-Exchange.is)
-
-pub returns-in-Put-clause-sells : goal.returns-in-Put-clause-sells
-returns-in-Put-clause-sells g c = λ sells.
-    put_ends_sale c.args.job c.was_put.result _ c.args.addr _ _ sells c.was_put.ensures.value
-    c.settled-self-in-Put.ensures.settled
+    (is_put_by _ c.in-Put.entry (sym c.needs.ensures.value ∙ c.in-Put.is)) c.was_put.ensures.value settled in
+    record {
+      left = omega (arith, most, c.was_put.ensures.may_put);
+      puts = some_put (need_of c.args.job) _ (omega (arith, most, c.was_put.ensures.may_put));
+      reserves = omega (arith, none);
+      clears = some_put (need_of c.args.job) _ none;
+      sells = λ sells. put_ends_sale c.args.job c.was_put.result _ c.args.addr _ _ sells c.was_put.ensures.value settled;
+    }

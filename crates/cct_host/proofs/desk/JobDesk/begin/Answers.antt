@@ -23,23 +23,19 @@ returns-in-None-clause-commands c fits past is_last sits =
     (subst (Stands c.args.device.now c.begin.result c.args.command.now [] c.args.self.now.epoch) c.order.ensures.value
     (c.begin.ensures.device c.args.device.now c.requires.there fits c.requires.of_device)) sits
 
-pub returns-in-None-clause-holds : goal.returns-in-None-clause-holds
-returns-in-None-clause-holds c =
+pub returns-in-None-clause-takes : goal.returns-in-None-clause-takes
+returns-in-None-clause-takes c =
+    let setup = c.args.setup.now in
+    let device = c.args.device.now in
     let desk = c.args.self.now in
-    begun_holds c.args.setup.now c.args.device.now desk.job desk.epoch desk.dues c.args.last c.args.command.now c.begin.result
-    c.requires.no_halt c.requires.of_device (sym c.refusal.ensures ∙ c.in-None.is) c.requires.there
-    (c.begin.ensures.rows c.args.device.now c.requires.there c.requires.of_device)
-
-pub returns-in-None-clause-puts : goal.returns-in-None-clause-puts
-returns-in-None-clause-puts c =
-    let rows = c.begin.ensures.rows c.args.device.now c.requires.there c.requires.of_device
-    ∙ sym (rows_begin c.args.setup.now c.args.device.now c.args.command.now c.requires.of_device c.requires.there) in
-    let puts = ap puts_in rows in
-    omega (arith, puts)
-
-pub returns-in-None-clause-reserves : goal.returns-in-None-clause-reserves
-returns-in-None-clause-reserves c =
-    let desk = c.args.self.now in
-    begun_reserves c.args.setup.now c.args.device.now desk.job desk.epoch desk.dues c.args.last c.args.command.now
-    c.begin.result c.requires.no_halt c.requires.of_device (sym c.refusal.ensures ∙ c.in-None.is) c.requires.there
-    (c.begin.ensures.rows c.args.device.now c.requires.there c.requires.of_device)
+    let k = c.args.command.now in
+    let free = sym c.refusal.ensures ∙ c.in-None.is in
+    let rows = c.begin.ensures.rows device c.requires.there c.requires.of_device in
+    let puts = ap puts_in (rows ∙ sym (rows_begin setup device k c.requires.of_device c.requires.there)) in
+    record {
+      holds = begun_holds setup device desk.job desk.epoch desk.dues c.args.last k c.begin.result c.requires.no_halt
+          c.requires.of_device free c.requires.there rows;
+      puts = omega (arith, puts);
+      reserves = begun_reserves setup device desk.job desk.epoch desk.dues c.args.last k c.begin.result c.requires.no_halt
+          c.requires.of_device free c.requires.there rows;
+    }

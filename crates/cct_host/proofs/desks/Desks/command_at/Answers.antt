@@ -76,42 +76,29 @@ returns-in-Some-clause-answers c past stands =
       },
     )
 
-pub returns-in-Some-clause-holds : goal.returns-in-Some-clause-holds
-returns-in-Some-clause-holds c =
-    let ks = c.args.self.now.devices.items in
-    let i = c.in-Some.index in
-    let lent = c.as_slice-devices.ensures.value in
-    let within : i < length c.args.self.now.setup.now.devices = subst (λ ds. i < length ds) lent c.in-Some.ensures.within in
-    ok_by c.command.result _ _ c.command.ensures.holds
-    (sum_turn held_at ks _ i c.index-deref_mut-index.result c.command.new.self _ (needed c.args.self.now.setup.now c.args.command.now) c.deref_mut.ensures.value
-    (subst (λ n. i < n) (sym c.args.self.now.many) within))
-
-pub returns-in-Some-clause-puts : goal.returns-in-Some-clause-puts
-returns-in-Some-clause-puts c =
-    let ks = c.args.self.now.devices.items in
-    let i = c.in-Some.index in
-    let lent = c.as_slice-devices.ensures.value in
-    let within : i < length c.args.self.now.setup.now.devices =
-    subst (λ ds. i < length ds) lent c.in-Some.ensures.within in
-    ok_by c.command.result _ _ c.command.ensures.puts
-    (sum_turn puts_at ks _ i c.index-deref_mut-index.result c.command.new.self _
-    (puts_in (rows_begun c.args.self.now.setup.now c.args.command.now))
-    c.deref_mut.ensures.value (subst (λ n. i < n) (sym c.args.self.now.many) within))
-
-pub returns-in-Some-clause-reserves : goal.returns-in-Some-clause-reserves
-returns-in-Some-clause-reserves c =
+pub returns-in-Some-clause-takes : goal.returns-in-Some-clause-takes
+returns-in-Some-clause-takes c =
     let setup = c.args.self.now.setup.now in
+    let k = c.args.command.now in
     let ks = c.args.self.now.devices.items in
     let i = c.in-Some.index in
     let d = c.index-devices-index.result in
+    let y = c.index-deref_mut-index.result in
+    let x = c.command.new.self in
+    let kept = c.deref_mut.ensures.value in
     let lent = c.as_slice-devices.ensures.value in
     let found = found_in setup.devices _ c.args.addr _ i lent c.index_of.ensures.first c.in-Some.is in
     let within : i < length setup.devices = subst (λ ds. i < length ds) lent c.in-Some.ensures.within in
+    let there : i < length ks = subst (λ n. i < n) (sym c.args.self.now.many) within in
     let is = c.index-devices-index.is ∙ ap (λ ds. get_or ds i d) lent in
-    ok_by c.command.result _ _ c.command.ensures.reserves
-    (λ coins. reserved_turn setup ks _ i d c.args.addr c.index-deref_mut-index.result c.command.new.self
-    (coins_in (rows_begun setup c.args.command.now)) _ c.deref_mut.ensures.value c.args.self.now.many within is
-    (device_found setup.devices i d c.args.addr found is).2 coins
-    ∙ ap (λ n. reserved_of c.args.self.now + n)
-    (amount_asked setup d c.args.command.now c.args.addr c.requires.of_device c.requires.address
-    (ap (device_at setup.devices) c.requires.address ∙ (device_found setup.devices i d c.args.addr found is).1)))
+    let place = device_found setup.devices i d c.args.addr found is in
+    ok_by c.command.result _ _ c.command.ensures.takes
+    (λ takes. record {
+      holds = sum_turn held_at ks _ i y x _ (needed setup k) kept there takes.holds;
+      puts = sum_turn puts_at ks _ i y x _ (puts_in (rows_begun setup k)) kept there takes.puts;
+      reserves = reserved_turn setup ks _ i d c.args.addr y x (coins_in (rows_begun setup k)) _ kept
+          c.args.self.now.many within is place.2 takes.reserves
+          ∙ ap (λ n. reserved_of c.args.self.now + n)
+          (amount_asked setup d k c.args.addr c.requires.of_device c.requires.address
+          (ap (device_at setup.devices) c.requires.address ∙ place.1));
+    })

@@ -62,61 +62,10 @@ bare_next-requires-clause-nobody g c =
     let first = c.index_of.ensures.first ∙ ap (position (is_at c.args.addr)) c.as_slice.ensures.value in
     desk_absent setup.devices c.args.self.now.devices.items c.args.addr (sym first ∙ c.in-None.is)
 
-pub returns-in-Some-clause-left : goal.returns-in-Some-clause-left
-returns-in-Some-clause-left g c =
-    let setup = c.args.self.now.setup.now in
-    let ks = c.args.self.now.devices.items in
-    let i = c.in-Some.index in
-    let y = c.index-deref_mut-index.result in
-    let x = c.next-used.new.self in
-    let lent = c.as_slice.ensures.value in
-    let kept = c.deref_mut.ensures.value in
-    let found = found_in setup.devices _ c.args.addr _ i lent c.index_of.ensures.first c.in-Some.is in
-    let within : i < length setup.devices = subst (λ ds. i < length ds) lent c.in-Some.ensures.within in
-    let there : i < length ks = subst (λ n. i < n) (sym c.args.self.now.many) within in
-    let less = sum_turn puts_at ks _ i y x (puts_at c.args.self.now.sale) 0 kept there
-    (omega (arith, c.next-used.ensures.left)) in
-    omega (arith, less)
-
-pub returns-in-Some-clause-puts : goal.returns-in-Some-clause-puts
-returns-in-Some-clause-puts g c =
-    let setup = c.args.self.now.setup.now in
-    let ks = c.args.self.now.devices.items in
-    let i = c.in-Some.index in
-    let y = c.index-deref_mut-index.result in
-    let x = c.next-used.new.self in
-    let lent = c.as_slice.ensures.value in
-    let kept = c.deref_mut.ensures.value in
-    let found = found_in setup.devices _ c.args.addr _ i lent c.index_of.ensures.first c.in-Some.is in
-    let within : i < length setup.devices = subst (λ ds. i < length ds) lent c.in-Some.ensures.within in
-    let there : i < length ks = subst (λ n. i < n) (sym c.args.self.now.many) within in
-    some_by _ _ _ _
-    (ap (due_at_desk c.args.self.now.sale c.args.addr)
-    (desk_found setup.devices ks ks c.args.addr i (get_or _ i y) refl (desk_lent ks _ i y kept c.index-deref_mut-index.is)
-    c.args.self.now.many within found))
-    c.next-used.ensures.puts (sum_falls puts_at ks _ i y x _ kept there)
-
-pub returns-in-Some-clause-reserves : goal.returns-in-Some-clause-reserves
-returns-in-Some-clause-reserves g c =
-    let setup = c.args.self.now.setup.now in
-    let ks = c.args.self.now.devices.items in
-    let i = c.in-Some.index in
-    let y = c.index-deref_mut-index.result in
-    let x = c.next-used.new.self in
-    let lent = c.as_slice.ensures.value in
-    let kept = c.deref_mut.ensures.value in
-    let found = found_in setup.devices _ c.args.addr _ i lent c.index_of.ensures.first c.in-Some.is in
-    let within : i < length setup.devices = subst (λ ds. i < length ds) lent c.in-Some.ensures.within in
-    let there : i < length ks = subst (λ n. i < n) (sym c.args.self.now.many) within in
-    let amount = amount_at_desk setup c.args.self.now.sale c.args.addr in
-    let before = ap amount (desk_found setup.devices ks ks c.args.addr i (get_or _ i y) refl
-    (desk_lent ks _ i y kept c.index-deref_mut-index.is) c.args.self.now.many within found) in
-    let after = ap amount (desk_turned setup.devices ks _ c.args.addr i x kept there found) in
-    less_coins setup c.args.addr _ _ _ _ c.next-used.ensures.reserves before after
-
 pub returns-in-Some-clause-frees : goal.returns-in-Some-clause-frees
 returns-in-Some-clause-frees g c =
     let setup = c.args.self.now.setup.now in
+    let sale = c.args.self.now.sale in
     let ks = c.args.self.now.devices.items in
     let i = c.in-Some.index in
     let y = c.index-deref_mut-index.result in
@@ -128,29 +77,20 @@ returns-in-Some-clause-frees g c =
     let there : i < length ks = subst (λ n. i < n) (sym c.args.self.now.many) within in
     let this = at_this setup.devices i within in
     let place = device_found setup.devices i this.0 c.args.addr found this.1 in
-    let amount = amount_at_desk setup c.args.self.now.sale c.args.addr in
-    reserved_freed setup ks _ i this.0 c.args.addr y x _ _ _ kept c.args.self.now.many within this.1 place.2
-    (ap amount (desk_found setup.devices ks ks c.args.addr i (get_or _ i y) refl
-    (desk_lent ks _ i y kept c.index-deref_mut-index.is) c.args.self.now.many within found))
-    (ap amount (desk_turned setup.devices ks _ c.args.addr i x kept there found))
-    c.next-used.ensures.reserves
-
-pub returns-in-Some-clause-clears : goal.returns-in-Some-clause-clears
-returns-in-Some-clause-clears g c =
-    let setup = c.args.self.now.setup.now in
-    let ks = c.args.self.now.devices.items in
-    let i = c.in-Some.index in
-    let y = c.index-deref_mut-index.result in
-    let lent = c.as_slice.ensures.value in
-    let kept = c.deref_mut.ensures.value in
-    let found = found_in setup.devices _ c.args.addr _ i lent c.index_of.ensures.first c.in-Some.is in
-    let within : i < length setup.devices = subst (λ ds. i < length ds) lent c.in-Some.ensures.within in
-    let there : i < length ks = subst (λ n. i < n) (sym c.args.self.now.many) within in
-    some_by _ _ _ _
-    (ap (due_at_desk c.args.self.now.sale c.args.addr)
-    (desk_found setup.devices ks ks c.args.addr i (get_or _ i y) refl (desk_lent ks _ i y kept c.index-deref_mut-index.is)
-    c.args.self.now.many within found))
-    c.next-used.ensures.clears
-    (λ none. ap (amount_at_desk setup c.args.self.now.sale c.args.addr)
-    (desk_turned setup.devices ks _ c.args.addr i c.next-used.new.self kept there found)
-    ∙ ap (coins_of setup c.args.addr) none ∙ no_coins _)
+    let here = desk_found setup.devices ks ks c.args.addr i (get_or _ i y) refl
+    (desk_lent ks _ i y kept c.index-deref_mut-index.is) c.args.self.now.many within found in
+    let amount = amount_at_desk setup sale c.args.addr in
+    let due = ap (due_at_desk sale c.args.addr) here in
+    let before = ap amount here in
+    let after = ap amount (desk_turned setup.devices ks _ c.args.addr i x kept there found) in
+    let frees = c.next-used.ensures.frees in
+    let less = sum_turn puts_at ks _ i y x (puts_at sale) 0 kept there (omega (arith, frees.left)) in
+    record {
+      setup = refl;
+      left = omega (arith, less);
+      puts = some_by _ _ _ _ due frees.puts (sum_falls puts_at ks _ i y x _ kept there);
+      reserves = less_coins setup c.args.addr _ _ _ _ frees.reserves before after;
+      clears = some_by _ _ _ _ due frees.clears (λ none. after ∙ ap (coins_of setup c.args.addr) none ∙ no_coins _);
+      frees = reserved_freed setup ks _ i this.0 c.args.addr y x _ _ _ kept c.args.self.now.many within this.1 place.2
+          before after frees.reserves;
+    }
