@@ -57,6 +57,11 @@ pub if_both_lost : {T : Type 0} (result : Result T CrashNo) (P Q R : CrashNo →
 if_both_lost (Ok x) P Q R p q goes = tt
 if_both_lost (Err why) P Q R p q goes = goes why p q
 
+-- what is given is no error
+pub no_error : {T E : Type 0} (result : Result T E) (x : T) (why : E) → result ≡ Ok x → result ≡ Err why → ⊥
+no_error (Ok y) x why is fails = absurd cc
+no_error (Err y) x why is fails = absurd cc
+
 -- the records that are left are those that were put, with what was kept
 
 one_more : (rs : List Record) (r : Record) (many : ℕ) → many ≡ length (rs ++ r ∷ []) → many ≡ length rs + 1
@@ -317,19 +322,20 @@ module _ {D : Type 0} {g : Ghosts D} where
       }
 
   -- and one that fails
-  pub fails_by : (old new : Host D g) (at : Option CrashAt) (choice : ℕ) (why : CrashNo)
+  pub fails_by : (old : Host D g) (new : Journal D g) (at : Option CrashAt) (choice : ℕ) (why : CrashNo)
       → ((past : List Entry) → all_desks.StandsFor old.desks past → due_of old at ≡ due_in (setup_of old) past at)
-      → JournalFails (setup_of old) (due_of old at) choice (journal_of old) (journal_of new) why
+      → JournalFails (setup_of old) (due_of old at) choice (journal_of old) new why
       → ((rs : List Record)
       → HasBook (setup_of old) g.honest g.seen g.may_leave (disk_of old) (journals.place_of (journal_of old)) rs
       → all_follow (setup_of old) (reverse rs) ≡ true
       → IfSome (due_of old at) (λ r. follows (setup_of old) (reverse rs) r ≡ true) → why ≡ crash_no.Disk)
-      → RestartFails old at choice (disk_of new) why
+      → RestartFails old at choice (journals.disk_of new) why
   fails_by old new at choice why due fails never = record {
-    refused = (journal_of new, refl, fails.refused);
+    refused = (new, refl, fails.refused);
     never = λ past stands suits trusted. never_by old past at (why ≡ crash_no.Disk) due never stands suits trusted;
     leaves = λ past stands trusted.
-        subst (λ d. LeavesBook (setup_of old) g.honest g.seen g.may_leave (disk_of new) d (reverse (records past)))
+        subst
+        (λ d. LeavesBook (setup_of old) g.honest g.seen g.may_leave (journals.disk_of new) d (reverse (records past)))
         (due past stands.keeps.desks)
         (fails.leaves (reverse (records past)) (stands.book trusted));
     due = λ past stands. due past stands.keeps.desks;

@@ -1,12 +1,15 @@
 -- A host goes over the records of its journal, oldest first.
 use Rattle.std.proofs.Common.{◌≡◌, ℕ, ◌+◌, ◌&&◌, Bool, true, false, List, [], ◌∷◌, ◌++◌, length, reverse, slice_get, Option, Some, None, refl, sym, ap, subst, ◌∙◌, arith, append_assoc, append-nil, length-append, true≢false}
 use Rattle.std.specs.Option.{is_some}
+use Rattle.std.specs.Prelude.{Err, IfErr, IsErr, IsErrAnd, Ok, Result}
 use Rattle.std.proofs.lemmas.Bool.{and_from}
 use Rattle.std.proofs.lemmas.List.{length-reverse, nil_from_length, reverse-append, reverse-reverse}
 use Rattle.cct_model.specs.terms.device.Setup.{Setup}
 use Rattle.cct_model.specs.lines.record.Record.{Record}
 use Rattle.cct_model.specs.lines.record.Record.TheVariants as record_of
 use Rattle.cct_model.specs.Following.{all_follow, follows, is_allowed}
+use Rattle.cct_journal.specs.declared.refusal.ReadNo.{ReadNo}
+use Rattle.cct_journal.specs.declared.refusal.ReadNo.TheVariants.{Disk}
 use Rattle.cct_ledger.specs.declared.ledger.Ledger.{Ledger}
 use Rattle.cct_ledger.specs.Ledger as ledgers
 use Rattle.cct_ledger.specs.Told.{is_of_money}
@@ -15,7 +18,7 @@ use Rattle.cct_host.specs.declared.desks.Desks.{Desks}
 use Rattle.cct_host.specs.Desks as all_desks
 use Rattle.cct_host.specs.Recalled.{Recalls}
 use Rattle.cct_host.specs.Replaying.{GoesOver}
-use Rattle.cct_host.specs.Starting.{IsFirstBad, WentOver, WentOverFirst}
+use Rattle.cct_host.specs.Starting.{IsFirstBad, RefusesStart, WentOver, WentOverFirst}
 
 -- the record behind the first ones
 
@@ -104,6 +107,14 @@ ledger_refuses desks ledger entry same epochs judges before over =
     (λ _. refl)) ∙ ap (λ s. is_allowed s before 0 entry) (sym same) ∙ sym (judges before 0 over.money)
 
 -- where the records are those that a read gives
+
+-- one that a read gives isn't read only where the disk failed
+pub unread : (result : Result Unit ReadNo) (why : ReadNo) (setup : Setup) (P Q : List Record → Type 0)
+    → IsErr result × IsErrAnd result (λ e. e ≡ why) → ((rs : List Record) → P rs → why ≡ Disk)
+    → IfErr result (λ e. (rs : List Record) → P rs → Q rs → RefusesStart e setup rs)
+unread (Ok done) why setup P Q passed never = tt
+unread (Err e) why setup P Q passed never = λ rs reads went.
+    subst (λ n. RefusesStart n setup rs) (sym (passed.1 ∙ never rs reads)) tt
 
 pub went_next : (old new : Desks) (ledger posted : Ledger) (rs : List Record) (index : ℕ) (entry : Record)
     → slice_get rs index ≡ Some entry

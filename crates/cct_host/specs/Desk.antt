@@ -99,9 +99,9 @@ puts_at desk = puts_left desk.job
 
 -- A taken command takes room at a desk: for so many records that are held and so many that the job may put, at most; and
 -- its job reserves so much more.
-pub record Takes (held puts : ℕ) (reserved : Option Job → ℕ) (amount : ℕ) (old new : JobDesk) : Type 0 where
-  pub holds : held_at new ≤ held_at old + held
-  pub puts : puts_at new ≤ puts_at old + puts
+pub record Takes (need begun : ℕ) (reserved : Option Job → ℕ) (amount : ℕ) (old new : JobDesk) : Type 0 where
+  pub holds : held_at new ≤ held_at old + need
+  pub puts : puts_at new ≤ puts_at old + begun
   pub reserves : reserved new.job ≡ reserved old.job + amount
 
 -- The same of a command to a device, by the rows that it begins.

@@ -103,17 +103,17 @@ module _ {D : Type 0} {g : Ghosts D} where
 
   -- No host starts over a journal after such a power cut, for this reason.
   pub record JournalFails (setup : Setup) (due : Option Record) (choice : ℕ) (old new : Journal D g) (why : CrashNo) : Type 0
-      where
-    -- why, and what the disk may then keep
-    pub refused : RefusesCrash old new due setup why
-    pub leaves : (records : List Record)
-        → HasBook setup g.honest g.seen g.may_leave (journals.disk_of old) (journals.place_of old) records
-        → LeavesBook setup g.honest g.seen g.may_leave (journals.disk_of new) due records
-    pub cause : Caused (g.faults (journals.disk_of old)) (g.faults (journals.disk_of new)) (why ≡ Disk)
-    -- the disk
-    pub cut : why ≢ Disk
-        → CutOnce g.size g.honest g.seen g.cuts g.cut_to choice (journals.disk_of old) (journals.disk_of new)
-    pub outlasts : Outlasts g.size g.honest g.seen g.cuts (journals.disk_of old) (journals.disk_of new)
+    where
+      -- why, and what the disk may then keep
+      pub refused : RefusesCrash old new due setup why
+      pub leaves : (records : List Record)
+          → HasBook setup g.honest g.seen g.may_leave (journals.disk_of old) (journals.place_of old) records
+          → LeavesBook setup g.honest g.seen g.may_leave (journals.disk_of new) due records
+      pub cause : Caused (g.faults (journals.disk_of old)) (g.faults (journals.disk_of new)) (why ≡ Disk)
+      -- the disk
+      pub cut : why ≢ Disk
+          → CutOnce g.size g.honest g.seen g.cuts g.cut_to choice (journals.disk_of old) (journals.disk_of new)
+      pub outlasts : Outlasts g.size g.honest g.seen g.cuts (journals.disk_of old) (journals.disk_of new)
 
   -- The record that is due at a host where a loss of power comes, if one is.
   abbrev pub due_of : Host D g → Option CrashAt → Option Record

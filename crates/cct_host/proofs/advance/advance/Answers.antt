@@ -1,5 +1,6 @@
-use Rattle.std.proofs.Common.{◌≡◌, ◌+◌, ◌-◌, ◌≤◌, ◌++◌, ◌∙◌, ap, length, refl, reverse, subst, sym, true}
+use Rattle.std.proofs.Common.{◌≡◌, ◌+◌, ◌-◌, ◌≤◌, ◌++◌, ◌∙◌, Option, ap, length, refl, reverse, subst, sym, true}
 use Rattle.std.specs.Option.{IfSome}
+use Rattle.cct_model.specs.lines.record.Record.{Record}
 use Rattle.cct_model.specs.Following.{is_allowed}
 use Rattle.cct_model.specs.Money.{freed_by, reserved_at_work}
 use Rattle.cct_model.specs.Records.{records}
@@ -20,7 +21,7 @@ returns-clause-advances g c =
     let setup = setup_of c.args.desks.now in
     let put = c.in_ok-put.ensures.puts in
     let goes = c.go_on.ensures.together in
-    let counted = λ d. journals.used_of c.args.journal.now + length (put_by d) in
+    let counted = λ (d : Option Record). journals.used_of c.args.journal.now + length (put_by d) in
     record {
       whole = put.whole;
       nexts = c.go_on.ensures.nexts;
@@ -54,7 +55,9 @@ returns-in_err-put-clause-fails g c =
       desks_stay = refl;
       ledger_stays = refl;
       place = failed.place;
-      fails = λ past stands.
-          (failed.left.0, sym (c.due-due.ensures.stands past stands) ∙ failed.left.1,
-          failed.left.2 (setup_of c.args.desks.now));
+      fails = λ past stands. (
+        failed.left.0,
+        sym (c.due-due.ensures.stands past stands) ∙ failed.left.1,
+        failed.left.2 (setup_of c.args.desks.now),
+      );
     })

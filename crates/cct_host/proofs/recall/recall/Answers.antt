@@ -14,8 +14,11 @@ pub returns-in_err-recall_next-clause-together : goal.returns-in_err-recall_next
 returns-in_err-recall_next-clause-together g c =
     let before = c.loop-index.invariant in
     let replays = c.recall_next.ensures.replays in
+    let first = ap (λ (p : Place). p.used) before.reads.place in
+    let next = ap (λ (p : Place). p.used) c.recall_next.ensures.reads.place in
     free_together c.recall_next.new.desks c.recall_next.new.ledger c.recall_next.new.journal
-    (replays.unused before.unused) replays.same (replays.reserved ∙ before.reserved) (omega arith)
+    (replays.unused before.unused) replays.same (replays.reserved ∙ before.reserved)
+    (omega (arith, replays.counted, before.counted, c.loop-index-test.true, c.used-index-end.ensures.value, first, next))
 
 pub returns-clause-over : goal.returns-clause-over
 returns-clause-over g c records reads =

@@ -6,7 +6,7 @@ use Rattle.cct_journal.specs.Opening.{RefusesOpen}
 use Rattle.cct_host.specs.Book.{HasBook}
 use Rattle.cct_host.specs.Host.{put_by}
 use Rattle.cct_host.specs.Restarting.{RefusesCrash}
-use Rattle.cct_host.proofs.Losses.{if_kept, if_lost, kept_is, none_lost}
+use Rattle.cct_host.proofs.Losses.{if_kept, if_lost, kept_is, no_error, none_lost}
 use Rattle.cct_host.proofs.restart.lose.Goals as goal
 
 pub returns-in-Ok-clause-restarts : goal.returns-in-Ok-clause-restarts
@@ -28,7 +28,7 @@ returns-in-Ok-clause-restarts g c =
             subst (HasBook setup g.D.Disk.honest g.D.Disk.seen g.D.Disk.may_leave (journals.disk_of c.restart.new.self)
                 (journals.place_of c.restart.new.self)) is.1 left.2,
           );
-      cut = restarted.cut (λ is. cc);
+      cut = restarted.cut (λ no. no_error c.restart.result c.in-Ok.found _ c.in-Ok.is no);
       outlasts = record {
         same_size = restarted.size;
         same_honest = restarted.honest;
@@ -51,7 +51,7 @@ returns-in-Ok-clause-fails g c =
           absurd (none_lost c.args.calls c.args.due records left.0 c.in-Ok.found c.used-put.result left.1
           (found.counted ∙ left.2.count) (c.used-put.ensures.value ∙ stands.count) lost.1);
       cause = record { later = restarted.later; rose = λ is. let told = lost.0 in absurd cc };
-      cut = λ other. restarted.cut (λ is. cc);
+      cut = λ other. restarted.cut (λ no. no_error c.restart.result c.in-Ok.found _ c.in-Ok.is no);
       outlasts = record {
         same_size = restarted.size;
         same_honest = restarted.honest;

@@ -7,8 +7,9 @@ returns-in-None-clause-answers g c =
     tried_answers c.args.self.now _ c.args.command.now c.take.result c.in-None.ensures.stands
     c.take.ensures.answers c.take.ensures.together.stands refl
 
-pub invariant_of-self-clause-together : goal.invariant_of-self-clause-together
-invariant_of-self-clause-together g c =
-    together_taken c.args.self.now.desks c.take.new.desks c.args.self.now.ledger c.take.new.ledger _
-    c.args.command.now c.take.result c.args.self.now.together c.take.ensures.together c.take.ensures.takes
-    c.take.ensures.stays (c.room_refusal.ensures.fits c.in-None.is)
+pub invariant_of-self : goal.invariant_of-self
+invariant_of-self g c = record {
+  together = together_taken c.args.self.now.desks c.take.new.desks c.args.self.now.ledger c.take.new.ledger _
+      c.args.command.now c.take.result c.args.self.now.together c.take.ensures.together c.take.ensures.takes
+      c.take.ensures.stays (c.room_refusal.ensures.fits c.in-None.is);
+}

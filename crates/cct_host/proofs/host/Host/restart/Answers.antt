@@ -12,4 +12,4 @@ pub returns-clause-fails : goal.returns-clause-fails
 returns-clause-fails g c =
     if_both_lost c.restart.result _ _ _ c.restart.ensures.fails c.restart.ensures.never
     (λ why fails never.
-    fails_by c.args.self.now _ c.args.at c.args.choice why c.restart.ensures.due fails never)
+    fails_by c.args.self.now c.restart.new.journal c.args.at c.args.choice why c.restart.ensures.due fails never)
