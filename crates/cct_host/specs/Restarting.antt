@@ -7,7 +7,7 @@ use Rattle.cct_model.specs.lines.record.Record.{Record}
 use Rattle.cct_model.specs.lines.entry.Entry.{Entry}
 use Rattle.cct_model.specs.lines.entry.Entry.TheVariants as entry
 use Rattle.cct_edge.specs.Faults.{Caused}
-use Rattle.cct_model.specs.Legal.{EntriesOfCrash}
+use Rattle.cct_model.specs.Legal.{EntriesOfRestart}
 use Rattle.cct_model.specs.Records as model_records
 use Rattle.cct_disk.specs.declared.disk.Disk.{Ghosts}
 use Rattle.cct_disk.specs.Disk.{IsTrusted}
@@ -15,7 +15,7 @@ use Rattle.cct_journal.specs.declared.journal.Journal.{Journal}
 use Rattle.cct_journal.specs.Image.{IsAlien, IsBadAt}
 use Rattle.cct_journal.specs.Journal as journals
 use Rattle.cct_journal.specs.Stands.{CutOnce, Outlasts}
-use Rattle.cct_laws.specs.Restart.{CrashSuits, due_in}
+use Rattle.cct_laws.specs.Restart.{RestartSuits, due_in}
 use Rattle.cct_host.specs.declared.desks.Desks.{Desks}
 use Rattle.cct_host.specs.declared.host.Host.{Host}
 use Rattle.cct_host.specs.declared.refusal.CrashNo.{CrashNo}
@@ -124,7 +124,7 @@ module _ {D : Type 0} {g : Ghosts D} where
   abbrev pub Crashes : Host D g → Host D g → Option CrashAt → Crashed → Type 0
   Crashes old new at crashed =
       (past : List Entry) → StandsFor old past → IsTrusted g.honest g.seen (disk_of old)
-      → EntriesOfCrash (setup_of old) past at (crash_news crashed) × StandsFor new (crash_news crashed ++ past)
+      → EntriesOfRestart (setup_of old) past at (crash_news crashed) × StandsFor new (crash_news crashed ++ past)
 
   -- A host starts again after a power cut, by this choice, over what its disk then keeps.
   pub record Restarts (old : Host D g) (at : Option CrashAt) (choice : ℕ) (new : Host D g) (crashed : Crashed) : Type 0 where
@@ -149,7 +149,7 @@ module _ {D : Type 0} {g : Ghosts D} where
   pub record RestartFails (old : Host D g) (at : Option CrashAt) (choice : ℕ) (left : D) (why : CrashNo) : Type 0 where
     -- why, and what the disk may then keep
     pub refused : RefusesWith (journal_of old) (due_of old at) (setup_of old) left why
-    pub never : (past : List Entry) → StandsFor old past → CrashSuits (setup_of old) past at
+    pub never : (past : List Entry) → StandsFor old past → RestartSuits (setup_of old) past at
         → IsTrusted g.honest g.seen (disk_of old) → why ≡ Disk
     pub leaves : (past : List Entry) → StandsFor old past → IsTrusted g.honest g.seen (disk_of old)
         → LeavesBook (setup_of old) g.honest g.seen g.may_leave left (due_in (setup_of old) past at)

@@ -14,7 +14,7 @@ ghost use Rattle.cct_disk.specs.Disk.{IsTrusted, OnlyReads};
 ghost use Rattle.cct_journal.specs.Image.{capacity_of};
 ghost use Rattle.cct_journal.specs.Journal as journals;
 ghost use Rattle.cct_journal.specs.Stands.{CutOnce, GoesOn, Outlasts};
-ghost use Rattle.cct_laws.specs.Restart.{CrashSuits, due_in};
+ghost use Rattle.cct_laws.specs.Restart.{RestartSuits, due_in};
 ghost use Rattle.cct_ledger.specs.Ledger as ledgers;
 ghost use Rattle.cct_host.specs.Desks as all_desks;
 ghost use Rattle.cct_host.specs.Parts.{BelongTogether, BelongTogether-prop, GoOnTogether};

@@ -17,7 +17,7 @@ use Rattle.cct_journal.specs.declared.journal.Journal.{Journal}
 use Rattle.cct_journal.specs.Image.{IsBadAt}
 use Rattle.cct_journal.specs.Journal as journals
 use Rattle.cct_journal.specs.Stands.{CutOnce, Outlasts}
-use Rattle.cct_laws.specs.Restart.{CrashSuits}
+use Rattle.cct_laws.specs.Restart.{RestartSuits}
 use Rattle.cct_host.specs.declared.host.Host.{Host}
 use Rattle.cct_host.specs.declared.refusal.CrashNo.{CrashNo}
 use Rattle.cct_host.specs.declared.refusal.CrashNo.TheVariants as crash_no
@@ -115,7 +115,7 @@ module _ {D : Type 0} {g : Ghosts D} where
 
   crash_loses : (old : Machine D g) (at : Option CrashAt) (choice : ℕ) (left : D) (why : CrashNo)
       → (why ≡ crash_no.Disk → ⊥) → restarting.RestartFails old.host at choice left why
-      → ((past : List Entry) → StandsFor old past → CrashSuits (hosts.setup_of old.host) past at
+      → ((past : List Entry) → StandsFor old past → RestartSuits (hosts.setup_of old.host) past at
       → IsTrusted g.honest g.seen (hosts.disk_of old.host) → ⊥)
       × DueAsTold old at
       × Loses (hosts.setup_of old.host) (journals.used_of (hosts.journal_of old.host)) (due_of old.host at) (g.seen left) why
