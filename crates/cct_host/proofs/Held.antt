@@ -31,7 +31,7 @@ use Rattle.cct_jobs.specs.declared.stage.Stage.TheVariants.{IdentAsks, Reads, Lo
 use Rattle.cct_jobs.specs.declared.target.Target.{Target}
 use Rattle.cct_jobs.specs.declared.stage.ReadBy.TheVariants.{Round, Stop}
 use Rattle.cct_jobs.specs.Ahead.{ahead, coins_in, price_in, stage_ahead}
-use Rattle.cct_jobs.specs.Jobs.{Needs, Stands, end_of_job, need_of, newest_end, order_of}
+use Rattle.cct_jobs.specs.Jobs.{Needs, Stands, end_of_job, need_of, newest_end, order_of, put_in}
 use Rattle.cct_jobs.specs.Sales.{NeedsSale, StandsSale, newest_sale_end}
 use Rattle.cct_jobs.proofs.Needs.{end_known, may_put_known, need_known}
 use Rattle.cct_jobs.proofs.Reserves.{closes_known, frees_by, reserves_known}
@@ -41,7 +41,7 @@ use Rattle.cct_host.specs.declared.desk.JobDesk.{JobDesk}
 use Rattle.cct_host.specs.declared.desks.Desks.{Desks}
 use Rattle.cct_host.specs.Desk.{AllSit, Sits, Works, held_at, held_in, reserved_over}
 use Rattle.cct_host.specs.Desks.{StandsFor, amount_at_desk, due_at_desk, held_of, reserved_of, setup_of}
-use Rattle.cct_host.specs.Held.{coins_by, due_by, held_by, order_left, price_by, put_in, puts_left}
+use Rattle.cct_host.specs.Held.{coins_by, due_by, held_by, order_left, price_by, puts_left}
 use Rattle.cct_host.specs.Place.{device, sales}
 use Rattle.cct_host.specs.Running.{is_running}
 

@@ -27,11 +27,11 @@ use Rattle.cct_jobs.specs.declared.job.Job.TheVariants.{StartPuts, RoundPuts, St
 use Rattle.cct_jobs.specs.declared.job.Need.{Need}
 use Rattle.cct_jobs.specs.declared.job.Need.TheVariants as need
 use Rattle.cct_jobs.specs.Ahead.{ahead, coins_in, price_in}
-use Rattle.cct_jobs.specs.Jobs.{IsPut, after_put, end_of_job, is_of_device, need_of, order_of}
+use Rattle.cct_jobs.specs.Jobs.{IsPut, after_put, end_of_job, is_of_device, need_of, order_of, put_in}
+use Rattle.cct_jobs.specs.Onward.{KeepsTo}
 use Rattle.cct_jobs.specs.Sales.{StandsSale}
 use Rattle.cct_host.specs.declared.dues.Dues.{Dues}
-use Rattle.cct_host.specs.Exchange.{HoldsLess}
-use Rattle.cct_host.specs.Held.{coins_by, due_by, held_by, order_left, price_by, put_in, puts_left, sells_only}
+use Rattle.cct_host.specs.Held.{coins_by, due_by, held_by, order_left, price_by, puts_left, sells_only}
 use Rattle.cct_host.specs.Running.{Settles, busy_by, halting_refusal, is_halt, needed, refusal_beside, rows_begun, sale_refusal, seen_at}
 use Rattle.cct_laws.proofs.jobs.Tests.{Pass, all_pass}
 use Rattle.cct_host.proofs.Commands.{owed_where_free}
@@ -49,16 +49,16 @@ pub put_left : (new : Job) (kept : Option Job) (addr : ℕ) (report reported : L
 put_left new kept addr report reported settled = put_left_by (end_of_job new) new kept addr report reported settled
 
 coins_left_by : (end : Option End) (old new : Job) (kept : Option Job) (addr : ℕ)
-    (report reported : List Entry) → HoldsLess old new → Settles end new addr kept report reported
+    (report reported : List Entry) → KeepsTo (ahead old) new → Settles end new addr kept report reported
     → coins_by kept ≤ coins_by (Some old)
 coins_left_by None old new kept addr report reported less settled =
-    subst (λ k. coins_by k ≤ coins_by (Some old)) (sym settled.0) less.coins
+    subst (λ k. coins_by k ≤ coins_by (Some old)) (sym settled.0) less.reserves
 coins_left_by (Some end) old new kept addr report reported less settled =
     subst (λ k. coins_by k ≤ coins_by (Some old)) (sym settled.0) (omega arith)
 
 -- after an exchange
 pub ask_reserves : (old new : Job) (kept : Option Job) (addr : ℕ) (report reported : List Entry)
-    → HoldsLess old new → Settles (end_of_job new) new addr kept report reported
+    → KeepsTo (ahead old) new → Settles (end_of_job new) new addr kept report reported
     → coins_by kept ≤ coins_by (Some old)
 ask_reserves old new kept addr report reported less settled =
     coins_left_by (end_of_job new) old new kept addr report reported less settled

@@ -23,7 +23,7 @@ use Rattle.cct_jobs.specs.Jobs.{ClosesItsOwn}
 use Rattle.cct_host.specs.declared.desk.JobDesk.{JobDesk}
 use Rattle.cct_host.specs.declared.desks.Desks.{Desks}
 use Rattle.cct_host.specs.Desk.{AllSit, Sits, greatest_paying}
-use Rattle.cct_host.specs.Desks.{StandsFor, setup_of, working_id}
+use Rattle.cct_host.specs.Desks.{FindsDesk, StandsFor, desk_there, setup_of, working_id}
 use Rattle.cct_model.specs.Records.{greatest_id, records}
 use Rattle.cct_model.specs.Refusal.{greatest_running, last_id, running_id}
 use Rattle.cct_model.specs.Transcript.{lines_of}
@@ -108,6 +108,59 @@ desk_found ds ks items addr i k lent is many within found =
 pub desk_absent : (ds : List DeviceSetup) (ks : List JobDesk) (addr : ℕ) → position (is_at addr) ds ≡ None
     → option_and_then (slice_get ks) (position (is_at addr) ds) ≡ None
 desk_absent ds ks addr none = ap (option_and_then (slice_get ks)) none
+
+-- an index in a setup that was lent is one of the desks
+pub found_within : (desks : Desks) (lent : List DeviceSetup) (found : Option ℕ) → lent ≡ (setup_of desks).devices
+    → IfSome found (λ i. i < length lent) → IfSome found (λ i. i < length desks.devices.items)
+found_within desks lent found is within =
+    subst (λ n. IfSome found (λ i. i < n)) (ap length is ∙ sym desks.many) within
+
+-- what is known of the desk of the device at an address, by its index
+pub record FoundAt (desks : Desks) (addr i : ℕ) : Type 0 where
+  pub index : position (is_at addr) (setup_of desks).devices ≡ Some i
+  pub within : i < length (setup_of desks).devices
+  pub there : i < length desks.devices.items
+  pub device : DeviceSetup
+  pub is : device ≡ get_or (setup_of desks).devices i device
+  pub at : device_at (setup_of desks).devices addr ≡ Some device
+  pub addr_is : device.addr ≡ addr
+
+pub found_at : (desks : Desks) (addr i : ℕ) (found : Option ℕ) → FindsDesk desks addr found → found ≡ Some i
+    → FoundAt desks addr i
+found_at desks addr i found finds some =
+    let there : i < length desks.devices.items =
+    subst (λ f. IfSome f (λ j. j < length desks.devices.items)) some finds.within in
+    let within : i < length (setup_of desks).devices = subst (λ n. i < n) desks.many there in
+    let index = sym finds.is ∙ some in
+    let this = at_this (setup_of desks).devices i within in
+    let place = device_found (setup_of desks).devices i this.0 addr index this.1 in
+    record {
+      index = index;
+      within = within;
+      there = there;
+      device = this.0;
+      is = this.1;
+      at = place.1;
+      addr_is = place.2;
+    }
+
+pub none_at : (desks : Desks) (addr : ℕ) (found : Option ℕ) → FindsDesk desks addr found → found ≡ None
+    → (device_at (setup_of desks).devices addr ≡ None) × (desk_there desks addr ≡ None)
+none_at desks addr found finds none = (
+  absent (setup_of desks).devices addr found finds.is none,
+  desk_absent (setup_of desks).devices desks.devices.items addr (sym finds.is ∙ none),
+)
+
+-- it is still found where the setup stays
+pub still_found : (old new : Desks) (addr : ℕ) (found : Option ℕ) → setup_of new ≡ setup_of old
+    → FindsDesk old addr found → FindsDesk new addr found
+still_found old new addr found same finds =
+    let many : length old.devices.items ≡ length new.devices.items =
+    old.many ∙ ap (λ (s : Setup). length s.devices) (sym same) ∙ sym new.many in
+    record {
+      is = finds.is ∙ ap (λ (s : Setup). position (is_at addr) s.devices) (sym same);
+      within = subst (λ n. IfSome found (λ i. i < n)) many finds.within;
+    }
 
 -- the desk at the index of a device is the device's
 pub desk_sits : (ds : List DeviceSetup) (ks : List JobDesk) (i : ℕ) (d : DeviceSetup) (k : JobDesk) (past : List Entry)

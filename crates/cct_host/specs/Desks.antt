@@ -1,5 +1,5 @@
 -- Desks that stand for all that happened.
-use Rattle.std.specs.Prelude.{◌≡◌, ◌+◌, ◌-◌, ◌≤◌, ◌<◌, ◌==◌, ℕ, List, ◌∷◌, ◌++◌, if◌then◌else◌, Option, Some, None, Result, max, option_and_then, reverse, slice_get}
+use Rattle.std.specs.Prelude.{◌≡◌, ◌+◌, ◌-◌, ◌≤◌, ◌<◌, ◌==◌, ℕ, List, ◌∷◌, ◌++◌, if◌then◌else◌, Option, Some, None, Result, length, max, option_and_then, reverse, slice_get}
 use Rattle.std.specs.List.{position}
 use Rattle.std.specs.Option.{IfSome}
 use Rattle.cct_model.specs.terms.wire.TheConstants.{HOST}
@@ -43,10 +43,18 @@ reserved_of desks =
 abbrev pub working_id : Desks → ℕ
 working_id desks = max (greatest_paying desks.devices.items) desks.sale.dues.id
 
+-- The index of the device at an address, if there is one.
+abbrev pub index_at : Setup → ℕ → Option ℕ
+index_at setup addr = position (λ d. d.addr == addr) setup.devices
+
 -- The desk of the device at an address, if there is one.
 abbrev pub desk_there : Desks → ℕ → Option JobDesk
-desk_there desks addr =
-    option_and_then (slice_get desks.devices.items) (position (λ d. d.addr == addr) (setup_of desks).devices)
+desk_there desks addr = option_and_then (slice_get desks.devices.items) (index_at (setup_of desks) addr)
+
+-- This is the index of the desk of the device at an address, if there is one.
+pub record FindsDesk (desks : Desks) (addr : ℕ) (found : Option ℕ) : Type 0 where
+  pub is : found ≡ index_at (setup_of desks) addr
+  pub within : IfSome found (λ i. i < length desks.devices.items)
 
 -- The record that the job at an address is about to put, if it is about to put one, where this desk of a device is
 -- there; one without a device that puts something is the sale's.

@@ -57,9 +57,10 @@ pub(crate) fn advance<D: Disk, L: Link>(
     ensures goes_on { GoesOn D.size D.honest D.seen D.cuts (journals.disk_of journal.old)
         (journals.disk_of journal.new) }
 {
-    let due = desks.due(addr);
+    let found = desks.find(addr);
+    let due = desks.due_there(addr, found);
     put(journal, &due)?;
-    go_on(desks, ledger, addr, link, report);
+    go_on(desks, ledger, addr, found, link, report);
     enter(ledger, &due);
     Ok(())
 }
@@ -91,10 +92,12 @@ fn go_on<L: Link>(
     desks: &mut Desks<'_>,
     ledger: &mut Ledger<'_>,
     addr: u8,
+    found: Option<usize>,
     link: &mut L,
     report: &mut ArrayVec<Entry, 8>,
 )
     requires room { array_vec_len report.old ≤ 6 }
+    requires found { all_desks.FindsDesk desks.old addr found }
     requires reserved { ledgers.reserved_of ledger.old ≡ all_desks.reserved_of desks.old }
     ensures together { GoOnTogether desks.old desks.new ledger.old ledger.new }
     ensures left { all_desks.puts_of desks.new + length (put_by (all_desks.due_on desks.old addr))
@@ -105,10 +108,10 @@ fn go_on<L: Link>(
         → IfSome (all_desks.due_on desks.old addr) (λ r. all_desks.reserved_of desks.new
         ≡ reserved_at_work (all_desks.setup_of desks.old) past - freed_by (all_desks.setup_of desks.old) r) }
 {
-    let reserved = desks.reserved_at(addr);
-    desks.next(addr, link, report);
+    let reserved = desks.reserved_there(addr, found);
+    desks.next_there(addr, found, link, report);
     if reserved > 0 {
-        ledger.release(reserved - desks.reserved_at(addr));
+        ledger.release(reserved - desks.reserved_there(addr, found));
     }
 }
 

@@ -210,9 +210,10 @@ impl JobDesk {
             self.new result report.old.items report.new.items }
         ensures frees { Frees (Some job) self.new }
     {
+        let mut job = job;
         match job.needs() {
             Need::Exchange => {
-                let job = converse(job, addr, link, report);
+                converse(&mut job, addr, link, report);
                 self.job = settled(job, addr, report);
                 self.dues.id = self.id_left();
                 0
@@ -222,7 +223,8 @@ impl JobDesk {
                 self.dues.order = job.order_after(self.dues.order);
                 let id = id_of(&entry);
                 report.push(Entry::Put(entry));
-                self.job = settled(job.was_put(), addr, report);
+                job.go_on_after_put();
+                self.job = settled(job, addr, report);
                 self.dues.id = self.id_left();
                 id
             }

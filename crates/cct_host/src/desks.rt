@@ -49,7 +49,7 @@ pub struct Desks<'s> {
 }
 
 impl<'s> Desks<'s> {
-    ghost use Rattle.cct_host.specs.Desks.{Answers, FreesIn, Nexts, Refuses, StandsFor, Stays, TakesIn, amount_at_desk, amount_on, desk_there, due_at_desk, due_on, held_of, puts_of, reserved_of, setup_of, working_id};
+    ghost use Rattle.cct_host.specs.Desks.{Answers, FindsDesk, FreesIn, Nexts, Refuses, StandsFor, Stays, TakesIn, amount_at_desk, amount_on, desk_there, due_at_desk, due_on, held_of, puts_of, reserved_of, setup_of, working_id};
     ghost use Rattle.cct_host.specs.Recalled.{AreUnused, Recalls};
 
     /// The desks of a host to which nothing has happened: there is no job, and no epoch runs.
@@ -110,7 +110,7 @@ impl<'s> Desks<'s> {
     {
         let devices = self.setup.devices.as_slice();
         let last = self.last_id();
-        match index_of(devices, addr) {
+        match self.find(addr) {
             None => Err(CommandNo::NoDevice),
             Some(index) => self.devices[index].command(command, &devices[index], self.setup, last),
         }
@@ -135,7 +135,7 @@ impl<'s> Desks<'s> {
         ensures { Refuses self.now command.now result }
     {
         let devices = self.setup.devices.as_slice();
-        match index_of(devices, addr) {
+        match self.find(addr) {
             None => Some(CommandNo::NoDevice),
             Some(index) => self.devices[index].command_refusal(
                 command,
@@ -175,6 +175,13 @@ impl<'s> Desks<'s> {
         3 * (self.devices.len() as u32 + 1)
     }
 
+    /// The index of the desk of the device at an address, or none.
+    pub(crate) fn find(&self, addr: u8) -> Option<usize>
+        ensures { FindsDesk self.now addr result }
+    {
+        index_of(self.setup.devices.as_slice(), addr)
+    }
+
     /// The record that the job at an address is about to put, if it is about to put one.
     pub fn due(&self, addr: u8) -> Option<Record>
         ensures value { result ≡ due_on self.now addr }
@@ -183,7 +190,19 @@ impl<'s> Desks<'s> {
         ensures stands { (past : List Entry) → StandsFor self.now past
             → result ≡ due_at (setup_of self.now) past addr }
     {
-        match index_of(self.setup.devices.as_slice(), addr) {
+        self.due_there(addr, self.find(addr))
+    }
+
+    /// The same, where the desk at the address is found.
+    pub(crate) fn due_there(&self, addr: u8, found: Option<usize>) -> Option<Record>
+        requires found { FindsDesk self.now addr found }
+        ensures value { result ≡ due_on self.now addr }
+        ensures fits { IfSome result Encodable }
+        ensures puts { IfSome result (λ r. 1 ≤ puts_of self.now) }
+        ensures stands { (past : List Entry) → StandsFor self.now past
+            → result ≡ due_at (setup_of self.now) past addr }
+    {
+        match found {
             Some(index) => self.devices[index].due(),
             None => self.bare_due(addr),
         }
@@ -221,7 +240,7 @@ impl<'s> Desks<'s> {
             → result ≡ follows (setup_of self.now) before (record_of.Epoch addr mask) }
     {
         let devices = self.setup.devices.as_slice();
-        match index_of(devices, addr) {
+        match self.find(addr) {
             Some(index) => self.devices[index].epoch_may_begin(&devices[index], mask),
             None => false,
         }
@@ -232,7 +251,7 @@ impl<'s> Desks<'s> {
         ensures { (before : List Record) → Recalls self.now before → all_follow (setup_of self.now) before ≡ true
             → result ≡ is_running (epoch_in addr before) }
     {
-        match index_of(self.setup.devices.as_slice(), addr) {
+        match self.find(addr) {
             Some(index) => self.devices[index].epoch_runs(),
             None => false,
         }
@@ -262,13 +281,12 @@ impl<'s> Desks<'s> {
             → all_follow (setup_of self.now) before ≡ true → follows (setup_of self.now) before entry.now ≡ true
             → result ≡ position (λ d. d.addr == owner_in before entry.now) (setup_of self.now).devices }
     {
-        let devices = self.setup.devices.as_slice();
         match entry {
-            Record::Epoch { addr, .. } => index_of(devices, *addr),
-            Record::Reading { addr, .. } => index_of(devices, *addr),
-            Record::Broken { addr, .. } => index_of(devices, *addr),
-            Record::EpochEnd { addr } => index_of(devices, *addr),
-            Record::Opened { addr, .. } => index_of(devices, *addr),
+            Record::Epoch { addr, .. } => self.find(*addr),
+            Record::Reading { addr, .. } => self.find(*addr),
+            Record::Broken { addr, .. } => self.find(*addr),
+            Record::EpochEnd { addr } => self.find(*addr),
+            Record::Opened { addr, .. } => self.find(*addr),
             Record::Closed { id, .. } => self.owing(*id),
             Record::Odd { id, .. } => self.owing(*id),
             Record::Sold { .. } => None,
@@ -291,7 +309,17 @@ impl<'s> Desks<'s> {
         ensures frees { (past : List Entry) → StandsFor self.now past → IfSome (due_on self.now addr)
             (λ r. result ≡ freed_by (setup_of self.now) r) }
     {
-        match index_of(self.setup.devices.as_slice(), addr) {
+        self.reserved_there(addr, self.find(addr))
+    }
+
+    /// The same, where the desk at the address is found.
+    pub(crate) fn reserved_there(&self, addr: u8, found: Option<usize>) -> u64
+        requires found { FindsDesk self.now addr found }
+        ensures value { result ≡ amount_on self.now addr }
+        ensures frees { (past : List Entry) → StandsFor self.now past → IfSome (due_on self.now addr)
+            (λ r. result ≡ freed_by (setup_of self.now) r) }
+    {
+        match found {
             Some(index) => coins_of(self.setup, addr, self.devices[index].coins_reserved()),
             None => self.bare_reserved(addr),
         }
@@ -315,7 +343,25 @@ impl<'s> Desks<'s> {
         ensures frees { FreesIn addr self.old self.new }
         ensures nexts { Nexts L.gives link.old link.new addr self.old self.new report.old.items report.new.items }
     {
-        match index_of(self.setup.devices.as_slice(), addr) {
+        let found = self.find(addr);
+        self.next_there(addr, found, link, report);
+    }
+
+    /// The same, where the desk at the address is found.
+    pub(crate) fn next_there<L: Link>(
+        &mut self,
+        addr: u8,
+        found: Option<usize>,
+        link: &mut L,
+        report: &mut ArrayVec<Entry, 8>,
+    )
+        requires room { array_vec_len report.old ≤ 6 }
+        requires found { FindsDesk self.old addr found }
+        ensures found { FindsDesk self.new addr found }
+        ensures frees { FreesIn addr self.old self.new }
+        ensures nexts { Nexts L.gives link.old link.new addr self.old self.new report.old.items report.new.items }
+    {
+        match found {
             Some(index) => {
                 let used = self.devices[index].next(addr, link, report);
                 self.last = greater(used, self.last);

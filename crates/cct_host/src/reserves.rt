@@ -3,10 +3,9 @@ ghost use Rattle.std.specs.Prelude.{◌≡◌, ◌≤◌, ◌*◌, Option, max, 
 ghost use Rattle.cct_record.specs.Body.{Encodable};
 ghost use Rattle.cct_jobs.specs.Jobs.{order_of};
 ghost use Rattle.cct_host.specs.Desk.{greatest_paying, held_at, held_in};
-ghost use Rattle.cct_host.specs.Held.{coins_by, due_by, order_left, price_by, put_in, puts_left};
+ghost use Rattle.cct_host.specs.Held.{coins_by, due_by, order_left, price_by, puts_left};
 
 use crate::desk::JobDesk;
-use cct_jobs::Need;
 use cct_model::{DEVICES, Record};
 
 impl JobDesk {
@@ -61,7 +60,7 @@ impl JobDesk {
         ensures fits { IfSome result Encodable }
     {
         match &self.job {
-            Some(job) => put_in(job.needs()),
+            Some(job) => job.due(),
             None => None,
         }
     }
@@ -94,16 +93,6 @@ impl JobDesk {
             [] => 0,
             [desk, rest @ ..] => greater(desk.dues.id, JobDesk::greatest_paying(rest)),
         }
-    }
-}
-
-/// The record that is needed to be put, if one is.
-fn put_in(need: Need) -> Option<Record>
-    ensures { result ≡ put_in need }
-{
-    match need {
-        Need::Put(entry) => Some(entry),
-        _ => None,
     }
 }
 

@@ -9,9 +9,8 @@ use Rattle.cct_host.proofs.desks.Desks.owner_of.Goals as goal
 
 pub returns-in-Epoch-clause-owner : goal.returns-in-Epoch-clause-owner
 returns-in-Epoch-clause-owner c before recalls follow fits =
-    let devices = c.args.self.now.setup.now.devices in
-    c.index_of.ensures.first ∙ ap (position (is_at c.in-Epoch.addr)) c.as_slice-devices.ensures.value
-    ∙ sym (ap (λ r. position (is_at (owner_in before r)) devices) c.in-Epoch.is)
+    c.find.ensures.is
+    ∙ sym (ap (λ r. position (is_at (owner_in before r)) c.args.self.now.setup.now.devices) c.in-Epoch.is)
 
 pub returns-in-Closed-clause-owner : goal.returns-in-Closed-clause-owner
 returns-in-Closed-clause-owner c before recalls follow fits =
