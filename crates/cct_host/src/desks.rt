@@ -8,6 +8,7 @@ ghost use Rattle.cct_model.specs.Job.{address_of};
 ghost use Rattle.cct_model.specs.lines.entry.Entry.{Entry};
 ghost use Rattle.cct_model.specs.lines.record.Record.TheVariants as record_of;
 ghost use Rattle.cct_model.specs.Legal.{due_at};
+ghost use Rattle.cct_model.specs.Money as money;
 ghost use Rattle.cct_model.specs.Money.{freed_by};
 ghost use Rattle.cct_model.specs.Records.{epoch_in, owner_in};
 ghost use Rattle.cct_model.specs.Refusal.{held};
@@ -320,8 +321,19 @@ impl<'s> Desks<'s> {
             (λ r. result ≡ freed_by (setup_of self.now) r) }
     {
         match found {
-            Some(index) => coins_of(self.setup, addr, self.devices[index].coins_reserved()),
+            Some(index) => self.worth_of(addr, self.devices[index].coins_reserved()),
             None => self.bare_reserved(addr),
+        }
+    }
+
+    /// What so many coins of the hopper at an address are worth. Without a coin it isn't looked for.
+    fn worth_of(&self, addr: u8, coins: u8) -> u64
+        ensures { result ≡ money.coins_of (setup_of self.now) addr coins }
+    {
+        if coins == 0 {
+            0
+        } else {
+            coins_of(self.setup, addr, coins)
         }
     }
 
