@@ -86,7 +86,7 @@ one_left (Some job) owed = one_order (has_closes (ahead job)) owed
 few_held : (k : JobDesk) → held_at k ≤ 3
 few_held k =
     let few = few_at_work k.job in
-    let one = one_left k.job (order_of k.dues.order) in
+    let one = one_left k.job (order_of k.orders.order) in
     omega arith
 
 few_held_in : (ks : List JobDesk) → held_in ks ≤ 3 * length ks
@@ -157,7 +157,7 @@ sale_held_works (Some job) model.free owed state left runs works none = absurd w
 
 sale_held : (k : JobDesk) (past : List Entry) → Sits past sales k
     → held_at k ≡ sale_holds (model.job (sale_lines past))
-sale_held k past sits = sale_held_works k.job _ k.dues.order _ _ k.runs sits.works sits.knows.0
+sale_held k past sits = sale_held_works k.job _ k.orders.order _ _ k.runs sits.works sits.knows.0
 
 pub held_is : (desks : Desks) (past : List Entry) → StandsFor desks past → held_of desks ≡ held (setup_of desks) past
 held_is desks past stands =

@@ -30,7 +30,7 @@ use Rattle.cct_jobs.specs.Ahead.{ahead, coins_in, price_in}
 use Rattle.cct_jobs.specs.Jobs.{IsPut, after_put, end_of_job, is_of_device, need_of, order_of, put_in}
 use Rattle.cct_jobs.specs.Onward.{KeepsTo}
 use Rattle.cct_jobs.specs.Sales.{StandsSale}
-use Rattle.cct_host.specs.declared.dues.Dues.{Dues}
+use Rattle.cct_host.specs.declared.orders.OrderState.{OrderState}
 use Rattle.cct_host.specs.Held.{coins_by, due_by, held_by, order_left, price_by, puts_left, sells_only}
 use Rattle.cct_host.specs.Running.{Settles, busy_by, halting_refusal, is_halt, needed, refusal_beside, rows_begun, sale_refusal, seen_at}
 use Rattle.cct_laws.proofs.jobs.Tests.{Pass, all_pass}
@@ -133,11 +133,11 @@ just_free : (job : Option Job) → busy_by job ≡ None → job ≡ None
 just_free None e = refl
 just_free (Some job) e = absurd cc
 
-passes : (d : DeviceSetup) (job : Option Job) (state : EpochState) (owed : Dues) (last : ℕ) (c : Command)
+passes : (d : DeviceSetup) (job : Option Job) (state : EpochState) (owed : OrderState) (last : ℕ) (c : Command)
     → refusal_beside d job state owed last c ≡ None → Pass (state_fails (seen_at d job state owed last)) (state_tests c)
 passes d job state owed last c free = all_pass (state_fails (seen_at d job state owed last)) (state_tests c) free
 
-pub free_job : (d : DeviceSetup) (job : Option Job) (state : EpochState) (owed : Dues) (last : ℕ) (c : Command)
+pub free_job : (d : DeviceSetup) (job : Option Job) (state : EpochState) (owed : OrderState) (last : ℕ) (c : Command)
     → is_halt c ≡ false → is_of_device c ≡ true → refusal_beside d job state owed last c ≡ None → job ≡ None
 free_job d job state owed last command.Scan no_halt of_device free = absurd cc
 free_job d job state owed last (command.Vend id price) no_halt of_device free = absurd cc
@@ -170,7 +170,7 @@ pub only_tells : (qs : List Request)
 only_tells = told_fact (λ rows. (has_closes rows ≡ false) × (puts_in rows ≡ 0) × (coins_in rows ≡ 0)) (refl, refl, refl)
     (λ q behind rows none. none)
 
-room_by : (d : DeviceSetup) (job : Option Job) (state : EpochState) (owed : Dues) (last : ℕ) (c : Command) (new : Job)
+room_by : (d : DeviceSetup) (job : Option Job) (state : EpochState) (owed : OrderState) (last : ℕ) (c : Command) (new : Job)
     → refusal_beside d job state owed last c ≡ None → ahead new ≡ rows_of d c
     → held_by (Some new) (order_of owed.order) ≤ held_by None (order_of owed.order) + need_in (rows_of d c)
 room_by d job state owed last (command.Pay addr id count) new free rows =
@@ -202,7 +202,7 @@ pub rows_begin : (setup : Setup) (d : DeviceSetup) (c : Command) → is_of_devic
     → device_at setup.devices (address_of c) ≡ Some d → rows_begun setup c ≡ rows_of d c
 rows_begin setup d c of_device there = ap (λ found. rows_for found c) there ∙ rows_there d c of_device
 
-pub begun_holds : (setup : Setup) (d : DeviceSetup) (job : Option Job) (state : EpochState) (owed : Dues) (last : ℕ)
+pub begun_holds : (setup : Setup) (d : DeviceSetup) (job : Option Job) (state : EpochState) (owed : OrderState) (last : ℕ)
     (c : Command) (new : Job) → is_halt c ≡ false → is_of_device c ≡ true
     → refusal_beside d job state owed last c ≡ None → device_at setup.devices (address_of c) ≡ Some d
     → ahead new ≡ rows_of d c
@@ -213,7 +213,7 @@ begun_holds setup d job state owed last c new no_halt of_device free there rows 
     (subst (λ begun. held_by (Some new) (order_of owed.order) ≤ held_by None (order_of owed.order) + need_in begun)
     (sym (rows_begin setup d c of_device there)) (room_by d job state owed last c new free rows))
 
-pub begun_reserves : (setup : Setup) (d : DeviceSetup) (job : Option Job) (state : EpochState) (owed : Dues) (last : ℕ)
+pub begun_reserves : (setup : Setup) (d : DeviceSetup) (job : Option Job) (state : EpochState) (owed : OrderState) (last : ℕ)
     (c : Command) (new : Job) → is_halt c ≡ false → is_of_device c ≡ true
     → refusal_beside d job state owed last c ≡ None → device_at setup.devices (address_of c) ≡ Some d
     → ahead new ≡ rows_of d c → coins_by (Some new) ≡ coins_by job + coins_in (rows_begun setup c)

@@ -23,7 +23,7 @@ use Rattle.cct_ledger.specs.Ledger as ledgers
 use Rattle.cct_host.specs.declared.desks.Desks.{Desks}
 use Rattle.cct_host.specs.declared.host.Host.{Host}
 use Rattle.cct_host.specs.Attempt.{news_of}
-use Rattle.cct_host.specs.Book.{HasBook}
+use Rattle.cct_host.specs.OnDisk.{KeepsRecords}
 use Rattle.cct_host.specs.Desk.{no_of, puts_at, sum_in}
 use Rattle.cct_host.specs.Desks as all_desks
 use Rattle.cct_host.specs.Host.{Advances, Answers, Fails, FailsToPut, Keeps, Nexts, PutSuits, PutsDue, StandsFor, capacity_in, disk_of, put_by, setup_of}
@@ -82,10 +82,10 @@ module _ {D : Type 0} {g : Ghosts D} where
       let is = next_records hears (setup_of old) past addr news entries in
       record {
         keeps = next_keeps old new addr past news _ refl is puts stands.keeps suits desks;
-        book = λ trusted. subst
-            (HasBook (setup_of new) g.honest g.seen g.may_leave (disk_of new) (journals.place_of new.journal))
+        on_disk = λ trusted. subst
+            (KeepsRecords (setup_of new) g.honest g.seen g.may_leave (disk_of new) (journals.place_of new.journal))
             (sym (put_last due (records past) (records (news ++ past)) is))
-            (puts.book (stands.book (trusted_before g.size g.honest g.seen g.cuts (disk_of old) (disk_of new) goes
+            (puts.on_disk (stands.on_disk (trusted_before g.size g.honest g.seen g.cuts (disk_of old) (disk_of new) goes
             trusted)));
       }
 
@@ -123,7 +123,7 @@ module _ {D : Type 0} {g : Ghosts D} where
               (sym fails.desks_stay) ledger;
           used = ap (λ (p : Place). p.used) fails.place ∙ stands.keeps.used;
         },
-        (failed.0, failed.1, λ trusted. failed.2 (reverse (records past)) (stands.book trusted)),
+        (failed.0, failed.1, λ trusted. failed.2 (reverse (records past)) (stands.on_disk trusted)),
       )
 
   -- after a command that had room the parts of a host still belong together
@@ -171,10 +171,10 @@ module _ {D : Type 0} {g : Ghosts D} where
                 (ledger (records past) stands.keeps.ledger);
             used = ap journals.used_of same ∙ stands.keeps.used ∙ sym (ap length quiet);
           };
-          book = subst (λ journal. IsTrusted g.honest g.seen (journals.disk_of journal)
-              → HasBook (setup_of new) g.honest g.seen g.may_leave (journals.disk_of journal) (journals.place_of journal)
+          on_disk = subst (λ journal. IsTrusted g.honest g.seen (journals.disk_of journal)
+              → KeepsRecords (setup_of new) g.honest g.seen g.may_leave (journals.disk_of journal) (journals.place_of journal)
               (reverse (records (command_entry c (no_of result) ∷ past)))) (sym same)
-              (λ trusted. subst (λ rs. HasBook (setup_of old) g.honest g.seen g.may_leave (disk_of old)
-              (journals.place_of old.journal) (reverse rs)) (sym quiet) (stands.book trusted));
+              (λ trusted. subst (λ rs. KeepsRecords (setup_of old) g.honest g.seen g.may_leave (disk_of old)
+              (journals.place_of old.journal) (reverse rs)) (sym quiet) (stands.on_disk trusted));
         },
       )

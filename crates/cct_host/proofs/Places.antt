@@ -190,7 +190,7 @@ desks_apart [] (m ∷ ms) addr past news none at all = absurd all
 desks_apart (e ∷ es) [] addr past news none at all = absurd all
 desks_apart (e ∷ es) (m ∷ ms) addr past news none at all =
     let parts : ((e.addr == addr) ≡ false) × (device_at es addr ≡ None) = none_here (e.addr == addr) e _ none in (
-      keeps_other (device e) m.job m.epoch m.dues past news (at (device e) (other_of _ _ parts.0)) all.0,
+      keeps_other (device e) m.job m.epoch m.orders past news (at (device e) (other_of _ _ parts.0)) all.0,
       desks_apart es ms addr
           past news parts.1 at all.1,
     )
@@ -217,7 +217,7 @@ desks_at (e ∷ es) (m ∷ ms) (suc i) x d addr past news distinct within is her
     let other : e.addr ≢ addr =
     (λ (same : e.addr ≡ addr). apart es i d e.addr (omega arith) distinct.0
     (ap (λ y. y.addr) (sym is) ∙ here ∙ sym same)) in (
-      keeps_other (device e) m.job m.epoch m.dues past news (at (device e) other) all.0,
+      keeps_other (device e) m.job m.epoch m.orders past news (at (device e) other) all.0,
       desks_at es ms i x d addr past news
           distinct.1 (omega arith) is here at sits all.1,
     )
@@ -274,9 +274,9 @@ device_turn setup ks items scan sale i x d addr past news sound lent found is at
     let place = device_found setup.devices i d addr found is in (
       subst (AllSit (news ++ past) setup.devices) (sym (refilled ks items i x lent))
           (desks_at setup.devices ks i x d addr past news sound.distinct place.0 is place.2 at sits all),
-      keeps_other scans scan.job scan.epoch scan.dues past news
+      keeps_other scans scan.job scan.epoch scan.orders past news
           (at scans (device_apart setup i d addr BROADCAST sound found is (omega arith))) scanned,
-      keeps_other sales sale.job sale.epoch sale.dues past news
+      keeps_other sales sale.job sale.epoch sale.orders past news
           (at sales (device_apart setup i d addr HOST sound found is (omega arith))) sold,
     )
 
@@ -287,7 +287,7 @@ pub scan_turn : (setup : Setup) (ks : List JobDesk) (sale : JobDesk) (past news 
 scan_turn setup ks sale past news sound at all sold = (
   desks_apart setup.devices ks BROADCAST past news
       (no_device_below setup.devices BROADCAST (omega arith) sound.devices) at all,
-  keeps_other sales sale.job sale.epoch sale.dues past news (at sales host_apart) sold,
+  keeps_other sales sale.job sale.epoch sale.orders past news (at sales host_apart) sold,
 )
 
 -- the desk of sales changes, and all else goes on
@@ -296,7 +296,7 @@ pub sale_turn : (setup : Setup) (ks : List JobDesk) (scan : JobDesk) (past news 
     → AllSit (news ++ past) setup.devices ks × Sits (news ++ past) scans scan
 sale_turn setup ks scan past news sound at all scanned = (
   desks_apart setup.devices ks HOST past news (no_device_below setup.devices HOST (omega arith) sound.devices) at all,
-  keeps_other scans scan.job scan.epoch scan.dues past news (at scans all_apart) scanned,
+  keeps_other scans scan.job scan.epoch scan.orders past news (at scans all_apart) scanned,
 )
 
 -- an entry that changes no job, no epoch and no open order
@@ -306,7 +306,7 @@ desks_quiet [] [] past e quiet all = tt
 desks_quiet [] (m ∷ ms) past e quiet all = absurd all
 desks_quiet (d ∷ ds) [] past e quiet all = absurd all
 desks_quiet (d ∷ ds) (m ∷ ms) past e quiet all =
-    (keeps_quiet (device d) m.job m.epoch m.dues past e quiet all.0, desks_quiet ds ms past e quiet all.1)
+    (keeps_quiet (device d) m.job m.epoch m.orders past e quiet all.0, desks_quiet ds ms past e quiet all.1)
 
 -- the last id: the greatest of the records, of the payments and of the sale at work
 paying_is : (ds : List DeviceSetup) (ks : List JobDesk) (past : List Entry) → AllSit past ds ks
@@ -322,7 +322,7 @@ pub last_is : (desks : Desks) (past : List Entry) (last : ℕ) → StandsFor des
     → last ≡ max desks.last (working_id desks) → last ≡ last_id (setup_of desks) past
 last_is desks past last stands is =
     is ∙ ap (λ r. max r (working_id desks)) stands.last
-    ∙ ap (λ id. max (greatest_id (records past)) (max id desks.sale.dues.id))
+    ∙ ap (λ id. max (greatest_id (records past)) (max id desks.sale.orders.id))
     (paying_is (setup_of desks).devices desks.devices.items past stands.devices)
     ∙ ap (λ id. max (greatest_id (records past)) (max (greatest_running past (setup_of desks).devices) id))
     stands.sale.knows.1

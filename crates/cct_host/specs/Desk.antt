@@ -18,7 +18,7 @@ use Rattle.cct_model.specs.Refusal.{last_id, state_refusal, running_id, sale_id}
 use Rattle.cct_model.specs.Rows.{puts_in}
 use Rattle.cct_jobs.specs.Ahead.{coins_in}
 use Rattle.cct_jobs.specs.declared.job.Job.{Job}
-use Rattle.cct_host.specs.declared.dues.Dues.{Dues}
+use Rattle.cct_host.specs.declared.orders.OrderState.{OrderState}
 use Rattle.cct_jobs.specs.Jobs.{order_of}
 use Rattle.cct_host.specs.declared.desk.JobDesk.{JobDesk}
 use Rattle.cct_host.specs.Attempt.{Attempt, HeardBy, Links, news_of, put_of, used_by}
@@ -35,21 +35,21 @@ Works place (Some job) model.free state owed = ⊥
 
 -- What is recorded at a place is the epoch, the open order and the id of the payment that its lines tell, of sales the
 -- id and no order, and of scans nothing.
-abbrev pub Knows : Place → EpochState → Dues → List Line → Type 0
+abbrev pub Knows : Place → EpochState → OrderState → List Line → Type 0
 Knows (device d) state owed lines =
     (state ≡ model.epoch lines) × (order_of owed.order ≡ order lines) × (owed.id ≡ running_id d (model.job lines))
 Knows scans state owed lines = ⊤
 Knows sales state owed lines = (owed.order ≡ None) × (owed.id ≡ sale_id (model.job lines))
 
 -- A job, an epoch and an open order are those of a place, by its lines.
-pub record Keeps (place : Place) (job : Option Job) (state : EpochState) (owed : Dues)
+pub record Keeps (place : Place) (job : Option Job) (state : EpochState) (owed : OrderState)
     (lines : List Line) : Type 0 where
   pub works : Works place job (model.job lines) (model.epoch lines) (order lines)
   pub knows : Knows place state owed lines
 
 -- A desk has the job, the epoch and the open order of its place after all that happened, newest entry first.
 abbrev pub Sits : List Entry → Place → JobDesk → Type 0
-Sits past place desk = Keeps place desk.job desk.epoch desk.dues (lines_at place past)
+Sits past place desk = Keeps place desk.job desk.epoch desk.orders (lines_at place past)
 
 -- Each desk is that of the device at its index.
 abbrev pub AllSit : List Entry → List DeviceSetup → List JobDesk → Type 0
@@ -60,7 +60,7 @@ AllSit past (d ∷ ds) [] = ⊥
 
 -- A desk at which nothing happened.
 abbrev pub IsFree : JobDesk → Type 0
-IsFree desk = (desk.job ≡ None) × (desk.epoch ≡ Idle) × (desk.dues ≡ record { order = None; id = 0 })
+IsFree desk = (desk.job ≡ None) × (desk.epoch ≡ Idle) × (desk.orders ≡ record { order = None; id = 0 })
 
 -- Why a command was refused, if it was.
 abbrev pub no_of : Result Unit CommandNo → Option CommandNo
@@ -87,11 +87,11 @@ RefusesAbove setup last place desk c why =
 -- The greatest id of the payments at work at desks.
 abbrev pub greatest_paying : List JobDesk → ℕ
 greatest_paying [] = 0
-greatest_paying (desk ∷ desks) = max desk.dues.id (greatest_paying desks)
+greatest_paying (desk ∷ desks) = max desk.orders.id (greatest_paying desks)
 
 -- How many records are held for a desk.
 abbrev pub held_at : JobDesk → ℕ
-held_at desk = held_by desk.job (order_of desk.dues.order)
+held_at desk = held_by desk.job (order_of desk.orders.order)
 
 -- How many records the job at a desk may still put.
 abbrev pub puts_at : JobDesk → ℕ
@@ -135,7 +135,7 @@ reserved_over setup (d ∷ ds) (desk ∷ desks) = coins_of setup d.addr (coins_b
 -- Entries of an attempt, newest first, are those of a `next` at a place and of its address alone, and its job, its
 -- epoch and its open order go on by them.
 pub record Goes (hears : List ℕ → List ℕ) (place : Place) (past news : List Entry) (job : Option Job)
-    (state : EpochState) (owed : Dues) : Type 0 where
+    (state : EpochState) (owed : OrderState) : Type 0 where
   pub entries : NextAt hears place past (model.job (lines_at place past)) news
   pub at : AreAt (addr_of place) past news
   pub keeps : Keeps place job state owed (lines_at place (news ++ past))
@@ -144,7 +144,7 @@ pub record Goes (hears : List ℕ → List ℕ) (place : Place) (past news : Lis
 -- if one was, and this is the id that its put used, or 0. What it adds to the report are the entries of a `next` at its place, where what it heard is what follows the
 -- piece that it sent, and an order that it closes was opened there.
 pub record Attempts {L : Type 0} (gives : L → List ℕ → List ℕ → L → Type 0) (old new : L) (addr : ℕ) (job : Option Job)
-    (state : EpochState) (owed : Dues) (desk : JobDesk) (used : ℕ)
+    (state : EpochState) (owed : OrderState) (desk : JobDesk) (used : ℕ)
     (report reported : List Entry) : Type 0 where
   pub what : Attempt
   pub reported_is : reported ≡ report ++ reverse (news_of addr what)
@@ -153,4 +153,4 @@ pub record Attempts {L : Type 0} (gives : L → List ℕ → List ℕ → L → 
   pub used_is : used ≡ used_by what
   pub goes : (hears : List ℕ → List ℕ) (place : Place) (past : List Entry) → HeardBy hears what → addr_of place ≡ addr
       → Keeps place job state owed (lines_at place past) → OwnsAt place past
-      → Goes hears place past (news_of addr what) desk.job desk.epoch desk.dues
+      → Goes hears place past (news_of addr what) desk.job desk.epoch desk.orders

@@ -41,7 +41,7 @@ reserved_of desks =
 
 -- The greatest id of the payments and the sale at work.
 abbrev pub working_id : Desks → ℕ
-working_id desks = max (greatest_paying desks.devices.items) desks.sale.dues.id
+working_id desks = max (greatest_paying desks.devices.items) desks.sale.orders.id
 
 -- The index of the device at an address, if there is one.
 abbrev pub index_at : Setup → ℕ → Option ℕ

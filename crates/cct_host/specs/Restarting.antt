@@ -1,4 +1,4 @@
--- A host that starts again behind a loss of power.
+-- A host that starts again after a power cut.
 use Rattle.std.specs.Prelude.{◌≡◌, ◌≢◌, ◌⊎◌, ℕ, ◌+◌, ◌<◌, ◌≤◌, List, [], ◌∷◌, ◌++◌, false, length, reverse, Option, Some, None, ⊤}
 use Rattle.std.specs.Option.{IfSome}
 use Rattle.cct_model.specs.terms.device.Setup.{Setup}
@@ -21,12 +21,12 @@ use Rattle.cct_host.specs.declared.host.Host.{Host}
 use Rattle.cct_host.specs.declared.refusal.CrashNo.{CrashNo}
 use Rattle.cct_host.specs.declared.refusal.CrashNo.TheVariants.{Disk, Alien, BadRecord, Lost}
 use Rattle.cct_host.specs.declared.restart.Crashed.{Crashed}
-use Rattle.cct_host.specs.Book.{FindsBad, FindsMany, HasBook, LeavesBook, ReadsBook}
+use Rattle.cct_host.specs.OnDisk.{FindsBad, FindsMany, KeepsRecords, LeavesRecords, ReadsRecords}
 use Rattle.cct_host.specs.Desks as all_desks
 use Rattle.cct_host.specs.Host.{StandsFor, disk_of, has_failed, journal_of, put_by, setup_of}
-use Rattle.cct_host.specs.Starting.{StartsOver}
+use Rattle.cct_host.specs.Starting.{HasReplayed}
 
--- The record that is due where a loss of power comes, if one is.
+-- The record that is due where a power cut comes, if one is.
 abbrev pub due_for : Desks → Option CrashAt → Option Record
 due_for desks None = None
 due_for desks (Some at) = all_desks.due_on desks at.addr
@@ -48,15 +48,15 @@ pub record HasAll (due : Option Record) (found put : ℕ) : Type 0 where
   pub kept_is : IfSome kept (λ r. due ≡ Some r)
   pub count : found ≡ put + length (put_by kept)
 
--- What a loss of power left, as entries, newest first: the record that was kept of a put, if one was, behind how many
+-- What a power cut left, as entries, newest first: the record that was kept of a put, if one was, behind how many
 -- records there are.
 abbrev pub told_by : ℕ → Option Record → List Entry
 told_by many None = entry.Crash many ∷ []
 told_by many (Some r) = entry.Kept r ∷ entry.Crash many ∷ []
 
--- What a loss of power left, as a host tells it, in entries, newest first.
-abbrev pub crash_news : Crashed → List Entry
-crash_news crashed = told_by crashed.records crashed.kept
+-- What a power cut left, as a host tells it, in entries, newest first.
+abbrev pub restart_news : Crashed → List Entry
+restart_news crashed = told_by crashed.records crashed.kept
 
 module _ {D : Type 0} {g : Ghosts D} where
   -- What a read of this journal gives has as many records as it counts, where its disk tells anything.
@@ -67,21 +67,21 @@ module _ {D : Type 0} {g : Ghosts D} where
 
   -- Why a host with the first journal isn't started again, where the second one is left: by what a read of its disk gives,
   -- and by how many records there are and were.
-  abbrev pub RefusesCrash : Journal D g → Journal D g → Option Record → Setup → CrashNo → Type 0
-  RefusesCrash old new due setup Disk = ⊤
-  RefusesCrash old new due setup Alien =
+  abbrev pub RefusesRestart : Journal D g → Journal D g → Option Record → Setup → CrashNo → Type 0
+  RefusesRestart old new due setup Disk = ⊤
+  RefusesRestart old new due setup Alien =
       (image : List ℕ) → g.seen (journals.disk_of new) ≡ Some image → IsAlien image
-  RefusesCrash old new due setup (BadRecord index) =
+  RefusesRestart old new due setup (BadRecord index) =
       (image : List ℕ) → g.seen (journals.disk_of new) ≡ Some image
       → IsBadAt image index
       ⊎ (HasAll due (journals.used_of new) (journals.used_of old) × FindsBad setup image (journals.used_of new) index)
-  RefusesCrash old new due setup (Lost found put) =
+  RefusesRestart old new due setup (Lost found put) =
       (found ≡ journals.used_of new) × (put ≡ journals.used_of old) × IsLost due found put × Opens setup new
 
   -- The same where only the disk of the journal is given back.
   abbrev pub RefusesWith : Journal D g → Option Record → Setup → D → CrashNo → Type 0
   RefusesWith old due setup disk why =
-      (new : Journal D g) × (journals.disk_of new ≡ disk) × RefusesCrash old new due setup why
+      (new : Journal D g) × (journals.disk_of new ≡ disk) × RefusesRestart old new due setup why
 
   -- A journal is restarted after a power cut, by this choice, which came after so many of the four disk calls of a put, where
   -- this record was due, if one was: that was kept of it, or nothing.
@@ -93,9 +93,9 @@ module _ {D : Type 0} {g : Ghosts D} where
     pub counts : journals.used_of new ≡ journals.used_of old + length (put_by kept)
     pub found : (setup : Setup) → Opens setup new
     pub stands : (setup : Setup) (records : List Record)
-        → HasBook setup g.honest g.seen g.may_leave (journals.disk_of old) (journals.place_of old) records
+        → KeepsRecords setup g.honest g.seen g.may_leave (journals.disk_of old) (journals.place_of old) records
         → KeptBy calls due kept
-        × HasBook setup g.honest g.seen g.may_leave (journals.disk_of new) (journals.place_of new) (records ++ put_by kept)
+        × KeepsRecords setup g.honest g.seen g.may_leave (journals.disk_of new) (journals.place_of new) (records ++ put_by kept)
     -- the disk
     pub cut : CutOnce g.size g.honest g.seen g.cuts g.cut_to choice (journals.disk_of old) (journals.disk_of new)
     pub outlasts : Outlasts g.size g.honest g.seen g.cuts (journals.disk_of old) (journals.disk_of new)
@@ -105,37 +105,37 @@ module _ {D : Type 0} {g : Ghosts D} where
   pub record JournalFails (setup : Setup) (due : Option Record) (choice : ℕ) (old new : Journal D g) (why : CrashNo) : Type 0
     where
       -- why, and what the disk may then keep
-      pub refused : RefusesCrash old new due setup why
+      pub refused : RefusesRestart old new due setup why
       pub leaves : (records : List Record)
-          → HasBook setup g.honest g.seen g.may_leave (journals.disk_of old) (journals.place_of old) records
-          → LeavesBook setup g.honest g.seen g.may_leave (journals.disk_of new) due records
+          → KeepsRecords setup g.honest g.seen g.may_leave (journals.disk_of old) (journals.place_of old) records
+          → LeavesRecords setup g.honest g.seen g.may_leave (journals.disk_of new) due records
       pub cause : Caused (g.faults (journals.disk_of old)) (g.faults (journals.disk_of new)) (why ≡ Disk)
       -- the disk
       pub cut : why ≢ Disk
           → CutOnce g.size g.honest g.seen g.cuts g.cut_to choice (journals.disk_of old) (journals.disk_of new)
       pub outlasts : Outlasts g.size g.honest g.seen g.cuts (journals.disk_of old) (journals.disk_of new)
 
-  -- The record that is due at a host where a loss of power comes, if one is.
+  -- The record that is due at a host where a power cut comes, if one is.
   abbrev pub due_of : Host D g → Option CrashAt → Option Record
   due_of host at = due_for host.desks at
 
-  -- A loss of power is told by its entries after whatever happened, where the disk is trusted, and the host that starts
+  -- A power cut is told by its entries after whatever happened, where the disk is trusted, and the host that starts
   -- again stands for these.
-  abbrev pub Crashes : Host D g → Host D g → Option CrashAt → Crashed → Type 0
-  Crashes old new at crashed =
+  abbrev pub TellsRestart : Host D g → Host D g → Option CrashAt → Crashed → Type 0
+  TellsRestart old new at crashed =
       (past : List Entry) → StandsFor old past → IsTrusted g.honest g.seen (disk_of old)
-      → EntriesOfRestart (setup_of old) past at (crash_news crashed) × StandsFor new (crash_news crashed ++ past)
+      → EntriesOfRestart (setup_of old) past at (restart_news crashed) × StandsFor new (restart_news crashed ++ past)
 
   -- A host starts again after a power cut, by this choice, over what its disk then keeps.
   pub record Restarts (old : Host D g) (at : Option CrashAt) (choice : ℕ) (new : Host D g) (crashed : Crashed) : Type 0 where
     pub setup : setup_of new ≡ setup_of old
     pub whole : has_failed new ≡ false
     -- what it tells, and what it then stands for
-    pub crashes : Crashes old new at crashed
+    pub tells : TellsRestart old new at crashed
     pub found : Opens (setup_of new) (journal_of new)
-    pub recalls : (records : List Record)
-        → ReadsBook (setup_of new) g.seen (disk_of new) (journals.place_of (journal_of new)) records
-        → StartsOver new (reverse records)
+    pub replays : (records : List Record)
+        → ReadsRecords (setup_of new) g.seen (disk_of new) (journals.place_of (journal_of new)) records
+        → HasReplayed new (reverse records)
     pub records : crashed.records ≡ journals.used_of (journal_of new)
     pub counts : crashed.records ≡ journals.used_of (journal_of old) + length (put_by crashed.kept)
     pub kept : IfSome crashed.kept (λ r. due_of old at ≡ Some r)
@@ -152,7 +152,7 @@ module _ {D : Type 0} {g : Ghosts D} where
     pub never : (past : List Entry) → StandsFor old past → RestartSuits (setup_of old) past at
         → IsTrusted g.honest g.seen (disk_of old) → why ≡ Disk
     pub leaves : (past : List Entry) → StandsFor old past → IsTrusted g.honest g.seen (disk_of old)
-        → LeavesBook (setup_of old) g.honest g.seen g.may_leave left (due_in (setup_of old) past at)
+        → LeavesRecords (setup_of old) g.honest g.seen g.may_leave left (due_in (setup_of old) past at)
         (reverse (model_records.records past))
     pub due : (past : List Entry) → StandsFor old past → due_of old at ≡ due_in (setup_of old) past at
     pub cause : Caused (g.faults (disk_of old)) (g.faults left) (why ≡ Disk)

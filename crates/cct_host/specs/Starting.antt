@@ -15,12 +15,12 @@ use Rattle.cct_host.specs.declared.host.Host.{Host}
 use Rattle.cct_journal.specs.declared.refusal.ReadNo.{ReadNo}
 use Rattle.cct_journal.specs.declared.refusal.ReadNo.TheVariants.{Disk, BadRecord}
 use Rattle.cct_host.specs.Desks as all_desks
-use Rattle.cct_host.specs.Recalled.{AreUnused, Recalls}
+use Rattle.cct_host.specs.Replayed.{AreUnused, Replays}
 
 -- Desks and a ledger went over records, newest first: they have what these tell, and each record follows those before
 -- it.
 pub record WentOver (desks : Desks) (ledger : Ledger) (before : List Record) : Type 0 where
-  pub recalls : Recalls desks before
+  pub replays : Replays desks before
   pub money : ledgers.StandsFor ledger before 0
   pub follow : all_follow (all_desks.setup_of desks) before ≡ true
 
@@ -65,6 +65,6 @@ pub record OnlyReadIn {D : Type 0} {g : Ghosts D} (old new : Journal D g) (Fails
 
 -- A host stands over records, newest first, as one that has just started: its desks and its ledger have what they tell,
 -- each follows those before it, and so many does its journal count.
-pub record StartsOver {D : Type 0} {g : Ghosts D} (host : Host D g) (before : List Record) : Type 0 where
+pub record HasReplayed {D : Type 0} {g : Ghosts D} (host : Host D g) (before : List Record) : Type 0 where
   pub over : WentOver host.desks host.ledger before
   pub used : journals.used_of host.journal ≡ length before

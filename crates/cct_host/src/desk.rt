@@ -13,7 +13,7 @@ ghost use Rattle.cct_host.specs.Held.{FitsIn, FitsIn-prop, price_by, sells_only}
 ghost use Rattle.cct_host.specs.Place as places;
 ghost use Rattle.cct_host.specs.Running.{id_left, is_halt, is_running};
 
-use crate::dues::Dues;
+use crate::orders::OrderState;
 use crate::exchange::{converse, settled};
 use crate::recorded::{epoch_by, id_of};
 use arrayvec::ArrayVec;
@@ -26,7 +26,7 @@ use cct_wire::Link;
 pub(crate) struct JobDesk {
     pub(crate) job: Option<Job>,
     pub(crate) epoch: EpochState,
-    pub(crate) dues: Dues,
+    pub(crate) orders: OrderState,
     ghost runs: { is_running job ≡ true },
     ghost fits: { FitsIn job } by { FitsIn-prop job },
 }
@@ -40,7 +40,7 @@ impl Default for JobDesk {
         JobDesk {
             job: None,
             epoch: EpochState::Idle,
-            dues: Dues { order: None, id: 0 },
+            orders: OrderState { order: None, id: 0 },
         }
     }
 }
@@ -116,7 +116,7 @@ impl JobDesk {
             Some(why) => Err(why),
             None => {
                 self.job = Some(Job::begin(command, setup, &self.epoch, self.order()));
-                self.dues.id = id_begun(command);
+                self.orders.id = id_begun(command);
                 Ok(())
             }
         }
@@ -124,10 +124,10 @@ impl JobDesk {
 
     /// The open order, if there is one.
     fn order(&self) -> Option<&OpenOrder>
-        ensures value { option_map (λ o. o.now) result ≡ order_of self.now.dues.order }
+        ensures value { option_map (λ o. o.now) result ≡ order_of self.now.orders.order }
         ensures life { (o : OpenOrder) → option_map (λ o. o.now) result ≡ Some o → o.life < 2 ^ 24 }
     {
-        match &self.dues.order {
+        match &self.orders.order {
             Some(owed) => Some(&owed.order),
             None => None,
         }
@@ -167,7 +167,7 @@ impl JobDesk {
             None => {
                 let command = Command::Vend { id, price };
                 self.job = Some(Job::begin(&command, setup, &self.epoch, None));
-                self.dues.id = id;
+                self.orders.id = id;
                 Ok(())
             }
         }
@@ -182,7 +182,7 @@ impl JobDesk {
         report: &mut ArrayVec<Entry, 8>,
     ) -> u32
         requires room { array_vec_len report.old ≤ 6 }
-        ensures attempts { Attempts L.gives link.old link.new addr self.old.job self.old.epoch self.old.dues
+        ensures attempts { Attempts L.gives link.old link.new addr self.old.job self.old.epoch self.old.orders
             self.new result report.old.items report.new.items }
         ensures frees { Frees self.old.job self.new }
     {
@@ -206,7 +206,7 @@ impl JobDesk {
         requires running { is_running (Some job) ≡ true }
         requires fits { FitsIn (Some job) }
         requires room { array_vec_len report.old ≤ 6 }
-        ensures attempts { Attempts L.gives link.old link.new addr (Some job) self.old.epoch self.old.dues
+        ensures attempts { Attempts L.gives link.old link.new addr (Some job) self.old.epoch self.old.orders
             self.new result report.old.items report.new.items }
         ensures frees { Frees (Some job) self.new }
     {
@@ -215,17 +215,17 @@ impl JobDesk {
             Need::Exchange => {
                 converse(&mut job, addr, link, report);
                 self.job = settled(job, addr, report);
-                self.dues.id = self.id_left();
+                self.orders.id = self.id_left();
                 0
             }
             Need::Put(entry) => {
                 self.epoch = epoch_by(&entry, self.epoch);
-                self.dues.order = job.order_after(self.dues.order);
+                self.orders.order = job.order_after(self.orders.order);
                 let id = id_of(&entry);
                 report.push(Entry::Put(entry));
                 job.go_on_after_put();
                 self.job = settled(job, addr, report);
-                self.dues.id = self.id_left();
+                self.orders.id = self.id_left();
                 id
             }
             Need::Done(_) => unreachable!(),
@@ -234,18 +234,18 @@ impl JobDesk {
 
     /// The id of the payment or the sale that is at work, or 0.
     pub(crate) fn id(&self) -> u32
-        ensures { result ≡ self.now.dues.id }
+        ensures { result ≡ self.now.orders.id }
     {
-        self.dues.id
+        self.orders.id
     }
 
     /// The id of the payment or the sale that is still at work, or 0.
     fn id_left(&self) -> u32
-        ensures { result ≡ id_left self.now.job self.now.dues.id }
+        ensures { result ≡ id_left self.now.job self.now.orders.id }
     {
         match self.job {
             None => 0,
-            Some(_) => self.dues.id,
+            Some(_) => self.orders.id,
         }
     }
 }

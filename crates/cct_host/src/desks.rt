@@ -51,13 +51,13 @@ pub struct Desks<'s> {
 
 impl<'s> Desks<'s> {
     ghost use Rattle.cct_host.specs.Desks.{Answers, FindsDesk, FreesIn, Nexts, Refuses, StandsFor, Stays, TakesIn, amount_at_desk, amount_on, desk_there, due_at_desk, due_on, held_of, puts_of, reserved_of, setup_of, working_id};
-    ghost use Rattle.cct_host.specs.Recalled.{AreUnused, Recalls};
+    ghost use Rattle.cct_host.specs.Replayed.{AreUnused, Replays};
 
     /// The desks of a host to which nothing has happened: there is no job, and no epoch runs.
     pub fn new(setup: &'s Setup) -> Self
         requires sound { IsSoundSetup setup.now }
         ensures setup { setup_of result ≡ setup.now }
-        ensures recalls { Recalls result [] }
+        ensures replays { Replays result [] }
         ensures fresh { StandsFor result [] }
     {
         Desks {
@@ -221,7 +221,7 @@ impl<'s> Desks<'s> {
     /// Whether a record of an epoch follows those before it. A record of an order or of a sale is the ledger's to
     /// judge.
     pub(crate) fn may_follow(&self, entry: &Record) -> bool
-        ensures epochs { (before : List Record) → Recalls self.now before
+        ensures epochs { (before : List Record) → Replays self.now before
             → all_follow (setup_of self.now) before ≡ true → is_of_money entry.now ≡ false
             → result ≡ follows (setup_of self.now) before entry.now }
         ensures others { is_of_money entry.now ≡ true → result ≡ true }
@@ -237,7 +237,7 @@ impl<'s> Desks<'s> {
 
     /// Whether an epoch with a mask may begin at an address.
     fn epoch_may_begin(&self, addr: u8, mask: u16) -> bool
-        ensures { (before : List Record) → Recalls self.now before
+        ensures { (before : List Record) → Replays self.now before
             → result ≡ follows (setup_of self.now) before (record_of.Epoch addr mask) }
     {
         let devices = self.setup.devices.as_slice();
@@ -249,7 +249,7 @@ impl<'s> Desks<'s> {
 
     /// Whether an epoch runs at an address.
     fn epoch_runs(&self, addr: u8) -> bool
-        ensures { (before : List Record) → Recalls self.now before → all_follow (setup_of self.now) before ≡ true
+        ensures { (before : List Record) → Replays self.now before → all_follow (setup_of self.now) before ≡ true
             → result ≡ is_running (epoch_in addr before) }
     {
         match self.find(addr) {
@@ -258,27 +258,27 @@ impl<'s> Desks<'s> {
         }
     }
 
-    /// A record that follows those before it is recalled: its device's epoch or open order goes on by it, and its id is
+    /// A record that follows those before it is replayed: its device's epoch or open order goes on by it, and its id is
     /// used.
-    pub(crate) fn recall(&mut self, entry: &Record)
+    pub(crate) fn replay(&mut self, entry: &Record)
         requires encodable { Encodable entry.now }
         ensures setup { setup_of self.new ≡ setup_of self.old }
         ensures unused { AreUnused self.old → AreUnused self.new }
-        ensures recalls { (before : List Record) → Recalls self.old before
+        ensures replays { (before : List Record) → Replays self.old before
             → all_follow (setup_of self.old) before ≡ true → follows (setup_of self.old) before entry.now ≡ true
-            → Recalls self.new (entry.now ∷ before) }
+            → Replays self.new (entry.now ∷ before) }
     {
         let owner = self.owner_of(entry);
         self.last = greater(id_of(entry), self.last);
         if let Some(index) = owner {
-            self.devices[index].recall(entry);
+            self.devices[index].replay(entry);
         }
     }
 
     /// The index of the device that a record belongs to, or none of a sale.
     fn owner_of(&self, entry: &Record) -> Option<usize>
         ensures within { IfSome result (λ index. index < length self.now.devices.items) }
-        ensures owner { (before : List Record) → Recalls self.now before
+        ensures owner { (before : List Record) → Replays self.now before
             → all_follow (setup_of self.now) before ≡ true → follows (setup_of self.now) before entry.now ≡ true
             → result ≡ position (λ d. d.addr == owner_in before entry.now) (setup_of self.now).devices }
     {
@@ -297,7 +297,7 @@ impl<'s> Desks<'s> {
     /// The index of the device whose open order has an id, or none.
     fn owing(&self, id: u32) -> Option<usize>
         ensures within { IfSome result (λ index. index < length self.now.devices.items) }
-        ensures first { result ≡ position (λ desk. has_id id (order_of desk.dues.order)) self.now.devices.items }
+        ensures first { result ≡ position (λ desk. has_id id (order_of desk.orders.order)) self.now.devices.items }
     {
         self.devices.iter().position(|desk| desk.owes(id))
     }

@@ -23,7 +23,7 @@ ghost use Rattle.cct_host.specs.Running.{amount_of, needed, rows_begun};
 
 use crate::Desks;
 use crate::advance::advance;
-use crate::recall::recall;
+use crate::replay::replay_all;
 use crate::refusal::{CrashNo, StartNo};
 use crate::restart::{Crashed, restart};
 use arrayvec::ArrayVec;
@@ -47,10 +47,10 @@ pub struct Host<'s, D: Disk> {
 }
 
 impl<'s, D: Disk> Host<'s, D> {
-    ghost use Rattle.cct_host.specs.Book.{HasBook, LeavesBook, ReadsBook};
+    ghost use Rattle.cct_host.specs.OnDisk.{KeepsRecords, LeavesRecords, ReadsRecords};
     ghost use Rattle.cct_host.specs.Host.{Answers, Fails, Keeps, Nexts, StandsFor, Stays, capacity_in, disk_of, has_failed, journal_of, put_by, setup_of};
     ghost use Rattle.cct_host.specs.Restarting.{RestartFails, Restarts};
-    ghost use Rattle.cct_host.specs.Starting.{RefusesStart, StartsOver};
+    ghost use Rattle.cct_host.specs.Starting.{RefusesStart, HasReplayed};
 
     /// The host over a journal, whose records it goes over, oldest first: it has no job, and the epochs, open orders
     /// and money that they tell. The disk is only read.
@@ -65,23 +65,23 @@ impl<'s, D: Disk> Host<'s, D> {
 
         // what it knows, and why it isn't started
         ensures knows { IfOk result (λ host. (records : List Record)
-            → ReadsBook setup.now D.seen (journals.disk_of journal) (journals.place_of journal) records
-            → StartsOver host (reverse records)) }
+            → ReadsRecords setup.now D.seen (journals.disk_of journal) (journals.place_of journal) records
+            → HasReplayed host (reverse records)) }
         ensures refused { IfErr result (λ e. (records : List Record)
-            → ReadsBook setup.now D.seen (journals.disk_of journal) (journals.place_of journal) records
+            → ReadsRecords setup.now D.seen (journals.disk_of journal) (journals.place_of journal) records
             → RefusesStart e.1 setup.now records) }
         ensures cause { MatchResult result (λ host. D.faults (journals.disk_of journal) ≤ D.faults (disk_of host))
             (λ e. Caused (D.faults (journals.disk_of journal)) (D.faults e.0) (e.1 ≡ StartNo.Disk)) }
 
         // over a journal without records
         ensures starts { journals.used_of journal ≡ 0 → IsTrue (is_ok result) }
-        ensures fresh { IfOk result (λ host. journals.used_of journal ≡ 0 → StartsOver host []) }
+        ensures fresh { IfOk result (λ host. journals.used_of journal ≡ 0 → HasReplayed host []) }
         ensures untouched { IfOk result (λ host. journals.used_of journal ≡ 0 → journal_of host ≡ journal) }
 
         // the journal and its disk
         ensures stands { IfOk result (λ host. (records : List Record)
-            → HasBook setup.now D.honest D.seen D.may_leave (journals.disk_of journal) (journals.place_of journal) records
-            → HasBook setup.now D.honest D.seen D.may_leave (disk_of host) (journals.place_of (journal_of host))
+            → KeepsRecords setup.now D.honest D.seen D.may_leave (journals.disk_of journal) (journals.place_of journal) records
+            → KeepsRecords setup.now D.honest D.seen D.may_leave (disk_of host) (journals.place_of (journal_of host))
             records) }
         ensures reads { MatchResult result
             (λ host. OnlyReads D.size D.honest D.seen D.may_leave D.moment D.left_since D.cuts
@@ -92,7 +92,7 @@ impl<'s, D: Disk> Host<'s, D> {
         let mut desks = Desks::new(setup);
         let mut ledger = Ledger::new(setup);
         let mut journal = journal;
-        match recall(&mut desks, &mut ledger, &mut journal) {
+        match replay_all(&mut desks, &mut ledger, &mut journal) {
             Ok(()) => Ok(Host {
                 desks,
                 ledger,
@@ -215,13 +215,13 @@ impl<'s, D: Disk> Host<'s, D> {
         )
     }
 
-    /// The host loses its power, in a put of the job at an address, behind so many, 0 to 4, of its four disk calls, or
+    /// The host has a power cut, in a put of the job at an address, after so many, 0 to 4, of its four disk calls, or
     /// in none; and it starts again over what its disk then keeps, which `choice` chooses as for [`Disk::power_cut`]. No
     /// job runs then.
     ///
     /// [`CrashNo::Disk`] comes where a call of the disk fails. Then come, in this order, [`CrashNo::Alien`] and
     /// [`CrashNo::BadRecord`] as the journal is opened again, [`CrashNo::Lost`], and [`CrashNo::BadRecord`] at the
-    /// first record that doesn't follow those before it. Behind any of them only [`Host::into_disk`] may be called.
+    /// first record that doesn't follow those before it. After any of them only [`Host::into_disk`] may be called.
     pub fn restart(&mut self, at: Option<CrashAt>, choice: u64) -> Result<Crashed, CrashNo>
         requires whole { has_failed self.old ≡ false }
         requires few { IsCrash at }

@@ -4,7 +4,7 @@ use thiserror::Error;
 /// Why a host isn't started over a journal: a record can't be read, or doesn't follow those before it.
 pub use cct_journal::ReadNo as StartNo;
 
-/// Why a host isn't started again behind a loss of power.
+/// Why a host isn't started again after a power cut.
 #[derive(Clone, Copy, Debug, Error, PartialEq, Eq)]
 pub enum CrashNo {
     /// A call of the disk failed.

@@ -44,10 +44,10 @@ impl JobDesk {
 
     /// One record for the open order that no job is at work to close, if there is one.
     fn order_left(&self) -> u32
-        ensures value { result ≡ order_left self.now.job (order_of self.now.dues.order) }
+        ensures value { result ≡ order_left self.now.job (order_of self.now.orders.order) }
         ensures few { result ≤ 1 }
     {
-        match (&self.dues.order, &self.job) {
+        match (&self.orders.order, &self.job) {
             (None, _) => 0,
             (Some(_), None) => 1,
             (Some(_), Some(job)) => u32::from(!job.closes_order()),
@@ -91,7 +91,7 @@ impl JobDesk {
     {
         match desks {
             [] => 0,
-            [desk, rest @ ..] => greater(desk.dues.id, JobDesk::greatest_paying(rest)),
+            [desk, rest @ ..] => greater(desk.orders.id, JobDesk::greatest_paying(rest)),
         }
     }
 }

@@ -1,4 +1,4 @@
-//! A host starts again behind a loss of power, over what its disk then keeps.
+//! A host starts again after a power cut, over what its disk then keeps.
 ghost use Rattle.std.specs.Prelude.{◌≡◌, ◌≢◌, ◌≤◌, ◌<◌, ◌+◌, List, [], ◌++◌, Err, IfErr, IfOk, IfSome, OnErr, OnOk, Option, Some, false, length, reverse, true};
 ghost use Rattle.cct_model.specs.lines.entry.Entry.{Entry};
 ghost use Rattle.cct_model.specs.terms.device.Setup.{Setup};
@@ -10,7 +10,7 @@ ghost use Rattle.cct_journal.specs.Image.{capacity_of};
 ghost use Rattle.cct_journal.specs.Journal as journals;
 ghost use Rattle.cct_ledger.specs.Ledger as ledgers;
 ghost use Rattle.cct_laws.specs.Restart.{calls_in, due_in};
-ghost use Rattle.cct_host.specs.Book.{HasBook, ReadsBook};
+ghost use Rattle.cct_host.specs.OnDisk.{KeepsRecords, ReadsRecords};
 ghost use Rattle.cct_host.specs.Desks as all_desks;
 ghost use Rattle.cct_host.specs.Host.{put_by};
 ghost use Rattle.cct_host.specs.Parts.{BelongTogether};
@@ -18,14 +18,14 @@ ghost use Rattle.cct_host.specs.Restarting.{IsLost, JournalFails, JournalRestart
 ghost use Rattle.cct_host.specs.Starting.{WentOver};
 
 use crate::Desks;
-use crate::recall::Recollection;
+use crate::replay::ReplayState;
 use crate::refusal::CrashNo;
 use cct_disk::Disk;
 use cct_journal::{Journal, OpenNo, Replay};
 use cct_ledger::Ledger;
 use cct_model::{CrashAt, Record};
 
-/// What a loss of power left.
+/// What a power cut left.
 #[derive(Debug, Drop)]
 pub struct Crashed {
     /// How many records the journal has.
@@ -34,7 +34,7 @@ pub struct Crashed {
     pub kept: Option<Record>,
 }
 
-/// The parts of a host lose the power, in a put of the job at an address or in none, and start again over what the disk
+/// The parts of a host have a power cut, in a put of the job at an address or in none, and start again over what the disk
 /// then keeps. The record of that put is the one that is due at its address, if one is.
 pub(crate) fn restart<'s, D: Disk>(
     desks: &mut Desks<'s>,
@@ -58,7 +58,7 @@ pub(crate) fn restart<'s, D: Disk>(
         journal.new crashed.kept) }
     ensures records { IfOk result (λ crashed. crashed.records ≡ journals.used_of journal.new) }
     ensures over { OnOk result ((records : List Record)
-        → ReadsBook (all_desks.setup_of desks.old) D.seen (journals.disk_of journal.new)
+        → ReadsRecords (all_desks.setup_of desks.old) D.seen (journals.disk_of journal.new)
         (journals.place_of journal.new) records
         → WentOver desks.new ledger.new (reverse records)) }
 
@@ -66,7 +66,7 @@ pub(crate) fn restart<'s, D: Disk>(
     ensures fails { IfErr result (JournalFails (all_desks.setup_of desks.old) (due_for desks.old at) choice journal.old
         journal.new) }
     ensures never { IfErr result (λ why. (records : List Record)
-        → HasBook (all_desks.setup_of desks.old) D.honest D.seen D.may_leave (journals.disk_of journal.old)
+        → KeepsRecords (all_desks.setup_of desks.old) D.honest D.seen D.may_leave (journals.disk_of journal.old)
         (journals.place_of journal.old) records
         → all_follow (all_desks.setup_of desks.old) (reverse records) ≡ true
         → IfSome (due_for desks.old at) (λ r. follows (all_desks.setup_of desks.old) (reverse records) r ≡ true)
@@ -74,12 +74,12 @@ pub(crate) fn restart<'s, D: Disk>(
 {
     let due = due_for(desks, at);
     let setup = desks.setup();
-    let mut recalled = Recollection::new(setup);
-    match lose(journal, due, calls_in(at), choice, &mut recalled) {
+    let mut replayed = ReplayState::new(setup);
+    match lose(journal, due, calls_in(at), choice, &mut replayed) {
         Ok(kept) => {
-            *desks = recalled.desks;
-            *ledger = recalled.ledger;
-            match recalled.bad {
+            *desks = replayed.desks;
+            *ledger = replayed.ledger;
+            match replayed.bad {
                 None => Ok(Crashed {
                     records: journal.used(),
                     kept,
@@ -95,7 +95,7 @@ pub(crate) fn restart<'s, D: Disk>(
     }
 }
 
-/// The record that is due where a loss of power comes, if one is.
+/// The record that is due where a power cut comes, if one is.
 fn due_for(desks: &Desks<'_>, at: Option<CrashAt>) -> Option<Record>
     ensures value { result ≡ due_for desks.now at }
     ensures fits { IfSome result Encodable }
@@ -109,7 +109,7 @@ fn due_for(desks: &Desks<'_>, at: Option<CrashAt>) -> Option<Record>
     }
 }
 
-/// How many of the four disk calls of a put a loss of power comes after.
+/// How many of the four disk calls of a put a power cut comes after.
 fn calls_in(at: Option<CrashAt>) -> u8
     ensures { result ≡ calls_in at }
 {
@@ -119,7 +119,7 @@ fn calls_in(at: Option<CrashAt>) -> u8
     }
 }
 
-/// A journal loses the power in a put of the record that is due, or in none, and is opened on what is left, whose
+/// A journal has a power cut in a put of the record that is due, or in none, and is opened on what is left, whose
 /// records are replayed. It tells which record was kept beside those that were put.
 fn lose<D: Disk, R: Replay>(
     journal: &mut Journal<D>,
@@ -139,11 +139,11 @@ fn lose<D: Disk, R: Replay>(
     ensures replayed { OnOk result ((before : List Record) × (journals.used_of journal.new ≡ length before)
         × R.replayed 0 replay.old before replay.new) }
     ensures told { OnOk result ((setup : Setup) (records : List Record)
-        → ReadsBook setup D.seen (journals.disk_of journal.new) (journals.place_of journal.new) records
+        → ReadsRecords setup D.seen (journals.disk_of journal.new) (journals.place_of journal.new) records
         → R.replayed 0 replay.old (reverse records) replay.new) }
     ensures fails { IfErr result (λ why. (setup : Setup) → JournalFails setup due choice journal.old journal.new why) }
     ensures never { IfErr result (λ why. (setup : Setup) (records : List Record)
-        → HasBook setup D.honest D.seen D.may_leave (journals.disk_of journal.old) (journals.place_of journal.old) records
+        → KeepsRecords setup D.honest D.seen D.may_leave (journals.disk_of journal.old) (journals.place_of journal.old) records
         → why ≡ CrashNo.Disk) }
 {
     let put = journal.used();

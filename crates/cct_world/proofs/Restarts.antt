@@ -23,11 +23,11 @@ use Rattle.cct_host.specs.declared.refusal.CrashNo.{CrashNo}
 use Rattle.cct_host.specs.declared.refusal.CrashNo.TheVariants as crash_no
 use Rattle.cct_host.specs.declared.restart.Crashed.{Crashed}
 use Rattle.cct_host.specs.Attempt.{Attempt, asked, idle, news_of, put, put_of}
-use Rattle.cct_host.specs.Book.{FindsBad, FindsMany}
+use Rattle.cct_host.specs.OnDisk.{FindsBad, FindsMany}
 use Rattle.cct_host.specs.Host as hosts
 use Rattle.cct_host.specs.Host.{put_by}
 use Rattle.cct_host.specs.Restarting as restarting
-use Rattle.cct_host.specs.Restarting.{HasAll, IsLost, RefusesCrash, crash_news, due_of, told_by}
+use Rattle.cct_host.specs.Restarting.{HasAll, IsLost, RefusesRestart, restart_news, due_of, told_by}
 use Rattle.cct_world.specs.declared.machine.Machine.{Machine}
 use Rattle.cct_world.specs.Machine.{Breaks, DueAsTold, StandsFor}
 use Rattle.cct_world.specs.Restarts.{CutAt, HasBad, Loses, Restarts, kept_in}
@@ -101,7 +101,7 @@ module _ {D : Type 0} {g : Ghosts D} where
   bad_by old new due setup index image (inr (all, bad)) = inr (journals.used_of new, all, bad)
 
   loses_by : (old new : Journal D g) (due : Option Record) (setup : Setup) (why : CrashNo)
-      → (why ≡ crash_no.Disk → ⊥) → RefusesCrash old new due setup why
+      → (why ≡ crash_no.Disk → ⊥) → RefusesRestart old new due setup why
       → Loses setup (journals.used_of old) due (g.seen (journals.disk_of new)) why
   loses_by old new due setup crash_no.Disk other refused = absurd (other refl)
   loses_by old new due setup crash_no.Alien other refused = refused
@@ -141,7 +141,7 @@ module _ {D : Type 0} {g : Ghosts D} where
 
   -- a host starts again
   pub crash_restarts : (old new : Host D g) (at : Option CrashAt) (choice : ℕ) (crashed : Crashed) (news : List Entry)
-      → news ≡ crash_news crashed → restarting.Restarts old at choice new crashed
+      → news ≡ restart_news crashed → restarting.Restarts old at choice new crashed
       → Restarts (hosts.setup_of old) (due_of old at) (journals.used_of (hosts.journal_of old))
       (journals.used_of (hosts.journal_of new)) (g.seen (hosts.disk_of new)) news
   crash_restarts old new at choice crashed news told restarts = record {
@@ -152,7 +152,7 @@ module _ {D : Type 0} {g : Ghosts D} where
       opened.1,
       opened.2,
       subst (λ setup. all_follow setup (reverse opened.0) ≡ true) restarts.setup
-          (restarts.recalls opened.0
+          (restarts.replays opened.0
           (record { image = image; tells = tells; stands = opened.1; count = sym opened.2 })).over.follow,
     );
   }

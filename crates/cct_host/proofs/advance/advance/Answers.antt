@@ -6,7 +6,7 @@ use Rattle.cct_model.specs.Money.{freed_by, reserved_at_work}
 use Rattle.cct_model.specs.Records.{records}
 use Rattle.cct_journal.specs.Journal as journals
 use Rattle.cct_ledger.specs.Ledger as ledgers
-use Rattle.cct_host.specs.Book.{HasBook}
+use Rattle.cct_host.specs.OnDisk.{KeepsRecords}
 use Rattle.cct_host.specs.Desks.{reserved_of, setup_of}
 use Rattle.cct_host.specs.Host.{put_by}
 use Rattle.cct_host.proofs.Hosts.{if_failed}
@@ -30,8 +30,8 @@ returns-clause-advances g c =
           let due_is = c.due-due.ensures.stands past stands in
           record {
             used = put.counted ∙ ap counted due_is;
-            book = λ stood. subst
-                (λ d. HasBook setup disk.honest disk.seen disk.may_leave (journals.disk_of written)
+            on_disk = λ stood. subst
+                (λ d. KeepsRecords setup disk.honest disk.seen disk.may_leave (journals.disk_of written)
                 (journals.place_of written) (reverse (records past) ++ put_by d)) due_is
                 (put.done setup (reverse (records past)) stood);
             posts = λ takes stood.

@@ -3,9 +3,9 @@ use Rattle.std.specs.Prelude.{Err}
 use Rattle.cct_journal.specs.Image.{IsBadAt}
 use Rattle.cct_journal.specs.Journal as journals
 use Rattle.cct_journal.specs.Opening.{RefusesOpen}
-use Rattle.cct_host.specs.Book.{HasBook}
+use Rattle.cct_host.specs.OnDisk.{KeepsRecords}
 use Rattle.cct_host.specs.Host.{put_by}
-use Rattle.cct_host.specs.Restarting.{RefusesCrash}
+use Rattle.cct_host.specs.Restarting.{RefusesRestart}
 use Rattle.cct_host.proofs.Losses.{if_kept, if_lost, kept_is, no_error, none_lost}
 use Rattle.cct_host.proofs.restart.lose.Goals as goal
 
@@ -25,7 +25,7 @@ returns-in-Ok-clause-restarts g c =
           omega (arith, left.2.count, stands.count, c.used-put.ensures.value, found.counted, counts) in
           let is = kept_is c.args.calls c.args.due kept records left.0 left.1 many same in (
             is.0,
-            subst (HasBook setup g.D.Disk.honest g.D.Disk.seen g.D.Disk.may_leave (journals.disk_of c.restart.new.self)
+            subst (KeepsRecords setup g.D.Disk.honest g.D.Disk.seen g.D.Disk.may_leave (journals.disk_of c.restart.new.self)
                 (journals.place_of c.restart.new.self)) is.1 left.2,
           );
       cut = restarted.cut (λ no. no_error c.restart.result c.in-Ok.found _ c.in-Ok.is no);
@@ -44,7 +44,7 @@ returns-in-Ok-clause-fails g c =
     let found = c.in-Ok.ensures in
     if_lost c.kept_in.result _ _ c.kept_in.ensures.lost
     (λ why lost setup. record {
-      refused = subst (RefusesCrash c.args.journal.now c.restart.new.self c.args.due setup) (sym lost.0)
+      refused = subst (RefusesRestart c.args.journal.now c.restart.new.self c.args.due setup) (sym lost.0)
           (found.counted, c.used-put.ensures.value, lost.1, found.found);
       leaves = λ records stands.
           let left = found.stands records stands in

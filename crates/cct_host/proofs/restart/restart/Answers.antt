@@ -37,8 +37,8 @@ returns-in-Some-clause-fails g c =
     let setup = setup_of c.args.desks.now in
     bad_fails setup _ _ c.args.choice c.args.journal.now c.lose.new.journal c.in-Ok.kept c.in-Some.index restarts
     (λ records reads.
-    first_bad c.new-recalled.result c.lose.new.replay setup c.in-Some.index records c.in-Some.is
-    (c.new-recalled.ensures.setup ∙ c.setup-setup.ensures) (c.in-Ok.ensures.told setup records reads))
+    first_bad c.new-replayed.result c.lose.new.replay setup c.in-Some.index records c.in-Some.is
+    (c.new-replayed.ensures.setup ∙ c.setup-setup.ensures) (c.in-Ok.ensures.told setup records reads))
 
 pub returns-in-Some-clause-never : goal.returns-in-Some-clause-never
 returns-in-Some-clause-never g c records stands follow fits =
@@ -46,15 +46,15 @@ returns-in-Some-clause-never g c records stands follow fits =
     let kept = c.in-Ok.kept in
     let rs = records ++ put_by kept in
     let reads = stands_read g.D.Disk setup _ _ rs (c.in-Ok.ensures.restarts.stands setup records stands).1 in
-    let bad = first_bad c.new-recalled.result c.lose.new.replay setup c.in-Some.index rs c.in-Some.is
-    (c.new-recalled.ensures.setup ∙ c.setup-setup.ensures) (c.in-Ok.ensures.told setup rs reads) in
+    let bad = first_bad c.new-replayed.result c.lose.new.replay setup c.in-Some.index rs c.in-Some.is
+    (c.new-replayed.ensures.setup ∙ c.setup-setup.ensures) (c.in-Ok.ensures.told setup rs reads) in
     absurd (none_bad setup rs c.in-Some.index
     (kept_follow setup (due_for c.args.desks.now c.args.at) kept records follow
     (subst (λ d. IfSome kept (λ r. d ≡ Some r)) c.due_for-due.ensures.value c.in-Ok.ensures.restarts.kept_is) fits) bad)
 
 pub returns-in-Err-clause-together : goal.returns-in-Err-clause-together
 returns-in-Err-clause-together g c =
-    free_together c.new.result c.new-in-Err.result c.lose.new.journal c.new.ensures.recalls.unused
+    free_together c.new.result c.new-in-Err.result c.lose.new.journal c.new.ensures.replays.unused
     (c.new-in-Err.ensures.setup ∙ sym c.new.ensures.setup) c.new-in-Err.ensures.reserved
     (omega (arith, c.new-in-Err.ensures.counted))
 

@@ -7,21 +7,21 @@ use Rattle.cct_host.proofs.desk.JobDesk.attempt.Goals as goal
 pub returns-in-Exchange-clause-attempts : goal.returns-in-Exchange-clause-attempts
 returns-in-Exchange-clause-attempts g c =
     ask_attempts g.L.Link.gives _ _ c.args.addr c.args.job c.converse.new.job c.args.self.now.epoch
-    c.args.self.now.dues _ _ _ _ _
+    c.args.self.now.orders _ _ _ _ _
     (asks_next _ c.args.job c.in-Exchange.is c.needs.ensures.row c.needs.ensures.scan c.needs.ensures.sale)
     (ap put_in (sym c.needs.ensures.value ∙ c.in-Exchange.is)) c.converse.ensures.converses
     c.settled-self.ensures.ends c.settled-self.ensures.settled refl
-    (ap (λ id. record { order = c.args.self.now.dues.order; id = id }) c.id_left-self.ensures)
+    (ap (λ id. record { order = c.args.self.now.orders.order; id = id }) c.id_left-self.ensures)
 
 pub returns-in-Put-clause-attempts : goal.returns-in-Put-clause-attempts
 returns-in-Put-clause-attempts g c =
     let r = c.in-Put.entry in
     let job = c.args.job in
     let new = c.go_on_after_put.new.self in
-    let before = c.args.self.now.dues.order in
+    let before = c.args.self.now.orders.order in
     let is = sym c.needs.ensures.value ∙ c.in-Put.is in
-    put_attempts g.L.Link.gives _ c.args.addr job new r c.args.self.now.epoch c.args.self.now.dues
-    (record { order = c.order_after-self.result; id = c.args.self.now.dues.id }) _ _ _ _ _ _
+    put_attempts g.L.Link.gives _ c.args.addr job new r c.args.self.now.epoch c.args.self.now.orders
+    (record { order = c.order_after-self.result; id = c.args.self.now.orders.id }) _ _ _ _ _ _
     (puts_next _ job new r before _ c.in-Put.is c.needs.ensures.row
     (λ d k since n after owed stands. c.go_on_after_put.ensures.put d k since n after owed r is stands)
     (λ d k since n stands. c.order_after-self.ensures.put d k since n r is stands))

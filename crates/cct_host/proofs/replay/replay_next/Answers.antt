@@ -1,5 +1,5 @@
 use Rattle.cct_host.proofs.Records.{bad_at, unread, went_next}
-use Rattle.cct_host.proofs.recall.recall_next.Goals as goal
+use Rattle.cct_host.proofs.replay.replay_next.Goals as goal
 
 pub returns-in-Ok-clause-over : goal.returns-in-Ok-clause-over
 returns-in-Ok-clause-over g c records reads =

@@ -6,10 +6,10 @@ ghost use Rattle.cct_model.specs.Setup.{IsSoundSetup};
 ghost use Rattle.cct_record.specs.Body.{Encodable};
 ghost use Rattle.cct_journal.specs.Journal as journals;
 ghost use Rattle.cct_ledger.specs.Ledger as ledgers;
-ghost use Rattle.cct_host.specs.Book.{ReadsBook};
+ghost use Rattle.cct_host.specs.OnDisk.{ReadsRecords};
 ghost use Rattle.cct_host.specs.Desks as all_desks;
 ghost use Rattle.cct_host.specs.Parts.{BelongTogether};
-ghost use Rattle.cct_host.specs.Recalled.{Recalls};
+ghost use Rattle.cct_host.specs.Replayed.{Replays};
 ghost use Rattle.cct_host.specs.Starting.{OnlyReadIn, RefusesStart, ReplaysOne, WentOver, WentOverFirst};
 
 use crate::Desks;
@@ -22,12 +22,12 @@ use cct_model::{Record, Setup};
 /// Desks and a ledger without records go over the records of a journal, oldest first.
 ///
 /// [`StartNo::BadRecord`] comes at the first record that can't be read or doesn't follow those before it.
-pub(crate) fn recall<D: Disk>(
+pub(crate) fn replay_all<D: Disk>(
     desks: &mut Desks<'_>,
     ledger: &mut Ledger<'_>,
     journal: &mut Journal<D>,
 ) -> Result<(), StartNo>
-    requires desks { Recalls desks.old [] }
+    requires desks { Replays desks.old [] }
     requires ledger { ledgers.StandsFor ledger.old [] 0 }
     requires same { ledgers.setup_of ledger.old ≡ all_desks.setup_of desks.old }
 
@@ -37,13 +37,13 @@ pub(crate) fn recall<D: Disk>(
 
     // what they tell
     ensures over { OnOk result ((records : List Record)
-        → ReadsBook (all_desks.setup_of desks.old) D.seen (journals.disk_of journal.old)
+        → ReadsRecords (all_desks.setup_of desks.old) D.seen (journals.disk_of journal.old)
         (journals.place_of journal.old) records
         → WentOver desks.new ledger.new (reverse records)) }
     ensures starts { journals.used_of journal.old ≡ 0 → IsTrue (is_ok result) }
     ensures fresh { journals.used_of journal.old ≡ 0 → WentOver desks.new ledger.new [] }
     ensures refused { IfErr result (λ why. (records : List Record)
-        → ReadsBook (all_desks.setup_of desks.old) D.seen (journals.disk_of journal.old)
+        → ReadsRecords (all_desks.setup_of desks.old) D.seen (journals.disk_of journal.old)
         (journals.place_of journal.old) records
         → RefusesStart why (all_desks.setup_of desks.old) records) }
 
@@ -52,13 +52,13 @@ pub(crate) fn recall<D: Disk>(
     ensures untouched { journals.used_of journal.old ≡ 0 → journal.new ≡ journal.old }
 {
     for index in 0..journal.used() {
-        recall_next(desks, ledger, journal, index)?;
+        replay_next(desks, ledger, journal, index)?;
     }
     Ok(())
 }
 
-/// The record of an index is read, and recalled behind those before it.
-fn recall_next<D: Disk>(
+/// The record of an index is read, and replayed after those before it.
+fn replay_next<D: Disk>(
     desks: &mut Desks<'_>,
     ledger: &mut Ledger<'_>,
     journal: &mut Journal<D>,
@@ -69,26 +69,26 @@ fn recall_next<D: Disk>(
     requires same { ledgers.setup_of ledger.old ≡ all_desks.setup_of desks.old }
     ensures replays { ReplaysOne desks.old desks.new ledger.old ledger.new }
     ensures over { OnOk result ((records : List Record)
-        → ReadsBook (all_desks.setup_of desks.old) D.seen (journals.disk_of journal.old)
+        → ReadsRecords (all_desks.setup_of desks.old) D.seen (journals.disk_of journal.old)
         (journals.place_of journal.old) records
         → WentOverFirst desks.old ledger.old records index
         → WentOverFirst desks.new ledger.new records (index + 1)) }
     ensures refused { IfErr result (λ why. (records : List Record)
-        → ReadsBook (all_desks.setup_of desks.old) D.seen (journals.disk_of journal.old)
+        → ReadsRecords (all_desks.setup_of desks.old) D.seen (journals.disk_of journal.old)
         (journals.place_of journal.old) records
         → WentOverFirst desks.old ledger.old records index
         → RefusesStart why (all_desks.setup_of desks.old) records) }
     ensures reads { OnlyReadIn journal.old journal.new (result ≡ Err StartNo.Disk) }
 {
     let entry = journal.read_at(index)?;
-    match recall_entry(desks, ledger, &entry) {
+    match replay_entry(desks, ledger, &entry) {
         Ok(()) => Ok(()),
         Err(NotAllowed) => Err(StartNo::BadRecord { index }),
     }
 }
 
-/// A record is recalled behind those before it, or refused where it doesn't follow them.
-fn recall_entry(
+/// A record is replayed after those before it, or refused where it doesn't follow them.
+fn replay_entry(
     desks: &mut Desks<'_>,
     ledger: &mut Ledger<'_>,
     entry: &Record,
@@ -107,33 +107,33 @@ fn recall_entry(
     }
     match ledger.apply(entry) {
         Ok(()) => {
-            desks.recall(entry);
+            desks.replay(entry);
             Ok(())
         }
         Err(NotAllowed) => Err(NotAllowed),
     }
 }
 
-/// What is recalled of the records that are found behind a loss of power: desks and a ledger, up to the first record
+/// What is replayed of the records that are found after a power cut: desks and a ledger, up to the first record
 /// that doesn't follow those before it.
 #[derive(Drop)]
-pub(crate) struct Recollection<'s> {
+pub(crate) struct ReplayState<'s> {
     pub(crate) desks: Desks<'s>,
     pub(crate) ledger: Ledger<'s>,
-    /// The index of that record. Nothing is recalled from it on.
+    /// The index of that record. Nothing is replayed from it on.
     pub(crate) bad: Option<u32>,
 }
 
-impl<'s> Recollection<'s> {
-    ghost use Rattle.cct_host.specs.Replaying.{Recollects};
+impl<'s> ReplayState<'s> {
+    ghost use Rattle.cct_host.specs.Replaying.{ReplaysTo};
 
     /// Before the first record.
     pub(crate) fn new(setup: &'s Setup) -> Self
         requires sound { IsSoundSetup setup.now }
         ensures setup { all_desks.setup_of result.desks ≡ setup.now }
-        ensures starts { Recollects 0 result [] result }
+        ensures starts { ReplaysTo 0 result [] result }
     {
-        Recollection {
+        ReplayState {
             desks: Desks::new(setup),
             ledger: Ledger::new(setup),
             bad: None,
@@ -141,16 +141,16 @@ impl<'s> Recollection<'s> {
     }
 }
 
-impl Replay for Recollection<'_> {
-    ghost use Rattle.cct_host.specs.Replaying.{Recollects};
+impl Replay for ReplayState<'_> {
+    ghost use Rattle.cct_host.specs.Replaying.{ReplaysTo};
 
-    ghost replayed = { Recollects };
+    ghost replayed = { ReplaysTo };
 
     fn replay(&mut self, index: u32, entry: &Record) {
         if self.bad.is_some() {
             return;
         }
-        if let Err(NotAllowed) = recall_entry(&mut self.desks, &mut self.ledger, entry) {
+        if let Err(NotAllowed) = replay_entry(&mut self.desks, &mut self.ledger, entry) {
             self.bad = Some(index);
         }
     }
