@@ -22,7 +22,7 @@ use Rattle.cct_host.specs.declared.orders.OrderState.{OrderState}
 use Rattle.cct_jobs.specs.Jobs.{order_of}
 use Rattle.cct_host.specs.declared.desk.JobDesk.{JobDesk}
 use Rattle.cct_host.specs.Attempt.{Attempt, HeardBy, Links, news_of, put_of, used_by}
-use Rattle.cct_host.specs.Held.{coins_by, due_by, held_by, price_by, puts_left, sells_only}
+use Rattle.cct_host.specs.Held.{coins_by, due_by, held_by, puts_left, sells_only}
 use Rattle.cct_host.specs.Running.{needed, rows_begun}
 use Rattle.cct_host.specs.Place.{AreAt, NextAt, OwnsAt, Place, StandsAt, addr_of, device, lines_at, sales, scans}
 

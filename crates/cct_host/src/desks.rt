@@ -1,5 +1,5 @@
 //! The host's desks: a job at each address, the epochs of its acceptors, and the open orders of its hoppers.
-ghost use Rattle.std.specs.Prelude.{◌≡◌, ◌==◌, ◌<◌, ◌≤◌, ℕ, List, [], ◌∷◌, ◌++◌, ◌+◌, ◌-◌, ◌*◌, IfSome, OnErr, OnOk, Option, Some, None, false, length, max, true};
+ghost use Rattle.std.specs.Prelude.{◌≡◌, ◌==◌, ◌<◌, ◌≤◌, List, [], ◌∷◌, ◌+◌, ◌-◌, ◌*◌, IfSome, OnErr, OnOk, Option, Some, None, false, length, max, true};
 ghost use Rattle.std.specs.List.{All, position};
 ghost use Rattle.arrayvec.specs.ArrayVec.{array_vec_len};
 ghost use Rattle.cct_model.specs.Exchange.{device_at};
@@ -50,7 +50,7 @@ pub struct Desks<'s> {
 }
 
 impl<'s> Desks<'s> {
-    ghost use Rattle.cct_host.specs.Desks.{Answers, FindsDesk, FreesIn, Nexts, Refuses, StandsFor, Stays, TakesIn, amount_at_desk, amount_on, desk_there, due_at_desk, due_on, held_of, puts_of, reserved_of, setup_of, working_id};
+    ghost use Rattle.cct_host.specs.Desks.{Answers, FindsDesk, FreesIn, Nexts, Refuses, StandsFor, Stays, TakesIn, amount_at_desk, amount_on, desk_there, due_at_desk, due_on, held_of, puts_of, setup_of, working_id};
     ghost use Rattle.cct_host.specs.Replayed.{AreUnused, Replays};
 
     /// The desks of a host to which nothing has happened: there is no job, and no epoch runs.

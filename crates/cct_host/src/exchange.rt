@@ -1,10 +1,7 @@
 //! One exchange of a job over a link, and what becomes of the job.
-ghost use Rattle.std.specs.Prelude.{◌≡◌, ◌<◌, ◌≤◌, ℕ, List, [], true, ◌∷◌, length};
+ghost use Rattle.std.specs.Prelude.{◌≡◌, ◌<◌, [], true};
 ghost use Rattle.arrayvec.specs.ArrayVec.{array_vec_len};
-ghost use Rattle.cct_model.specs.lines.command.Command.{Command};
 ghost use Rattle.cct_model.specs.lines.entry.Entry.TheVariants as entry;
-ghost use Rattle.cct_model.specs.declared.judging.EpochState.{EpochState};
-ghost use Rattle.cct_model.specs.Line.{Line};
 ghost use Rattle.cct_jobs.specs.Ahead.{ahead};
 ghost use Rattle.cct_jobs.specs.Jobs.{PutsFit, end_of_job, need_of};
 ghost use Rattle.cct_jobs.specs.Onward.{KeepsTo};

@@ -1,5 +1,5 @@
 //! The host over its journal: a record is put before its entry is told, and no put finds the journal full.
-ghost use Rattle.std.specs.Prelude.{◌≡◌, ◌≢◌, ◌≤◌, ◌+◌, length, List, [], Option, Some, None, Err, IfErr, IfOk, IfSome, MatchResult, OnErr, OnOk, IsTrue, false, is_ok, reverse};
+ghost use Rattle.std.specs.Prelude.{◌≡◌, ◌≤◌, ◌+◌, List, [], Option, Some, None, Err, IfErr, IfOk, MatchResult, OnErr, OnOk, IsTrue, false, is_ok, reverse};
 ghost use Rattle.std.specs.Option.{option_or};
 ghost use Rattle.arrayvec.specs.ArrayVec.{array_vec_len};
 ghost use Rattle.cct_edge.specs.Faults.{Caused, HasCause};
@@ -10,11 +10,9 @@ ghost use Rattle.cct_model.specs.Records.{records};
 ghost use Rattle.cct_model.specs.Refusal as refusals;
 ghost use Rattle.cct_model.specs.Script.{IsCrash};
 ghost use Rattle.cct_model.specs.Setup.{IsSoundSetup};
-ghost use Rattle.cct_disk.specs.Disk.{IsTrusted, OnlyReads};
-ghost use Rattle.cct_journal.specs.Image.{capacity_of};
+ghost use Rattle.cct_disk.specs.Disk.{OnlyReads};
 ghost use Rattle.cct_journal.specs.Journal as journals;
-ghost use Rattle.cct_journal.specs.Stands.{CutOnce, GoesOn, Outlasts};
-ghost use Rattle.cct_laws.specs.Restart.{RestartSuits, due_in};
+ghost use Rattle.cct_journal.specs.Stands.{GoesOn};
 ghost use Rattle.cct_ledger.specs.Ledger as ledgers;
 ghost use Rattle.cct_host.specs.Desks as all_desks;
 ghost use Rattle.cct_host.specs.Parts.{BelongTogether, BelongTogether-prop, GoOnTogether};
@@ -47,10 +45,10 @@ pub struct Host<'s, D: Disk> {
 }
 
 impl<'s, D: Disk> Host<'s, D> {
-    ghost use Rattle.cct_host.specs.OnDisk.{KeepsRecords, LeavesRecords, ReadsRecords};
-    ghost use Rattle.cct_host.specs.Host.{Answers, Fails, Keeps, Nexts, StandsFor, Stays, capacity_in, disk_of, has_failed, journal_of, put_by, setup_of};
+    ghost use Rattle.cct_host.specs.OnDisk.{KeepsRecords, ReadsRecords};
+    ghost use Rattle.cct_host.specs.Host.{Answers, Fails, Keeps, Nexts, Stays, capacity_in, disk_of, has_failed, journal_of, setup_of};
     ghost use Rattle.cct_host.specs.Restarting.{RestartFails, Restarts};
-    ghost use Rattle.cct_host.specs.Starting.{RefusesStart, HasReplayed};
+    ghost use Rattle.cct_host.specs.Starting.{HasReplayed, RefusesStart};
 
     /// The host over a journal, whose records it goes over, oldest first: it has no job, and the epochs, open orders
     /// and money that they tell. The disk is only read.
@@ -196,12 +194,18 @@ impl<'s, D: Disk> Host<'s, D> {
         requires room { array_vec_len report.old ≤ 6 }
         requires whole { has_failed self.old ≡ false }
         ensures setup { setup_of self.new ≡ setup_of self.old }
+
+        // the attempt
         ensures whole { OnOk result (has_failed self.new ≡ false) }
         ensures nexts { OnOk result (Nexts L.gives link.old link.new addr self.old self.new report.old.items
             report.new.items) }
+
+        // a put that failed
         ensures stays { OnErr result (report.new ≡ report.old) }
         ensures link { OnErr result (link.new ≡ link.old) }
         ensures fails { OnErr result (Fails self.old self.new addr) }
+
+        // the disk
         ensures cause { HasCause (D.faults (disk_of self.old)) (D.faults (disk_of self.new)) result }
         ensures goes_on { GoesOn D.size D.honest D.seen D.cuts (disk_of self.old) (disk_of self.new) }
     {

@@ -1,5 +1,5 @@
 //! A host starts again after a power cut, over what its disk then keeps.
-ghost use Rattle.std.specs.Prelude.{◌≡◌, ◌≢◌, ◌≤◌, ◌<◌, ◌+◌, List, [], ◌++◌, Err, IfErr, IfOk, IfSome, OnErr, OnOk, Option, Some, false, length, reverse, true};
+ghost use Rattle.std.specs.Prelude.{◌≡◌, ◌≤◌, ◌<◌, ◌+◌, List, [], Err, IfErr, IfOk, IfSome, OnOk, Option, Some, false, length, reverse, true};
 ghost use Rattle.cct_model.specs.lines.entry.Entry.{Entry};
 ghost use Rattle.cct_model.specs.terms.device.Setup.{Setup};
 ghost use Rattle.cct_model.specs.lines.record.Record.{Record};

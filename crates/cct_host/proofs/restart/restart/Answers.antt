@@ -1,4 +1,4 @@
-use Rattle.std.proofs.Common.{◌∙◌, ◌++◌, ◌≡◌, Some, arith, inr, reverse, subst, sym}
+use Rattle.std.proofs.Common.{◌∙◌, ◌++◌, ◌≡◌, Some, arith, reverse, subst, sym}
 use Rattle.std.specs.Option.{IfSome}
 use Rattle.cct_host.specs.Desks.{setup_of}
 use Rattle.cct_host.specs.Host.{put_by}
