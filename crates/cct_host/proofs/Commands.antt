@@ -33,7 +33,7 @@ use Rattle.cct_jobs.specs.Sales.{StandsSale}
 use Rattle.cct_jobs.specs.Scans.{StandsScan}
 use Rattle.cct_host.specs.Desk.{Keeps, Works}
 use Rattle.cct_host.specs.Place.{Place, device, sales, scans}
-use Rattle.cct_host.specs.Running.{busy_by, halting_refusal, halts_in, is_halt, is_running, refusal_beside, sale_refusal, seen_at}
+use Rattle.cct_host.specs.Running.{begins_id, busy_by, halting_refusal, halts_in, is_halt, is_running, refusal_beside, sale_refusal, seen_at}
 use Rattle.cct_laws.proofs.jobs.Tests.{Pass, all_pass, test_holds}
 use Rattle.cct_jobs.proofs.Halts.{halts_known}
 use Rattle.cct_jobs.proofs.Needs.{end_known}
@@ -90,23 +90,40 @@ lines_there past command.Scan d of_device = absurd cc
 lines_there past (command.Vend id price) d of_device = absurd cc
 lines_there past c d of_device = refl
 
-pub refusal_is : (setup : Setup) (d : DeviceSetup) (job : Option Job) (state : EpochState) (owed : OrderState) (last : ℕ)
-    (past : List Entry) (c : Command) → last ≡ last_id setup past → is_running job ≡ true → is_of_device c ≡ true
+refusal_beside_is : (setup : Setup) (d : DeviceSetup) (job : Option Job) (state : EpochState) (owed : OrderState)
+    (past : List Entry) (c : Command) → is_running job ≡ true → is_of_device c ≡ true
     → device_at setup.devices (address_of c) ≡ Some d → Keeps (device d) job state owed (lines_of d past)
-    → refusal_beside d job state owed last c ≡ state_refusal setup past c
-refusal_is setup d job state owed last past c is_last runs of_device there keeps =
+    → refusal_beside d job state owed (last_id setup past) c ≡ state_refusal setup past c
+refusal_beside_is setup d job state owed past c runs of_device there keeps =
     ap (λ v. first_of (state_fails v) (state_tests c)) (
-    seen_is d job state owed last (lines_of d past) runs keeps
-    ∙ ap (view_of (Some d) (lines_of d past)) is_last
+    seen_is d job state owed (last_id setup past) (lines_of d past) runs keeps
     ∙ ap (λ lines. view_of (Some d) lines (last_id setup past)) (sym (lines_there past c d of_device))
     ∙ ap (λ f. view_of f (lines_for past c f) (last_id setup past)) (sym there))
+
+-- a command that begins no id isn't judged by the last one
+any_last : (d : DeviceSetup) (job : Option Job) (state : EpochState) (owed : OrderState) (last other : ℕ) (c : Command)
+    → (begins_id c ≡ true → last ≡ other) → refusal_beside d job state owed last c ≡ refusal_beside d job state owed other c
+any_last d job state owed last other (command.Pay addr id count) same =
+    ap (λ n. refusal_beside d job state owed n (command.Pay addr id count)) (same refl)
+any_last d job state owed last other (command.Vend id price) same =
+    ap (λ n. refusal_beside d job state owed n (command.Vend id price)) (same refl)
+any_last d job state owed last other c same = refl
+
+pub refusal_is : (setup : Setup) (d : DeviceSetup) (job : Option Job) (state : EpochState) (owed : OrderState) (last : ℕ)
+    (past : List Entry) (c : Command) → (begins_id c ≡ true → last ≡ last_id setup past) → is_running job ≡ true
+    → is_of_device c ≡ true → device_at setup.devices (address_of c) ≡ Some d
+    → Keeps (device d) job state owed (lines_of d past)
+    → refusal_beside d job state owed last c ≡ state_refusal setup past c
+refusal_is setup d job state owed last past c is_last runs of_device there keeps =
+    any_last d job state owed last (last_id setup past) c is_last
+    ∙ refusal_beside_is setup d job state owed past c runs of_device there keeps
 
 pub halting_is : (setup : Setup) (d : DeviceSetup) (job : Option Job) (state : EpochState) (owed : OrderState)
     (past : List Entry) (c : Command) → is_running job ≡ true → is_halt c ≡ true
     → device_at setup.devices (address_of c) ≡ Some d → Keeps (device d) job state owed (lines_of d past)
     → halting_refusal d job ≡ state_refusal setup past c
 halting_is setup d job state owed past (command.Halt addr) runs halt there keeps =
-    refusal_is setup d job state owed (last_id setup past) past (command.Halt addr) refl runs refl there keeps
+    refusal_beside_is setup d job state owed past (command.Halt addr) runs refl there keeps
 halting_is setup d job state owed past c runs halt there keeps = absurd cc
 
 -- what isn't refused may begin
@@ -184,8 +201,8 @@ address_there (e ∷ es) addr d is = there_by (e.addr == addr) e d (device_at es
 
 -- a command at a device
 pub command_taken : (setup : Setup) (d : DeviceSetup) (c : Command) (before : Option Job) (job : Job)
-    (state : EpochState) (owed after : OrderState) (last : ℕ) (past : List Entry) → last ≡ last_id setup past
-    → is_of_device c ≡ true → is_running before ≡ true → after.order ≡ owed.order
+    (state : EpochState) (owed after : OrderState) (last : ℕ) (past : List Entry)
+    → (begins_id c ≡ true → last ≡ last_id setup past) → is_of_device c ≡ true → is_running before ≡ true → after.order ≡ owed.order
     → after.id ≡ running_id d (model.works c [])
     → device_at setup.devices (address_of c) ≡ Some d → refusal_beside d before state owed last c ≡ None
     → MayBegin c setup.devices state (order_of owed.order) → Stands d job c [] state (order_of owed.order)
@@ -205,8 +222,8 @@ command_taken setup d c before job state owed after last past is_last of_device 
     )
 
 pub command_refused : (setup : Setup) (d : DeviceSetup) (c : Command) (job : Option Job) (state : EpochState)
-    (owed : OrderState) (last : ℕ) (past : List Entry) (why : CommandNo) → last ≡ last_id setup past
-    → is_of_device c ≡ true → is_running job ≡ true
+    (owed : OrderState) (last : ℕ) (past : List Entry) (why : CommandNo)
+    → (begins_id c ≡ true → last ≡ last_id setup past) → is_of_device c ≡ true → is_running job ≡ true
     → device_at setup.devices (address_of c) ≡ Some d → refusal_beside d job state owed last c ≡ Some why
     → Keeps (device d) job state owed (lines_of d past)
     → (Some why ≡ state_refusal setup past c) × Keeps (device d) job state owed (lines_of d (entry.No c why ∷ past))

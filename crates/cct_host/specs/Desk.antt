@@ -23,7 +23,7 @@ use Rattle.cct_jobs.specs.Jobs.{order_of}
 use Rattle.cct_host.specs.declared.desk.JobDesk.{JobDesk}
 use Rattle.cct_host.specs.Attempt.{Attempt, HeardBy, Links, news_of, put_of, used_by}
 use Rattle.cct_host.specs.Held.{coins_by, due_by, held_by, puts_left, sells_only}
-use Rattle.cct_host.specs.Running.{needed, rows_begun}
+use Rattle.cct_host.specs.Running.{begins_id, needed, rows_begun}
 use Rattle.cct_host.specs.Place.{AreAt, NextAt, OwnsAt, Place, StandsAt, addr_of, device, lines_at, sales, scans}
 
 -- What the host has at a place is the job that its lines tell, beside the epoch and the open order.
@@ -73,16 +73,17 @@ Commands setup place old new c result =
     (past : List Entry) → Sits past place old → (no_of result ≡ state_refusal setup past c) × Sits
     (command_entry c (no_of result) ∷ past) place new
 
--- The same of a command that begins a job, after a past with this last id.
+-- The same of a command that begins a job, after a past with this last id, where it begins an id.
 abbrev pub CommandsAbove : Setup → ℕ → Place → JobDesk → JobDesk → Command → Result Unit CommandNo → Type 0
 CommandsAbove setup last place old new c result =
-    (past : List Entry) → last ≡ last_id setup past → Sits past place old
+    (past : List Entry) → (begins_id c ≡ true → last ≡ last_id setup past) → Sits past place old
     → (no_of result ≡ state_refusal setup past c) × Sits (command_entry c (no_of result) ∷ past) place new
 
--- A command that begins or halts a job is refused for this reason, if for any, after a past with this last id.
+-- A command that begins or halts a job is refused for this reason, if for any, after a past with this last id, where it
+-- begins an id.
 abbrev pub RefusesAbove : Setup → ℕ → Place → JobDesk → Command → Option CommandNo → Type 0
 RefusesAbove setup last place desk c why =
-    (past : List Entry) → last ≡ last_id setup past → Sits past place desk → why ≡ state_refusal setup past c
+    (past : List Entry) → (begins_id c ≡ true → last ≡ last_id setup past) → Sits past place desk → why ≡ state_refusal setup past c
 
 -- The greatest id of the payments at work at desks.
 abbrev pub greatest_paying : List JobDesk → ℕ

@@ -43,6 +43,12 @@ abbrev pub is_halt : Command → Bool
 is_halt (command.Halt addr) = true
 is_halt c = false
 
+-- A command that begins an order or a sale, which its id has to be new for.
+abbrev pub begins_id : Command → Bool
+begins_id (command.Pay addr id count) = true
+begins_id (command.Vend id price) = true
+begins_id c = false
+
 -- There is a job that can be halted.
 abbrev pub halts_in : Option Job → Bool
 halts_in None = false

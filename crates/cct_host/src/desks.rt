@@ -19,6 +19,7 @@ ghost use Rattle.cct_record.specs.Body.{Encodable};
 ghost use Rattle.cct_jobs.specs.Jobs.{is_of_device, order_of};
 ghost use Rattle.cct_host.specs.Desk.{IsFree, puts_at};
 ghost use Rattle.cct_host.specs.Held.{sells_only};
+ghost use Rattle.cct_host.specs.Running.{begins_id};
 ghost use Rattle.cct_host.specs.Sound.{IsSoundSetup-prop};
 
 use crate::desk::JobDesk;
@@ -110,7 +111,7 @@ impl<'s> Desks<'s> {
         ensures answers { Answers self.old self.new command.now result }
     {
         let devices = self.setup.devices.as_slice();
-        let last = self.last_id();
+        let last = self.last_before(command);
         match self.find(addr) {
             None => Err(CommandNo::NoDevice),
             Some(index) => self.devices[index].command(command, &devices[index], self.setup, last),
@@ -141,7 +142,7 @@ impl<'s> Desks<'s> {
             Some(index) => self.devices[index].command_refusal(
                 command,
                 &devices[index],
-                self.last_id(),
+                self.last_before(command),
             ),
         }
     }
@@ -155,6 +156,17 @@ impl<'s> Desks<'s> {
             self.sale.id(),
         );
         greater(self.last, at_work)
+    }
+
+    /// The last id, where a command to a device begins one; any other isn't judged by it.
+    fn last_before(&self, command: &Command) -> u32
+        requires of_device { is_of_device command.now ≡ true }
+        ensures { begins_id command.now ≡ true → result ≡ max self.now.last (working_id self.now) }
+    {
+        match command {
+            Command::Pay { .. } => self.last_id(),
+            _ => 0,
+        }
     }
 
     /// How many records are held: those that running jobs may still put, and one for each open order that no job is at

@@ -11,13 +11,13 @@ pub returns-in-Some-clause-commands : goal.returns-in-Some-clause-commands
 returns-in-Some-clause-commands c past is_last sits =
     let desk = c.args.self.now in
     sale_refused c.args.setup.now c.args.id c.args.price desk.job desk.epoch desk.orders c.args.last past c.in-Some.why
-    is_last (sym c.sale_refusal.ensures ∙ c.in-Some.is) sits
+    (is_last refl) (sym c.sale_refusal.ensures ∙ c.in-Some.is) sits
 
 pub returns-in-None-clause-commands : goal.returns-in-None-clause-commands
 returns-in-None-clause-commands c past is_last sits =
     let desk = c.args.self.now in
     sale_taken c.args.setup.now c.args.id c.args.price desk.job c.begin.result desk.epoch desk.orders _ c.args.last past
-    is_last refl refl (sym c.sale_refusal.ensures ∙ c.in-None.is)
+    (is_last refl) refl refl (sym c.sale_refusal.ensures ∙ c.in-None.is)
     (c.begin.ensures.sale c.args.id c.args.price refl) sits
 
 pub returns-in-None-clause-takes : goal.returns-in-None-clause-takes

@@ -58,7 +58,7 @@ returns-in-Some-clause-answers c past stands =
     let y = desk_lent ks _ i c.index-deref_mut-index.result kept c.index-deref_mut-index.is in
     let sits = desk_sits setup.devices ks i d _ past at.within is y stands.devices in
     let answered = c.command.ensures.commands (fits_three setup i d stands.sound at.within is) past
-    (last_is c.args.self.now past c.last_id-last.result stands c.last_id-last.ensures) sits in
+    (λ begins. last_is c.args.self.now past c.last_before-last.result stands (c.last_before-last.ensures begins)) sits in
     let news = command_entry c.args.command.now (no_of c.command.result) ∷ [] in
     let here = subst (λ a. AreAt a past news) c.requires.address (command_at past c.args.command.now _) in
     let desks = c.args.self.now in

@@ -24,5 +24,5 @@ returns-in-Some c past stands =
     let y : k ≡ get_or ks i k = c.index-deref-index.is ∙ ap (λ ls. get_or ls i k) c.deref.ensures.0 in
     let place = device_found setup.devices i d c.args.addr at.index is in
     c.command_refusal.ensures setup (ap (device_at setup.devices) c.requires.address ∙ place.1) past
-    (last_is desks past c.last_id.result stands c.last_id.ensures)
+    (λ begins. last_is desks past c.last_before.result stands (c.last_before.ensures begins))
     (desk_sits setup.devices ks i d k past at.within is y stands.devices)
