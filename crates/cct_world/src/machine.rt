@@ -9,7 +9,7 @@ ghost use Rattle.cct_model.specs.Money.{totals};
 ghost use Rattle.cct_model.specs.Script.{IsCrash, IsFault, IsInRange, is_known};
 ghost use Rattle.cct_bus.specs.Bus as wires;
 ghost use Rattle.cct_host.specs.Host as hosts;
-ghost use Rattle.cct_host.specs.Restarting.{crash_news};
+ghost use Rattle.cct_host.specs.Restarting.{restart_news};
 ghost use Rattle.cct_world.specs.Step.{crashes_of, entry_told, is_next};
 
 use crate::WorldNo;
@@ -199,7 +199,7 @@ impl<D: Disk> Machine<'_, D> {
 /// Tells what a power cut left.
 fn tell_crash(crashed: Crashed, report: &mut ArrayVec<Entry, 8>)
     requires { report.old.items ≡ [] }
-    ensures { reverse report.new.items ≡ crash_news crashed }
+    ensures { reverse report.new.items ≡ restart_news crashed }
 {
     let Crashed { records, kept } = crashed;
     report.push(Entry::Crash { records });

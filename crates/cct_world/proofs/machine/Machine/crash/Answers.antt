@@ -4,31 +4,29 @@ use Rattle.cct_world.proofs.machine.Machine.crash.Goals as goal
 
 pub returns-in-Ok-clause-played : goal.returns-in-Ok-clause-played
 returns-in-Ok-clause-played g c =
-    let machine = c.args.self.now in
-    let restart = c.in-Ok.ensures in
-    let restarts = crash_restarts machine.host c.restart.new.self c.args.at c.in-Ok.crashed _ c.tell_crash.ensures
-    c.restart.ensures.setup restart.found restart.recalls restart.records restart.counts restart.kept in
+    let again = c.in-Ok.ensures.restarts in
+    let restarts = crash_restarts c.args.self.now.host c.restart.new.self c.args.at c.args.choice c.in-Ok.crashed _
+    c.tell_crash.ensures again in
     record {
-      setup = search rules;
-      whole = search rules;
+      setup = again.setup;
+      whole = again.whole;
       plays = search rules;
       told = search rules;
       counts = restarts_count _ _ _ _ _ _ restarts;
-      restarts = (λ past stands. c.restart.ensures.due past stands.host, restarts);
-      cut = search rules;
-      lasts = search rules;
-      later = search rules;
+      restarts = (λ past stands. again.due past stands.host, restarts);
+      cut = again.cut;
+      lasts = again.outlasts;
+      later = again.later;
     }
 
 pub returns-in-Err-clause-unplayed : goal.returns-in-Err-clause-unplayed
 returns-in-Err-clause-unplayed g c =
-    let restart = c.in-Err.ensures in
+    let fails = c.in-Err.ensures.fails in
     record {
-      breaks = crash_breaks c.args.self.now c.restart.new.self c.args.at c.args.choice c.in-Err.why restart.refused
-          restart.never restart.left c.restart.ensures.due;
-      empty = search rules;
-      cause = search rules;
-      cut = search rules;
+      breaks = crash_breaks c.args.self.now c.args.at c.args.choice _ c.in-Err.why fails;
+      empty = c.requires.report;
+      cause = fails.cause;
+      cut = fails.cut;
       lost = search rules;
-      lasts = search rules;
+      lasts = fails.outlasts;
     }
