@@ -68,7 +68,7 @@ ghost use Rattle.cct_laws.specs.Coins.{all_fallen, all_paid};
 ghost use Rattle.cct_laws.specs.LifeCounts.{FitsLife};
 ghost use Rattle.cct_laws.specs.PaidOut.{is_paid_out};
 ghost use Rattle.cct_laws.specs.Recorded.{HasNoJob, IsRestart, open_orders, totals_in};
-ghost use Rattle.cct_laws.specs.Ending.{nexts_at, EndsRound, IsUndisturbed, nexts_needed, is_payment, EndsAs, IsPaidOut};
+ghost use Rattle.cct_laws.specs.Ending.{nexts_at, EndsRound, IsUndisturbed, nexts_needed, is_payment, EndsAs, AlwaysFindsNoneLeft};
 ghost use Rattle.cct_laws.specs.Faults.{FailsByFault, EchoFailsByFault, EndsByFaults, is_dispense, FailsByFaultBut};
 ghost use Rattle.cct_model.specs.Honest.{Honest, IsHonestFault};
 ghost use Rattle.cct_laws.specs.Law.{AreOfToday, AreRising, Begins, EachEntry, HasBytes, IsAnswered, IsOf, IsUnanswered, NamesNoPut, lines_in};
@@ -132,7 +132,7 @@ pub fn a_job_without_a_fault_ends()
         → IsCommandFor setup d command → LegalFrom capacity setup [] before past
         → job (lines_of d past) ≡ works command [] → nexts_needed d command steps ≤ nexts_at d.addr steps
         → LegalFrom capacity setup past steps end → IsUndisturbed d.addr past end
-        → (is_payment command ≡ true → IsPaidOut d past end)
+        → (is_payment command ≡ true → AlwaysFindsNoneLeft d past end)
         → EndsAs command d.addr past end }
 {}
 

@@ -82,7 +82,7 @@ pub passed_job : (d : DeviceSetup) (past news : List Entry) → ArePassed d past
     job (lines_of d (news ++ past)) ≡ job (lines_of d past)
 passed_job d past news passes = passed_same job (λ count lines. refl) d past news passes
 
--- a fact of each entry over entries that are none of a device, and over an entry and the end behind it
+-- a fact of each entry over entries that are none of a device, and over an entry and the end after it
 pub each_aside : (P : List Entry → Entry → Type 0) (d : DeviceSetup) (past news : List Entry) →
     ((older : List Entry) (e : Entry) → Passes d older e → P older e) → ArePassed d past news → EachEntry P past →
     EachEntry P (news ++ past)
@@ -321,14 +321,14 @@ nobody_at setup d addr is_of none = λ same. clash (sym none ∙ ap (device_at s
     clash : None ≡ Some d → ⊥
     clash e = cc
 
--- a loss of power, seen from one device: nothing was kept, or the record that its job was putting, or another's
+-- a power cut, seen from one device: nothing was kept, or the record that its job was putting, or another's
 pub data Lost (d : DeviceSetup) (past : List Entry) : List Entry → Type 0 where
   bare : Lost d past (bare_restart past)
   kept_here : (c : Command) (since : List Line) (r : Record) → AtWork d past c since → row_after d past c since ≡ puts r →
       owner past r ≡ d.addr → Lost d past (keeping_restart past r)
   kept_elsewhere : (r : Record) → owner past r ≢ d.addr → HasCause d past r → Lost d past (keeping_restart past r)
 
--- each step brought something at a device, or entries that are none of it, or the host lost its power
+-- each step brought something at a device, or entries that are none of it, or the power was cut
 pub data Seen (capacity : ℕ) (setup : Setup) (d : DeviceSetup) (past : List Entry) (s : Step) (news : List Entry) : Type 0 where
   seen_here : AtDevice capacity setup d past s news → Seen capacity setup d past s news
   seen_aside : Aside d past s news → Seen capacity setup d past s news
@@ -400,7 +400,7 @@ seen_from capacity setup d past _ _ sound is_of ids (lost_in_put at choice e c s
 seen_from capacity setup d past _ _ sound is_of ids (lost_in_sale at choice id price since none selling) =
     seen_lost (kept_elsewhere (record_of.Sold id price) (not_host setup d sound is_of) tt) (λ n. refl)
 
--- the lines behind a loss of power
+-- the lines after a power cut
 pub lines_kept : (d : DeviceSetup) (past : List Entry) (r : Record) → owner past r ≡ d.addr →
     lines_of d (keeping_restart past r ++ past) ≡ put r ∷ restarted ∷ lines_of d past
 lines_kept d past r here = rw (eq-eqb (owner past r) d.addr here) refl
@@ -427,7 +427,7 @@ pub lines_taken : (d : DeviceSetup) (past : List Entry) (c : Command) → addres
     lines_of d (entry.Taken c ∷ past) ≡ taken c ∷ lines_of d past
 lines_taken d past c here = rw (eq-eqb (address_of c) d.addr here) refl
 
--- the line of an entry of its job, and of the end behind it
+-- the line of an entry of its job, and of the end after it
 pub lines_with_end : (d : DeviceSetup) (past : List Entry) (e : Entry) (end : Option End) (ls : List Line) →
     lines_of d (e ∷ past) ≡ ls → lines_of d (with_end d.addr e end ++ past) ≡ with_ended end ls
 lines_with_end d past e None ls line_is = line_is
