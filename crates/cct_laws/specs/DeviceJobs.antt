@@ -21,9 +21,8 @@ use Rattle.cct_model.specs.Job.{works, job, address_of}
 use Rattle.cct_model.specs.Refusal.{Test, at_a_device, at_an_acceptor, at_a_hopper, with_no_job, tests_of, start_refusal, running_refusal}
 use Rattle.cct_model.specs.Script.{IsCommand}
 
--- What becomes of a request to a device over an honest wire, as what the device heard and what the host got: the
--- devices heard damaged bytes; the host heard such, or nothing, or that the device refuses; or the host got the
--- device's reply.
+-- What becomes of a request to a device over an honest wire, as what the device heard and what the host got. The devices
+-- heard damaged bytes; or the host heard such, or nothing, or that the device refuses; or the host got the device's reply.
 pub data Fate (d : DeviceSetup) (past : List Met) (q : Request) : Option Request → Option Reply → Type 0 where
   unheard : Fate d past q None None
   silenced : Fate d past q (Some q) None

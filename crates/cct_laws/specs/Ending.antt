@@ -52,7 +52,7 @@ abbrev pub nexts_needed : DeviceSetup → Command → List Step → ℕ
 nexts_needed d c steps = if is_payment c then row_count d c + halts_at d.addr steps else row_count d c
 
 -- The ends of a job that got its answers: a start that started, or whose acceptor wasn't quiet; a round or a stop that
--- came to its end, or broke; an order that was closed; an identification and a path that were told; a sale.
+-- came to its end, or broke; an order that was closed. An identification and a path were told, and a sale was made.
 abbrev pub IsEndOf : Command → End → Type 0
 IsEndOf (command.Start addr mask) Started = ⊤
 IsEndOf (command.Start addr mask) (Unquiet counter) = ⊤

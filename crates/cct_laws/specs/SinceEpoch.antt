@@ -105,7 +105,7 @@ HasCauseAt d past e = ⊤
 abbrev pub HaveCauses : DeviceSetup → List Entry → Type 0
 HaveCauses d past = EachEntry (HasCauseAt d) past
 
--- A fact of what an acceptor met since its epoch began, of all that it met, and of its lines, each newest first, holds
+-- A fact of what an acceptor met since its epoch began, of all that it met, and of its lines, each newest first. It holds
 -- before anything came, and is kept by each thing that can come over an honest wire.
 pub record IsKeptSince (d : DeviceSetup) (P : List Met → List Met → List Line → Type 0) : Type 0 where
   pub starts : P [] [] []

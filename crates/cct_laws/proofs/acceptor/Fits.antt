@@ -149,9 +149,9 @@ if_over false F G weaker fact = tt
 abbrev pub IsStill : World → ReadSoFar → Type 0
 IsStill w b = Shut w × (length w.coins ≡ length b.known)
 
--- what a job needs, by the first of the rows that are left: no epoch runs before the row that begins one, and the acceptor
--- is silent from its reset on; one runs before its readings, and where the rows end it, no coin comes any more from the
--- row on that inhibits all coins. What a row asks besides needs what the rows after it need.
+-- what a job needs, by the first of the rows that are left. No epoch runs before the row that begins one, and the acceptor
+-- is silent from its reset on. One runs before its readings. Where the rows end it, no coin comes any more from the row on
+-- that inhibits all coins
 abbrev pub FitsAt : World → ReadSoFar → List TableRow → Option Credits → Judged → Type 0
 FitsAt w b [] credits judged = ⊤
 FitsAt w b (asks_for ResetDevice behind ∷ rows) credits judged = IsIdle b.epoch

@@ -159,7 +159,7 @@ IsOfHopper (puts_due order_end behind) = ⊤
 IsOfHopper (puts_due due behind) = ⊥
 IsOfHopper r = ⊤
 
--- what comes after each row of a hopper's job: the life count is read right before a record of an order, a dispense of its
+-- what comes after each row of a hopper's job. The life count is read right before a record of an order. A dispense of its
 -- coins comes right after it is opened, then the row that waits for them, and after that it is closed
 abbrev pub Follows : ℕ → List TableRow → TableRow → Type 0
 Follows own [] (asks_for q behind) = ⊤
