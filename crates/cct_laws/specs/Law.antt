@@ -1,4 +1,4 @@
--- What the laws speak of beside the definitions of the machine and of an honest wire.
+-- Words of the laws: a device of a setup and its lines, a fact of each entry, an answered exchange, steps that say bytes.
 use Rattle.std.specs.Prelude.{◌≡◌, ◌<◌, true, List, [], ◌∷◌, ◌++◌, Some, None, ⊤}
 use Rattle.std.specs.List.{All}
 use Rattle.cct_model.specs.terms.device.DeviceSetup.{DeviceSetup}
