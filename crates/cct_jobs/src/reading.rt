@@ -19,34 +19,33 @@ use crate::target::Target;
 use cct_epoch::{Judged, judge};
 use cct_model::{Credits, End, Reply};
 
-/// The round or the stop after its stage got the wanted reply.
-pub(crate) fn answered(device: Target, stage: Stage, reply: &Reply<'_>) -> Job
+/// The stage of the round or the stop got the wanted reply, and the job goes on.
+pub(crate) fn answered(job: &mut Job, device: Target, stage: Stage, reply: &Reply<'_>)
     requires row { IsOfReading stage }
     requires wanted { form_shown (reply_shown reply.now) ≡ form_of (request_of stage) }
-    ensures device { (failed : ℕ) → LeadsTo device stage failed (Some (reply_shown reply.now)) result }
-    ensures keeps { KeepsTo (stage_ahead device stage) result }
+    ensures device { (failed : ℕ) → LeadsTo device stage failed (Some (reply_shown reply.now)) job.new }
+    ensures keeps { KeepsTo (stage_ahead device stage) job.new }
 {
     match stage {
-        Stage::StopInhibits { recorded } => first_try(
-            device,
-            Stage::Reads {
-                read_by: ReadBy::Stop,
-                recorded,
-            },
-        ),
-        Stage::Reads { read_by, recorded } => first_try(
-            device,
-            Stage::Looks {
-                read_by,
-                recorded,
-                credits: credits_in(reply),
-            },
-        ),
+        Stage::StopInhibits { recorded } => {
+            let read_by = ReadBy::Stop;
+            *job = first_try(device, Stage::Reads { read_by, recorded });
+        }
+        Stage::Reads { read_by, recorded } => {
+            *job = first_try(
+                device,
+                Stage::Looks {
+                    read_by,
+                    recorded,
+                    credits: credits_in(reply),
+                },
+            );
+        }
         Stage::Looks {
             read_by,
             recorded,
             credits,
-        } => judged(device, read_by, recorded, &credits, mask_in(reply)),
+        } => *job = judged(device, read_by, recorded, &credits, mask_in(reply)),
         _ => unreachable!(),
     }
 }
