@@ -1,6 +1,6 @@
 // Bytes with a trace of their changes: which spans were written, what stood there before, and what was settled.
-ghost use Rattle.std.specs.Prelude.{◌≡◌, ◌⊎◌, ◌↔◌, ◌+◌, ◌-◌, ◌<◌, ◌≤◌, ◌∷◌, [], ◌++◌, IsTrue, IfOk, IfSome};
-ghost use Rattle.std.specs.Prelude.{ℕ, length, take, drop, reverse, get_or, set, replicate, vec_capacity};
+ghost use Rattle.std.specs.Prelude.{◌≡◌, ◌↔◌, ◌+◌, ◌-◌, ◌<◌, ◌≤◌, ◌∷◌, [], ◌++◌, IsTrue, IfOk, IfSome};
+ghost use Rattle.std.specs.Prelude.{ℕ, length, take, reverse, get_or, set, replicate, vec_capacity};
 ghost use Rattle.cct_disk.specs.Disk.{put_at, SameOutside};
 ghost use Rattle.cct_disk.specs.Content.{window, written, settled, unsynced_in, cut_byte};
 ghost use Rattle.cct_disk.specs.Content.{IsCut, CutsBytes, AddsNoImage};

@@ -1,6 +1,6 @@
 //! What a reading of a coin acceptor means beside what was recorded before (ccTalk Generic Specification 4, parts 2 and
 //! 3, header 229).
-ghost use Rattle.std.specs.Prelude.{◌≡◌, ◌≤◌, length};
+ghost use Rattle.std.specs.Prelude.{◌≡◌};
 ghost use Rattle.cct_model.specs.Reading.{distance, posted_of, judge};
 
 use cct_model::{Coin, Coins, Credits, EVENTS, Judged, Pair, Record};

@@ -8,7 +8,7 @@ ghost use Rattle.cct_journal.specs.Creating.{Creates, IsCreated, IsNotBlank, Ref
 ghost use Rattle.cct_journal.specs.Stands.{GoesOn, IsPlaced};
 
 use crate::CreateNo;
-use crate::format::{HEADER, LEAST, PIECE};
+use crate::format::{BLOCK, HEADER, LEAST};
 use crate::place::Place;
 use crate::range::{GATED_CALLS, write_gated};
 use cct_disk::Disk;
@@ -34,7 +34,7 @@ fn is_blank(bytes: &[u8]) -> bool
 }
 
 /// Reads as many bytes as the room has, and tells where among them the first stands that isn't 0.
-fn read_piece<D: Disk>(disk: &mut D, at: u64, room: &mut [u8]) -> Result<Option<usize>, Failed>
+fn read_block<D: Disk>(disk: &mut D, at: u64, room: &mut [u8]) -> Result<Option<usize>, Failed>
     requires { at + length room.old ≤ D.size disk.old }
     ensures within { IfOk result (λ found. IfSome found (λ index. index < length room.old)) }
     ensures found { IfOk result (λ found. (image : List ℕ) → D.seen disk.old ≡ Some image
@@ -47,7 +47,7 @@ fn read_piece<D: Disk>(disk: &mut D, at: u64, room: &mut [u8]) -> Result<Option<
     Ok(first_byte(room))
 }
 
-/// Whether every byte of the disk is 0, which is read in pieces. Where one isn't, the answer tells the first.
+/// Whether every byte of the disk is 0, which is read in blocks. Where one isn't, the answer tells the first.
 fn check_blank<D: Disk>(disk: &mut D) -> Result<(), CreateNo>
     ensures blank { OnOk result ((image : List ℕ) → D.seen disk.old ≡ Some image → IsBlank image) }
     ensures refused { IfErr result (λ why. IsNotBlank (D.seen disk.old) why) }
@@ -55,11 +55,11 @@ fn check_blank<D: Disk>(disk: &mut D) -> Result<(), CreateNo>
     ensures cause { Caused (D.faults disk.old) (D.faults disk.new) (result ≡ Err CreateNo.Disk) }
 {
     let len = disk.len();
-    let mut room = [0; PIECE];
+    let mut room = [0; BLOCK];
     let mut at = 0;
     while at < len {
-        let count = (len - at).min(PIECE as u64) as usize;
-        if let Some(index) = read_piece(disk, at, &mut room[..count])? {
+        let count = (len - at).min(BLOCK as u64) as usize;
+        if let Some(index) = read_block(disk, at, &mut room[..count])? {
             return Err(CreateNo::NotBlank {
                 at: at + index as u64,
             });

@@ -1,7 +1,7 @@
 //! A body is read as the record that it spells.
 ghost use Rattle.std.specs.Prelude.{◌≡◌, ◌+◌, ◌<◌, ◌≤◌, ◌↔◌, All, IfNone, IfSome, IsTrue};
 ghost use Rattle.cct_record.specs.Body.{Encodable, IsPlaced, IsRefused, Spells};
-ghost use Rattle.cct_record.specs.Fields.{coin_at, coins_at, four_at, record_at, three_at, two_at};
+ghost use Rattle.cct_record.specs.Fields.{coins_at, four_at, record_at, three_at, two_at};
 
 use crate::encode;
 use crate::kind::{BODY, BROKEN, CLOSED, EPOCH, EPOCH_END, LIVES, ODD, OPENED, READING, SOLD};
