@@ -14,11 +14,11 @@ returns-in-Ok-clause-over c =
     let yes = c.if-not-may_follow.false in
     went_on c.args.desks.now _ c.args.ledger.now _ _ c.recall.ensures.setup c.requires.same
     (λ before recalls follow other. sym yes ∙ c.may_follow.ensures.epochs before recalls follow other)
-    c.in-Ok.ensures.exactly c.in-Ok.ensures.taken c.recall.ensures.recalls
+    c.in-Ok.ensures.takes.exactly c.in-Ok.ensures.takes.taken c.recall.ensures.recalls
 
 pub returns-in-Err-clause-refused : goal.returns-in-Err-clause-refused
 returns-in-Err-clause-refused c =
     let yes = c.if-not-may_follow.false in
     ledger_refuses c.args.desks.now c.args.ledger.now _ c.requires.same
     (λ before recalls follow other. sym yes ∙ c.may_follow.ensures.epochs before recalls follow other)
-    c.in-Err.ensures.exactly
+    c.in-Err.ensures.takes.exactly
