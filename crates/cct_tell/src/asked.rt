@@ -26,7 +26,7 @@ pub enum Asked<'e> {
         kind: CheckKind,
         view: FrameView<'e>,
     },
-    /// A piece that is no message under either check.
+    /// Bytes that are no message under either check.
     Broken(&'e [u8]),
 }
 
@@ -71,8 +71,8 @@ impl fmt::Display for Asked<'_> {
                 let message = Message { kind, view };
                 write!(f, "{message}")
             }
-            Asked::Broken(piece) => {
-                let why = NoMessage(piece);
+            Asked::Broken(bytes) => {
+                let why = NoMessage(bytes);
                 write!(f, "the host sent no message: {why}")
             }
         }
@@ -93,7 +93,7 @@ impl fmt::Display for Recipient {
     }
 }
 
-/// Who sent a message, with a space behind it; nothing where the message names nobody.
+/// Who sent a message, with a space after it; nothing where the message names nobody.
 #[derive(Drop)]
 struct Sender(Option<u8>);
 

@@ -92,7 +92,7 @@ fn device_in(text: &[u8]) -> Option<(u8, CheckKind)> {
     }
 }
 
-/// The end that a word names which has an address behind it alone.
+/// The end that a word names which has an address after it alone.
 fn bare_end(word: &[u8]) -> Option<End> {
     match word {
         b"started" => Some(End::Started),

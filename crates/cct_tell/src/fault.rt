@@ -1,4 +1,4 @@
-//! Why a piece is no message, and the names of both checks.
+//! Why bytes are no message, and the names of both checks.
 
 use cct_frame::{FrameFault, read};
 use cct_lines::CheckKind;
@@ -12,7 +12,7 @@ pub(crate) fn check_name(kind: CheckKind) -> &'static str {
     }
 }
 
-/// Why a piece is no message under one check.
+/// Why bytes are no message under one check.
 #[derive(Drop)]
 pub(crate) struct Fault(pub FrameFault);
 
@@ -37,7 +37,7 @@ impl fmt::Display for Fault {
     }
 }
 
-/// Why a piece is no message under either check.
+/// Why bytes are no message under either check.
 #[derive(Drop)]
 pub(crate) struct NoMessage<'p>(pub &'p [u8]);
 

@@ -51,7 +51,7 @@ fn listing_line(rest: &[&[u8]]) -> Option<Entry> {
     })
 }
 
-/// The line `ok COMMAND`: behind its word stands the line of the command.
+/// The line `ok COMMAND`: after its word stands the line of the command.
 fn taken_line(line: &[u8]) -> Option<Entry> {
     match step_in(line.strip_prefix(b"ok ")?)? {
         Step::Command(command) => Some(Entry::Taken(command)),

@@ -3,7 +3,7 @@
 use crate::fields::{byte, coins, mask, number, one_byte};
 use cct_lines::Record;
 
-/// The record that fields spell, as they stand behind `put` (`docs/TRANSCRIPT.md`).
+/// The record that fields spell, as they stand after `put` (`docs/TRANSCRIPT.md`).
 pub(crate) fn record_in(fields: &[&[u8]]) -> Option<Record> {
     let (word, rest) = fields.split_first()?;
     match *word {

@@ -3,7 +3,7 @@
 use crate::fields::{amount, fields_of, number, one_byte, one_number, step_in};
 use cct_lines::{Command, CommandNo, Step};
 
-/// The command and the reason that a text spells, as they stand behind `no`: the reason is the first text behind a
+/// The command and the reason that a text spells, as they stand after `no`: the reason is the first text after a
 /// space that is one.
 pub(crate) fn refusal_in(text: &[u8]) -> Option<(Command, CommandNo)> {
     for (at, letter) in text.iter().enumerate() {
@@ -38,7 +38,7 @@ fn reason_in(text: &[u8]) -> Option<CommandNo> {
     }
 }
 
-/// The reason that a word and the numbers behind it spell.
+/// The reason that a word and the numbers after it spell.
 fn numbered_reason_in(text: &[u8]) -> Option<CommandNo> {
     let fields = fields_of(text)?;
     let (word, rest) = fields.as_slice().split_first()?;

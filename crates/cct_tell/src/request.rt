@@ -1,11 +1,11 @@
-//! What a request says behind its name.
+//! What a request says after its name.
 
 use crate::lists::{Count, Places};
 use cct_lines::ENABLE_CODE;
 use cct_msg::Request;
 use std::fmt;
 
-/// The values of a request, behind a colon; nothing where it has none.
+/// The values of a request, after a colon; nothing where it has none.
 #[derive(Drop)]
 pub(crate) struct Values<'r>(pub &'r Request);
 

@@ -49,7 +49,7 @@ fn write_fault<W: fmt::Write>(fault: &WireFault, f: &mut fmt::Formatter<W>) -> f
         }
         WireFault::HostHears(_) => {
             f.write_str(
-                "    in the next exchange the host hears this behind its echo, in place of the replies\n",
+                "    in the next exchange the host hears this after its echo, in place of the replies\n",
             )
         }
         WireFault::WholeHeard(_) => {
@@ -72,7 +72,7 @@ pub fn alarm_of(end: End) -> Option<&'static str> {
         End::StartUnsure => Some(
             "the mask was sent and not acknowledged: the epoch runs, and a round comes next",
         ),
-        End::Unquiet { .. } => Some("pieces fell in behind the reset: no epoch began"),
+        End::Unquiet { .. } => Some("objects fell in after the reset: no epoch began"),
         End::Broke => Some(
             "the epoch is over, and coins of it may be lost: the cash box is to be counted",
         ),
@@ -84,7 +84,7 @@ pub fn alarm_of(end: End) -> Option<&'static str> {
     }
 }
 
-/// Writes sums by their names, and what is left behind a loss of power.
+/// Writes sums by their names, and what is left after a power cut.
 fn write_sums<W: fmt::Write>(entry: &Entry, f: &mut fmt::Formatter<W>) -> fmt::Result {
     match entry {
         Entry::Crash { records } => {
