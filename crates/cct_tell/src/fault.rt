@@ -27,13 +27,21 @@ impl fmt::Display for Fault {
                     "wrong length, {said} data bytes make {needs} bytes, and it has {have}"
                 )
             }
-            FrameFault::Check { want, got } => {
-                write!(f, "simple check bad, {want:02x} wanted, {got:02x} got")
-            }
-            FrameFault::CrcCheck { want, got } => {
-                write!(f, "CRC bad, {want:04x} wanted, {got:04x} got")
-            }
+            _ => write_bad_check(self.0, f),
         }
+    }
+}
+
+/// Writes which check is bad, and how.
+fn write_bad_check<W: fmt::Write>(fault: FrameFault, f: &mut fmt::Formatter<W>) -> fmt::Result {
+    match fault {
+        FrameFault::Check { want, got } => {
+            write!(f, "simple check bad, {want:02x} wanted, {got:02x} got")
+        }
+        FrameFault::CrcCheck { want, got } => {
+            write!(f, "CRC bad, {want:04x} wanted, {got:04x} got")
+        }
+        _ => Ok(()),
     }
 }
 
