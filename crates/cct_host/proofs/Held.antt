@@ -29,7 +29,7 @@ use Rattle.cct_jobs.specs.declared.payout.Payout.TheVariants.{Enables, Counts}
 use Rattle.cct_jobs.specs.declared.stage.Stage.{Stage}
 use Rattle.cct_jobs.specs.declared.stage.Stage.TheVariants.{IdentAsks, Reads, Looks, Pays}
 use Rattle.cct_jobs.specs.declared.target.Target.{Target}
-use Rattle.cct_jobs.specs.declared.stage.Visit.TheVariants.{Round, Stop}
+use Rattle.cct_jobs.specs.declared.stage.ReadBy.TheVariants.{Round, Stop}
 use Rattle.cct_jobs.specs.Ahead.{ahead, coins_in, price_in, stage_ahead}
 use Rattle.cct_jobs.specs.Jobs.{Needs, Stands, end_of_job, need_of, newest_end, order_of}
 use Rattle.cct_jobs.specs.Sales.{NeedsSale, StandsSale, newest_sale_end}
