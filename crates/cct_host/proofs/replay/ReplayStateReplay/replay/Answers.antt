@@ -1,6 +1,6 @@
 use Rattle.std.proofs.Common.{◌∙◌, arith, sym}
 use Rattle.cct_host.proofs.Records.{all_good, bad_next, bad_stays}
-use Rattle.cct_host.proofs.recall.RecollectionReplay.replay.Goals as goal
+use Rattle.cct_host.proofs.replay.ReplayStateReplay.replay.Goals as goal
 
 pub returns-then-is_some : goal.returns-then-is_some
 returns-then-is_some c from first before many over = record {
@@ -17,11 +17,11 @@ returns-in-Err c from first before many over =
     let desks = c.args.self.now.desks in
     let before_it = all_good from c.args.self.now.bad _ _ _ before (sym c.is_some.ensures ∙ c.if-is_some.false) over.over in
     record {
-      setup = c.recall_entry.ensures.setup ∙ over.setup;
-      same = c.recall_entry.ensures.same;
-      unused = c.recall_entry.ensures.unused over.unused;
-      reserved = c.recall_entry.ensures.reserved ∙ over.reserved;
-      counted = omega (arith, c.recall_entry.ensures.counted, over.counted);
+      setup = c.replay_entry.ensures.replays.setup ∙ over.setup;
+      same = c.replay_entry.ensures.replays.same;
+      unused = c.replay_entry.ensures.replays.unused over.unused;
+      reserved = c.replay_entry.ensures.replays.reserved ∙ over.reserved;
+      counted = omega (arith, c.replay_entry.ensures.replays.counted, over.counted);
       over = bad_next from _ desks c.args.self.now.ledger before c.args.index c.args.entry.now
-          c.recall_entry.ensures.setup many before_it (c.in-Err.ensures.refused before before_it);
+          c.replay_entry.ensures.replays.setup many before_it (c.in-Err.ensures.refused before before_it);
     }

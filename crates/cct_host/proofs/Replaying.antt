@@ -1,4 +1,4 @@
--- What desks recall of each record that follows those before it.
+-- What desks know after a replay of each record that follows those before it.
 use Rattle.std.proofs.Common.{◌≡◌, ◌≢◌, ℕ, zero, suc, ◌+◌, ◌<◌, ◌==◌, ◌&&◌, ◌⊎◌, inl, inr, nat_lt, not, Bool, true, false, cond, List, [], ◌∷◌, ◌++◌, length, set, take, drop, get_or, ◌≤◌, Option, Some, None, refl, sym, ap, ap₂, subst, ◌∙◌, arith, eq-eqb, true≢false}
 use Rattle.std.specs.List.{All, position, position_or_len}
 use Rattle.std.proofs.lemmas.Bool.{and_parts, cases_eq, ne_eqb}
@@ -25,40 +25,40 @@ use Rattle.cct_laws.proofs.money.Replaying.{IsOwing, epoch_else, epoch_own, is_o
 use Rattle.cct_jobs.specs.Jobs.{order_of}
 use Rattle.cct_ledger.specs.Orders.{has_id}
 use Rattle.cct_host.specs.declared.desk.JobDesk.{JobDesk}
-use Rattle.cct_host.specs.declared.dues.Dues.{Dues}
+use Rattle.cct_host.specs.declared.orders.OrderState.{OrderState}
 use Rattle.cct_host.specs.Desk.{IsFree}
-use Rattle.cct_host.specs.Recalled.{AllRecall, IsUnused, RecallsAt, may_begin}
+use Rattle.cct_host.specs.Replayed.{AllReplay, IsUnused, ReplaysAt, may_begin}
 use Rattle.cct_host.proofs.Places.{apart, device_found, is_at, none_here, other_of, refilled}
 
 -- at first
-free_recalls : (d : DeviceSetup) (k : JobDesk) → IsFree k → RecallsAt d k []
-free_recalls d k free = record {
+free_replays : (d : DeviceSetup) (k : JobDesk) → IsFree k → ReplaysAt d k []
+free_replays d k free = record {
   epoch_is = free.1;
-  order_is = ap (λ (x : Dues). order_of x.order) free.2;
-  id_is = ap (λ (x : Dues). x.id) free.2;
+  order_is = ap (λ (x : OrderState). order_of x.order) free.2;
+  id_is = ap (λ (x : OrderState). x.id) free.2;
 }
 
-pub none_recalled : (ds : List DeviceSetup) (ks : List JobDesk) → length ks ≡ length ds → All IsFree ks
-    → AllRecall ds ks []
-none_recalled [] [] many free = tt
-none_recalled [] (k ∷ ks) many free = absurd (omega arith)
-none_recalled (d ∷ ds) [] many free = absurd (omega arith)
-none_recalled (d ∷ ds) (k ∷ ks) many free =
-    (free_recalls d k (All-head IsFree k ks free), none_recalled ds ks (omega arith) (All-tail IsFree k ks free))
+pub none_replayed : (ds : List DeviceSetup) (ks : List JobDesk) → length ks ≡ length ds → All IsFree ks
+    → AllReplay ds ks []
+none_replayed [] [] many free = tt
+none_replayed [] (k ∷ ks) many free = absurd (omega arith)
+none_replayed (d ∷ ds) [] many free = absurd (omega arith)
+none_replayed (d ∷ ds) (k ∷ ks) many free =
+    (free_replays d k (All-head IsFree k ks free), none_replayed ds ks (omega arith) (All-tail IsFree k ks free))
 
 pub all_unused : (ks : List JobDesk) → All IsFree ks → All IsUnused ks
 all_unused ks free = All-weaker IsFree IsUnused (λ k is. is.0) ks free
 
 -- the desk at the index of a device is the device's
-pub recalls_there : (ds : List DeviceSetup) (ks : List JobDesk) (i : ℕ) (d : DeviceSetup) (k : JobDesk)
-    (before : List Record) → i < length ds → d ≡ get_or ds i d → k ≡ get_or ks i k → AllRecall ds ks before
-    → RecallsAt d k before
-recalls_there [] ks i d k before within is at all = absurd (omega arith)
-recalls_there (e ∷ es) [] i d k before within is at all = absurd all
-recalls_there (e ∷ es) (m ∷ ms) zero d k before within is at all =
-    subst (λ x. RecallsAt x k before) (sym is) (subst (λ x. RecallsAt e x before) (sym at) all.0)
-recalls_there (e ∷ es) (m ∷ ms) (suc i) d k before within is at all =
-    recalls_there es ms i d k before (omega arith) is at all.1
+pub replays_there : (ds : List DeviceSetup) (ks : List JobDesk) (i : ℕ) (d : DeviceSetup) (k : JobDesk)
+    (before : List Record) → i < length ds → d ≡ get_or ds i d → k ≡ get_or ks i k → AllReplay ds ks before
+    → ReplaysAt d k before
+replays_there [] ks i d k before within is at all = absurd (omega arith)
+replays_there (e ∷ es) [] i d k before within is at all = absurd all
+replays_there (e ∷ es) (m ∷ ms) zero d k before within is at all =
+    subst (λ x. ReplaysAt x k before) (sym is) (subst (λ x. ReplaysAt e x before) (sym at) all.0)
+replays_there (e ∷ es) (m ∷ ms) (suc i) d k before within is at all =
+    replays_there es ms i d k before (omega arith) is at all.1
 
 -- the index of a device is one of the setup
 pub position_within : (ds : List DeviceSetup) (addr i : ℕ) → position (is_at addr) ds ≡ Some i → i < length ds
@@ -78,11 +78,11 @@ begins_by found state mask =
     acceptor_there found && not (is_running state) && not (mask == 0) && has_values found mask
 
 pub begins_there : (setup : Setup) (d : DeviceSetup) (k : JobDesk) (before : List Record) (addr mask : ℕ)
-    → device_at setup.devices addr ≡ Some d → d.addr ≡ addr → RecallsAt d k before
+    → device_at setup.devices addr ≡ Some d → d.addr ≡ addr → ReplaysAt d k before
     → may_begin d k.epoch mask ≡ follows setup before (record_of.Epoch addr mask)
 unfolding begins_by
-begins_there setup d k before addr mask there here recalls =
-    ap (λ s. begins_by (Some d) s mask) (recalls.epoch_is ∙ ap (λ a. epoch_in a before) here)
+begins_there setup d k before addr mask there here replays =
+    ap (λ s. begins_by (Some d) s mask) (replays.epoch_is ∙ ap (λ a. epoch_in a before) here)
     ∙ ap (λ found. begins_by found (epoch_in addr before) mask) (sym there)
 
 pub begins_nowhere : (setup : Setup) (before : List Record) (addr mask : ℕ) → device_at setup.devices addr ≡ None
@@ -146,8 +146,8 @@ has_here setup before id d follow owing = by_addr (cases_eq d.addr owing.order_i
         ∙ sym (ne_eqb d.addr (opened_in id before) (λ same. other (same ∙ owing.opened)))
 
 places_same : (ds : List DeviceSetup) (ks : List JobDesk) (before : List Record) (id addr : ℕ)
-    → ((d : DeviceSetup) → has_id id (order_in d.addr before) ≡ (d.addr == addr)) → AllRecall ds ks before
-    → (position_or_len (λ (k : JobDesk). has_id id (order_of k.dues.order)) ks ≡ position_or_len (is_at addr) ds)
+    → ((d : DeviceSetup) → has_id id (order_in d.addr before) ≡ (d.addr == addr)) → AllReplay ds ks before
+    → (position_or_len (λ (k : JobDesk). has_id id (order_of k.orders.order)) ks ≡ position_or_len (is_at addr) ds)
     × (length ks ≡ length ds)
 places_same [] [] before id addr same all = (refl, refl)
 places_same [] (k ∷ ks) before id addr same all = absurd all
@@ -159,8 +159,8 @@ places_same (d ∷ ds) (k ∷ ks) before id addr same all =
     )
 
 pub owing_is : (setup : Setup) (ks : List JobDesk) (before : List Record) (id : ℕ) → all_follow setup before ≡ true
-    → is_open id before ≡ true → AllRecall setup.devices ks before
-    → position (λ (k : JobDesk). has_id id (order_of k.dues.order)) ks
+    → is_open id before ≡ true → AllReplay setup.devices ks before
+    → position (λ (k : JobDesk). has_id id (order_of k.orders.order)) ks
     ≡ position (λ d. d.addr == opened_in id before) setup.devices
 owing_is setup ks before id follow open_is all =
     let same = places_same setup.devices ks before id (opened_in id before)
@@ -189,62 +189,62 @@ nobody_at_host setup sound =
 
 -- one record more, at its device and at others
 
-own_recalls : (d : DeviceSetup) (old new : JobDesk) (r : Record) (before : List Record) → owner_in before r ≡ d.addr
-    → new.epoch ≡ epoch_by r old.epoch → order_of new.dues.order ≡ order_by r (order_of old.dues.order)
-    → new.dues.id ≡ old.dues.id → RecallsAt d old before → RecallsAt d new (r ∷ before)
-own_recalls d old new r before own epoch order id recalls = record {
-  epoch_is = epoch ∙ ap (epoch_by r) recalls.epoch_is ∙ sym (epoch_own d.addr r before own);
-  order_is = order ∙ ap (order_by r) recalls.order_is ∙ sym (order_own d.addr r before own);
-  id_is = id ∙ recalls.id_is;
+own_replays : (d : DeviceSetup) (old new : JobDesk) (r : Record) (before : List Record) → owner_in before r ≡ d.addr
+    → new.epoch ≡ epoch_by r old.epoch → order_of new.orders.order ≡ order_by r (order_of old.orders.order)
+    → new.orders.id ≡ old.orders.id → ReplaysAt d old before → ReplaysAt d new (r ∷ before)
+own_replays d old new r before own epoch order id replays = record {
+  epoch_is = epoch ∙ ap (epoch_by r) replays.epoch_is ∙ sym (epoch_own d.addr r before own);
+  order_is = order ∙ ap (order_by r) replays.order_is ∙ sym (order_own d.addr r before own);
+  id_is = id ∙ replays.id_is;
 }
 
-else_recalls : (d : DeviceSetup) (k : JobDesk) (r : Record) (before : List Record) → owner_in before r ≢ d.addr
-    → RecallsAt d k before → RecallsAt d k (r ∷ before)
-else_recalls d k r before other recalls = record {
-  epoch_is = recalls.epoch_is ∙ sym (epoch_else d.addr r before other);
-  order_is = recalls.order_is ∙ sym (order_else d.addr r before other);
-  id_is = recalls.id_is;
+else_replays : (d : DeviceSetup) (k : JobDesk) (r : Record) (before : List Record) → owner_in before r ≢ d.addr
+    → ReplaysAt d k before → ReplaysAt d k (r ∷ before)
+else_replays d k r before other replays = record {
+  epoch_is = replays.epoch_is ∙ sym (epoch_else d.addr r before other);
+  order_is = replays.order_is ∙ sym (order_else d.addr r before other);
+  id_is = replays.id_is;
 }
 
-pub recalled_apart : (ds : List DeviceSetup) (ks : List JobDesk) (r : Record) (before : List Record)
-    → device_at ds (owner_in before r) ≡ None → AllRecall ds ks before → AllRecall ds ks (r ∷ before)
-recalled_apart [] [] r before none all = tt
-recalled_apart [] (k ∷ ks) r before none all = absurd all
-recalled_apart (d ∷ ds) [] r before none all = absurd all
-recalled_apart (d ∷ ds) (k ∷ ks) r before none all =
+pub replayed_apart : (ds : List DeviceSetup) (ks : List JobDesk) (r : Record) (before : List Record)
+    → device_at ds (owner_in before r) ≡ None → AllReplay ds ks before → AllReplay ds ks (r ∷ before)
+replayed_apart [] [] r before none all = tt
+replayed_apart [] (k ∷ ks) r before none all = absurd all
+replayed_apart (d ∷ ds) [] r before none all = absurd all
+replayed_apart (d ∷ ds) (k ∷ ks) r before none all =
     let parts = none_here (d.addr == owner_in before r) d (device_at ds (owner_in before r)) none in (
-      else_recalls d k r before (λ same. other_of _ _ parts.0 (sym same)) all.0,
-      recalled_apart ds ks r before parts.1 all.1,
+      else_replays d k r before (λ same. other_of _ _ parts.0 (sym same)) all.0,
+      replayed_apart ds ks r before parts.1 all.1,
     )
 
-recalled_at : (ds : List DeviceSetup) (ks : List JobDesk) (i : ℕ) (new : JobDesk) (d : DeviceSetup) (r : Record)
+replayed_at : (ds : List DeviceSetup) (ks : List JobDesk) (i : ℕ) (new : JobDesk) (d : DeviceSetup) (r : Record)
     (before : List Record) → AreDistinct ds → i < length ds → d ≡ get_or ds i d → d.addr ≡ owner_in before r
-    → RecallsAt d new (r ∷ before) → AllRecall ds ks before → AllRecall ds (set ks i new) (r ∷ before)
-recalled_at [] ks i new d r before distinct within is here recalls all = absurd (omega arith)
-recalled_at (e ∷ es) [] i new d r before distinct within is here recalls all = absurd all
-recalled_at (e ∷ es) (m ∷ ms) zero new d r before distinct within is here recalls all = (
-  subst (λ x. RecallsAt x new (r ∷ before)) is recalls,
-  recalled_apart es ms r before
+    → ReplaysAt d new (r ∷ before) → AllReplay ds ks before → AllReplay ds (set ks i new) (r ∷ before)
+replayed_at [] ks i new d r before distinct within is here replays all = absurd (omega arith)
+replayed_at (e ∷ es) [] i new d r before distinct within is here replays all = absurd all
+replayed_at (e ∷ es) (m ∷ ms) zero new d r before distinct within is here replays all = (
+  subst (λ x. ReplaysAt x new (r ∷ before)) is replays,
+  replayed_apart es ms r before
       (subst (λ a. device_at es a ≡ None) (ap (λ (x : DeviceSetup). x.addr) (sym is) ∙ here) distinct.0) all.1,
 )
-recalled_at (e ∷ es) (m ∷ ms) (suc i) new d r before distinct within is here recalls all =
+replayed_at (e ∷ es) (m ∷ ms) (suc i) new d r before distinct within is here replays all =
     let other : owner_in before r ≢ e.addr =
     (λ (same : owner_in before r ≡ e.addr). apart es i d e.addr (omega arith) distinct.0
     (ap (λ (x : DeviceSetup). x.addr) (sym is) ∙ here ∙ same)) in (
-      else_recalls e m r before other all.0,
-      recalled_at es ms i new d r before distinct.1 (omega arith) is here recalls all.1,
+      else_replays e m r before other all.0,
+      replayed_at es ms i new d r before distinct.1 (omega arith) is here replays all.1,
     )
 
 -- the desks behind a record of the device at an index
-pub record_recalled : (setup : Setup) (ks items : List JobDesk) (i : ℕ) (old new : JobDesk) (d : DeviceSetup)
+pub record_replayed : (setup : Setup) (ks items : List JobDesk) (i : ℕ) (old new : JobDesk) (d : DeviceSetup)
     (r : Record) (before : List Record) → IsSoundSetup setup → items ≡ ks → old ≡ get_or ks i old
     → position (is_at (owner_in before r)) setup.devices ≡ Some i → d ≡ get_or setup.devices i d
-    → new.epoch ≡ epoch_by r old.epoch → order_of new.dues.order ≡ order_by r (order_of old.dues.order)
-    → new.dues.id ≡ old.dues.id → AllRecall setup.devices ks before
-    → AllRecall setup.devices (take (length ks) (set items i new ++ drop (length (set items i new)) ks)) (r ∷ before)
-record_recalled setup ks items i old new d r before sound lent was found is epoch order id all =
+    → new.epoch ≡ epoch_by r old.epoch → order_of new.orders.order ≡ order_by r (order_of old.orders.order)
+    → new.orders.id ≡ old.orders.id → AllReplay setup.devices ks before
+    → AllReplay setup.devices (take (length ks) (set items i new ++ drop (length (set items i new)) ks)) (r ∷ before)
+record_replayed setup ks items i old new d r before sound lent was found is epoch order id all =
     let place = device_found setup.devices i d (owner_in before r) found is in
-    let recalls = recalls_there setup.devices ks i d old before place.0 is was all in
-    subst (λ ls. AllRecall setup.devices ls (r ∷ before)) (sym (refilled ks items i new lent))
-    (recalled_at setup.devices ks i new d r before sound.distinct place.0 is place.2
-    (own_recalls d old new r before (sym place.2) epoch order id recalls) all)
+    let replays = replays_there setup.devices ks i d old before place.0 is was all in
+    subst (λ ls. AllReplay setup.devices ls (r ∷ before)) (sym (refilled ks items i new lent))
+    (replayed_at setup.devices ks i new d r before sound.distinct place.0 is place.2
+    (own_replays d old new r before (sym place.2) epoch order id replays) all)

@@ -1,4 +1,4 @@
--- The book of a host: the records that its journal has on its disk. What it is there, what a loss of power may leave of it,
+-- The records that the journal of a host has on its disk: what is there, what a power cut may leave of it,
 -- and what is found in an image.
 use Rattle.std.specs.Prelude.{◌≡◌, ℕ, Bool, true, Option, List, length, reverse}
 use Rattle.cct_model.specs.terms.device.Setup.{Setup}
@@ -10,21 +10,21 @@ use Rattle.cct_journal.specs.Losing.{LeavesWith}
 use Rattle.cct_journal.specs.Stands.{Reads, Stands}
 use Rattle.cct_host.specs.Starting.{IsFirstBad}
 
--- A journal of a setup has the book of these records, oldest first: its disk is honest and keeps just one image, which
+-- A journal keeps these records, oldest first: its disk is honest and keeps just one image, which
 -- stands for them, and so many does the journal count.
-abbrev pub HasBook : {D : Type 0} → Setup → (D → Bool) → (D → Option (List ℕ)) → (D → List ℕ → Type 0) → D → Place
+abbrev pub KeepsRecords : {D : Type 0} → Setup → (D → Bool) → (D → Option (List ℕ)) → (D → List ℕ → Type 0) → D → Place
     → List Record → Type 0
-HasBook setup honest seen may_leave disk place records = Stands honest seen may_leave disk place records
+KeepsRecords setup honest seen may_leave disk place records = Stands honest seen may_leave disk place records
 
--- Each image that a loss of power may leave on this honest disk is the book of these records, or, where one was due, of
--- these or of these and that one.
-abbrev pub LeavesBook : {D : Type 0} → Setup → (D → Bool) → (D → Option (List ℕ)) → (D → List ℕ → Type 0) → D
+-- Each image that a power cut may leave on this honest disk stands for these records, or, where one was due, for
+-- these, or for these and that one.
+abbrev pub LeavesRecords : {D : Type 0} → Setup → (D → Bool) → (D → Option (List ℕ)) → (D → List ℕ → Type 0) → D
     → Option Record → List Record → Type 0
-LeavesBook setup honest seen may_leave disk due records = LeavesWith honest seen may_leave disk due records
+LeavesRecords setup honest seen may_leave disk due records = LeavesWith honest seen may_leave disk due records
 
--- What a read gives is the book of these records, whatever a loss of power may leave, and so many does the journal count.
-abbrev pub ReadsBook : {D : Type 0} → Setup → (D → Option (List ℕ)) → D → Place → List Record → Type 0
-ReadsBook setup seen disk place records = Reads seen disk place records
+-- What a read gives stands for these records, whatever a power cut may leave, and so many does the journal count.
+abbrev pub ReadsRecords : {D : Type 0} → Setup → (D → Option (List ℕ)) → D → Place → List Record → Type 0
+ReadsRecords setup seen disk place records = Reads seen disk place records
 
 -- An image has so many records.
 abbrev pub FindsMany : Setup → List ℕ → ℕ → Type 0

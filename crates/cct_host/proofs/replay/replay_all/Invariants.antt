@@ -3,11 +3,11 @@ use Rattle.std.proofs.Common.{◌≡◌, ◌≤◌, List, []}
 use Rattle.cct_model.specs.lines.record.Record.{Record}
 use Rattle.cct_journal.specs.Journal as journals
 use Rattle.cct_ledger.specs.Ledger as ledgers
-use Rattle.cct_host.specs.Book.{ReadsBook}
+use Rattle.cct_host.specs.OnDisk.{ReadsRecords}
 use Rattle.cct_host.specs.Desks as all_desks
-use Rattle.cct_host.specs.Recalled.{AreUnused}
+use Rattle.cct_host.specs.Replayed.{AreUnused}
 use Rattle.cct_host.specs.Starting.{OnlyReadIn, WentOver, WentOverFirst}
-use Rattle.cct_host.proofs.recall.recall.Given as goal
+use Rattle.cct_host.proofs.replay.replay_all.Given as goal
 
 abbrev pub invariant-loop-index : goal.invariant-loop-index
 invariant-loop-index g l = record {
@@ -17,10 +17,10 @@ invariant-loop-index g l = record {
   reserved : ledgers.reserved_of l.ledger ≡ 0;
   counted : ledgers.applied l.ledger ≤ l.index;
   over : (records : List Record)
-      → ReadsBook (all_desks.setup_of l.fn.desks) g.D.Disk.seen (journals.disk_of l.fn.journal)
+      → ReadsRecords (all_desks.setup_of l.fn.desks) g.D.Disk.seen (journals.disk_of l.fn.journal)
       (journals.place_of l.fn.journal) records
       → WentOverFirst l.desks l.ledger records l.index;
   fresh : l.index ≡ 0 → WentOver l.desks l.ledger [];
-  reads : OnlyReadIn l.fn.journal l.journal;
+  reads : OnlyReadIn l.fn.journal l.journal ⊥;
   untouched : l.index ≡ 0 → l.journal ≡ l.fn.journal;
 }

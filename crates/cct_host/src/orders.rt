@@ -3,7 +3,7 @@ use cct_jobs::Owed;
 
 /// The open order, if there is one, and the id of the payment or the sale that is at work, or 0.
 #[derive(Clone, Copy)]
-pub(crate) struct Dues {
+pub(crate) struct OrderState {
     pub order: Option<Owed>,
     pub id: u32,
 }

@@ -26,24 +26,24 @@ pub record AreUnused (desks : Desks) : Type 0 where
   pub sale : IsFree desks.sale
 
 -- The desk of a device has the epoch and the open order that records tell of its address, and no payment is at work.
-pub record RecallsAt (d : DeviceSetup) (desk : JobDesk) (before : List Record) : Type 0 where
+pub record ReplaysAt (d : DeviceSetup) (desk : JobDesk) (before : List Record) : Type 0 where
   pub epoch_is : desk.epoch ≡ epoch_in d.addr before
-  pub order_is : order_of desk.dues.order ≡ order_in d.addr before
-  pub id_is : desk.dues.id ≡ 0
+  pub order_is : order_of desk.orders.order ≡ order_in d.addr before
+  pub id_is : desk.orders.id ≡ 0
 
 -- Each desk is so of the device at its index.
-abbrev pub AllRecall : List DeviceSetup → List JobDesk → List Record → Type 0
-AllRecall [] [] before = ⊤
-AllRecall (d ∷ ds) (desk ∷ desks) before = RecallsAt d desk before × AllRecall ds desks before
-AllRecall [] (desk ∷ desks) before = ⊥
-AllRecall (d ∷ ds) [] before = ⊥
+abbrev pub AllReplay : List DeviceSetup → List JobDesk → List Record → Type 0
+AllReplay [] [] before = ⊤
+AllReplay (d ∷ ds) (desk ∷ desks) before = ReplaysAt d desk before × AllReplay ds desks before
+AllReplay [] (desk ∷ desks) before = ⊥
+AllReplay (d ∷ ds) [] before = ⊥
 
--- Desks recall records: the setup is sound, no job is at any address, each desk of a device has what they tell of it,
+-- Desks replayed records: the setup is sound, no job is at any address, each desk of a device has what they tell of it,
 -- and their greatest id is known.
-pub record Recalls (desks : Desks) (before : List Record) : Type 0 where
+pub record Replays (desks : Desks) (before : List Record) : Type 0 where
   pub sound : IsSoundSetup (setup_of desks)
   pub unused : AreUnused desks
-  pub devices : AllRecall (setup_of desks).devices desks.devices.items before
+  pub devices : AllReplay (setup_of desks).devices desks.devices.items before
   pub last : desks.last ≡ greatest_id before
 
 -- An epoch with this mask may begin at a device whose epoch is this one.

@@ -1,71 +1,64 @@
 //! A host that starts goes over the records of its journal: it reads them, or is shown them as they are found.
 ghost use Rattle.std.specs.Prelude.{◌≡◌, ◌≤◌, ◌<◌, ◌+◌, ◌-◌, ◌^◌, List, [], ◌∷◌, Err, IfErr, IsTrue, OnErr, OnOk, false, is_ok, reverse};
-ghost use Rattle.cct_edge.specs.Faults.{Rose};
 ghost use Rattle.cct_model.specs.lines.record.Record.{Record};
 ghost use Rattle.cct_model.specs.Following.{follows};
 ghost use Rattle.cct_model.specs.Setup.{IsSoundSetup};
 ghost use Rattle.cct_record.specs.Body.{Encodable};
-ghost use Rattle.cct_journal.specs.Image.{capacity_of};
 ghost use Rattle.cct_journal.specs.Journal as journals;
 ghost use Rattle.cct_ledger.specs.Ledger as ledgers;
-ghost use Rattle.cct_host.specs.Book.{ReadsBook};
+ghost use Rattle.cct_host.specs.OnDisk.{ReadsRecords};
 ghost use Rattle.cct_host.specs.Desks as all_desks;
-ghost use Rattle.cct_host.specs.Recalled.{AreUnused, Recalls};
-ghost use Rattle.cct_host.specs.Starting.{OnlyReadIn, RefusesStart, WentOver, WentOverFirst};
+ghost use Rattle.cct_host.specs.Parts.{BelongTogether};
+ghost use Rattle.cct_host.specs.Replayed.{Replays};
+ghost use Rattle.cct_host.specs.Starting.{OnlyReadIn, RefusesStart, ReplaysOne, WentOver, WentOverFirst};
 
 use crate::Desks;
 use crate::refusal::StartNo;
 use cct_disk::Disk;
-use cct_journal::{Journal, ReadNo, Replay};
+use cct_journal::{Journal, Replay};
 use cct_ledger::{Ledger, NotAllowed};
 use cct_model::{Record, Setup};
 
 /// Desks and a ledger without records go over the records of a journal, oldest first.
 ///
 /// [`StartNo::BadRecord`] comes at the first record that can't be read or doesn't follow those before it.
-pub(crate) fn recall<D: Disk>(
+pub(crate) fn replay_all<D: Disk>(
     desks: &mut Desks<'_>,
     ledger: &mut Ledger<'_>,
     journal: &mut Journal<D>,
 ) -> Result<(), StartNo>
-    requires desks { Recalls desks.old [] }
+    requires desks { Replays desks.old [] }
     requires ledger { ledgers.StandsFor ledger.old [] 0 }
     requires same { ledgers.setup_of ledger.old ≡ all_desks.setup_of desks.old }
 
     // what holds of the parts of a host
     ensures setup { all_desks.setup_of desks.new ≡ all_desks.setup_of desks.old }
-    ensures same { ledgers.setup_of ledger.new ≡ all_desks.setup_of desks.new }
-    ensures reserved { ledgers.reserved_of ledger.new ≡ all_desks.reserved_of desks.new }
-    ensures counted { ledgers.applied ledger.new ≤ journals.used_of journal.new }
-    ensures fits { journals.used_of journal.new + all_desks.puts_of desks.new
-        ≤ capacity_of (D.size (journals.disk_of journal.new)) }
+    ensures together { BelongTogether desks.new ledger.new journal.new }
 
     // what they tell
     ensures over { OnOk result ((records : List Record)
-        → ReadsBook (all_desks.setup_of desks.old) D.seen (journals.disk_of journal.old)
+        → ReadsRecords (all_desks.setup_of desks.old) D.seen (journals.disk_of journal.old)
         (journals.place_of journal.old) records
         → WentOver desks.new ledger.new (reverse records)) }
     ensures starts { journals.used_of journal.old ≡ 0 → IsTrue (is_ok result) }
     ensures fresh { journals.used_of journal.old ≡ 0 → WentOver desks.new ledger.new [] }
     ensures refused { IfErr result (λ why. (records : List Record)
-        → ReadsBook (all_desks.setup_of desks.old) D.seen (journals.disk_of journal.old)
+        → ReadsRecords (all_desks.setup_of desks.old) D.seen (journals.disk_of journal.old)
         (journals.place_of journal.old) records
         → RefusesStart why (all_desks.setup_of desks.old) records) }
 
     // the journal
-    ensures reads { OnlyReadIn journal.old journal.new }
+    ensures reads { OnlyReadIn journal.old journal.new (result ≡ Err StartNo.Disk) }
     ensures untouched { journals.used_of journal.old ≡ 0 → journal.new ≡ journal.old }
-    ensures cause { result ≡ Err StartNo.Disk → Rose (D.faults (journals.disk_of journal.old))
-        (D.faults (journals.disk_of journal.new)) }
 {
     for index in 0..journal.used() {
-        recall_next(desks, ledger, journal, index)?;
+        replay_next(desks, ledger, journal, index)?;
     }
     Ok(())
 }
 
-/// The record of an index is read, and recalled behind those before it.
-fn recall_next<D: Disk>(
+/// The record of an index is read, and replayed after those before it.
+fn replay_next<D: Disk>(
     desks: &mut Desks<'_>,
     ledger: &mut Ledger<'_>,
     journal: &mut Journal<D>,
@@ -74,38 +67,28 @@ fn recall_next<D: Disk>(
     requires within { index < journals.used_of journal.old }
     requires counted { ledgers.applied ledger.old ≤ index }
     requires same { ledgers.setup_of ledger.old ≡ all_desks.setup_of desks.old }
-    ensures setup { all_desks.setup_of desks.new ≡ all_desks.setup_of desks.old }
-    ensures same { ledgers.setup_of ledger.new ≡ all_desks.setup_of desks.new }
-    ensures unused { AreUnused desks.old → AreUnused desks.new }
-    ensures reserved { ledgers.reserved_of ledger.new ≡ ledgers.reserved_of ledger.old }
-    ensures counted { ledgers.applied ledger.new ≤ index + 1 }
+    ensures replays { ReplaysOne desks.old desks.new ledger.old ledger.new }
     ensures over { OnOk result ((records : List Record)
-        → ReadsBook (all_desks.setup_of desks.old) D.seen (journals.disk_of journal.old)
+        → ReadsRecords (all_desks.setup_of desks.old) D.seen (journals.disk_of journal.old)
         (journals.place_of journal.old) records
         → WentOverFirst desks.old ledger.old records index
         → WentOverFirst desks.new ledger.new records (index + 1)) }
     ensures refused { IfErr result (λ why. (records : List Record)
-        → ReadsBook (all_desks.setup_of desks.old) D.seen (journals.disk_of journal.old)
+        → ReadsRecords (all_desks.setup_of desks.old) D.seen (journals.disk_of journal.old)
         (journals.place_of journal.old) records
         → WentOverFirst desks.old ledger.old records index
         → RefusesStart why (all_desks.setup_of desks.old) records) }
-    ensures reads { OnlyReadIn journal.old journal.new }
-    ensures cause { result ≡ Err StartNo.Disk → Rose (D.faults (journals.disk_of journal.old))
-        (D.faults (journals.disk_of journal.new)) }
+    ensures reads { OnlyReadIn journal.old journal.new (result ≡ Err StartNo.Disk) }
 {
-    let entry = match journal.read_at(index) {
-        Ok(entry) => entry,
-        Err(ReadNo::Disk) => return Err(StartNo::Disk),
-        Err(ReadNo::BadRecord { index }) => return Err(StartNo::BadRecord { index }),
-    };
-    match recall_entry(desks, ledger, &entry) {
+    let entry = journal.read_at(index)?;
+    match replay_entry(desks, ledger, &entry) {
         Ok(()) => Ok(()),
         Err(NotAllowed) => Err(StartNo::BadRecord { index }),
     }
 }
 
-/// A record is recalled behind those before it, or refused where it doesn't follow them.
-fn recall_entry(
+/// A record is replayed after those before it, or refused where it doesn't follow them.
+fn replay_entry(
     desks: &mut Desks<'_>,
     ledger: &mut Ledger<'_>,
     entry: &Record,
@@ -113,11 +96,7 @@ fn recall_entry(
     requires few { ledgers.applied ledger.old < 2 ^ 32 - 1 }
     requires encodable { Encodable entry.now }
     requires same { ledgers.setup_of ledger.old ≡ all_desks.setup_of desks.old }
-    ensures setup { all_desks.setup_of desks.new ≡ all_desks.setup_of desks.old }
-    ensures same { ledgers.setup_of ledger.new ≡ all_desks.setup_of desks.new }
-    ensures unused { AreUnused desks.old → AreUnused desks.new }
-    ensures reserved { ledgers.reserved_of ledger.new ≡ ledgers.reserved_of ledger.old }
-    ensures counted { ledgers.applied ledger.new ≤ ledgers.applied ledger.old + 1 }
+    ensures replays { ReplaysOne desks.old desks.new ledger.old ledger.new }
     ensures over { OnOk result ((before : List Record) → WentOver desks.old ledger.old before
         → WentOver desks.new ledger.new (entry.now ∷ before)) }
     ensures refused { OnErr result ((before : List Record) → WentOver desks.old ledger.old before
@@ -128,33 +107,33 @@ fn recall_entry(
     }
     match ledger.apply(entry) {
         Ok(()) => {
-            desks.recall(entry);
+            desks.replay(entry);
             Ok(())
         }
         Err(NotAllowed) => Err(NotAllowed),
     }
 }
 
-/// What is recalled of the records that are found behind a loss of power: desks and a ledger, up to the first record
+/// What is replayed of the records that are found after a power cut: desks and a ledger, up to the first record
 /// that doesn't follow those before it.
 #[derive(Drop)]
-pub(crate) struct Recollection<'s> {
+pub(crate) struct ReplayState<'s> {
     pub(crate) desks: Desks<'s>,
     pub(crate) ledger: Ledger<'s>,
-    /// The index of that record. Nothing is recalled from it on.
+    /// The index of that record. Nothing is replayed from it on.
     pub(crate) bad: Option<u32>,
 }
 
-impl<'s> Recollection<'s> {
-    ghost use Rattle.cct_host.specs.Replaying.{Recollects};
+impl<'s> ReplayState<'s> {
+    ghost use Rattle.cct_host.specs.Replaying.{ReplaysTo};
 
     /// Before the first record.
     pub(crate) fn new(setup: &'s Setup) -> Self
         requires sound { IsSoundSetup setup.now }
         ensures setup { all_desks.setup_of result.desks ≡ setup.now }
-        ensures starts { Recollects 0 result [] result }
+        ensures starts { ReplaysTo 0 result [] result }
     {
-        Recollection {
+        ReplayState {
             desks: Desks::new(setup),
             ledger: Ledger::new(setup),
             bad: None,
@@ -162,16 +141,16 @@ impl<'s> Recollection<'s> {
     }
 }
 
-impl Replay for Recollection<'_> {
-    ghost use Rattle.cct_host.specs.Replaying.{Recollects};
+impl Replay for ReplayState<'_> {
+    ghost use Rattle.cct_host.specs.Replaying.{ReplaysTo};
 
-    ghost replayed = { Recollects };
+    ghost replayed = { ReplaysTo };
 
     fn replay(&mut self, index: u32, entry: &Record) {
         if self.bad.is_some() {
             return;
         }
-        if let Err(NotAllowed) = recall_entry(&mut self.desks, &mut self.ledger, entry) {
+        if let Err(NotAllowed) = replay_entry(&mut self.desks, &mut self.ledger, entry) {
             self.bad = Some(index);
         }
     }
