@@ -37,7 +37,7 @@ pub enum OpenNo {
     /// The disk has no header of a journal of this version.
     #[error("the disk has no journal")]
     Alien,
-    /// The body behind so many records spells none, though its gate is open.
+    /// The body after so many records spells none, though its gate is open.
     #[error("record {index} of the journal is spelt wrongly")]
     BadRecord { index: u32 },
 }

@@ -14,11 +14,11 @@ returns-in-Ok-clause-over c =
     let yes = c.if-not-may_follow.false in
     went_on c.args.desks.now _ c.args.ledger.now _ _ c.replay.ensures.setup c.requires.same
     (λ before replays follow other. sym yes ∙ c.may_follow.ensures.epochs before replays follow other)
-    c.in-Ok.ensures.exactly c.in-Ok.ensures.taken c.replay.ensures.replays
+    c.in-Ok.ensures.takes.exactly c.in-Ok.ensures.takes.taken c.replay.ensures.replays
 
 pub returns-in-Err-clause-refused : goal.returns-in-Err-clause-refused
 returns-in-Err-clause-refused c =
     let yes = c.if-not-may_follow.false in
     ledger_refuses c.args.desks.now c.args.ledger.now _ c.requires.same
     (λ before replays follow other. sym yes ∙ c.may_follow.ensures.epochs before replays follow other)
-    c.in-Err.ensures.exactly
+    c.in-Err.ensures.takes.exactly

@@ -6,7 +6,7 @@ use Rattle.cct_jobs.specs.declared.job.Job.TheVariants.{Asks, ScanCallsSimple, S
 use Rattle.cct_jobs.specs.Jobs.{Stands}
 use Rattle.cct_jobs.specs.Scans.{StandsScan}
 use Rattle.cct_jobs.proofs.Needs.{poll_asked, poll_sent, stage_asked}
-use Rattle.cct_jobs.proofs.job.Job.after_hearing.Goals as goal
+use Rattle.cct_jobs.proofs.job.Job.hear.Goals as goal
 
 pub returns-in-Asks-clause-device : goal.returns-in-Asks-clause-device
 returns-in-Asks-clause-device c = λ d command since state owed q stands row is_ask.

@@ -1,5 +1,5 @@
--- Bytes that begin with another address ask nothing of a device, whatever their check.
-use Rattle.std.proofs.Common.{◌≡◌, ℕ, ◌+◌, ◌*◌, ◌%◌, ◌==◌, ◌&&◌, ◌||◌, Bool, true, false, cond, List, [], ◌∷◌, refl, true≢false, Option, Some, None, option_and_then, sum, take, slice_index}
+-- Bytes of a message for another device ask nothing of a device, whatever their check.
+use Rattle.std.proofs.Common.{◌≡◌, ℕ, ◌+◌, ◌*◌, ◌%◌, ◌==◌, ◌&&◌, ◌||◌, Bool, true, false, cond, not, List, [], ◌∷◌, refl, sym, ◌∙◌, Option, Some, None, option_and_then, sum, take, slice_index}
 use Rattle.cct_terms.specs.declared.wire.TheConstants.{BROADCAST}
 use Rattle.cct_terms.specs.declared.wire.CheckKind.{CheckKind}
 use Rattle.cct_terms.specs.declared.wire.CheckKind.TheVariants.{Simple, Crc}
@@ -8,24 +8,25 @@ use Rattle.cct_terms.specs.declared.request.Request.{Request}
 use Rattle.cct_terms.specs.Exchange.{asked_of, asks_of, to_all, to_one}
 use Rattle.cct_terms.specs.Message.{Message, message, length_agrees, crc}
 use Rattle.cct_terms.specs.Request.{request_of}
-use Rattle.cct_device.specs.Elsewhere.{begins_for}
+use Rattle.cct_device.specs.declared.hearing.Listener.{Listener}
+use Rattle.cct_device.specs.Listening.{HeardSince, is_elsewhere, is_for}
 
 -- a message for another asks nothing
-asks_other : (addr : ℕ) (m : Message) → ((m.to == addr) || (m.to == BROADCAST)) ≡ false → asked_of addr m ≡ None
+asks_other : (addr : ℕ) (m : Message) → not (is_for addr m.to) ≡ true → asked_of addr m ≡ None
 asks_other addr m other = by_tests (m.to == addr) (m.to == BROADCAST) (request_of m.header m.body) other
   where
-    by_tests : (own all : Bool) (request : Option Request) → (own || all) ≡ false →
+    by_tests : (own all : Bool) (request : Option Request) → not (own || all) ≡ true →
         cond own (to_one request) (cond all (to_all request) None) ≡ None
-    by_tests true all request other = absurd (true≢false other)
-    by_tests false true request other = absurd (true≢false other)
+    by_tests true all request other = absurd cc
+    by_tests false true request other = absurd cc
     by_tests false false request other = refl
 
-if_whole : (addr : ℕ) (whole : Bool) (m : Message) → ((m.to == addr) || (m.to == BROADCAST)) ≡ false →
+if_whole : (addr : ℕ) (whole : Bool) (m : Message) → not (is_for addr m.to) ≡ true →
     option_and_then (asked_of addr) (cond whole (Some m) None) ≡ None
 if_whole addr true m other = asks_other addr m other
 if_whole addr false m other = refl
 
-by_kind : (addr : ℕ) (kind : CheckKind) (bytes : List ℕ) → begins_for addr bytes ≡ false →
+by_kind : (addr : ℕ) (kind : CheckKind) (bytes : List ℕ) → is_elsewhere addr bytes ≡ true →
     option_and_then (asked_of addr) (message kind bytes) ≡ None
 unfolding message
 by_kind addr Simple [] other = refl
@@ -44,6 +45,6 @@ by_kind addr Crc (to ∷ said ∷ low ∷ header ∷ rest) other =
     (length_agrees said rest && (crc (to ∷ said ∷ header ∷ take said rest) == low + 256 * slice_index rest said))
     (record { to = to; from = None; header = header; body = take said rest }) other
 
-pub asks_nothing : (d : DeviceSetup) (bytes : List ℕ) → begins_for d.addr bytes ≡ false → asks_of d bytes ≡ None
+pub asks_nothing : (d : DeviceSetup) (bytes : List ℕ) (listener : Listener) → HeardSince listener d.addr bytes → listener.elsewhere ≡ true → asks_of d bytes ≡ None
 unfolding asks_of
-asks_nothing d bytes other = by_kind d.addr d.kind bytes other
+asks_nothing d bytes listener heard other = by_kind d.addr d.kind bytes (sym heard.elsewhere ∙ other)
