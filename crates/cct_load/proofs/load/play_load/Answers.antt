@@ -48,13 +48,13 @@ returns-clause-played g c =
     let told = sums_of steps past ++ Balance c.totals.result ∷ [] in
     let W = Wrote sink.written sink.puts out out2 in
     let B = Broke sink.written sink.puts out out2 in
-    let left = c.into_disk-in-Ok-play_lines.result in
+    let left = c.into_disk-2.result in
     let first =
     subst (λ answer. Writes sink.written sink.puts out (first_line load ∷ []) answer out1) c.in-Ok.is
     c.write_first.ensures.writes in
     subst (λ how. PlaysLoad c.args.world load how left W B) (sym c.end_of.ensures)
     (sums_end c.args.world load left W B c.in-Ok-play_lines.world c.play_lines.new.self.sums c.totals.result
-    made.played.0 c.totals.ensures made.disk.outlasts c.into_disk-in-Ok-play_lines.ensures lines
+    made.played.0 c.totals.ensures made.disk.outlasts c.into_disk-2.ensures lines
     c.write_sums-written.result
     (sums_written sink.written sink.puts out out1 out2 load told c.write_sums-written.result first
     (c.write_sums-written.ensures.writes steps past lines.holds.counted)))
