@@ -625,7 +625,7 @@ module _ {S : Type 0} (takes : S → ℕ → Result ℕ Failed → S → Type 0)
   pub record Opens (source0 source : S) (standing : Standing) (number : ℕ) (setup : Setup) : Type 0 where
     pub going : Going Always (left source0) (left source) standing.held number (at_setup setup) IsUnbegun IsNothing
     pub opening : TookOpening takes left source0 source standing.held number (at_setup setup)
-    pub source : Serves left faults source0 source ⊥
+    pub serves : Serves left faults source0 source ⊥
     pub next : IsNext number standing
 
 -- what the loop over the steps keeps: from what was so at its start comes what is so now, by any disk that was given; and

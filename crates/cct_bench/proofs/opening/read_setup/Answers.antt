@@ -28,7 +28,7 @@ loop-number-init g c =
           (sym c.requires.lines)
           (subst (λ setup. TookOpening source.takes source.left script script [] 1 (at_setup setup))
           (sym c.requires.setup) (opening_begin source.takes source.left script));
-      source = search rules;
+      serves = search rules;
       next = subst (IsNext 1) (sym c.requires.lines) (refl, lit≤ tt);
     }
 
@@ -98,6 +98,6 @@ loop-number-preserved g c =
           IsNothing runs.going reads;
       opening = opening_more source.takes source.left script0 script script1 held rest number stage (at_setup setup)
           runs.opening line;
-      source = serves_on runs.source c.in-Ok-Added.ensures.source;
+      serves = serves_on runs.serves c.in-Ok-Added.ensures.source;
       next = c.in-Ok-Added.ensures.next;
     }
