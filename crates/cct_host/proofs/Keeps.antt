@@ -15,8 +15,7 @@ use Rattle.cct_model.specs.Line as line
 use Rattle.cct_model.specs.Job as model
 use Rattle.cct_model.specs.Legal.{with_end}
 use Rattle.cct_model.specs.Job.{address_of, ident_requests}
-use Rattle.cct_model.specs.Rows.{id_ahead}
-use Rattle.cct_model.proofs.Rows.{told_fact}
+use Rattle.cct_model.proofs.Rows.{told_no_id}
 use Rattle.cct_model.specs.Order.{order, order_by}
 use Rattle.cct_model.specs.Refusal.{running_id, sale_id}
 use Rattle.cct_model.specs.Transcript.{lines_of, owner, sale_lines, sold_line}
@@ -36,9 +35,7 @@ running_line d x (model.works c since) = refl
 
 -- an identification begins no id
 pub no_id_told : (d : DeviceSetup) (addr : ℕ) → 0 ≡ running_id d (model.works (command.Ident addr) [])
-no_id_told d addr =
-    sym (ap (λ found. unwrap_or found 0)
-    (told_fact (λ rows. id_ahead rows ≡ None) refl (λ q behind rows none. none) (ident_requests d.body)))
+no_id_told d addr = sym (ap (λ found. unwrap_or found 0) (told_no_id (ident_requests d.body)))
 
 sale_line : (x : Line) (j : model.Job) → sale_id (model.with_line x j) ≡ sale_id j
 sale_line x model.free = refl

@@ -9,7 +9,7 @@ use Rattle.cct_model.specs.lines.command.CrashAt.{CrashAt}
 use Rattle.cct_model.specs.lines.entry.Entry.{Entry}
 use Rattle.cct_model.specs.lines.record.Record.{Record}
 use Rattle.cct_model.specs.Following.{all_follow, follows}
-use Rattle.cct_model.specs.Legal.{EntriesOfCrash}
+use Rattle.cct_model.specs.Legal.{EntriesOfRestart}
 use Rattle.cct_model.specs.Records.{records}
 use Rattle.cct_disk.specs.declared.disk.Disk.{Ghosts}
 use Rattle.cct_disk.specs.Disk.{IsTrusted}
@@ -18,9 +18,9 @@ use Rattle.cct_journal.specs.declared.place.Place.{Place}
 use Rattle.cct_journal.specs.Image.{Keeps}
 use Rattle.cct_journal.specs.Journal as journals
 use Rattle.cct_journal.specs.Losing.{LeavesWith, LeftBy}
-use Rattle.cct_laws.specs.Restart.{CrashSuits, calls_in, due_in}
-use Rattle.cct_laws.proofs.money.Recalling.{follow_at}
-use Rattle.cct_laws.proofs.money.Restarts.{crash_bare, crash_frees, crash_keeps}
+use Rattle.cct_laws.specs.Restart.{RestartSuits, calls_in, due_in}
+use Rattle.cct_laws.proofs.money.Replaying.{follow_at}
+use Rattle.cct_laws.proofs.money.Restarts.{restart_bare, entries_free, restart_keeps}
 use Rattle.cct_laws.proofs.Setups.{same_some}
 use Rattle.cct_host.specs.declared.host.Host.{Host}
 use Rattle.cct_host.specs.declared.refusal.CrashNo.{CrashNo}
@@ -186,17 +186,17 @@ kept_follow setup due kept rs follow same fits =
 
 pub crash_told : (setup : Setup) (past : List Entry) (at : Option CrashAt) (due kept : Option Record) (many : ℕ)
     → due ≡ due_in setup past at → KeptBy (calls_in at) due kept
-    → many ≡ length (records past) + length (put_by kept) → EntriesOfCrash setup past at (told_by many kept)
+    → many ≡ length (records past) + length (put_by kept) → EntriesOfRestart setup past at (told_by many kept)
 crash_told setup past at due None many same by is =
-    subst (λ n. EntriesOfCrash setup past at (told_by n None)) (omega (arith, is))
-    (crash_bare setup past at (nothing by))
+    subst (λ n. EntriesOfRestart setup past at (told_by n None)) (omega (arith, is))
+    (restart_bare setup past at (nothing by))
   where
     nothing : (due ≡ None) ⊎ (calls_in at < 4) → (due_in setup past at ≡ None) ⊎ (calls_in at < 4)
     nothing (inl none) = inl (sym same ∙ none)
     nothing (inr early) = inr early
 crash_told setup past at due (Some r) many same by is =
-    subst (λ n. EntriesOfCrash setup past at (told_by n (Some r))) (omega (arith, is))
-    (crash_keeps setup past at r (sym same ∙ by.0) by.1)
+    subst (λ n. EntriesOfRestart setup past at (told_by n (Some r))) (omega (arith, is))
+    (restart_keeps setup past at r (sym same ∙ by.0) by.1)
 
 told_records : (past : List Entry) (many : ℕ) (kept : Option Record)
     → records (told_by many kept ++ past) ≡ put_by kept ++ records past
@@ -206,7 +206,7 @@ told_records past many (Some r) = refl
 -- and the host that starts again stands for them
 module _ {D : Type 0} {g : Ghosts D} where
   pub crash_stands : (old new : Host D g) (past : List Entry) (at : Option CrashAt) (kept : Option Record) (many : ℕ)
-      → EntriesOfCrash (setup_of old) past at (told_by many kept)
+      → EntriesOfRestart (setup_of old) past at (told_by many kept)
       → ((rs : List Record) → ReadsBook (setup_of new) g.seen (disk_of new) (journals.place_of (journal_of new)) rs
       → StartsOver new (reverse rs))
       → HasBook (setup_of new) g.honest g.seen g.may_leave (disk_of new) (journals.place_of (journal_of new))
@@ -217,7 +217,7 @@ module _ {D : Type 0} {g : Ghosts D} where
       let back : reverse rs ≡ put_by kept ++ records past =
       turned_back (reverse (records past)) kept ∙ ap (λ ls. put_by kept ++ ls) (reverse-reverse (records past)) in
       started_stands new (told_by many kept ++ past) (reverse rs)
-      (crash_frees (setup_of old) past at (told_by many kept) told) (told_records past many kept ∙ sym back)
+      (entries_free (setup_of old) past at (told_by many kept) told) (told_records past many kept ∙ sym back)
       (starts rs (stands_read g (setup_of new) (disk_of new) (journals.place_of (journal_of new)) rs stands))
       (λ trusted. subst (HasBook (setup_of new) g.honest g.seen g.may_leave (disk_of new) (journals.place_of (journal_of new)))
       (sym (reverse-reverse rs)) stands)
@@ -255,7 +255,7 @@ module _ {D : Type 0} {g : Ghosts D} where
       → HasBook (setup_of old) g.honest g.seen g.may_leave (disk_of old) (journals.place_of (journal_of old)) rs
       → all_follow (setup_of old) (reverse rs) ≡ true
       → IfSome (due_of old at) (λ r. follows (setup_of old) (reverse rs) r ≡ true) → P)
-      → StandsFor old past → CrashSuits (setup_of old) past at → IsTrusted g.honest g.seen (disk_of old) → P
+      → StandsFor old past → RestartSuits (setup_of old) past at → IsTrusted g.honest g.seen (disk_of old) → P
   never_by old past at P due never stands suits trusted =
       let back = reverse-reverse (records past) in
       never (reverse (records past)) (stands.book trusted) (ap (all_follow (setup_of old)) back ∙ suits.follow)

@@ -21,7 +21,7 @@ use Rattle.cct_model.specs.Records.{epoch_in, is_open, opened_in, order_in, owne
 use Rattle.cct_model.specs.Setup.{AreDistinct, IsSoundSetup}
 use Rattle.cct_model.proofs.OpenOrders.{order_else, order_own}
 use Rattle.cct_laws.proofs.Setups.{same_some}
-use Rattle.cct_laws.proofs.money.Recalling.{IsOwing, epoch_else, epoch_own, is_owing, opened_here}
+use Rattle.cct_laws.proofs.money.Replaying.{IsOwing, epoch_else, epoch_own, is_owing, opened_here}
 use Rattle.cct_jobs.specs.Jobs.{order_of}
 use Rattle.cct_ledger.specs.Orders.{has_id}
 use Rattle.cct_host.specs.declared.desk.JobDesk.{JobDesk}

@@ -6,7 +6,7 @@ use Rattle.cct_model.specs.lines.command.CrashAt.{CrashAt}
 use Rattle.cct_model.specs.lines.record.Record.{Record}
 use Rattle.cct_model.specs.lines.entry.Entry.{Entry}
 use Rattle.cct_model.specs.lines.entry.Entry.TheVariants as entry
-use Rattle.cct_model.specs.Legal.{EntriesOfCrash}
+use Rattle.cct_model.specs.Legal.{EntriesOfRestart}
 use Rattle.cct_disk.specs.declared.disk.Disk.{Ghosts}
 use Rattle.cct_disk.specs.Disk.{IsTrusted}
 use Rattle.cct_journal.specs.declared.journal.Journal.{Journal}
@@ -87,4 +87,4 @@ module _ {D : Type 0} {g : Ghosts D} where
   abbrev pub Crashes : Host D g → Host D g → Option CrashAt → Crashed → Type 0
   Crashes old new at crashed =
       (past : List Entry) → StandsFor old past → IsTrusted g.honest g.seen (disk_of old)
-      → EntriesOfCrash (setup_of old) past at (crash_news crashed) × StandsFor new (crash_news crashed ++ past)
+      → EntriesOfRestart (setup_of old) past at (crash_news crashed) × StandsFor new (crash_news crashed ++ past)

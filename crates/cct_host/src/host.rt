@@ -14,7 +14,7 @@ ghost use Rattle.cct_disk.specs.Disk.{IsTrusted, OnlyReads};
 ghost use Rattle.cct_journal.specs.Image.{capacity_of};
 ghost use Rattle.cct_journal.specs.Journal as journals;
 ghost use Rattle.cct_journal.specs.Stands.{CutOnce, GoesOn, Outlasts};
-ghost use Rattle.cct_laws.specs.Restart.{CrashSuits, due_in};
+ghost use Rattle.cct_laws.specs.Restart.{RestartSuits, due_in};
 ghost use Rattle.cct_ledger.specs.Ledger as ledgers;
 ghost use Rattle.cct_host.specs.Desks as all_desks;
 ghost use Rattle.cct_model.specs.Rows.{puts_in};
@@ -250,7 +250,7 @@ impl<'s, D: Disk> Host<'s, D> {
         ensures refused { IfErr result (RefusesCrash (journal_of self.old) (journal_of self.new) (due_of self.old at)
             (setup_of self.old)) }
         ensures never { IfErr result (λ why. (past : List Entry) → StandsFor self.old past
-            → CrashSuits (setup_of self.old) past at → IsTrusted D.honest D.seen (disk_of self.old)
+            → RestartSuits (setup_of self.old) past at → IsTrusted D.honest D.seen (disk_of self.old)
             → why ≡ CrashNo.Disk) }
         ensures left { OnErr result ((past : List Entry) → StandsFor self.old past
             → IsTrusted D.honest D.seen (disk_of self.old)
@@ -299,7 +299,7 @@ impl<'s, D: Disk> Host<'s, D> {
         ensures refused { IfErr result (λ e. RefusesWith (journal_of self.entry) (due_of self.entry at)
             (setup_of self.entry) e.0 e.1) }
         ensures never { IfErr result (λ e. (past : List Entry) → StandsFor self.entry past
-            → CrashSuits (setup_of self.entry) past at → IsTrusted D.honest D.seen (disk_of self.entry)
+            → RestartSuits (setup_of self.entry) past at → IsTrusted D.honest D.seen (disk_of self.entry)
             → e.1 ≡ CrashNo.Disk) }
         ensures left { IfErr result (λ e. (past : List Entry) → StandsFor self.entry past
             → IsTrusted D.honest D.seen (disk_of self.entry)

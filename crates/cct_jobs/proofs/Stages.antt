@@ -28,7 +28,8 @@ use Rattle.cct_jobs.specs.Ahead.{place_of, questions_of, stage_ahead, reading_ah
 use Rattle.cct_jobs.specs.Jobs.{Asking, Knows, Stands, Suits, Trying, after_failed, newest_end, question_after, request_of}
 use Rattle.cct_jobs.proofs.Moves.{IsSettled, answer_ends_first, exchange_moves, exchange_stays}
 use Rattle.cct_jobs.proofs.Payouts.{MarkedFor, first_of_payout, marked_for, payout_fits, payout_knows}
-use Rattle.cct_jobs.proofs.Questions.{next_question, last_question, placed, question_again, question_within, again_fits}
+use Rattle.cct_jobs.proofs.Questions.{next_question, last_question, placed, question_again, question_within}
+use Rattle.cct_msg.proofs.Exchanges.{again_fits}
 use Rattle.cct_model.proofs.Tries.{asked_fails, path_set_again, path_read_again, tried}
 use Rattle.cct_jobs.proofs.Left.{from_stage}
 use Rattle.cct_model.proofs.RowEnds.{unanswered_ends}

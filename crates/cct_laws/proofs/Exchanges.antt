@@ -26,9 +26,9 @@ use Rattle.cct_model.specs.Honest.{IsHonestFault}
 use Rattle.cct_laws.specs.Honesty.{IsNoMessage, IsAddressPoll, DamagesHonestly}
 use Rattle.cct_laws.proofs.Echoes.{echo_off, echo_known}
 use Rattle.cct_laws.proofs.Honesty.{honest_means}
-use Rattle.cct_laws.specs.Kept.{Fate, unheard, silenced, answered, IsRefused}
+use Rattle.cct_laws.specs.DeviceJobs.{Fate, unheard, silenced, answered, IsRefused}
 use Rattle.cct_laws.specs.Law.{IsOf}
-use Rattle.cct_laws.proofs.Pieces.{ask_to, asks_nothing, none_under, damaged_asks}
+use Rattle.cct_laws.proofs.HeardBytes.{ask_to, asks_nothing, none_under, damaged_asks}
 use Rattle.cct_laws.proofs.Setups.{found_in, same_some}
 
 -- a request with the reply of a device that met all this

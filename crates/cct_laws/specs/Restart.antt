@@ -21,6 +21,6 @@ calls_in (Some at) = at.calls
 
 -- What a loss of power takes for granted of the past, so that a host starts over whatever it keeps: each record follows
 -- those before it, and so does the one that it may keep. Every past that is legal is so.
-pub record CrashSuits (setup : Setup) (past : List Entry) (at : Option CrashAt) : Type 0 where
+pub record RestartSuits (setup : Setup) (past : List Entry) (at : Option CrashAt) : Type 0 where
   pub follow : all_follow setup (records past) ≡ true
   pub due : IfSome (due_in setup past at) (λ r. follows setup (records past) r ≡ true)

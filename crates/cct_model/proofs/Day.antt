@@ -1,4 +1,4 @@
--- A day of two acceptors and three hoppers: both checks, a jam and a loss of power, up to the balance in the evening.
+-- A day of two acceptors and three hoppers: both checks, a jam and a power cut, up to the balance in the evening.
 use Rattle.std.proofs.Common.{◌≡◌, List, [], ◌∷◌, None, refl}
 use Rattle.cct_model.specs.Message.{message, spelling, crc}
 use Rattle.cct_model.specs.Request.{data_of, request_of, requests_with, form_of}
@@ -225,7 +225,7 @@ jam_plays = search
 abbrev after_jam : List Entry
 after_jam = after after_payouts jam
 
--- the host loses its power while an order is paid, and settles it; then one more is paid
+-- the power is cut while an order is paid, and the host settles it; then one more is paid
 abbrev power_cut : List Row
 power_cut =
     one (step.Command (command.Pay 5 5 2)) (entry.Taken (command.Pay 5 5 2))

@@ -16,7 +16,7 @@ mod Vectors
 mod Machine
 mod Payments
 mod Payouts
-mod Crashes
+mod Restarts
 mod Refusals
 mod Ledger
 mod Forged

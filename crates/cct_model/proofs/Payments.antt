@@ -1,5 +1,5 @@
 -- Payments and a sale, row by row: the bytes that are sent and heard, the records put, and how each job ends.
-use Rattle.std.proofs.Common.{[], ◌∷◌, List}
+use Rattle.std.proofs.Common.{[], ◌∷◌, ◌++◌, List}
 use Rattle.cct_model.specs.Message.{message, spelling}
 use Rattle.cct_model.specs.Request.{data_of, request_of, requests_with, form_of}
 use Rattle.cct_model.specs.Reply.{reply_data, reply_in}
@@ -18,7 +18,7 @@ use Rattle.cct_model.specs.lines.command.WireFault.TheVariants as fault
 use Rattle.cct_model.specs.lines.record.Record.TheVariants as record_of
 use Rattle.cct_model.specs.lines.entry.Entry.TheVariants as entry
 use Rattle.cct_model.specs.lines.entry.End.TheVariants as end_of
-use Rattle.cct_model.proofs.Machine.{Row, Plays, setup, funding, funded, one, both, wire}
+use Rattle.cct_model.proofs.Machine.{Row, Plays, setup, funding, funded, ordered, dispensed, paid_out, one, both, wire}
 
 funding_plays : Plays 65535 setup [] funding
 unfolding message spelling data_of request_of requests_with form_of reply_data reply_in has_place acceptor_reply
@@ -26,21 +26,42 @@ unfolding message spelling data_of request_of requests_with form_of reply_data r
     life_between close
 funding_plays = search
 
+-- a payment of two coins, up to its dispense
+abbrev dispensed_two : List Row
+dispensed_two =
+    one (step.Command (command.Pay 3 41 2)) (entry.Taken (command.Pay 3 41 2))
+    ∷ one (step.Next 3) (wire 3 "030101a4a5b2" "030101a4a5b201000300fc")
+    ∷ one (step.Next 3) (wire 3 "030001a854" "030001a85401030300fefffffd")
+    ∷ one (step.Next 3) (entry.Put (record_of.Opened 41 3 2 16777214))
+    ∷ one (step.Next 3) (wire 3 "030401a70102030249" "030401a7010203024901000300fc")
+    ∷ []
+
+-- with two lost looks at the payout
+abbrev looked_twice : List Row
+looked_twice =
+    dispensed_two
+    ++ one (step.Fault (fault.HostHears [])) (entry.Fault (fault.HostHears []))
+    ∷ one (step.Next 3) (wire 3 "030001a656" "030001a656")
+    ∷ one (step.Fault (fault.HostHears [])) (entry.Fault (fault.HostHears []))
+    ∷ one (step.Next 3) (wire 3 "030001a656" "030001a656")
+    ∷ []
+
+-- a halt, and two lost stops
+abbrev stopped_twice : List Row
+stopped_twice =
+    looked_twice
+    ++ one (step.Command (command.Halt 3)) (entry.Taken (command.Halt 3))
+    ∷ one (step.Fault (fault.HostHears [])) (entry.Fault (fault.HostHears []))
+    ∷ one (step.Next 3) (wire 3 "030001ac50" "030001ac50")
+    ∷ one (step.Fault (fault.HostHears [])) (entry.Fault (fault.HostHears []))
+    ∷ one (step.Next 3) (wire 3 "030001ac50" "030001ac50")
+    ∷ []
+
 -- every coin falls; the life count goes from 2 ^ 24 - 1 to 0 meanwhile
 abbrev pub paid : List Row
 paid =
-    one (step.Command (command.Pay 3 41 4)) (entry.Taken (command.Pay 3 41 4))
-    ∷ one (step.Next 3) (wire 3 "030101a4a5b2" "030101a4a5b201000300fc")
-    ∷ one (step.Next 3) (wire 3 "030001a854" "030001a85401030300fefffffd")
-    ∷ one (step.Next 3) (entry.Put (record_of.Opened 41 3 4 16777214))
-    ∷ one (step.Next 3) (wire 3 "030401a70102030447" "030401a7010203044701000300fc")
-    ∷ one (step.Fall 3) (entry.Fell 3)
-    ∷ one (step.Fall 3) (entry.Fell 3)
-    ∷ one (step.Fall 3) (entry.Fell 3)
-    ∷ one (step.Fall 3) (entry.Fell 3)
-    ∷ one (step.Next 3) (wire 3 "030001a656" "030001a6560104030001000400f3")
-    ∷ one (step.Next 3) (wire 3 "030001a854" "030001a85401030300020000f7")
-    ∷ both (step.Next 3) (entry.Put (record_of.Closed 41 4 0)) (entry.Ended 3 end_of.Closed)
+    paid_out
+    ++ both (step.Next 3) (entry.Put (record_of.Closed 41 4 0)) (entry.Ended 3 end_of.Closed)
     ∷ []
 
 paid_plays : Plays 65535 setup funded paid
@@ -52,11 +73,8 @@ paid_plays = search
 -- the reply to the dispense is lost and the hopper is reset: the life count still tells what fell
 abbrev pub lost_ack : List Row
 lost_ack =
-    one (step.Command (command.Pay 3 41 4)) (entry.Taken (command.Pay 3 41 4))
-    ∷ one (step.Next 3) (wire 3 "030101a4a5b2" "030101a4a5b201000300fc")
-    ∷ one (step.Next 3) (wire 3 "030001a854" "030001a85401030300fefffffd")
-    ∷ one (step.Next 3) (entry.Put (record_of.Opened 41 3 4 16777214))
-    ∷ one (step.Fault (fault.HostHears [])) (entry.Fault (fault.HostHears []))
+    ordered
+    ++ one (step.Fault (fault.HostHears [])) (entry.Fault (fault.HostHears []))
     ∷ one (step.Next 3) (wire 3 "030401a70102030447" "030401a70102030447")
     ∷ one (step.Fall 3) (entry.Fell 3)
     ∷ one (step.Fall 3) (entry.Fell 3)
@@ -75,11 +93,8 @@ lost_ack_plays = search
 -- the dispense itself is lost: no coin falls, and it is not sent again
 abbrev lost_dispense : List Row
 lost_dispense =
-    one (step.Command (command.Pay 3 41 4)) (entry.Taken (command.Pay 3 41 4))
-    ∷ one (step.Next 3) (wire 3 "030101a4a5b2" "030101a4a5b201000300fc")
-    ∷ one (step.Next 3) (wire 3 "030001a854" "030001a85401030300fefffffd")
-    ∷ one (step.Next 3) (entry.Put (record_of.Opened 41 3 4 16777214))
-    ∷ one (step.Fault (fault.DevicesHear [])) (entry.Fault (fault.DevicesHear []))
+    ordered
+    ++ one (step.Fault (fault.DevicesHear [])) (entry.Fault (fault.DevicesHear []))
     ∷ one (step.Next 3) (wire 3 "030401a70102030447" "030401a70102030447")
     ∷ one (step.Fall 3) (entry.NoFall 3)
     ∷ one (step.Fall 3) (entry.NoFall 3)
@@ -97,12 +112,8 @@ lost_dispense_plays = search
 -- three lost replies end a payment; its order stays open, and is settled later
 abbrev given_up : List Row
 given_up =
-    one (step.Command (command.Pay 3 41 2)) (entry.Taken (command.Pay 3 41 2))
-    ∷ one (step.Next 3) (wire 3 "030101a4a5b2" "030101a4a5b201000300fc")
-    ∷ one (step.Next 3) (wire 3 "030001a854" "030001a85401030300fefffffd")
-    ∷ one (step.Next 3) (entry.Put (record_of.Opened 41 3 2 16777214))
-    ∷ one (step.Next 3) (wire 3 "030401a70102030249" "030401a7010203024901000300fc")
-    ∷ one (step.Fall 3) (entry.Fell 3)
+    dispensed_two
+    ++ one (step.Fall 3) (entry.Fell 3)
     ∷ one (step.Fall 3) (entry.Fell 3)
     ∷ one (step.Fault (fault.HostHears [])) (entry.Fault (fault.HostHears []))
     ∷ one (step.Next 3) (wire 3 "030001a656" "030001a656")
@@ -150,15 +161,11 @@ unfolding message spelling data_of request_of requests_with form_of reply_data r
     life_between close
 halted_plays = search
 
--- a second halt behind the first stop sends a second one, which stops nothing
+-- a second halt after the first stop sends a second one, which stops nothing
 abbrev halted_twice : List Row
 halted_twice =
-    one (step.Command (command.Pay 3 41 4)) (entry.Taken (command.Pay 3 41 4))
-    ∷ one (step.Next 3) (wire 3 "030101a4a5b2" "030101a4a5b201000300fc")
-    ∷ one (step.Next 3) (wire 3 "030001a854" "030001a85401030300fefffffd")
-    ∷ one (step.Next 3) (entry.Put (record_of.Opened 41 3 4 16777214))
-    ∷ one (step.Next 3) (wire 3 "030401a70102030447" "030401a7010203044701000300fc")
-    ∷ one (step.Fall 3) (entry.Fell 3)
+    dispensed
+    ++ one (step.Fall 3) (entry.Fell 3)
     ∷ one (step.Command (command.Halt 3)) (entry.Taken (command.Halt 3))
     ∷ one (step.Next 3) (wire 3 "030001ac50" "030001ac500101030003f8")
     ∷ one (step.Command (command.Halt 3)) (entry.Taken (command.Halt 3))
@@ -177,12 +184,8 @@ halted_twice_plays = search
 -- a second halt before the stop changes nothing
 abbrev halted_at_once : List Row
 halted_at_once =
-    one (step.Command (command.Pay 3 41 4)) (entry.Taken (command.Pay 3 41 4))
-    ∷ one (step.Next 3) (wire 3 "030101a4a5b2" "030101a4a5b201000300fc")
-    ∷ one (step.Next 3) (wire 3 "030001a854" "030001a85401030300fefffffd")
-    ∷ one (step.Next 3) (entry.Put (record_of.Opened 41 3 4 16777214))
-    ∷ one (step.Next 3) (wire 3 "030401a70102030447" "030401a7010203044701000300fc")
-    ∷ one (step.Command (command.Halt 3)) (entry.Taken (command.Halt 3))
+    dispensed
+    ++ one (step.Command (command.Halt 3)) (entry.Taken (command.Halt 3))
     ∷ one (step.Command (command.Halt 3)) (entry.Taken (command.Halt 3))
     ∷ one (step.Next 3) (wire 3 "030001ac50" "030001ac500101030004f7")
     ∷ one (step.Next 3) (wire 3 "030001a656" "030001a6560104030001000004f3")
@@ -220,21 +223,8 @@ halted_early_plays = search
 -- a stop is a row of its own: two tries of the look, two of the stop and two of the next look end nothing
 abbrev tries_anew : List Row
 tries_anew =
-    one (step.Command (command.Pay 3 41 2)) (entry.Taken (command.Pay 3 41 2))
-    ∷ one (step.Next 3) (wire 3 "030101a4a5b2" "030101a4a5b201000300fc")
-    ∷ one (step.Next 3) (wire 3 "030001a854" "030001a85401030300fefffffd")
-    ∷ one (step.Next 3) (entry.Put (record_of.Opened 41 3 2 16777214))
-    ∷ one (step.Next 3) (wire 3 "030401a70102030249" "030401a7010203024901000300fc")
-    ∷ one (step.Fault (fault.HostHears [])) (entry.Fault (fault.HostHears []))
-    ∷ one (step.Next 3) (wire 3 "030001a656" "030001a656")
-    ∷ one (step.Fault (fault.HostHears [])) (entry.Fault (fault.HostHears []))
-    ∷ one (step.Next 3) (wire 3 "030001a656" "030001a656")
-    ∷ one (step.Command (command.Halt 3)) (entry.Taken (command.Halt 3))
-    ∷ one (step.Fault (fault.HostHears [])) (entry.Fault (fault.HostHears []))
-    ∷ one (step.Next 3) (wire 3 "030001ac50" "030001ac50")
-    ∷ one (step.Fault (fault.HostHears [])) (entry.Fault (fault.HostHears []))
-    ∷ one (step.Next 3) (wire 3 "030001ac50" "030001ac50")
-    ∷ one (step.Next 3) (wire 3 "030001ac50" "030001ac500101030000fb")
+    stopped_twice
+    ++ one (step.Next 3) (wire 3 "030001ac50" "030001ac500101030000fb")
     ∷ one (step.Fault (fault.HostHears [])) (entry.Fault (fault.HostHears []))
     ∷ one (step.Next 3) (wire 3 "030001a656" "030001a656")
     ∷ one (step.Fault (fault.HostHears [])) (entry.Fault (fault.HostHears []))
@@ -253,21 +243,8 @@ tries_anew_plays = search
 -- three lost replies to a stop end a payment, and a settlement may be halted until its look shows 0
 abbrev stop_given_up : List Row
 stop_given_up =
-    one (step.Command (command.Pay 3 41 2)) (entry.Taken (command.Pay 3 41 2))
-    ∷ one (step.Next 3) (wire 3 "030101a4a5b2" "030101a4a5b201000300fc")
-    ∷ one (step.Next 3) (wire 3 "030001a854" "030001a85401030300fefffffd")
-    ∷ one (step.Next 3) (entry.Put (record_of.Opened 41 3 2 16777214))
-    ∷ one (step.Next 3) (wire 3 "030401a70102030249" "030401a7010203024901000300fc")
-    ∷ one (step.Fault (fault.HostHears [])) (entry.Fault (fault.HostHears []))
-    ∷ one (step.Next 3) (wire 3 "030001a656" "030001a656")
-    ∷ one (step.Fault (fault.HostHears [])) (entry.Fault (fault.HostHears []))
-    ∷ one (step.Next 3) (wire 3 "030001a656" "030001a656")
-    ∷ one (step.Command (command.Halt 3)) (entry.Taken (command.Halt 3))
-    ∷ one (step.Fault (fault.HostHears [])) (entry.Fault (fault.HostHears []))
-    ∷ one (step.Next 3) (wire 3 "030001ac50" "030001ac50")
-    ∷ one (step.Fault (fault.HostHears [])) (entry.Fault (fault.HostHears []))
-    ∷ one (step.Next 3) (wire 3 "030001ac50" "030001ac50")
-    ∷ one (step.Fault (fault.HostHears [])) (entry.Fault (fault.HostHears []))
+    stopped_twice
+    ++ one (step.Fault (fault.HostHears [])) (entry.Fault (fault.HostHears []))
     ∷ both (step.Next 3) (wire 3 "030001ac50" "030001ac50") (entry.Ended 3 end_of.NoAnswer)
     ∷ one (step.Command (command.Halt 3)) (entry.No (command.Halt 3) command_no.NoPayout)
     ∷ one (step.Command (command.Settle 3)) (entry.Taken (command.Settle 3))
@@ -288,16 +265,8 @@ stop_given_up_plays = search
 -- a look that shows coins left to pay is answered: it ends the tries before it
 abbrev tries_go_on : List Row
 tries_go_on =
-    one (step.Command (command.Pay 3 41 2)) (entry.Taken (command.Pay 3 41 2))
-    ∷ one (step.Next 3) (wire 3 "030101a4a5b2" "030101a4a5b201000300fc")
-    ∷ one (step.Next 3) (wire 3 "030001a854" "030001a85401030300fefffffd")
-    ∷ one (step.Next 3) (entry.Put (record_of.Opened 41 3 2 16777214))
-    ∷ one (step.Next 3) (wire 3 "030401a70102030249" "030401a7010203024901000300fc")
-    ∷ one (step.Fault (fault.HostHears [])) (entry.Fault (fault.HostHears []))
-    ∷ one (step.Next 3) (wire 3 "030001a656" "030001a656")
-    ∷ one (step.Fault (fault.HostHears [])) (entry.Fault (fault.HostHears []))
-    ∷ one (step.Next 3) (wire 3 "030001a656" "030001a656")
-    ∷ one (step.Next 3) (wire 3 "030001a656" "030001a6560104030001020000f5")
+    looked_twice
+    ++ one (step.Next 3) (wire 3 "030001a656" "030001a6560104030001020000f5")
     ∷ one (step.Fault (fault.HostHears [])) (entry.Fault (fault.HostHears []))
     ∷ one (step.Next 3) (wire 3 "030001a656" "030001a656")
     ∷ one (step.Fault (fault.HostHears [])) (entry.Fault (fault.HostHears []))
@@ -319,12 +288,8 @@ tries_go_on_plays = search
 -- a jam ends the payout, and what falls or jams afterwards is nothing
 abbrev jammed : List Row
 jammed =
-    one (step.Command (command.Pay 3 41 4)) (entry.Taken (command.Pay 3 41 4))
-    ∷ one (step.Next 3) (wire 3 "030101a4a5b2" "030101a4a5b201000300fc")
-    ∷ one (step.Next 3) (wire 3 "030001a854" "030001a85401030300fefffffd")
-    ∷ one (step.Next 3) (entry.Put (record_of.Opened 41 3 4 16777214))
-    ∷ one (step.Next 3) (wire 3 "030401a70102030447" "030401a7010203044701000300fc")
-    ∷ one (step.Fall 3) (entry.Fell 3)
+    dispensed
+    ++ one (step.Fall 3) (entry.Fell 3)
     ∷ one (step.Jam 3) (entry.Jammed 3)
     ∷ one (step.Fall 3) (entry.NoFall 3)
     ∷ one (step.Jam 3) (entry.NoJam 3)
@@ -342,11 +307,8 @@ jammed_plays = search
 -- a hopper that was reset before its dispense refuses it, and pays nothing
 abbrev refused_dispense : List Row
 refused_dispense =
-    one (step.Command (command.Pay 3 41 4)) (entry.Taken (command.Pay 3 41 4))
-    ∷ one (step.Next 3) (wire 3 "030101a4a5b2" "030101a4a5b201000300fc")
-    ∷ one (step.Next 3) (wire 3 "030001a854" "030001a85401030300fefffffd")
-    ∷ one (step.Next 3) (entry.Put (record_of.Opened 41 3 4 16777214))
-    ∷ one (step.Reset 3) (entry.Reset 3)
+    ordered
+    ++ one (step.Reset 3) (entry.Reset 3)
     ∷ one (step.Next 3) (wire 3 "030401a70102030447" "030401a7010203044701000305f7")
     ∷ one (step.Fall 3) (entry.NoFall 3)
     ∷ one (step.Next 3) (wire 3 "030001a656" "030001a6560104030000000000f8")

@@ -191,7 +191,7 @@ abbrev pub short_refusal : Setup → List Entry → ℕ → Option CommandNo
 short_refusal setup past wanted =
     if nat_le wanted (available setup past) then None else Some (Short (available setup past))
 
--- The id of the order that the job at a device is at work to record or has recorded, 0 of another job.
+-- The id of the order that the job at a device is to record or has recorded, 0 of another job.
 abbrev pub running_id : DeviceSetup → Job → ℕ
 running_id d free = 0
 running_id d (works c since) = unwrap_or (id_ahead (rows_of d c)) 0
@@ -219,7 +219,7 @@ room_fails capacity setup past need (with_price price) = short_refusal setup pas
 room_fails capacity setup past need with_room = full_refusal setup past need capacity
 room_fails capacity setup past need test = None
 
--- A job is at work.
+-- A job is running.
 abbrev pub is_busy : Job → Bool
 is_busy free = false
 is_busy (works c since) = true
@@ -231,7 +231,7 @@ lines_for past (command.Vend id price) found = sale_lines past
 lines_for past c None = []
 lines_for past c (Some d) = lines_of d past
 
--- A payout that could be stopped is at work at a device.
+-- A payout that could be stopped is running at a device.
 abbrev pub halts_at : Option DeviceSetup → Job → Bool
 halts_at None j = false
 halts_at (Some d) j = can_halt d j

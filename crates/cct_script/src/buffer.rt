@@ -1,9 +1,8 @@
 //! The lines of a script, taken from its source in whatever pieces it gives them.
 ghost use Rattle.std.specs.Prelude.{◌≡◌, ◌≢◌, ℕ, ◌+◌, ◌<◌, ◌≤◌, List, [], ◌∷◌, ◌++◌, ◌-◌, length, take, drop};
-ghost use Rattle.std.specs.Prelude.{position, slice_range, IfOk, MatchResult, OnErr, None, Ok, Err};
+ghost use Rattle.std.specs.Prelude.{position, slice_range, IfOk, IsErr, MatchResult, OnErr, None, Ok, Err};
 ghost use Rattle.std.specs.Io.KnownBytes.{Consumes, Keeps, IsAtEnd};
-ghost use Rattle.cct_edge.specs.Bytes.{TellsAsBefore};
-ghost use Rattle.cct_edge.specs.Faults.{HasCause};
+ghost use Rattle.cct_edge.specs.Bytes.{Serves};
 ghost use Rattle.cct_lines.specs.Script.{is_line_feed};
 ghost use Rattle.cct_script.specs.Taking.{TakesOn, TakesUntilFault};
 ghost use Rattle.cct_script.specs.Window.{Fills, Finds, IsShort};
@@ -82,8 +81,7 @@ impl LineBuffer {
         ensures count { IfOk result (λ n. length self.new ≡ length self.old + n) }
         ensures end { result ≡ Ok 0 → IsAtEnd (S.left source.new) }
         ensures err { OnErr result (self.new ≡ self.old) }
-        ensures tells { TellsAsBefore (S.left source.old) (S.left source.new) }
-        ensures cause { HasCause (S.faults source.old) (S.faults source.new) result }
+        ensures serves { Serves S.left S.faults source.old source.new (IsErr result) }
         ensures one { S.takes source.old (ROOM - length self.old) result source.new }
     {
         move_to_front(&mut self.bytes, self.start, self.end);
@@ -102,8 +100,7 @@ impl LineBuffer {
         ensures short { IfOk result IsShort }
         ensures partial { OnErr result (position is_line_feed self.new ≡ None) }
         ensures still { position is_line_feed self.old ≢ None → source.new ≡ source.old }
-        ensures tells { TellsAsBefore (S.left source.old) (S.left source.new) }
-        ensures cause { HasCause (S.faults source.old) (S.faults source.new) result }
+        ensures serves { Serves S.left S.faults source.old source.new (IsErr result) }
         ensures takes { MatchResult result
             (λ _. TakesOn S.takes S.left self.old source.old self.new source.new)
             (λ _. TakesUntilFault S.takes S.left self.old source.old self.new source.new) }

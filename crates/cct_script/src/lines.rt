@@ -1,7 +1,6 @@
 //! The lines of a script, one after another.
 ghost use Rattle.std.specs.Prelude.{◌≡◌, ◌≢◌, ◌≤◌, ◌<◌, [], drop, length, position, None, Err, IfOk, IfSome};
-ghost use Rattle.cct_edge.specs.Bytes.{TellsAsBefore};
-ghost use Rattle.cct_edge.specs.Faults.{Rose};
+ghost use Rattle.cct_edge.specs.Bytes.{Serves};
 ghost use Rattle.cct_lines.specs.Script.{is_line_feed};
 
 use crate::buffer::{Held, LineBuffer};
@@ -69,9 +68,7 @@ impl Lines {
         ensures gives { Gives (standing_of self.old) (standing_of self.new)
             (S.left source.old) (S.left source.new) (line_in self.new.buffer result) }
         ensures fits { IfOk result (λ found. IfSome found (λ len. len ≤ length self.new.buffer)) }
-        ensures tells { TellsAsBefore (S.left source.old) (S.left source.new) }
-        ensures later { S.faults source.old ≤ S.faults source.new }
-        ensures cause { result ≡ Err LinesNo.Read → Rose (S.faults source.old) (S.faults source.new) }
+        ensures serves { Serves S.left S.faults source.old source.new (result ≡ Err LinesNo.Read) }
         ensures still { position is_line_feed (standing_of self.old).held ≢ None → source.new ≡ source.old }
         ensures takes { TakesForLine S.takes S.left (standing_of self.old).held source.old
             (standing_of self.new).held source.new (line_in self.new.buffer result) }
@@ -116,9 +113,7 @@ impl Lines {
         ensures gives { Gives (standing_of self.old) (standing_of self.new)
             (S.left source.old) (S.left source.new) (line_in self.new.buffer result) }
         ensures none { IfOk result (λ found. found ≡ None) }
-        ensures tells { TellsAsBefore (S.left source.old) (S.left source.new) }
-        ensures later { S.faults source.old ≤ S.faults source.new }
-        ensures cause { result ≡ Err LinesNo.Read → Rose (S.faults source.old) (S.faults source.new) }
+        ensures serves { Serves S.left S.faults source.old source.new (result ≡ Err LinesNo.Read) }
         ensures still { position is_line_feed self.old.buffer ≢ None → source.new ≡ source.old }
         ensures takes { TakesForLine S.takes S.left self.old.buffer source.old
             (standing_of self.new).held source.new (line_in self.new.buffer result) }
@@ -144,9 +139,7 @@ impl Lines {
             (S.left source.old) (S.left source.new) (line_given result)
             × TakesForLine S.takes S.left (standing_of self.old).held source.old
             (standing_of new).held source.new (line_given result))) }
-        ensures tells { TellsAsBefore (S.left source.old) (S.left source.new) }
-        ensures later { S.faults source.old ≤ S.faults source.new }
-        ensures cause { result ≡ Err LinesNo.Read → Rose (S.faults source.old) (S.faults source.new) }
+        ensures serves { Serves S.left S.faults source.old source.new (result ≡ Err LinesNo.Read) }
         ensures still { position is_line_feed (standing_of self.old).held ≢ None → source.new ≡ source.old }
     {
         match self.find(source) {

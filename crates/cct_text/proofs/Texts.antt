@@ -10,9 +10,8 @@ joined_is byte [] = refl
 joined_is byte (x ∷ []) = sym (append-nil x)
 joined_is byte (x ∷ y ∷ xs) = ap (λ rest. x ++ byte ∷ rest) (joined_is byte (y ∷ xs))
 
--- a text with two more, each behind it, as a text and fields behind it
-pub masked : (text word first second : List ℕ) → text ++ word ++ first ++ second ≡ text ++ (word ++ (first ++ (second ++ [])))
+-- a word with two more texts, as a word and fields after it
+pub masked : (text word first second : List ℕ) → text ++ (word ++ first ++ second) ≡ text ++ (word ++ (first ++ (second ++ [])))
 masked text word first second =
-    append_assoc (text ++ word) first second
-    ∙ append_assoc text word (first ++ second)
-    ∙ ap (λ rest. text ++ (word ++ (first ++ rest))) (sym (append-nil second))
+    ap (λ added. text ++ added)
+    (append_assoc word first second ∙ ap (λ rest. word ++ (first ++ rest)) (sym (append-nil second)))

@@ -10,7 +10,7 @@ use Rattle.cct_edge.specs.declared.fault.Failed.{Failed}
 use Rattle.cct_edge.proofs.Chains.{Appends-nil, Appends-trans, Appends-then_front}
 use Rattle.cct_lines.specs.declared.entry.Entry.{Entry}
 use Rattle.cct_lines.specs.Text.{line_of, text}
-use Rattle.cct_text.specs.Writing.{Puts, Writes, Wrote, IsNothing}
+use Rattle.cct_text.specs.Writing.{Puts, PutsLine, Writes, Wrote, IsNothing}
 
 -- some puts, and then more
 puts_then : {K : Type 0} (puts : K → List ℕ → Result (Unit {0}) Failed → K → Type 0) (a b c : K) (xs ys : List (List ℕ))
@@ -71,14 +71,12 @@ told_one a b x (Err failed) ok err = err
 pub writes_one : {K : Type 0} (written : K → Option (List ℕ))
     (puts : K → List ℕ → Result (Unit {0}) Failed → K → Type 0) (a b : K) (e : Entry)
     (result : Result (Unit {0}) Failed) →
-    puts a (line_of e) result b → OnOk result (Appends (written a) (written b) (line_of e))
-    → OnErr result (AppendsFront (written a) (written b) (line_of e)) →
-    Writes written puts a (e ∷ []) result b
-writes_one written puts a b e result put ok err = record {
-  put = put_one puts a b (line_of e) result put;
+    PutsLine written puts a (line_of e) result b → Writes written puts a (e ∷ []) result b
+writes_one written puts a b e result put = record {
+  put = put_one puts a b (line_of e) result put.one;
   told = subst (λ bytes. MatchResult result (λ _. Appends (written a) (written b) bytes)
       (λ _. AppendsFront (written a) (written b) bytes)) (sym (append-nil (line_of e)))
-      (told_one (written a) (written b) (line_of e) result ok err);
+      (told_one (written a) (written b) (line_of e) result put.ok put.err);
 }
 
 -- writing that broke off, whatever was to be written behind

@@ -18,7 +18,7 @@ use Rattle.cct_journal.specs.declared.journal.Journal.{Journal}
 use Rattle.cct_journal.specs.Image.{IsBadAt}
 use Rattle.cct_journal.specs.Journal as journals
 use Rattle.cct_journal.specs.Stands.{CutOnce, Outlasts}
-use Rattle.cct_laws.specs.Restart.{CrashSuits, due_in}
+use Rattle.cct_laws.specs.Restart.{RestartSuits, due_in}
 use Rattle.cct_host.specs.declared.host.Host.{Host}
 use Rattle.cct_host.specs.declared.refusal.CrashNo.{CrashNo}
 use Rattle.cct_host.specs.declared.refusal.CrashNo.TheVariants as crash_no
@@ -117,11 +117,11 @@ module _ {D : Type 0} {g : Ghosts D} where
   crash_loses : (old : Machine D g) (host : Host D g) (at : Option CrashAt) (why : CrashNo)
       → (why ≡ crash_no.Disk → ⊥)
       → RefusesCrash (hosts.journal_of old.host) (hosts.journal_of host) (due_of old.host at) (hosts.setup_of old.host) why
-      → ((past : List Entry) → hosts.StandsFor old.host past → CrashSuits (hosts.setup_of old.host) past at
+      → ((past : List Entry) → hosts.StandsFor old.host past → RestartSuits (hosts.setup_of old.host) past at
       → IsTrusted g.honest g.seen (hosts.disk_of old.host) → why ≡ crash_no.Disk)
       → ((past : List Entry) → hosts.StandsFor old.host past
       → due_of old.host at ≡ due_in (hosts.setup_of old.host) past at)
-      → ((past : List Entry) → StandsFor old past → CrashSuits (hosts.setup_of old.host) past at
+      → ((past : List Entry) → StandsFor old past → RestartSuits (hosts.setup_of old.host) past at
       → IsTrusted g.honest g.seen (hosts.disk_of old.host) → ⊥)
       × DueAsTold old at
       × Loses (hosts.setup_of old.host) (journals.used_of (hosts.journal_of old.host)) (due_of old.host at)
@@ -135,7 +135,7 @@ module _ {D : Type 0} {g : Ghosts D} where
 
   pub crash_breaks : (old : Machine D g) (host : Host D g) (at : Option CrashAt) (choice : ℕ) (why : CrashNo)
       → RefusesCrash (hosts.journal_of old.host) (hosts.journal_of host) (due_of old.host at) (hosts.setup_of old.host) why
-      → ((past : List Entry) → hosts.StandsFor old.host past → CrashSuits (hosts.setup_of old.host) past at
+      → ((past : List Entry) → hosts.StandsFor old.host past → RestartSuits (hosts.setup_of old.host) past at
       → IsTrusted g.honest g.seen (hosts.disk_of old.host) → why ≡ crash_no.Disk)
       → ((past : List Entry) → hosts.StandsFor old.host past → IsTrusted g.honest g.seen (hosts.disk_of old.host)
       → LeavesBook (hosts.setup_of old.host) g.honest g.seen g.may_leave (hosts.disk_of host)

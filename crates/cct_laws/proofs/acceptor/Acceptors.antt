@@ -15,14 +15,14 @@ use Rattle.cct_model.specs.Reply.{Reply}
 use Rattle.cct_model.specs.Script.{IsCommand}
 use Rattle.cct_model.specs.History.{Met, heard}
 use Rattle.cct_model.specs.Device.{IsAcceptor}
-use Rattle.cct_model.specs.Line.{Line, exchange, put, crashed}
+use Rattle.cct_model.specs.Line.{Line, exchange, put, restarted}
 use Rattle.cct_model.specs.Order.{order}
 use Rattle.cct_model.specs.Job.{works, job, sends, puts, ident_requests, Payment, payment_in, epoch, credits_read, judged_in, address_of}
 use Rattle.cct_model.specs.Rows.{Then, ends_as, if_quiet, if_posted, new_epoch, reading, epoch_end, TableRow, asks_for, asks_once, waits_for_coins, puts_due, row, rows_of, rest, from, first, done, sent_once, end_of, end_kept, end_by_record}
 use Rattle.cct_model.proofs.Rows.{EachRow, EachBefore, before_on, fact_after, Behind, behind_answer, behind_record, PutEnds, each_told, put_end}
-use Rattle.cct_laws.specs.Kept.{Fate, unheard, silenced, answered, IsForOthers, is_for_acceptor, with_ended}
+use Rattle.cct_laws.specs.DeviceJobs.{Fate, unheard, silenced, answered, IsForOthers, is_for_acceptor, with_ended}
 use Rattle.cct_laws.proofs.EitherKind.{for_acceptor}
-use Rattle.cct_laws.specs.Since.{IsKept}
+use Rattle.cct_laws.specs.SinceEpoch.{IsKept}
 use Rattle.cct_model.specs.Claims.{mark, base, InOrder, Covers, Pace}
 use Rattle.cct_laws.proofs.acceptor.World.{World, world, closed, on_nothing}
 use Rattle.cct_laws.proofs.acceptor.Fits.{Book, book, StateOf, FitsAt, Fits, at_on}
@@ -205,9 +205,9 @@ keeps_puts d past lines c since r suited in_range is_job row_is keeps =
     (left_leads d c since suited in_range) (fits_at d past lines c since is_job keeps) row_is keeps
 
 -- the host loses its power
-keeps_crashed : (d : DeviceSetup) (past : List Met) (lines : List Line) → Keeps d past lines → Keeps d past (crashed ∷ lines)
-keeps_crashed d past lines keeps = record {
-  sound = sound_line past past lines crashed tt (λ _. tt) keeps.sound.marked keeps.sound.state keeps.sound;
+keeps_restarted : (d : DeviceSetup) (past : List Met) (lines : List Line) → Keeps d past lines → Keeps d past (restarted ∷ lines)
+keeps_restarted d past lines keeps = record {
+  sound = sound_line past past lines restarted tt (λ _. tt) keeps.sound.marked keeps.sound.state keeps.sound;
   fits = tt;
 }
 
@@ -234,7 +234,7 @@ unended d past lines (Some end) other keeps = record {
 
 -- a record behind a loss of power tells what it would have told before it
 sound_kept : (past : List Met) (lines : List Line) (r : Record) → Sound past (put r ∷ lines) →
-    Sound past (put r ∷ crashed ∷ lines)
+    Sound past (put r ∷ restarted ∷ lines)
 sound_kept past lines (record_of.Epoch addr mask) sound = record {
   in_order = (sound.in_order.0, (tt, sound.in_order.1));
   covers = λ pace. let before = sound.covers (pace.0, pace.1.1) in (before.0, (tt, before.1));
@@ -262,7 +262,7 @@ sound_kept past lines r sound = record {
 
 keeps_kept_record : (d : DeviceSetup) (past : List Met) (lines : List Line) (c : Command) (since : List Line)
     (r : Record) → Keeps d past (with_ended (end_of d c (put r) since (epoch lines)) (put r ∷ lines)) →
-    Keeps d past (put r ∷ crashed ∷ lines)
+    Keeps d past (put r ∷ restarted ∷ lines)
 keeps_kept_record d past lines c since r keeps = record {
   sound = sound_kept past lines r (unended d past (put r ∷ lines) _ (put_other d c r since (epoch lines)) keeps);
   fits = tt;
@@ -312,7 +312,7 @@ keeps_kept d accepting = record {
   asks = λ since past lines c work q asked got at row_is fate keeps.
       keeps_asks d past lines c work q asked got accepting (for_acceptor d.body c accepting at.suited) at.in_range at.job_is
       row_is fate keeps;
-  crashes = λ since past lines keeps. keeps_crashed d past lines keeps;
+  restarts = λ since past lines keeps. keeps_restarted d past lines keeps;
   keeps = λ since past lines c work r at row_is keeps.
       keeps_kept_record d past lines c work r
       (keeps_puts d past lines c work r (for_acceptor d.body c accepting at.suited) at.in_range at.job_is row_is keeps);

@@ -16,7 +16,7 @@ use Rattle.cct_model.specs.Records.{records}
 use Rattle.cct_model.specs.Transcript.{met, lines_of}
 use Rattle.cct_laws.specs.Ids.{Ids}
 use Rattle.cct_laws.specs.Law.{IsOf}
-use Rattle.cct_laws.specs.Since.{since_epoch, HasCause, HasCauseAt, HaveCauses}
+use Rattle.cct_laws.specs.SinceEpoch.{since_epoch, HasCause, HasCauseAt, HaveCauses}
 use Rattle.cct_laws.proofs.jobs.Brought.{AtDevice, came, took, halted, idled, made_exchange, made_put, AtWork, Brought, row_after, wire_of, wire_end, record_end}
 use Rattle.cct_laws.proofs.EitherKind.{for_acceptor}
 use Rattle.cct_laws.proofs.Keeping.{HoldsAt, IsRanged}

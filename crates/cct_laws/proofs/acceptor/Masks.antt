@@ -25,8 +25,8 @@ use Rattle.cct_model.specs.Rows.{ends_as, TableRow, asks_for, asks_once, waits_f
 use Rattle.cct_model.specs.Script.{IsCommand}
 use Rattle.cct_model.specs.terms.coin.Credits.{Credits}
 use Rattle.cct_laws.proofs.EitherKind.{for_acceptor}
-use Rattle.cct_laws.specs.Kept.{is_for_acceptor, Fate, unheard, silenced, answered, IsForOthers, with_ended}
-use Rattle.cct_laws.specs.Since.{since_record, mask_set_in, IsMaskedBy, MayBreak, IsKeptSince}
+use Rattle.cct_laws.specs.DeviceJobs.{is_for_acceptor, Fate, unheard, silenced, answered, IsForOthers, with_ended}
+use Rattle.cct_laws.specs.SinceEpoch.{since_record, mask_set_in, IsMaskedBy, MayBreak, IsKeptSince}
 use Rattle.cct_model.proofs.Rows.{EachBefore}
 use Rattle.cct_laws.proofs.acceptor.World.{World, Silent, IsLive, mask_at, world}
 use Rattle.cct_laws.proofs.acceptor.Fits.{Book, book, StateOf, IsRunning, FitsAt}
@@ -155,7 +155,7 @@ masks_kept d accepting =
         masked = with_ended_masked _ (exchange (Some q) got ∷ lines) (heard asked ∷ since) (heard asked ∷ past)
             (fate_masked d (epoch lines) q asked got since past (row_asks d past lines c work q (for_acceptor d.body c accepting at_work.suited) at_work.in_range at_work.job_is holds.keeps is_row) fate holds.masked);
       };
-      crashes = λ since past lines holds. record { keeps = kept.crashes since past lines holds.keeps; masked = holds.masked };
+      restarts = λ since past lines holds. record { keeps = kept.restarts since past lines holds.keeps; masked = holds.masked };
       keeps = λ since past lines c work r at_work is_row holds. record {
         keeps = kept.keeps since past lines c work r at_work is_row holds.keeps;
         masked = put_masked d (epoch lines) r since past lines

@@ -21,7 +21,8 @@ use Rattle.cct_model.specs.Line.{Line, accepted, inhibited, exchange, taken, end
 use Rattle.cct_model.specs.Line as line
 use Rattle.cct_model.specs.Job.{works, job, with_line, epoch, credits_read, judged_in, sends, puts, ident_requests}
 use Rattle.cct_model.specs.Rows.{Then, TableRow, asks_for, telling, rows_of, end_of, end_answered, ends_first, after, rest, left, sent_once}
-use Rattle.cct_model.proofs.Rows.{IfEnd, Each, EachRow, BareEnds, each_told, failed_end, after_none, ended_leaves}
+use Rattle.cct_model.proofs.Requests.{Each}
+use Rattle.cct_model.proofs.Rows.{IfEnd, EachRow, BareEnds, each_told, failed_end, after_none, ended_leaves}
 use Rattle.cct_model.specs.terms.coin.Credits.{Credits}
 use Rattle.cct_model.specs.terms.device.DeviceBody.{DeviceBody}
 use Rattle.cct_model.specs.terms.device.DeviceBody.TheVariants.{Acceptor, Hopper}
@@ -29,7 +30,7 @@ use Rattle.cct_model.specs.declared.judging.Judged.{Judged}
 use Rattle.cct_model.specs.declared.judging.Judged.TheVariants.{Nothing}
 use Rattle.cct_model.specs.Refusal.{start_refusal, running_refusal}
 use Rattle.cct_model.specs.Claims.{coins, mark, base, OrderAt, CoverAt, PaceAt, InOrder, Covers, Pace}
-use Rattle.cct_laws.specs.Kept.{is_for_acceptor, Fate, unheard, silenced, answered, with_ended, IsTaken}
+use Rattle.cct_laws.specs.DeviceJobs.{is_for_acceptor, Fate, unheard, silenced, answered, with_ended, IsTaken}
 use Rattle.cct_laws.proofs.acceptor.World.{World, world, On, on_coin, on_piece, on_reset, on_master, on_path, on_default, on_nothing}
 use Rattle.cct_laws.proofs.acceptor.Fits.{Book, book, StateOf, IsIdle, IsRunning, FitsAt, Fits, state_on, at_on, fits_on}
 use Rattle.cct_model.proofs.RowEnds.{failed_stays}

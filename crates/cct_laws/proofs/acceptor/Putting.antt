@@ -16,7 +16,7 @@ use Rattle.cct_model.specs.Job.{works, job, puts, epoch, credits_read, mask_read
 use Rattle.cct_model.specs.Rows.{Then, ends_as, if_posted, new_epoch, reading, epoch_end, TableRow, asks_for, asks_once, waits_for_coins, puts_due, row, rest, from, first}
 use Rattle.cct_model.specs.Script.{IsCommand}
 use Rattle.cct_model.specs.Order.{order}
-use Rattle.cct_laws.specs.Kept.{is_for_acceptor}
+use Rattle.cct_laws.specs.DeviceJobs.{is_for_acceptor}
 use Rattle.cct_laws.proofs.acceptor.World.{World, Silent, world}
 use Rattle.cct_laws.proofs.acceptor.Fits.{Book, book, PostsAs, BreaksAs, Ready, IsRunning, FitsAt}
 use Rattle.cct_laws.proofs.acceptor.Moves.{Keeps, fits_at, entry_is}

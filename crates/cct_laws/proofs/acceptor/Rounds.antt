@@ -22,7 +22,7 @@ use Rattle.cct_model.specs.Line.{Line, exchange, put}
 use Rattle.cct_model.specs.Job.{works, job, with_line, epoch, credits_read, judged_in, judged_by, end_of_reading, address_of}
 use Rattle.cct_model.specs.Claims as claims
 use Rattle.cct_model.specs.Claims.{coins, arrivals, looking, mark, base}
-use Rattle.cct_laws.specs.Kept.{Fate, with_ended}
+use Rattle.cct_laws.specs.DeviceJobs.{Fate, with_ended}
 use Rattle.cct_laws.proofs.acceptor.World.{world, Shut, on_nothing}
 use Rattle.cct_laws.proofs.acceptor.Fits.{book, HeldIn, Posts, PostsAs, BreaksAs, Ready, IsRunning, FitsAt, Fits, IfOver, if_over, IsStill, ends_epoch, AfterCredits, AfterMask, AfterReading}
 use Rattle.cct_laws.proofs.acceptor.Moves.{Sound, Keeps, KeepsAsk, AtRows, IsOtherEnd, keeps_ended, keeps_with_ended, answered_at, next_at, by_fate}

@@ -16,7 +16,7 @@ use Rattle.cct_model.specs.Acceptor.{counter, credits_of}
 use Rattle.cct_model.specs.Device.{IsAcceptor}
 use Rattle.cct_model.specs.Line.{Line, exchange, put}
 use Rattle.cct_model.specs.Job.{works, job, with_line, epoch, credits_read, judged_in, tries}
-use Rattle.cct_laws.specs.Kept.{Fate, unheard, silenced, answered, with_ended}
+use Rattle.cct_laws.specs.DeviceJobs.{Fate, unheard, silenced, answered, with_ended}
 use Rattle.cct_epoch.proofs.Counters.{counter_none}
 use Rattle.cct_laws.proofs.acceptor.World.{World, world, After, Silent, with_settings, on_reset, on_nothing, silent_fresh}
 use Rattle.cct_laws.proofs.acceptor.Fits.{Book, book, StateOf, IsIdle, Waits, FitsAt, Fits, AfterReset, AfterQuiet, AfterEpoch}

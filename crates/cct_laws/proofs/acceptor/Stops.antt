@@ -18,7 +18,7 @@ use Rattle.cct_model.specs.Claims as claims
 use Rattle.cct_model.specs.Claims.{coins, arrivals, mark, base, IsNear}
 use Rattle.cct_model.specs.Rows.{Then, ends_as, if_posted, reading, epoch_end, TableRow, asks_for, puts_due, from, first, rest, end_kept, sent_once}
 use Rattle.cct_model.proofs.Rows.{Behind, behind_answer}
-use Rattle.cct_laws.specs.Kept.{Fate, with_ended}
+use Rattle.cct_laws.specs.DeviceJobs.{Fate, with_ended}
 use Rattle.cct_laws.proofs.acceptor.World.{world, Shut, shut_by_master}
 use Rattle.cct_laws.proofs.acceptor.Fits.{book, Ready, IsRunning, IfOver, IsStill, ends_epoch, AfterShut}
 use Rattle.cct_laws.proofs.acceptor.Moves.{Sound, Keeps, KeepsAsk, AtRows, IsOtherEnd, keeps_ended, keeps_with_ended, answered_at, next_at, by_fate, on_heard, entry_is}

@@ -36,7 +36,7 @@ use Rattle.cct_msg.specs.Forms.{form_shown}
 use Rattle.cct_msg.proofs.Exchanges.{asked_back}
 use Rattle.cct_laws.specs.Ending.{nexts_after, nexts_at, halts_after, halts_at, is_payment, row_count, nexts_needed, ShowsEnd, EndsAs, EndsRound, HasNoEnd, EachAtWork, LeavesAlone, IsUndisturbed, FindsNoneLeft, IsPaidOut}
 use Rattle.cct_laws.specs.Ids.{Ids}
-use Rattle.cct_laws.specs.Kept.{IsRefused, suits}
+use Rattle.cct_laws.specs.DeviceJobs.{IsRefused, suits}
 use Rattle.cct_laws.specs.Law.{IsOf}
 use Rattle.cct_laws.proofs.jobs.Asked.{answers_at}
 use Rattle.cct_laws.proofs.jobs.Brought.{AtDevice, came, took, halted, idled, made_exchange, made_put, AtWork, row_after, wire_of, wire_end, record_end, Brought, brought}

@@ -12,7 +12,7 @@ use Rattle.cct_model.specs.lines.entry.Entry.{Entry}
 use Rattle.cct_model.specs.lines.entry.Entry.TheVariants as entry
 use Rattle.cct_model.specs.Setup.{IsSoundSetup}
 use Rattle.cct_model.specs.Exchange.{ask, after_echo}
-use Rattle.cct_model.specs.Line.{Line, scanned, ended, crashed}
+use Rattle.cct_model.specs.Line.{Line, scanned, ended, restarted}
 use Rattle.cct_model.specs.Job.{works, job, with_line}
 use Rattle.cct_model.specs.Scan.{same_check, scan_row, scan_tries, end_of_scan, end_by_row, poll_of}
 use Rattle.cct_model.specs.Claims.{AllPast}
@@ -115,8 +115,8 @@ wire_kept past c since sent piece is_job polls =
     (poll_kept past c since wire is.0 is.1 (after_echo sent piece) (ap (λ l. l ∷ scan_lines past) is.2) is_job polls)
 
 -- a loss of power ends a scan
-crash_kept : (past : List Entry) → PollsAt past → Polls (crashed ∷ scan_lines past)
-crash_kept past polls = record { each = (polls.few, polls.each); few = tt }
+restart_kept : (past : List Entry) → PollsAt past → Polls (restarted ∷ scan_lines past)
+restart_kept past polls = record { each = (polls.few, polls.each); few = tt }
 
 -- what each step brings at address 0
 polls_step : (capacity : ℕ) (setup : Setup) → IsSoundSetup setup → (past news : List Entry) (s : Step) → ⊤ →
@@ -133,11 +133,11 @@ polls_step capacity setup sound past _ _ any ids (polled c since check addr none
     wire_kept past c since _ _ is_job polls
 polls_step capacity setup sound past _ _ any ids (sold id price since none selling) polls = polls
 polls_step capacity setup sound past _ _ any ids balanced polls = polls
-polls_step capacity setup sound past _ _ any ids (lost_power at choice) polls = crash_kept past polls
+polls_step capacity setup sound past _ _ any ids (lost_power at choice) polls = restart_kept past polls
 polls_step capacity setup sound past _ _ any ids (lost_in_put at choice d c since r own at_work is_row) polls =
-    crash_kept past polls
+    restart_kept past polls
 polls_step capacity setup sound past _ _ any ids (lost_in_sale at choice id price since none selling) polls =
-    crash_kept past polls
+    restart_kept past polls
 
 legal_polls : (capacity : ℕ) (setup : Setup) (steps : List Step) (transcript : List Entry) →
     IsSoundSetup setup → Legal capacity setup steps transcript → PollsAt (onto [] transcript)

@@ -25,23 +25,23 @@ use Rattle.cct_model.specs.History as history
 use Rattle.cct_model.specs.Device.{IsSound}
 use Rattle.cct_model.specs.Setup.{IsSoundSetup}
 use Rattle.cct_model.specs.Exchange.{ask, asked, asks_of, device_at}
-use Rattle.cct_model.specs.Line.{Line, dispensed, exchange, put, taken, ended, crashed}
+use Rattle.cct_model.specs.Line.{Line, dispensed, exchange, put, taken, ended, restarted}
 use Rattle.cct_model.specs.Job.{job, puts, address_of}
-use Rattle.cct_model.specs.Legal.{with_end, bare_crash, keeping_crash, LegalFrom}
+use Rattle.cct_model.specs.Legal.{with_end, bare_restart, keeping_restart, LegalFrom}
 use Rattle.cct_model.specs.Claims.{AllPast}
 use Rattle.cct_model.specs.Transcript.{pending, meets, met, own, owner, lines_of, heard_by_devices, got_by, doses, doses_of, scan_own, scan_lines}
 use Rattle.cct_laws.specs.Ending.{nexts_after, HasNoEnd}
 use Rattle.cct_laws.specs.Faults.{FailsByFault, EchoFailsByFault}
 use Rattle.cct_model.specs.Honest.{IsHonestAt, IsHonestFault}
-use Rattle.cct_laws.specs.Kept.{IsForOthers, with_ended}
+use Rattle.cct_laws.specs.DeviceJobs.{IsForOthers, with_ended}
 use Rattle.cct_laws.specs.Law.{IsOf, EachEntry}
-use Rattle.cct_laws.specs.Since.{since_record, since_epoch, HasCause, HasCauseAt}
+use Rattle.cct_laws.specs.SinceEpoch.{since_record, since_epoch, HasCause, HasCauseAt}
 use Rattle.cct_laws.specs.Tries.{failed_in, TriesAt}
 use Rattle.cct_laws.specs.Ids.{Ids}
 use Rattle.cct_laws.proofs.jobs.Brought.{Comes, takes_coin, leaves_coin, leaves_alien, drops_coin, drops_none, jams, jams_none, is_reset, AtWork, AtDevice, came, took, halted, idled, made_exchange, made_put, row_after, wire_of, wire_end, record_end, poll_wire, poll_end, Brought, of_device, faulted, refused, began_scan, began_sale, nobody, polled, sold, balanced, lost_power, lost_in_put, lost_in_sale, brought}
 use Rattle.cct_model.proofs.Doses.{AreDoses, doses_are, same_over}
 use Rattle.cct_laws.proofs.orders.Ids.{ids_start, ids_step, put_owned}
-use Rattle.cct_laws.proofs.Pieces.{ask_to, asked_elsewhere, poll_others}
+use Rattle.cct_laws.proofs.HeardBytes.{ask_to, asked_elsewhere, poll_others}
 use Rattle.cct_laws.proofs.Setups.{found_in, same_or_other}
 
 -- what a device met is for others
@@ -323,10 +323,10 @@ nobody_at setup d addr is_of none = λ same. clash (sym none ∙ ap (device_at s
 
 -- a loss of power, seen from one device: nothing was kept, or the record that its job was putting, or another's
 pub data Lost (d : DeviceSetup) (past : List Entry) : List Entry → Type 0 where
-  bare : Lost d past (bare_crash past)
+  bare : Lost d past (bare_restart past)
   kept_here : (c : Command) (since : List Line) (r : Record) → AtWork d past c since → row_after d past c since ≡ puts r →
-      owner past r ≡ d.addr → Lost d past (keeping_crash past r)
-  kept_elsewhere : (r : Record) → owner past r ≢ d.addr → HasCause d past r → Lost d past (keeping_crash past r)
+      owner past r ≡ d.addr → Lost d past (keeping_restart past r)
+  kept_elsewhere : (r : Record) → owner past r ≢ d.addr → HasCause d past r → Lost d past (keeping_restart past r)
 
 -- each step brought something at a device, or entries that are none of it, or the host lost its power
 pub data Seen (capacity : ℕ) (setup : Setup) (d : DeviceSetup) (past : List Entry) (s : Step) (news : List Entry) : Type 0 where
@@ -341,11 +341,11 @@ not_host setup d sound is_of =
 
 kept_seen : (setup : Setup) (d e : DeviceSetup) (past : List Entry) (c : Command) (since : List Line) (r : Record) →
     Ids setup past → IsOf setup e → AtWork e past c since → row_after e past c since ≡ puts r → (e ≡ d) ⊎ (e.addr ≢ d.addr) →
-    Lost d past (keeping_crash past r)
+    Lost d past (keeping_restart past r)
 kept_seen setup d e past c since r ids own at_work is_row same =
     let owned = put_owned setup past e c since r own ids at_work is_row in
     elim same [
-      | inl it ↦ subst (λ x. Lost x past (keeping_crash past r)) it (kept_here c since r at_work is_row owned)
+      | inl it ↦ subst (λ x. Lost x past (keeping_restart past r)) it (kept_here c since r at_work is_row owned)
       | inr other ↦
           let away : owner past r ≢ d.addr = λ is. other (sym owned ∙ is) in
           kept_elsewhere r away (put_elsewhere d past r away)
@@ -402,11 +402,11 @@ seen_from capacity setup d past _ _ sound is_of ids (lost_in_sale at choice id p
 
 -- the lines behind a loss of power
 pub lines_kept : (d : DeviceSetup) (past : List Entry) (r : Record) → owner past r ≡ d.addr →
-    lines_of d (keeping_crash past r ++ past) ≡ put r ∷ crashed ∷ lines_of d past
+    lines_of d (keeping_restart past r ++ past) ≡ put r ∷ restarted ∷ lines_of d past
 lines_kept d past r here = rw (eq-eqb (owner past r) d.addr here) refl
 
 pub lines_kept_elsewhere : (d : DeviceSetup) (past : List Entry) (r : Record) → owner past r ≢ d.addr →
-    lines_of d (keeping_crash past r ++ past) ≡ crashed ∷ lines_of d past
+    lines_of d (keeping_restart past r ++ past) ≡ restarted ∷ lines_of d past
 lines_kept_elsewhere d past r away = rw (ne_eqb (owner past r) d.addr away) refl
 
 -- the lines of other entries of a device's own address

@@ -15,7 +15,7 @@ use Rattle.cct_model.specs.terms.device.DeviceSetup.{DeviceSetup}
 use Rattle.cct_model.specs.terms.request.Request.{Request}
 use Rattle.cct_model.specs.terms.request.Request.TheVariants.{GetLife, Dispense}
 use Rattle.cct_model.proofs.Rows.{EachBefore, told_fact}
-use Rattle.cct_laws.specs.Kept.{is_for_hopper}
+use Rattle.cct_laws.specs.DeviceJobs.{is_for_hopper}
 
 -- what is counted: the coins that are left to fall and those that ever fell, and the dispenses that were taken and the
 -- coins that fell since an order was opened or closed

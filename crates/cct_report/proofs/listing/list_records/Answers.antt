@@ -55,7 +55,7 @@ returns-in-Ok-write_entry-clause-lines g c =
     let total = c.total.result in (
       going.read,
       sums_told sink.written sink.puts {holds = start} going out2 total (Ok tt) c.total.ensures
-          (writes_one sink.written sink.puts out1 out2 total (Ok tt) put.one put.ok put.err),
+          (writes_one sink.written sink.puts out1 out2 total (Ok tt) put.puts),
     )
 
 pub returns-in-Ok-write_entry-clause-every : goal.returns-in-Ok-write_entry-clause-every
@@ -69,7 +69,7 @@ returns-in-Ok-write_entry-clause-every g c records held =
     let total = c.total.result in
     sums_told_of sink.written sink.puts {holds = start} going out2 total (Ok tt) records held
     (omega (arith, held.count, c.loop-index-test.false)) c.total.ensures
-    (writes_one sink.written sink.puts out1 out2 total (Ok tt) put.one put.ok put.err)
+    (writes_one sink.written sink.puts out1 out2 total (Ok tt) put.puts)
 
 pub returns-in-Err-write_entry-clause-lines : goal.returns-in-Err-write_entry-clause-lines
 returns-in-Err-write_entry-clause-lines g c =
@@ -84,7 +84,7 @@ returns-in-Err-write_entry-clause-lines g c =
       going.read,
       failed,
       sums_told sink.written sink.puts {holds = start} going out2 total (Err failed) c.total.ensures
-          (writes_one sink.written sink.puts out1 out2 total (Err failed) put.one put.ok put.err),
+          (writes_one sink.written sink.puts out1 out2 total (Err failed) put.puts),
     )
 
 pub returns-in-Err-write_entry-clause-every : goal.returns-in-Err-write_entry-clause-every
@@ -101,5 +101,5 @@ returns-in-Err-write_entry-clause-every g c records held =
       sums_told_of sink.written sink.puts {holds = start} going out2 total (Err failed) records held
           (omega (arith, held.count, c.loop-index-test.false))
           c.total.ensures
-          (writes_one sink.written sink.puts out1 out2 total (Err failed) put.one put.ok put.err),
+          (writes_one sink.written sink.puts out1 out2 total (Err failed) put.puts),
     )

@@ -7,13 +7,13 @@ use Rattle.cct_model.specs.lines.entry.Entry.{Entry}
 use Rattle.cct_model.specs.lines.entry.Entry.TheVariants as entry
 
 -- A record closes no order whose life counts don't fit it.
-abbrev pub IsNotOdd : Record → Type 0
-IsNotOdd (record_of.Odd id life_before life_after) = ⊥
-IsNotOdd r = ⊤
+abbrev pub HasFittingLife : Record → Type 0
+HasFittingLife (record_of.Odd id life_before life_after) = ⊥
+HasFittingLife r = ⊤
 
 -- An entry puts and keeps no such record, and ends no job by one.
 abbrev pub FitsLife : List Entry → Entry → Type 0
-FitsLife past (entry.Put r) = IsNotOdd r
-FitsLife past (entry.Kept r) = IsNotOdd r
+FitsLife past (entry.Put r) = HasFittingLife r
+FitsLife past (entry.Kept r) = HasFittingLife r
 FitsLife past (entry.Ended addr OddLife) = ⊥
 FitsLife past e = ⊤

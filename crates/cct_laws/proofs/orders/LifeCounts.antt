@@ -1,5 +1,5 @@
 -- No order is ever closed with life counts that don't fit it.
-use Rattle.std.proofs.Common.{◌≡◌, ℕ, ◌==◌, ◌||◌, cond, true, false, Bool, List, [], ◌++◌, refl, subst, Option, Some, None, All, rules, sym, ap, ◌∷◌, ◌∙◌}
+use Rattle.std.proofs.Common.{◌≡◌, ℕ, ◌==◌, ◌||◌, cond, true, false, Bool, List, [], ◌++◌, refl, subst, Option, Some, None, rules, sym, ap, ◌∷◌, ◌∙◌}
 use Rattle.std.specs.Prelude.{⊤}
 use Rattle.cct_model.specs.terms.coin.Credits.{Credits}
 use Rattle.cct_model.specs.terms.wire.CheckKind.{CheckKind}
@@ -29,14 +29,15 @@ use Rattle.cct_model.specs.Order.{order}
 use Rattle.cct_model.specs.Job.{job, epoch, puts, judged_in, judged_by, credits_read, mask_read, payment_in, ident_requests, end_of_close, address_of}
 use Rattle.cct_model.specs.Rows.{row, end_of, TableRow, Due, puts_due, rows_of, Then, end_kept, new_epoch, ends_as, end_by_record, if_posted, if_closed, reading, asks_for, epoch_end, asks_once, waits_for_coins, new_order, rest, sale, order_end, done}
 use Rattle.cct_model.specs.Scan.{end_of_scan, end_by_row, scan_row, scan_tries}
-use Rattle.cct_model.specs.Legal.{with_end, Legal}
+use Rattle.cct_model.specs.Legal.{with_end}
 use Rattle.cct_model.specs.Script.{IsInRange}
 use Rattle.cct_model.specs.Honest.{Honest, HonestPast}
 use Rattle.cct_model.specs.Transcript.{met, lines_of, onto}
 use Rattle.cct_laws.specs.Ids.{Ids}
-use Rattle.cct_laws.specs.Kept.{is_for_acceptor, suits}
+use Rattle.cct_laws.specs.DeviceJobs.{is_for_acceptor, suits}
 use Rattle.cct_laws.specs.Law.{IsOf, EachEntry}
-use Rattle.cct_laws.specs.Odd.{IsNotOdd, FitsLife}
+use Rattle.cct_laws.specs.LifeCounts.{HasFittingLife, FitsLife}
+use Rattle.cct_laws.specs.Scope.{EachTranscript}
 use Rattle.cct_laws.proofs.jobs.Brought.{Comes, takes_coin, leaves_coin, leaves_alien, drops_coin, drops_none, jams, jams_none, is_reset, AtDevice, came, took, halted, idled, made_exchange, made_put, AtWork, Brought, of_device, faulted, refused, began_scan, began_sale, nobody, polled, sold, balanced, lost_power, lost_in_put, lost_in_sale, row_after, wire_of, wire_end, record_end, poll_wire, poll_end}
 use Rattle.cct_laws.proofs.EitherKind.{both_hopper}
 use Rattle.cct_laws.proofs.Keeping.{IsRanged, ranged_step, kept_step}
@@ -81,7 +82,7 @@ scan_fit since = by_tries ((scan_tries Simple since == 3) || (scan_tries Crc sin
     by_tries false = listed_fit since (scan_row since)
 
 -- the ends of a put
-close_fit : (r : Record) → IsNotOdd r → IsFit (end_of_close r)
+close_fit : (r : Record) → HasFittingLife r → IsFit (end_of_close r)
 close_fit (record_of.Closed id paid unpaid) fine = tt
 close_fit (record_of.Odd id life_before life_after) fine = absurd fine
 close_fit r fine = tt
@@ -95,7 +96,7 @@ puts_fit : (d : DeviceSetup) (c : Command) → EachRow PutsFit (rows_of d c)
 puts_fit d (command.Ident addr) = each_told PutsFit (λ q. tt) (λ q. tt) (ident_requests d.body)
 puts_fit d c = search rules
 
-record_fit : (due : Due) (behind : Then) (r : Record) → PutsFit (puts_due due behind) → IsNotOdd r →
+record_fit : (due : Due) (behind : Then) (r : Record) → PutsFit (puts_due due behind) → HasFittingLife r →
     IsFit (end_by_record behind r)
 record_fit due (ends_as end) r fit fine = fit
 record_fit due (if_posted of_reading) (record_of.Reading addr counter lost coins) fit fine = fit
@@ -104,7 +105,7 @@ record_fit due (if_posted of_reading) r fit fine = tt
 record_fit due if_closed r fit fine = close_fit r fine
 record_fit due behind r fit fine = tt
 
-kept_fit : (rows : List TableRow) (r : Record) → EachRow PutsFit rows → IsNotOdd r → IsFit (end_kept rows r)
+kept_fit : (rows : List TableRow) (r : Record) → EachRow PutsFit rows → HasFittingLife r → IsFit (end_kept rows r)
 kept_fit [] r each fine = tt
 kept_fit (puts_due reading behind ∷ rows) (record_of.Reading addr counter lost coins) each fine =
     record_fit reading behind (record_of.Reading addr counter lost coins) each.0 fine
@@ -121,7 +122,7 @@ kept_fit (asks_for q behind ∷ rows) r each fine = tt
 kept_fit (asks_once q behind without ∷ rows) r each fine = tt
 kept_fit (waits_for_coins ∷ rows) r each fine = tt
 
-put_fit : (d : DeviceSetup) (c : Command) (r : Record) (since : List Line) (state : EpochState) → IsNotOdd r →
+put_fit : (d : DeviceSetup) (c : Command) (r : Record) (since : List Line) (state : EpochState) → HasFittingLife r →
     IsFit (end_of d c (put r) since state)
 put_fit d c r since state fine =
     kept_fit (rest d c since) r (each_after PutsFit (rows_of d c) (done (rows_of d c) since) (puts_fit d c)) fine
@@ -135,9 +136,9 @@ entries_fit past addr e (Some end) fine fit before = (tt, (fine, before))
 
 -- an acceptor's job puts no such record
 judged_fit : (addr : ℕ) (state : EpochState) (credits : Option Credits) (seen : Option ℕ) →
-    JudgedHolds IsNotOdd (judged_by addr state credits seen)
+    JudgedHolds HasFittingLife (judged_by addr state credits seen)
 judged_fit addr state credits seen =
-    judged_holds IsNotOdd addr state credits seen (λ counter lost posted. tt) (λ mask counter posted. tt)
+    judged_holds HasFittingLife addr state credits seen (λ counter lost posted. tt) (λ mask counter posted. tt)
 
 abbrev is_reading_due : Due → Bool
 is_reading_due (new_epoch mask) = true
@@ -151,17 +152,17 @@ acceptor_dues d (command.Ident addr) = told_only is_reading_due (ident_requests 
 acceptor_dues d c = refl
 
 acceptor_fit : (d : DeviceSetup) (c : Command) (since : List Line) (state : EpochState) (owed : Option OpenOrder)
-    (r : Record) → is_for_acceptor c ≡ true → row d c since state owed ≡ puts r → IsNotOdd r
+    (r : Record) → is_for_acceptor c ≡ true → row d c since state owed ≡ puts r → HasFittingLife r
 acceptor_fit d c since state owed r suited is_row =
     let judged = judged_in c since state in
     let p = payment_in since owed in
     let only : puts_only is_reading_due (rows_of d c) ≡ true =
     sym (ap (λ b. cond b (puts_only is_reading_due (rows_of d c)) true) suited) ∙ acceptor_dues d c in
-    subst (RowHolds (λ q. ⊤) IsNotOdd) is_row
-    (each_put IsNotOdd is_reading_due d c (done (rows_of d c) since) judged p only due_fit)
+    subst (RowHolds (λ q. ⊤) HasFittingLife) is_row
+    (each_put HasFittingLife is_reading_due d c (done (rows_of d c) since) judged p only due_fit)
   where
     due_fit : (due : Due) → is_reading_due due ≡ true →
-        DueHolds IsNotOdd (address_of c) (judged_in c since state) (payment_in since owed) due
+        DueHolds HasFittingLife (address_of c) (judged_in c since state) (payment_in since owed) due
     due_fit (new_epoch mask) is = tt
     due_fit reading is = judged_fit (address_of c) state (credits_read since) (mask_read since)
     due_fit epoch_end is = tt
@@ -176,7 +177,7 @@ record AllFit (setup : Setup) (past : List Entry) : Type 0 where
 row_fit : (setup : Setup) (past : List Entry) (d : DeviceSetup) (c : Command) (since : List Line) (r : Record)
     (body : DeviceBody) → body ≡ d.body → suits body c ≡ true →
     (IsHopper body → Pays d (met d past) (lines_of d past)) → AtWork d past c since → row_after d past c since ≡ puts r →
-    IsNotOdd r
+    HasFittingLife r
 row_fit setup past d c since r (Acceptor accepts values ids) is suited pays at_work is_row =
     acceptor_fit d c since (epoch (lines_of d past)) (order (lines_of d past)) r suited is_row
 row_fit setup past d c since r (Hopper life value) is suited pays at_work is_row =
@@ -184,7 +185,7 @@ row_fit setup past d c since r (Hopper life value) is suited pays at_work is_row
 
 device_fit : (setup : Setup) (past : List Entry) (d : DeviceSetup) (c : Command) (since : List Line) (r : Record) →
     IsOf setup d → AllFit setup past → HonestPast past → AtWork d past c since → row_after d past c since ≡ puts r →
-    IsNotOdd r
+    HasFittingLife r
 device_fit setup past d c since r own all honest at_work is_row =
     row_fit setup past d c since r d.body refl (subst (IsRanged d) at_work.job_is (all.ranged d own)).1
     ((all.holds honest).0 d own) at_work is_row
@@ -247,9 +248,8 @@ fit_step capacity setup sound past news s range ids told all = record {
   );
 }
 
-pub legal_life : (capacity : ℕ) (setup : Setup) (steps : List Step) (transcript : List Entry) →
-    IsSoundSetup setup → All IsInRange steps → Legal capacity setup steps transcript → Honest transcript →
-    EachEntry FitsLife (onto [] transcript)
+pub legal_life : EachTranscript (λ capacity setup transcript. Honest transcript → EachEntry FitsLife (onto []
+    transcript))
 legal_life capacity setup steps transcript sound in_range legal honest =
     ((along capacity setup IsInRange (AllFit setup) sound (fit_step capacity setup sound) steps (onto [] transcript) in_range
     legal (record {

@@ -1,8 +1,10 @@
 -- What becomes of a request over an honest wire, and which commands suit a device, as the facts that steps keep need it.
-use Rattle.std.specs.Prelude.{◌≡◌, Bool, true, false, List, ◌∷◌, Option, Some, None, ⊤}
+use Rattle.std.specs.Prelude.{◌≡◌, ◌&&◌, not, Bool, true, false, List, ◌∷◌, Option, Some, None, ⊤}
+use Rattle.std.specs.List.{list_any}
 use Rattle.cct_model.specs.terms.device.DeviceBody.{DeviceBody}
-use Rattle.cct_model.specs.terms.device.DeviceBody.TheVariants.{Acceptor, Hopper}
 use Rattle.cct_model.specs.terms.device.DeviceSetup.{DeviceSetup}
+use Rattle.cct_model.specs.terms.family.Family.{Family}
+use Rattle.cct_model.specs.terms.family.Family.TheVariants as family
 use Rattle.cct_model.specs.terms.request.Request.{Request}
 use Rattle.cct_model.specs.terms.request.Request.TheVariants.{AddressPoll, SimplePoll, Dispense}
 use Rattle.cct_model.specs.declared.judging.EpochState.{EpochState}
@@ -11,6 +13,7 @@ use Rattle.cct_model.specs.lines.command.Command.TheVariants as command
 use Rattle.cct_model.specs.lines.entry.End.{End}
 use Rattle.cct_model.specs.Reply.{Reply}
 use Rattle.cct_model.specs.History.{Met}
+use Rattle.cct_model.specs.Family.{family_of}
 use Rattle.cct_model.specs.Hopper.{taken_of}
 use Rattle.cct_model.specs.Device.{IsHopper, reply_of}
 use Rattle.cct_model.specs.Line.{Line, ended}
@@ -45,30 +48,40 @@ abbrev pub with_ended : Option End → List Line → List Line
 with_ended None lines = lines
 with_ended (Some end) lines = ended end ∷ lines
 
--- The tests of a command that begins a job at an acceptor: a device is there, of this kind where it matters, and no job.
-abbrev pub begins_at_acceptor : List Test → Bool
-begins_at_acceptor (at_a_device ∷ at_an_acceptor ∷ with_no_job ∷ tests) = true
-begins_at_acceptor (at_a_device ∷ with_no_job ∷ tests) = true
-begins_at_acceptor tests = false
+-- A test that a device is at the address.
+abbrev pub wants_device : Test → Bool
+wants_device at_a_device = true
+wants_device test = false
 
--- Those of a command that begins a job at a hopper.
-abbrev pub begins_at_hopper : List Test → Bool
-begins_at_hopper (at_a_device ∷ at_a_hopper ∷ with_no_job ∷ tests) = true
-begins_at_hopper (at_a_device ∷ with_no_job ∷ tests) = true
-begins_at_hopper tests = false
+-- A test that no job is there.
+abbrev pub wants_no_job : Test → Bool
+wants_no_job with_no_job = true
+wants_no_job test = false
 
--- A command that begins a job at an acceptor.
+-- A test that the device is of another family than this.
+abbrev pub wants_other : Family → Test → Bool
+wants_other family.Acceptor at_a_hopper = true
+wants_other family.Hopper at_an_acceptor = true
+wants_other which test = false
+
+-- A command begins a job at a device of a family: among its tests are that a device is there and that no job is, and
+-- none that wants another family.
+abbrev pub is_for : Family → Command → Bool
+is_for which c =
+    list_any wants_device (tests_of c) && list_any wants_no_job (tests_of c)
+    && not (list_any (wants_other which) (tests_of c))
+
+-- A command begins a job at an acceptor.
 abbrev pub is_for_acceptor : Command → Bool
-is_for_acceptor c = begins_at_acceptor (tests_of c)
+is_for_acceptor c = is_for family.Acceptor c
 
--- A command that begins a job at a hopper.
+-- A command begins a job at a hopper.
 abbrev pub is_for_hopper : Command → Bool
-is_for_hopper c = begins_at_hopper (tests_of c)
+is_for_hopper c = is_for family.Hopper c
 
--- A command begins a job at a device of this kind.
+-- A command begins a job at a device of this family.
 abbrev pub suits : DeviceBody → Command → Bool
-suits (Acceptor accepts values ids) c = is_for_acceptor c
-suits (Hopper life value) c = is_for_hopper c
+suits body c = is_for (family_of body) c
 
 -- A command to an acceptor is not refused because of its epoch.
 abbrev pub IsTaken : DeviceSetup → Command → EpochState → Type 0

@@ -1,5 +1,5 @@
--- The host loses its power: what is kept, and how it goes on over its records.
-use Rattle.std.proofs.Common.{List, [], ◌∷◌, false, Some, None, inl, inr, arith, refl}
+-- The power is cut: what is kept, and how the host restarts over its records.
+use Rattle.std.proofs.Common.{List, [], ◌∷◌, ◌++◌, false, Some, None, inl, inr, arith, refl}
 use Rattle.cct_model.specs.terms.wire.CheckKind.TheVariants.{Simple}
 use Rattle.cct_model.specs.terms.device.DeviceBody.TheVariants.{Hopper}
 use Rattle.cct_model.specs.terms.device.DeviceSetup.{DeviceSetup}
@@ -23,7 +23,7 @@ use Rattle.cct_model.specs.lines.record.Record.TheVariants as record_of
 use Rattle.cct_model.specs.lines.entry.Entry.{Entry}
 use Rattle.cct_model.specs.lines.entry.Entry.TheVariants as entry
 use Rattle.cct_model.specs.lines.entry.End.TheVariants as end_of
-use Rattle.cct_model.proofs.Machine.{Row, Plays, after, texts, acceptor, hopper, setup, starting, funding, funded, coin, one, both, wire}
+use Rattle.cct_model.proofs.Machine.{Row, Plays, after, texts, acceptor, hopper, setup, starting, funding, funded, coin_read, ordered, dispensed, paid_out, coin, one, both, wire}
 
 abbrev started : List Entry
 started = after [] starting
@@ -44,11 +44,8 @@ funding_wide = search
 -- after two of the four disk calls of a put its record is not kept: the next round posts the coin
 abbrev pub two_calls : List Row
 two_calls =
-    one (step.Coin 2 5) (entry.Accepted 2 (coin 5 1))
-    ∷ one (step.Command (command.Round 2)) (entry.Taken (command.Round 2))
-    ∷ one (step.Next 2) (wire 2 "020001e518" "020001e518010b02000105010000000000000000eb")
-    ∷ one (step.Next 2) (wire 2 "020001e617" "020001e61701020200fffffd")
-    ∷ one (step.Crash (Some (record { addr = 2; calls = 2 })) 0) (entry.Crash 1)
+    coin_read
+    ++ one (step.Crash (Some (record { addr = 2; calls = 2 })) 0) (entry.Crash 1)
     ∷ one (step.Command (command.Round 2)) (entry.Taken (command.Round 2))
     ∷ one (step.Next 2) (wire 2 "020001e518" "020001e518010b02000105010000000000000000eb")
     ∷ one (step.Next 2) (wire 2 "020001e617" "020001e61701020200fffffd")
@@ -64,11 +61,8 @@ two_calls_plays = (refl, (refl, (refl, (refl, (inl (omega arith, refl), (refl, (
 -- after three it may be lost
 abbrev three_calls_lost : List Row
 three_calls_lost =
-    one (step.Coin 2 5) (entry.Accepted 2 (coin 5 1))
-    ∷ one (step.Command (command.Round 2)) (entry.Taken (command.Round 2))
-    ∷ one (step.Next 2) (wire 2 "020001e518" "020001e518010b02000105010000000000000000eb")
-    ∷ one (step.Next 2) (wire 2 "020001e617" "020001e61701020200fffffd")
-    ∷ one (step.Crash (Some (record { addr = 2; calls = 3 })) 0) (entry.Crash 1)
+    coin_read
+    ++ one (step.Crash (Some (record { addr = 2; calls = 3 })) 0) (entry.Crash 1)
     ∷ one (step.Command (command.Round 2)) (entry.Taken (command.Round 2))
     ∷ one (step.Next 2) (wire 2 "020001e518" "020001e518010b02000105010000000000000000eb")
     ∷ one (step.Next 2) (wire 2 "020001e617" "020001e61701020200fffffd")
@@ -83,11 +77,8 @@ three_calls_lost_plays = (refl, (refl, (refl, (refl, (inl (omega arith, refl), (
 
 abbrev three_calls_lost_too : List Row
 three_calls_lost_too =
-    one (step.Coin 2 5) (entry.Accepted 2 (coin 5 1))
-    ∷ one (step.Command (command.Round 2)) (entry.Taken (command.Round 2))
-    ∷ one (step.Next 2) (wire 2 "020001e518" "020001e518010b02000105010000000000000000eb")
-    ∷ one (step.Next 2) (wire 2 "020001e617" "020001e61701020200fffffd")
-    ∷ one (step.Crash (Some (record { addr = 2; calls = 3 })) 3) (entry.Crash 1)
+    coin_read
+    ++ one (step.Crash (Some (record { addr = 2; calls = 3 })) 3) (entry.Crash 1)
     ∷ one (step.Command (command.Round 2)) (entry.Taken (command.Round 2))
     ∷ one (step.Next 2) (wire 2 "020001e518" "020001e518010b02000105010000000000000000eb")
     ∷ one (step.Next 2) (wire 2 "020001e617" "020001e61701020200fffffd")
@@ -103,11 +94,8 @@ three_calls_lost_too_plays = (refl, (refl, (refl, (refl, (inl (omega arith, refl
 -- after three it may be kept: the next round is clean
 abbrev three_calls_kept : List Row
 three_calls_kept =
-    one (step.Coin 2 5) (entry.Accepted 2 (coin 5 1))
-    ∷ one (step.Command (command.Round 2)) (entry.Taken (command.Round 2))
-    ∷ one (step.Next 2) (wire 2 "020001e518" "020001e518010b02000105010000000000000000eb")
-    ∷ one (step.Next 2) (wire 2 "020001e617" "020001e61701020200fffffd")
-    ∷ both (step.Crash (Some (record { addr = 2; calls = 3 })) 1) (entry.Crash 2) (entry.Kept (record_of.Reading 2 1 0 (coin 5 1 ∷ [])))
+    coin_read
+    ++ both (step.Crash (Some (record { addr = 2; calls = 3 })) 1) (entry.Crash 2) (entry.Kept (record_of.Reading 2 1 0 (coin 5 1 ∷ [])))
     ∷ one (step.Command (command.Round 2)) (entry.Taken (command.Round 2))
     ∷ one (step.Next 2) (wire 2 "020001e518" "020001e518010b02000105010000000000000000eb")
     ∷ both (step.Next 2) (wire 2 "020001e617" "020001e61701020200fffffd") (entry.Ended 2 end_of.Clean)
@@ -123,11 +111,8 @@ three_calls_kept_plays = (refl, (refl, (refl, (refl, (inr (omega arith, refl), (
 -- after four it is kept
 abbrev pub four_calls : List Row
 four_calls =
-    one (step.Coin 2 5) (entry.Accepted 2 (coin 5 1))
-    ∷ one (step.Command (command.Round 2)) (entry.Taken (command.Round 2))
-    ∷ one (step.Next 2) (wire 2 "020001e518" "020001e518010b02000105010000000000000000eb")
-    ∷ one (step.Next 2) (wire 2 "020001e617" "020001e61701020200fffffd")
-    ∷ both (step.Crash (Some (record { addr = 2; calls = 4 })) 0) (entry.Crash 2) (entry.Kept (record_of.Reading 2 1 0 (coin 5 1 ∷ [])))
+    coin_read
+    ++ both (step.Crash (Some (record { addr = 2; calls = 4 })) 0) (entry.Crash 2) (entry.Kept (record_of.Reading 2 1 0 (coin 5 1 ∷ [])))
     ∷ one (step.Command (command.Round 2)) (entry.Taken (command.Round 2))
     ∷ one (step.Next 2) (wire 2 "020001e518" "020001e518010b02000105010000000000000000eb")
     ∷ both (step.Next 2) (wire 2 "020001e617" "020001e61701020200fffffd") (entry.Ended 2 end_of.Clean)
@@ -140,14 +125,11 @@ unfolding message spelling data_of request_of requests_with form_of reply_data r
     life_between close
 four_calls_plays = (refl, (refl, (refl, (refl, (inr (omega arith, refl), (refl, (refl, (refl, (refl, tt)))))))))
 
--- a crash before the dispense: the order is open, and a settlement closes it without one
+-- a power cut before the dispense: the order is open, and a settlement closes it without one
 abbrev pub settled_after : List Row
 settled_after =
-    one (step.Command (command.Pay 3 41 4)) (entry.Taken (command.Pay 3 41 4))
-    ∷ one (step.Next 3) (wire 3 "030101a4a5b2" "030101a4a5b201000300fc")
-    ∷ one (step.Next 3) (wire 3 "030001a854" "030001a85401030300fefffffd")
-    ∷ one (step.Next 3) (entry.Put (record_of.Opened 41 3 4 16777214))
-    ∷ one (step.Crash None 0) (entry.Crash 3)
+    ordered
+    ++ one (step.Crash None 0) (entry.Crash 3)
     ∷ one (step.Command (command.Settle 3)) (entry.Taken (command.Settle 3))
     ∷ one (step.Next 3) (wire 3 "030001a656" "030001a6560104030000000000f8")
     ∷ one (step.Next 3) (wire 3 "030001a854" "030001a85401030300fefffffd")
@@ -162,11 +144,8 @@ settled_after_plays = search
 
 abbrev still_open : List Row
 still_open =
-    one (step.Command (command.Pay 3 41 4)) (entry.Taken (command.Pay 3 41 4))
-    ∷ one (step.Next 3) (wire 3 "030101a4a5b2" "030101a4a5b201000300fc")
-    ∷ one (step.Next 3) (wire 3 "030001a854" "030001a85401030300fefffffd")
-    ∷ one (step.Next 3) (entry.Put (record_of.Opened 41 3 4 16777214))
-    ∷ one (step.Crash None 0) (entry.Crash 3)
+    ordered
+    ++ one (step.Crash None 0) (entry.Crash 3)
     ∷ one (step.Command (command.Pay 3 43 1)) (entry.No (command.Pay 3 43 1) (command_no.OrderOpen 41))
     ∷ []
 
@@ -221,12 +200,8 @@ order_kept_plays = (refl, (refl, (refl, (inr (omega arith, refl), (refl, (refl, 
 -- a payout goes on while the host is away
 abbrev pub goes_on_falling : List Row
 goes_on_falling =
-    one (step.Command (command.Pay 3 41 4)) (entry.Taken (command.Pay 3 41 4))
-    ∷ one (step.Next 3) (wire 3 "030101a4a5b2" "030101a4a5b201000300fc")
-    ∷ one (step.Next 3) (wire 3 "030001a854" "030001a85401030300fefffffd")
-    ∷ one (step.Next 3) (entry.Put (record_of.Opened 41 3 4 16777214))
-    ∷ one (step.Next 3) (wire 3 "030401a70102030447" "030401a7010203044701000300fc")
-    ∷ one (step.Fall 3) (entry.Fell 3)
+    dispensed
+    ++ one (step.Fall 3) (entry.Fell 3)
     ∷ one (step.Fall 3) (entry.Fell 3)
     ∷ one (step.Fall 3) (entry.Fell 3)
     ∷ one (step.Crash None 7) (entry.Crash 3)
@@ -248,18 +223,8 @@ goes_on_falling_plays = search
 -- the record that closes an order is not kept: the order is settled once more, with the same coins
 abbrev close_not_kept : List Row
 close_not_kept =
-    one (step.Command (command.Pay 3 41 4)) (entry.Taken (command.Pay 3 41 4))
-    ∷ one (step.Next 3) (wire 3 "030101a4a5b2" "030101a4a5b201000300fc")
-    ∷ one (step.Next 3) (wire 3 "030001a854" "030001a85401030300fefffffd")
-    ∷ one (step.Next 3) (entry.Put (record_of.Opened 41 3 4 16777214))
-    ∷ one (step.Next 3) (wire 3 "030401a70102030447" "030401a7010203044701000300fc")
-    ∷ one (step.Fall 3) (entry.Fell 3)
-    ∷ one (step.Fall 3) (entry.Fell 3)
-    ∷ one (step.Fall 3) (entry.Fell 3)
-    ∷ one (step.Fall 3) (entry.Fell 3)
-    ∷ one (step.Next 3) (wire 3 "030001a656" "030001a6560104030001000400f3")
-    ∷ one (step.Next 3) (wire 3 "030001a854" "030001a85401030300020000f7")
-    ∷ one (step.Crash (Some (record { addr = 3; calls = 0 })) 0) (entry.Crash 3)
+    paid_out
+    ++ one (step.Crash (Some (record { addr = 3; calls = 0 })) 0) (entry.Crash 3)
     ∷ one (step.Command (command.Settle 3)) (entry.Taken (command.Settle 3))
     ∷ one (step.Next 3) (wire 3 "030001a656" "030001a6560104030001000400f3")
     ∷ one (step.Next 3) (wire 3 "030001a854" "030001a85401030300020000f7")
@@ -275,18 +240,8 @@ close_not_kept_plays = (refl, (refl, (refl, (refl, (refl, (refl, (refl, (refl, (
 -- it is kept, and the order is closed
 abbrev close_kept : List Row
 close_kept =
-    one (step.Command (command.Pay 3 41 4)) (entry.Taken (command.Pay 3 41 4))
-    ∷ one (step.Next 3) (wire 3 "030101a4a5b2" "030101a4a5b201000300fc")
-    ∷ one (step.Next 3) (wire 3 "030001a854" "030001a85401030300fefffffd")
-    ∷ one (step.Next 3) (entry.Put (record_of.Opened 41 3 4 16777214))
-    ∷ one (step.Next 3) (wire 3 "030401a70102030447" "030401a7010203044701000300fc")
-    ∷ one (step.Fall 3) (entry.Fell 3)
-    ∷ one (step.Fall 3) (entry.Fell 3)
-    ∷ one (step.Fall 3) (entry.Fell 3)
-    ∷ one (step.Fall 3) (entry.Fell 3)
-    ∷ one (step.Next 3) (wire 3 "030001a656" "030001a6560104030001000400f3")
-    ∷ one (step.Next 3) (wire 3 "030001a854" "030001a85401030300020000f7")
-    ∷ both (step.Crash (Some (record { addr = 3; calls = 3 })) 1) (entry.Crash 4) (entry.Kept (record_of.Closed 41 4 0))
+    paid_out
+    ++ both (step.Crash (Some (record { addr = 3; calls = 3 })) 1) (entry.Crash 4) (entry.Kept (record_of.Closed 41 4 0))
     ∷ one (step.Command (command.Settle 3)) (entry.No (command.Settle 3) command_no.NoOrder)
     ∷ one step.Balance (entry.Balance (record { available = 60; reserved = 0; paid = 40; sold = 0 }))
     ∷ []
@@ -300,12 +255,8 @@ close_kept_plays = (refl, (refl, (refl, (refl, (refl, (refl, (refl, (refl, (refl
 -- the number of calls is nothing where no job at the address is about to put a record
 abbrev calls_of_nothing : List Row
 calls_of_nothing =
-    one (step.Command (command.Pay 3 41 4)) (entry.Taken (command.Pay 3 41 4))
-    ∷ one (step.Next 3) (wire 3 "030101a4a5b2" "030101a4a5b201000300fc")
-    ∷ one (step.Next 3) (wire 3 "030001a854" "030001a85401030300fefffffd")
-    ∷ one (step.Next 3) (entry.Put (record_of.Opened 41 3 4 16777214))
-    ∷ one (step.Next 3) (wire 3 "030401a70102030447" "030401a7010203044701000300fc")
-    ∷ one (step.Fall 3) (entry.Fell 3)
+    dispensed
+    ++ one (step.Fall 3) (entry.Fell 3)
     ∷ one (step.Fall 3) (entry.Fell 3)
     ∷ one (step.Fall 3) (entry.Fell 3)
     ∷ one (step.Crash (Some (record { addr = 3; calls = 4 })) 0) (entry.Crash 3)
@@ -395,7 +346,7 @@ unfolding message spelling data_of request_of requests_with form_of reply_data r
     life_between close
 epoch_not_kept_plays = (refl, (refl, (refl, (inl (omega arith, refl), (refl, (refl, tt))))))
 
--- a crash keeps the fault that is set for the next exchange, and the device its state
+-- a power cut keeps the fault that is set for the next exchange, and the device its state
 abbrev fault_stays : List Row
 fault_stays =
     one (step.Fault (fault.HostHears [])) (entry.Fault (fault.HostHears []))
@@ -411,7 +362,7 @@ unfolding message spelling data_of request_of requests_with form_of reply_data r
     life_between close
 fault_stays_plays = search
 
--- two orders whose ids stand in the journal out of order are open after a crash
+-- two orders whose ids stand in the journal out of order are open after a restart
 abbrev two_hoppers : List Row
 two_hoppers =
     one (step.Command (command.Pay 3 41 1)) (entry.Taken (command.Pay 3 41 1))

@@ -13,7 +13,7 @@ use Rattle.cct_model.specs.Reply.{Reply}
 use Rattle.cct_model.specs.History.{Met, coin, alien, fall, jam, reset, heard, unless_reset}
 use Rattle.cct_model.specs.Acceptor.{mask_of, path_of}
 use Rattle.cct_model.specs.Acceptor as acceptor
-use Rattle.cct_model.specs.Line.{Line, accepted, inhibited, exchange, put, taken, crashed}
+use Rattle.cct_model.specs.Line.{Line, accepted, inhibited, exchange, put, taken, restarted}
 use Rattle.cct_model.specs.Line as line
 use Rattle.cct_model.specs.Order.{order}
 use Rattle.cct_model.specs.Job.{free, job, epoch, sends, puts, address_of}
@@ -21,7 +21,7 @@ use Rattle.cct_model.specs.Rows.{row, end_of}
 use Rattle.cct_model.specs.Script.{IsCommand}
 use Rattle.cct_model.specs.Transcript.{meets, onto}
 use Rattle.cct_laws.specs.Law.{EachEntry}
-use Rattle.cct_laws.specs.Kept.{Fate, IsForOthers, is_for_acceptor, with_ended, IsTaken, WorksAt}
+use Rattle.cct_laws.specs.DeviceJobs.{Fate, IsForOthers, is_for_acceptor, with_ended, IsTaken, WorksAt}
 
 -- What a device met since a record: nothing, where the record begins an epoch at its address.
 abbrev pub since_record : DeviceSetup → Record → List Met → List Met
@@ -128,10 +128,10 @@ pub record IsKeptSince (d : DeviceSetup) (P : List Met → List Met → List Lin
       WorksAt d lines c work → row d c work (epoch lines) (order lines) ≡ sends q → Fate d past q asked got →
       P since past lines → P (heard asked ∷ since) (heard asked ∷ past)
       (with_ended (end_of d c (exchange (Some q) got) work (epoch lines)) (exchange (Some q) got ∷ lines))
-  pub crashes : (since past : List Met) (lines : List Line) → P since past lines → P since past (crashed ∷ lines)
+  pub restarts : (since past : List Met) (lines : List Line) → P since past lines → P since past (restarted ∷ lines)
   pub keeps : (since past : List Met) (lines : List Line) (c : Command) (work : List Line) (r : Record) →
       WorksAt d lines c work → row d c work (epoch lines) (order lines) ≡ puts r →
-      P since past lines → P (since_record d r since) past (put r ∷ crashed ∷ lines)
+      P since past lines → P (since_record d r since) past (put r ∷ restarted ∷ lines)
   pub puts : (since past : List Met) (lines : List Line) (c : Command) (work : List Line) (r : Record) →
       WorksAt d lines c work → row d c work (epoch lines) (order lines) ≡ puts r →
       P since past lines → P (since_record d r since) past (with_ended (end_of d c (put r) work (epoch lines))

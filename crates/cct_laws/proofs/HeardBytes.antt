@@ -16,7 +16,7 @@ use Rattle.cct_model.specs.Transcript.{heard_by_devices}
 use Rattle.cct_model.proofs.Requests.{request_header}
 use Rattle.cct_model.specs.Honest.{IsHonestFault}
 use Rattle.cct_laws.specs.Honesty.{IsNoMessage}
-use Rattle.cct_laws.specs.Kept.{IsForOthers}
+use Rattle.cct_laws.specs.DeviceJobs.{IsForOthers}
 use Rattle.cct_laws.proofs.Honesty.{honest_means}
 
 passed : (fits : Bool) (x m : Message) → cond fits (Some x) None ≡ Some m → x ≡ m
