@@ -52,14 +52,15 @@ impl From<Failed> for OpenNo {
     }
 }
 
-/// Why a record wasn't read.
-#[derive(Debug, Drop, Error)]
+/// Why a record wasn't read, or why a host isn't started over the records of a journal.
+#[derive(Clone, Copy, Debug, Error, PartialEq, Eq)]
 pub enum ReadNo {
-    /// The disk failed.
+    /// A call of the disk failed.
     #[error("the disk failed")]
     Disk,
-    /// The body of the record at `index` spells none.
-    #[error("record {index} of the journal is spelt wrongly")]
+    /// The record of this index, the first at 0, is bad: its body spells none, or, as a host starts, it doesn't follow those
+    /// before it.
+    #[error("record {index} of the journal is bad")]
     BadRecord { index: u32 },
 }
 
