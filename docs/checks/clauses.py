@@ -1,10 +1,10 @@
 """The clauses that docs/PROOFS.md names stand in the crates.
 
 A cell of the column `Clause` has parts, joined by `; `. The hosts of a part are the names behind ` of ` at its end, or else
-those before its `: `: functions, types, or records of `specs/`. Each other name stands at each host: it is a clause of that
-function, a clause or a ghost of that type, or a field of that record. Without a host it is a function or a clause of
-`bench`; `the lemma` names one of proofs/. A name with a capital is a definition or a type, also of a crate below. `the one
-clause of` asks that each host has just one `ensures`.
+those before its `: `: functions, types, or records of `specs/`, of this crate or of one below. Each other name stands at
+each host: it is a clause of that function, a clause or a ghost of that type, or a field of that record. Without a host it
+is a function or a clause of `bench`; `the lemma` names one of proofs/. A name with a capital is a definition or a type,
+also of a crate below. `the one clause of` asks that each host has just one `ensures`.
 """
 
 import re
@@ -123,12 +123,12 @@ def part_faults(part: str, crate: Crate, below: list[Crate]) -> list[str]:
     behind = re.search(rf"\bof (?:each )?({NAMES})$", part)
     functions = markdown.quoted(before[1] if before else "")
     hosts = markdown.quoted(behind[1] if behind else "") or functions
-    inside = [names_of(crate, host) for host in hosts]
+    inside = [names_of(crate, host).union(*(each.definitions.get(host, ()) for each in below)) for host in hosts]
     clauses = {name for f in crate.functions for name in f.promises}
     faults = []
     for name in markdown.quoted(part):
         if name in hosts or name in functions:
-            known = functions_of(crate, name) or name in crate.definitions or name in clauses
+            known = functions_of(crate, name) or name in clauses or any(name in each.definitions for each in [crate, *below])
         elif name[0].isupper() and "::" not in name:
             known = any(name in each.definitions or name in each.types for each in [crate, *below])
         elif part.startswith("the lemma "):

@@ -100,3 +100,28 @@ def sentences(root: Path):
     listed = subprocess.run([root / "docs/index"], capture_output=True, text=True).stdout.splitlines()
     told = [line for line in listed if line.startswith("  ")]
     return len(told), [line.strip() for line in told if ": NO SENTENCE" in line]
+
+
+def first_page(text: str, anchor: str) -> str:
+    """The part of a document below the heading with this anchor, up to the next heading; without one, its part above the
+    first heading of two marks."""
+    for part in re.split(r"^(?=##+ )", text, flags=re.MULTILINE):
+        slug = re.sub(r"[^\w\- ]", "", part.splitlines()[0].lstrip("# ").lower()).replace(" ", "-") if part else ""
+        if not anchor or slug == anchor:
+            return part
+    return ""
+
+
+def first_pages(root: Path):
+    """The first page of each reader, which README names, is there and has fewer than 1,000 words."""
+    count, faults = 0, []
+    for table in markdown.read(root / "README.md")[0]:
+        if "First page" not in table.header:
+            continue
+        for row in table.rows:
+            for name, anchor in re.findall(r"\]\(([^)#]+)#?([^)]*)\)", row.cells[table.header.index("First page")]):
+                count += 1
+                words = len(first_page((root / name).read_text(), anchor).split())
+                if not 0 < words < 1000:
+                    faults.append(f"README.md:{row.line}: {name}#{anchor} has {words} words")
+    return count, faults

@@ -12,7 +12,7 @@ use Rattle.cct_model.specs.Legal.{Legal}
 use Rattle.cct_model.specs.lines.entry.Entry.TheVariants as entry
 use Rattle.cct_model.specs.Script.{script, Refusal}
 use Rattle.cct_model.specs.Transcript.{onto}
-use Rattle.cct_laws.proofs.text.Scripts.{played_in_order, played_covers, played_fresh, played_paid}
+use Rattle.cct_laws.proofs.text.Scripts.{played_right}
 use Rattle.cct_journal.specs.Image.{IsBlank, IsFirstByteFrom}
 use Rattle.cct_bench.specs.declared.outcome.Status.{Status}
 use Rattle.cct_bench.specs.declared.outcome.Status.TheVariants as status
@@ -25,7 +25,8 @@ use Rattle.cct_world.specs.Early.{LegalBeforeLoss}
 use Rattle.cct_world.specs.Restarts.{LosesAt, no_step}
 use Rattle.cct_world.specs.Sure.{First, IsCrash, Sure, losses_in}
 use Rattle.cct_bench.specs.Disks.{Disks, most_records}
-use Rattle.cct_bench.specs.Money.{IsRight, RightBeforeLoss}
+use Rattle.cct_laws.specs.Right.{IsRight}
+use Rattle.cct_bench.specs.Money.{RightBeforeLoss}
 use Rattle.cct_bench.specs.Source.{AreTold, OfBytes, to_come}
 use Rattle.cct_text.specs.Writing.{Writes, Wrote, Broke}
 use Rattle.cct_bench.specs.Run.{Book, BreaksOff, Closes, Completes, Ends, EndsLost, IsOfScript, Over, OverCut}
@@ -38,17 +39,6 @@ use Rattle.cct_text.proofs.Writing.{writes_then}
 pub bytes_weaker : (P Q : List ℕ → Type 0) (known : Option (List ℕ)) → ((bytes : List ℕ) → P bytes → Q bytes)
     → OfBytes known P → OfBytes known Q
 bytes_weaker P Q known f h = (h.0, h.1, f h.0 h.2)
-
--- the money of steps that a script says
-script_right : (bytes : List ℕ) (played rest : List Step) (transcript : List Entry)
-    → (script bytes).steps ≡ played ++ rest → Legal most_records (script bytes).setup played transcript
-    → IsRight (script bytes).setup transcript
-script_right bytes played rest transcript fronts legal = record {
-  fresh = played_fresh most_records bytes played rest transcript fronts legal;
-  in_order = λ d own honest. played_in_order most_records bytes played rest transcript d fronts legal honest own;
-  covers = λ d own honest. played_covers most_records bytes played rest transcript d fronts legal honest own;
-  paid = λ d own paying honest. played_paid most_records bytes played rest transcript d fronts legal honest own paying;
-}
 
 -- what is so before the first loss of power, by what is so of the first of the steps
 pub early_right : (setup : Setup) (played : List Step) (transcript : List Entry)
@@ -118,9 +108,9 @@ ran_by bytes how s tail left disks Before Written Broken Breaks source_failed di
       took = p.took;
       steps_are = p.steps_are;
       legal = p.legal;
-      money = λ sure. script_right bytes p.played p.unplayed p.transcript p.steps_are (p.legal sure);
+      money = λ sure. played_right most_records bytes p.played p.unplayed p.transcript p.steps_are (p.legal sure);
       early = early_right (script bytes).setup p.played p.transcript
-          (λ first later told fronts legal. script_right bytes first (later ++ p.unplayed) told
+          (λ first later told fronts legal. played_right most_records bytes first (later ++ p.unplayed) told
           (p.steps_are ∙ ap (λ xs. xs ++ p.unplayed) fronts ∙ append_assoc first later p.unplayed) legal) p.early;
       ends = ends;
       book = book;
@@ -362,9 +352,9 @@ no_memory left Written Breaks disks source_failed disk_failed uncut wrote =
         took = refl;
         steps_are = refl;
         legal = λ sure. legal;
-        money = λ sure. script_right bytes [] (script bytes).steps [] refl legal;
+        money = λ sure. played_right most_records bytes [] (script bytes).steps [] refl legal;
         early = early_right (script bytes).setup [] []
-            (λ first later told fronts legal. script_right bytes first (later ++ (script bytes).steps) told
+            (λ first later told fronts legal. played_right most_records bytes first (later ++ (script bytes).steps) told
             (ap (λ xs. xs ++ (script bytes).steps) fronts ∙ append_assoc first later (script bytes).steps) legal)
             (early_none most_records (script bytes).setup);
         ends = (refl, refl, wrote);

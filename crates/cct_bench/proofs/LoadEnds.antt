@@ -11,8 +11,7 @@ use Rattle.cct_model.specs.lines.entry.Entry.{Entry}
 use Rattle.cct_model.specs.Legal.{Legal}
 use Rattle.cct_model.specs.Script.{IsInRange}
 use Rattle.cct_model.specs.Transcript.{onto}
-use Rattle.cct_laws.proofs.acceptor.Coinless.{each_covers, each_in_order}
-use Rattle.cct_laws.proofs.orders.Payments.{legal_fresh, legal_paid}
+use Rattle.cct_laws.proofs.text.Scripts.{legal_right}
 use Rattle.cct_journal.specs.Image.{IsBlank, capacity_of}
 use Rattle.cct_journal.specs.Stands.{GoesOn, Outlasts}
 use Rattle.cct_disk.specs.declared.disk.Disk.{Ghosts}
@@ -47,7 +46,7 @@ use Rattle.cct_bench.specs.Disks.{Disks, IsReady, disks, most_records}
 use Rattle.cct_bench.specs.Load.{LoadCloses, LoadEnds, LoadPlayed, LoadStops, Loaded, load_ending}
 use Rattle.cct_bench.specs.Report.{IsOrMemory}
 use Rattle.cct_bench.specs.Run.{Book, EndsLost, IsUnopened, TellsLoss, last_entry, listed, status_by, status_of}
-use Rattle.cct_bench.specs.Money.{IsRight}
+use Rattle.cct_laws.specs.Right.{IsRight}
 use Rattle.cct_bench.proofs.Closing.{LastLine, blank_first, early_right, failed_tail, kept_by, last_line, lost_next, no_line, none_next, tells_loss}
 
 -- ---- what the laws say of a load
@@ -67,16 +66,7 @@ played_in_range seed rounds played unplayed steps_are =
 load_right : (seed rounds : ℕ) (played rest : List Step) (transcript : List Entry) → load_steps seed rounds ≡ played ++ rest
     → Legal most_records load_setup played transcript → IsRight load_setup transcript
 load_right seed rounds played rest transcript fronts legal =
-    let in_range = played_in_range seed rounds played rest fronts in
-    record {
-      fresh = legal_fresh most_records load_setup played transcript setup_sound legal;
-      in_order = λ d own honest.
-          each_in_order most_records load_setup played transcript d setup_sound own in_range legal honest;
-      covers = λ d own honest.
-          each_covers most_records load_setup played transcript d setup_sound own in_range legal honest;
-      paid = λ d own paying honest.
-          legal_paid most_records load_setup played transcript d setup_sound own paying in_range legal honest;
-    }
+    legal_right most_records load_setup played transcript setup_sound (played_in_range seed rounds played rest fronts) legal
 
 -- a load by its status, from how it came to its end
 loaded_by : (seed rounds : ℕ) (how : Ending) (s : Status) (tail : List Entry) (disks : Disks)

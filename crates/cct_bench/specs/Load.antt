@@ -22,7 +22,8 @@ use Rattle.cct_bench.specs.declared.ending.Ending.{Ending}
 use Rattle.cct_bench.specs.declared.ending.Ending.TheVariants as ending
 use Rattle.cct_bench.specs.declared.play.TheConstants.{JOURNAL_BYTES}
 use Rattle.cct_bench.specs.Disks.{Disks, IsReady, most_records}
-use Rattle.cct_bench.specs.Money.{IsRight, RightBeforeLoss}
+use Rattle.cct_laws.specs.Right.{IsRight}
+use Rattle.cct_bench.specs.Money.{RightBeforeLoss}
 use Rattle.cct_bench.specs.Run.{Book, EndsLost, TellsLoss, TellsOf, last_entry, listed, status_of, unplayed_by}
 
 -- of a load over a disk: the steps that were played and those that weren't, and the past of those played

@@ -31,7 +31,8 @@ use Rattle.cct_host.specs.declared.refusal.CrashNo.{CrashNo}
 use Rattle.cct_host.specs.declared.refusal.CrashNo.TheVariants as crash_no
 use Rattle.cct_bench.specs.Disks.{Disks, IsReady, most_records}
 use Rattle.cct_bench.specs.Going.{IsUnbegun}
-use Rattle.cct_bench.specs.Money.{IsRight, RightBeforeLoss}
+use Rattle.cct_laws.specs.Right.{IsRight}
+use Rattle.cct_bench.specs.Money.{RightBeforeLoss}
 use Rattle.cct_bench.specs.Source.{to_come}
 
 -- Writing broke off in the lines of the last step played or in the last line, and all lines before were written whole:

@@ -8,7 +8,7 @@ use cct_terms::{COIN_PLACES, CheckKind, Coin, DeviceBody, DeviceSetup, MOST_SENT
 use std::test::Fail;
 
 /// What the acceptor is, and what a coin of each of its places is worth and is called.
-fn setup() -> DeviceSetup
+pub(crate) fn setup() -> DeviceSetup
     ensures sound { IsSound result }
     ensures acceptor { IsAcceptor result.body }
 {
@@ -26,10 +26,10 @@ fn setup() -> DeviceSetup
     }
 }
 
-/// What the acceptor says to a piece: nothing where it is silent.
-fn answer(acceptor: &mut Acceptor<'_>, piece: &[u8]) -> ArrayVec<u8, MOST_SENT> {
+/// What the acceptor answers to bytes on the wire: nothing if it is silent.
+fn answer(acceptor: &mut Acceptor<'_>, bytes: &[u8]) -> ArrayVec<u8, MOST_SENT> {
     let mut answer = ArrayVec::new();
-    acceptor.hear(piece, &mut answer);
+    acceptor.hear(bytes, &mut answer);
     answer
 }
 
@@ -38,7 +38,7 @@ fn a_coin_is_taken_and_told(rt: HostRuntime) -> Result<(), Fail> {
     let setup = setup();
     let mut acceptor = Acceptor::new(rt.alloc(), &setup)?;
 
-    // Behind a reset every coin is inhibited: it comes back, and is an event too.
+    // After a reset every coin is inhibited: it comes back, and is an event too.
     assert_eq!(rt; acceptor.insert(5), Inserted::Inhibited);
 
     // Header 231 sets the inhibit mask, low byte first: bit 4 is coin place 5. The reply has header 0 and no data.
@@ -56,7 +56,7 @@ fn a_coin_is_taken_and_told(rt: HostRuntime) -> Result<(), Fail> {
         b"\x01\x0b\x02\x00\x02\x05\x01\x00\x02\x00\x00\x00\x00\x00\x00\xe8".as_slice()
     );
 
-    // A piece that fails its check is no message. Nobody answers it.
+    // Bytes that fail their check are no message. Nobody answers them.
     assert!(rt; answer(&mut acceptor, b"\x02\x00\x01\xe5\x19").is_empty());
     Ok(())
 }

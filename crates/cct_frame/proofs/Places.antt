@@ -66,6 +66,23 @@ none_length Crc (to ∷ said ∷ []) _ = refl
 none_length Crc (to ∷ said ∷ low ∷ []) _ = refl
 none_length Crc (to ∷ said ∷ low ∷ header ∷ rest) differ = first_fails _ _ _ _ (disagrees said rest (λ e. differ (omega arith)))
 
+too_many : (said : ℕ) (rest : List ℕ) → 256 < length rest → length_agrees said rest ≡ false
+too_many said rest long = grind (arith, nat_tests)
+
+-- nor is one of more bytes than the second can tell
+pub none_many : (kind : CheckKind) (p : List ℕ) → 260 < length p → message kind p ≡ None
+unfolding message
+none_many Simple [] long = refl
+none_many Simple (to ∷ []) long = refl
+none_many Simple (to ∷ said ∷ []) long = refl
+none_many Simple (to ∷ said ∷ from ∷ []) long = refl
+none_many Simple (to ∷ said ∷ from ∷ header ∷ rest) long = first_fails _ _ _ _ (too_many said rest (omega arith))
+none_many Crc [] long = refl
+none_many Crc (to ∷ []) long = refl
+none_many Crc (to ∷ said ∷ []) long = refl
+none_many Crc (to ∷ said ∷ low ∷ []) long = refl
+none_many Crc (to ∷ said ∷ low ∷ header ∷ rest) long = first_fails _ _ _ _ (too_many said rest (omega arith))
+
 -- what the test of a check tells
 faultless : (want got : ℕ) (fault : FrameFault) → (if want == got then None else Some fault) ≡ None → want ≡ got
 faultless want got fault e = grind (arith, nat_tests)

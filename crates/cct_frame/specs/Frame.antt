@@ -1,5 +1,5 @@
 -- Frames: what a view of a message says, what is told of a piece that is none, and what a check carries of a message.
-use Rattle.std.specs.Prelude.{ℕ, ◌+◌, ◌-◌, ◌*◌, ◌==◌, nat_lt, List, ◌++◌, length, take, if◌then◌else◌, Option, Some, None, slice_index, slice_range}
+use Rattle.std.specs.Prelude.{ℕ, ◌+◌, ◌-◌, ◌*◌, ◌%◌, ◌==◌, nat_lt, List, ◌++◌, length, take, drop, sum, if◌then◌else◌, Option, Some, None, slice_index, slice_range}
 use Rattle.cct_terms.specs.declared.wire.CheckKind.{CheckKind}
 use Rattle.cct_terms.specs.declared.wire.CheckKind.TheVariants.{Simple, Crc}
 use Rattle.cct_terms.specs.Message.{Message, closing_byte, crc}
@@ -20,6 +20,15 @@ source_in Crc piece = None
 abbrev pub carried : CheckKind → Message → Message
 carried Simple m = m
 carried Crc m = record { to = m.to; from = None; header = m.header; body = m.body }
+
+-- What a check makes of bytes that come one by one: their sum modulo 256, or the CRC of all but the third.
+unfoldable pub run_over : CheckKind → List ℕ → ℕ
+run_over Simple bytes = sum bytes % 256
+run_over Crc bytes = crc (take 2 bytes ++ drop 3 bytes)
+
+-- All bytes but the last.
+abbrev pub before_last : List ℕ → List ℕ
+before_last bytes = take (length bytes - 1) bytes
 
 -- What is wrong with the check of a piece whose sum is to be 0 modulo 256: the last byte does not close the sum of
 -- those before it.

@@ -1,9 +1,9 @@
 //! A message is read where it stands.
 ghost use Rattle.std.specs.Prelude.{◌≡◌, ◌≢◌, ◌↔◌, ◌+◌, ◌-◌, ◌<◌, ◌≤◌, IfOk, IfErr, OnOk, OnErr, length, slice_index, slice_range, take};
 ghost use Rattle.cct_terms.specs.Message.{closing_byte, crc, message};
-ghost use Rattle.cct_frame.specs.Frame.{check_fault, crc_fault, crc_in, fault_in, message_of, source_in, sum_fault, under_crc};
+ghost use Rattle.cct_frame.specs.Frame.{before_last, check_fault, crc_fault, crc_in, fault_in, message_of, run_over, source_in, sum_fault, under_crc};
 
-use crate::check::{closing, crc_of};
+use crate::check::check_of;
 use cct_terms::CheckKind;
 use thiserror::Error;
 
@@ -42,8 +42,41 @@ const SHORTEST: usize = 5;
 
 /// Reads the one message that a whole piece is. The tests come in the order of [`FrameFault`]'s variants, and the first
 /// that fails is told.
-#[tactic(auto, using(crate::proofs::Places::none_short, crate::proofs::Places::none_length, crate::proofs::Places::none_check, crate::proofs::Places::some_whole))]
 pub fn read<'a>(kind: CheckKind, piece: &'a [u8]) -> Result<FrameView<'a>, FrameFault>
+    ensures whole { IfOk result (λ view. message kind piece.now ≡ Some (message_of view)) }
+    ensures body { IfOk result (λ view. view.body.now ≡ slice_range piece.now 4 (length piece.now - 1)) }
+    ensures in_place { IfOk result (λ view. view.body.ref_ptr ≡ (piece.entry.ref_ptr.0, piece.entry.ref_ptr.1 + 4)) }
+    ensures faultless { OnOk result (fault_in kind piece.now ≡ None) }
+
+    ensures first_fault { IfErr result (λ fault. fault_in kind piece.now ≡ Some fault) }
+    ensures no_message { OnErr result (message kind piece.now ≡ None) }
+    ensures short { (result ≡ Err (FrameFault.Short (length piece.now))) ↔ (length piece.now < 5) }
+    ensures wrong_length { (result ≡ Err (FrameFault.Length (slice_index piece.now 1) (length piece.now)))
+        ↔ ((5 ≤ length piece.now) × (slice_index piece.now 1 + 5 ≢ length piece.now)) }
+    ensures wrong_check { let want = closing_byte (take (length piece.now - 1) piece.now) in
+        let got = slice_index piece.now (length piece.now - 1) in
+        (result ≡ Err (FrameFault.Check want got))
+        ↔ ((kind ≡ CheckKind.Simple) × (5 ≤ length piece.now) × (slice_index piece.now 1 + 5 ≡ length piece.now)
+        × (want ≢ got)) }
+    ensures wrong_crc { let want = crc (under_crc piece.now) in
+        let got = crc_in piece.now in
+        (result ≡ Err (FrameFault.CrcCheck want got))
+        ↔ ((kind ≡ CheckKind.Crc) × (5 ≤ length piece.now) × (slice_index piece.now 1 + 5 ≡ length piece.now)
+        × (want ≢ got)) }
+{
+    let front = &piece[..piece.len().saturating_sub(1)];
+    read_checked(kind, piece, check_of(kind, front))
+}
+
+/// The same, where `check` is what the check made of all bytes but the last.
+#[inline]
+#[tactic(auto, using(crate::proofs::Places::none_short, crate::proofs::Places::none_length, crate::proofs::Places::none_check, crate::proofs::Places::some_whole))]
+pub fn read_checked<'a>(
+    kind: CheckKind,
+    piece: &'a [u8],
+    check: u16,
+) -> Result<FrameView<'a>, FrameFault>
+    requires { check ≡ run_over kind (before_last piece.now) }
     ensures whole { IfOk result (λ view. message kind piece.now ≡ Some (message_of view)) }
     ensures body { IfOk result (λ view. view.body.now ≡ slice_range piece.now 4 (length piece.now - 1)) }
     ensures in_place { IfOk result (λ view. view.body.ref_ptr ≡ (piece.entry.ref_ptr.0, piece.entry.ref_ptr.1 + 4)) }
@@ -73,7 +106,7 @@ pub fn read<'a>(kind: CheckKind, piece: &'a [u8]) -> Result<FrameView<'a>, Frame
     if said as usize + SHORTEST != have {
         return Err(FrameFault::Length { said, have });
     }
-    if let Some(fault) = check_fault(kind, piece) {
+    if let Some(fault) = check_fault(kind, piece, check) {
         return Err(fault);
     }
     Ok(FrameView {
@@ -95,25 +128,27 @@ fn source(kind: CheckKind, piece: &[u8]) -> Option<u8>
     }
 }
 
-/// What is wrong with the check of a piece.
-fn check_fault(kind: CheckKind, piece: &[u8]) -> Option<FrameFault>
-    requires { 5 ≤ length piece.now }
+/// What is wrong with the check of a piece, where it made `check` of all bytes but the last.
+fn check_fault(kind: CheckKind, piece: &[u8], check: u16) -> Option<FrameFault>
+    requires long { 5 ≤ length piece.now }
+    requires check { check ≡ run_over kind (before_last piece.now) }
     ensures { result ≡ check_fault kind piece.now }
 {
     match kind {
-        CheckKind::Simple => sum_fault(piece),
-        CheckKind::Crc => crc_fault(piece),
+        CheckKind::Simple => sum_fault(piece, check),
+        CheckKind::Crc => crc_fault(piece, check),
     }
 }
 
 /// Whether the last byte of a piece closes the sum of those before it.
-fn sum_fault(piece: &[u8]) -> Option<FrameFault>
-    requires { 5 ≤ length piece.now }
+#[tactic(auto, using(crate::proofs::Running::sum_closed))]
+fn sum_fault(piece: &[u8], sum: u16) -> Option<FrameFault>
+    requires long { 5 ≤ length piece.now }
+    requires sum { sum ≡ run_over CheckKind.Simple (before_last piece.now) }
     ensures { result ≡ sum_fault piece.now }
 {
-    let last = piece.len() - 1;
-    let want = closing(&piece[..last]);
-    let got = piece[last];
+    let want = ((256 - sum % 256) % 256) as u8;
+    let got = piece[piece.len() - 1];
     if want == got {
         None
     } else {
@@ -122,13 +157,13 @@ fn sum_fault(piece: &[u8]) -> Option<FrameFault>
 }
 
 /// Whether the third byte of a piece and its last are the CRC of all others.
-fn crc_fault(piece: &[u8]) -> Option<FrameFault>
-    requires { 5 ≤ length piece.now }
+#[tactic(auto, using(crate::proofs::Running::crc_closed))]
+fn crc_fault(piece: &[u8], want: u16) -> Option<FrameFault>
+    requires long { 5 ≤ length piece.now }
+    requires crc { want ≡ run_over CheckKind.Crc (before_last piece.now) }
     ensures { result ≡ crc_fault piece.now }
 {
-    let last = piece.len() - 1;
-    let want = crc_of(&piece[..2], &piece[3..last]);
-    let got = u16::from_le_bytes([piece[2], piece[last]]);
+    let got = u16::from_le_bytes([piece[2], piece[piece.len() - 1]]);
     if want == got {
         None
     } else {

@@ -1,5 +1,5 @@
 //! A job, by the row at which it stands.
-ghost use Rattle.std.specs.Prelude.{◌≡◌, ◌≤◌, ◌<◌, List, ℕ, ◌∷◌, Option, Some, None, true, false};
+ghost use Rattle.std.specs.Prelude.{IfSome, ◌≡◌, ◌≤◌, ◌<◌, List, ℕ, ◌∷◌, Option, Some, None, true, false};
 ghost use Rattle.cct_model.specs.lines.command.Command.{Command};
 ghost use Rattle.cct_model.specs.lines.command.Command.TheVariants as command;
 ghost use Rattle.cct_model.specs.terms.device.DeviceSetup.{DeviceSetup};
@@ -19,9 +19,10 @@ ghost use Rattle.cct_model.specs.Scan.{end_of_scan, poll_of, scan_row};
 ghost use Rattle.cct_model.specs.Transcript.{scan_line};
 ghost use Rattle.cct_record.specs.Body.{Encodable};
 ghost use Rattle.cct_jobs.specs.Ahead.{ahead, coins_in, price_in};
-ghost use Rattle.cct_jobs.specs.Jobs.{IsPut, Needs, PutsFit, Stands, after_halt, after_put, end_of_job, line_heard, need_of, newest_end, order_of, owed_after, sending_of};
+ghost use Rattle.cct_jobs.specs.Jobs.{IsPut, Needs, PutsFit, Stands, after_halt, after_put, end_of_job, need_of, newest_end, order_of, owed_after, put_in, sending_of};
 ghost use Rattle.cct_jobs.specs.Sales.{NeedsSale, StandsSale, newest_sale_end};
 ghost use Rattle.cct_jobs.specs.Scans.{NeedsScan, StandsScan};
+ghost use Rattle.cct_jobs.specs.Onward.{GoesOnAfterPut, GoesOnAfterSale, HearsDevice, HearsPolled, KeepsTo, SendsPoll, SendsToDevice};
 
 use crate::owed::Owed;
 use crate::stage::Stage;
@@ -125,14 +126,28 @@ impl Job {
     #[tactic(auto, using(crate::proofs::Needs::need_known, crate::proofs::Needs::scan_need_known, crate::proofs::Needs::put_allowed, crate::proofs::Fits::put_fits, crate::proofs::Sales::sale_need_known))]
     pub fn needs(&self) -> Need
         ensures value { result ≡ need_of self.now }
+
+        // a record that it puts
         ensures may_put { (entry : Record) → result ≡ Need.Put entry → 1 ≤ puts_in (ahead self.now) }
         ensures fits { PutsFit self.now → (entry : Record) → result ≡ Need.Put entry → Encodable entry }
+
+        // by the lines of a device, of a scan and of a sale
         ensures row { (d : DeviceSetup) (c : Command) (since : List Line) (state : EpochState)
             (owed : Option OpenOrder) → Stands d self.now c since state owed → Needs result d c since state owed }
         ensures scan { (since : List Line) → StandsScan self.now since → NeedsScan result since }
         ensures sale { (c : Command) (since : List Line) → StandsSale self.now c since → NeedsSale result c since }
     {
         self.need()
+    }
+
+    /// The record that the job is about to put, if it is about to put one: what it needs, where that is a put.
+    #[tactic(auto, using(crate::proofs::Needs::due_allowed, crate::proofs::Fits::due_fits))]
+    pub fn due(&self) -> Option<Record>
+        ensures value { result ≡ put_in (need_of self.now) }
+        ensures may_put { IfSome result (λ r. 1 ≤ puts_in (ahead self.now)) }
+        ensures fits { PutsFit self.now → IfSome result Encodable }
+    {
+        self.record()
     }
 
     /// The end of a job that is done, or none while it runs.
@@ -201,73 +216,96 @@ impl Job {
     }
 
     /// The request that the job sends next. The job stays at its row until it has heard what follows.
+    pub fn request(&self) -> Sending
+        requires asks { need_of self.now ≡ Need.Exchange }
+        ensures request { Some result ≡ sending_of self.now }
+        ensures row { SendsToDevice self.now result }
+        ensures scan { SendsPoll self.now result }
+    {
+        self.own_request()
+    }
+
+    /// The request that the job sends next, as [`Job::request`] tells it, and the job.
     pub fn sending(self) -> (Sending, Job)
         requires asks { need_of self ≡ Need.Exchange }
         ensures same { result.1 ≡ self }
         ensures request { Some result.0 ≡ sending_of self }
-        ensures row { (d : DeviceSetup) (c : Command) (since : List Line) (state : EpochState)
-            (owed : Option OpenOrder) (q : Request) → Stands d self c since state owed
-            → row d c since state owed ≡ sends q → result.0 ≡ record { to = d.addr; kind = d.kind; request = q } }
-        ensures scan { (since : List Line) (check : CheckKind) (addr : ℕ)
-            → StandsScan self since → scan_row since ≡ Some (check, addr)
-            → result.0 ≡ record { to = addr; kind = check; request = poll_of addr } }
+        ensures row { SendsToDevice self result.0 }
+        ensures scan { SendsPoll self result.0 }
     {
         let sending = self.request();
         (sending, self)
     }
 
-    /// The job after its request was sent, and this was heard. A row whose reply isn't the wanted one is tried again, and
-    /// after the third such try in succession the job ends with [`End::NoAnswer`]. The mask of a start is never sent
+    /// The job's request was sent, and it hears this. A row whose reply isn't the wanted one is tried again, and after
+    /// the third such try in succession the job ends with [`End::NoAnswer`]. The mask of a start is never sent
     /// again: it ends the job with [`End::Started`], or with [`End::StartUnsure`] where it isn't acknowledged.
-    pub fn heard(self, sent: &[u8], heard: &[u8]) -> Job
-        requires asks { need_of self ≡ Need.Exchange }
-        ensures device { (d : DeviceSetup) (c : Command) (since : List Line) (state : EpochState)
-            (owed : Option OpenOrder) (q : Request) → Stands d self c since state owed
-            → row d c since state owed ≡ sends q → sent.now ≡ ask d.kind d.addr q
-            → Stands d result c (line_heard d sent.now heard.now ∷ since) state owed }
-        ensures scan { (since : List Line) (check : CheckKind) (addr : ℕ)
-            → StandsScan self since → scan_row since ≡ Some (check, addr) → sent.now ≡ ask check addr (poll_of addr)
-            → StandsScan result (scan_line sent.now heard.now ∷ since) }
-        ensures may_put { puts_in (ahead result) ≤ puts_in (ahead self) }
-        ensures fits { PutsFit result }
-        ensures closes { has_closes (ahead self) ≡ true → 1 ≤ puts_in (ahead result)
-            → has_closes (ahead result) ≡ true }
-        ensures reserves { coins_in (ahead result) ≤ coins_in (ahead self) }
+    pub fn hear(&mut self, sent: &[u8], heard: &[u8])
+        requires asks { need_of self.old ≡ Need.Exchange }
+        ensures device { HearsDevice self.old sent.now heard.now self.new }
+        ensures scan { HearsPolled self.old sent.now heard.now self.new }
+        ensures keeps { KeepsTo (ahead self.old) self.new }
     {
         match self {
             Job::Asks {
                 device,
                 stage,
                 failed,
-            } => asks::heard(device, stage, failed, sent, heard),
-            Job::ScanCallsSimple { failed } => scan::simple_call_heard(failed, sent, heard),
-            Job::ScanCallsCrc { failed, due } => scan::crc_call_heard(failed, due, sent, heard),
+            } => {
+                let (device, stage, failed) = (*device, *stage, *failed);
+                asks::heard(self, device, stage, failed, sent, heard);
+            }
+            Job::ScanCallsSimple { failed } => {
+                *self = scan::simple_call_heard(*failed, sent, heard);
+            }
+            Job::ScanCallsCrc { failed, due } => {
+                *self = scan::crc_call_heard(*failed, *due, sent, heard);
+            }
             Job::ScanPollsSimple { addr, due, listed } => {
-                scan::simple_poll_heard(addr, due, listed, sent, heard)
+                *self = scan::simple_poll_heard(*addr, *due, *listed, sent, heard);
             }
             Job::ScanPollsCrc { addr, due, listed } => {
-                scan::crc_poll_heard(addr, due, listed, sent, heard)
+                *self = scan::crc_poll_heard(*addr, *due, *listed, sent, heard);
             }
             _ => unreachable!(),
         }
     }
 
-    /// The job after its record was put. What it does then no longer depends on the epoch, which the record has
-    /// moved, and beside an order the record has moved it.
+    /// The job after it heard this, as [`Job::hear`] leaves it.
+    pub fn heard(mut self, sent: &[u8], heard: &[u8]) -> Job
+        requires asks { need_of self ≡ Need.Exchange }
+        ensures device { HearsDevice self sent.now heard.now result }
+        ensures scan { HearsPolled self sent.now heard.now result }
+        ensures keeps { KeepsTo (ahead self) result }
+    {
+        self.hear(sent, heard);
+        self
+    }
+
+    /// The job's record was put, and the job goes on.
     #[tactic(auto, using(crate::proofs::Epochs::put_leaves, crate::proofs::Needs::fewer_after, crate::proofs::Fits::after_put_fits, crate::proofs::Sales::put_sells))]
-    pub fn was_put(self) -> Job
+    pub fn go_on_after_put(&mut self)
+        requires puts { IsPut (need_of self.old) }
+        ensures put { GoesOnAfterPut self.old self.new }
+        ensures sale { GoesOnAfterSale self.old self.new }
+        ensures may_put { puts_in (ahead self.new) < puts_in (ahead self.old) }
+        ensures fits { PutsFit self.new }
+        ensures value { self.new ≡ after_put self.old }
+    {
+        *self = self.after_put();
+    }
+
+    /// The job after its record was put, as [`Job::go_on_after_put`] leaves it.
+    pub fn was_put(mut self) -> Job
         requires puts { IsPut (need_of self) }
-        ensures put { (d : DeviceSetup) (c : Command) (since : List Line) (state after : EpochState)
-            (owed : Option OpenOrder) (entry : Record)
-            → need_of self ≡ Need.Put entry → Stands d self c since state owed
-            → Stands d result c (put entry ∷ since) after (order_by entry owed) }
-        ensures sale { (c : Command) (since : List Line) (entry : Record) → need_of self ≡ Need.Put entry
-            → StandsSale self c since → StandsSale result c (put entry ∷ since) }
+        ensures put { GoesOnAfterPut self result }
+        ensures sale { GoesOnAfterSale self result }
         ensures may_put { puts_in (ahead result) < puts_in (ahead self) }
         ensures fits { PutsFit result }
         ensures value { result ≡ after_put self }
     {
-        self.after_put()
+        self.go_on_after_put();
+        self
     }
 
     /// The order that is open at the job's device after its record was put, where this one was open before.

@@ -146,7 +146,7 @@ impl Devices {
         }
     }
 
-    /// Adds a device behind the others.
+    /// Adds a device after the others.
     pub fn push(&mut self, device: DeviceSetup)
         requires { length self.old < DEVICES }
         ensures { self.new ≡ self.old ++ device ∷ [] }

@@ -1,2 +1,3 @@
 pub mod Echoes
+pub mod Framers
 pub mod Silences

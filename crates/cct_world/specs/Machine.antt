@@ -12,8 +12,8 @@ use Rattle.cct_disk.specs.declared.disk.Disk.{Ghosts}
 use Rattle.cct_disk.specs.Disk.{IsTrusted}
 use Rattle.cct_bus.specs.Bus as wires
 use Rattle.cct_journal.specs.Journal as journals
-use Rattle.cct_laws.specs.Restart.{CrashSuits, due_in}
-use Rattle.cct_host.specs.Book.{LeavesBook}
+use Rattle.cct_laws.specs.Restart.{RestartSuits, due_in}
+use Rattle.cct_host.specs.OnDisk.{LeavesRecords}
 use Rattle.cct_host.specs.Host as hosts
 use Rattle.cct_host.specs.Host.{PutSuits}
 use Rattle.cct_host.specs.Restarting as restarting
@@ -27,7 +27,7 @@ use Rattle.cct_world.specs.Restarts.{Loses, Restarts, kept_in}
 -- Of any other step nothing is asked.
 abbrev pub StepSuits : Setup → List Entry → Step → Type 0
 StepSuits setup past (step.Next addr) = PutSuits setup past addr
-StepSuits setup past (step.Crash at choice) = CrashSuits setup past at
+StepSuits setup past (step.Crash at choice) = RestartSuits setup past at
 StepSuits setup past s = ⊤
 
 -- What a step takes for granted of the disk: of a loss of power, that it is trusted. Of any other step nothing is
@@ -80,10 +80,10 @@ module _ {D : Type 0} {g : Ghosts D} where
   FailsIn old left (step.Next addr) =
       (past : List Entry) → StandsFor old past
       → (r : Record) × ((due_at (setup_of old) past addr ≡ Some r) × (HasTrusted old
-      → LeavesBook (setup_of old) g.honest g.seen g.may_leave left (Some r) (reverse (records past))))
+      → LeavesRecords (setup_of old) g.honest g.seen g.may_leave left (Some r) (reverse (records past))))
   FailsIn old left (step.Crash at choice) =
       (past : List Entry) → StandsFor old past → HasTrusted old
-      → LeavesBook (setup_of old) g.honest g.seen g.may_leave left (due_in (setup_of old) past at) (reverse (records past))
+      → LeavesRecords (setup_of old) g.honest g.seen g.may_leave left (due_in (setup_of old) past at) (reverse (records past))
   FailsIn old left s = ⊥
 
   -- The record that its host is about to put where a loss of power comes, if it is about to put one.
@@ -99,7 +99,7 @@ module _ {D : Type 0} {g : Ghosts D} where
   -- a trusted disk.
   abbrev pub LosesIn : Machine D g → D → CrashNo → Step → Type 0
   LosesIn old left why (step.Crash at choice) =
-      ((past : List Entry) → StandsFor old past → CrashSuits (setup_of old) past at → HasTrusted old → ⊥)
+      ((past : List Entry) → StandsFor old past → RestartSuits (setup_of old) past at → HasTrusted old → ⊥)
       × DueAsTold old at × Loses (setup_of old) (used_of old) (due_of old at) (g.seen left) why
   LosesIn old left why s = ⊥
 
