@@ -66,7 +66,12 @@ pub(crate) fn begin_picture<K: Sink>(pen: &mut Pen<'_, K>, width: u32, height: u
 }
 
 /// Draws a page: its title, its lanes, and its rows.
-pub(crate) fn draw_page<K: Sink>(pen: &mut Pen<'_, K>, lanes: &Lanes, page: PageNumber, rows: &[Row]) {
+pub(crate) fn draw_page<K: Sink>(
+    pen: &mut Pen<'_, K>,
+    lanes: &Lanes,
+    page: PageNumber,
+    rows: &[Row],
+) {
     begin_group(pen, page.index.saturating_mul(lanes.page_width()), 0);
     draw_title(pen, page, rows);
     draw_lanes(
