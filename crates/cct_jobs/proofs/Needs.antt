@@ -12,11 +12,12 @@ use Rattle.cct_model.specs.terms.request.Request.{Request}
 use Rattle.cct_model.specs.terms.wire.CheckKind.{CheckKind}
 use Rattle.cct_model.specs.terms.wire.CheckKind.TheVariants.{Simple, Crc}
 use Rattle.cct_model.specs.Exchange.{ask}
-use Rattle.cct_model.specs.Job.{Row, address_of, credits_read, mask_read, sends, puts}
+use Rattle.cct_model.specs.Job.{address_of, credits_read, mask_read, sends, puts}
 use Rattle.cct_model.specs.Rows.{left, puts_in, row}
 use Rattle.cct_model.specs.Line.{Line}
 use Rattle.cct_model.specs.Scan.{end_of_scan, poll_of, scan_row}
 use Rattle.cct_model.specs.Transcript.{owner}
+use Rattle.cct_model.proofs.Tries.{same_request}
 use Rattle.cct_jobs.specs.declared.job.Need.{Need}
 use Rattle.cct_jobs.specs.declared.job.Need.TheVariants as need
 use Rattle.cct_jobs.specs.declared.job.Sending.{Sending}
@@ -204,17 +205,12 @@ may_put_known d job c since state owed n is at on = is ∙ ap puts_in (left_know
 
 -- what is sent
 
-same_request : (r : Row) (p q : Request) → r ≡ sends p → r ≡ sends q → p ≡ q
-same_request r p q first second =
-    let both : sends p ≡ sends q = sym first ∙ second in
-    cc
-
 -- the request of a row is that of its stage
 pub stage_asked : {d : DeviceSetup} {device : Target} {stage : Stage} {failed : ℕ} {c : Command} {since : List Line}
     {state : EpochState} (owed : Option OpenOrder) (q : Request) → Asking d device stage failed c since state owed
     → row d c since state owed ≡ sends q
     → q ≡ request_of stage
-stage_asked owed q at is = same_request _ q _ is (stage_row at)
+stage_asked owed q at is = same_request q _ (sym is ∙ stage_row at)
 
 -- what a job sends to its device
 pub sending_is : (d : DeviceSetup) (job : Job) (c : Command) (since : List Line) (state : EpochState)

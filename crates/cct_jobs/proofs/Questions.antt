@@ -1,5 +1,6 @@
 -- The questions of an identification, each after the one before.
 use Rattle.std.proofs.Common.{◌≡◌, ℕ, ◌+◌, suc, zero, ◌<◌, ◌&&◌, Bool, true, false, List, [], ◌∷◌, length, map, refl, ap, subst, Option, Some, None, arith}
+use Rattle.std.proofs.lemmas.Bool.{and_parts}
 use Rattle.std.proofs.lemmas.Bool.Decides.{nat_tests}
 use Rattle.std.specs.Prelude.{◌==◌, slice_get}
 use Rattle.std.specs.List.{list_all}
@@ -93,9 +94,6 @@ other n m less = grind (arith, nat_tests, less)
 pub question_within : (xs : List Request) (n : ℕ) (q : Request) → slice_get xs n ≡ Some q → (length xs == n) ≡ false
 question_within xs n q e = other n (length xs) (below xs n q e)
 
-both_true : (a b : Bool) → (a && b) ≡ true → (a ≡ true) × (b ≡ true)
-both_true true b e = (refl, e)
-both_true false b e = absurd cc
 
 -- a test of all of a list is one of each
 all_at : (test : Request → Bool) (xs : List Request) (n : ℕ) (q : Request) → list_all test xs ≡ true
@@ -103,8 +101,8 @@ all_at : (test : Request → Bool) (xs : List Request) (n : ℕ) (q : Request) �
 all_at test [] n q e at = absurd cc
 all_at test (x ∷ xs) zero q e at =
     let is : x ≡ q = cc in
-    subst (λ r. test r ≡ true) is (both_true (test x) (list_all test xs) e).0
-all_at test (x ∷ xs) (suc n) q e at = all_at test xs n q (both_true (test x) (list_all test xs) e).1 at
+    subst (λ r. test r ≡ true) is (and_parts (test x) (list_all test xs) e).0
+all_at test (x ∷ xs) (suc n) q e at = all_at test xs n q (and_parts (test x) (list_all test xs) e).1 at
 
 each_again : (which : Family) → list_all is_asked_again (questions which) ≡ true
 each_again family.Acceptor = refl

@@ -30,11 +30,10 @@ use Rattle.cct_jobs.proofs.Moves.{IsSettled, answer_ends_first, exchange_moves, 
 use Rattle.cct_jobs.proofs.Payouts.{MarkedFor, first_of_payout, marked_for, payout_fits, payout_knows}
 use Rattle.cct_jobs.proofs.Questions.{next_question, last_question, placed, question_again, question_within}
 use Rattle.cct_msg.proofs.Exchanges.{again_fits}
-use Rattle.cct_model.proofs.Tries.{path_set_again, path_read_again}
+use Rattle.cct_model.proofs.Tries.{asked_fails, path_set_again, path_read_again, tried}
 use Rattle.cct_jobs.proofs.Left.{from_stage}
 use Rattle.cct_model.proofs.RowEnds.{unanswered_ends}
 use Rattle.cct_model.proofs.Rows.{after_next, but_first, told_first, told_end}
-use Rattle.cct_model.proofs.Tries.{asked_fails}
 
 -- the row of a stage
 
@@ -73,11 +72,6 @@ fits_of (Pays row) device suits = payout_fits row device suits
 fits_of stage device suits = again_fits (request_of stage) refl
 
 -- failed tries
-
--- tries of a row
-pub tried : (q : Request) (since : List Line)
-    → tries (header_of q) (exchange (Some q) None ∷ since) ≡ suc (tries (header_of q) since)
-tried q since = rw (eq-eqb (header_of q) (header_of q) refl) refl
 
 test_none : (b : Bool) (n : ℕ) → cond b None (Some n) ≡ None → b ≡ true
 test_none true n e = refl

@@ -33,17 +33,24 @@ pub(crate) fn first_try(device: Target, stage: Stage) -> Job
     }
 }
 
-/// The job after it heard what followed the request of its stage.
-pub(crate) fn heard(device: Target, stage: Stage, failed: u8, sent: &[u8], heard: &[u8]) -> Job
+/// The job heard what followed the request of its stage, and goes on.
+pub(crate) fn heard(
+    job: &mut Job,
+    device: Target,
+    stage: Stage,
+    failed: u8,
+    sent: &[u8],
+    heard: &[u8],
+)
     ensures device { (d : DeviceSetup) (c : Command) (since : List Line) (state : EpochState)
         (owed : Option OpenOrder) → Asking d device stage failed c since state owed
         → sent.now ≡ ask d.kind d.addr (request_of stage)
-        → Stands d result c (line_heard d sent.now heard.now ∷ since) state owed }
-    ensures keeps { KeepsTo (stage_ahead device stage) result }
+        → Stands d job.new c (line_heard d sent.now heard.now ∷ since) state owed }
+    ensures keeps { KeepsTo (stage_ahead device stage) job.new }
 {
     match device.reply(stage.wanted(), sent, heard) {
-        Some(reply) => answered(device, stage, &reply),
-        None => unanswered(device, stage, failed),
+        Some(reply) => answered(job, device, stage, &reply),
+        None => *job = unanswered(device, stage, failed),
     }
 }
 
@@ -87,24 +94,24 @@ fn tried_again(device: Target, stage: Stage, failed: u8) -> Job
     }
 }
 
-/// The job after its stage got the wanted reply: each kind of job has its own.
+/// The stage of the job got the wanted reply, and the job goes on: each kind of job has its own way.
 #[tactic(auto, using(crate::proofs::Keeping::none_keep))]
-fn answered(device: Target, stage: Stage, reply: &Reply<'_>) -> Job
+fn answered(job: &mut Job, device: Target, stage: Stage, reply: &Reply<'_>)
     requires wanted { form_shown (reply_shown reply.now) ≡ form_of (request_of stage) }
     requires life { FitsLife (reply_shown reply.now) }
-    ensures device { (failed : ℕ) → LeadsTo device stage failed (Some (reply_shown reply.now)) result }
-    ensures keeps { KeepsTo (stage_ahead device stage) result }
+    ensures device { (failed : ℕ) → LeadsTo device stage failed (Some (reply_shown reply.now)) job.new }
+    ensures keeps { KeepsTo (stage_ahead device stage) job.new }
 {
     match stage {
-        Stage::StartResets { .. } => start::answered(device, stage, reply),
-        Stage::StartReads { .. } => start::answered(device, stage, reply),
-        Stage::StartSets { .. } => start::answered(device, stage, reply),
-        Stage::StopInhibits { .. } => reading::answered(device, stage, reply),
-        Stage::Reads { .. } => reading::answered(device, stage, reply),
-        Stage::Looks { .. } => reading::answered(device, stage, reply),
-        Stage::IdentAsks { question } => ident::told(device, question),
-        Stage::PathSets { .. } => path::answered(device, stage, reply),
-        Stage::PathReads { .. } => path::answered(device, stage, reply),
-        Stage::Pays { row } => payment::answered(device, row, reply),
+        Stage::StartResets { .. } => start::answered(job, device, stage, reply),
+        Stage::StartReads { .. } => start::answered(job, device, stage, reply),
+        Stage::StartSets { .. } => start::answered(job, device, stage, reply),
+        Stage::StopInhibits { .. } => reading::answered(job, device, stage, reply),
+        Stage::Reads { .. } => reading::answered(job, device, stage, reply),
+        Stage::Looks { .. } => reading::answered(job, device, stage, reply),
+        Stage::IdentAsks { question } => ident::told(job, device, question),
+        Stage::PathSets { .. } => path::answered(job, device, stage, reply),
+        Stage::PathReads { .. } => path::answered(job, device, stage, reply),
+        Stage::Pays { row } => payment::answered(job, device, row, reply),
     }
 }

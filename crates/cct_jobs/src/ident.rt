@@ -12,14 +12,14 @@ use crate::stage::Stage;
 use crate::target::Target;
 use cct_model::{COIN_PLACES, End, Family, Request};
 
-/// The identification after this question was answered.
-pub(crate) fn told(device: Target, question: Request) -> Job
-    ensures device { (failed : ℕ) (y : Reply) → LeadsTo device (IdentAsks question) failed (Some y) result }
-    ensures keeps { KeepsTo [] result }
+/// This question of the identification was answered, and the identification goes on.
+pub(crate) fn told(job: &mut Job, device: Target, question: Request)
+    ensures device { (failed : ℕ) (y : Reply) → LeadsTo device (IdentAsks question) failed (Some y) job.new }
+    ensures keeps { KeepsTo [] job.new }
 {
     match question_after(question, device.family) {
-        Some(question) => first_try(device, Stage::IdentAsks { question }),
-        None => Job::Done(End::Told),
+        Some(question) => *job = first_try(device, Stage::IdentAsks { question }),
+        None => *job = Job::Done(End::Told),
     }
 }
 

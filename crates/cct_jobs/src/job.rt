@@ -246,45 +246,43 @@ impl Job {
         ensures scan { HearsPolled self.old sent.now heard.now self.new }
         ensures keeps { KeepsTo (ahead self.old) self.new }
     {
-        *self = self.after_hearing(sent, heard);
-    }
-
-    /// The job after it heard this, as [`Job::hear`] leaves it.
-    pub fn heard(self, sent: &[u8], heard: &[u8]) -> Job
-        requires asks { need_of self ≡ Need.Exchange }
-        ensures device { HearsDevice self sent.now heard.now result }
-        ensures scan { HearsPolled self sent.now heard.now result }
-        ensures keeps { KeepsTo (ahead self) result }
-    {
-        self.after_hearing(sent, heard)
-    }
-
-    /// The job after it heard this, by its row.
-    fn after_hearing(&self, sent: &[u8], heard: &[u8]) -> Job
-        requires asks { need_of self.now ≡ Need.Exchange }
-        ensures device { HearsDevice self.now sent.now heard.now result }
-        ensures scan { HearsPolled self.now sent.now heard.now result }
-        ensures keeps { KeepsTo (ahead self.now) result }
-    {
         match self {
             Job::Asks {
                 device,
                 stage,
                 failed,
-            } => asks::heard(*device, *stage, *failed, sent, heard),
-            Job::ScanCallsSimple { failed } => scan::simple_call_heard(*failed, sent, heard),
-            Job::ScanCallsCrc { failed, due } => scan::crc_call_heard(*failed, *due, sent, heard),
+            } => {
+                let (device, stage, failed) = (*device, *stage, *failed);
+                asks::heard(self, device, stage, failed, sent, heard);
+            }
+            Job::ScanCallsSimple { failed } => {
+                *self = scan::simple_call_heard(*failed, sent, heard);
+            }
+            Job::ScanCallsCrc { failed, due } => {
+                *self = scan::crc_call_heard(*failed, *due, sent, heard);
+            }
             Job::ScanPollsSimple { addr, due, listed } => {
-                scan::simple_poll_heard(*addr, *due, *listed, sent, heard)
+                *self = scan::simple_poll_heard(*addr, *due, *listed, sent, heard);
             }
             Job::ScanPollsCrc { addr, due, listed } => {
-                scan::crc_poll_heard(*addr, *due, *listed, sent, heard)
+                *self = scan::crc_poll_heard(*addr, *due, *listed, sent, heard);
             }
             _ => unreachable!(),
         }
     }
 
-    /// The job's record was put: it goes on, and the put is behind it.
+    /// The job after it heard this, as [`Job::hear`] leaves it.
+    pub fn heard(mut self, sent: &[u8], heard: &[u8]) -> Job
+        requires asks { need_of self ≡ Need.Exchange }
+        ensures device { HearsDevice self sent.now heard.now result }
+        ensures scan { HearsPolled self sent.now heard.now result }
+        ensures keeps { KeepsTo (ahead self) result }
+    {
+        self.hear(sent, heard);
+        self
+    }
+
+    /// The job's record was put, and the job goes on.
     #[tactic(auto, using(crate::proofs::Epochs::put_leaves, crate::proofs::Needs::fewer_after, crate::proofs::Fits::after_put_fits, crate::proofs::Sales::put_sells))]
     pub fn go_on_after_put(&mut self)
         requires puts { IsPut (need_of self.old) }
@@ -298,8 +296,7 @@ impl Job {
     }
 
     /// The job after its record was put, as [`Job::go_on_after_put`] leaves it.
-    #[tactic(auto, using(crate::proofs::Epochs::put_leaves, crate::proofs::Needs::fewer_after, crate::proofs::Fits::after_put_fits, crate::proofs::Sales::put_sells))]
-    pub fn was_put(self) -> Job
+    pub fn was_put(mut self) -> Job
         requires puts { IsPut (need_of self) }
         ensures put { GoesOnAfterPut self result }
         ensures sale { GoesOnAfterSale self result }
@@ -307,7 +304,8 @@ impl Job {
         ensures fits { PutsFit result }
         ensures value { result ≡ after_put self }
     {
-        self.after_put()
+        self.go_on_after_put();
+        self
     }
 
     /// The order that is open at the job's device after its record was put, where this one was open before.

@@ -20,19 +20,23 @@ use cct_model::{End, Reply, Request};
 /// The place that stands for the default path.
 const DEFAULT: u8 = 0;
 
-/// The setting of a path after its stage got the wanted reply.
-pub(crate) fn answered(device: Target, stage: Stage, reply: &Reply<'_>) -> Job
+/// The stage of the setting of a path got the wanted reply, and the setting goes on.
+pub(crate) fn answered(job: &mut Job, device: Target, stage: Stage, reply: &Reply<'_>)
     requires row { IsOfPath stage }
     requires wanted { form_shown (reply_shown reply.now) ≡ form_of (request_of stage) }
-    ensures device { (failed : ℕ) → LeadsTo device stage failed (Some (reply_shown reply.now)) result }
-    ensures keeps { KeepsTo (stage_ahead device stage) result }
+    ensures device { (failed : ℕ) → LeadsTo device stage failed (Some (reply_shown reply.now)) job.new }
+    ensures keeps { KeepsTo (stage_ahead device stage) job.new }
 {
     match stage {
-        Stage::PathSets { place, path } => first_try(device, Stage::PathReads { place, path }),
-        Stage::PathReads { place, .. } => Job::Done(End::PathSet {
-            place,
-            path: path_in(reply),
-        }),
+        Stage::PathSets { place, path } => {
+            *job = first_try(device, Stage::PathReads { place, path });
+        }
+        Stage::PathReads { place, .. } => {
+            *job = Job::Done(End::PathSet {
+                place,
+                path: path_in(reply),
+            });
+        }
         _ => unreachable!(),
     }
 }

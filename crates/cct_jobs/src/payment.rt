@@ -26,25 +26,27 @@ use crate::target::Target;
 use cct_model::{End, OpenOrder, Record, Reply};
 use cct_order::close;
 
-/// The payment or the settlement after its row got the wanted reply.
-pub(crate) fn answered(device: Target, row: Payout, reply: &Reply<'_>) -> Job
+/// The row of the payment or the settlement got the wanted reply, and the job goes on.
+pub(crate) fn answered(job: &mut Job, device: Target, row: Payout, reply: &Reply<'_>)
     requires wanted { form_shown (reply_shown reply.now) ≡ form_of (payout_request row) }
     requires life { FitsLife (reply_shown reply.now) }
-    ensures device { (failed : ℕ) → LeadsTo device (Pays row) failed (Some (reply_shown reply.now)) result }
-    ensures keeps { KeepsClosing (payout_ahead device row) result }
+    ensures device { (failed : ℕ) → LeadsTo device (Pays row) failed (Some (reply_shown reply.now)) job.new }
+    ensures keeps { KeepsClosing (payout_ahead device row) job.new }
 {
     match row {
-        Payout::Enables { id, count, halted } => first_try(
-            device,
-            Stage::Pays {
-                row: Payout::Counts { id, count, halted },
-            },
-        ),
-        Payout::Counts { id, count, halted } => opens(device, id, count, halted, life_in(reply)),
-        Payout::Dispenses { owed, halted, .. } => dispensed(device, owed, halted),
-        Payout::Waits { closing, owed } => waited(device, closing, owed, is_paid_out(reply)),
-        Payout::Stops { closing, owed } => settles(device, closing, owed, false),
-        Payout::Recounts { owed, .. } => closes(owed, life_in(reply)),
+        Payout::Enables { id, count, halted } => {
+            let row = Payout::Counts { id, count, halted };
+            *job = first_try(device, Stage::Pays { row });
+        }
+        Payout::Counts { id, count, halted } => {
+            *job = opens(device, id, count, halted, life_in(reply));
+        }
+        Payout::Dispenses { owed, halted, .. } => *job = dispensed(device, owed, halted),
+        Payout::Waits { closing, owed } => {
+            *job = waited(device, closing, owed, is_paid_out(reply));
+        }
+        Payout::Stops { closing, owed } => *job = settles(device, closing, owed, false),
+        Payout::Recounts { owed, .. } => *job = closes(owed, life_in(reply)),
     }
 }
 

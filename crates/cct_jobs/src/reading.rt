@@ -19,34 +19,33 @@ use crate::target::Target;
 use cct_epoch::{Judged, judge};
 use cct_model::{Credits, End, Reply};
 
-/// The round or the stop after its stage got the wanted reply.
-pub(crate) fn answered(device: Target, stage: Stage, reply: &Reply<'_>) -> Job
+/// The stage of the round or the stop got the wanted reply, and the job goes on.
+pub(crate) fn answered(job: &mut Job, device: Target, stage: Stage, reply: &Reply<'_>)
     requires row { IsOfReading stage }
     requires wanted { form_shown (reply_shown reply.now) ≡ form_of (request_of stage) }
-    ensures device { (failed : ℕ) → LeadsTo device stage failed (Some (reply_shown reply.now)) result }
-    ensures keeps { KeepsTo (stage_ahead device stage) result }
+    ensures device { (failed : ℕ) → LeadsTo device stage failed (Some (reply_shown reply.now)) job.new }
+    ensures keeps { KeepsTo (stage_ahead device stage) job.new }
 {
     match stage {
-        Stage::StopInhibits { recorded } => first_try(
-            device,
-            Stage::Reads {
-                read_by: ReadBy::Stop,
-                recorded,
-            },
-        ),
-        Stage::Reads { read_by, recorded } => first_try(
-            device,
-            Stage::Looks {
-                read_by,
-                recorded,
-                credits: credits_in(reply),
-            },
-        ),
+        Stage::StopInhibits { recorded } => {
+            let read_by = ReadBy::Stop;
+            *job = first_try(device, Stage::Reads { read_by, recorded });
+        }
+        Stage::Reads { read_by, recorded } => {
+            *job = first_try(
+                device,
+                Stage::Looks {
+                    read_by,
+                    recorded,
+                    credits: credits_in(reply),
+                },
+            );
+        }
         Stage::Looks {
             read_by,
             recorded,
             credits,
-        } => judged(device, read_by, recorded, &credits, mask_in(reply)),
+        } => judged(job, device, read_by, recorded, &credits, mask_in(reply)),
         _ => unreachable!(),
     }
 }
@@ -73,17 +72,18 @@ fn mask_in(reply: &Reply<'_>) -> u16
     }
 }
 
-/// The round or the stop after it read these credits and this mask.
+/// The round or the stop read these credits and this mask, and goes on.
 fn judged(
+    job: &mut Job,
     device: Target,
     read_by: ReadBy,
     recorded: Recorded,
     credits: &Credits,
     mask_seen: u16,
-) -> Job
+)
     ensures device { (failed : ℕ)
-        → LeadsTo device (Looks read_by recorded credits.now) failed (Some (shown.mask mask_seen)) result }
-    ensures keeps { KeepsTo (reading_ahead device read_by) result }
+        → LeadsTo device (Looks read_by recorded credits.now) failed (Some (shown.mask mask_seen)) job.new }
+    ensures keeps { KeepsTo (reading_ahead device read_by) job.new }
 {
     let meaning = judge(
         device.addr,
@@ -93,43 +93,41 @@ fn judged(
         mask_seen,
     );
     match read_by {
-        ReadBy::Round => round_judged(meaning),
-        ReadBy::Stop => stop_judged(device, meaning),
+        ReadBy::Round => round_judged(job, meaning),
+        ReadBy::Stop => stop_judged(job, device, meaning),
     }
 }
 
-/// The round after it judged its reading.
-fn round_judged(meaning: Judged) -> Job
-    ensures { result ≡ round_after meaning }
+/// The round judged its reading, and goes on.
+fn round_judged(job: &mut Job, meaning: Judged)
+    ensures { job.new ≡ round_after meaning }
 {
     match meaning {
-        Judged::Nothing => Job::Done(End::Clean),
-        Judged::Reading(entry) => Job::RoundPuts {
-            entry,
-            end: End::Posted,
-        },
-        Judged::Broken(entry) => Job::RoundPuts {
-            entry,
-            end: End::Broke,
-        },
+        Judged::Nothing => *job = Job::Done(End::Clean),
+        Judged::Reading(entry) => {
+            let end = End::Posted;
+            *job = Job::RoundPuts { entry, end };
+        }
+        Judged::Broken(entry) => {
+            let end = End::Broke;
+            *job = Job::RoundPuts { entry, end };
+        }
     }
 }
 
-/// The stop after it judged its reading.
-fn stop_judged(device: Target, meaning: Judged) -> Job
-    ensures { result ≡ stop_after device meaning }
+/// The stop judged its reading, and goes on.
+fn stop_judged(job: &mut Job, device: Target, meaning: Judged)
+    ensures { job.new ≡ stop_after device meaning }
 {
     match meaning {
-        Judged::Nothing => Job::StopEnds { device },
-        Judged::Reading(entry) => Job::StopPuts {
-            device,
-            entry,
-            end: None,
-        },
-        Judged::Broken(entry) => Job::StopPuts {
-            device,
-            entry,
-            end: Some(End::Broke),
-        },
+        Judged::Nothing => *job = Job::StopEnds { device },
+        Judged::Reading(entry) => {
+            let end = None;
+            *job = Job::StopPuts { device, entry, end };
+        }
+        Judged::Broken(entry) => {
+            let end = Some(End::Broke);
+            *job = Job::StopPuts { device, entry, end };
+        }
     }
 }

@@ -17,17 +17,17 @@ use crate::stage::Stage;
 use crate::target::Target;
 use cct_model::{Credits, End, Reply};
 
-/// The start after its stage got the wanted reply.
-pub(crate) fn answered(device: Target, stage: Stage, reply: &Reply<'_>) -> Job
+/// The stage of the start got the wanted reply, and the start goes on.
+pub(crate) fn answered(job: &mut Job, device: Target, stage: Stage, reply: &Reply<'_>)
     requires row { IsOfStart stage }
     requires wanted { form_shown (reply_shown reply.now) ≡ form_of (request_of stage) }
-    ensures device { (failed : ℕ) → LeadsTo device stage failed (Some (reply_shown reply.now)) result }
-    ensures keeps { KeepsTo (stage_ahead device stage) result }
+    ensures device { (failed : ℕ) → LeadsTo device stage failed (Some (reply_shown reply.now)) job.new }
+    ensures keeps { KeepsTo (stage_ahead device stage) job.new }
 {
     match stage {
-        Stage::StartResets { mask } => first_try(device, Stage::StartReads { mask }),
-        Stage::StartReads { mask } => after_reset(device, mask, &credits_in(reply)),
-        Stage::StartSets { .. } => Job::Done(End::Started),
+        Stage::StartResets { mask } => *job = first_try(device, Stage::StartReads { mask }),
+        Stage::StartReads { mask } => *job = after_reset(device, mask, &credits_in(reply)),
+        Stage::StartSets { .. } => *job = Job::Done(End::Started),
         _ => unreachable!(),
     }
 }

@@ -406,7 +406,7 @@ steady_there capacity setup d past _ _ sound own ids (made_put c since r at_work
     (put_end IsHeardEnd d c r since (epoch (lines_of d past)) (puts_heard d c))
     (steady_line d (put r) (lines_of d past) (λ older few. few) (with_put d r (job (lines_of d past))) steady))
 
--- a loss of power
+-- a power cut
 steady_restart : (d : DeviceSetup) (lines : List Line) → Steady d lines → Steady d (restarted ∷ lines)
 steady_restart d lines steady = steady_line d restarted lines (λ older few. few) (free_on d) steady
 

@@ -37,12 +37,12 @@ returns-in-Stop-clause-device c = λ failed d command since state owed at.
 
 pub returns-in-Round-clause-keeps : goal.returns-in-Round-clause-keeps
 returns-in-Round-clause-keeps c =
-    subst (λ (v : ReadBy). KeepsTo (reading_ahead c.args.device v) c.round_judged.result) (sym c.in-Round.is)
-    (round_keeps c.args.device c.judge-meaning.result c.round_judged.result c.round_judged.ensures
+    subst (λ (v : ReadBy). KeepsTo (reading_ahead c.args.device v) c.round_judged.new.job) (sym c.in-Round.is)
+    (round_keeps c.args.device c.judge-meaning.result c.round_judged.new.job c.round_judged.ensures
     (judged_fits _ _ _ _ _ c.judge-meaning.result c.judge-meaning.ensures))
 
 pub returns-in-Stop-clause-keeps : goal.returns-in-Stop-clause-keeps
 returns-in-Stop-clause-keeps c =
-    subst (λ (v : ReadBy). KeepsTo (reading_ahead c.args.device v) c.stop_judged.result) (sym c.in-Stop.is)
-    (stop_keeps c.args.device c.judge-meaning.result c.stop_judged.result c.stop_judged.ensures
+    subst (λ (v : ReadBy). KeepsTo (reading_ahead c.args.device v) c.stop_judged.new.job) (sym c.in-Stop.is)
+    (stop_keeps c.args.device c.judge-meaning.result c.stop_judged.new.job c.stop_judged.ensures
     (judged_fits _ _ _ _ _ c.judge-meaning.result c.judge-meaning.ensures))
