@@ -8,6 +8,7 @@ use Rattle.cct_model.specs.lines.entry.Entry.{Entry}
 use Rattle.cct_model.specs.lines.entry.Entry.TheVariants as entry
 use Rattle.cct_text.specs.Writing.{Writes}
 use Rattle.cct_text.proofs.Writing.{writes_then}
+use Rattle.cct_journal.specs.declared.refusal.OpenNo.{OpenNo}
 use Rattle.cct_journal.specs.declared.refusal.OpenNo.TheVariants as opening
 use Rattle.cct_report.specs.Listing.{Decides, Finds, FindsIn, Lists, ListsSome, listed, listing_from}
 use Rattle.cct_report.specs.Sums.{no_sums}
@@ -86,6 +87,20 @@ pub other_reported : (disk : Known) (len : ℕ) (s : Status) (answer : Result (U
 other_reported disk len s answer writes same other wrote is =
     subst (λ s. Reported disk s writes) (sym is) (reported disk status.DiskSize (entry.DiskSize len ∷ []) answer writes
     (other, ap (λ n. entry.DiskSize n ∷ []) same) wrote)
+
+-- a last line was put as it is for a listing that ended so
+abbrev pub PutsLast : {K : Type 0} → (K → Option (List ℕ)) → (K → List ℕ → Result (Unit {0}) Failed → K → Type 0) → K → K
+    → Status → ReportEnd → Type 0
+PutsLast written puts out out1 s how =
+    (answer : Result (Unit {0}) Failed) × Writes written puts out (line_behind how) answer out1
+    × (s ≡ status_by answer (reported_by how))
+
+pub puts_unread : {K : Type 0} (written : K → Option (List ℕ)) (puts : K → List ℕ → Result (Unit {0}) Failed → K → Type 0)
+    (out out1 : K) (s : Status) (how : ReportEnd) (why known : OpenNo) → how ≡ listing.Unread why → why ≡ known
+    → PutsLast written puts out out1 s (listing.Unread known) → PutsLast written puts out out1 s how
+puts_unread written puts out out1 s how why known is why_is put =
+    subst (PutsLast written puts out out1 s) (sym is)
+    (subst (λ x. PutsLast written puts out out1 s (listing.Unread x)) (sym why_is) put)
 
 -- the listing, and then the last line
 module _ {K : Type 0} (written : K → Option (List ℕ)) (puts : K → List ℕ → Result (Unit {0}) Failed → K → Type 0) where

@@ -1,5 +1,7 @@
 use Rattle.std.proofs.Common.{Ok, refl}
 use Rattle.cct_text.proofs.Writing.{wrote_none}
+use Rattle.cct_journal.specs.declared.refusal.OpenNo.TheVariants as opening
+use Rattle.cct_bench.proofs.ReportEnds.{puts_unread}
 use Rattle.cct_bench.proofs.reporting.finish_report.Goals as goal
 
 pub returns-in-Done-clause-writes : goal.returns-in-Done-clause-writes
@@ -13,12 +15,16 @@ returns-in-Unwritten-clause-writes g c =
     rw c.in-Unwritten.is (Ok tt, wrote_none sink.written sink.puts c.args.out.now, refl)
 
 pub returns-in-Unread-Disk-clause-writes : goal.returns-in-Unread-Disk-clause-writes
-returns-in-Unread-Disk-clause-writes g c = rw (c.in-Unread-Disk.is, c.in-Unread-Disk.field-0-is) c.close.ensures.writes
+returns-in-Unread-Disk-clause-writes g c =
+    puts_unread g.K.Sink.written g.K.Sink.puts c.args.out.now c.close.new.out c.close.result c.args.how _
+    opening.Disk c.in-Unread-Disk.is (rw c.in-Unread-Disk.is at c.in-Unread-Disk.field-0-is) c.close.ensures.writes
 
 pub returns-in-Unread-Alien-clause-writes : goal.returns-in-Unread-Alien-clause-writes
 returns-in-Unread-Alien-clause-writes g c =
-    rw (c.in-Unread-Alien.is, c.in-Unread-Alien.field-0-is) c.close-in-Unread-Alien.ensures.writes
+    puts_unread g.K.Sink.written g.K.Sink.puts c.args.out.now c.close-in-Unread-Alien.new.out c.close-in-Unread-Alien.result c.args.how _
+    opening.Alien c.in-Unread-Alien.is (rw c.in-Unread-Alien.is at c.in-Unread-Alien.field-0-is) c.close-in-Unread-Alien.ensures.writes
 
 pub returns-in-Unread-BadRecord-clause-writes : goal.returns-in-Unread-BadRecord-clause-writes
 returns-in-Unread-BadRecord-clause-writes g c =
-    rw (c.in-Unread-BadRecord.is, c.in-Unread-BadRecord.field-0-is) c.close-in-Unread-BadRecord.ensures.writes
+    puts_unread g.K.Sink.written g.K.Sink.puts c.args.out.now c.close-in-Unread-BadRecord.new.out c.close-in-Unread-BadRecord.result c.args.how _
+    (opening.BadRecord c.in-Unread-BadRecord.index) c.in-Unread-BadRecord.is (rw c.in-Unread-BadRecord.is at c.in-Unread-BadRecord.field-0-is) c.close-in-Unread-BadRecord.ensures.writes
