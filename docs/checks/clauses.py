@@ -1,10 +1,10 @@
 """The clauses that docs/PROOFS.md names stand in the crates.
 
 A cell of the column `Clause` has parts, joined by `; `. The hosts of a part are the names behind ` of ` at its end, or else
-those before its `: `: functions, types, or records of `specs/`, of this crate or of one below. Each other name stands at each host: it is a clause of that
-function, a clause or a ghost of that type, or a field of that record. Without a host it is a function or a clause of
-`bench`; `the lemma` names one of proofs/. A name with a capital is a definition or a type, also of a crate below. `the one
-clause of` asks that each host has just one `ensures`.
+those before its `: `: functions, types, or records of `specs/`, of this crate or of one below. Each other name stands at
+each host: it is a clause of that function, a clause or a ghost of that type, or a field of that record. Without a host it
+is a function or a clause of `bench`; `the lemma` names one of proofs/. A name with a capital is a definition or a type,
+also of a crate below. `the one clause of` asks that each host has just one `ensures`.
 """
 
 import re

@@ -8,6 +8,7 @@ use Rattle.cct_terms.specs.declared.request.Request.TheVariants.{ResetDevice, Se
 use Rattle.cct_terms.specs.Acceptor.{accept_count, accepts, events, path_of, settings}
 use Rattle.cct_terms.specs.Device.{IsAcceptor}
 use Rattle.cct_terms.specs.History.{Met}
+use Rattle.cct_device.specs.Listening.{HeardSince}
 use Rattle.cct_ring.specs.Ring as ring
 use Rattle.cct_sorter.specs.Table as sorter
 use Rattle.cct_acceptor.specs.declared.acceptor.Acceptor.{Acceptor}
@@ -33,6 +34,14 @@ pub record StandsFor (acceptor : Acceptor) (d : DeviceSetup) (past : List Met) :
   pub table : sorter.Holds acceptor.table (settings past)
   pub ring : ring.Holds acceptor.ring (events past)
   pub accepts : acceptor.accepts ≡ accept_count (start_of d.body) past
+
+-- An acceptor heard these bytes since the last gap.
+abbrev pub HasHeard : Acceptor → List ℕ → Type 0
+HasHeard acceptor bytes = HeardSince acceptor.listener acceptor.setup.now.addr bytes
+
+-- An acceptor heard no byte since the last gap.
+abbrev pub IsAtGap : Acceptor → Type 0
+IsAtGap acceptor = HasHeard acceptor []
 
 -- What becomes of a coin of a place that falls into an acceptor that met all this: it is accepted and falls by the path
 -- of its place, or it is inhibited and given back.

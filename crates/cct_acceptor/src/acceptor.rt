@@ -1,5 +1,5 @@
 //! The coin acceptor as a device (ccTalk Generic Specification 4, part 2).
-ghost use Rattle.std.specs.Prelude.{◌≡◌, ◌<◌, ◌≤◌, ◌^◌, List, [], ◌∷◌, false, true, if◌then◌else◌, Some, IfOk, IfSome, MatchOption};
+ghost use Rattle.std.specs.Prelude.{◌≡◌, ◌<◌, ◌≤◌, ◌^◌, ℕ, List, [], ◌∷◌, ◌++◌, false, true, if◌then◌else◌, Some, IfOk, IfSome, MatchOption};
 ghost use Rattle.std.specs.Option.{option_map};
 ghost use Rattle.cct_terms.specs.declared.device.DeviceSetup.{DeviceSetup};
 ghost use Rattle.cct_terms.specs.Device.{IsAcceptor, IsSound, reply_of};
@@ -8,9 +8,10 @@ ghost use Rattle.cct_terms.specs.Exchange.{answer, asks_of};
 ghost use Rattle.cct_terms.specs.History.{Met, alien, coin, heard, reset};
 ghost use Rattle.cct_terms.specs.Reply.{IsSayable, ack, coin_id, nak, path, reply_shown};
 ghost use Rattle.cct_terms.specs.Setting.{is_place};
+ghost use Rattle.cct_device.specs.Listening.{kind_of};
 
 use arrayvec::ArrayVec;
-use cct_device::{Asked, common_reply, give, listen};
+use cct_device::{Asked, Listener, common_reply, give};
 use cct_ring::CreditRing;
 use cct_sorter::{CoinTable, is_place};
 use cct_terms::{COIN_PLACES, Coin, DeviceBody, DeviceSetup, MOST_SENT, Pair, Reply, Request};
@@ -38,18 +39,20 @@ pub enum Inserted {
 #[derive(Drop)]
 pub struct Acceptor<'s> {
     setup: &'s DeviceSetup,
+    listener: Listener,
     /// The identifications of its coins, that of place 1 first.
     ids: &'s [[u8; 6]; COIN_PLACES],
     table: CoinTable,
     ring: CreditRing,
     /// How many coins were accepted, modulo [`COUNTS`].
     accepts: u32,
+    ghost check: { kind_of listener ≡ setup.now.kind },
     ghost counts: { accepts < 2 ^ 24 },
     ghost serial: { setup.now.serial < 2 ^ 24 },
 }
 
 impl<'s> Acceptor<'s> {
-    ghost use Rattle.cct_acceptor.specs.Acceptor.{StandsFor, ids_of, inserted, is_change, start_of};
+    ghost use Rattle.cct_acceptor.specs.Acceptor.{HasHeard, IsAtGap, StandsFor, ids_of, inserted, is_change, start_of};
 
     /// An acceptor as after a reset, with its accept counter where the setup starts it. This takes all memory that it
     /// ever has.
@@ -59,10 +62,12 @@ impl<'s> Acceptor<'s> {
         requires sound { IsSound setup.now }
         requires acceptor { IsAcceptor setup.now.body }
         ensures fresh { IfOk result (λ acceptor. StandsFor acceptor setup.now []) }
+        ensures gap { IfOk result (λ acceptor. IsAtGap acceptor) }
     {
         match &setup.body {
             DeviceBody::Acceptor { accepts, ids, .. } => Ok(Acceptor {
                 setup,
+                listener: Listener::new(setup.kind),
                 ids,
                 table: CoinTable::new(),
                 ring: CreditRing::new(alloc)?,
@@ -80,6 +85,7 @@ impl<'s> Acceptor<'s> {
             → StandsFor self.new d (coin place ∷ past) }
         ensures answer { (d : DeviceSetup) (past : List Met) → StandsFor self.old d past
             → result ≡ inserted past place }
+        ensures heard { (bytes : List ℕ) → HasHeard self.old bytes → HasHeard self.new bytes }
     {
         if !self.table.accepts(place) {
             self.ring.push(INHIBITED);
@@ -93,40 +99,70 @@ impl<'s> Acceptor<'s> {
 
     /// A piece that is no coin falls in, and is given back: an event too.
     pub fn alien(&mut self)
-        ensures { (d : DeviceSetup) (past : List Met) → StandsFor self.old d past
+        ensures stands { (d : DeviceSetup) (past : List Met) → StandsFor self.old d past
             → StandsFor self.new d (alien ∷ past) }
+        ensures heard { (bytes : List ℕ) → HasHeard self.old bytes → HasHeard self.new bytes }
     {
         self.ring.push(ALIEN);
     }
 
     /// The acceptor starts again as after power-up: it forgets its settings and its events. The accept counter goes on.
     pub fn reset(&mut self)
-        ensures { (d : DeviceSetup) (past : List Met) → StandsFor self.old d past
+        ensures stands { (d : DeviceSetup) (past : List Met) → StandsFor self.old d past
             → StandsFor self.new d (reset ∷ past) }
+        ensures heard { (bytes : List ℕ) → HasHeard self.old bytes → HasHeard self.new bytes }
     {
         self.table.reset();
         self.ring.clear();
     }
 
-    /// Hears a piece, acts on what it asks, and answers: true with the answer in `out`, or false with nothing there
-    /// where the acceptor is silent. It is silent to a piece that is no message under its check, to another address, to
-    /// a request that no acceptor knows, and to every broadcast but the address poll, which asks nothing at its own
-    /// address.
-    pub fn hear(&mut self, piece: &[u8], out: &mut ArrayVec<u8, MOST_SENT>) -> bool
-        ensures stands { (d : DeviceSetup) (past : List Met) → StandsFor self.old d past
-            → StandsFor self.new d (heard (asks_of d piece.now) ∷ past) }
-        ensures answer { (d : DeviceSetup) (past : List Met) → StandsFor self.old d past
-            → MatchOption (answer d past piece.now) ((result ≡ false) × (out.new.items ≡ []))
-            (λ bytes. (result ≡ true) × (out.new.items ≡ bytes)) }
+    /// Hears one byte more. It acts on it, and answers, only when a gap comes.
+    #[inline]
+    pub fn byte(&mut self, byte: u8)
+        ensures stands { (d : DeviceSetup) (past : List Met) → StandsFor self.old d past → StandsFor self.new d past }
+        ensures heard { (bytes : List ℕ) → HasHeard self.old bytes → HasHeard self.new (bytes ++ byte ∷ []) }
+    {
+        self.listener.byte(self.setup.addr, byte);
+    }
+
+    /// A gap: the acceptor acts on what the bytes since the last one ask, and answers: true with the answer in `out`, or
+    /// false with nothing there where the acceptor is silent. It is silent to bytes that are no message under its check,
+    /// to another address, to a request that no acceptor knows, and to every broadcast but the address poll, which asks
+    /// nothing at its own address.
+    pub fn gap(&mut self, out: &mut ArrayVec<u8, MOST_SENT>) -> bool
+        ensures stands { (d : DeviceSetup) (past : List Met) (bytes : List ℕ) → StandsFor self.old d past
+            → HasHeard self.old bytes → StandsFor self.new d (heard (asks_of d bytes) ∷ past) }
+        ensures answer { (d : DeviceSetup) (past : List Met) (bytes : List ℕ) → StandsFor self.old d past
+            → HasHeard self.old bytes → MatchOption (answer d past bytes) ((result ≡ false) × (out.new.items ≡ []))
+            (λ said. (result ≡ true) × (out.new.items ≡ said)) }
+        ensures gap { IsAtGap self.new }
     {
         out.clear();
-        match listen(self.setup, piece) {
+        let asked = self.listener.asked(self.setup);
+        self.listener.gap();
+        match asked {
             None => false,
             Some(Asked { request, asker }) => {
                 let reply = self.act(request);
                 give(self.setup, asker, request, reply, out)
             }
         }
+    }
+
+    /// Hears a piece and then a gap, where no byte came since the last one. It acts and answers as `gap` says.
+    pub fn hear(&mut self, piece: &[u8], out: &mut ArrayVec<u8, MOST_SENT>) -> bool
+        requires gap { IsAtGap self.old }
+        ensures stands { (d : DeviceSetup) (past : List Met) → StandsFor self.old d past
+            → StandsFor self.new d (heard (asks_of d piece.now) ∷ past) }
+        ensures answer { (d : DeviceSetup) (past : List Met) → StandsFor self.old d past
+            → MatchOption (answer d past piece.now) ((result ≡ false) × (out.new.items ≡ []))
+            (λ bytes. (result ≡ true) × (out.new.items ≡ bytes)) }
+        ensures gap { IsAtGap self.new }
+    {
+        for byte in piece {
+            self.byte(*byte);
+        }
+        self.gap(out)
     }
 
     /// Acts on a request, and gives the reply, or none where no acceptor knows the request.
@@ -137,6 +173,7 @@ impl<'s> Acceptor<'s> {
         ensures answer { (d : DeviceSetup) (past : List Met) → StandsFor self.old d past
             → option_map reply_shown result ≡ reply_of d past request }
         ensures sayable { IfSome result (λ y. IsSayable (reply_shown y)) }
+        ensures heard { (bytes : List ℕ) → HasHeard self.old bytes → HasHeard self.new bytes }
     {
         match request {
             Request::ResetDevice => {

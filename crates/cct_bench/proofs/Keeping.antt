@@ -20,7 +20,7 @@ use Rattle.cct_journal.specs.declared.refusal.CreateNo.TheVariants as create_no
 use Rattle.cct_journal.specs.Stands.{GoesOn, Outlasts}
 use Rattle.cct_journal.specs.declared.place.Place.{Place}
 use Rattle.cct_journal.proofs.Calls.{settled_leaves, stands_settled}
-use Rattle.cct_host.specs.Book.{HasBook, LeavesBook}
+use Rattle.cct_host.specs.OnDisk.{KeepsRecords, LeavesRecords}
 use Rattle.cct_host.specs.declared.refusal.CrashNo.{CrashNo}
 use Rattle.cct_host.specs.declared.refusal.CrashNo.TheVariants as crash_no
 use Rattle.cct_world.specs.declared.world.World.{World}
@@ -52,7 +52,7 @@ use Rattle.cct_bench.proofs.Staying.{IsDone}
 -- each image of a disk that keeps just one stands for what that one does
 pub stands_leaves : {D : Type 0} (setup : Setup) (honest : D → Bool) (seen : D → Option (List ℕ))
     (may_leave : D → List ℕ → Type 0) (disk : D) (place : Place) (rs : List Record)
-    → HasBook setup honest seen may_leave disk place rs → LeavesBook setup honest seen may_leave disk None rs
+    → KeepsRecords setup honest seen may_leave disk place rs → LeavesRecords setup honest seen may_leave disk None rs
 stands_leaves setup honest seen may_leave disk place rs stands = settled_leaves (stands_settled stands)
 
 -- the script or its source brought the end, and the disk has the records of the past
@@ -61,7 +61,7 @@ module _ {D : Type 0} (size : D → ℕ) (honest : D → Bool) (seen : D → Opt
   pub ends_over : (given last : D) (stage : Stage) (Before : List Step → List Entry → Type 0)
       → IsReady (size given) (seen given)
       → ((setup : Setup) (played : List Step) (past : List Entry) → IsSetupIn stage setup → Before played past
-      → IsTrusted honest seen given → LeavesBook setup honest seen may_leave last None (reverse (records past)))
+      → IsTrusted honest seen given → LeavesRecords setup honest seen may_leave last None (reverse (records past)))
       → ((setup : Setup) (played : List Step) (past : List Entry) → IsSetupIn stage setup → Before played past
       → Survived (Sure (IsTrusted honest seen given)) (CutAt size honest seen cuts cut_to given last) setup played past)
       → ((played : List Step) (past : List Entry) → Before played past
@@ -99,7 +99,7 @@ module _ {D : Type 0} {g : Ghosts D} where
   pub world_books : (world : World D g) (past : List Entry) → StandsFor world past
       → Books (setup_of world) g.honest g.seen g.may_leave (disk_of world) past
   world_books world past stands trusted =
-      stands_leaves (setup_of world) g.honest g.seen g.may_leave (disk_of world) _ (reverse (records past)) (stands.host.book trusted)
+      stands_leaves (setup_of world) g.honest g.seen g.may_leave (disk_of world) _ (reverse (records past)) (stands.host.on_disk trusted)
 
   -- so what is left where a run over such a machine ends
   pub world_ends : (given last : D) (world : World D g) (stage : Stage)
@@ -110,8 +110,8 @@ module _ {D : Type 0} {g : Ghosts D} where
   world_ends given last world stage same ready on is =
       ends_over g.size g.honest g.seen g.may_leave g.cuts g.cut_to given last stage (WorldHolds given world) ready
       (λ setup played past there holds trusted.
-      subst (λ by. LeavesBook by g.honest g.seen g.may_leave last None (reverse (records past))) (sym (same setup there))
-      (subst (λ disk. LeavesBook (setup_of world) g.honest g.seen g.may_leave disk None (reverse (records past))) (sym is)
+      subst (λ by. LeavesRecords by g.honest g.seen g.may_leave last None (reverse (records past))) (sym (same setup there))
+      (subst (λ disk. LeavesRecords (setup_of world) g.honest g.seen g.may_leave disk None (reverse (records past))) (sym is)
       (world_books world past (holds.stands (inl trusted))
       (trusted_on g.size g.honest g.seen g.cuts given (disk_of world) on trusted))))
       (λ setup played past there holds.
@@ -183,7 +183,7 @@ module _ {D : Type 0} {g : Ghosts D} where
       ready,
       λ sure. let due = breaks past (holds.stands sure) in (due.0, due.1.0),
       λ trusted. let due = breaks past (holds.stands (inl trusted)) in
-          subst (λ r. LeavesBook (setup_of world) g.honest g.seen g.may_leave left r (reverse (records past))) (sym due.1.0)
+          subst (λ r. LeavesRecords (setup_of world) g.honest g.seen g.may_leave left r (reverse (records past))) (sym due.1.0)
           (due.1.1 (on trusted)),
     ),
   )
@@ -265,17 +265,17 @@ module _ {D : Type 0} (size : D → ℕ) (honest : D → Bool) (seen : D → Opt
     (may_leave : D → List ℕ → Type 0) (cuts : D → ℕ) (cut_to : D → ℕ → D → Type 0) where
   -- then nothing else is on the disk that comes back
   fresh_leaves : (setup : Setup) (last disk : D) (place : Place) (past : List Entry) → last ≡ disk → past ≡ []
-      → HasBook setup honest seen may_leave disk place []
-      → LeavesBook setup honest seen may_leave last None (reverse (records past))
+      → KeepsRecords setup honest seen may_leave disk place []
+      → LeavesRecords setup honest seen may_leave last None (reverse (records past))
   fresh_leaves setup last disk place past is none stands =
-      subst (λ d. LeavesBook setup honest seen may_leave d None (reverse (records past))) (sym is)
-      (subst (λ p. LeavesBook setup honest seen may_leave disk None (reverse (records p))) (sym none)
+      subst (λ d. LeavesRecords setup honest seen may_leave d None (reverse (records past))) (sym is)
+      (subst (λ p. LeavesRecords setup honest seen may_leave disk None (reverse (records p))) (sym none)
       (stands_leaves setup honest seen may_leave disk place [] stands))
 
   -- where the script or its source brought the end
   pub fresh_ends : (given last disk : D) (place : Place) → IsReady (size given) (seen given)
       → GoesOn size honest seen cuts given disk → last ≡ disk
-      → ((setup : Setup) → IsTrusted honest seen disk → HasBook setup honest seen may_leave disk place [])
+      → ((setup : Setup) → IsTrusted honest seen disk → KeepsRecords setup honest seen may_leave disk place [])
       → EndsBeside (at_setup no_devices) IsUnbegun (OverCut (disks size honest seen may_leave cuts cut_to given last))
   fresh_ends given last disk place ready on is stands =
       let same : cuts last ≡ cuts given = ap cuts is ∙ on.same_cuts in
@@ -300,7 +300,7 @@ module _ {D : Type 0} (size : D → ℕ) (honest : D → Bool) (seen : D → Opt
 
   -- and where there was no memory
   pub fresh_none : (given last disk : D) (place : Place) → GoesOn size honest seen cuts given disk → last ≡ disk
-      → ((setup : Setup) → IsTrusted honest seen disk → HasBook setup honest seen may_leave disk place [])
+      → ((setup : Setup) → IsTrusted honest seen disk → KeepsRecords setup honest seen may_leave disk place [])
       → (setup : Setup) (taken : List ℕ) (unplayed : List Step)
       → OverCut (disks size honest seen may_leave cuts cut_to given last) ending.NoMemory setup taken [] unplayed []
   fresh_none given last disk place on is stands setup taken unplayed =

@@ -7,7 +7,7 @@ use Rattle.cct_model.specs.Records.{records}
 use Rattle.cct_disk.specs.Disk.{IsTrusted}
 use Rattle.cct_journal.specs.declared.format.TheConstants.{MOST_RECORDS}
 use Rattle.cct_journal.specs.Image.{IsBlank}
-use Rattle.cct_host.specs.Book.{LeavesBook}
+use Rattle.cct_host.specs.OnDisk.{LeavesRecords}
 use Rattle.cct_world.specs.Restarts.{CutAt}
 use Rattle.cct_bench.specs.declared.play.TheConstants.{JOURNAL_BYTES}
 
@@ -46,7 +46,7 @@ module _ {D : Type 0} (size : D → ℕ) (honest : D → Bool) (seen : D → Opt
     seen = seen given;
     trusted = IsTrusted honest seen given;
     cuts = cuts given;
-    leaves = λ setup. LeavesBook setup honest seen may_leave back;
+    leaves = λ setup. LeavesRecords setup honest seen may_leave back;
     seen_after = seen back;
     cuts_after = cuts back;
     cut_at = CutAt size honest seen cuts cut_to given back;
@@ -56,7 +56,7 @@ module _ {D : Type 0} (size : D → ℕ) (honest : D → Bool) (seen : D → Opt
 abbrev pub Books : {D : Type 0} → Setup → (D → Bool) → (D → Option (List ℕ)) → (D → List ℕ → Type 0) → D → List Entry
     → Type 0
 Books setup honest seen may_leave disk past =
-    IsTrusted honest seen disk → LeavesBook setup honest seen may_leave disk None (reverse (records past))
+    IsTrusted honest seen disk → LeavesRecords setup honest seen may_leave disk None (reverse (records past))
 
 -- Any past may be relied on, as where no disk is used yet.
 abbrev pub Always : List Entry → Type 0

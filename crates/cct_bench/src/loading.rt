@@ -5,7 +5,7 @@ ghost use Rattle.cct_edge.specs.Faults.{Rose};
 ghost use Rattle.cct_disk.specs.Disk.{IsTrusted};
 ghost use Rattle.cct_journal.specs.Journal as journals;
 ghost use Rattle.cct_model.specs.terms.device.Setup.{Setup};
-ghost use Rattle.cct_host.specs.Book.{HasBook};
+ghost use Rattle.cct_host.specs.OnDisk.{KeepsRecords};
 ghost use Rattle.cct_journal.specs.Stands.{GoesOn, Outlasts};
 ghost use Rattle.cct_text.specs.Writing.{Broke, Wrote};
 ghost use Rattle.cct_bench.specs.Disks.{IsReady, disks};
@@ -68,7 +68,7 @@ fn play_over<K: Sink, D: Disk>(
     requires unused { journals.used_of journal ≡ 0 }
     requires whole { journals.has_failed journal ≡ false }
     requires stands { (setup : Setup) → IsTrusted D.honest D.seen (journals.disk_of journal)
-        → HasBook setup D.honest D.seen D.may_leave (journals.disk_of journal) (journals.place_of journal) [] }
+        → KeepsRecords setup D.honest D.seen D.may_leave (journals.disk_of journal) (journals.place_of journal) [] }
     ensures played { (given : D) → IsReady (D.size given) (D.seen given)
         → GoesOn D.size D.honest D.seen D.cuts given (journals.disk_of journal)
         → LoadPlayed load.seed load.rounds result.0 (Wrote K.written K.puts out.old out.new)

@@ -16,7 +16,7 @@ ghost use Rattle.cct_host.specs.declared.refusal.CrashNo.{CrashNo};
 ghost use Rattle.cct_host.specs.declared.refusal.CrashNo.TheVariants as crash_no;
 ghost use Rattle.cct_world.specs.Holds.{WorldHolds};
 ghost use Rattle.cct_world.specs.Step.{CutsIn, LastsIn};
-ghost use Rattle.cct_host.specs.Book.{HasBook};
+ghost use Rattle.cct_host.specs.OnDisk.{KeepsRecords};
 ghost use Rattle.cct_world.specs.World.{Breaks, StandsFor, disk_of, setup_of, used_of};
 ghost use Rattle.cct_bench.specs.Lines.{Came, EndsAt, IsNext};
 ghost use Rattle.cct_bench.specs.Disks.{Books, IsReady, disks};
@@ -53,7 +53,7 @@ pub fn opened<D: Disk>(disk: D) -> Result<Journal<D>, (Ending, D)>
     ensures whole { IfOk result (λ journal. journals.has_failed journal ≡ false) }
     ensures size { IfOk result (λ journal. D.size (journals.disk_of journal) ≡ JOURNAL_BYTES) }
     ensures stands { IfOk result (λ journal. (setup : Setup) → IsTrusted D.honest D.seen (journals.disk_of journal)
-        → HasBook setup D.honest D.seen D.may_leave (journals.disk_of journal) (journals.place_of journal) []) }
+        → KeepsRecords setup D.honest D.seen D.may_leave (journals.disk_of journal) (journals.place_of journal) []) }
     ensures refused { IfErr result (λ e. IsUnopened (D.size disk) (D.seen disk) e.0) }
     ensures cause { IfErr result (λ e. e.0 ≡ Ending.DiskFailed → Rose (D.faults disk) (D.faults e.1)) }
     ensures goes_on { MatchResult result
@@ -255,7 +255,7 @@ impl Bench {
         ensures played { (given : D) → IsReady (D.size given) (D.seen given)
             → GoesOn D.size D.honest D.seen D.cuts given (journals.disk_of journal)
             → ((setup : Setup) → IsTrusted D.honest D.seen (journals.disk_of journal)
-            → HasBook setup D.honest D.seen D.may_leave (journals.disk_of journal) (journals.place_of journal) [])
+            → KeepsRecords setup D.honest D.seen D.may_leave (journals.disk_of journal) (journals.place_of journal) [])
             → OfBytes (S.left script.old) (λ bytes. Played (Sure (IsTrusted D.honest D.seen given)) bytes result.0
             (S.left script.new) (Wrote K.written K.puts out.old out.new) (Broke K.written K.puts out.old out.new)
             (OverCut (disks D.size D.honest D.seen D.may_leave D.cuts D.cut_to given result.1))) }

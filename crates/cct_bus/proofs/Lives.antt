@@ -1,5 +1,5 @@
 -- A device stands for something that it met, whatever else it meets.
-use Rattle.std.proofs.Common.{◌≡◌, ℕ, ◌≤◌, List, [], ◌∷◌, length, ap, refl}
+use Rattle.std.proofs.Common.{◌≡◌, ℕ, ◌≤◌, List, [], ◌∷◌, length, ap, refl, subst}
 use Rattle.std.specs.Prelude.{unwrap_or}
 use Rattle.std.proofs.Math.Bool.{Bool-set}
 use Rattle.std.proofs.Math.Logic.{∥∥₁_elim, ∥∥₁_map}
@@ -15,7 +15,7 @@ use Rattle.cct_model.specs.Device.{IsAcceptor, IsHopper}
 use Rattle.cct_model.specs.Family.{family_of, known_to}
 use Rattle.cct_bus.specs.declared.body.Body.{Body}
 use Rattle.cct_bus.specs.declared.body.Body.TheVariants.{Acceptor, Hopper}
-use Rattle.cct_bus.specs.Body.{StandsFor, family_in}
+use Rattle.cct_bus.specs.Body.{IsAtGap, KeepsGap, StandsFor, family_in}
 use Rattle.cct_bus.specs.Room.{most_said}
 use Rattle.cct_bus.proofs.Said.{said_room}
 
@@ -48,3 +48,12 @@ pub known_lived : (a : Body) (d : DeviceSetup) (what : Happening) → ∥ ((past
     → known_to what (family_in a) ≡ known_to what (family_of d.body)
 known_lived a d what lived =
     ∥∥₁_elim lived (Bool-set _ _) (λ h. ap (known_to what) (family_stands a d h.0 h.1))
+
+-- no byte came to it, as a struct keeps it and as it is told
+pub at_gap : (a : Body) → KeepsGap a → IsAtGap a
+at_gap (Acceptor a) kept = kept.0 a refl
+at_gap (Hopper h) kept = kept.1 h refl
+
+pub keeps_gap : (a : Body) → IsAtGap a → KeepsGap a
+keeps_gap (Acceptor a) gap = (λ b is. subst (λ x. IsAtGap x) is gap, λ h is. absurd cc)
+keeps_gap (Hopper h) gap = (λ a is. absurd cc, λ b is. subst (λ x. IsAtGap x) is gap)

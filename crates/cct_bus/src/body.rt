@@ -1,5 +1,5 @@
 //! What a device on the wire is: a coin acceptor or a hopper.
-ghost use Rattle.std.specs.Prelude.{◌≡◌, true, List, [], ◌∷◌, IfOk, unwrap_or};
+ghost use Rattle.std.specs.Prelude.{◌≡◌, true, ℕ, List, [], ◌∷◌, ◌++◌, IfOk, unwrap_or};
 ghost use Rattle.cct_model.specs.terms.device.DeviceSetup.{DeviceSetup};
 ghost use Rattle.cct_model.specs.Device.{IsSound};
 ghost use Rattle.cct_model.specs.Exchange.{answer, asks_of};
@@ -25,12 +25,13 @@ pub(crate) enum Body<'s> {
 }
 
 impl<'s> Body<'s> {
-    ghost use Rattle.cct_bus.specs.Body.{StandsFor, family_in};
+    ghost use Rattle.cct_bus.specs.Body.{HasHeard, IsAtGap, StandsFor, family_in};
 
     /// The acceptor or the hopper of a setup as after power-up. This takes all memory that it ever has.
     pub(crate) fn new(alloc: Global, setup: &'s DeviceSetup) -> Result<Body<'s>, AllocError>
         requires sound { IsSound setup.now }
         ensures fresh { IfOk result (λ body. StandsFor body setup.now []) }
+        ensures gap { IfOk result (λ body. IsAtGap body) }
     {
         match &setup.body {
             DeviceBody::Acceptor { .. } => Ok(Body::Acceptor(Acceptor::new(alloc, setup)?)),
@@ -38,21 +39,50 @@ impl<'s> Body<'s> {
         }
     }
 
-    /// It hears a piece, acts on what it asks, and puts its answer in the place of what `said` holds: nothing where it
-    /// is silent.
-    #[tactic(auto, using(crate::proofs::Said::said_is))]
+    /// It hears the bytes of a piece one by one, and then a gap: it acts on what they ask, and puts its answer in the
+    /// place of what `said` holds: nothing where it is silent.
     pub(crate) fn hear(&mut self, piece: &[u8], said: &mut ArrayVec<u8, MOST_SENT>)
+        requires gap { IsAtGap self.old }
         ensures stands { (d : DeviceSetup) (past : List Met) → StandsFor self.old d past
             → StandsFor self.new d (heard (asks_of d piece.now) ∷ past) }
         ensures answer { (d : DeviceSetup) (past : List Met) → StandsFor self.old d past
             → said.new.items ≡ unwrap_or (answer d past piece.now) [] }
+        ensures gap { IsAtGap self.new }
+    {
+        for byte in piece {
+            self.byte(*byte);
+        }
+        self.gap(said);
+    }
+
+    /// It hears one byte more.
+    #[inline]
+    fn byte(&mut self, byte: u8)
+        ensures stands { (d : DeviceSetup) (past : List Met) → StandsFor self.old d past → StandsFor self.new d past }
+        ensures heard { (bytes : List ℕ) → HasHeard self.old bytes → HasHeard self.new (bytes ++ byte ∷ []) }
+    {
+        match self {
+            Body::Acceptor(acceptor) => acceptor.byte(byte),
+            Body::Hopper(hopper) => hopper.byte(byte),
+        }
+    }
+
+    /// It hears a gap.
+    #[inline]
+    #[tactic(auto, using(crate::proofs::Said::said_is))]
+    fn gap(&mut self, said: &mut ArrayVec<u8, MOST_SENT>)
+        ensures stands { (d : DeviceSetup) (past : List Met) (bytes : List ℕ) → StandsFor self.old d past
+            → HasHeard self.old bytes → StandsFor self.new d (heard (asks_of d bytes) ∷ past) }
+        ensures answer { (d : DeviceSetup) (past : List Met) (bytes : List ℕ) → StandsFor self.old d past
+            → HasHeard self.old bytes → said.new.items ≡ unwrap_or (answer d past bytes) [] }
+        ensures gap { IsAtGap self.new }
     {
         match self {
             Body::Acceptor(acceptor) => {
-                acceptor.hear(piece, said);
+                acceptor.gap(said);
             }
             Body::Hopper(hopper) => {
-                hopper.hear(piece, said);
+                hopper.gap(said);
             }
         }
     }
@@ -65,6 +95,7 @@ impl<'s> Body<'s> {
             → StandsFor self.new d (met_by what ∷ past) }
         ensures answer { (d : DeviceSetup) (past : List Met) → StandsFor self.old d past
             → result ≡ becomes what d.serial past }
+        ensures heard { (bytes : List ℕ) → HasHeard self.old bytes → HasHeard self.new bytes }
     {
         match self {
             Body::Acceptor(acceptor) => befall_acceptor(acceptor, what),
@@ -81,6 +112,7 @@ fn befall_acceptor(acceptor: &mut Acceptor<'_>, what: Happening) -> Outcome
         → acceptors.StandsFor acceptor.new d (met_by what ∷ past) }
     ensures answer { (d : DeviceSetup) (past : List Met) → acceptors.StandsFor acceptor.old d past
         → result ≡ becomes what d.serial past }
+    ensures heard { (bytes : List ℕ) → acceptors.HasHeard acceptor.old bytes → acceptors.HasHeard acceptor.new bytes }
 {
     match what {
         Happening::Coin { place } => of_inserted(acceptor.insert(place)),
@@ -104,6 +136,7 @@ fn befall_hopper(hopper: &mut Hopper<'_>, what: Happening) -> Outcome
         → hoppers.StandsFor hopper.new d (met_by what ∷ past) }
     ensures answer { (d : DeviceSetup) (past : List Met) → hoppers.StandsFor hopper.old d past
         → result ≡ becomes what d.serial past }
+    ensures heard { (bytes : List ℕ) → hoppers.HasHeard hopper.old bytes → hoppers.HasHeard hopper.new bytes }
 {
     match what {
         Happening::Fall => of_effect(hopper.fall()),

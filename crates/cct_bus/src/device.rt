@@ -5,7 +5,7 @@ ghost use Rattle.cct_model.specs.Device.{IsSound};
 ghost use Rattle.cct_model.specs.Exchange.{answer, asks_of};
 ghost use Rattle.cct_model.specs.Family.{IsPlaced, family_of, known_to, met_by};
 ghost use Rattle.cct_model.specs.History.{Met, heard};
-ghost use Rattle.cct_bus.specs.Body.{StandsFor};
+ghost use Rattle.cct_bus.specs.Body.{KeepsGap, StandsFor};
 ghost use Rattle.cct_bus.specs.Outcome.{becomes};
 ghost use Rattle.cct_bus.specs.Room.{most_said};
 
@@ -15,11 +15,12 @@ use arrayvec::ArrayVec;
 use cct_model::{DeviceSetup, Happening, MOST_SENT};
 use std::alloc::{AllocError, Global};
 
-/// A coin acceptor or a hopper on the wire, with its setup.
+/// A coin acceptor or a hopper on the wire, with its setup. Between two calls no byte came to it since the last gap.
 #[derive(Drop)]
 pub(crate) struct Device<'s> {
     pub(crate) setup: &'s DeviceSetup,
     body: Body<'s>,
+    ghost still: { KeepsGap body },
     ghost lived: { ∥ ((past : List Met) × StandsFor body setup.now past) ∥₁ },
 }
 
@@ -36,8 +37,8 @@ impl<'s> Device<'s> {
         Ok(Device { setup, body })
     }
 
-    /// The device hears a piece, acts on what it asks, and puts its answer in the place of what `said` holds: nothing
-    /// where it is silent.
+    /// The device hears a piece byte by byte and then a gap, acts on what it asks, and puts its answer in the place of
+    /// what `said` holds: nothing where it is silent.
     pub(crate) fn hear(&mut self, piece: &[u8], said: &mut ArrayVec<u8, MOST_SENT>)
         ensures setup { self.new.setup ≡ self.old.setup }
         ensures lived { (past : List Met) → Lived self.old past

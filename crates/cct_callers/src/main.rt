@@ -1,6 +1,6 @@
 //! Callers, to be copied (`docs/CALLERS.md` shows them step by step). The program itself is one: a machine whose setup
 //! stands in the program, and whose steps come from standard input. The others are tests: a coin acceptor, a hopper, a
-//! journal whose power is cut, a host over a serial line, and single messages.
+//! journal whose power is cut, a disk over a memory part, a host over a serial line, and single messages.
 #![tactic(auto)]
 
 #[cfg(test)]
@@ -14,6 +14,8 @@ mod host;
 mod journal;
 #[cfg(test)]
 mod messages;
+#[cfg(test)]
+mod part;
 #[cfg(test)]
 mod texts;
 

@@ -5,7 +5,7 @@ use cct_check::{crc16, crc16_step, simple_sum};
 use cct_frame::{FrameFault, FrameView, read, write};
 use cct_lines::{CheckKind, MOST_SENT, Pair, Reply, ReplyForm, Request};
 use cct_msg::{NotWanted, encode_request, read_reply};
-use cct_wire::{Heard, hear};
+use cct_wire::{Fed, Framer, Heard, hear};
 use std::test::Fail;
 
 #[test]
@@ -84,5 +84,26 @@ fn a_request_and_its_reply(rt: HostRuntime) -> Result<(), Fail> {
             Err(NotWanted::Other)
         )
     );
+    Ok(())
+}
+
+#[test]
+fn a_message_that_comes_byte_by_byte(rt: HostRuntime) -> Result<(), Fail> {
+    let mut framer = Framer::new(CheckKind::Simple);
+    for byte in b"\x02\x00\x01\xe5" {
+        assert_eq!(rt; framer.feed(*byte), Fed::More);
+    }
+    assert_eq!(rt; framer.feed(0x18), Fed::Whole);
+    let request = FrameView {
+        to: 2,
+        from: Some(1),
+        header: 229,
+        body: b"",
+    };
+    assert_eq!(rt; framer.view(), Ok(request));
+
+    // After a gap the next byte is the first of a message.
+    framer.gap();
+    assert!(rt; framer.is_empty());
     Ok(())
 }

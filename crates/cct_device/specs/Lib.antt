@@ -1,1 +1,1 @@
-pub mod Elsewhere
+pub mod Listening

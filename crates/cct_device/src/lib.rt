@@ -1,8 +1,8 @@
-//! What every device does: it hears what a piece asks of it, tells what it is, and gives its reply.
+//! What every device does: it hears what the bytes of the wire ask of it, tells what it is, and gives its reply.
 #![tactic(auto)]
 
 mod hearing;
 mod replies;
 
-pub use hearing::{Asked, listen};
+pub use hearing::{Asked, Listener};
 pub use replies::{common_reply, give};

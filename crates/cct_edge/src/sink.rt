@@ -1,8 +1,7 @@
 // Where bytes go.
-ghost use Rattle.std.specs.Prelude.{ℕ, Option, List, Result, OnOk, OnErr};
+ghost use Rattle.std.specs.Prelude.{ℕ, Option, List, Result, IsErr, OnOk, OnErr};
 ghost use Rattle.std.specs.Io.KnownBytes.{Appends};
-ghost use Rattle.cct_edge.specs.Bytes.{AppendsFront, TellsAsBefore};
-ghost use Rattle.cct_edge.specs.Faults.{HasCause};
+ghost use Rattle.cct_edge.specs.Bytes.{AppendsFront, Serves};
 ghost use Rattle.cct_edge.specs.declared.fault.Failed.{Failed};
 
 use crate::Failed;
@@ -24,6 +23,5 @@ pub trait Sink {
         ensures one { puts self.old piece.now result self.new }
         ensures ok { OnOk result (Appends (written self.old) (written self.new) piece.now) }
         ensures err { OnErr result (AppendsFront (written self.old) (written self.new) piece.now) }
-        ensures tells { TellsAsBefore (written self.old) (written self.new) }
-        ensures cause { HasCause (faults self.old) (faults self.new) result };
+        ensures serves { Serves written faults self.old self.new (IsErr result) };
 }

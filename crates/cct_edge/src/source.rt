@@ -1,9 +1,8 @@
 // Where bytes come from.
-ghost use Rattle.std.specs.Prelude.{ℕ, ◌<◌, Option, List, Result, length};
+ghost use Rattle.std.specs.Prelude.{ℕ, ◌<◌, Option, List, Result, IsErr, length};
 ghost use Rattle.std.specs.Io.{ReadsAtMost};
 ghost use Rattle.std.specs.Io.KnownBytes.{ReadConsumes};
-ghost use Rattle.cct_edge.specs.Bytes.{TellsAsBefore};
-ghost use Rattle.cct_edge.specs.Faults.{HasCause};
+ghost use Rattle.cct_edge.specs.Bytes.{Serves};
 ghost use Rattle.cct_edge.specs.declared.fault.Failed.{Failed};
 
 use crate::Failed;
@@ -28,6 +27,5 @@ pub trait Source {
         ensures one { takes self.old (length room.old) result self.new }
         ensures bound { ReadsAtMost result room.new }
         ensures bytes { ReadConsumes (left self.old) (left self.new) result room.new }
-        ensures tells { TellsAsBefore (left self.old) (left self.new) }
-        ensures cause { HasCause (faults self.old) (faults self.new) result };
+        ensures serves { Serves left faults self.old self.new (IsErr result) };
 }

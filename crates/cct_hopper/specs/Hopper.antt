@@ -1,5 +1,5 @@
 -- A hopper that stands for all that it met (ccTalk Generic Specification 4, part 3).
-use Rattle.std.specs.Prelude.{◌≡◌, ℕ, ◌==◌, Bool, true, false, List, Option, Some, None, Result, Ok, Err, if◌then◌else◌, not}
+use Rattle.std.specs.Prelude.{◌≡◌, ℕ, ◌==◌, Bool, true, false, List, [], Option, Some, None, Result, Ok, Err, if◌then◌else◌, not}
 use Rattle.cct_terms.specs.declared.device.DeviceBody.{DeviceBody}
 use Rattle.cct_terms.specs.declared.device.DeviceBody.TheVariants as body
 use Rattle.cct_terms.specs.declared.device.DeviceSetup.{DeviceSetup}
@@ -9,6 +9,7 @@ use Rattle.cct_terms.specs.Acceptor as acceptor
 use Rattle.cct_terms.specs.Device.{IsHopper}
 use Rattle.cct_terms.specs.History.{Met}
 use Rattle.cct_terms.specs.Hopper.{enabled, remaining, payouts, last_paid, last_unpaid, has_timeout, is_tested, life_count}
+use Rattle.cct_device.specs.Listening.{HeardSince}
 use Rattle.cct_life.specs.Life.{count_of}
 use Rattle.cct_hopper.specs.declared.device.Device.{Device}
 use Rattle.cct_hopper.specs.declared.hopper.Hopper.{Hopper}
@@ -87,6 +88,18 @@ pub record StandsFor (hopper : Hopper) (d : DeviceSetup) (past : List Met) : Typ
   pub may_pay : may_pay hopper ≡ enabled past
   pub left : left_of hopper ≡ remaining d.serial past
   pub memory : memory (device_of hopper) ≡ remembered d past
+
+-- The hopper itself heard these bytes since the last gap.
+abbrev pub DeviceHeard : Device → List ℕ → Type 0
+DeviceHeard device bytes = HeardSince device.listener device.setup.now.addr bytes
+
+-- A hopper heard these bytes since the last gap, whatever its state.
+abbrev pub HasHeard : Hopper → List ℕ → Type 0
+HasHeard hopper bytes = DeviceHeard (device_of hopper) bytes
+
+-- A hopper heard no byte since the last gap.
+abbrev pub IsAtGap : Hopper → Type 0
+IsAtGap hopper = HasHeard hopper []
 
 -- The serial number of an idle hopper.
 abbrev pub serial_of : HopperIdle → ℕ

@@ -1,6 +1,8 @@
 //! What a hopper holds in whatever state it is (ccTalk Generic Specification 4, part 3).
-ghost use Rattle.std.specs.Prelude.{◌≡◌, ◌<◌, ◌==◌, ◌+◌, ◌^◌, if◌then◌else◌};
+ghost use Rattle.std.specs.Prelude.{◌≡◌, ◌<◌, ◌==◌, ◌+◌, ◌^◌, ℕ, List, [], ◌∷◌, ◌++◌, if◌then◌else◌};
+ghost use Rattle.cct_device.specs.Listening.{kind_of};
 
+use cct_device::Listener;
 use cct_life::LifeCount;
 use cct_terms::DeviceSetup;
 
@@ -8,6 +10,7 @@ use cct_terms::DeviceSetup;
 #[derive(Clone, Copy, Debug)]
 pub(crate) struct Device<'s> {
     pub(crate) setup: &'s DeviceSetup,
+    pub(crate) listener: Listener,
     /// How many coins it ever paid.
     pub(crate) life: LifeCount,
     /// The event counter, which counts payouts: 0 before the first, then 1 to 255, and 1 again.
@@ -20,21 +23,25 @@ pub(crate) struct Device<'s> {
     pub(crate) timeout: bool,
     /// Whether the test register was read.
     pub(crate) tested: bool,
+    ghost check: { kind_of listener ≡ setup.now.kind },
     ghost serial: { setup.now.serial < 2 ^ 24 },
 }
 
 impl<'s> Device<'s> {
     ghost use Rattle.cct_life.specs.Life.{count_of};
-    ghost use Rattle.cct_hopper.specs.Hopper.{at_power_up, memory};
+    ghost use Rattle.cct_hopper.specs.Hopper.{DeviceHeard, at_power_up, memory};
 
-    /// The hopper of a setup as after a reset, with this life count.
-    pub(crate) fn new(setup: &'s DeviceSetup, life: LifeCount) -> Device<'s>
+    /// The hopper of a setup as after a reset, with this life count. What it heard since the last gap stays with it.
+    pub(crate) fn new(setup: &'s DeviceSetup, life: LifeCount, listener: Listener) -> Device<'s>
         requires serial { setup.now.serial < 2 ^ 24 }
+        requires check { kind_of listener ≡ setup.now.kind }
         ensures setup { result.setup.now ≡ setup.now }
+        ensures listener { result.listener ≡ listener }
         ensures memory { memory result ≡ at_power_up (count_of life) }
     {
         Device {
             setup,
+            listener,
             life,
             counter: 0,
             paid: 0,
@@ -42,6 +49,26 @@ impl<'s> Device<'s> {
             timeout: false,
             tested: false,
         }
+    }
+
+    /// Hears one byte more.
+    #[inline]
+    pub(crate) fn byte(&mut self, byte: u8)
+        ensures setup { self.new.setup ≡ self.old.setup }
+        ensures memory { memory self.new ≡ memory self.old }
+        ensures heard { (bytes : List ℕ) → DeviceHeard self.old bytes → DeviceHeard self.new (bytes ++ byte ∷ []) }
+    {
+        self.listener.byte(self.setup.addr, byte);
+    }
+
+    /// No byte came since the last gap any more.
+    #[inline]
+    pub(crate) fn forget_bytes(&mut self)
+        ensures setup { self.new.setup ≡ self.old.setup }
+        ensures memory { memory self.new ≡ memory self.old }
+        ensures gap { DeviceHeard self.new [] }
+    {
+        self.listener.gap();
     }
 }
 

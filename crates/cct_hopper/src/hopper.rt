@@ -1,5 +1,5 @@
 //! The hopper as a device (ccTalk Generic Specification 4, part 3).
-ghost use Rattle.std.specs.Prelude.{◌≡◌, ◌≢◌, ◌==◌, ℕ, List, [], ◌∷◌, false, true, not, Some, IfSome, MatchOption};
+ghost use Rattle.std.specs.Prelude.{◌≡◌, ◌≢◌, ◌==◌, ℕ, List, [], ◌∷◌, ◌++◌, false, true, not, Some, IfSome, MatchOption};
 ghost use Rattle.std.specs.Option.{option_map};
 ghost use Rattle.cct_terms.specs.declared.device.DeviceSetup.{DeviceSetup};
 ghost use Rattle.cct_terms.specs.declared.request.TheConstants.{ENABLE_CODE};
@@ -15,7 +15,7 @@ use crate::register::Register;
 use crate::states::{AfterFall, HopperIdle, HopperOff, HopperPaying};
 use arrayvec::ArrayVec;
 use bitflags::Flags;
-use cct_device::{Asked, common_reply, give, listen};
+use cct_device::{Asked, common_reply, give};
 use cct_life::LifeCount;
 use cct_terms::{DeviceBody, DeviceSetup, ENABLE_CODE, MOST_SENT, Reply, Request};
 
@@ -31,13 +31,14 @@ pub enum Hopper<'s> {
 }
 
 impl<'s> Hopper<'s> {
-    ghost use Rattle.cct_hopper.specs.Hopper.{StandsFor, device_of, is_change, left_of, may_pay, start_of};
+    ghost use Rattle.cct_hopper.specs.Hopper.{HasHeard, IsAtGap, StandsFor, device_of, is_change, left_of, may_pay, start_of};
 
     /// A hopper as after a reset, with its life count where the setup starts it.
     pub fn new(setup: &'s DeviceSetup) -> Hopper<'s>
         requires sound { IsSound setup.now }
         requires hopper { IsHopper setup.now.body }
         ensures fresh { StandsFor result setup.now [] }
+        ensures gap { IsAtGap result }
     {
         match &setup.body {
             DeviceBody::Hopper { life, .. } => {
@@ -53,6 +54,7 @@ impl<'s> Hopper<'s> {
             → StandsFor self.new d (fall ∷ past) }
         ensures answer { (d : DeviceSetup) (past : List Met) → StandsFor self.old d past
             → result ≡ not (remaining d.serial past == 0) }
+        ensures heard { (bytes : List ℕ) → HasHeard self.old bytes → HasHeard self.new bytes }
     {
         match self {
             Hopper::Paying(hopper) => {
@@ -73,6 +75,7 @@ impl<'s> Hopper<'s> {
             → StandsFor self.new d (jam ∷ past) }
         ensures answer { (d : DeviceSetup) (past : List Met) → StandsFor self.old d past
             → result ≡ not (remaining d.serial past == 0) }
+        ensures heard { (bytes : List ℕ) → HasHeard self.old bytes → HasHeard self.new bytes }
     {
         match self {
             Hopper::Paying(hopper) => {
@@ -85,8 +88,9 @@ impl<'s> Hopper<'s> {
 
     /// The hopper starts again as after power-up: it is off, and a payout is forgotten. The life count goes on.
     pub fn reset(&mut self)
-        ensures { (d : DeviceSetup) (past : List Met) → StandsFor self.old d past
+        ensures stands { (d : DeviceSetup) (past : List Met) → StandsFor self.old d past
             → StandsFor self.new d (reset ∷ past) }
+        ensures heard { (bytes : List ℕ) → HasHeard self.old bytes → HasHeard self.new bytes }
     {
         let hopper = match self {
             Hopper::Off(hopper) => hopper.twin().reset(),
@@ -96,25 +100,70 @@ impl<'s> Hopper<'s> {
         *self = Hopper::Off(hopper);
     }
 
-    /// Hears a piece, acts on what it asks, and answers: true with the answer in `out`, or false with nothing there
-    /// where the hopper is silent. It is silent to a piece that is no message under its check, to another address, to
-    /// a request that no hopper knows, and to every broadcast but the address poll, which asks nothing at its own
-    /// address.
-    pub fn hear(&mut self, piece: &[u8], out: &mut ArrayVec<u8, MOST_SENT>) -> bool
-        ensures stands { (d : DeviceSetup) (past : List Met) → StandsFor self.old d past
-            → StandsFor self.new d (heard (asks_of d piece.now) ∷ past) }
-        ensures answer { (d : DeviceSetup) (past : List Met) → StandsFor self.old d past
-            → MatchOption (answer d past piece.now) ((result ≡ false) × (out.new.items ≡ []))
-            (λ bytes. (result ≡ true) × (out.new.items ≡ bytes)) }
+    /// Hears one byte more. It acts on it, and answers, only when a gap comes.
+    #[inline]
+    pub fn byte(&mut self, byte: u8)
+        ensures stands { (d : DeviceSetup) (past : List Met) → StandsFor self.old d past → StandsFor self.new d past }
+        ensures heard { (bytes : List ℕ) → HasHeard self.old bytes → HasHeard self.new (bytes ++ byte ∷ []) }
+    {
+        match self {
+            Hopper::Off(hopper) => hopper.device.byte(byte),
+            Hopper::Idle(hopper) => hopper.device.byte(byte),
+            Hopper::Paying(hopper) => hopper.device.byte(byte),
+        }
+    }
+
+    /// A gap: the hopper acts on what the bytes since the last one ask, and answers: true with the answer in `out`, or
+    /// false with nothing there where the hopper is silent. It is silent to bytes that are no message under its check,
+    /// to another address, to a request that no hopper knows, and to every broadcast but the address poll, which asks
+    /// nothing at its own address.
+    pub fn gap(&mut self, out: &mut ArrayVec<u8, MOST_SENT>) -> bool
+        ensures stands { (d : DeviceSetup) (past : List Met) (bytes : List ℕ) → StandsFor self.old d past
+            → HasHeard self.old bytes → StandsFor self.new d (heard (asks_of d bytes) ∷ past) }
+        ensures answer { (d : DeviceSetup) (past : List Met) (bytes : List ℕ) → StandsFor self.old d past
+            → HasHeard self.old bytes → MatchOption (answer d past bytes) ((result ≡ false) × (out.new.items ≡ []))
+            (λ said. (result ≡ true) × (out.new.items ≡ said)) }
+        ensures gap { IsAtGap self.new }
     {
         out.clear();
         let setup = self.device().setup;
-        match listen(setup, piece) {
+        let asked = self.device().listener.asked(setup);
+        self.forget_bytes();
+        match asked {
             None => false,
             Some(Asked { request, asker }) => {
                 let reply = self.act(request);
                 give(setup, asker, request, reply, out)
             }
+        }
+    }
+
+    /// Hears a piece and then a gap, where no byte came since the last one. It acts and answers as `gap` says.
+    pub fn hear(&mut self, piece: &[u8], out: &mut ArrayVec<u8, MOST_SENT>) -> bool
+        requires gap { IsAtGap self.old }
+        ensures stands { (d : DeviceSetup) (past : List Met) → StandsFor self.old d past
+            → StandsFor self.new d (heard (asks_of d piece.now) ∷ past) }
+        ensures answer { (d : DeviceSetup) (past : List Met) → StandsFor self.old d past
+            → MatchOption (answer d past piece.now) ((result ≡ false) × (out.new.items ≡ []))
+            (λ bytes. (result ≡ true) × (out.new.items ≡ bytes)) }
+        ensures gap { IsAtGap self.new }
+    {
+        for byte in piece {
+            self.byte(*byte);
+        }
+        self.gap(out)
+    }
+
+    /// No byte came since the last gap any more.
+    #[inline]
+    fn forget_bytes(&mut self)
+        ensures stands { (d : DeviceSetup) (past : List Met) → StandsFor self.old d past → StandsFor self.new d past }
+        ensures gap { IsAtGap self.new }
+    {
+        match self {
+            Hopper::Off(hopper) => hopper.device.forget_bytes(),
+            Hopper::Idle(hopper) => hopper.device.forget_bytes(),
+            Hopper::Paying(hopper) => hopper.device.forget_bytes(),
         }
     }
 
@@ -126,6 +175,7 @@ impl<'s> Hopper<'s> {
         ensures answer { (d : DeviceSetup) (past : List Met) → StandsFor self.old d past
             → option_map reply_shown result ≡ reply_of d past request }
         ensures sayable { IfSome result (λ y. IsSayable (reply_shown y)) }
+        ensures heard { (bytes : List ℕ) → HasHeard self.old bytes → HasHeard self.new bytes }
     {
         match request {
             Request::ResetDevice => {
@@ -198,8 +248,9 @@ impl<'s> Hopper<'s> {
 
     /// Header 164 with a code.
     fn set_enabled(&mut self, code: u8)
-        ensures { (d : DeviceSetup) (past : List Met) → StandsFor self.old d past
+        ensures stands { (d : DeviceSetup) (past : List Met) → StandsFor self.old d past
             → StandsFor self.new d (heard (Some (Enable code)) ∷ past) }
+        ensures heard { (bytes : List ℕ) → HasHeard self.old bytes → HasHeard self.new bytes }
     {
         if code == ENABLE_CODE {
             self.enable();
@@ -210,8 +261,9 @@ impl<'s> Hopper<'s> {
 
     /// The hopper may pay. A payout goes on.
     fn enable(&mut self)
-        ensures { (d : DeviceSetup) (past : List Met) → StandsFor self.old d past
+        ensures stands { (d : DeviceSetup) (past : List Met) → StandsFor self.old d past
             → StandsFor self.new d (heard (Some (Enable ENABLE_CODE)) ∷ past) }
+        ensures heard { (bytes : List ℕ) → HasHeard self.old bytes → HasHeard self.new bytes }
     {
         if let Hopper::Off(hopper) = self {
             *self = Hopper::Idle(hopper.twin().enable());
@@ -220,8 +272,9 @@ impl<'s> Hopper<'s> {
 
     /// The hopper may not pay any more, which ends a payout.
     fn disable(&mut self)
-        ensures { (d : DeviceSetup) (past : List Met) (code : ℕ) → code ≢ ENABLE_CODE → StandsFor self.old d past
+        ensures stands { (d : DeviceSetup) (past : List Met) (code : ℕ) → code ≢ ENABLE_CODE → StandsFor self.old d past
             → StandsFor self.new d (heard (Some (Enable code)) ∷ past) }
+        ensures heard { (bytes : List ℕ) → HasHeard self.old bytes → HasHeard self.new bytes }
     {
         match self {
             Hopper::Off(_) => {}
@@ -237,18 +290,19 @@ impl<'s> Hopper<'s> {
         ensures answer { (d : DeviceSetup) (past : List Met) → StandsFor self.old d past
             → reply_shown result ≡ dispense_reply (taken_of d.serial past (Some (Dispense serial count))) }
         ensures sayable { IsSayable (reply_shown result) }
+        ensures heard { (bytes : List ℕ) → HasHeard self.old bytes → HasHeard self.new bytes }
     {
         match self {
-            Hopper::Idle(hopper) => match hopper.twin().dispense(serial, count) {
-                Ok(hopper) => {
-                    *self = Hopper::Paying(hopper);
-                    Reply::Ack
+            Hopper::Idle(hopper) => {
+                if hopper.refusal(serial, count).is_some() {
+                    return Reply::Nak;
                 }
-                Err((hopper, _)) => {
-                    *self = Hopper::Idle(hopper);
-                    Reply::Nak
+                match hopper.twin().dispense(serial, count) {
+                    Ok(hopper) => *self = Hopper::Paying(hopper),
+                    Err(_) => unreachable!(),
                 }
-            },
+                Reply::Ack
+            }
             _ => Reply::Nak,
         }
     }
@@ -259,6 +313,7 @@ impl<'s> Hopper<'s> {
             → StandsFor self.new d (heard (Some StopNow) ∷ past) }
         ensures answer { (d : DeviceSetup) (past : List Met) → StandsFor self.old d past
             → result ≡ remaining d.serial past }
+        ensures heard { (bytes : List ℕ) → HasHeard self.old bytes → HasHeard self.new bytes }
     {
         match self {
             Hopper::Paying(hopper) => {
@@ -272,8 +327,9 @@ impl<'s> Hopper<'s> {
 
     /// The test register was read.
     fn set_tested(&mut self)
-        ensures { (d : DeviceSetup) (past : List Met) → StandsFor self.old d past
+        ensures stands { (d : DeviceSetup) (past : List Met) → StandsFor self.old d past
             → StandsFor self.new d (heard (Some TestHopper) ∷ past) }
+        ensures heard { (bytes : List ℕ) → HasHeard self.old bytes → HasHeard self.new bytes }
     {
         match self {
             Hopper::Off(hopper) => hopper.device.tested = true,

@@ -1,8 +1,9 @@
 //! The three states of a hopper as types (ccTalk Generic Specification 4, part 3). Each owns the whole hopper, and each
 //! call consumes it and gives the next one, so nobody asks a hopper to pay that is off or pays already.
-ghost use Rattle.std.specs.Prelude.{◌≡◌, ◌≢◌, ◌==◌, ◌≤◌, ◌<◌, ◌+◌, ◌^◌, false, Some, None, List, ℕ, [], ◌∷◌, MatchResult};
+ghost use Rattle.std.specs.Prelude.{◌≡◌, ◌≢◌, ◌==◌, ◌≤◌, ◌<◌, ◌+◌, ◌^◌, ⊤, false, Some, None, List, ℕ, [], ◌∷◌, IfSome, MatchOption, MatchResult};
 
 use crate::device::{Device, next_event};
+use cct_device::Listener;
 use cct_life::LifeCount;
 use cct_terms::DeviceSetup;
 use thiserror::Error;
@@ -56,7 +57,7 @@ impl<'s> HopperOff<'s> {
     ghost use Rattle.cct_terms.specs.Device.{IsHopper};
     ghost use Rattle.cct_terms.specs.History.{Met, heard, reset};
     ghost use Rattle.cct_life.specs.Life.{count_of};
-    ghost use Rattle.cct_hopper.specs.Hopper.{StandsFor, start_of};
+    ghost use Rattle.cct_hopper.specs.Hopper.{HasHeard, IsAtGap, StandsFor, start_of};
     ghost use Rattle.cct_hopper.specs.declared.hopper.Hopper.TheVariants.{Idle, Off};
 
     /// The hopper of a setup after power-up, with this life count.
@@ -65,16 +66,18 @@ impl<'s> HopperOff<'s> {
         requires hopper { IsHopper setup.now.body }
         requires life { count_of life ≡ start_of setup.now.body }
         ensures fresh { StandsFor (Off result) setup.now [] }
+        ensures gap { IsAtGap (Off result) }
     {
         HopperOff {
-            device: Device::new(setup, life),
+            device: Device::new(setup, life, Listener::new(setup.kind)),
         }
     }
 
     /// Header 164 with the code that enables it.
     pub fn enable(self) -> HopperIdle<'s>
-        ensures { (d : DeviceSetup) (past : List Met) → StandsFor (Off self.entry) d past
+        ensures stands { (d : DeviceSetup) (past : List Met) → StandsFor (Off self.entry) d past
             → StandsFor (Idle result) d (heard (Some (Enable ENABLE_CODE)) ∷ past) }
+        ensures heard { (bytes : List ℕ) → HasHeard (Off self.entry) bytes → HasHeard (Idle result) bytes }
     {
         HopperIdle {
             device: self.device,
@@ -83,11 +86,12 @@ impl<'s> HopperOff<'s> {
 
     /// Starts again as after power-up, with the life count that it has.
     pub fn reset(self) -> HopperOff<'s>
-        ensures { (d : DeviceSetup) (past : List Met) → StandsFor (Off self.entry) d past
+        ensures stands { (d : DeviceSetup) (past : List Met) → StandsFor (Off self.entry) d past
             → StandsFor (Off result) d (reset ∷ past) }
+        ensures heard { (bytes : List ℕ) → HasHeard (Off self.entry) bytes → HasHeard (Off result) bytes }
     {
         HopperOff {
-            device: Device::new(self.device.setup, self.device.life),
+            device: Device::new(self.device.setup, self.device.life, self.device.listener),
         }
     }
 
@@ -106,16 +110,33 @@ impl<'s> HopperIdle<'s> {
     ghost use Rattle.cct_terms.specs.declared.request.TheConstants.{ENABLE_CODE};
     ghost use Rattle.cct_terms.specs.declared.request.Request.TheVariants.{Dispense, Enable};
     ghost use Rattle.cct_terms.specs.History.{Met, heard, reset};
-    ghost use Rattle.cct_hopper.specs.Hopper.{StandsFor, after_dispense, refusal, serial_of};
+    ghost use Rattle.cct_hopper.specs.Hopper.{HasHeard, StandsFor, after_dispense, refusal, serial_of};
     ghost use Rattle.cct_hopper.specs.declared.hopper.Hopper.TheVariants.{Idle, Off};
 
     /// Header 164 with any other code.
     pub fn disable(self) -> HopperOff<'s>
-        ensures { (d : DeviceSetup) (past : List Met) (code : ℕ) → code ≢ ENABLE_CODE
+        ensures stands { (d : DeviceSetup) (past : List Met) (code : ℕ) → code ≢ ENABLE_CODE
             → StandsFor (Idle self.entry) d past → StandsFor (Off result) d (heard (Some (Enable code)) ∷ past) }
+        ensures heard { (bytes : List ℕ) → HasHeard (Idle self.entry) bytes → HasHeard (Off result) bytes }
     {
         HopperOff {
             device: self.device,
+        }
+    }
+
+    /// Why header 167 finds it unwilling to pay so many coins, or none where it pays them.
+    pub(crate) fn refusal(&self, serial: u32, count: u8) -> Option<DispenseNo>
+        ensures why { result ≡ refusal (serial_of self.now) serial count }
+        ensures pays { MatchOption result ((serial ≡ serial_of self.now) × (count ≢ 0)) (λ _. ⊤) }
+        ensures stays { (d : DeviceSetup) (past : List Met) → StandsFor (Idle self.now) d past
+            → IfSome result (λ _. StandsFor (Idle self.now) d (heard (Some (Dispense serial count)) ∷ past)) }
+    {
+        if serial != self.device.setup.serial {
+            Some(DispenseNo::WrongSerial)
+        } else if count == 0 {
+            Some(DispenseNo::Nothing)
+        } else {
+            None
         }
     }
 
@@ -130,12 +151,10 @@ impl<'s> HopperIdle<'s> {
             → StandsFor (after_dispense result) d (heard (Some (Dispense serial count)) ∷ past) }
         ensures refused { MatchResult result (λ _. refusal (serial_of self.entry) serial count ≡ None)
             (λ no. (no.0 ≡ self.entry) × (refusal (serial_of self.entry) serial count ≡ Some no.1)) }
+        ensures heard { (bytes : List ℕ) → HasHeard (Idle self.entry) bytes → HasHeard (after_dispense result) bytes }
     {
-        if serial != self.device.setup.serial {
-            return Err((self.twin(), DispenseNo::WrongSerial));
-        }
-        if count == 0 {
-            return Err((self.twin(), DispenseNo::Nothing));
+        if let Some(no) = self.refusal(serial, count) {
+            return Err((self.twin(), no));
         }
         let mut device = self.device;
         device.counter = next_event(device.counter);
@@ -150,11 +169,12 @@ impl<'s> HopperIdle<'s> {
 
     /// Starts again as after power-up, with the life count that it has.
     pub fn reset(self) -> HopperOff<'s>
-        ensures { (d : DeviceSetup) (past : List Met) → StandsFor (Idle self.entry) d past
+        ensures stands { (d : DeviceSetup) (past : List Met) → StandsFor (Idle self.entry) d past
             → StandsFor (Off result) d (reset ∷ past) }
+        ensures heard { (bytes : List ℕ) → HasHeard (Idle self.entry) bytes → HasHeard (Off result) bytes }
     {
         HopperOff {
-            device: Device::new(self.device.setup, self.device.life),
+            device: Device::new(self.device.setup, self.device.life, self.device.listener),
         }
     }
 
@@ -174,13 +194,14 @@ impl<'s> HopperPaying<'s> {
     ghost use Rattle.cct_terms.specs.declared.request.Request.TheVariants.{Enable, StopNow};
     ghost use Rattle.cct_terms.specs.History.{Met, fall, heard, jam, reset};
     ghost use Rattle.cct_terms.specs.Hopper.{remaining};
-    ghost use Rattle.cct_hopper.specs.Hopper.{StandsFor, after_fall};
+    ghost use Rattle.cct_hopper.specs.Hopper.{HasHeard, StandsFor, after_fall};
     ghost use Rattle.cct_hopper.specs.declared.hopper.Hopper.TheVariants.{Idle, Off, Paying};
 
     /// A coin falls out: it is paid, and the life count rises. Behind the last one the hopper is idle.
     pub fn fall(self) -> AfterFall<'s>
-        ensures { (d : DeviceSetup) (past : List Met) → StandsFor (Paying self.entry) d past
+        ensures stands { (d : DeviceSetup) (past : List Met) → StandsFor (Paying self.entry) d past
             → StandsFor (after_fall result) d (fall ∷ past) }
+        ensures heard { (bytes : List ℕ) → HasHeard (Paying self.entry) bytes → HasHeard (after_fall result) bytes }
     {
         let left = self.remaining - 1;
         let mut device = self.device;
@@ -198,8 +219,9 @@ impl<'s> HopperPaying<'s> {
 
     /// A coin is stuck: what is left stays unpaid, and the test register tells a timeout.
     pub fn jam(self) -> HopperIdle<'s>
-        ensures { (d : DeviceSetup) (past : List Met) → StandsFor (Paying self.entry) d past
+        ensures stands { (d : DeviceSetup) (past : List Met) → StandsFor (Paying self.entry) d past
             → StandsFor (Idle result) d (jam ∷ past) }
+        ensures heard { (bytes : List ℕ) → HasHeard (Paying self.entry) bytes → HasHeard (Idle result) bytes }
     {
         let mut device = self.device;
         device.unpaid = self.remaining;
@@ -213,6 +235,7 @@ impl<'s> HopperPaying<'s> {
             → StandsFor (Idle result.0) d (heard (Some StopNow) ∷ past) }
         ensures told { (d : DeviceSetup) (past : List Met) → StandsFor (Paying self.entry) d past
             → result.1 ≡ remaining d.serial past }
+        ensures heard { (bytes : List ℕ) → HasHeard (Paying self.entry) bytes → HasHeard (Idle result.0) bytes }
     {
         let mut device = self.device;
         device.unpaid = self.remaining;
@@ -221,8 +244,9 @@ impl<'s> HopperPaying<'s> {
 
     /// Header 164 with any code but that which enables it: what is left stays unpaid.
     pub(crate) fn disable(self) -> HopperOff<'s>
-        ensures { (d : DeviceSetup) (past : List Met) (code : ℕ) → code ≢ ENABLE_CODE
+        ensures stands { (d : DeviceSetup) (past : List Met) (code : ℕ) → code ≢ ENABLE_CODE
             → StandsFor (Paying self.entry) d past → StandsFor (Off result) d (heard (Some (Enable code)) ∷ past) }
+        ensures heard { (bytes : List ℕ) → HasHeard (Paying self.entry) bytes → HasHeard (Off result) bytes }
     {
         let mut device = self.device;
         device.unpaid = self.remaining;
@@ -231,11 +255,12 @@ impl<'s> HopperPaying<'s> {
 
     /// Starts again as after power-up, with the life count that it has.
     pub fn reset(self) -> HopperOff<'s>
-        ensures { (d : DeviceSetup) (past : List Met) → StandsFor (Paying self.entry) d past
+        ensures stands { (d : DeviceSetup) (past : List Met) → StandsFor (Paying self.entry) d past
             → StandsFor (Off result) d (reset ∷ past) }
+        ensures heard { (bytes : List ℕ) → HasHeard (Paying self.entry) bytes → HasHeard (Off result) bytes }
     {
         HopperOff {
-            device: Device::new(self.device.setup, self.device.life),
+            device: Device::new(self.device.setup, self.device.life, self.device.listener),
         }
     }
 

@@ -5,11 +5,11 @@
 mod advance;
 mod desk;
 mod desks;
-mod dues;
+mod orders;
 mod exchange;
 mod host;
 mod reasons;
-mod recall;
+mod replay;
 mod recorded;
 mod refusal;
 mod reserves;

@@ -1,4 +1,4 @@
--- What is left of the records where the power is lost, and of the disk.
+-- What is left of the records when the power is cut, and of the disk.
 use Rattle.std.proofs.Common.{◌≡◌, inl, inr, ⊎_elim, ℕ, ◌≤◌, Bool, Option, Some, List, [], ◌∷◌, ◌++◌, refl, ap, ◌∙◌, is_some, arith}
 use Rattle.std.proofs.lemmas.Bool.{cases_lt}
 use Rattle.cct_edge.specs.Faults.{next_count}
@@ -10,7 +10,7 @@ use Rattle.cct_journal.specs.Losing.{LeavesBy}
 use Rattle.cct_journal.specs.Stands.{CutOnce, GoesOn, Leaves, LeavesOneOf, Reads, Settled, Stands}
 use Rattle.cct_journal.proofs.Moments.{reads_hold}
 
--- What a loss of power may leave behind so many calls of a put.
+-- What a power cut may leave after so many calls of a put.
 pub put_leaves : {D : Type 0} {honest : D → Bool} {seen : D → Option (List ℕ)} {may_leave : D → List ℕ → Type 0}
     {disk : D} (calls : ℕ) (r : Record) (records : List Record) → calls ≤ 4
     → (calls ≤ 2 → Leaves honest seen may_leave disk records)

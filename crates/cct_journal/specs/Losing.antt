@@ -1,10 +1,10 @@
--- What a journal has behind a loss of power that came in the midst of a put, or of none.
+-- What a journal has after a power cut that came in the midst of a put, or in none.
 use Rattle.std.specs.Prelude.{◌≡◌, ◌⊎◌, ℕ, ◌<◌, Bool, true, Option, None, Some, is_some, List, [], ◌∷◌, ◌++◌}
 use Rattle.cct_lines.specs.declared.record.Record.{Record}
 use Rattle.cct_journal.specs.Image.{Keeps, KeepsOneOf}
 use Rattle.cct_journal.specs.Stands.{Leaves, LeavesOneOf}
 
--- The records that are left behind a loss of power: those that stood before, or these and the one of the put that it
+-- The records that are left after a power cut: those that stood before, or these and the one of the put that it
 -- interrupted, by how many of the four disk calls were made.
 abbrev pub LeftBy : ℕ → Option Record → List Record → List Record → Type 0
 LeftBy calls None records left = left ≡ records
@@ -15,14 +15,14 @@ abbrev pub KeepsWith : Option Record → List Record → List ℕ → Type 0
 KeepsWith None records image = Keeps image records
 KeepsWith (Some r) records image = KeepsOneOf records r image
 
--- Each image that a loss of power may leave on this honest disk stands for records, or, where one is being put, for
+-- Each image that a power cut may leave on this honest disk stands for records, or, where one is being put, for
 -- these and that one.
 abbrev pub LeavesWith : {D : Type 0} → (D → Bool) → (D → Option (List ℕ)) → (D → List ℕ → Type 0) → D → Option Record
     → List Record → Type 0
 LeavesWith honest seen may_leave disk None records = Leaves honest seen may_leave disk records
 LeavesWith honest seen may_leave disk (Some r) records = LeavesOneOf honest seen may_leave disk records r
 
--- Each image that a loss of power may leave on this honest disk stands for what is left behind so many calls of a put,
+-- Each image that a power cut may leave on this honest disk stands for what is left after so many calls of a put,
 -- or of none.
 pub record LeavesBy {D : Type 0} (honest : D → Bool) (seen : D → Option (List ℕ)) (may_leave : D → List ℕ → Type 0)
     (disk : D) (calls : ℕ) (put : Option Record) (records : List Record) : Type 0 where

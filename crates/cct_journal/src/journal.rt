@@ -1,16 +1,15 @@
 //! The journal.
-ghost use Rattle.std.specs.Prelude.{◌≡◌, ◌≢◌, ◌⊎◌, ◌↔◌, ◌<◌, ◌≤◌, ◌+◌, ℕ, true, false, Err, Some, is_some, List, []};
-ghost use Rattle.std.specs.Prelude.{◌∷◌, ◌++◌, length, reverse};
-ghost use Rattle.std.specs.Prelude.{IfErr, IfOk, IfSome, IsErrAnd, MatchResult, OnErr, OnOk, slice_get};
-ghost use Rattle.cct_edge.specs.Faults.{Rose, next_count};
+ghost use Rattle.std.specs.Prelude.{◌≡◌, ◌≢◌, ◌⊎◌, ◌↔◌, ◌<◌, ◌≤◌, ◌+◌, ℕ, true, false, Err, Some, List, []};
+ghost use Rattle.std.specs.Prelude.{◌∷◌, ◌++◌, IfErr, IfOk, IfSome, IsErrAnd, MatchResult, OnErr, OnOk};
+ghost use Rattle.cct_edge.specs.Faults.{Caused, HasCause};
 ghost use Rattle.cct_lines.specs.declared.record.Record.{Record};
-ghost use Rattle.cct_record.specs.Body.{Encodable, Spells};
-ghost use Rattle.cct_disk.specs.Disk.{Holds, IsWithin, LeavesOnly, Only, OnlyReads};
-ghost use Rattle.cct_journal.specs.Image.{HasRecords, IsBlank, Keeps, KeepsOneOf, StandsFor, capacity_of, least_size};
-ghost use Rattle.cct_journal.specs.Creating.{IsCreated, RefusesCreate};
+ghost use Rattle.cct_record.specs.Body.{Encodable};
+ghost use Rattle.cct_disk.specs.Disk.{CountsCut, Holds, IsCutBy, IsWithin, LeavesOnly, OnlyReads};
+ghost use Rattle.cct_journal.specs.Image.{KeepsOneOf, StandsFor, capacity_of, least_size};
+ghost use Rattle.cct_journal.specs.Creating.{Creates, IsCreated, RefusesCreate};
 ghost use Rattle.cct_journal.specs.Losing.{KeepsWith, LeavesWith, LeftBy};
-ghost use Rattle.cct_journal.specs.Opening.{RefusesOpen, RefusesRead};
-ghost use Rattle.cct_journal.specs.Stands.{CutOnce, GoesOn, IsPlaced, Leaves, LeavesOneOf, Reads, Settled, Stands, body_in};
+ghost use Rattle.cct_journal.specs.Opening.{Finds, GivesRecord, RefusesOpen, RefusesRecord, ReplaysAll};
+ghost use Rattle.cct_journal.specs.Stands.{CutOnce, GoesOn, IsPlaced, Leaves, LeavesOneOf, Outlasts, Puts, Reads, Settled, Stands};
 
 use crate::creating::lay_header;
 use crate::losing::lose;
@@ -27,13 +26,13 @@ use cct_lines::Record;
 
 /// A journal of records on a disk (`docs/JOURNAL.md`).
 ///
-/// Whenever the power is lost, what was put stands on the disk, and what is being put stands there or doesn't. This
+/// Whenever the power is cut, what was put stands on the disk, and what is being put stands there or doesn't. This
 /// rests on an honest disk alone, of which bytes that were synced stay.
 #[derive(Drop)]
 pub struct Journal<D: Disk> {
     disk: D,
     place: Place,
-    /// Whether a put failed, behind which nothing more may be put.
+    /// Whether a put failed, after which nothing more may be put.
     failed: bool,
     ghost placed: { IsPlaced (D.size disk) place },
 }
@@ -44,31 +43,27 @@ impl<D: Disk> Journal<D> {
     /// Creates a journal without records on a blank disk.
     ///
     /// The refusals come in the order of [`CreateNo`]. [`CreateNo::Small`] comes where the disk has fewer than 64 bytes
-    /// and [`CreateNo::NotBlank`] where a byte isn't 0; then nothing is written. Behind [`CreateNo::Disk`] the disk is
+    /// and [`CreateNo::NotBlank`] where a byte isn't 0; then nothing is written. After [`CreateNo::Disk`] the disk is
     /// as it was, or has no journal, or one without records.
     pub fn create(disk: D) -> Result<Journal<D>, (D, CreateNo)>
-        ensures stands { IfOk result (λ journal. D.honest disk ≡ true → is_some (D.seen disk) ≡ true
-            → Stands D.honest D.seen D.may_leave (disk_of journal) (place_of journal) []) }
-        ensures none { IfOk result (λ journal. used_of journal ≡ 0) }
+        ensures created { IfOk result (λ journal. Creates D.size D.honest D.seen D.may_leave disk (disk_of journal)
+            (place_of journal)) }
         ensures unbroken { IfOk result (λ journal. has_failed journal ≡ false) }
-        ensures blank { OnOk result ((image : List ℕ) → D.seen disk ≡ Some image → IsBlank image) }
-        ensures long { OnOk result (least_size ≤ D.size disk) }
 
         // why it is refused
         ensures refused { IfErr result (λ e. RefusesCreate (D.size disk) (D.seen disk) e.1) }
         ensures unchanged { IfErr result (λ e. e.1 ≢ CreateNo.Disk → OnlyReads D.size D.honest D.seen D.may_leave
             D.moment D.left_since D.cuts disk e.0) }
-        ensures cause { IfErr result (λ e. e.1 ≡ CreateNo.Disk → Rose (D.faults disk) (D.faults e.0)) }
 
-        // the disk at each moment, and behind the call
+        // the disk at each moment, and after the call
         ensures moments { (image : List ℕ) → Holds D.honest D.seen D.may_leave disk image → MatchResult result
             (λ journal. LeavesOnly D.moment D.left_since disk (disk_of journal) (IsCreated image))
             (λ e. LeavesOnly D.moment D.left_since disk e.0 (IsCreated image)) }
         ensures goes_on { MatchResult result
             (λ journal. GoesOn D.size D.honest D.seen D.cuts disk (disk_of journal))
             (λ e. GoesOn D.size D.honest D.seen D.cuts disk e.0) }
-        ensures later { MatchResult result (λ journal. D.faults disk ≤ D.faults (disk_of journal))
-            (λ e. D.faults disk ≤ D.faults e.0) }
+        ensures cause { MatchResult result (λ journal. D.faults disk ≤ D.faults (disk_of journal))
+            (λ e. Caused (D.faults disk) (D.faults e.0) (e.1 ≡ CreateNo.Disk)) }
     {
         let mut disk = disk;
         match lay_header(&mut disk) {
@@ -84,13 +79,10 @@ impl<D: Disk> Journal<D> {
     /// Opens the journal that stands on a disk, and tells how many records it has. The disk is only read.
     ///
     /// [`OpenNo::Alien`] comes where the disk has fewer than 64 bytes or doesn't begin with the header, and
-    /// [`OpenNo::BadRecord`] at the first body behind an open gate that spells no record, where no shut gate stands
+    /// [`OpenNo::BadRecord`] at the first body after an open gate that spells no record, where no shut gate stands
     /// before it.
     pub fn reopen(disk: D) -> Result<(Journal<D>, u32), (D, OpenNo)>
-        ensures found { IfOk result (λ opened. (image : List ℕ) → D.seen disk ≡ Some image
-            → HasRecords image (used_of opened.0)) }
-        ensures every { IfOk result (λ opened. (image : List ℕ) (records : List Record) → D.seen disk ≡ Some image
-            → StandsFor image records → Reads D.seen (disk_of opened.0) (place_of opened.0) records) }
+        ensures finds { IfOk result (λ opened. Finds D.seen disk (disk_of opened.0) (place_of opened.0)) }
         ensures stands { IfOk result (λ opened. (records : List Record)
             → Settled D.honest D.seen D.may_leave disk records
             → Stands D.honest D.seen D.may_leave (disk_of opened.0) (place_of opened.0) records) }
@@ -102,15 +94,14 @@ impl<D: Disk> Journal<D> {
         ensures never { IfErr result (λ e. (image : List ℕ) (records : List Record) → D.seen disk ≡ Some image
             → StandsFor image records → e.1 ≡ OpenNo.Disk) }
         ensures short { D.size disk < least_size → IsErrAnd result (λ e. e.1 ≡ OpenNo.Alien) }
-        ensures cause { IfErr result (λ e. e.1 ≡ OpenNo.Disk → Rose (D.faults disk) (D.faults e.0)) }
 
         // the disk
         ensures reads { MatchResult result
             (λ opened. OnlyReads D.size D.honest D.seen D.may_leave D.moment D.left_since D.cuts disk
             (disk_of opened.0))
             (λ e. OnlyReads D.size D.honest D.seen D.may_leave D.moment D.left_since D.cuts disk e.0) }
-        ensures later { MatchResult result (λ opened. D.faults disk ≤ D.faults (disk_of opened.0))
-            (λ e. D.faults disk ≤ D.faults e.0) }
+        ensures cause { MatchResult result (λ opened. D.faults disk ≤ D.faults (disk_of opened.0))
+            (λ e. Caused (D.faults disk) (D.faults e.0) (e.1 ≡ OpenNo.Disk)) }
     {
         let mut disk = disk;
         match find_place(&mut disk, &mut OnlyCounted) {
@@ -159,18 +150,8 @@ impl<D: Disk> Journal<D> {
     /// give what the journal was opened on.
     pub fn read_at(&mut self, index: u32) -> Result<Record, ReadNo>
         requires { index < used_of self.old }
-        ensures given { IfOk result (λ entry. (records : List Record)
-            → Reads D.seen (disk_of self.old) (place_of self.old) records → slice_get records index ≡ Some entry) }
-        ensures spelt { IfOk result (λ entry. (image : List ℕ) → D.seen (disk_of self.old) ≡ Some image
-            → Spells entry (body_in (place_of self.old) index image)) }
-        ensures fits { IfOk result Encodable }
-
-        // why it is refused
-        ensures refused { IfErr result (λ why. (image : List ℕ) → D.seen (disk_of self.old) ≡ Some image
-            → RefusesRead index (body_in (place_of self.old) index image) why) }
-        ensures never { IfErr result (λ why. (records : List Record)
-            → Reads D.seen (disk_of self.old) (place_of self.old) records → why ≡ ReadNo.Disk) }
-        ensures cause { result ≡ Err ReadNo.Disk → Rose (D.faults (disk_of self.old)) (D.faults (disk_of self.new)) }
+        ensures gives { IfOk result (GivesRecord D.seen (disk_of self.old) (place_of self.old) index) }
+        ensures refused { IfErr result (RefusesRecord D.seen (disk_of self.old) (place_of self.old) index) }
 
         // the journal stays as it is
         ensures stands { (records : List Record)
@@ -182,21 +163,22 @@ impl<D: Disk> Journal<D> {
         ensures unbroken { has_failed self.new ≡ has_failed self.old }
         ensures reads { OnlyReads D.size D.honest D.seen D.may_leave D.moment D.left_since D.cuts (disk_of self.old)
             (disk_of self.new) }
-        ensures later { D.faults (disk_of self.old) ≤ D.faults (disk_of self.new) }
+        ensures cause { Caused (D.faults (disk_of self.old)) (D.faults (disk_of self.new))
+            (result ≡ Err ReadNo.Disk) }
     {
         read_record(&mut self.disk, self.place, index)
     }
 
-    /// Puts a record behind the others, by four disk calls. At `Ok` every loss of power leaves it.
+    /// Puts a record after the others, by four disk calls. At `Ok` every power cut leaves it.
     ///
     /// No earlier put on this value may have failed. [`JournalNo::Full`] comes where the journal has as many records as
-    /// it takes, and changes nothing. Behind [`JournalNo::Disk`] it is open whether the record stands, and the disk has
+    /// it takes, and changes nothing. After [`JournalNo::Disk`] it is open whether the record stands, and the disk has
     /// to be opened again.
     pub fn put(&mut self, entry: &Record) -> Result<(), JournalNo>
         requires whole { has_failed self.old ≡ false }
         requires encodable { Encodable entry.now }
 
-        // each image that a loss of power at a moment of the call may leave
+        // each image that a power cut at a moment of the call may leave
         ensures moments { (records : List Record)
             → Stands D.honest D.seen D.may_leave (disk_of self.old) (place_of self.old) records
             → LeavesOnly D.moment D.left_since (disk_of self.old) (disk_of self.new) (KeepsOneOf records entry.now) }
@@ -218,19 +200,21 @@ impl<D: Disk> Journal<D> {
             ↔ (used_of self.old ≡ capacity_of (D.size (disk_of self.old))) }
         ensures why { IfErr result (λ why. (why ≡ JournalNo.Disk) ⊎ (why ≡ JournalNo.Full (used_of self.old))) }
         ensures unchanged { result ≡ Err (JournalNo.Full (used_of self.old)) → self.new ≡ self.old }
-        ensures cause { result ≡ Err JournalNo.Disk
-            → Rose (D.faults (disk_of self.old)) (D.faults (disk_of self.new)) }
 
         // the disk
         ensures goes_on { GoesOn D.size D.honest D.seen D.cuts (disk_of self.old) (disk_of self.new) }
-        ensures later { D.faults (disk_of self.old) ≤ D.faults (disk_of self.new) }
+        ensures cause { Caused (D.faults (disk_of self.old)) (D.faults (disk_of self.new))
+            (result ≡ Err JournalNo.Disk) }
     {
         let used = self.place.used;
         if used == self.capacity() {
             return Err(JournalNo::Full { used });
         }
-        match put_slot(&mut self.disk, &mut self.place, entry, GATED_CALLS) {
-            Ok(()) => Ok(()),
+        match put_slot(&mut self.disk, self.place, entry, GATED_CALLS) {
+            Ok(()) => {
+                self.place.used += 1;
+                Ok(())
+            }
             Err(_) => {
                 self.failed = true;
                 Err(JournalNo::Disk)
@@ -245,13 +229,9 @@ impl<D: Disk> Journal<D> {
         requires room { used_of self < capacity_of (D.size (disk_of self)) }
         requires encodable { Encodable entry.now }
 
-        // each image that a loss of power at a moment of the call may leave
-        ensures moments { (records : List Record)
-            → Stands D.honest D.seen D.may_leave (disk_of self) (place_of self) records
-            → LeavesOnly D.moment D.left_since (disk_of self) (disk_back result) (KeepsOneOf records entry.now) }
-        ensures early { calls ≤ 2 → (records : List Record)
-            → Stands D.honest D.seen D.may_leave (disk_of self) (place_of self) records
-            → LeavesOnly D.moment D.left_since (disk_of self) (disk_back result) (λ c. Keeps c records) }
+        // each image that a power cut at a moment of the call may leave
+        ensures moments { Puts D.honest D.seen D.may_leave D.moment D.left_since (place_of self) entry.now calls
+            (disk_of self) (disk_back result) }
 
         // and at the end
         ensures done { OnOk result (calls ≡ 4 → (records : List Record)
@@ -266,21 +246,20 @@ impl<D: Disk> Journal<D> {
 
         // the disk
         ensures goes_on { GoesOn D.size D.honest D.seen D.cuts (disk_of self) (disk_back result) }
-        ensures later { D.faults (disk_of self) ≤ D.faults (disk_back result) }
-        ensures cause { OnErr result (Rose (D.faults (disk_of self)) (D.faults (disk_back result))) }
+        ensures cause { HasCause (D.faults (disk_of self)) (D.faults (disk_back result)) result }
     {
         let Journal {
             mut disk,
-            mut place,
+            place,
             failed: _,
         } = self;
-        match put_slot(&mut disk, &mut place, entry, calls) {
+        match put_slot(&mut disk, place, entry, calls) {
             Ok(()) => Ok(disk),
             Err(failed) => Err((disk, failed)),
         }
     }
 
-    /// Loses the power and gives the disk back, which then keeps one of the images that this might leave, which one by
+    /// Cuts the power and gives the disk back, which then keeps one of the images that this might leave, which one by
     /// `choice`.
     pub fn power_cut(self, choice: u64) -> Result<D, (D, Failed)>
         ensures stands { OnOk result ((records : List Record)
@@ -290,29 +269,21 @@ impl<D: Disk> Journal<D> {
             → LeavesOneOf D.honest D.seen D.may_leave (disk_of self) records entry
             → Settled D.honest D.seen D.may_leave (disk_back result) records
             ⊎ Settled D.honest D.seen D.may_leave (disk_back result) (records ++ entry ∷ [])) }
-        ensures one { OnOk result (D.cut_to (disk_of self) choice (disk_back result)) }
-        ensures cut { OnOk result (D.cuts (disk_back result) ≡ next_count (D.cuts (disk_of self))) }
-        ensures left { OnOk result (D.honest (disk_of self) ≡ true → (s : List ℕ)
-            → D.seen (disk_back result) ≡ Some s → D.may_leave (disk_of self) s) }
-        ensures kept { OnOk result (D.honest (disk_of self) ≡ true → (s : List ℕ)
-            → D.seen (disk_back result) ≡ Some s → Only s (D.may_leave (disk_back result))) }
+        ensures cut { OnOk result (IsCutBy D.honest D.seen D.may_leave D.cut_to choice (disk_of self)
+            (disk_back result)) }
 
         // a cut that fails
         ensures seen { OnErr result (D.honest (disk_of self) ≡ true
             → D.seen (disk_back result) ≡ D.seen (disk_of self)) }
-        ensures not_cut { OnErr result (D.cuts (disk_back result) ≡ D.cuts (disk_of self)) }
-        ensures cuts { D.cuts (disk_of self) ≤ D.cuts (disk_back result) }
-        ensures cause { OnErr result (Rose (D.faults (disk_of self)) (D.faults (disk_back result))) }
 
         // either
+        ensures counted { CountsCut (D.cuts (disk_of self)) (D.cuts (disk_back result)) result }
         ensures images { D.honest (disk_of self) ≡ true
             → IsWithin (D.may_leave (disk_of self)) (D.may_leave (disk_back result)) }
         ensures moments { D.honest (disk_of self) ≡ true → LeavesOnly D.moment D.left_since (disk_of self)
             (disk_back result) (D.may_leave (disk_of self)) }
-        ensures tells { is_some (D.seen (disk_back result)) ≡ is_some (D.seen (disk_of self)) }
-        ensures size { D.size (disk_back result) ≡ D.size (disk_of self) }
-        ensures honest { D.honest (disk_back result) ≡ D.honest (disk_of self) }
-        ensures later { D.faults (disk_of self) ≤ D.faults (disk_back result) }
+        ensures outlasts { Outlasts D.size D.honest D.seen D.cuts (disk_of self) (disk_back result) }
+        ensures cause { HasCause (D.faults (disk_of self)) (D.faults (disk_back result)) result }
     {
         let Journal {
             mut disk,
@@ -325,12 +296,12 @@ impl<D: Disk> Journal<D> {
         }
     }
 
-    /// Loses the power in the midst of a put or in none, opens what is left in place, and tells how many records it
+    /// Cuts the power in the midst of a put or in none, opens what is left in place, and tells how many records it
     /// has. Each is replayed as it is found, so each slot is read once.
     ///
-    /// `put` is the record of the put that is interrupted, behind the first `calls` of its four disk calls, 0 to 4, and
+    /// `put` is the record of the put that is interrupted, after the first `calls` of its four disk calls, 0 to 4, and
     /// `choice` is that of [`Disk::power_cut`]. No earlier put on this value may have failed. [`OpenNo::Disk`] comes
-    /// where a disk call fails, and the others as from [`Journal::reopen`]. Behind any of them nothing more may be put,
+    /// where a disk call fails, and the others as from [`Journal::reopen`]. After any of them nothing more may be put,
     /// and some of the records may have been replayed.
     pub fn restart<R: Replay>(
         &mut self,
@@ -345,7 +316,7 @@ impl<D: Disk> Journal<D> {
         requires encodable { IfSome put.now Encodable }
         requires starts { R.replayed 0 replay.old [] replay.old }
 
-        // each image that a loss of power at a moment of the call may leave
+        // each image that a power cut at a moment of the call may leave
         ensures moments { (records : List Record)
             → Stands D.honest D.seen D.may_leave (disk_of self.old) (place_of self.old) records
             → LeavesOnly D.moment D.left_since (disk_of self.old) (disk_of self.new) (KeepsWith put.now records) }
@@ -355,20 +326,11 @@ impl<D: Disk> Journal<D> {
             → Stands D.honest D.seen D.may_leave (disk_of self.old) (place_of self.old) records
             → (left : List Record) × LeftBy calls put.now records left
             × Stands D.honest D.seen D.may_leave (disk_of self.new) (place_of self.new) left) }
-        ensures found { OnOk result ((image : List ℕ) → D.seen (disk_of self.new) ≡ Some image
-            → HasRecords image (used_of self.new)) }
-        ensures every { OnOk result ((image : List ℕ) (records : List Record)
-            → D.seen (disk_of self.new) ≡ Some image → StandsFor image records
-            → Reads D.seen (disk_of self.new) (place_of self.new) records) }
+        ensures finds { OnOk result (Finds D.seen (disk_of self.new) (disk_of self.new) (place_of self.new)) }
         ensures counted { IfOk result (λ used. used ≡ used_of self.new) }
         ensures unbroken { OnOk result (has_failed self.new ≡ false) }
-
-        // what was replayed then: so many records, and just those that a read gives
-        ensures replayed { OnOk result ((before : List Record) × (used_of self.new ≡ length before)
-            × R.replayed 0 replay.old before replay.new) }
-        ensures told { OnOk result ((records : List Record)
-            → Reads D.seen (disk_of self.new) (place_of self.new) records
-            → R.replayed 0 replay.old (reverse records) replay.new) }
+        ensures replayed { OnOk result (ReplaysAll D.seen R.replayed (disk_of self.new) (place_of self.new) replay.old
+            replay.new) }
 
         // why nothing is opened, and what stands then
         ensures refused { IfErr result (λ why. (image : List ℕ) → D.seen (disk_of self.new) ≡ Some image
@@ -381,17 +343,12 @@ impl<D: Disk> Journal<D> {
             → LeavesWith D.honest D.seen D.may_leave (disk_of self.new) put.now records) }
         ensures still { OnErr result (place_of self.new ≡ place_of self.old) }
         ensures broken { OnErr result (has_failed self.new ≡ true) }
-        ensures cause { result ≡ Err OpenNo.Disk
-            → Rose (D.faults (disk_of self.old)) (D.faults (disk_of self.new)) }
 
         // the disk
         ensures cut { result ≢ Err OpenNo.Disk
             → CutOnce D.size D.honest D.seen D.cuts D.cut_to choice (disk_of self.old) (disk_of self.new) }
-        ensures cuts { D.cuts (disk_of self.old) ≤ D.cuts (disk_of self.new) }
-        ensures tells { is_some (D.seen (disk_of self.new)) ≡ is_some (D.seen (disk_of self.old)) }
-        ensures size { D.size (disk_of self.new) ≡ D.size (disk_of self.old) }
-        ensures honest { D.honest (disk_of self.new) ≡ D.honest (disk_of self.old) }
-        ensures later { D.faults (disk_of self.old) ≤ D.faults (disk_of self.new) }
+        ensures outlasts { Outlasts D.size D.honest D.seen D.cuts (disk_of self.old) (disk_of self.new) }
+        ensures cause { Caused (D.faults (disk_of self.old)) (D.faults (disk_of self.new)) (result ≡ Err OpenNo.Disk) }
     {
         self.failed = true;
         let Ok(()) = lose(&mut self.disk, self.place, put, calls, choice) else {

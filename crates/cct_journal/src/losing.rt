@@ -1,12 +1,12 @@
-//! The power is lost, in the midst of a put or in none.
-ghost use Rattle.std.specs.Prelude.{◌≡◌, ◌<◌, ◌≤◌, List, IfSome, OnErr, OnOk, is_some};
+//! The power is cut, in the midst of a put or in none.
+ghost use Rattle.std.specs.Prelude.{◌<◌, ◌≤◌, List, IfSome, OnOk};
 ghost use Rattle.cct_edge.specs.Faults.{HasCause};
 ghost use Rattle.cct_lines.specs.declared.record.Record.{Record};
 ghost use Rattle.cct_record.specs.Body.{Encodable};
 ghost use Rattle.cct_disk.specs.Disk.{LeavesOnly};
 ghost use Rattle.cct_journal.specs.Image.{capacity_of};
 ghost use Rattle.cct_journal.specs.Losing.{KeepsWith, LeavesBy, LeftBy};
-ghost use Rattle.cct_journal.specs.Stands.{CutOnce, GoesOn, Settled, Stands};
+ghost use Rattle.cct_journal.specs.Stands.{CutOnce, GoesOn, Outlasts, Settled, Stands};
 
 use crate::place::Place;
 use crate::range::GATED_CALLS;
@@ -32,14 +32,13 @@ fn begin_put<D: Disk>(
     ensures goes_on { GoesOn D.size D.honest D.seen D.cuts disk.old disk.new }
     ensures cause { HasCause (D.faults disk.old) (D.faults disk.new) result }
 {
-    let mut place = place;
     match put {
         None => Ok(()),
-        Some(entry) => put_slot(disk, &mut place, entry, calls),
+        Some(entry) => put_slot(disk, place, entry, calls),
     }
 }
 
-/// Loses the power behind the first `calls` of the four disk calls of a put, or in no put.
+/// Cuts the power after the first `calls` of the four disk calls of a put, or in no put.
 pub(crate) fn lose<D: Disk>(
     disk: &mut D,
     place: Place,
@@ -56,10 +55,7 @@ pub(crate) fn lose<D: Disk>(
         → (left : List Record) × LeftBy calls put.now records left
         × Settled D.honest D.seen D.may_leave disk.new left) }
     ensures cut { OnOk result (CutOnce D.size D.honest D.seen D.cuts D.cut_to choice disk.old disk.new) }
-    ensures cuts { D.cuts disk.old ≤ D.cuts disk.new }
-    ensures size { D.size disk.new ≡ D.size disk.old }
-    ensures honest { D.honest disk.new ≡ D.honest disk.old }
-    ensures tells { is_some (D.seen disk.new) ≡ is_some (D.seen disk.old) }
+    ensures outlasts { Outlasts D.size D.honest D.seen D.cuts disk.old disk.new }
     ensures cause { HasCause (D.faults disk.old) (D.faults disk.new) result }
 {
     begin_put(disk, place, put, calls)?;

@@ -1,4 +1,4 @@
--- What a piece asks of a device: its first byte tells whom it is for, and its fourth is its header.
+-- What bytes ask of a device: the first tells whom they are for, and the fourth is the header.
 use Rattle.std.proofs.Common.{◌≡◌, ◌≢◌, ℕ, ◌==◌, cond, true, false, Bool, List, [], ◌∷◌, slice_index, refl, ap, sym, ◌∙◌, subst, Option, Some, None, option_and_then, eq-eqb}
 use Rattle.std.proofs.lemmas.Bool.{ne_eqb}
 use Rattle.cct_model.specs.terms.wire.CheckKind.{CheckKind}
@@ -23,7 +23,7 @@ passed : (fits : Bool) (x m : Message) → cond fits (Some x) None ≡ Some m �
 passed true x m found = cc
 passed false x m found = absurd cc
 
--- the address and the header of a message stand at these places of its piece
+-- the address and the header of a message stand at these places of its bytes
 abbrev Placed : List ℕ → Message → Type 0
 Placed piece m = (m.to ≡ slice_index piece 0) × (m.header ≡ slice_index piece 3)
 

@@ -149,7 +149,7 @@ came_kept d P since past lines _ _ _ _ kept range (jams paying test) holds = kep
 came_kept d P since past lines _ _ _ _ kept range (jams_none paying test) holds = kept.jams since past lines paying holds
 came_kept d P since past lines _ _ _ _ kept range is_reset holds = kept.resets since past lines holds
 
--- an entry of its job, and the end behind it
+-- an entry of its job, and the end after it
 honest_first : (addr : ℕ) (e : Entry) (end : Option End) (past : List Entry) →
     HonestPast (with_end addr e end ++ past) →
     IsHonestAt past e
@@ -205,7 +205,7 @@ kept_there capacity setup d P past _ _ sound own ids kept range ranged (made_put
     (kept.puts (since_epoch d past) (met d past) (lines_of d past) c since r (works_at d past c since at_work ranged)
     is_row holds))
 
--- a loss of power
+-- a power cut
 since_kept : (d : DeviceSetup) (past : List Entry) (r : Record) → owner past r ≢ d.addr →
     since_epoch d (keeping_restart past r ++ past) ≡ since_epoch d past
 since_kept d past r away = since_elsewhere d past r (since_epoch d past) away

@@ -1,4 +1,4 @@
--- What becomes of a request over an honest wire, and which commands suit a device, as the facts that steps keep need it.
+-- Jobs at a device: which commands begin one there, and what becomes of what it asks over an honest wire.
 use Rattle.std.specs.Prelude.{◌≡◌, ◌&&◌, not, Bool, true, false, List, ◌∷◌, Option, Some, None, ⊤}
 use Rattle.std.specs.List.{list_any}
 use Rattle.cct_model.specs.terms.device.DeviceBody.{DeviceBody}
@@ -21,9 +21,8 @@ use Rattle.cct_model.specs.Job.{works, job, address_of}
 use Rattle.cct_model.specs.Refusal.{Test, at_a_device, at_an_acceptor, at_a_hopper, with_no_job, tests_of, start_refusal, running_refusal}
 use Rattle.cct_model.specs.Script.{IsCommand}
 
--- What becomes of a request to a device over an honest wire, as what the device heard and what the host got: the
--- devices heard a damaged piece; the host heard one, or nothing, or that the device refuses; or the host got the
--- device's reply.
+-- What becomes of a request to a device over an honest wire, as what the device heard and what the host got. The devices
+-- heard damaged bytes; or the host heard such, or nothing, or that the device refuses; or the host got the device's reply.
 pub data Fate (d : DeviceSetup) (past : List Met) (q : Request) : Option Request → Option Reply → Type 0 where
   unheard : Fate d past q None None
   silenced : Fate d past q (Some q) None
@@ -35,7 +34,7 @@ IsRefused d past (Dispense serial count) =
     IsHopper d.body × (taken_of d.serial past (Some (Dispense serial count)) ≡ None)
 IsRefused d past q = ⊥
 
--- A piece that no job at a device sends it asks nothing of it, or is a poll of a scan, which asks all devices or this
+-- What no job at a device sends it asks nothing of it, or is a poll of a scan, which asks all devices or this
 -- one.
 abbrev pub IsForOthers : Option Request → Type 0
 IsForOthers None = ⊤

@@ -23,8 +23,8 @@ use Rattle.cct_laws.specs.DeviceJobs.{Fate, IsForOthers, suits, with_ended, IsTa
 use Rattle.cct_laws.specs.KeptHopper.{IsOwed}
 use Rattle.cct_laws.specs.SinceEpoch.{since_record}
 
--- A fact of what a device met since its epoch began, of all that it met, and of its lines, each newest first, holds before
--- anything came, and is kept by each thing that can come to it over an honest wire.
+-- A fact of what a device met since its epoch began, of all that it met, and of its lines, each newest first. It holds
+-- before anything came, and is kept by each thing that can come to it over an honest wire.
 pub record IsKeptBoth (d : DeviceSetup) (P : List Met → List Met → List Line → Type 0) : Type 0 where
   pub starts : P [] [] []
   pub accepts : (since past : List Met) (lines : List Line) (place : ℕ) → IsAcceptor d.body → 1 ≤ place →

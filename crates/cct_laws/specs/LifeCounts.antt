@@ -1,4 +1,4 @@
--- That life counts never fail to fit: no such record and no such end.
+-- That the life counts of hoppers fit their orders: no record and no end says that they don't.
 use Rattle.std.specs.Prelude.{List, ⊤}
 use Rattle.cct_model.specs.lines.record.Record.{Record}
 use Rattle.cct_model.specs.lines.record.Record.TheVariants as record_of

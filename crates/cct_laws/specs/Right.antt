@@ -12,9 +12,9 @@ use Rattle.cct_model.specs.Transcript.{onto}
 use Rattle.cct_laws.specs.Law.{IsOf, lines_in}
 
 -- The money of a transcript is right. No two records use one id, for an order that is opened or for a sale. Where the
--- wire was honest, the posts of each device are its accepted coins in order, none twice; at each device that kept the
--- pace, none is lost in silence; and at each hopper, each order is paid at most once, and closed with exactly the coins
--- that fell.
+-- wire was honest, the posts of each device are its accepted coins in order, none twice. At each device that kept the
+-- pace, none is lost in silence. At each hopper, each order is paid at most once, and closed with exactly the coins that
+-- fell.
 pub record IsRight (setup : Setup) (transcript : List Entry) : Type 0 where
   pub fresh : AreFresh (records (onto [] transcript))
   pub in_order : (d : DeviceSetup) → IsOf setup d → Honest transcript → InOrder (lines_in d transcript)

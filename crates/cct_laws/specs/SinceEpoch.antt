@@ -40,7 +40,7 @@ since_epoch d (e ∷ past) = meets d past e ++ since_epoch d past
 abbrev pub since_epoch_in : DeviceSetup → List Entry → List Met
 since_epoch_in d transcript = since_epoch d (onto [] transcript)
 
--- The inhibit mask that stands after a piece was heard: the one that the piece sets, and none after a reset.
+-- The inhibit mask that stands after bytes were heard: the one that they set, and none after a reset.
 abbrev pub mask_set_by : Option Request → Option ℕ → Option ℕ
 mask_set_by (Some (SetMask mask)) before = Some mask
 mask_set_by asked before = unless_reset asked None before
@@ -61,7 +61,7 @@ abbrev pub IsMaskedBy : ℕ → List Met → List Met → Type 0
 IsMaskedBy mask since past =
     ((mask_set_in since ≡ Some mask) × (mask_of past ≡ mask)) ⊎ ((mask_set_in since ≡ None) × (mask_of past ≡ 0))
 
--- Whether a device was reset, by itself or by a piece that it heard.
+-- Whether a device was reset, by itself or by what it heard.
 abbrev pub was_reset : List Met → Bool
 was_reset [] = false
 was_reset (coin place ∷ past) = was_reset past
@@ -71,7 +71,7 @@ was_reset (jam ∷ past) = was_reset past
 was_reset (reset ∷ past) = true
 was_reset (heard asked ∷ past) = unless_reset asked true (was_reset past)
 
--- Whether a piece sets an inhibit mask, or one before it did.
+-- Whether a request sets an inhibit mask, or one before it did.
 abbrev pub masked_by : Option Request → Bool → Bool
 masked_by (Some (SetMask mask)) before = true
 masked_by asked before = before
@@ -105,7 +105,7 @@ HasCauseAt d past e = ⊤
 abbrev pub HaveCauses : DeviceSetup → List Entry → Type 0
 HaveCauses d past = EachEntry (HasCauseAt d) past
 
--- A fact of what an acceptor met since its epoch began, of all that it met, and of its lines, each newest first, holds
+-- A fact of what an acceptor met since its epoch began, of all that it met, and of its lines, each newest first. It holds
 -- before anything came, and is kept by each thing that can come over an honest wire.
 pub record IsKeptSince (d : DeviceSetup) (P : List Met → List Met → List Line → Type 0) : Type 0 where
   pub starts : P [] [] []

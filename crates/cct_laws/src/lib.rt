@@ -68,7 +68,7 @@ ghost use Rattle.cct_laws.specs.Coins.{all_fallen, all_paid};
 ghost use Rattle.cct_laws.specs.LifeCounts.{FitsLife};
 ghost use Rattle.cct_laws.specs.PaidOut.{is_paid_out};
 ghost use Rattle.cct_laws.specs.Recorded.{HasNoJob, IsRestart, open_orders, totals_in};
-ghost use Rattle.cct_laws.specs.Ending.{nexts_at, EndsRound, IsUndisturbed, nexts_needed, is_payment, EndsAs, IsPaidOut};
+ghost use Rattle.cct_laws.specs.Ending.{nexts_at, EndsRound, IsUndisturbed, nexts_needed, is_payment, EndsAs, AlwaysFindsNoneLeft};
 ghost use Rattle.cct_laws.specs.Faults.{FailsByFault, EchoFailsByFault, EndsByFaults, is_dispense, FailsByFaultBut};
 ghost use Rattle.cct_model.specs.Honest.{Honest, IsHonestFault};
 ghost use Rattle.cct_laws.specs.Law.{AreOfToday, AreRising, Begins, EachEntry, HasBytes, IsAnswered, IsOf, IsUnanswered, NamesNoPut, lines_in};
@@ -77,11 +77,11 @@ ghost use Rattle.cct_laws.specs.Scope.{EachAcceptor, EachHopper, EachTranscript,
 ghost use Rattle.cct_laws.specs.SinceEpoch.{since_epoch_in, mask_set_in, IsMaskedBy, MayBreak, HaveCauses};
 ghost use Rattle.cct_laws.specs.Tries.{TriesAt, ScanTriesAt, HasFewTries, failed_in};
 
-/// Where no fault is set for the next exchange, a job at a device of a sound setup, begun by a command that suits the
-/// device's kind, gets an answer to each request that it sends: the device replies, and the host gets just that reply,
-/// in the form that the request wants. One request alone may be refused in the place of it: a dispense that the hopper
-/// doesn't take; the host then gets nothing. An acceptor refuses nothing. The other devices of the setup may be of any
-/// kind, and of either check. Nothing is said of the devices that a scan polls.
+/// Where no fault is set for the next exchange, a job at a device of a sound setup gets an answer to each request that it
+/// sends, where its command suits the device. The device replies, and the host gets just that reply, in the form that
+/// the request wants. Only a dispense that the hopper doesn't take may be refused; the host then gets nothing. An
+/// acceptor refuses nothing. The other devices of the setup may be of any kind, and of either check. Nothing is said of
+/// the devices that a scan polls.
 pub fn an_undisturbed_exchange_is_answered()
     ensures { (setup : Setup) (past : List Entry) (d : DeviceSetup) (command : Command) (rows : ℕ) (judged : Judged)
         (payment : Payment) (q : Request)
@@ -89,8 +89,8 @@ pub fn an_undisturbed_exchange_is_answered()
         → IsAnswered setup d past q ⊎ (IsRefused d (met d past) q × IsUnanswered setup d past q) }
 {}
 
-/// The test of an honest fault says exactly what honest damage is: the bytes that the devices hear are no message; and
-/// where no address poll is sent, the bytes that the host hears are none, nor are those after the host's own echo.
+/// The test of an honest fault says exactly what honest damage is. The bytes that the devices hear are no message. Where
+/// no address poll is sent, the bytes that the host hears are none, nor are those after the host's own echo.
 pub fn an_honest_fault_does_honest_damage()
     ensures means { (f : WireFault) (sent : List ℕ) → IsHonestFault f sent → DamagesHonestly f sent }
     ensures tested { (f : WireFault) (sent : List ℕ) → DamagesHonestly f sent → IsHonestFault f sent }
@@ -107,8 +107,8 @@ pub fn an_honest_exchange_gets_the_reply_or_nothing()
         → IsUnanswered setup d past q ⊎ IsAnswered setup d past q }
 {}
 
-/// A round that was just taken at an acceptor ends within three `next` at its address where no fault is set for one of
-/// its own exchanges, and the power isn't cut before: nothing came, a reading is put, or a break. Its past is legal.
+/// A round that was just taken at an acceptor ends within three `next` at its address, where no fault is set for one of
+/// its own exchanges and the power isn't cut before. Nothing came, a reading is put, or a break. Its past is legal.
 /// Whatever else comes between them doesn't hinder it: coins, resets, commands, the jobs of other devices, and faults
 /// set for the exchanges of those, or of later jobs. It doesn't say what the round posts.
 pub fn a_round_without_a_fault_ends()
@@ -121,8 +121,8 @@ pub fn a_round_without_a_fault_ends()
 {}
 
 /// Every job at a device that was just taken ends in the same way, within as many `next` at its address as it has rows,
-/// and for a payment one more for each halt: a start within 4, a stop within 5, a payment within 7, a settlement within
-/// 3, an identification within one for each of its questions, the setting of a path within 2. A payment and a
+/// and for a payment one more for each halt. A start ends within 4, a stop within 5, a payment within 7, a settlement
+/// within 3, an identification within one for each of its questions, the setting of a path within 2. A payment and a
 /// settlement do so where no coin is left to pay whenever the hopper is asked how its payout goes. The end is one of a
 /// job that got its answers, never one for want of an answer. It doesn't say which coins were paid, nor that coins
 /// fall.
@@ -132,29 +132,30 @@ pub fn a_job_without_a_fault_ends()
         → IsCommandFor setup d command → LegalFrom capacity setup [] before past
         → job (lines_of d past) ≡ works command [] → nexts_needed d command steps ≤ nexts_at d.addr steps
         → LegalFrom capacity setup past steps end → IsUndisturbed d.addr past end
-        → (is_payment command ≡ true → IsPaidOut d past end)
+        → (is_payment command ≡ true → AlwaysFindsNoneLeft d past end)
         → EndsAs command d.addr past end }
 {}
 
-/// Posts are accepted coins in their order, none twice: in every legal transcript over an honest wire, for every
-/// acceptor of the setup, each record's posts are the newest coins of its part, which begins where the part of the
-/// record or the clean end before it ended. It holds whatever is asked besides, however exchanges fail, and whenever a
-/// device is reset. It doesn't say that a coin is ever posted: that takes a round that ends.
+/// Posts are accepted coins in their order, none twice, for every acceptor of the setup, in every legal transcript over
+/// an honest wire. Each record's posts are the newest coins of its part, which begins where the part of the record or
+/// the clean end before it ended. It holds whatever is asked besides, however exchanges fail, and whenever a device is
+/// reset. It doesn't say that a coin is ever posted: that takes a round that ends.
 pub fn posts_in_order()
     ensures { EachAcceptor (λ d transcript. InOrder (lines_in d transcript)) }
 {}
 
-/// No coin that came before a completed reading is lost in silence in such a transcript, where fewer than 255 objects,
-/// coins or not, come between the reading of each record that begins an epoch or is a reading, and that of each record
-/// or clean end up to the next record: a reading reports as lost at least the coins of its part that it doesn't post,
-/// and a clean end and the end of an epoch have no coin in theirs. It doesn't say which coins were lost, nor that as
-/// many coins were lost as are reported. After a break it says nothing of the coins of the part that it doesn't post.
+/// No coin that came before a completed reading is lost in silence in such a transcript. A reading reports as lost at
+/// least the coins of its part that it doesn't post, and a clean end and the end of an epoch have no coin in theirs. The
+/// premise is the pace: fewer than 255 objects, coins or not, come between the reading of each record that begins an
+/// epoch or is a reading, and that of each record or clean end up to the next record. It doesn't say which coins were
+/// lost, nor that as many coins were lost as are reported. After a break it says nothing of the coins of the part that
+/// it doesn't post.
 pub fn none_lost_in_silence()
     ensures { EachAcceptor (λ d transcript. Pace (lines_in d transcript) → Covers (lines_in d transcript)) }
 {}
 
-/// A job at a device ends for want of an answer exactly after the third failed try in succession of one of its rows: in
-/// every legal transcript that end stands after three failed tries, any other line of the address after fewer, and a
+/// A job at a device ends for want of an answer exactly after the third failed try in succession of one of its rows. In
+/// every legal transcript that end stands after three failed tries, and any other line of the address after fewer; a
 /// job that goes on has fewer than three. The row that stops a payout after a halt counts its own tries. It holds
 /// whatever the wire does, at devices of either kind, and over power cuts, which free every job.
 pub fn third_failed_try_ends_a_job()
@@ -169,7 +170,7 @@ pub fn third_failed_try_ends_a_job()
 {}
 
 /// A scan, which is a job at no device, ends for want of an answer exactly after the third failed try in succession of
-/// an address poll under one of the checks; a try of it fails where the host's own echo is damaged. Any other line of
+/// an address poll under one of the checks. A try of it fails where the host's own echo is damaged. Any other line of
 /// address 0, a power cut too, stands after fewer.
 pub fn third_failed_try_ends_a_scan()
     ensures exact { (capacity : ℕ) (setup : Setup) (steps : List Step) (transcript : List Entry)
@@ -180,9 +181,9 @@ pub fn third_failed_try_ends_a_scan()
         → HasFewTries (job (scan_lines (onto [] transcript))) }
 {}
 
-/// An exchange that fails had a fault: where an acceptor's job didn't get the wanted reply, where a job at a device of
-/// either kind didn't get it to anything but a dispense, which a hopper may refuse, and where the host didn't hear its
-/// own echo, a fault was set for that exchange. Nothing is asked of the wire, nor of the damage that the fault does.
+/// An exchange that fails had a fault, which was set for it. It fails where an acceptor's job didn't get the wanted
+/// reply; where a job at a device of either kind didn't get it to anything but a dispense, which a hopper may refuse;
+/// and where the host didn't hear its own echo. Nothing is asked of the wire, nor of the damage that the fault does.
 pub fn a_failed_exchange_had_a_fault()
     ensures replies { (capacity : ℕ) (setup : Setup) (steps : List Step) (transcript : List Entry)
         (d : DeviceSetup)
@@ -196,7 +197,7 @@ pub fn a_failed_exchange_had_a_fault()
         → Legal capacity setup steps transcript → EachEntry EchoFailsByFault (onto [] transcript) }
 {}
 
-/// A job ends for want of an answer only by faults: where a job at a device of either kind or a scan ends so, a fault
+/// A job ends for want of an answer only by faults. Where a job at a device of either kind or a scan ends so, a fault
 /// was set for each of the last three exchanges that it made. So no job ends so whose exchanges have no fault. It
 /// doesn't say that three faults end a job.
 pub fn a_job_given_up_had_three_faults()
@@ -209,8 +210,8 @@ pub fn a_job_given_up_had_three_faults()
 {}
 
 /// Whatever bytes a script has, its setup is sound, and its steps and every front of them are in range, say bytes and are
-/// played: the laws above hold of them, also where a line of the script is refused. The devices of the setup may be of
-/// either kind.
+/// played. So the laws above hold of them, also where a line of the script is refused. The devices of the setup may be
+/// of either kind.
 pub fn scripts_are_in_range()
     ensures setup { (bytes : List ℕ) → IsSoundSetup (script bytes).setup }
     ensures steps { (bytes : List ℕ) → AreOfToday (script bytes).steps }
@@ -218,10 +219,10 @@ pub fn scripts_are_in_range()
         → AreOfToday played }
 {}
 
-/// A script that was played up to any of its steps, over an honest wire, posts in order at each device of its setup,
-/// where a hopper posts nothing; at each device that keeps the pace it loses no coin in silence; and at each hopper it
-/// pays each order at most once, and closes it with exactly the coins that fell. Whatever the wire does, no id stands in
-/// two of its records.
+/// The money of a script that was played up to any of its steps is right. Over an honest wire each device of its setup
+/// posts in order, where a hopper posts nothing; each that keeps the pace loses no coin in silence; and each hopper pays
+/// each order at most once, and closes it with exactly the coins that fell. Whatever the wire does, no id stands in two
+/// of its records.
 pub fn played_scripts_keep_the_laws()
     ensures { (capacity : ℕ) (bytes : List ℕ) (played rest : List Step) (transcript : List Entry)
         → (script bytes).steps ≡ played ++ rest → Legal capacity (script bytes).setup played transcript
@@ -284,7 +285,7 @@ pub fn a_running_epoch_sets_its_mask_or_none()
 {}
 
 /// While an epoch runs at an acceptor that didn't hear the epoch's header 231 since the Epoch record, or was reset
-/// after that, none of its events since its last reset is a credit, and so no pair of its credit buffer is one.
+/// after that, none of its events since its last reset is a credit. So no pair of its credit buffer is one.
 pub fn after_a_reset_no_event_is_a_credit()
     ensures events { EachAcceptor (λ d transcript. (mask counter : ℕ)
         → epoch (lines_in d transcript) ≡ Running mask counter → mask_set_in (since_epoch_in d transcript) ≡ None
@@ -294,9 +295,9 @@ pub fn after_a_reset_no_event_is_a_credit()
         → coins_among (credits_of (met d (onto [] transcript))).pairs ≡ []) }
 {}
 
-/// An epoch breaks only with a cause: a job at an acceptor has a Broken record to put only where, since the Epoch
-/// record, the acceptor was reset, or heard no header 231; and the same holds of each Broken record in the transcript,
-/// at the moment when it was put. It doesn't say that such an epoch breaks: that takes a round or a stop that reads the
+/// An epoch breaks only with a cause. A job at an acceptor has a Broken record to put only where, since the Epoch
+/// record, the acceptor was reset, or heard no header 231. The same holds of each Broken record in the transcript, at
+/// the moment when it was put. It doesn't say that such an epoch breaks: that takes a round or a stop that reads the
 /// mask.
 pub fn a_break_has_its_cause()
     ensures waiting { EachAcceptor (λ d transcript. (command : Command) (since : List Line) (addr seen counter : ℕ)
@@ -308,17 +309,17 @@ pub fn a_break_has_its_cause()
     ensures put { EachAcceptor (λ d transcript. HaveCauses d (onto [] transcript)) }
 {}
 
-/// Each order is paid at most once, and closed with exactly the coins that fell: in every legal transcript over an
-/// honest wire, for every hopper of the setup, a dispense is taken only where an order is open that none was taken for,
-/// for just its coins; a coin falls only for an open order, no more of them than it has; and a closed order's record
-/// says how many fell and how many of its count did not. Whatever replies are lost, and whenever the hopper jams, is
-/// halted or is reset, or the power is cut. It doesn't say that an order is ever completed, or closed.
+/// Each order is paid at most once, and closed with exactly the coins that fell, for every hopper of the setup, in every
+/// legal transcript over an honest wire. A dispense is taken only where an order is open that none was taken for, and
+/// for just its coins. A coin falls only for an open order, no more of them than it has. A closed order's record says
+/// how many fell and how many of its count did not. Whatever replies are lost, and whenever the hopper jams, is halted
+/// or is reset, or the power is cut. It doesn't say that an order is ever completed, or closed.
 pub fn each_order_is_paid_once()
     ensures { EachHopper (λ d transcript. Paid (lines_in d transcript)) }
 {}
 
 /// All coins that ever fell out of a hopper are those that the records of its closed orders say were paid, and those
-/// that fell for the order that is open; so where none is open, they are what was recorded. It follows from
+/// that fell for the order that is open. So where none is open, they are what was recorded. It follows from
 /// `each_order_is_paid_once` alone.
 pub fn coins_that_fell_are_those_paid()
     ensures all { (lines : List Line) → Paid lines → all_fallen lines ≡ all_paid lines + fallen lines }
@@ -338,10 +339,11 @@ pub fn an_unowed_hopper_has_nothing_to_pay()
         → remaining d.serial (met d (onto [] transcript)) ≡ 0) }
 {}
 
-/// A hopper that has shown that nothing is left to pay has nothing left to pay until the next order is opened: where an
-/// answered header 166 had no coin remaining and no order was opened since, no coin falls out of the hopper. It holds
-/// in every legal transcript over an honest wire, between jobs too: after a payment or a settlement that ended for want
-/// of an answer, after one that closed its order, and over power cuts. It doesn't say that a hopper ever shows it.
+/// A hopper that has shown that nothing is left to pay has nothing left to pay until the next order is opened. It has
+/// shown it by an answered header 166 with no coin remaining; while no order is opened after that, no coin falls out of
+/// it. It holds in every legal transcript over an honest wire, between jobs too: after a payment or a settlement that
+/// ended for want of an answer, after one that closed its order, and over power cuts. It doesn't say that a hopper ever
+/// shows it.
 pub fn a_hopper_shown_paid_out_stays_so()
     ensures { EachHopper (λ d transcript. is_paid_out (lines_in d transcript) ≡ true
         → remaining d.serial (met d (onto [] transcript)) ≡ 0) }
@@ -387,7 +389,7 @@ pub fn records_tell_what_a_host_needs()
 {}
 
 /// Each record follows those before it, and so does one that a running job is about to put, in every legal transcript,
-/// whatever the wire does and whenever the power is cut: so a host that is built from them, and its ledger, refuses
+/// whatever the wire does and whenever the power is cut. So a host that is built from them, and its ledger, refuses
 /// none. It doesn't say that a hopper paid what a record says.
 pub fn each_record_follows()
     ensures all { EachTranscript (λ capacity setup transcript. all_follow setup (records (onto [] transcript)) ≡ true) }
@@ -397,7 +399,7 @@ pub fn each_record_follows()
 {}
 
 /// What a running job is about to put, the ledger takes beside what the other jobs reserve, in every legal transcript,
-/// whatever the wire does: a payment reserves the coins of the order that it opens until it puts that, and a sale its
+/// whatever the wire does. A payment reserves the coins of the order that it opens until it puts that, and a sale its
 /// price, so neither is refused for want of money. It doesn't say that a job ever comes to its put.
 pub fn a_ledger_takes_each_put()
     ensures { EachTranscript (λ capacity setup transcript. (addr : ℕ) (r : Record)
@@ -407,9 +409,9 @@ pub fn a_ledger_takes_each_put()
         (reserved_at_work setup (onto [] transcript) - freed_by setup r) r ≡ true)) }
 {}
 
-/// Money is conserved, in every legal transcript, whatever the wire does: what is available, reserved, paid and sold is
-/// together the value of all coins posted, at every moment and in each balance that is told; and what is reserved, paid
-/// and sold is never more than that.
+/// Money is conserved, in every legal transcript, whatever the wire does. What is available, reserved, paid and sold is
+/// together the value of all coins posted, at every moment and in each balance that is told. What is reserved, paid and
+/// sold is never more than that.
 pub fn money_is_conserved()
     ensures moments { EachTranscript (λ capacity setup transcript.
         IsConserved setup (onto [] transcript) (totals setup (onto [] transcript))) }
@@ -418,8 +420,8 @@ pub fn money_is_conserved()
         spoken_for setup (onto [] transcript) ≤ posted_in setup (records (onto [] transcript))) }
 {}
 
-/// A put never meets a full journal, in every legal transcript, whatever the wire does: its records and those that are
-/// held for running jobs and open orders find room, so one that a job is about to put does, and no settlement is
+/// A put never meets a full journal, in every legal transcript, whatever the wire does. Its records and those that are
+/// held for running jobs and open orders find room. So one that a job is about to put does, and no settlement is
 /// refused for want of it.
 pub fn a_put_finds_room()
     ensures held { EachTranscript (λ capacity setup transcript.

@@ -12,7 +12,7 @@ use Rattle.cct_disk.specs.declared.disk.Disk.{Ghosts}
 use Rattle.cct_disk.specs.Disk.{IsTrusted}
 use Rattle.cct_journal.specs.Stands.{Outlasts}
 use Rattle.cct_journal.proofs.Calls.{settled_leaves, stands_settled}
-use Rattle.cct_host.specs.Book.{LeavesBook}
+use Rattle.cct_host.specs.OnDisk.{LeavesRecords}
 use Rattle.cct_host.specs.declared.refusal.CrashNo.{CrashNo}
 use Rattle.cct_world.specs.declared.world.World.{World}
 use Rattle.cct_world.specs.Restarts.{Survived, no_step}
@@ -35,10 +35,10 @@ module _ {D : Type 0} {g : Ghosts D} where
   -- the disk of a world that stands for a past has its records
   world_leaves : (world : World D g) (left : D) (past : List Entry) → left ≡ disk_of world → StandsFor world past
       → IsTrusted g.honest g.seen (disk_of world)
-      → LeavesBook (setup_of world) g.honest g.seen g.may_leave left None (reverse (records past))
+      → LeavesRecords (setup_of world) g.honest g.seen g.may_leave left None (reverse (records past))
   world_leaves world left past is stands trusted =
-      subst (λ disk. LeavesBook (setup_of world) g.honest g.seen g.may_leave disk None (reverse (records past))) (sym is)
-      (settled_leaves (stands_settled (stands.host.book trusted)))
+      subst (λ disk. LeavesRecords (setup_of world) g.honest g.seen g.may_leave disk None (reverse (records past))) (sym is)
+      (settled_leaves (stands_settled (stands.host.on_disk trusted)))
 
 module _ {D : Type 0} {g : Ghosts D} (world : World D g) (load : Load) (left : D) (Written : List Entry → Type 0)
     (Breaks : List Entry → List Entry → Type 0) where
@@ -111,7 +111,7 @@ module _ {D : Type 0} {g : Ghosts D} (world : World D g) (load : Load) (left : D
     }
 
     leaves_all : HasTrusted world
-        → LeavesBook load_setup g.honest g.seen g.may_leave left None (reverse (records past))
+        → LeavesRecords load_setup g.honest g.seen g.may_leave left None (reverse (records past))
     leaves_all trusted =
         world_leaves next left past is (lines.holds.so.stands (inl trusted))
         (trusted_on g.size g.honest g.seen g.cuts (disk_of world) (disk_of next) lasts trusted)

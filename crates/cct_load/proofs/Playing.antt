@@ -11,7 +11,7 @@ use Rattle.cct_disk.specs.declared.disk.Disk.{Ghosts}
 use Rattle.cct_disk.specs.Disk.{IsTrusted}
 use Rattle.cct_journal.specs.Image.{capacity_of}
 use Rattle.cct_journal.specs.Stands.{Outlasts}
-use Rattle.cct_host.specs.Book.{LeavesBook}
+use Rattle.cct_host.specs.OnDisk.{LeavesRecords}
 use Rattle.cct_laws.specs.Restart.{due_in}
 use Rattle.cct_laws.proofs.Onto.{legal_more, transcript_on}
 use Rattle.cct_host.specs.declared.refusal.CrashNo.{CrashNo}
@@ -174,14 +174,14 @@ module _ {D : Type 0} {g : Ghosts D} (world : World D g) where
 
     disk_leaves : (s : Step) → HasTrusted world → IsTrusted g.honest g.seen (disk_of now)
         → FailsIn now.machine.value left s
-        → LeavesBook load_setup g.honest g.seen g.may_leave left (due_to load_setup past s) (reverse (records past))
+        → LeavesRecords load_setup g.honest g.seen g.may_leave left (due_to load_setup past s) (reverse (records past))
     disk_leaves (step.Next addr) given trusted breaks =
         let due = breaks past (holds.stands (inl given)) in
         let is : due_at load_setup past addr ≡ Some due.0 =
         subst (λ setup. due_at setup past addr ≡ Some due.0) same due.1.0 in
-        subst (λ r. LeavesBook load_setup g.honest g.seen g.may_leave left r (reverse (records past))) (sym is) (due.1.1 trusted)
+        subst (λ r. LeavesRecords load_setup g.honest g.seen g.may_leave left r (reverse (records past))) (sym is) (due.1.1 trusted)
     disk_leaves (step.Crash at choice) given trusted breaks =
-        subst (λ setup. LeavesBook setup g.honest g.seen g.may_leave left (due_in setup past at) (reverse (records past)))
+        subst (λ setup. LeavesRecords setup g.honest g.seen g.may_leave left (due_in setup past at) (reverse (records past)))
         same (breaks past (holds.stands (inl given)) trusted)
     disk_leaves s given trusted breaks = absurd breaks
 

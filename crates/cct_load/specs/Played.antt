@@ -10,7 +10,7 @@ use Rattle.cct_model.specs.Records.{records}
 use Rattle.cct_model.specs.Transcript.{onto}
 use Rattle.cct_disk.specs.declared.disk.Disk.{Ghosts}
 use Rattle.cct_disk.specs.Disk.{IsTrusted}
-use Rattle.cct_host.specs.Book.{LeavesBook}
+use Rattle.cct_host.specs.OnDisk.{LeavesRecords}
 use Rattle.cct_host.specs.declared.refusal.CrashNo.{CrashNo}
 use Rattle.cct_host.specs.declared.refusal.CrashNo.TheVariants as crash_no
 use Rattle.cct_world.specs.declared.world.World.{World}
@@ -75,7 +75,7 @@ module _ {D : Type 0} {g : Ghosts D} (world : World D g) where
   -- disk failed never comes on a trusted disk.
   abbrev pub LeftAt : D → CrashNo → List Entry → Step → Type 0
   LeftAt left crash_no.Disk past s =
-      LeavesBook load_setup g.honest g.seen g.may_leave left (due_to load_setup past s) (reverse (records past))
+      LeavesRecords load_setup g.honest g.seen g.may_leave left (due_to load_setup past s) (reverse (records past))
   LeftAt left why past s = ⊥
 
   -- The step behind a past wasn't played, for this reason, and this disk is left.
@@ -114,7 +114,7 @@ module _ {D : Type 0} {g : Ghosts D} (world : World D g) where
   -- What a loss of power may leave on this disk, by how a load ended.
   abbrev pub Book : D → LoadEnd → List Step → List Entry → Type 0
   Book left (load_end.Unplayed why) unplayed past = First (LeftAt left why past) unplayed
-  Book left how unplayed past = LeavesBook load_setup g.honest g.seen g.may_leave left None (reverse (records past))
+  Book left how unplayed past = LeavesRecords load_setup g.honest g.seen g.may_leave left None (reverse (records past))
 
   -- A load was played on the world, ended so, and left this disk: the steps that were played and those that weren't;
   -- the transcript, whose entries are those of the steps, where its past may be relied on, and in any case up to the

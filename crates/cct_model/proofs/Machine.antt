@@ -79,10 +79,20 @@ abbrev pub Plays : ℕ → Setup → List Entry → List Row → Type 0
 Plays capacity the past [] = ⊤
 Plays capacity the past (row ∷ rows) = Entries capacity the past row.play row.news × Plays capacity the (row.news ++ past) rows
 
+-- each of these runs is played after a past
+abbrev pub AllPlay : Setup → List Entry → List (List Row) → Type 0
+AllPlay the past [] = ⊤
+AllPlay the past (rows ∷ runs) = Plays 65535 the past rows × AllPlay the past runs
+
 -- all entries after these rows
 abbrev pub after : List Entry → List Row → List Entry
 after past [] = past
 after past (row ∷ rows) = after (row.news ++ past) rows
+
+-- each of these runs is played after those before it
+abbrev pub PlayOn : Setup → List Entry → List (List Row) → Type 0
+PlayOn the past [] = ⊤
+PlayOn the past (rows ∷ runs) = Plays 65535 the past rows × PlayOn the (after past rows) runs
 
 pub plays_legal : (capacity : ℕ) (the : Setup) (past : List Entry) (rows : List Row) → Plays capacity the past rows
     → LegalFrom capacity the past (map (λ row. row.play) rows) (after past rows)

@@ -23,7 +23,7 @@ use Rattle.cct_model.specs.lines.record.Record.TheVariants as record_of
 use Rattle.cct_model.specs.lines.entry.Entry.{Entry}
 use Rattle.cct_model.specs.lines.entry.Entry.TheVariants as entry
 use Rattle.cct_model.specs.lines.entry.End.TheVariants as end_of
-use Rattle.cct_model.proofs.Machine.{Row, Plays, after, texts, acceptor, hopper, setup, starting, funding, funded, coin_read, ordered, dispensed, paid_out, coin, one, both, wire}
+use Rattle.cct_model.proofs.Machine.{Row, Plays, AllPlay, after, texts, acceptor, hopper, setup, starting, funding, funded, coin_read, ordered, dispensed, paid_out, coin, one, both, wire}
 
 abbrev started : List Entry
 started = after [] starting
@@ -52,12 +52,6 @@ two_calls =
     ∷ both (step.Next 2) (entry.Put (record_of.Reading 2 1 0 (coin 5 1 ∷ []))) (entry.Ended 2 end_of.Posted)
     ∷ []
 
-two_calls_plays : Plays 65535 setup started two_calls
-unfolding message spelling data_of request_of requests_with form_of reply_data reply_in has_place acceptor_reply
-    hopper_reply common_reply reply_of ask asked asks_of asker after_echo got heard_after got_by distance judge
-    life_between close
-two_calls_plays = (refl, (refl, (refl, (refl, (inl (omega arith, refl), (refl, (refl, (refl, (refl, tt)))))))))
-
 -- after three it may be lost
 abbrev three_calls_lost : List Row
 three_calls_lost =
@@ -69,12 +63,6 @@ three_calls_lost =
     ∷ both (step.Next 2) (entry.Put (record_of.Reading 2 1 0 (coin 5 1 ∷ []))) (entry.Ended 2 end_of.Posted)
     ∷ []
 
-three_calls_lost_plays : Plays 65535 setup started three_calls_lost
-unfolding message spelling data_of request_of requests_with form_of reply_data reply_in has_place acceptor_reply
-    hopper_reply common_reply reply_of ask asked asks_of asker after_echo got heard_after got_by distance judge
-    life_between close
-three_calls_lost_plays = (refl, (refl, (refl, (refl, (inl (omega arith, refl), (refl, (refl, (refl, (refl, tt)))))))))
-
 abbrev three_calls_lost_too : List Row
 three_calls_lost_too =
     coin_read
@@ -84,12 +72,6 @@ three_calls_lost_too =
     ∷ one (step.Next 2) (wire 2 "020001e617" "020001e61701020200fffffd")
     ∷ both (step.Next 2) (entry.Put (record_of.Reading 2 1 0 (coin 5 1 ∷ []))) (entry.Ended 2 end_of.Posted)
     ∷ []
-
-three_calls_lost_too_plays : Plays 65535 setup started three_calls_lost_too
-unfolding message spelling data_of request_of requests_with form_of reply_data reply_in has_place acceptor_reply
-    hopper_reply common_reply reply_of ask asked asks_of asker after_echo got heard_after got_by distance judge
-    life_between close
-three_calls_lost_too_plays = (refl, (refl, (refl, (refl, (inl (omega arith, refl), (refl, (refl, (refl, (refl, tt)))))))))
 
 -- after three it may be kept: the next round is clean
 abbrev three_calls_kept : List Row
@@ -102,12 +84,6 @@ three_calls_kept =
     ∷ one (step.Next 2) (entry.Idle 2)
     ∷ []
 
-three_calls_kept_plays : Plays 65535 setup started three_calls_kept
-unfolding message spelling data_of request_of requests_with form_of reply_data reply_in has_place acceptor_reply
-    hopper_reply common_reply reply_of ask asked asks_of asker after_echo got heard_after got_by distance judge
-    life_between close
-three_calls_kept_plays = (refl, (refl, (refl, (refl, (inr (omega arith, refl), (refl, (refl, (refl, (refl, tt)))))))))
-
 -- after four it is kept
 abbrev pub four_calls : List Row
 four_calls =
@@ -118,12 +94,6 @@ four_calls =
     ∷ both (step.Next 2) (wire 2 "020001e617" "020001e61701020200fffffd") (entry.Ended 2 end_of.Clean)
     ∷ one (step.Next 2) (entry.Idle 2)
     ∷ []
-
-four_calls_plays : Plays 65535 setup started four_calls
-unfolding message spelling data_of request_of requests_with form_of reply_data reply_in has_place acceptor_reply
-    hopper_reply common_reply reply_of ask asked asks_of asker after_echo got heard_after got_by distance judge
-    life_between close
-four_calls_plays = (refl, (refl, (refl, (refl, (inr (omega arith, refl), (refl, (refl, (refl, (refl, tt)))))))))
 
 -- a power cut before the dispense: the order is open, and a settlement closes it without one
 abbrev pub settled_after : List Row
@@ -136,24 +106,12 @@ settled_after =
     ∷ both (step.Next 3) (entry.Put (record_of.Closed 41 0 4)) (entry.Ended 3 end_of.Closed)
     ∷ []
 
-settled_after_plays : Plays 65535 setup funded settled_after
-unfolding message spelling data_of request_of requests_with form_of reply_data reply_in has_place acceptor_reply
-    hopper_reply common_reply reply_of ask asked asks_of asker after_echo got heard_after got_by distance judge
-    life_between close
-settled_after_plays = search
-
 abbrev still_open : List Row
 still_open =
     ordered
     ++ one (step.Crash None 0) (entry.Crash 3)
     ∷ one (step.Command (command.Pay 3 43 1)) (entry.No (command.Pay 3 43 1) (command_no.OrderOpen 41))
     ∷ []
-
-still_open_plays : Plays 65535 setup funded still_open
-unfolding message spelling data_of request_of requests_with form_of reply_data reply_in has_place acceptor_reply
-    hopper_reply common_reply reply_of ask asked asks_of asker after_echo got heard_after got_by distance judge
-    life_between close
-still_open_plays = search
 
 -- an order whose record was not kept is not open: its id is free, and nothing is reserved
 abbrev pub order_not_kept : List Row
@@ -167,12 +125,6 @@ order_not_kept =
     ∷ one (step.Next 3) (entry.Idle 3)
     ∷ one (step.Command (command.Pay 3 41 4)) (entry.Taken (command.Pay 3 41 4))
     ∷ []
-
-order_not_kept_plays : Plays 65535 setup funded order_not_kept
-unfolding message spelling data_of request_of requests_with form_of reply_data reply_in has_place acceptor_reply
-    hopper_reply common_reply reply_of ask asked asks_of asker after_echo got heard_after got_by distance judge
-    life_between close
-order_not_kept_plays = (refl, (refl, (refl, (inl (omega arith, refl), (refl, (refl, (refl, (refl, tt))))))))
 
 -- an order whose record was kept is open, with its amount reserved, and no job runs
 abbrev order_kept : List Row
@@ -191,12 +143,6 @@ order_kept =
     ∷ both (step.Next 3) (entry.Put (record_of.Closed 41 0 4)) (entry.Ended 3 end_of.Closed)
     ∷ []
 
-order_kept_plays : Plays 65535 setup funded order_kept
-unfolding message spelling data_of request_of requests_with form_of reply_data reply_in has_place acceptor_reply
-    hopper_reply common_reply reply_of ask asked asks_of asker after_echo got heard_after got_by distance judge
-    life_between close
-order_kept_plays = (refl, (refl, (refl, (inr (omega arith, refl), (refl, (refl, (refl, (refl, (refl, (refl, (refl, (refl, tt))))))))))))
-
 -- a payout goes on while the host is away
 abbrev pub goes_on_falling : List Row
 goes_on_falling =
@@ -214,12 +160,6 @@ goes_on_falling =
     ∷ one step.Balance (entry.Balance (record { available = 60; reserved = 0; paid = 40; sold = 0 }))
     ∷ []
 
-goes_on_falling_plays : Plays 65535 setup funded goes_on_falling
-unfolding message spelling data_of request_of requests_with form_of reply_data reply_in has_place acceptor_reply
-    hopper_reply common_reply reply_of ask asked asks_of asker after_echo got heard_after got_by distance judge
-    life_between close
-goes_on_falling_plays = search
-
 -- the record that closes an order is not kept: the order is settled once more, with the same coins
 abbrev close_not_kept : List Row
 close_not_kept =
@@ -231,12 +171,6 @@ close_not_kept =
     ∷ both (step.Next 3) (entry.Put (record_of.Closed 41 4 0)) (entry.Ended 3 end_of.Closed)
     ∷ []
 
-close_not_kept_plays : Plays 65535 setup funded close_not_kept
-unfolding message spelling data_of request_of requests_with form_of reply_data reply_in has_place acceptor_reply
-    hopper_reply common_reply reply_of ask asked asks_of asker after_echo got heard_after got_by distance judge
-    life_between close
-close_not_kept_plays = (refl, (refl, (refl, (refl, (refl, (refl, (refl, (refl, (refl, (refl, (refl, (inl (omega arith, refl), (refl, (refl, (refl, (refl, tt))))))))))))))))
-
 -- it is kept, and the order is closed
 abbrev close_kept : List Row
 close_kept =
@@ -245,12 +179,6 @@ close_kept =
     ∷ one (step.Command (command.Settle 3)) (entry.No (command.Settle 3) command_no.NoOrder)
     ∷ one step.Balance (entry.Balance (record { available = 60; reserved = 0; paid = 40; sold = 0 }))
     ∷ []
-
-close_kept_plays : Plays 65535 setup funded close_kept
-unfolding message spelling data_of request_of requests_with form_of reply_data reply_in has_place acceptor_reply
-    hopper_reply common_reply reply_of ask asked asks_of asker after_echo got heard_after got_by distance judge
-    life_between close
-close_kept_plays = (refl, (refl, (refl, (refl, (refl, (refl, (refl, (refl, (refl, (refl, (refl, (inr (omega arith, refl), (refl, (refl, tt))))))))))))))
 
 -- the number of calls is nothing where no job at the address is about to put a record
 abbrev calls_of_nothing : List Row
@@ -265,12 +193,6 @@ calls_of_nothing =
     ∷ one (step.Crash (Some (record { addr = 1; calls = 4 })) 0) (entry.Crash 3)
     ∷ []
 
-calls_of_nothing_plays : Plays 65535 setup funded calls_of_nothing
-unfolding message spelling data_of request_of requests_with form_of reply_data reply_in has_place acceptor_reply
-    hopper_reply common_reply reply_of ask asked asks_of asker after_echo got heard_after got_by distance judge
-    life_between close
-calls_of_nothing_plays = search
-
 -- a sale is kept
 abbrev sale_kept : List Row
 sale_kept =
@@ -281,12 +203,6 @@ sale_kept =
     ∷ one (step.Next 1) (entry.Idle 1)
     ∷ one (step.Command (command.Vend 5 30)) (entry.No (command.Vend 5 30) (command_no.OldId 5))
     ∷ []
-
-sale_kept_plays : Plays 65535 setup funded sale_kept
-unfolding message spelling data_of request_of requests_with form_of reply_data reply_in has_place acceptor_reply
-    hopper_reply common_reply reply_of ask asked asks_of asker after_echo got heard_after got_by distance judge
-    life_between close
-sale_kept_plays = (refl, (refl, (inr (omega arith, refl), (refl, (refl, (refl, tt))))))
 
 -- a sale that was not recorded is free again, and so are its price and its id
 abbrev sale_not_kept : List Row
@@ -301,12 +217,6 @@ sale_not_kept =
     ∷ one (step.Command (command.Vend 6 100)) (entry.No (command.Vend 6 100) (command_no.Short 70))
     ∷ one step.Balance (entry.Balance (record { available = 70; reserved = 0; paid = 0; sold = 30 }))
     ∷ []
-
-sale_not_kept_plays : Plays 65535 setup funded sale_not_kept
-unfolding message spelling data_of request_of requests_with form_of reply_data reply_in has_place acceptor_reply
-    hopper_reply common_reply reply_of ask asked asks_of asker after_echo got heard_after got_by distance judge
-    life_between close
-sale_not_kept_plays = (refl, (inl (omega arith, refl), (refl, (refl, (refl, (refl, (refl, (refl, (refl, tt)))))))))
 
 -- an epoch is kept whose mask was never set: its first round ends with a break
 abbrev epoch_kept : List Row
@@ -323,12 +233,6 @@ epoch_kept =
     ∷ both (step.Next 2) (entry.Put (record_of.Broken 2 0 1 [])) (entry.Ended 2 end_of.Broke)
     ∷ []
 
-epoch_kept_plays : Plays 65535 setup [] epoch_kept
-unfolding message spelling data_of request_of requests_with form_of reply_data reply_in has_place acceptor_reply
-    hopper_reply common_reply reply_of ask asked asks_of asker after_echo got heard_after got_by distance judge
-    life_between close
-epoch_kept_plays = (refl, (refl, (refl, (inr (omega arith, refl), (refl, (refl, (refl, (refl, (refl, (refl, tt))))))))))
-
 -- an epoch is not kept, and none runs
 abbrev pub epoch_not_kept : List Row
 epoch_not_kept =
@@ -340,12 +244,6 @@ epoch_not_kept =
     ∷ one (step.Command (command.Start 2 65535)) (entry.Taken (command.Start 2 65535))
     ∷ []
 
-epoch_not_kept_plays : Plays 65535 setup [] epoch_not_kept
-unfolding message spelling data_of request_of requests_with form_of reply_data reply_in has_place acceptor_reply
-    hopper_reply common_reply reply_of ask asked asks_of asker after_echo got heard_after got_by distance judge
-    life_between close
-epoch_not_kept_plays = (refl, (refl, (refl, (inl (omega arith, refl), (refl, (refl, tt))))))
-
 -- a power cut keeps the fault that is set for the next exchange, and the device its state
 abbrev fault_stays : List Row
 fault_stays =
@@ -355,12 +253,6 @@ fault_stays =
     ∷ one (step.Next 2) (wire 2 "020001e518" "020001e518")
     ∷ one (step.Next 2) (wire 2 "020001e518" "020001e518010b02000105010000000000000000eb")
     ∷ []
-
-fault_stays_plays : Plays 65535 setup funded fault_stays
-unfolding message spelling data_of request_of requests_with form_of reply_data reply_in has_place acceptor_reply
-    hopper_reply common_reply reply_of ask asked asks_of asker after_echo got heard_after got_by distance judge
-    life_between close
-fault_stays_plays = search
 
 -- two orders whose ids stand in the journal out of order are open after a restart
 abbrev two_hoppers : List Row
@@ -382,3 +274,69 @@ unfolding message spelling data_of request_of requests_with form_of reply_data r
     hopper_reply common_reply reply_of ask asked asks_of asker after_echo got heard_after got_by distance judge
     life_between close
 two_hoppers_plays = search
+
+-- each of the runs over a started acceptor is played
+started_play : AllPlay setup started (two_calls ∷ three_calls_lost ∷ three_calls_lost_too ∷ three_calls_kept ∷ four_calls ∷ [])
+unfolding message spelling data_of request_of requests_with form_of reply_data reply_in has_place acceptor_reply
+    hopper_reply common_reply reply_of ask asked asks_of asker after_echo got heard_after got_by distance judge
+    life_between close
+started_play = (
+  (refl, (refl, (refl, (refl, (inl (omega arith, refl), (refl, (refl, (refl, (refl, tt))))))))),
+  (
+    (refl, (refl, (refl, (refl, (inl (omega arith, refl), (refl, (refl, (refl, (refl, tt))))))))),
+    (
+      (refl, (refl, (refl, (refl, (inl (omega arith, refl), (refl, (refl, (refl, (refl, tt))))))))),
+      (
+        (refl, (refl, (refl, (refl, (inr (omega arith, refl), (refl, (refl, (refl, (refl, tt))))))))),
+        ((refl, (refl, (refl, (refl, (inr (omega arith, refl), (refl, (refl, (refl, (refl, tt))))))))), tt),
+      ),
+    ),
+  ),
+)
+
+-- each of those of payments and sales, and of a fault
+funded_play : AllPlay setup funded (settled_after ∷ still_open ∷ order_not_kept ∷ order_kept ∷ goes_on_falling ∷ close_not_kept ∷ close_kept ∷ calls_of_nothing ∷ sale_kept ∷ sale_not_kept ∷ fault_stays ∷ [])
+unfolding message spelling data_of request_of requests_with form_of reply_data reply_in has_place acceptor_reply
+    hopper_reply common_reply reply_of ask asked asks_of asker after_echo got heard_after got_by distance judge
+    life_between close
+funded_play = (
+  search,
+  (
+    search,
+    (
+      (refl, (refl, (refl, (inl (omega arith, refl), (refl, (refl, (refl, (refl, tt)))))))),
+      (
+        (refl, (refl, (refl, (inr (omega arith, refl), (refl, (refl, (refl, (refl, (refl, (refl, (refl, (refl, tt)))))))))))),
+        (
+          search,
+          (
+            (refl, (refl, (refl, (refl, (refl, (refl, (refl, (refl, (refl, (refl, (refl, (inl (omega arith, refl), (refl, (refl, (refl, (refl, tt)))))))))))))))),
+            (
+              (refl, (refl, (refl, (refl, (refl, (refl, (refl, (refl, (refl, (refl, (refl, (inr (omega arith, refl), (refl, (refl, tt)))))))))))))),
+              (
+                search,
+                (
+                  (refl, (refl, (inr (omega arith, refl), (refl, (refl, (refl, tt)))))),
+                  (
+                    (refl, (inl (omega arith, refl), (refl, (refl, (refl, (refl, (refl, (refl, (refl, tt))))))))),
+                    (search, tt),
+                  ),
+                ),
+              ),
+            ),
+          ),
+        ),
+      ),
+    ),
+  ),
+)
+
+-- and each of those of a first epoch
+unstarted_play : AllPlay setup [] (epoch_kept ∷ epoch_not_kept ∷ [])
+unfolding message spelling data_of request_of requests_with form_of reply_data reply_in has_place acceptor_reply
+    hopper_reply common_reply reply_of ask asked asks_of asker after_echo got heard_after got_by distance judge
+    life_between close
+unstarted_play = (
+  (refl, (refl, (refl, (inr (omega arith, refl), (refl, (refl, (refl, (refl, (refl, (refl, tt)))))))))),
+  ((refl, (refl, (refl, (inl (omega arith, refl), (refl, (refl, tt)))))), tt),
+)

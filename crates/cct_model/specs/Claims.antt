@@ -38,8 +38,8 @@ abbrev pub looking : List Line → List Line
 looking [] = []
 looking (line ∷ past) = behind (mask_line line) past (looking past)
 
--- Up to which coins a record that is an item tells, newest first: a reading, those that were accepted before the credits
--- were read; a break, those before the mask was read; the begin and the end of an epoch, all that were accepted.
+-- Up to which coins a record that is an item tells, newest first. A reading tells up to those that were accepted before the
+-- credits were read; a break, before the mask was read; the begin and the end of an epoch tell all that were accepted.
 abbrev pub known_by : Record → List Line → List Coin
 known_by (record_of.Reading addr counter lost posted) past = coins (reading past)
 known_by (record_of.Broken addr seen counter posted) past = coins (looking past)

@@ -168,8 +168,8 @@ bare_restart past = entry.Crash (length (records past)) ∷ []
 abbrev pub keeping_restart : List Entry → Record → List Entry
 keeping_restart past r = entry.Kept r ∷ entry.Crash (suc (length (records past))) ∷ []
 
--- The entries of a power cut after so many of the four disk calls of a put, newest first: the record under way is
--- kept after all four, and may be after three, when its gate is written and not yet synced.
+-- The entries of a power cut after so many of the four disk calls of a put, newest first. The record under way is kept
+-- after all four. It may be kept after three, when its gate is written and not yet synced.
 abbrev pub RestartEntries : List Entry → ℕ → Option Record → List Entry → Type 0
 RestartEntries past calls None news = news ≡ bare_restart past
 RestartEntries past calls (Some r) news = ((calls < 4) × (news ≡ bare_restart past)) ⊎ ((2 < calls) × (news ≡ keeping_restart past r))

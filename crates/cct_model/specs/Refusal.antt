@@ -23,9 +23,10 @@ use Rattle.cct_model.specs.Records.{records, greatest_id}
 use Rattle.cct_model.specs.Money.{sum_over, coins_of, available}
 use Rattle.cct_model.specs.Transcript.{lines_of, scan_lines, sale_lines}
 
--- A test of a command: a device is at the address, an acceptor, a hopper; no job is there; no epoch runs, or one does;
--- each place of a mask has a value; no order is open, or one is; there is a payout that could be stopped; an id is new;
--- the value of so many coins of the hopper at an address is available, or a price is; there is room for its records.
+-- A test of a command. Of the device: one is at the address, an acceptor, a hopper. Of its state: no job is there; no epoch
+-- runs, or one does; each place of a mask has a value; no order is open, or one is; there is a payout that could be
+-- stopped; an id is new. Of the money: the value of so many coins of the hopper at an address is available, or a price is.
+-- Of the room: there is some for its records.
 pub data Test : Type 0 where
   at_a_device : Test
   at_an_acceptor : Test

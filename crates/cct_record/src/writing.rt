@@ -21,7 +21,7 @@ pub fn encode(entry: &Record) -> [u8; 31]
     filled_up(&fields(entry))
 }
 
-/// Some fields, and 0 behind them.
+/// Some fields, and 0 after them.
 fn filled_up(fields: &ArrayVec<u8, BODY>) -> [u8; BODY]
     ensures { result ≡ fields.now.items ++ replicate (31 - length fields.now.items) 0 }
 {

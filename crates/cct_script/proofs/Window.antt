@@ -30,14 +30,14 @@ held-drop bytes start count end fits =
 take_front : (front more : List ℕ) (k n : ℕ) → length front ≡ k → take (k + n) (front ++ more) ≡ front ++ take n more
 take_front front more k n e = rw (← e) (take-append-add front more n)
 
--- bytes that came behind the held ones, which stand at the front
+-- bytes that came after the held ones, which stand at the front
 pub held-filled : (copied room : List ℕ) (k size n : ℕ) → k ≤ length copied → n ≤ length room →
     slice_range (put_mid k size copied room) 0 (k + n) ≡ take k copied ++ take n room
 held-filled copied room k size n fits few =
     between_from_start _ (k + n) ∙ take_front (take k copied) _ k n (length-take-le k copied fits)
     ∙ ap (λ xs. take k copied ++ xs) (take-append-le n room _ few)
 
--- the held bytes alone, with none behind them
+-- the held bytes alone, with none after them
 pub held-copied : (copied room : List ℕ) (k size : ℕ) → k ≤ length copied →
     slice_range (put_mid k size copied room) 0 k ≡ take k copied
 held-copied copied room k size fits =
@@ -102,7 +102,7 @@ consumes-keeps (Some xs) None h = absurd h
 consumes-keeps (Some xs) (Some ys) h = sym h
 
 module _ {S : Type 0} (takes : S → ℕ → Result ℕ Failed → S → Type 0) (left : S → Option (List ℕ)) where
-  -- one more take, of so many bytes, behind those that were made
+  -- one more take, of so many bytes, after those that were made
   pub takes-on : (held0 held1 held2 : List ℕ) (source0 source1 source2 : S) (n : ℕ) →
       TakesOn takes left held0 source0 held1 source1 → IsPart held1 →
       takes source1 (MOST_LINE + 1 - length held1) (Ok n) source2 →
@@ -114,7 +114,7 @@ module _ {S : Type 0} (takes : S → ℕ → Result ℕ Failed → S → Type 0)
       let brought = subst (λ k. takes source1 (MOST_LINE + 1 - length held1) (Ok k) source2) few one in
       take_more held1 fills.0 held2 source1 source2 h part.none part.room brought fills.2 fills.1
 
-  -- a take that failed behind those that were made
+  -- a take that failed after those that were made
   pub takes-until : (held0 held1 held2 : List ℕ) (source0 source1 source2 : S) (why : Failed) →
       TakesOn takes left held0 source0 held1 source1 → IsPart held1 →
       takes source1 (MOST_LINE + 1 - length held1) (Err why) source2 →

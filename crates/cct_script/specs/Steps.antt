@@ -1,4 +1,4 @@
--- The words of step lines in groups of a few: what stands behind none of a group's words, the next group says.
+-- The words of step lines in groups of a few: what stands after none of a group's words, the next group says.
 use Rattle.std.specs.Prelude.{◌≡◌, ℕ, List, if◌then◌else◌, Result, Ok, Err, OnOk, codes, bytes_eq}
 use Rattle.std.specs.Option.{ok_or}
 use Rattle.cct_lines.specs.declared.command.Command.TheVariants as command

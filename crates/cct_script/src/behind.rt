@@ -1,4 +1,4 @@
-//! What stands behind the words of step lines (`docs/SCRIPT.md`).
+//! What stands after the words of step lines (`docs/SCRIPT.md`).
 ghost use Rattle.std.specs.Prelude.{◌≡◌, ◌≤◌, ℕ, Some, None, MatchOption, MatchResult};
 ghost use Rattle.cct_lines.specs.declared.command.Step.{Step};
 ghost use Rattle.cct_lines.specs.Grammar.{address_in, choice_in, coin_step, step_at, fault_step, start_step};
@@ -33,7 +33,7 @@ fn choice_in(field: &[u8]) -> Option<u64>
     ranged(0, u64::MAX, field)
 }
 
-/// The address alone behind a word.
+/// The address alone after a word.
 #[tactic(auto, using(crate::proofs::Forms::no_step_at))]
 pub(crate) fn addr(rest: Option<&[u8]>) -> Result<u8, LineKind>
     ensures { MatchResult result

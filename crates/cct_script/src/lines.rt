@@ -11,9 +11,9 @@ use thiserror::Error;
 /// A line, or the end of the input.
 #[derive(Clone, Copy, Debug)]
 pub enum Line<'a> {
-    /// The bytes of a line, 1,200 at the most, without its line feed.
+    /// The bytes of a line, 1,200 at most, without its line feed.
     Text(&'a [u8]),
-    /// The input ended behind a line feed, or is empty.
+    /// The input ended after a line feed, or is empty.
     End,
 }
 

@@ -95,8 +95,8 @@ abbrev pub jammed : Option Payout → Bool
 jammed None = false
 jammed (Some last) = jammed_in last.count last.since
 
--- The number of coins for which a hopper takes what it is asked, or none: it takes a dispense request with its own
--- serial number and a count that isn't 0, where it may pay and no coin is left to fall.
+-- The number of coins for which a hopper takes what it is asked, or none. It takes a dispense request with its own serial
+-- number and a count that isn't 0, where it may pay and no coin is left to fall.
 abbrev pub taken_count : ℕ → Bool → ℕ → Option Request → Option ℕ
 taken_count own on remains (Some (Dispense serial count)) =
     if on && (remains == 0) && (serial == own) && not (count == 0) then Some count else None

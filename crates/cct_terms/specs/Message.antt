@@ -27,8 +27,8 @@ crc bytes = fold crc_bit 0 (flat_map bits_of bytes)
 abbrev pub closing_byte : List ℕ → ℕ
 closing_byte bytes = (256 - sum bytes % 256) % 256
 
--- The bytes that spell a message: destination, number of data bytes, source, header, data bytes and the byte
--- that closes the sum; under the CRC its low byte stands in the place of the source, and its high byte at the end.
+-- The bytes that spell a message: destination, number of data bytes, source, header, data bytes and the byte that closes
+-- the sum. Under the CRC its low byte stands in the place of the source, and its high byte at the end.
 unfoldable pub spelling : CheckKind → Message → List ℕ
 spelling Simple m =
     let front = m.to ∷ length m.body ∷ unwrap_or m.from 0 ∷ m.header ∷ [] ++ m.body in

@@ -13,7 +13,7 @@ use Rattle.cct_disk.specs.Disk.{IsTrusted}
 use Rattle.cct_bus.specs.Bus as wires
 use Rattle.cct_journal.specs.Journal as journals
 use Rattle.cct_laws.specs.Restart.{RestartSuits, due_in}
-use Rattle.cct_host.specs.Book.{LeavesBook}
+use Rattle.cct_host.specs.OnDisk.{LeavesRecords}
 use Rattle.cct_host.specs.Host as hosts
 use Rattle.cct_host.specs.Host.{PutSuits}
 use Rattle.cct_host.specs.Restarting as restarting
@@ -80,10 +80,10 @@ module _ {D : Type 0} {g : Ghosts D} where
   FailsIn old left (step.Next addr) =
       (past : List Entry) → StandsFor old past
       → (r : Record) × ((due_at (setup_of old) past addr ≡ Some r) × (HasTrusted old
-      → LeavesBook (setup_of old) g.honest g.seen g.may_leave left (Some r) (reverse (records past))))
+      → LeavesRecords (setup_of old) g.honest g.seen g.may_leave left (Some r) (reverse (records past))))
   FailsIn old left (step.Crash at choice) =
       (past : List Entry) → StandsFor old past → HasTrusted old
-      → LeavesBook (setup_of old) g.honest g.seen g.may_leave left (due_in (setup_of old) past at) (reverse (records past))
+      → LeavesRecords (setup_of old) g.honest g.seen g.may_leave left (due_in (setup_of old) past at) (reverse (records past))
   FailsIn old left s = ⊥
 
   -- The record that its host is about to put where a loss of power comes, if it is about to put one.

@@ -12,7 +12,7 @@ ghost use Rattle.cct_bus.specs.Bus as wires;
 ghost use Rattle.cct_edge.specs.Faults.{Rose};
 ghost use Rattle.cct_journal.specs.Stands.{CutOnce, GoesOn, Outlasts};
 ghost use Rattle.cct_host.specs.Host as hosts;
-ghost use Rattle.cct_host.specs.Restarting.{crash_news};
+ghost use Rattle.cct_host.specs.Restarting.{restart_news};
 ghost use Rattle.cct_world.specs.Restarts.{kept_in};
 ghost use Rattle.cct_world.specs.Step.{CutsIn, LastsIn, crashes, crashes_of, entry_told, is_next};
 
@@ -263,7 +263,7 @@ impl<D: Disk> Machine<'_, D> {
 /// Tells what a loss of power left.
 fn tell_crash(crashed: Crashed, report: &mut ArrayVec<Entry, 8>)
     requires { report.old.items ≡ [] }
-    ensures { reverse report.new.items ≡ crash_news crashed }
+    ensures { reverse report.new.items ≡ restart_news crashed }
 {
     let Crashed { records, kept } = crashed;
     report.push(Entry::Crash { records });

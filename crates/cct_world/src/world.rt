@@ -10,7 +10,7 @@ ghost use Rattle.cct_model.specs.Records.{records};
 ghost use Rattle.cct_disk.specs.Disk.{IsTrusted};
 ghost use Rattle.cct_edge.specs.Faults.{Rose};
 ghost use Rattle.cct_journal.specs.Journal as journals;
-ghost use Rattle.cct_host.specs.Book.{HasBook};
+ghost use Rattle.cct_host.specs.OnDisk.{KeepsRecords};
 ghost use Rattle.cct_world.specs.Machine as machines;
 ghost use Rattle.cct_world.specs.Step.{CutsIn, LastsIn, crashes, crashes_of};
 
@@ -51,7 +51,7 @@ impl<'s, D: Disk> World<'s, D> {
         ensures disk { MatchResult result (λ world. disk_of world ≡ journals.disk_of journal)
             (λ e. e.0 ≡ journals.disk_of journal) }
         ensures fresh { IfOk result (λ world. (IsTrusted D.honest D.seen (journals.disk_of journal)
-            → HasBook setup.now D.honest D.seen D.may_leave (journals.disk_of journal) (journals.place_of journal) [])
+            → KeepsRecords setup.now D.honest D.seen D.may_leave (journals.disk_of journal) (journals.place_of journal) [])
             → StandsFor world []) }
     {
         let bus = match Bus::new(alloc, setup) {

@@ -51,7 +51,7 @@ causes_there capacity setup d past _ _ accepting ranged (made_put c since r at_w
     each_with_end (HasCauseAt d) past d.addr (entry.Put r) (record_end d past c since r)
     (put_caused d past c since r accepting ranged at_work is_row masks) (λ older end. tt) before
 
--- what is behind a loss of power is as before it
+-- what is after a power cut is as before it
 cause_behind : (d : DeviceSetup) (past : List Entry) (records : ℕ) (r : Record) → HasCause d past r →
     HasCause d (entry.Crash records ∷ past) r
 cause_behind d past records (record_of.Broken addr seen counter posted) caused = caused

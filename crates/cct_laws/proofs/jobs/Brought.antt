@@ -70,7 +70,7 @@ pub data Comes (d : DeviceSetup) (past : List Met) : Step → Entry → Met → 
       Comes d past (step.Jam d.addr) (entry.NoJam d.addr) history.jam []
   is_reset : Comes d past (step.Reset d.addr) (entry.Reset d.addr) history.reset (reset ∷ [])
 
--- a command is at work at a device
+-- the job of a command is running at a device
 pub record AtWork (d : DeviceSetup) (past : List Entry) (c : Command) (since : List Line) : Type 0 where
   pub job_is : job (lines_of d past) ≡ works c since
   pub is_here : address_of c ≡ d.addr
@@ -132,7 +132,7 @@ pub data Due (setup : Setup) (past : List Entry) : Record → Type 0 where
       Due setup past (record_of.Sold id price)
 
 -- what a step brought: something at a device of the setup; or a fault was set, a command was refused, a scan or a sale was
--- begun or went on, nobody was there, the balance was read; or the host lost its power, within a put or not
+-- begun or went on, nobody was there, the balance was read; or the power was cut, within a put or not
 pub data Brought (capacity : ℕ) (setup : Setup) (past : List Entry) : Step → List Entry → Type 0 where
   of_device : (d : DeviceSetup) (s : Step) (news : List Entry) → IsOf setup d → AtDevice capacity setup d past s news →
       Brought capacity setup past s news
@@ -405,7 +405,7 @@ row_brought capacity setup d past news c since (puts r) at_work is told =
     subst (AtDevice capacity setup d past (step.Next d.addr)) (sym told) (made_put c since r at_work is)
 row_brought capacity setup d past news c since no_row at_work is told = absurd told
 
--- a job at a device is at work
+-- a job at a device is running
 pub works_there : (d : DeviceSetup) (past : List Entry) (c : Command) (since : List Line) →
     job (lines_of d past) ≡ works c since → AtWork d past c since
 works_there d past c since is = record { job_is = is; is_here = subst (IsAt d.addr) is (job_at d past) }
@@ -555,7 +555,7 @@ pub is_due : (setup : Setup) (past : List Entry) (addr : ℕ) (r : Record) → d
     Due setup past r
 is_due setup past addr r due = there_due setup past addr r (device_at setup.devices addr) refl due
 
--- a loss of power
+-- a power cut
 kept_brought : (capacity : ℕ) (setup : Setup) (past : List Entry) (at : CrashAt) (choice : ℕ) (r : Record) →
     Due setup past r → Brought capacity setup past (step.Crash (Some at) choice) (keeping_restart past r)
 kept_brought capacity setup past at choice _ (from_job d c since r own at_work is_row) =

@@ -31,7 +31,7 @@ pub record Polls (lines : List Line) : Type 0 where
 abbrev PollsAt : List Entry → Type 0
 PollsAt past = Polls (scan_lines past)
 
--- one poll is one failed try more at the most
+-- one poll is at most one failed try more
 tries_if : (b : Bool) (n : ℕ) → cond b (suc n) 0 ≤ suc n
 tries_if true n = omega arith
 tries_if false n = omega arith
@@ -90,7 +90,7 @@ unfolding end_of_scan
 poll_kept past c since e check addr rest lines_are is_job polls =
     poll_by past c since e check addr rest _ _ lines_are is_job refl refl polls
 
--- the line of a poll behind whose echo this came
+-- the line of a poll after whose echo this came
 abbrev pub IsPoll : Option (List ℕ) → Line → Type 0
 IsPoll rest l = (check : CheckKind) × (addr : ℕ) × (l ≡ scanned check addr rest)
 
@@ -114,7 +114,7 @@ wire_kept past c since sent piece is_job polls =
     subst (λ l. PollsAt (with_end 0 wire (end_of_scan (l ∷ since)) ++ past)) (sym is.2)
     (poll_kept past c since wire is.0 is.1 (after_echo sent piece) (ap (λ l. l ∷ scan_lines past) is.2) is_job polls)
 
--- a loss of power ends a scan
+-- a power cut ends a scan
 restart_kept : (past : List Entry) → PollsAt past → Polls (restarted ∷ scan_lines past)
 restart_kept past polls = record { each = (polls.few, polls.each); few = tt }
 

@@ -1,5 +1,5 @@
 -- A job at a device ends for want of an answer exactly after three failed tries.
-use Rattle.std.proofs.Common.{◌≡◌, ℕ, suc, ◌<◌, ◌≤◌, ◌^◌, ◌==◌, cond, true, false, Bool, List, [], ◌∷◌, ◌++◌, refl, ap, sym, ◌∙◌, subst, Option, Some, None, inl, inr, arith, rules, eq-eqb, eqb-true, true≢false}
+use Rattle.std.proofs.Common.{◌≡◌, ℕ, suc, ◌<◌, ◌≤◌, ◌^◌, ◌==◌, cond, true, false, Bool, List, [], ◌∷◌, ◌++◌, refl, ap, sym, ◌∙◌, subst, Option, Some, None, inl, inr, arith, rules, eqb-true, true≢false}
 use Rattle.std.specs.Prelude.{⊤}
 use Rattle.std.proofs.lemmas.Bool.Decides.{nat_tests}
 use Rattle.cct_model.specs.terms.device.DeviceSetup.{DeviceSetup}
@@ -43,7 +43,7 @@ use Rattle.cct_laws.proofs.Setups.{found_in}
 use Rattle.cct_model.proofs.Rows.{IfEnd, RowHolds, EachRow, answer_end, put_end, Asks, AnswerEnds, PutEnds, each_told, each_after, state_holds, but_first, after_next, EachBefore, before_on, fact_after, told_fact}
 use Rattle.cct_laws.proofs.jobs.Seen.{ArePassed, loose, loose_line, Lost, bare, kept_here, kept_elsewhere, seen_here, seen_aside, seen_lost, seen_from, along, any_steps, lines_wire, lines_with_end, lines_put, lines_taken, lines_kept, lines_kept_elsewhere}
 use Rattle.cct_model.proofs.Requests.{is_asked_again}
-use Rattle.cct_model.proofs.Tries.{IfHeard, fails_as, IsHeardEnd, answers_heard, puts_heard, due_sends, same_request, left_asks, asked_fails}
+use Rattle.cct_model.proofs.Tries.{tried, IfHeard, fails_as, IsHeardEnd, answers_heard, puts_heard, due_sends, same_request, left_asks, asked_fails}
 use Rattle.cct_model.proofs.RowEnds.{IfOnce, once_sent, failed_stays, once_goes, rest_asks, fails_rest}
 use Rattle.cct_model.specs.declared.judging.OpenOrder.{OpenOrder}
 
@@ -259,10 +259,6 @@ steady_failed d lines since c q false test again none is_job steady =
     let most = tries_most (header_of q) since in
     steady_exchange d lines since c q None is_job (below (tries (header_of q) since) (omega arith) test) none steady
 
-same_tries : (q : Request) (since : List Line) →
-    tries (header_of q) (exchange (Some q) None ∷ since) ≡ suc (tries (header_of q) since)
-same_tries q since = rw (eq-eqb (header_of q) (header_of q) refl) refl
-
 -- what a job asks under its own header leaves what it has still to send once
 apart_row : (d : DeviceSetup) (c : Command) (since : List Line) (state : EpochState) (owed : Option OpenOrder)
     (q : Request) → row d c since state owed ≡ sends q → IsApart (but_first (rest d c since)) q
@@ -313,7 +309,7 @@ steady_wire d lines since c q None state owed is_job is steady =
     elim (fails_as d c since state owed q is) [
       | inl again ↦ (
           let at_row = subst (λ rows. sent_once rows ≡ false) (left_asks d c since state owed q is) again.1 in
-          rw (same_tries q since, asked_fails (left d c since state) (suc (tries (header_of q) since)) again.1)
+          rw (tried q since, asked_fails (left d c since state) (suc (tries (header_of q) since)) again.1)
           (steady_failed d lines since c q (suc (tries (header_of q) since) == 3) refl again.0
           (again_none d c since state owed q is at_row) is_job steady))
       | inr once ↦ (
@@ -406,7 +402,7 @@ steady_there capacity setup d past _ _ sound own ids (made_put c since r at_work
     (put_end IsHeardEnd d c r since (epoch (lines_of d past)) (puts_heard d c))
     (steady_line d (put r) (lines_of d past) (λ older few. few) (with_put d r (job (lines_of d past))) steady))
 
--- a loss of power
+-- a power cut
 steady_restart : (d : DeviceSetup) (lines : List Line) → Steady d lines → Steady d (restarted ∷ lines)
 steady_restart d lines steady = steady_line d restarted lines (λ older few. few) (free_on d) steady
 

@@ -51,7 +51,7 @@ holds_least d lines = by_job (job lines) refl
         let least = free_least d c since (epoch lines) (order lines) in
         omega arith
 
--- a loss of power
+-- a power cut
 pub holds_restarted : (d : DeviceSetup) (lines : List Line) → holds_of d (restarted ∷ lines) ≤ holds_of d lines
 holds_restarted d lines =
     let least = holds_least d lines in
@@ -110,7 +110,7 @@ holds_put d c since r lines is puts_it = by_end (end_of d c (put r) since (epoch
         let fewer = put_least d c since (epoch lines) (order lines) r puts_it in
         omega arith
 
--- a record that was kept when the host lost its power
+-- a record that was kept when the power was cut
 pub holds_kept : (d : DeviceSetup) (c : Command) (since : List Line) (r : Record) (lines : List Line) →
     job lines ≡ works c since → row d c since (epoch lines) (order lines) ≡ puts r →
     suc (holds_of d (put r ∷ restarted ∷ lines)) ≤ holds_of d lines
@@ -131,7 +131,7 @@ held_moved setup d past after distinct is_of others sale =
     let moved = sum_moved (holds_at after) (holds_at past) setup.devices d distinct is_of others in
     omega arith
 
--- a loss of power leaves no more held
+-- a power cut leaves no more held
 pub held_restarted : (setup : Setup) (past : List Entry) (n : ℕ) → held setup (entry.Crash n ∷ past) ≤ held setup past
 held_restarted setup past n =
     let grows =

@@ -96,7 +96,7 @@ epoch_recorded d past = epoch_put (lines_of d past) ∙ ap epoch_of (put_recorde
 pub order_recorded : (d : DeviceSetup) (past : List Entry) → order (lines_of d past) ≡ order_in d.addr (records past)
 order_recorded d past = order_put (lines_of d past) ∙ ap order_of (put_recorded d past)
 
--- behind a loss of power
+-- after a power cut
 
 freed : (here : Bool) (r : Record) (lines : List Line) → job (cond here (put r ∷ []) [] ++ restarted ∷ lines) ≡ free
 freed true r lines = refl

@@ -1,41 +1,26 @@
--- What a host recalls that goes over records, oldest first: the epoch at each address after one record more, whose a record
--- is that closes an order, and that the first ones of records that follow do so too.
-use Rattle.std.proofs.Common.{◌≡◌, ◌≢◌, ℕ, ◌==◌, Bool, true, false, cond, List, [], ◌∷◌, ◌++◌, refl, ap, sym, ◌∙◌, Some, eq-eqb}
-use Rattle.std.proofs.lemmas.Bool.{and_parts, ne_eqb}
+-- What a host knows that replays records, oldest first: the epoch at each address after one record more, and whose a
+-- record is that closes an order. And of records that follow, the first ones do so too.
+use Rattle.std.proofs.Common.{◌≡◌, ◌≢◌, ℕ, true, List, [], ◌∷◌, ◌++◌, refl, ap, sym, ◌∙◌, Some}
+use Rattle.std.proofs.lemmas.Bool.{and_parts}
 use Rattle.cct_model.specs.terms.device.Setup.{Setup}
 use Rattle.cct_model.specs.lines.record.Record.{Record}
 use Rattle.cct_model.specs.declared.judging.OpenOrder.{OpenOrder}
 use Rattle.cct_model.specs.Exchange.{device_at, hopper_there}
 use Rattle.cct_model.specs.Following.{follows, all_follow}
 use Rattle.cct_model.specs.Job.{epoch_by}
-use Rattle.cct_model.specs.Records.{hopper_of, opened_in, owner_in, records_at, epoch_of, epoch_in, order_in, is_open}
+use Rattle.cct_model.specs.Records.{hopper_of, opened_in, owner_in, epoch_of, epoch_in, order_in, is_open}
+use Rattle.cct_model.proofs.OpenOrders.{told_own, told_else}
 use Rattle.cct_laws.proofs.orders.Orders.{belongs_all, named_id}
 
--- the epoch at any address
-by_owner : (here : Bool) (r : Record) (rs : List Record) →
-    epoch_of (cond here (r ∷ rs) rs) ≡ cond here (epoch_by r (epoch_of rs)) (epoch_of rs)
-by_owner true r rs = refl
-by_owner false r rs = refl
-
-epoch_next : (addr : ℕ) (r : Record) (before : List Record) → epoch_in addr (r ∷ before)
-    ≡ cond (owner_in before r == addr) (epoch_by r (epoch_in addr before)) (epoch_in addr before)
-epoch_next addr r before = by_owner (owner_in before r == addr) r (records_at addr before)
-
--- at the address of the record
+-- the epoch at the address of the record
 pub epoch_own : (addr : ℕ) (r : Record) (before : List Record) → owner_in before r ≡ addr →
     epoch_in addr (r ∷ before) ≡ epoch_by r (epoch_in addr before)
-epoch_own addr r before own =
-    epoch_next addr r before
-    ∙ ap (λ b. cond b (epoch_by r (epoch_in addr before)) (epoch_in addr before))
-    (eq-eqb (owner_in before r) addr own)
+epoch_own = told_own epoch_of epoch_by (λ r rs. refl)
 
 -- at another address
 pub epoch_else : (addr : ℕ) (r : Record) (before : List Record) → owner_in before r ≢ addr →
     epoch_in addr (r ∷ before) ≡ epoch_in addr before
-epoch_else addr r before other =
-    epoch_next addr r before
-    ∙ ap (λ b. cond b (epoch_by r (epoch_in addr before)) (epoch_in addr before))
-    (ne_eqb (owner_in before r) addr other)
+epoch_else = told_else epoch_of epoch_by (λ r rs. refl)
 
 -- where an order with this id is open at an address, records of that id are of that address
 pub opened_here : (setup : Setup) (before : List Record) (addr id : ℕ) (o : OpenOrder) →

@@ -1,5 +1,5 @@
--- What a loss of power leaves behind a past: no job runs, and the records are those before it, or these and the one that
--- was due; so a host starts over them.
+-- What a power cut leaves: no job runs, and the records are those before it, or these and the one that was due. So a host
+-- restarts over them.
 use Rattle.std.proofs.Common.{◌≡◌, ◌⊎◌, inl, inr, ℕ, ◌<◌, true, List, ◌++◌, refl, sym, subst, Option, Some, None}
 use Rattle.std.specs.Option.{IfSome}
 use Rattle.cct_model.specs.terms.device.Setup.{Setup}
@@ -16,7 +16,7 @@ use Rattle.cct_laws.proofs.money.Books.{Books}
 use Rattle.cct_laws.proofs.money.Journal.{kept_due_follows}
 use Rattle.cct_laws.proofs.money.Recorded.{restart_frees}
 
--- the entries of a loss of power: nothing was kept, or the record that was due was
+-- the entries of a power cut: nothing was kept, or the record that was due was
 pub data RestartLeaves (setup : Setup) (past : List Entry) (at : Option CrashAt) : List Entry → Type 0 where
   left_bare : RestartLeaves setup past at (bare_restart past)
   left_kept : (r : Record) → due_in setup past at ≡ Some r → RestartLeaves setup past at (keeping_restart past r)
@@ -64,7 +64,7 @@ pub entries_free : (setup : Setup) (past : List Entry) (at : Option CrashAt) (ne
     EntriesOfRestart setup past at news → HasNoJob (news ++ past)
 entries_free setup past at news told = frees_left setup past at news (restart_leaves setup past at news told)
 
--- a past suits a loss of power where ids are in order and the books are kept
+-- a past suits a restart where ids are in order and the books are kept
 pub kept_restart_suits : (capacity : ℕ) (setup : Setup) (past : List Entry) (at : Option CrashAt) → Ids setup past →
     Books capacity setup past → RestartSuits setup past at
 kept_restart_suits capacity setup past at ids books = record { follow = books.counts.follow; due = due_suits at }

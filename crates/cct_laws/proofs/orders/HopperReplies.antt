@@ -15,6 +15,7 @@ use Rattle.cct_model.specs.History.{Met}
 use Rattle.cct_model.specs.Hopper.{remaining, taken_of, life_count, status_of, register_of, dispense_reply, hopper_reply}
 use Rattle.cct_model.specs.Device.{IsSound, IsHopper, common_reply, reply_of}
 use Rattle.cct_model.specs.Job.{ident_requests, own_requests}
+use Rattle.cct_msg.proofs.Exchanges.{serial_fits}
 use Rattle.cct_laws.specs.DeviceJobs.{is_for_hopper}
 use Rattle.cct_laws.proofs.Exchanges.{Replied, Answers}
 use Rattle.cct_laws.proofs.Replies.{start_of, hopper_is, replied_status, replied_stop, replied_life}

@@ -213,7 +213,7 @@ row_new setup past d c since r own ids work is =
     (subst (RowHolds (λ q. ⊤) (λ x. UsesOwn x (address_of c) (rest d c since))) is
     (row_own d c since (epoch (lines_of d past)) (order (lines_of d past))))
 
--- the record is put, or is kept when the host loses its power
+-- the record is put, or is kept when the power is cut
 ids_put : (setup : Setup) (past : List Entry) (r : Record) → IsPutNew setup past r → Ids setup past →
     Ids setup (entry.Put r ∷ past)
 ids_put setup past r puts_new ids = ids_less setup past (entry.Put r ∷ past) (record {

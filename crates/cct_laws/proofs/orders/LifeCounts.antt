@@ -127,7 +127,7 @@ put_fit : (d : DeviceSetup) (c : Command) (r : Record) (since : List Line) (stat
 put_fit d c r since state fine =
     kept_fit (rest d c since) r (each_after PutsFit (rows_of d c) (done (rows_of d c) since) (puts_fit d c)) fine
 
--- an entry, and an end behind it
+-- an entry, and an end after it
 entries_fit : (past : List Entry) (addr : ℕ) (e : Entry) (end : Option End) → FitsLife past e → IsFit end →
     EachEntry FitsLife past → EachEntry FitsLife (with_end addr e end ++ past)
 entries_fit past addr e None fine fit before = (fine, before)

@@ -1,5 +1,5 @@
 -- Where a hopper has shown that nothing is left to pay, nothing is left to fall until the next order is opened: a
--- payment lets it dispense only right behind the record that opens its order.
+-- payment lets it dispense only right after the record that opens its order.
 use Rattle.std.proofs.Common.{◌≡◌, ℕ, suc, ◌==◌, ◌||◌, not, cond, Bool, true, false, List, [], ◌∷◌, ◌++◌, refl, ap, sym, ◌∙◌, subst, Option, Some, None, arith, eqb-true, rules, true≢false}
 use Rattle.std.specs.Prelude.{⊤}
 use Rattle.cct_model.specs.terms.request.TheConstants.{ENABLE_CODE}
@@ -76,7 +76,7 @@ rows_opened d (command.Settle addr) played = search rules
 rows_opened d (command.Ident addr) played = (told_opened (ident_requests d.body)).1
 rows_opened d c played = absurd cc
 
--- so the row behind one that asks isn't sent once
+-- so the row after one that asks isn't sent once
 asked_opened : (addr : ℕ) (means : Judged) (p : Payment) (rows : List TableRow) (q : Request) → AreOpened rows →
     first addr means p rows ≡ sends q → sent_once (but_first rows) ≡ false
 asked_opened addr means p [] q each is = refl
@@ -85,7 +85,7 @@ asked_opened addr means p (asks_once x behind without ∷ rows) q each is = each
 asked_opened addr means p (waits_for_coins ∷ rows) q each is = each.0
 asked_opened addr means p (puts_due due behind ∷ rows) q each is = absurd (due_sends addr means p due q is)
 
--- nor that behind one that puts a record, unless that opens an order
+-- nor that after one that puts a record, unless that opens an order
 opened_out : (addr id count : ℕ) (life : Option ℕ) (r : Record) (before : Bool) → open_row addr id count life ≡ puts r →
     paid_out_by r before ≡ true → ⊥
 opened_out addr id count None r before is out = cc
@@ -113,7 +113,7 @@ left_opened : (d : DeviceSetup) (c : Command) (work : List Line) → is_for_hopp
 left_opened d c work played =
     fact_after AreOpened (before_on OpensFirst) (rows_of d c) (done (rows_of d c) work) (rows_opened d c played)
 
--- behind an exchange it stands at no row that is sent once
+-- after an exchange it stands at no row that is sent once
 asked_aside : (d : DeviceSetup) (c : Command) (work : List Line) (state : EpochState) (owed : Option OpenOrder)
     (q : Request) (got : Option Reply) → is_for_hopper c ≡ true → row d c work state owed ≡ sends q →
     IsNotAtDispense d (works c (exchange (Some q) got ∷ work))
@@ -129,7 +129,7 @@ asked_aside d c work state owed q got played is = by_end (ends_first (rest d c w
     by_end true test = ap sent_once (after_next (rows_of d c) (done (rows_of d c) work)) ∙ goes
     by_end false test = stays_again (rest d c work) got test
 
--- nor behind a record, unless that opens an order
+-- nor after a record, unless that opens an order
 put_aside : (d : DeviceSetup) (c : Command) (work : List Line) (state : EpochState) (owed : Option OpenOrder)
     (r : Record) (before : Bool) → is_for_hopper c ≡ true → row d c work state owed ≡ puts r →
     paid_out_by r before ≡ true → IsNotAtDispense d (works c (put r ∷ work))

@@ -76,7 +76,7 @@ pays_reset d past lines pays =
     let after = pays_less d past (reset ∷ past) lines (less_rest d past (reset ∷ past) lines (omega arith) refl) pays in
     record { paid = (tt, after.paid); state = after.state; fits = after.fits }
 
--- a piece is heard that no job at the hopper sends it
+-- bytes are heard that no job at the hopper sends it
 many_others : (asked : Option Request) → IsForOthers asked → IsMany asked
 many_others None others = tt
 many_others (Some AddressPoll) others = refl
@@ -126,7 +126,7 @@ pays_halted d past lines addr pays = record {
   fits = halted_fits d (start_of d.body) (view d past lines) (order lines) addr (job lines) pays.fits;
 }
 
--- the host loses its power, before the record of its job is in the journal or behind that
+-- the power is cut, before the record of its job is in the journal or after that
 pays_restarted : (d : DeviceSetup) (past : List Met) (lines : List Line) → Pays d past lines →
     Pays d past (restarted ∷ lines)
 pays_restarted d past lines pays = record { paid = (tt, pays.paid); state = pays.state; fits = tt }

@@ -199,7 +199,7 @@ life_asked d past lines w work q y paying less is =
     IsLife (start_of d.body) w (life_read (exchange (Some r) (Some y) ∷ work))) (sym is)
     (life_next d past lines w work y paying less)
 
--- what an answer brings to the rows behind the one that asked
+-- what an answer brings to the rows after the one that asked
 asked_next : (d : DeviceSetup) (past : List Met) (lines : List Line) (w : View) (owed : Option OpenOrder)
     (work : List Line) (q : Request) (behind : Then) (y : Reply) (rows : List TableRow) → IsHopper d.body →
     Less (view d past lines) w → Follows d.serial rows (asks_for q behind) → Needs (view d past lines) owed rows →
@@ -365,7 +365,7 @@ fresh_open : (v : View) (owed : Option OpenOrder) (count : ℕ) → IsFresh v ow
 fresh_open v None count fresh = absurd fresh
 fresh_open v (Some o) count fresh = tt
 
--- behind a dispense comes the row that waits for its coins
+-- after a dispense comes the row that waits for its coins
 dosed_next : (own start : ℕ) (w : View) (owed : Option OpenOrder) (life : Option ℕ) (q : Request)
     (behind without : Then) (rows : List TableRow) → Follows own rows (asks_once q behind without) → IsOpen owed →
     FitsRows own start w owed life rows

@@ -20,6 +20,7 @@ use Rattle.cct_model.specs.Text.{text}
 use Rattle.cct_text.proofs.Whole.{text_is_one}
 use Rattle.cct_model.specs.Setup.{IsSoundSetup}
 use Rattle.cct_laws.specs.Law.{HasBytes, AreOfToday}
+use Rattle.cct_laws.specs.Right.{IsRight}
 use Rattle.cct_laws.specs.Scope.{EachTranscript}
 use Rattle.cct_laws.proofs.acceptor.Coinless.{each_in_order, each_covers}
 use Rattle.cct_laws.proofs.orders.Payments.{legal_paid, legal_fresh}

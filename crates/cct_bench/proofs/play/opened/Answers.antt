@@ -5,7 +5,7 @@ use Rattle.cct_bench.proofs.play.opened.Goals as goal
 
 pub returns-in-Ok-clause-ready : goal.returns-in-Ok-clause-ready
 returns-in-Ok-clause-ready g c =
-    record { sized = sym c.len-len.ensures ∙ c.if-len-ne-JOURNAL_BYTES.false; blank = c.in-Ok.ensures.blank }
+    record { sized = sym c.len-len.ensures ∙ c.if-len-ne-JOURNAL_BYTES.false; blank = c.in-Ok.ensures.created.blank }
 
 pub returns-in-Ok-clause-size : goal.returns-in-Ok-clause-size
 returns-in-Ok-clause-size g c =
@@ -14,7 +14,7 @@ returns-in-Ok-clause-size g c =
 pub returns-in-Ok-clause-stands : goal.returns-in-Ok-clause-stands
 returns-in-Ok-clause-stands g c setup trusted =
     let on = c.in-Ok.ensures.goes_on in
-    c.in-Ok.ensures.stands (sym on.same_honest ∙ trusted.0) (sym on.same_telling ∙ trusted.1)
+    c.in-Ok.ensures.created.stands (sym on.same_honest ∙ trusted.0) (sym on.same_telling ∙ trusted.1)
 
 pub returns-in-Err-clause-refused : goal.returns-in-Err-clause-refused
 returns-in-Err-clause-refused g c =

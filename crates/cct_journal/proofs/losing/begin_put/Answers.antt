@@ -9,22 +9,19 @@ use Rattle.cct_journal.proofs.losing.begin_put.Goals as goal
 pub returns-in-Some-clause-moments : goal.returns-in-Some-clause-moments
 returns-in-Some-clause-moments g c records stands =
     subst (λ put. LeavesOnly g.D.Disk.moment g.D.Disk.left_since c.args.disk.now c.put_slot.new.disk
-    (KeepsWith put records)) (sym c.in-Some.is) (c.put_slot.ensures.moments records stands)
+    (KeepsWith put records)) (sym c.in-Some.is) (c.put_slot.ensures.moments.each records stands)
 
 pub returns-in-Some-clause-left : goal.returns-in-Some-clause-left
 returns-in-Some-clause-left g c =
     let disk = g.D.Disk in
-    let old = c.args.disk.now in
     let new = c.put_slot.new.disk in
     let on = c.put_slot.ensures.goes_on in
     let entry = c.in-Some.entry in
     on_ok_weaker c.put_slot.result (λ done records stands.
     subst (λ put. LeavesBy disk.honest disk.seen disk.may_leave new c.args.calls put records) (sym c.in-Some.is)
     (put_leaves c.args.calls entry records c.requires.few
-    (λ early. leaves_same disk.honest disk.seen disk.may_leave disk.moment disk.left_since g.met.D.Disk.counts_now
-    old new c.args.place records stands on.same_honest on.same_telling
-    (c.put_slot.ensures.early early records stands))
-    (leaves_one_of disk.honest disk.seen disk.may_leave disk.moment disk.left_since g.met.D.Disk.counts_now
-    old new c.args.place records stands on.same_honest on.same_telling entry
-    (c.put_slot.ensures.moments records stands))
+    (λ early. leaves_same g.met.D.Disk.counts_now on.same_honest on.same_telling stands
+    (c.put_slot.ensures.moments.early early records stands))
+    (leaves_one_of g.met.D.Disk.counts_now on.same_honest on.same_telling stands entry
+    (c.put_slot.ensures.moments.each records stands))
     (λ all. settled_leaves (stands_settled (done all records stands))))) c.put_slot.ensures.done

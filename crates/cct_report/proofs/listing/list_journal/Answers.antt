@@ -9,10 +9,10 @@ use Rattle.cct_report.proofs.listing.list_journal.Goals as goal
 pub returns-in-Ok-clause-found : goal.returns-in-Ok-clause-found
 returns-in-Ok-clause-found g c image told =
     let sink = g.K.Sink in
-    let found = c.in-Ok.ensures.found image told in
+    let found = c.in-Ok.ensures.finds.found image told in
     opened_finds c.list_records-how.result image found.0 (c.list_records-how.new.out ≡ c.args.out.now)
     (λ entries answer. Writes sink.written sink.puts c.args.out.now entries answer c.list_records-how.new.out)
-    found.1 (c.list_records-how.ensures.every found.0 (c.in-Ok.ensures.every image found.0 told found.1))
+    found.1 (c.list_records-how.ensures.every found.0 (c.in-Ok.ensures.finds.every image found.0 told found.1))
 
 pub returns-in-Ok-clause-complete : goal.returns-in-Ok-clause-complete
 returns-in-Ok-clause-complete g c image told no_write no_disk =
@@ -22,7 +22,7 @@ returns-in-Ok-clause-complete g c image told no_write no_disk =
     (λ is. no_write (c.list_records-how.ensures.write_cause is))
     (λ is.
     no_disk (subst (λ d. Rose (disk.faults c.args.disk) (disk.faults d)) (sym c.into_disk.ensures)
-    (Rose-earlier _ _ _ c.in-Ok.ensures.later (c.list_records-how.ensures.disk_cause is))))
+    (Rose-earlier _ _ _ c.in-Ok.ensures.cause (c.list_records-how.ensures.disk_cause is))))
 
 pub returns-in-Err-clause-found : goal.returns-in-Err-clause-found
 returns-in-Err-clause-found g c image told =
@@ -33,4 +33,4 @@ pub returns-in-Err-clause-complete : goal.returns-in-Err-clause-complete
 returns-in-Err-clause-complete g c image told no_write no_disk =
     subst (λ how. Decides how image) (sym c.unopened.ensures)
     (unopened_decides c.in-Err.why image (c.in-Err.ensures.refused image told)
-    (λ is. no_disk (c.in-Err.ensures.cause is)))
+    (λ is. no_disk (c.in-Err.ensures.cause.rose is)))

@@ -9,4 +9,5 @@ returns-in_default c =
       stands = λ d past so. c.tell.ensures.stands d past so same;
       answer = λ d past so. c.tell.ensures.answer d past so same;
       sayable = c.tell.ensures.sayable;
+      heard = λ bytes so. so;
     }
