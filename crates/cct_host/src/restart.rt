@@ -8,6 +8,7 @@ ghost use Rattle.cct_model.specs.Script.{IsCrash};
 ghost use Rattle.cct_record.specs.Body.{Encodable};
 ghost use Rattle.cct_journal.specs.Image.{capacity_of};
 ghost use Rattle.cct_journal.specs.Journal as journals;
+ghost use Rattle.cct_journal.specs.Opening.{ReplaysAll};
 ghost use Rattle.cct_ledger.specs.Ledger as ledgers;
 ghost use Rattle.cct_laws.specs.Restart.{calls_in, due_in};
 ghost use Rattle.cct_host.specs.OnDisk.{KeepsRecords, ReadsRecords};
@@ -136,11 +137,8 @@ fn lose<D: Disk, R: Replay>(
     requires starts { R.replayed 0 replay.old [] replay.old }
 
     ensures restarts { IfOk result (JournalRestarts calls due choice journal.old journal.new) }
-    ensures replayed { OnOk result ((before : List Record) × (journals.used_of journal.new ≡ length before)
-        × R.replayed 0 replay.old before replay.new) }
-    ensures told { OnOk result ((setup : Setup) (records : List Record)
-        → ReadsRecords setup D.seen (journals.disk_of journal.new) (journals.place_of journal.new) records
-        → R.replayed 0 replay.old (reverse records) replay.new) }
+    ensures replayed { OnOk result (ReplaysAll D.seen R.replayed (journals.disk_of journal.new)
+        (journals.place_of journal.new) replay.old replay.new) }
     ensures fails { IfErr result (λ why. (setup : Setup) → JournalFails setup due choice journal.old journal.new why) }
     ensures never { IfErr result (λ why. (setup : Setup) (records : List Record)
         → KeepsRecords setup D.honest D.seen D.may_leave (journals.disk_of journal.old) (journals.place_of journal.old) records

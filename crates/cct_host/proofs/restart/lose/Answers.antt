@@ -18,7 +18,7 @@ returns-in-Ok-clause-restarts g c =
       whole = found.unbroken;
       kept_is = same;
       counts = omega (arith, counts, found.counted, c.used-put.ensures.value);
-      found = λ setup. found.found;
+      found = λ setup. found.finds.found;
       stands = λ setup records stands.
           let left = found.stands records stands in
           let many : length left.0 ≡ length records + length (put_by kept) =
@@ -29,13 +29,8 @@ returns-in-Ok-clause-restarts g c =
                 (journals.place_of c.restart.new.self)) is.1 left.2,
           );
       cut = restarted.cut (λ no. no_error c.restart.result c.in-Ok.found _ c.in-Ok.is no);
-      outlasts = record {
-        same_size = restarted.size;
-        same_honest = restarted.honest;
-        same_telling = restarted.tells;
-        later_cuts = restarted.cuts;
-      };
-      later = restarted.later;
+      outlasts = restarted.outlasts;
+      later = restarted.cause.later;
     })
 
 pub returns-in-Ok-clause-fails : goal.returns-in-Ok-clause-fails
@@ -45,19 +40,14 @@ returns-in-Ok-clause-fails g c =
     if_lost c.kept_in.result _ _ c.kept_in.ensures.lost
     (λ why lost setup. record {
       refused = subst (RefusesRestart c.args.journal.now c.restart.new.self c.args.due setup) (sym lost.0)
-          (found.counted, c.used-put.ensures.value, lost.1, found.found);
+          (found.counted, c.used-put.ensures.value, lost.1, found.finds.found);
       leaves = λ records stands.
           let left = found.stands records stands in
           absurd (none_lost c.args.calls c.args.due records left.0 c.in-Ok.found c.used-put.result left.1
           (found.counted ∙ left.2.count) (c.used-put.ensures.value ∙ stands.count) lost.1);
-      cause = record { later = restarted.later; rose = λ is. let told = lost.0 in absurd cc };
+      cause = record { later = restarted.cause.later; rose = λ is. let told = lost.0 in absurd cc };
       cut = λ other. restarted.cut (λ no. no_error c.restart.result c.in-Ok.found _ c.in-Ok.is no);
-      outlasts = record {
-        same_size = restarted.size;
-        same_honest = restarted.honest;
-        same_telling = restarted.tells;
-        later_cuts = restarted.cuts;
-      };
+      outlasts = restarted.outlasts;
     })
 
 pub returns-in-Ok-clause-never : goal.returns-in-Ok-clause-never
@@ -75,16 +65,11 @@ returns-in-Err-Disk-clause-fails g c setup =
       refused = tt;
       leaves = λ records stands. c.in-Err-Disk.ensures.left records stands;
       cause = record {
-        later = restarted.later;
-        rose = λ is. restarted.cause (c.in-Err-Disk.is ∙ ap Err c.in-Err-Disk.field-0-is);
+        later = restarted.cause.later;
+        rose = λ is. restarted.cause.rose (c.in-Err-Disk.is ∙ ap Err c.in-Err-Disk.field-0-is);
       };
       cut = λ other. absurd (other refl);
-      outlasts = record {
-        same_size = restarted.size;
-        same_honest = restarted.honest;
-        same_telling = restarted.tells;
-        later_cuts = restarted.cuts;
-      };
+      outlasts = restarted.outlasts;
     }
 
 pub returns-in-Err-Alien-clause-fails : goal.returns-in-Err-Alien-clause-fails
@@ -94,14 +79,9 @@ returns-in-Err-Alien-clause-fails g c setup =
       refused = λ image tells. subst (λ why. RefusesOpen why image) c.in-Err-Alien.field-0-is
           (c.in-Err-Alien.ensures.refused image tells);
       leaves = λ records stands. c.in-Err-Alien.ensures.left records stands;
-      cause = record { later = restarted.later; rose = λ is. absurd cc };
+      cause = record { later = restarted.cause.later; rose = λ is. absurd cc };
       cut = λ other. restarted.cut (λ is. cc);
-      outlasts = record {
-        same_size = restarted.size;
-        same_honest = restarted.honest;
-        same_telling = restarted.tells;
-        later_cuts = restarted.cuts;
-      };
+      outlasts = restarted.outlasts;
     }
 
 pub returns-in-Err-Alien-clause-never : goal.returns-in-Err-Alien-clause-never
@@ -117,14 +97,9 @@ returns-in-Err-BadRecord-clause-fails g c setup =
           (subst (λ why. RefusesOpen why image) c.in-Err-BadRecord.field-0-is
           (c.in-Err-BadRecord.ensures.refused image tells)));
       leaves = λ records stands. c.in-Err-BadRecord.ensures.left records stands;
-      cause = record { later = restarted.later; rose = λ is. absurd cc };
+      cause = record { later = restarted.cause.later; rose = λ is. absurd cc };
       cut = λ other. restarted.cut (λ is. cc);
-      outlasts = record {
-        same_size = restarted.size;
-        same_honest = restarted.honest;
-        same_telling = restarted.tells;
-        later_cuts = restarted.cuts;
-      };
+      outlasts = restarted.outlasts;
     }
 
 pub returns-in-Err-BadRecord-clause-never : goal.returns-in-Err-BadRecord-clause-never

@@ -10,7 +10,7 @@ use Rattle.cct_host.proofs.restart.restart.Goals as goal
 
 pub returns-in-None-clause-together : goal.returns-in-None-clause-together
 returns-in-None-clause-together g c =
-    let over = c.in-Ok.ensures.replayed in
+    let over = c.in-Ok.ensures.replayed.each in
     free_together c.lose.new.replay.desks c.lose.new.replay.ledger c.lose.new.journal over.2.unused over.2.same
     over.2.reserved (omega (arith, over.1, over.2.counted))
 
@@ -22,11 +22,11 @@ pub returns-in-None-clause-over : goal.returns-in-None-clause-over
 returns-in-None-clause-over g c records reads =
     let now = c.lose.new.replay in
     subst (λ bad. GoesOver 0 bad (setup_of now.desks) now.desks now.ledger (reverse records)) c.in-None.is
-    (c.in-Ok.ensures.told (setup_of c.args.desks.now) records reads).over
+    (c.in-Ok.ensures.replayed.told records reads).over
 
 pub returns-in-Some-clause-together : goal.returns-in-Some-clause-together
 returns-in-Some-clause-together g c =
-    let over = c.in-Ok.ensures.replayed in
+    let over = c.in-Ok.ensures.replayed.each in
     free_together c.lose.new.replay.desks c.lose.new.replay.ledger c.lose.new.journal over.2.unused over.2.same
     over.2.reserved (omega (arith, over.1, over.2.counted))
 
@@ -38,7 +38,7 @@ returns-in-Some-clause-fails g c =
     bad_fails setup _ _ c.args.choice c.args.journal.now c.lose.new.journal c.in-Ok.kept c.in-Some.index restarts
     (λ records reads.
     first_bad c.new-replayed.result c.lose.new.replay setup c.in-Some.index records c.in-Some.is
-    (c.new-replayed.ensures.setup ∙ c.setup-setup.ensures) (c.in-Ok.ensures.told setup records reads))
+    (c.new-replayed.ensures.setup ∙ c.setup-setup.ensures) (c.in-Ok.ensures.replayed.told records reads))
 
 pub returns-in-Some-clause-never : goal.returns-in-Some-clause-never
 returns-in-Some-clause-never g c records stands follow fits =
@@ -47,7 +47,7 @@ returns-in-Some-clause-never g c records stands follow fits =
     let rs = records ++ put_by kept in
     let reads = stands_read g.D.Disk setup _ _ rs (c.in-Ok.ensures.restarts.stands setup records stands).1 in
     let bad = first_bad c.new-replayed.result c.lose.new.replay setup c.in-Some.index rs c.in-Some.is
-    (c.new-replayed.ensures.setup ∙ c.setup-setup.ensures) (c.in-Ok.ensures.told setup rs reads) in
+    (c.new-replayed.ensures.setup ∙ c.setup-setup.ensures) (c.in-Ok.ensures.replayed.told rs reads) in
     absurd (none_bad setup rs c.in-Some.index
     (kept_follow setup (due_for c.args.desks.now c.args.at) kept records follow
     (subst (λ d. IfSome kept (λ r. d ≡ Some r)) c.due_for-due.ensures.value c.in-Ok.ensures.restarts.kept_is) fits) bad)
