@@ -125,3 +125,22 @@ def first_pages(root: Path):
                 if not 0 < words < 1000:
                     faults.append(f"README.md:{row.line}: {name}#{anchor} has {words} words")
     return count, faults
+
+
+def names(root: Path):
+    """Each name of code in back quotes stands in the source: a word with a low line, or with a capital and a small letter;
+    it may also be that of an edit, an example, a measure or a crate."""
+    known = {path.stem for pattern in ("crates/*/must-fail/*.edit", "crates/*", "examples/*", "bench/*", "docs/*")
+             for path in root.glob(pattern)}
+    for pattern in ("src/**/*.rt", "specs/**/*.antt", "proofs/**/*.antt"):
+        for path in root.glob(f"crates/*/{pattern}"):
+            known.update(re.findall(r"\w+", path.read_text()))
+    count, faults = 0, []
+    for path in [root / "README.md", *sorted(root.glob("*/*.md"))]:
+        for number, line in enumerate(path.read_text().splitlines(), 1):
+            for quoted in re.findall(r"`((?!__)\w+(?:::\w+)*)`", line):
+                for name in re.findall(r"[A-Z]\w*[a-z]\w*|[a-z]+_\w+", quoted):
+                    count += 1
+                    if name not in known:
+                        faults.append(f"{path.name}:{number}: `{quoted}` is nowhere in the source")
+    return count, faults

@@ -27,10 +27,13 @@ fn setup() -> DeviceSetup
     }
 }
 
-/// What the hopper answers to bytes on the wire: nothing if it is silent.
+/// What the hopper answers to bytes that come one by one, and a gap after them: nothing if it is silent.
 fn answer(hopper: &mut Hopper<'_>, bytes: &[u8]) -> ArrayVec<u8, MOST_SENT> {
     let mut answer = ArrayVec::new();
-    hopper.hear(bytes, &mut answer);
+    for byte in bytes {
+        hopper.byte(*byte);
+    }
+    hopper.gap(&mut answer);
     answer
 }
 

@@ -28,7 +28,10 @@ impl Serial<'_> {
     /// Sends bytes. They come back, and so does what the acceptor answers.
     fn send(&mut self, bytes: &[u8]) {
         let mut answer: ArrayVec<u8, MOST_SENT> = ArrayVec::new();
-        self.acceptor.hear(bytes, &mut answer);
+        for byte in bytes {
+            self.acceptor.byte(*byte);
+        }
+        self.acceptor.gap(&mut answer);
         let _ = self.waiting.try_extend_from_slice(bytes);
         let _ = self.waiting.try_extend_from_slice(answer.as_slice());
     }

@@ -17,7 +17,7 @@ use Rattle.cct_journal.specs.declared.journal.Journal.{Journal}
 use Rattle.cct_journal.specs.declared.place.Place.{Place}
 use Rattle.cct_journal.specs.Image.{Keeps}
 use Rattle.cct_journal.specs.Journal as journals
-use Rattle.cct_journal.specs.Losing.{LeavesWith, LeftBy}
+use Rattle.cct_journal.specs.PowerCuts.{LeavesWith, LeftBy}
 use Rattle.cct_laws.specs.Restart.{RestartSuits, calls_in, due_in}
 use Rattle.cct_laws.proofs.money.Replaying.{follow_at}
 use Rattle.cct_laws.proofs.money.Restarts.{restart_bare, entries_free, restart_keeps}

@@ -6,7 +6,7 @@ use Rattle.cct_model.specs.lines.record.Record.{Record}
 use Rattle.cct_model.specs.Following.{all_follow}
 use Rattle.cct_journal.specs.declared.place.Place.{Place}
 use Rattle.cct_journal.specs.Image.{HasRecords, StandsFor}
-use Rattle.cct_journal.specs.Losing.{LeavesWith}
+use Rattle.cct_journal.specs.PowerCuts.{LeavesWith}
 use Rattle.cct_journal.specs.Stands.{Reads, Stands}
 use Rattle.cct_host.specs.Starting.{IsFirstBad}
 

@@ -1,5 +1,5 @@
 -- The questions of an identification, each after the one before.
-use Rattle.std.proofs.Common.{◌≡◌, ℕ, ◌+◌, suc, zero, ◌<◌, ◌&&◌, Bool, true, false, List, [], ◌∷◌, length, map, refl, ap, subst, Option, Some, None, arith}
+use Rattle.std.proofs.Common.{◌≡◌, ℕ, ◌+◌, suc, zero, ◌<◌, Bool, true, false, List, [], ◌∷◌, length, map, refl, ap, subst, Option, Some, None, arith}
 use Rattle.std.proofs.lemmas.Bool.{and_parts}
 use Rattle.std.proofs.lemmas.Bool.Decides.{nat_tests}
 use Rattle.std.specs.Prelude.{◌==◌, slice_get}
@@ -93,7 +93,6 @@ other n m less = grind (arith, nat_tests, less)
 -- where one is at a place, there are more than so many
 pub question_within : (xs : List Request) (n : ℕ) (q : Request) → slice_get xs n ≡ Some q → (length xs == n) ≡ false
 question_within xs n q e = other n (length xs) (below xs n q e)
-
 
 -- a test of all of a list is one of each
 all_at : (test : Request → Bool) (xs : List Request) (n : ℕ) (q : Request) → list_all test xs ≡ true

@@ -1,5 +1,5 @@
 -- What a payment or a settlement is at work to close, and how many coins a payment reserves.
-use Rattle.std.proofs.Common.{◌≡◌, ℕ, ◌+◌, ◌≤◌, ◌*◌, Bool, List, refl, sym, ap, ◌∙◌, Option, None, arith}
+use Rattle.std.proofs.Common.{◌≡◌, ℕ, ◌+◌, ◌*◌, Bool, List, refl, sym, ap, ◌∙◌, Option, None, arith}
 use Rattle.cct_model.specs.lines.command.Command.{Command}
 use Rattle.cct_model.specs.lines.record.Record.{Record}
 use Rattle.cct_model.specs.terms.device.DeviceSetup.{DeviceSetup}
@@ -8,7 +8,7 @@ use Rattle.cct_model.specs.declared.judging.EpochState.{EpochState}
 use Rattle.cct_model.specs.declared.judging.OpenOrder.{OpenOrder}
 use Rattle.cct_model.specs.Exchange.{device_at}
 use Rattle.cct_model.specs.Job.{address_of, works, credits_read, mask_read}
-use Rattle.cct_model.specs.Rows.{closes_order, has_closes, puts_in}
+use Rattle.cct_model.specs.Rows.{closes_order, has_closes}
 use Rattle.cct_model.specs.Line.{Line}
 use Rattle.cct_model.specs.Money.{coins_of, freed_by, hopper_value, reserved_by, reserved_for}
 use Rattle.cct_jobs.specs.declared.job.Job.{Job}

@@ -7,7 +7,7 @@ use Rattle.cct_disk.specs.Disk.{Holds, IsCutBy, LeavesOnly, SameOutside}
 use Rattle.cct_journal.specs.declared.place.Place.{Place}
 use Rattle.cct_journal.specs.Image.{Keeps, KeepsOneOf, capacity_of}
 use Rattle.cct_journal.specs.Gated.{IsBegun, behind_open_gate}
-use Rattle.cct_journal.specs.Losing.{KeepsWith, LeavesBy, LeavesWith, LeftBy}
+use Rattle.cct_journal.specs.PowerCuts.{KeepsWith, LeavesBy, LeavesWith, LeftBy}
 use Rattle.cct_journal.specs.Stands.{Leaves, LeavesOneOf, Outlasts, Puts, Reads, Settled, Stands}
 use Rattle.cct_journal.proofs.Moments.{now_too, weaker}
 use Rattle.cct_journal.proofs.Puts.{begun_keeps, body_torn, written_keeps}

@@ -7,12 +7,12 @@ ghost use Rattle.cct_record.specs.Body.{Encodable};
 ghost use Rattle.cct_disk.specs.Disk.{CountsCut, Holds, IsCutBy, IsWithin, LeavesOnly, OnlyReads};
 ghost use Rattle.cct_journal.specs.Image.{KeepsOneOf, StandsFor, capacity_of, least_size};
 ghost use Rattle.cct_journal.specs.Creating.{Creates, IsCreated, RefusesCreate};
-ghost use Rattle.cct_journal.specs.Losing.{KeepsWith, LeavesWith, LeftBy};
+ghost use Rattle.cct_journal.specs.PowerCuts.{KeepsWith, LeavesWith, LeftBy};
 ghost use Rattle.cct_journal.specs.Opening.{Finds, GivesRecord, RefusesOpen, RefusesRecord, ReplaysAll};
-ghost use Rattle.cct_journal.specs.Stands.{CutOnce, GoesOn, IsPlaced, Leaves, LeavesOneOf, Outlasts, Puts, Reads, Settled, Stands};
+ghost use Rattle.cct_journal.specs.Stands.{CutOnce, GoesOn, IsPlaced, Leaves, LeavesOneOf, Outlasts, Puts, Settled};
 
 use crate::creating::lay_header;
-use crate::losing::lose;
+use crate::cutting::cut_power;
 use crate::opening::find_place;
 use crate::place::Place;
 use crate::range::GATED_CALLS;
@@ -38,7 +38,7 @@ pub struct Journal<D: Disk> {
 }
 
 impl<D: Disk> Journal<D> {
-    ghost use Rattle.cct_journal.specs.Journal.{disk_back, disk_of, has_failed, place_of, used_of};
+    ghost use Rattle.cct_journal.specs.Journal.{JournalReads, JournalStands, disk_back, disk_of, has_failed, place_of, used_of};
 
     /// Creates a journal without records on a blank disk.
     ///
@@ -84,8 +84,7 @@ impl<D: Disk> Journal<D> {
     pub fn reopen(disk: D) -> Result<(Journal<D>, u32), (D, OpenNo)>
         ensures finds { IfOk result (λ opened. Finds D.seen disk (disk_of opened.0) (place_of opened.0)) }
         ensures stands { IfOk result (λ opened. (records : List Record)
-            → Settled D.honest D.seen D.may_leave disk records
-            → Stands D.honest D.seen D.may_leave (disk_of opened.0) (place_of opened.0) records) }
+            → Settled D.honest D.seen D.may_leave disk records → JournalStands opened.0 records) }
         ensures counted { IfOk result (λ opened. opened.1 ≡ used_of opened.0) }
         ensures unbroken { IfOk result (λ opened. has_failed opened.0 ≡ false) }
 
@@ -154,11 +153,8 @@ impl<D: Disk> Journal<D> {
         ensures refused { IfErr result (RefusesRecord D.seen (disk_of self.old) (place_of self.old) index) }
 
         // the journal stays as it is
-        ensures stands { (records : List Record)
-            → Stands D.honest D.seen D.may_leave (disk_of self.old) (place_of self.old) records
-            → Stands D.honest D.seen D.may_leave (disk_of self.new) (place_of self.new) records }
-        ensures told { (records : List Record) → Reads D.seen (disk_of self.old) (place_of self.old) records
-            → Reads D.seen (disk_of self.new) (place_of self.new) records }
+        ensures stands { (records : List Record) → JournalStands self.old records → JournalStands self.new records }
+        ensures told { (records : List Record) → JournalReads self.old records → JournalReads self.new records }
         ensures place { place_of self.new ≡ place_of self.old }
         ensures unbroken { has_failed self.new ≡ has_failed self.old }
         ensures reads { OnlyReads D.size D.honest D.seen D.may_leave D.moment D.left_since D.cuts (disk_of self.old)
@@ -179,16 +175,13 @@ impl<D: Disk> Journal<D> {
         requires encodable { Encodable entry.now }
 
         // each image that a power cut at a moment of the call may leave
-        ensures moments { (records : List Record)
-            → Stands D.honest D.seen D.may_leave (disk_of self.old) (place_of self.old) records
+        ensures moments { (records : List Record) → JournalStands self.old records
             → LeavesOnly D.moment D.left_since (disk_of self.old) (disk_of self.new) (KeepsOneOf records entry.now) }
 
         // at the end
-        ensures done { OnOk result ((records : List Record)
-            → Stands D.honest D.seen D.may_leave (disk_of self.old) (place_of self.old) records
-            → Stands D.honest D.seen D.may_leave (disk_of self.new) (place_of self.new) (records ++ entry.now ∷ [])) }
-        ensures left { OnErr result ((records : List Record)
-            → Stands D.honest D.seen D.may_leave (disk_of self.old) (place_of self.old) records
+        ensures done { OnOk result ((records : List Record) → JournalStands self.old records
+            → JournalStands self.new (records ++ entry.now ∷ [])) }
+        ensures left { OnErr result ((records : List Record) → JournalStands self.old records
             → LeavesOneOf D.honest D.seen D.may_leave (disk_of self.new) records entry.now) }
         ensures counted { OnOk result (used_of self.new ≡ used_of self.old + 1) }
         ensures still { OnErr result (place_of self.new ≡ place_of self.old) }
@@ -234,14 +227,11 @@ impl<D: Disk> Journal<D> {
             (disk_of self) (disk_back result) }
 
         // and at the end
-        ensures done { OnOk result (calls ≡ 4 → (records : List Record)
-            → Stands D.honest D.seen D.may_leave (disk_of self) (place_of self) records
+        ensures done { OnOk result (calls ≡ 4 → (records : List Record) → JournalStands self records
             → Settled D.honest D.seen D.may_leave (disk_back result) (records ++ entry.now ∷ [])) }
-        ensures left { (records : List Record)
-            → Stands D.honest D.seen D.may_leave (disk_of self) (place_of self) records
+        ensures left { (records : List Record) → JournalStands self records
             → LeavesOneOf D.honest D.seen D.may_leave (disk_back result) records entry.now }
-        ensures left_early { calls ≤ 2 → (records : List Record)
-            → Stands D.honest D.seen D.may_leave (disk_of self) (place_of self) records
+        ensures left_early { calls ≤ 2 → (records : List Record) → JournalStands self records
             → Leaves D.honest D.seen D.may_leave (disk_back result) records }
 
         // the disk
@@ -317,15 +307,13 @@ impl<D: Disk> Journal<D> {
         requires starts { R.replayed 0 replay.old [] replay.old }
 
         // each image that a power cut at a moment of the call may leave
-        ensures moments { (records : List Record)
-            → Stands D.honest D.seen D.may_leave (disk_of self.old) (place_of self.old) records
+        ensures moments { (records : List Record) → JournalStands self.old records
             → LeavesOnly D.moment D.left_since (disk_of self.old) (disk_of self.new) (KeepsWith put.now records) }
 
         // what is opened
-        ensures stands { OnOk result ((records : List Record)
-            → Stands D.honest D.seen D.may_leave (disk_of self.old) (place_of self.old) records
+        ensures stands { OnOk result ((records : List Record) → JournalStands self.old records
             → (left : List Record) × LeftBy calls put.now records left
-            × Stands D.honest D.seen D.may_leave (disk_of self.new) (place_of self.new) left) }
+            × JournalStands self.new left) }
         ensures finds { OnOk result (Finds D.seen (disk_of self.new) (disk_of self.new) (place_of self.new)) }
         ensures counted { IfOk result (λ used. used ≡ used_of self.new) }
         ensures unbroken { OnOk result (has_failed self.new ≡ false) }
@@ -335,11 +323,9 @@ impl<D: Disk> Journal<D> {
         // why nothing is opened, and what stands then
         ensures refused { IfErr result (λ why. (image : List ℕ) → D.seen (disk_of self.new) ≡ Some image
             → RefusesOpen why image) }
-        ensures never { IfErr result (λ why. (records : List Record)
-            → Stands D.honest D.seen D.may_leave (disk_of self.old) (place_of self.old) records
+        ensures never { IfErr result (λ why. (records : List Record) → JournalStands self.old records
             → why ≡ OpenNo.Disk) }
-        ensures left { OnErr result ((records : List Record)
-            → Stands D.honest D.seen D.may_leave (disk_of self.old) (place_of self.old) records
+        ensures left { OnErr result ((records : List Record) → JournalStands self.old records
             → LeavesWith D.honest D.seen D.may_leave (disk_of self.new) put.now records) }
         ensures still { OnErr result (place_of self.new ≡ place_of self.old) }
         ensures broken { OnErr result (has_failed self.new ≡ true) }
@@ -351,7 +337,7 @@ impl<D: Disk> Journal<D> {
         ensures cause { Caused (D.faults (disk_of self.old)) (D.faults (disk_of self.new)) (result ≡ Err OpenNo.Disk) }
     {
         self.failed = true;
-        let Ok(()) = lose(&mut self.disk, self.place, put, calls, choice) else {
+        let Ok(()) = cut_power(&mut self.disk, self.place, put, calls, choice) else {
             return Err(OpenNo::Disk);
         };
         match find_place(&mut self.disk, replay) {

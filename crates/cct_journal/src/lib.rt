@@ -2,9 +2,9 @@
 #![tactic(auto)]
 
 mod creating;
+mod cutting;
 mod format;
 mod journal;
-mod losing;
 mod opening;
 mod place;
 mod range;

@@ -78,9 +78,9 @@ pub enum CommandNo {
 pub enum WireFault {
     /// Nothing.
     Clear,
-    /// The devices hear this piece, 260 bytes at the most, in the place of what the host sends.
+    /// The devices hear this piece, 260 bytes at most, in the place of what the host sends.
     DevicesHear(Piece),
-    /// The host hears this piece, 260 bytes at the most, behind its echo in the place of the replies.
+    /// The host hears this piece, 260 bytes at most, after its echo in the place of the replies.
     HostHears(Piece),
     /// The host hears this piece, and nothing else.
     WholeHeard(Piece),
@@ -109,7 +109,7 @@ pub struct CrashAt {
 pub enum Step {
     /// A coin of this coin place, 1 to 16, falls into acceptor `addr`.
     Coin { addr: u8, place: u8 },
-    /// A piece that is no coin falls into acceptor `addr`.
+    /// An object that is no coin falls into acceptor `addr`.
     Alien { addr: u8 },
     /// A coin falls out of hopper `addr`, where it pays.
     Fall { addr: u8 },

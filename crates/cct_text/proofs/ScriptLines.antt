@@ -156,13 +156,13 @@ pub command_back : (c : Command) → IsTyped c → IsCommand c → step_line (co
 command_back c typed range =
     joined_give (command_fields c) (step.Command c) (command_above c (typed_fits c typed)) (fields_give c typed range)
 
--- a line of fields that are some, behind a word
+-- a line of fields that are some, after a word
 word_before : (word field : List ℕ) (fields : List (List ℕ))
     → join_with_byte 32 (word ∷ field ∷ fields) ++ 10 ∷ []
     ≡ word ++ 32 ∷ (join_with_byte 32 (field ∷ fields) ++ 10 ∷ [])
 word_before word field fields = append_assoc word (32 ∷ join_with_byte 32 (field ∷ fields)) (10 ∷ [])
 
--- the line of a command that was taken is its script's line behind the word `ok`
+-- the line of a command that was taken is its script's line after the word `ok`
 pub taken_is : (c : Command) → line_of (entry.Taken c) ≡ codes "ok " ++ command_line c ++ 10 ∷ []
 unfolding line_of
 taken_is (command.Start addr mask) = word_before (codes "ok") (codes "start") (number_text addr ∷ mask_field mask ∷ [])

@@ -4,7 +4,7 @@ use Rattle.std.specs.List.{join_with_byte}
 use Rattle.std.proofs.lemmas.List.{append-nil}
 use Rattle.cct_text.specs.Joined.{joined}
 
--- texts joined by a byte are the first, and the others each behind the byte
+-- texts joined by a byte are the first, and the others each after the byte
 pub joined_is : (byte : ℕ) (fields : List (List ℕ)) → join_with_byte byte fields ≡ joined byte fields
 joined_is byte [] = refl
 joined_is byte (x ∷ []) = sym (append-nil x)

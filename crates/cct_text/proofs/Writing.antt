@@ -20,7 +20,7 @@ puts_then puts a b c [] ys result h k = subst (λ from. Puts puts from ys result
 puts_then puts a b c (x ∷ xs) ys result (inl h) k = inl (h.0, h.1, puts_then puts h.0 b c xs ys result h.2 k)
 puts_then puts a b c (x ∷ xs) ys result (inr h) k = cc h.1
 
--- puts that broke off do so whatever was to be put behind
+-- puts that broke off do so whatever was to be put after
 puts_more : {K : Type 0} (puts : K → List ℕ → Result (Unit {0}) Failed → K → Type 0) (a b : K) (xs ys : List (List ℕ))
     (failed : Failed) →
     Puts puts a xs (Err failed) b → Puts puts a (xs ++ ys) (Err failed) b
@@ -79,7 +79,7 @@ writes_one written puts a b e result put = record {
       (told_one (written a) (written b) (line_of e) result put.ok put.err);
 }
 
--- writing that broke off, whatever was to be written behind
+-- writing that broke off, whatever was to be written after
 pub writes_more : {K : Type 0} (written : K → Option (List ℕ)) (puts : K → List ℕ → Result (Unit {0}) Failed → K → Type 0)
     (a b : K) (xs ys : List Entry) (failed : Failed) →
     Writes written puts a xs (Err failed) b → Writes written puts a (xs ++ ys) (Err failed) b

@@ -14,7 +14,7 @@ pub record PutsLine {K : Type 0} (written : K → Option (List ℕ))
   pub ok : OnOk result (Appends (written before) (written now) line)
   pub err : OnErr result (AppendsFront (written before) (written now) line)
 
--- These pieces were put one behind the other, each by one put, and nothing else was: all of them, or up to the first
+-- These lines were put one after the other, each by one put, and nothing else was: all of them, or up to the first
 -- whose put failed.
 abbrev pub Puts : {K : Type 0} → (K → List ℕ → Result (Unit {0}) Failed → K → Type 0) → K → List (List ℕ)
     → Result (Unit {0}) Failed → K → Type 0

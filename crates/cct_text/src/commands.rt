@@ -2,7 +2,7 @@
 ghost use Rattle.std.specs.Prelude.{◌≡◌, ℕ, ◌+◌, ◌<◌, ◌≤◌, List, [], ◌∷◌, ◌++◌, length};
 ghost use Rattle.cct_lines.specs.declared.entry.Entry.TheVariants.{Fault};
 ghost use Rattle.cct_lines.specs.Text.{command_fields, reason_fields, fields_of};
-ghost use Rattle.cct_text.specs.Joined.{behind, joined};
+ghost use Rattle.cct_text.specs.Joined.{behind};
 ghost use Rattle.cct_text.specs.Adding.{Adds, HasFields};
 
 use crate::fields::{write_address, write_mask, write_numbers, write_piece};

@@ -1,7 +1,7 @@
 //! How jobs end, and the devices that a scan lists.
 ghost use Rattle.std.specs.Prelude.{◌≡◌, ℕ, ◌+◌, ◌*◌, ◌<◌, ◌≤◌, List, [], ◌∷◌, ◌++◌, length};
 ghost use Rattle.cct_lines.specs.Text.{end_fields, listed_text, listed_field};
-ghost use Rattle.cct_text.specs.Joined.{behind, joined, found, separator_past};
+ghost use Rattle.cct_text.specs.Joined.{behind, found, separator_past};
 ghost use Rattle.cct_text.specs.Adding.{Adds, HasFields};
 
 use crate::fields::{write_address, write_number, write_pair};
@@ -52,7 +52,7 @@ fn write_listed(line: &mut TextLine, listed: &Listed)
     }
 }
 
-/// Writes a device behind a separator, where it is listed. Gives the separator of the next device: a comma once one is
+/// Writes a device after a separator, where it is listed. Gives the separator of the next device: a comma once one is
 /// written.
 fn write_device(line: &mut TextLine, separator: u8, listed: &Listed, addr: u8) -> u8
     requires { length line.old + 11 ≤ MOST_TEXT }

@@ -2,7 +2,7 @@
 ghost use Rattle.std.specs.Prelude.{◌≡◌, ℕ, ◌+◌, ◌<◌, ◌≤◌, List, [], ◌∷◌, ◌++◌, length};
 ghost use Rattle.cct_lines.specs.declared.entry.Entry.TheVariants.{Accepted, Taken, No, Wire, Balance, Line, JournalLost, Listing};
 ghost use Rattle.cct_lines.specs.Text.{record_fields, fields_of, line_of, kind_field, sum_field};
-ghost use Rattle.cct_text.specs.Joined.{behind, joined};
+ghost use Rattle.cct_text.specs.Joined.{behind};
 ghost use Rattle.cct_text.specs.Adding.{Adds, HasFields};
 
 use crate::commands::{write_command, write_fault, write_reason};
@@ -114,7 +114,7 @@ fn write_exchange(line: &mut TextLine, addr: u8, sent: &[u8], heard: &[u8])
     write_piece(line, heard);
 }
 
-/// Writes a word, and a record as the fields behind it.
+/// Writes a word, and a record as the fields after it.
 fn write_journal(line: &mut TextLine, word: &[u8], entry: &Record)
     requires { length line.old + length word.now + 200 ≤ MOST_TEXT }
     ensures { Adds line.old line.new (word.now ++ behind 32 (record_fields entry.now))
@@ -162,7 +162,7 @@ fn write_listing(line: &mut TextLine, index: u32, entry: &Record)
     write_record(line, entry);
 }
 
-/// The word of a refused line's kind, behind a space.
+/// The word of a refused line's kind, after a space.
 fn kind_word(kind: LineKind) -> &'static [u8]
     ensures text { result.now ≡ 32 ∷ kind_field kind }
     ensures len { length result.now ≤ 9 }

@@ -1,4 +1,4 @@
-//! Fields of a line, each behind a space.
+//! Fields of a line, each after a space.
 ghost use Rattle.std.specs.Prelude.{◌≡◌, ℕ, ◌+◌, ◌*◌, ◌<◌, ◌≤◌, List, [], ◌∷◌, ◌++◌, length, map};
 ghost use Rattle.cct_lines.specs.Text.{number_text, piece_field, mask_field};
 ghost use Rattle.cct_text.specs.Joined.{behind};
@@ -7,7 +7,7 @@ ghost use Rattle.cct_text.specs.Adding.{Adds};
 use crate::text::TextLine;
 use cct_lines::MOST_TEXT;
 
-/// Writes a word, and numbers as the fields behind it.
+/// Writes a word, and numbers as the fields after it.
 pub(crate) fn write_numbers(line: &mut TextLine, word: &[u8], numbers: &[u64])
     requires { length line.old + length word.now + 21 * length numbers.now ≤ MOST_TEXT }
     ensures { Adds line.old line.new (word.now ++ behind 32 (map number_text numbers.now))
@@ -19,7 +19,7 @@ pub(crate) fn write_numbers(line: &mut TextLine, word: &[u8], numbers: &[u64])
     }
 }
 
-/// Writes a word, and an address as the field behind it.
+/// Writes a word, and an address as the field after it.
 pub(crate) fn write_address(line: &mut TextLine, word: &[u8], addr: u8)
     requires { length line.old + length word.now + 21 ≤ MOST_TEXT }
     ensures { Adds line.old line.new (word.now ++ 32 ∷ number_text addr) (length word.now + 21) }
@@ -28,7 +28,7 @@ pub(crate) fn write_address(line: &mut TextLine, word: &[u8], addr: u8)
     write_number(line, u64::from(addr));
 }
 
-/// Writes a word, and an address and one more byte as the fields behind it.
+/// Writes a word, and an address and one more byte as the fields after it.
 pub(crate) fn write_pair(line: &mut TextLine, word: &[u8], addr: u8, byte: u8)
     requires { length line.old + length word.now + 42 ≤ MOST_TEXT }
     ensures { Adds line.old line.new (word.now ++ 32 ∷ number_text addr ++ 32 ∷ number_text byte)
@@ -47,7 +47,7 @@ pub(crate) fn write_number(line: &mut TextLine, number: u64)
     line.push_number(number);
 }
 
-/// Writes a word, and behind it an address and an inhibit mask, which has four hexadecimal digits.
+/// Writes a word, and after it an address and an inhibit mask, which has four hexadecimal digits.
 pub(crate) fn write_mask(line: &mut TextLine, word: &[u8], addr: u8, mask: u16)
     requires { length line.old + length word.now + 26 ≤ MOST_TEXT }
     ensures { Adds line.old line.new (word.now ++ 32 ∷ number_text addr ++ 32 ∷ mask_field mask)

@@ -58,7 +58,7 @@ pub(crate) fn write_record(line: &mut TextLine, entry: &Record)
     }
 }
 
-/// Writes a word, and an order's id and two bytes as the fields behind it.
+/// Writes a word, and an order's id and two bytes as the fields after it.
 fn write_order(line: &mut TextLine, word: &[u8], id: u32, first: u8, second: u8)
     requires { length line.old + length word.now + 63 ≤ MOST_TEXT }
     ensures { Adds line.old line.new (word.now ++ behind 32 (number_text id ∷ number_text first ∷ number_text second ∷ []))

@@ -10,7 +10,7 @@ use cct_lines::MOST_TEXT;
 use itoa::write_digits;
 use std::marker::Model;
 
-/// One line of text, `MOST_TEXT` bytes at the most, in a buffer that is made once and serves every line.
+/// One line of text, `MOST_TEXT` bytes at most, in a buffer that is made once and serves every line.
 #[derive(Drop)]
 pub struct TextLine {
     bytes: [u8; MOST_TEXT],

@@ -17,8 +17,14 @@ returns-then-separator-eq32 c = record {
       c.push.ensures
       ∙ lists_nothing c.args.listed.now c.loop-addr.addr c.args.line.now c.loop-addr.line c.loop-addr.separator
       (omega (arith, c.loop-addr-test.false, c.loop-addr.auto.addr-end)) c.loop-addr.invariant c.if-separator-eq32.true;
-  len = omega (arith, ap length c.push.ensures, length-append c.loop-addr.line (32 ∷ 45 ∷ []), c.loop-addr.invariant.room,
-      c.loop-addr-test.false, c.loop-addr.auto.addr-end);
+  len = omega (
+    arith,
+    ap length c.push.ensures,
+    length-append c.loop-addr.line (32 ∷ 45 ∷ []),
+    c.loop-addr.invariant.room,
+    c.loop-addr-test.false,
+    c.loop-addr.auto.addr-end,
+  );
 }
 
 pub returns-else-separator-eq32 : goal.returns-else-separator-eq32

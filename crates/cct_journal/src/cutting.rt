@@ -5,7 +5,7 @@ ghost use Rattle.cct_lines.specs.declared.record.Record.{Record};
 ghost use Rattle.cct_record.specs.Body.{Encodable};
 ghost use Rattle.cct_disk.specs.Disk.{LeavesOnly};
 ghost use Rattle.cct_journal.specs.Image.{capacity_of};
-ghost use Rattle.cct_journal.specs.Losing.{KeepsWith, LeavesBy, LeftBy};
+ghost use Rattle.cct_journal.specs.PowerCuts.{KeepsWith, LeavesBy, LeftBy};
 ghost use Rattle.cct_journal.specs.Stands.{CutOnce, GoesOn, Outlasts, Settled, Stands};
 
 use crate::place::Place;
@@ -39,7 +39,7 @@ fn begin_put<D: Disk>(
 }
 
 /// Cuts the power after the first `calls` of the four disk calls of a put, or in no put.
-pub(crate) fn lose<D: Disk>(
+pub(crate) fn cut_power<D: Disk>(
     disk: &mut D,
     place: Place,
     put: &Option<Record>,

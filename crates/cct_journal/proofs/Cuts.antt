@@ -6,7 +6,7 @@ use Rattle.cct_lines.specs.declared.record.Record.{Record}
 use Rattle.cct_disk.specs.Disk.{OnlyReads}
 use Rattle.cct_journal.specs.declared.place.Place.{Place}
 use Rattle.cct_journal.specs.Image.{StandsFor}
-use Rattle.cct_journal.specs.Losing.{LeavesBy}
+use Rattle.cct_journal.specs.PowerCuts.{LeavesBy}
 use Rattle.cct_journal.specs.Stands.{CutOnce, GoesOn, Leaves, LeavesOneOf, Reads, Settled, Stands}
 use Rattle.cct_journal.proofs.Moments.{reads_hold}
 

@@ -1,10 +1,10 @@
 use Rattle.std.proofs.Common.{sym, subst}
 use Rattle.std.proofs.lemmas.Result.{on_ok_weaker}
 use Rattle.cct_disk.specs.Disk.{LeavesOnly}
-use Rattle.cct_journal.specs.Losing.{KeepsWith, LeavesBy}
+use Rattle.cct_journal.specs.PowerCuts.{KeepsWith, LeavesBy}
 use Rattle.cct_journal.proofs.Calls.{leaves_one_of, leaves_same, settled_leaves, stands_settled}
-use Rattle.cct_journal.proofs.Losses.{put_leaves}
-use Rattle.cct_journal.proofs.losing.begin_put.Goals as goal
+use Rattle.cct_journal.proofs.Cuts.{put_leaves}
+use Rattle.cct_journal.proofs.cutting.begin_put.Goals as goal
 
 pub returns-in-Some-clause-moments : goal.returns-in-Some-clause-moments
 returns-in-Some-clause-moments g c records stands =

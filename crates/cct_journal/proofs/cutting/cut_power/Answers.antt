@@ -1,8 +1,8 @@
 use Rattle.std.proofs.Common.{◌∙◌}
 use Rattle.cct_journal.proofs.Calls.{cut_by}
-use Rattle.cct_journal.proofs.Losses.{cut_here}
+use Rattle.cct_journal.proofs.Cuts.{cut_here}
 use Rattle.cct_journal.proofs.Moments.{then_elapses}
-use Rattle.cct_journal.proofs.losing.lose.Goals as goal
+use Rattle.cct_journal.proofs.cutting.cut_power.Goals as goal
 
 pub returns-in_err-power_cut-clause-moments : goal.returns-in_err-power_cut-clause-moments
 returns-in_err-power_cut-clause-moments g c records stands =
