@@ -13,8 +13,8 @@ ghost use Rattle.cct_host.specs.Held.{FitsIn, FitsIn-prop, price_by, sells_only}
 ghost use Rattle.cct_host.specs.Place as places;
 ghost use Rattle.cct_host.specs.Running.{id_left, is_halt, is_running};
 
-use crate::orders::OrderState;
 use crate::exchange::{converse, settled};
+use crate::orders::OrderState;
 use crate::recorded::{epoch_by, id_of};
 use arrayvec::ArrayVec;
 use cct_jobs::{Job, Need};

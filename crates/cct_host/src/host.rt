@@ -21,8 +21,8 @@ ghost use Rattle.cct_host.specs.Running.{amount_of, needed, rows_begun};
 
 use crate::Desks;
 use crate::advance::advance;
-use crate::replay::replay_all;
 use crate::refusal::{CrashNo, StartNo};
+use crate::replay::replay_all;
 use crate::restart::{Crashed, restart};
 use arrayvec::ArrayVec;
 use cct_disk::Disk;

@@ -5,13 +5,13 @@
 mod advance;
 mod desk;
 mod desks;
-mod orders;
 mod exchange;
 mod host;
+mod orders;
 mod reasons;
-mod replay;
 mod recorded;
 mod refusal;
+mod replay;
 mod reserves;
 mod restart;
 mod values;

@@ -19,8 +19,8 @@ ghost use Rattle.cct_host.specs.Restarting.{IsLost, JournalFails, JournalRestart
 ghost use Rattle.cct_host.specs.Starting.{WentOver};
 
 use crate::Desks;
-use crate::replay::ReplayState;
 use crate::refusal::CrashNo;
+use crate::replay::ReplayState;
 use cct_disk::Disk;
 use cct_journal::{Journal, OpenNo, Replay};
 use cct_ledger::Ledger;

@@ -1,22 +1,18 @@
 //! A job, by the row at which it stands.
-ghost use Rattle.std.specs.Prelude.{IfSome, ◌≡◌, ◌≤◌, ◌<◌, List, ℕ, ◌∷◌, Option, Some, None, true, false};
+ghost use Rattle.std.specs.Prelude.{◌≡◌, ◌≤◌, ◌<◌, List, ℕ, ◌∷◌, Option, Some, None, IfSome, true, false};
 ghost use Rattle.cct_model.specs.lines.command.Command.{Command};
 ghost use Rattle.cct_model.specs.lines.command.Command.TheVariants as command;
 ghost use Rattle.cct_model.specs.terms.device.DeviceSetup.{DeviceSetup};
 ghost use Rattle.cct_model.specs.terms.device.Setup.{Setup};
 ghost use Rattle.cct_model.specs.declared.judging.EpochState.{EpochState};
 ghost use Rattle.cct_model.specs.lines.record.Record.{Record};
-ghost use Rattle.cct_model.specs.terms.request.Request.{Request};
-ghost use Rattle.cct_model.specs.terms.wire.CheckKind.{CheckKind};
-ghost use Rattle.cct_model.specs.Exchange.{ask};
 ghost use Rattle.cct_model.specs.declared.judging.OpenOrder.{OpenOrder};
-ghost use Rattle.cct_model.specs.Job.{sends, works};
-ghost use Rattle.cct_model.specs.Rows.{can_halt, closes_order, has_closes, has_waits, left, left_of_sale, puts_in, row};
-ghost use Rattle.cct_model.specs.Line.{Line, put, taken};
+ghost use Rattle.cct_model.specs.Job.{works};
+ghost use Rattle.cct_model.specs.Rows.{can_halt, closes_order, has_closes, has_waits, left, left_of_sale, puts_in};
+ghost use Rattle.cct_model.specs.Line.{Line, taken};
 ghost use Rattle.cct_model.specs.Money.{coins_of, reserved_by, reserved_by_sale};
 ghost use Rattle.cct_model.specs.Order.{order_by};
-ghost use Rattle.cct_model.specs.Scan.{end_of_scan, poll_of, scan_row};
-ghost use Rattle.cct_model.specs.Transcript.{scan_line};
+ghost use Rattle.cct_model.specs.Scan.{end_of_scan};
 ghost use Rattle.cct_record.specs.Body.{Encodable};
 ghost use Rattle.cct_jobs.specs.Ahead.{ahead, coins_in, price_in};
 ghost use Rattle.cct_jobs.specs.Jobs.{IsPut, Needs, PutsFit, Stands, after_halt, after_put, end_of_job, need_of, newest_end, order_of, owed_after, put_in, sending_of};
@@ -225,18 +221,6 @@ impl Job {
         self.own_request()
     }
 
-    /// The request that the job sends next, as [`Job::request`] tells it, and the job.
-    pub fn sending(self) -> (Sending, Job)
-        requires asks { need_of self ≡ Need.Exchange }
-        ensures same { result.1 ≡ self }
-        ensures request { Some result.0 ≡ sending_of self }
-        ensures row { SendsToDevice self result.0 }
-        ensures scan { SendsPoll self result.0 }
-    {
-        let sending = self.request();
-        (sending, self)
-    }
-
     /// The job's request was sent, and it hears this. A row whose reply isn't the wanted one is tried again, and after
     /// the third such try in succession the job ends with [`End::NoAnswer`]. The mask of a start is never sent
     /// again: it ends the job with [`End::Started`], or with [`End::StartUnsure`] where it isn't acknowledged.
@@ -271,17 +255,6 @@ impl Job {
         }
     }
 
-    /// The job after it heard this, as [`Job::hear`] leaves it.
-    pub fn heard(mut self, sent: &[u8], heard: &[u8]) -> Job
-        requires asks { need_of self ≡ Need.Exchange }
-        ensures device { HearsDevice self sent.now heard.now result }
-        ensures scan { HearsPolled self sent.now heard.now result }
-        ensures keeps { KeepsTo (ahead self) result }
-    {
-        self.hear(sent, heard);
-        self
-    }
-
     /// The job's record was put, and the job goes on.
     #[tactic(auto, using(crate::proofs::Epochs::put_leaves, crate::proofs::Needs::fewer_after, crate::proofs::Fits::after_put_fits, crate::proofs::Sales::put_sells))]
     pub fn go_on_after_put(&mut self)
@@ -293,19 +266,6 @@ impl Job {
         ensures value { self.new ≡ after_put self.old }
     {
         *self = self.after_put();
-    }
-
-    /// The job after its record was put, as [`Job::go_on_after_put`] leaves it.
-    pub fn was_put(mut self) -> Job
-        requires puts { IsPut (need_of self) }
-        ensures put { GoesOnAfterPut self result }
-        ensures sale { GoesOnAfterSale self result }
-        ensures may_put { puts_in (ahead result) < puts_in (ahead self) }
-        ensures fits { PutsFit result }
-        ensures value { result ≡ after_put self }
-    {
-        self.go_on_after_put();
-        self
     }
 
     /// The order that is open at the job's device after its record was put, where this one was open before.

@@ -35,12 +35,16 @@ pub fn read_reply<'a>(
     from: u8,
     view: &FrameView<'a>,
 ) -> Result<Reply<'a>, NotWanted>
+    // the reply
     ensures wanted { IfOk result (λ y. reply_from form from (message_of view.now) ≡ Some (reply_shown y)) }
     ensures in_place { IfOk result (λ y. TextLiesAt view.now.body.ref_ptr y) }
     ensures no_reason { OnOk result (reason_in form from (message_of view.now) ≡ None) }
 
+    // why there is none
     ensures unwanted { OnErr result (reply_from form from (message_of view.now) ≡ None) }
     ensures reason { IfErr result (λ why. reason_in form from (message_of view.now) ≡ Some why) }
+
+    // when each reason is told
     ensures nak { (result ≡ Err NotWanted.Nak) ↔ IsBare from 5 (message_of view.now) }
     ensures busy { (result ≡ Err NotWanted.Busy) ↔ IsBare from 6 (message_of view.now) }
     ensures other { (result ≡ Err NotWanted.Other) ↔ ((reply_from form from (message_of view.now) ≡ None)

@@ -25,9 +25,9 @@ returns-clause-advances g c =
     record {
       whole = put.whole;
       nexts = c.go_on.ensures.nexts;
-      counts = put.counted ∙ ap counted c.due-due.ensures.value;
+      counts = put.counted ∙ ap counted c.due_there-due.ensures.value;
       puts = λ past stands.
-          let due_is = c.due-due.ensures.stands past stands in
+          let due_is = c.due_there-due.ensures.stands past stands in
           record {
             used = put.counted ∙ ap counted due_is;
             on_disk = λ stood. subst
@@ -35,10 +35,10 @@ returns-clause-advances g c =
                 (journals.place_of written) (reverse (records past) ++ put_by d)) due_is
                 (put.done setup (reverse (records past)) stood);
             posts = λ takes stood.
-                let allowed = allowed_is c.due-due.result _ setup (records past) (reserved_at_work setup past)
+                let allowed = allowed_is c.due_there-due.result _ setup (records past) (reserved_at_work setup past)
                 (reserved_of turned) (goes.same ∙ c.requires.together.same)
                 (subst (λ d. IfSome d (λ r. reserved_of turned ≡ reserved_at_work setup past - freed_by setup r))
-                (sym c.due-due.ensures.value) (c.go_on.ensures.frees past stands))
+                (sym c.due_there-due.ensures.value) (c.go_on.ensures.frees past stands))
                 (subst (λ d. IfSome d (λ r. (freed_by setup r ≤ reserved_at_work setup past)
                 × (is_allowed setup (records past) (reserved_at_work setup past - freed_by setup r) r ≡ true))) (sym due_is)
                 takes) in
@@ -57,7 +57,7 @@ returns-in_err-put-clause-fails g c =
       place = failed.place;
       fails = λ past stands. (
         failed.left.0,
-        sym (c.due-due.ensures.stands past stands) ∙ failed.left.1,
+        sym (c.due_there-due.ensures.stands past stands) ∙ failed.left.1,
         failed.left.2 (setup_of c.args.desks.now),
       );
     })

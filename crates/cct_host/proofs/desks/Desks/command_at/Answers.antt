@@ -1,4 +1,4 @@
-use Rattle.std.proofs.Common.{◌+◌, ◌∙◌, [], ◌∷◌, get_or, set, ap, subst}
+use Rattle.std.proofs.Common.{◌+◌, ◌∙◌, [], ◌∷◌, get_or, set, ap, refl, subst}
 use Rattle.std.proofs.lemmas.List.{set-get_or}
 use Rattle.cct_model.specs.lines.command.CommandNo.TheVariants.{NoDevice}
 use Rattle.cct_model.specs.Exchange.{device_at}

@@ -83,3 +83,6 @@ returns-in-Some-clause-frees g c =
       frees = reserved_freed setup ks _ i at.device c.args.addr y x _ _ _ kept c.args.self.now.many at.within at.is at.addr_is
           before after frees.reserves;
     }
+
+pub returns-in-Some-clause-found : goal.returns-in-Some-clause-found
+returns-in-Some-clause-found g c = still_found c.args.self.now _ c.args.addr c.args.found refl c.requires.found
