@@ -6,7 +6,7 @@ ghost use Rattle.cct_edge.specs.Faults.{HasCause};
 
 use cct_edge::Failed;
 
-/// A disk of a fixed number of bytes, which may lose its power between any two calls.
+/// A disk of a fixed number of bytes, whose power may be cut between any two calls.
 ///
 /// Of a disk that is honest and tells what a read gives, the clauses say all that may be relied on: bytes that were
 /// synced stay. `docs/JOURNAL.md` says what is trusted of it. A failed call may succeed when it is made again.

@@ -15,7 +15,7 @@ use Rattle.cct_jobs.specs.Ahead.{body_of, place_of}
 use Rattle.cct_jobs.specs.Jobs.{question_after}
 use Rattle.cct_model.proofs.Requests.{IsAgain, is_asked_again}
 
--- what stands behind each element
+-- what stands after each element
 abbrev behind_each : List Request → List (Option Request)
 behind_each [] = []
 behind_each (q ∷ rest) = slice_get rest 0 ∷ behind_each rest
@@ -40,7 +40,7 @@ each_follows : (which : Family) → map (question_after which) (questions which)
 each_follows family.Acceptor = refl
 each_follows family.Hopper = refl
 
--- the question at the place behind one is the one that follows it
+-- the question at the place after one is the one that follows it
 pub next_question : (which : Family) (n : ℕ) (q : Request) → slice_get (questions which) n ≡ Some q
     → slice_get (questions which) (suc n) ≡ question_after which q
 next_question which n q at = follows (question_after which) (questions which) n q (each_follows which) at

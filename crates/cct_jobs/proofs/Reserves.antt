@@ -1,4 +1,4 @@
--- What a payment or a settlement is at work to close, and how many coins a payment reserves.
+-- What a payment or a settlement is running to close, and how many coins a payment reserves.
 use Rattle.std.proofs.Common.{◌≡◌, ℕ, ◌+◌, ◌*◌, Bool, List, refl, sym, ap, ◌∙◌, Option, None, arith}
 use Rattle.cct_model.specs.lines.command.Command.{Command}
 use Rattle.cct_model.specs.lines.record.Record.{Record}
@@ -27,7 +27,7 @@ use Rattle.cct_jobs.proofs.Owners.{close_frees, reading_frees}
 use Rattle.cct_jobs.proofs.Puts.{round_row, stop_row}
 use Rattle.cct_jobs.proofs.Told.{ident_none}
 
--- which jobs are at work to close an order
+-- which jobs are running to close an order
 pub closes_known : (d : DeviceSetup) (job : Job) (c : Command) (since : List Line) (state : EpochState)
     (owed : Option OpenOrder) (b : Bool) → b ≡ has_closes (ahead job) → Stands d job c since state owed
     → newest_end d c since state ≡ None → b ≡ closes_order d (works c since)

@@ -104,7 +104,7 @@ crc_unanswered failed due since at last =
     let all : suc (scan_tries Crc since) ≡ 3 = ap suc (sym at.counted) ∙ third_try failed last in
     rw (eq-eqb _ _ all) refl
 
--- what is noted behind a call
+-- what is noted after a call
 
 abbrev among : ℕ → List ℕ → Bool
 among a bytes = list_any (λ byte. byte == a) bytes

@@ -34,7 +34,7 @@ pub record KeepsTo (rows : List TableRow) (job : Job) : Type 0 where
   pub closes : has_closes rows ≡ true → 1 ≤ puts_in (ahead job) → has_closes (ahead job) ≡ true
   pub reserves : coins_in (ahead job) ≤ coins_in rows
 
--- A job that had these rows ahead keeps to them, and is at work to close an order.
+-- A job that had these rows ahead keeps to them, and is running to close an order.
 pub record KeepsClosing (rows : List TableRow) (job : Job) : Type 0 where
   pub keeps : KeepsTo rows job
   pub closes : has_closes (ahead job) ≡ true

@@ -54,7 +54,7 @@ pub(crate) fn heard(
     }
 }
 
-/// The job after a failed try of its stage, which is tried three times in succession at the most. The mask of a start
+/// The job after a failed try of its stage, which is tried three times in succession at most. The mask of a start
 /// and a dispense are never sent again.
 fn unanswered(device: Target, stage: Stage, failed: u8) -> Job
     ensures device { LeadsTo device stage failed None result }
@@ -67,7 +67,7 @@ fn unanswered(device: Target, stage: Stage, failed: u8) -> Job
     }
 }
 
-/// The payment or the settlement after a failed try of its row. A payment whose dispense was sent goes on behind it.
+/// The payment or the settlement after a failed try of its row. A payment whose dispense was sent goes on after it.
 fn payout_unanswered(device: Target, row: Payout, failed: u8) -> Job
     ensures device { LeadsTo device (Pays row) failed None result }
     ensures keeps { KeepsTo (payout_ahead device row) result }

@@ -77,7 +77,7 @@ impl Job {
         }
     }
 
-    /// Whether the job is at work to close an order, by its row.
+    /// Whether the job is running to close an order, by its row.
     pub(crate) fn closes(&self) -> bool
         ensures { result ≡ has_closes (ahead self.now) }
     {

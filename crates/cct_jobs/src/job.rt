@@ -29,7 +29,7 @@ use cct_model::{CheckKind, DeviceSet, End, Listed, Record, Request};
 /// A job of the host, by the row at which it stands.
 #[derive(Debug, Drop)]
 pub enum Job {
-    /// A row that asks the job's device is tried three times in succession at the most: `failed` of its tries got no
+    /// A row that asks the job's device is tried three times in succession at most: `failed` of its tries got no
     /// wanted reply so far.
     Asks {
         device: Target,
@@ -172,7 +172,7 @@ impl Job {
         self.records()
     }
 
-    /// Whether the job is a payment or a settlement, which is at work to close an order.
+    /// Whether the job is a payment or a settlement, which is running to close an order.
     #[tactic(auto, using(crate::proofs::Reserves::closes_known, crate::proofs::Sales::sale_never_closes))]
     pub fn closes_order(&self) -> bool
         ensures value { result ≡ has_closes (ahead self.now) }

@@ -1,5 +1,5 @@
 //! The round, and the stop of an epoch: an acceptor's credits and then its inhibit mask are read, and what they mean is
-//! put; a stop inhibits every coin before, and puts the epoch's end behind (ccTalk Generic Specification 4, part 2,
+//! put; a stop inhibits every coin before, and puts the epoch's end after (ccTalk Generic Specification 4, part 2,
 //! headers 228, 229 and 230).
 ghost use Rattle.std.specs.Prelude.{◌≡◌, ℕ, Some};
 ghost use Rattle.cct_model.specs.terms.request.ReplyForm.TheVariants as form;

@@ -127,7 +127,7 @@ impl Stage {
         }
     }
 
-    /// Whether the job is at work there to close an order.
+    /// Whether the job is running there to close an order.
     pub(crate) fn closes_order(&self) -> bool
         ensures { (device : Target) → result ≡ has_closes (stage_ahead device self.now) }
     {

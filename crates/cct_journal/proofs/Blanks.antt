@@ -57,12 +57,12 @@ blank_first image at place blank first = record {
   not_zero = first.not_zero;
 }
 
--- the header behind its gate
+-- the header after its gate
 abbrev pub title : List ℕ
 title = drop 1 header
 
 module _ (image : List ℕ) (blank : IsBlank image) (long : least_size ≤ length image) where
-  -- whatever stands behind a gate of 0 is no journal
+  -- whatever stands after a gate of 0 is no journal
   torn_alien : (c : List ℕ) → SameOutside 1 31 image c → IsAlien c
   torn_alien c torn = inr (λ is.
       let zero : slice_index c 0 ≡ 0 = outside 1 31 image c 0 torn (inl (omega arith))
@@ -82,7 +82,7 @@ module _ (image : List ℕ) (blank : IsBlank image) (long : least_size ≤ lengt
   unfolding titled
   titled_there = put_there 1 title image (omega arith)
 
-  -- a byte behind the header is 0
+  -- a byte after the header is 0
   behind_blank : (c : List ℕ) → SameOutside 0 1 titled c → (p : ℕ) → 32 ≤ p → p < length c → slice_index c p ≡ 0
   behind_blank c gated p behind before =
       outside 0 1 titled c p gated (inr (omega arith))

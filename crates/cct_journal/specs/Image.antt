@@ -21,7 +21,7 @@ least_size = 64
 abbrev pub capacity_of : ℕ → ℕ
 capacity_of size = min (size / 32 - 1) MOST_RECORDS
 
--- The bodies of the slots that these bytes are, up to the first shut gate, and so many at the most.
+-- The bodies of the slots that these bytes are, up to the first shut gate, and so many at most.
 abbrev pub bodies : ℕ → List ℕ → List (List ℕ)
 bodies (suc most) (gate ∷ rest) = if gate == open_gate then take 31 rest ∷ bodies most (drop 31 rest) else []
 bodies most bytes = []

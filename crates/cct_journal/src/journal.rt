@@ -124,7 +124,7 @@ impl<D: Disk> Journal<D> {
         self.place.used
     }
 
-    /// How many records the journal takes at the most.
+    /// How many records the journal takes at most.
     pub fn capacity(&self) -> u32
         ensures { result ≡ capacity_of (D.size (disk_of self.now)) }
     {

@@ -1,4 +1,4 @@
-//! A journal of records on a disk that may lose its power between any two calls (`docs/JOURNAL.md`).
+//! A journal of records on a disk whose power may be cut between any two calls (`docs/JOURNAL.md`).
 #![tactic(auto)]
 
 mod creating;

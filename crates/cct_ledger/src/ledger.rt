@@ -29,7 +29,7 @@ pub struct NotAllowed;
 #[derive(Debug, Drop)]
 pub struct Ledger<'s> {
     setup: &'s Setup,
-    /// How many records were applied. Each posts five coins at the most, so their number bounds every sum.
+    /// How many records were applied. Each posts five coins at most, so their number bounds every sum.
     records: u32,
     /// The open order of each device of the setup, in its order.
     orders: ArrayVec<Option<OpenOrder>, DEVICES>,

@@ -96,7 +96,7 @@ impl WireFault {
     }
 }
 
-/// Where in a put of a record the host loses its power: the job at this address has made so many, 0 to 4, of the four
+/// Where in a put of a record the host's power is cut: the job at this address has made so many, 0 to 4, of the four
 /// disk calls of its put.
 #[derive(Clone, Copy, Debug, PartialEq, Eq)]
 pub struct CrashAt {
@@ -123,7 +123,7 @@ pub enum Step {
     Next { addr: u8 },
     /// The operator gives the host a command.
     Command(Command),
-    /// The host loses its power and starts again; the bytes that were not synced then are told by `choice`.
+    /// The host's power is cut and starts again; the bytes that were not synced then are told by `choice`.
     Crash { at: Option<CrashAt>, choice: u64 },
     /// The operator reads the balance.
     Balance,

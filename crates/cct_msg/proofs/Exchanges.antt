@@ -54,7 +54,7 @@ credits_eleven n (a ∷ b ∷ c ∷ d ∷ []) five = absurd (omega arith)
 credits_eleven n (a ∷ b ∷ c ∷ d ∷ e ∷ []) five = refl
 credits_eleven n (a ∷ b ∷ c ∷ d ∷ e ∷ f ∷ rest) five = absurd (omega arith)
 
--- a reply that can be said has 255 data bytes at the most
+-- a reply that can be said has 255 data bytes at most
 reply_short : (y : Reply) → IsWhole y → IsSayable y → length (reply_data y) ≤ 255
 unfolding reply_data
 reply_short (credits read) whole sayable = omega (arith, credits_eleven read.counter read.pairs whole)

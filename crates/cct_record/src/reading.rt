@@ -127,7 +127,7 @@ fn four_at(bytes: &[u8; BODY], at: usize) -> u32
     u32::from_le_bytes([bytes[at], bytes[at + 1], bytes[at + 2], bytes[at + 3]])
 }
 
-/// The coins after their number, five at the most.
+/// The coins after their number, five at most.
 fn coins_at(bytes: &[u8; BODY], at: usize) -> Coins
     requires { at + 11 ≤ BODY }
     ensures { result ≡ coins_at bytes.now at }
