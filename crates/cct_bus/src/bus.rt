@@ -20,7 +20,7 @@ ghost use Rattle.cct_bus.specs.Fault.{IsShort};
 ghost use Rattle.cct_bus.specs.Room.{most_answered};
 
 use crate::device::Device;
-use crate::fault::{heard_by_devices, heard_by_host};
+use crate::fault::{heard_by_devices, heard_by_host, use_up};
 use crate::hearing::all_hear;
 use crate::outcome::Outcome;
 use arrayvec::ArrayVec;
@@ -211,7 +211,7 @@ impl Link for Bus<'_> {
         let piece = heard_by_devices(&self.fault, sent);
         all_hear(&mut self.devices, piece, &mut self.frame, heard);
         heard_by_host(&self.fault, sent, heard);
-        self.fault = WireFault::Clear;
+        use_up(&mut self.fault);
     }
 }
 

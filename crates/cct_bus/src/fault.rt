@@ -32,6 +32,16 @@ pub(crate) fn heard_by_host(fault: &WireFault, sent: &[u8], heard: &mut ArrayVec
     }
 }
 
+/// An exchange uses up the fault that is set. Mostly none is, and then nothing is written: a fault has room for a piece.
+pub(crate) fn use_up(fault: &mut WireFault)
+    ensures { fault.new ≡ WireFault.Clear }
+{
+    match fault {
+        WireFault::Clear => {}
+        _ => *fault = WireFault::Clear,
+    }
+}
+
 /// Puts a piece in the place of what stands from an index on.
 fn put_from(index: usize, piece: &[u8], heard: &mut ArrayVec<u8, MOST_HEARD>)
     requires { index + length piece.now ≤ MOST_HEARD }

@@ -11,8 +11,8 @@ use crate::device::Device;
 use arrayvec::ArrayVec;
 use cct_model::{MOST_HEARD, MOST_SENT};
 
-/// Every device hears a piece. What they answer goes behind what `answers` holds, in the order of the devices; `frame` is
-/// room for one answer.
+/// Every device hears a piece, byte by byte, and then a gap. What they answer goes behind what `answers` holds, in the
+/// order of the devices; `frame` is room for one answer.
 pub(crate) fn all_hear(
     devices: &mut [Device<'_>],
     piece: &[u8],
@@ -28,6 +28,16 @@ pub(crate) fn all_hear(
 {
     for device in devices.iter_mut() {
         device.hear(piece, frame);
-        answers.try_extend_from_slice(frame.as_slice()).unwrap();
+        put_behind(frame.as_slice(), answers);
+    }
+}
+
+/// Puts what a device said behind what others said: mostly it is silent.
+fn put_behind(said: &[u8], answers: &mut ArrayVec<u8, MOST_HEARD>)
+    requires { length answers.old.items + length said.now ≤ MOST_HEARD }
+    ensures { answers.new.items ≡ answers.old.items ++ said.now }
+{
+    if !said.is_empty() {
+        answers.try_extend_from_slice(said).unwrap();
     }
 }

@@ -29,6 +29,21 @@ fn name(character: u8) -> Name
     name
 }
 
+/// Four such texts.
+pub(crate) fn texts() -> Texts
+    ensures maker { IsWord result.maker }
+    ensures product { IsWord result.product }
+    ensures software { IsWord result.software }
+    ensures build { IsWord result.build }
+{
+    Texts {
+        maker: name(b'M'),
+        product: name(b'P'),
+        software: name(b'S'),
+        build: name(b'B'),
+    }
+}
+
 fn setup() -> DeviceSetup
     ensures sound { IsSound result }
     ensures hopper { IsHopper result.body }
@@ -37,12 +52,7 @@ fn setup() -> DeviceSetup
         addr: 3,
         kind: CheckKind::Simple,
         serial: 0x0003_0201,
-        texts: Texts {
-            maker: name(b'M'),
-            product: name(b'P'),
-            software: name(b'S'),
-            build: name(b'B'),
-        },
+        texts: texts(),
         named: true,
         body: DeviceBody::Hopper {
             life: 0x00ff_ffff,
@@ -365,7 +375,10 @@ const TWO_TO_PAY: &[u8] = b"\x01\x04\x03\x00\x01\x02\x00\x00\xf5";
 /// Whether the hopper says to a piece what it is to say.
 fn answers(hopper: &mut Hopper<'_>, piece: &[u8], answer: &[u8]) -> bool {
     let mut out = ArrayVec::<u8, MOST_SENT>::new();
-    let answered = hopper.hear(piece, &mut out);
+    for byte in piece {
+        hopper.byte(*byte);
+    }
+    let answered = hopper.gap(&mut out);
     answered != answer.is_empty() && out.as_slice() == answer
 }
 

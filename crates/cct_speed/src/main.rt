@@ -105,7 +105,7 @@ fn exchanges(alloc: Global, passes: u32) -> Result<u64, AllocError> {
     let frames = [first.as_slice(), second.as_slice()];
     let mut answer = ArrayVec::new();
     let mut sum: u64 = 0;
-    for _ in 0..passes {
+    for _pass in 0..passes {
         acceptor.hear(frames[sum as usize % 2], &mut answer);
         sum = sum.wrapping_add(answer.len() as u64);
     }

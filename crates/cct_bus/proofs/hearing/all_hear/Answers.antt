@@ -4,7 +4,7 @@ use Rattle.cct_model.specs.Exchange.{answer, asks_of}
 use Rattle.cct_model.specs.History.{Met, heard}
 use Rattle.cct_bus.specs.Device.{Lived, Stands, setup_in}
 use Rattle.cct_bus.specs.Room.{most_said}
-use Rattle.cct_bus.proofs.Hears.{answers_all, answers_more, hearing, later_kept, ok_fact, rest_is, room_left, setups_kept, stand_all, stand_more}
+use Rattle.cct_bus.proofs.Hears.{answers_all, answers_more, hearing, later_kept, rest_is, room_left, setups_kept, stand_all, stand_more}
 use Rattle.cct_bus.proofs.hearing.all_hear.Goals as goal
 
 pub loop-device-preserved : goal.loop-device-preserved
@@ -15,7 +15,7 @@ loop-device-preserved c =
     let piece = c.args.piece.now in
     let before = c.loop-device.answers.items in
     let said = c.hear.new.said.items in
-    let after = c.try_extend_from_slice.new.self.items in
+    let after = c.put_behind.new.answers.items in
     let y = c.device-item.result in
     let x = c.hear.new.self in
     let is : y ≡ get_or devices i y = c.device-item.is in
@@ -28,7 +28,7 @@ loop-device-preserved c =
     let short : length said ≤ most_said (setup_in y).addr piece = subst (λ d. length said ≤ most_said (setup_in d).addr piece) (sym is) (c.hear.ensures.room fits) in
     let within : i < length devices = omega arith in
     let rest : drop i all ≡ y ∷ drop (i + 1) all = rest_is devices all i y within is c.loop-device.invariant.later in
-    let more : after ≡ before ++ said = ok_fact _ _ _ c.unwrap.ensures c.try_extend_from_slice.ensures.ok ∙ ap (λ bytes. before ++ bytes) c.as_slice.ensures.value in
+    let more : after ≡ before ++ said = c.put_behind.ensures ∙ ap (λ bytes. before ++ bytes) c.as_slice.ensures.value in
     record {
       setups = setups_kept devices i x y same is ∙ c.loop-device.invariant.setups;
       later = later_kept devices all i x c.loop-device.invariant.later;

@@ -46,7 +46,7 @@ returns c =
               sound = stands.sound;
               order = ap setups_in (sym back) ∙ c.all_hear.ensures.setups ∙ ap setups_in lent ∙ stands.order;
               devices = subst (λ ds. All (Stands (λ d. met d (entry.Wire addr sent heard ∷ past))) ds) back (exchange_stands past fault new addr sent piece heard same reached hears);
-              fault = refl;
+              fault = c.use_up.ensures;
             },
           ),
     )
