@@ -16,15 +16,22 @@ returns-in-Unwritten-clause-writes g c =
 
 pub returns-in-Unread-Disk-clause-writes : goal.returns-in-Unread-Disk-clause-writes
 returns-in-Unread-Disk-clause-writes g c =
-    puts_unread g.K.Sink.written g.K.Sink.puts c.args.out.now c.close.new.out c.close.result c.args.how _
-    opening.Disk c.in-Unread-Disk.is (rw c.in-Unread-Disk.is at c.in-Unread-Disk.field-0-is) c.close.ensures.writes
+    let sink = g.K.Sink in
+    let put = c.close in
+    puts_unread sink.written sink.puts c.args.out.now put.new.out put.result c.args.how _ opening.Disk
+    c.in-Unread-Disk.is (rw c.in-Unread-Disk.is at c.in-Unread-Disk.field-0-is) put.ensures.writes
 
 pub returns-in-Unread-Alien-clause-writes : goal.returns-in-Unread-Alien-clause-writes
 returns-in-Unread-Alien-clause-writes g c =
-    puts_unread g.K.Sink.written g.K.Sink.puts c.args.out.now c.close-in-Unread-Alien.new.out c.close-in-Unread-Alien.result c.args.how _
-    opening.Alien c.in-Unread-Alien.is (rw c.in-Unread-Alien.is at c.in-Unread-Alien.field-0-is) c.close-in-Unread-Alien.ensures.writes
+    let sink = g.K.Sink in
+    let put = c.close-in-Unread-Alien in
+    puts_unread sink.written sink.puts c.args.out.now put.new.out put.result c.args.how _ opening.Alien
+    c.in-Unread-Alien.is (rw c.in-Unread-Alien.is at c.in-Unread-Alien.field-0-is) put.ensures.writes
 
 pub returns-in-Unread-BadRecord-clause-writes : goal.returns-in-Unread-BadRecord-clause-writes
 returns-in-Unread-BadRecord-clause-writes g c =
-    puts_unread g.K.Sink.written g.K.Sink.puts c.args.out.now c.close-in-Unread-BadRecord.new.out c.close-in-Unread-BadRecord.result c.args.how _
-    (opening.BadRecord c.in-Unread-BadRecord.index) c.in-Unread-BadRecord.is (rw c.in-Unread-BadRecord.is at c.in-Unread-BadRecord.field-0-is) c.close-in-Unread-BadRecord.ensures.writes
+    let sink = g.K.Sink in
+    let put = c.close-in-Unread-BadRecord in
+    puts_unread sink.written sink.puts c.args.out.now put.new.out put.result c.args.how _
+    (opening.BadRecord c.in-Unread-BadRecord.index)
+    c.in-Unread-BadRecord.is (rw c.in-Unread-BadRecord.is at c.in-Unread-BadRecord.field-0-is) put.ensures.writes
