@@ -17,7 +17,7 @@ use cct_sorter::{CoinTable, is_place};
 use cct_terms::{COIN_PLACES, Coin, DeviceBody, DeviceSetup, MOST_SENT, Pair, Reply, Request};
 use std::alloc::{AllocError, Global};
 
-/// The accept counter has three bytes, and starts again at 0 behind its last number.
+/// The accept counter has three bytes, and starts again at 0 after its last number.
 const COUNTS: u32 = 1 << 24;
 
 /// The error event of a piece that is no coin.

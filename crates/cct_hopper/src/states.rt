@@ -197,7 +197,7 @@ impl<'s> HopperPaying<'s> {
     ghost use Rattle.cct_hopper.specs.Hopper.{HasHeard, StandsFor, after_fall};
     ghost use Rattle.cct_hopper.specs.declared.hopper.Hopper.TheVariants.{Idle, Off, Paying};
 
-    /// A coin falls out: it is paid, and the life count rises. Behind the last one the hopper is idle.
+    /// A coin falls out: it is paid, and the life count rises. After the last one the hopper is idle.
     pub fn fall(self) -> AfterFall<'s>
         ensures stands { (d : DeviceSetup) (past : List Met) → StandsFor (Paying self.entry) d past
             → StandsFor (after_fall result) d (fall ∷ past) }

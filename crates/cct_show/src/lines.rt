@@ -5,7 +5,7 @@ use arrayvec::ArrayVec;
 use cct_edge::{Failed, Source};
 use cct_lines::MOST_TEXT;
 
-/// How many bytes are taken from the source in one call at the most.
+/// How many bytes are taken from the source in one call at most.
 const CHUNK: usize = 4096;
 
 /// What takes the lines of the input.

@@ -51,7 +51,7 @@ impl Framer {
         }
     }
 
-    /// One byte more comes. What stands in the buffer is a message's at the most, and a byte after that is only counted.
+    /// One byte more comes. What stands in the buffer is a message's at most, and a byte after that is only counted.
     #[inline]
     pub fn feed(&mut self, byte: u8) -> Fed
         ensures kind { self.new.kind ≡ self.old.kind }
