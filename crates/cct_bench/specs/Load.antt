@@ -95,10 +95,12 @@ pub record Loaded (seed rounds : ℕ) (s : Status) (Written : List Entry → Typ
   pub transcript : List Entry
   pub told : List Entry
   pub tail : List Entry
+  -- The steps are the lines that the definitions draw from the two numbers.
   pub steps_are : load_steps seed rounds ≡ played ++ unplayed
   pub legal : IsReliable disks.trusted (onto [] transcript) → Legal most_records load_setup played transcript
   pub money : IsReliable disks.trusted (onto [] transcript) → IsRight load_setup transcript
   pub early : RightBeforeLoss load_setup played transcript
+  -- The first line before the first step, and after the last one the sums and what the operator has; no line of a step.
   pub ends : LoadEnds disks seed rounds played unplayed (onto [] transcript) s told tail Written Breaks
   pub book : disks.trusted → told ≢ [] → RecordsLeftByLine disks load_setup unplayed (onto [] transcript) tail
   pub keeps : disks.trusted → TellsLoss tail → ⊥

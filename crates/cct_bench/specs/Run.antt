@@ -141,16 +141,28 @@ pub record Ran (bytes : List ℕ) (s : Status) (left : Option (List ℕ)) (Writt
   pub tail : List Entry
   pub took : bytes ≡ taken ++ to_come left
   pub steps_are : (script bytes).steps ≡ played ++ unplayed
+  -- The transcript is the legal one of the script's setup and the steps played, where the past may be relied on.
   pub legal : IsReliable disks.trusted (onto [] transcript) → Legal most_records (script bytes).setup played transcript
+  -- And there the posts are accepted coins in order, none is lost in silence, each order is paid at most once, and no
+  -- id is used twice.
   pub money : IsReliable disks.trusted (onto [] transcript) → IsRight (script bytes).setup transcript
+  -- Over any disk the same holds of the steps before the first power cut.
   pub early : RightBeforeLoss (script bytes).setup played transcript
+  -- The lines of the transcript, each by one put, then the last line of the status; a front of that if writing failed,
+  -- in which the lines of every step but the last one played are whole.
   pub ends : Ends disks bytes taken played unplayed transcript s tail Written Breaks
+  -- Once a byte of the script was taken, each image that a power cut may leave stands for exactly the records of the
+  -- transcript, or, if the disk failed with a record due, for these and that one.
   pub book : disks.trusted → taken ≢ [] → RecordsLeftByLine disks (script bytes).setup unplayed (onto [] transcript) tail
+  -- Over a trusted disk status 9 never comes.
   pub keeps : disks.trusted → TellsLoss tail → ⊥
   pub source_cause : tail ≡ entry.ReadFault ∷ [] → source_failed
   pub disk_cause : tail ≡ entry.DiskFault ∷ [] → disk_failed
+  -- After each power cut a read gave as many records as were put by then, and the one that is told as kept, each of
+  -- which follows those before it.
   pub survived : Survived (IsReliable disks.trusted) disks.cut_at (script bytes).setup played (onto [] transcript)
   pub cut : RoseBy (crashes (onto [] transcript)) disks.cuts disks.cuts_after
+  -- Exactly so often, if the step after those that were played is no power cut.
   pub just : (First IsCrash unplayed → ⊥) → disks.cuts_after ≡ count_after (crashes (onto [] transcript)) disks.cuts
 
 -- How a run ends where a script is read no further.

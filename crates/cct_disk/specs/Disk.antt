@@ -57,6 +57,7 @@ pub record Outlasts {D : Type 0} (size : D → ℕ) (honest : D → Bool) (seen 
 -- The power was cut by this choice: a read gives one of the images that this might leave, and there is no other left.
 pub record IsCutBy {D : Type 0} (honest : D → Bool) (seen : D → Option (List ℕ)) (may_leave : D → List ℕ → Type 0)
     (cut_to : D → ℕ → D → Type 0) (choice : ℕ) (old new : D) : Type 0 where
+  -- So a caller can tell that it came from exactly one such call.
   pub one : cut_to old choice new
   pub left : honest old ≡ true → (s : List ℕ) → seen new ≡ Some s → may_leave old s
   pub kept : honest old ≡ true → (s : List ℕ) → seen new ≡ Some s → Only s (may_leave new)

@@ -64,8 +64,11 @@ pub trait Disk {
         requires { at + length bytes.now ≤ size self.old }
         ensures written { OnOk result (honest self.old ≡ true → (s : List ℕ) → seen self.old ≡ Some s →
             seen self.new ≡ Some (put_at s at bytes.now)) }
+        // A write that failed may have changed what a read gives, but only in its own range.
         ensures torn { OnErr result (honest self.old ≡ true → (s : List ℕ) → seen self.old ≡ Some s →
             (c : List ℕ) × (seen self.new ≡ Some c) × SameOutside at (length bytes.now) s c) }
+        // Until a sync a power cut may leave anything in that range, and leaves every other byte as it might have left
+        // it before.
         ensures images { honest self.old ≡ true →
             Follows (SameOutside at (length bytes.now)) (may_leave self.old) (may_leave self.new) }
 
@@ -77,6 +80,7 @@ pub trait Disk {
     /// Keeps what was written: from here on a power cut leaves what a read gives. A call that fails may have kept
     /// some of it.
     fn sync(&mut self) -> Result<(), Failed>
+        // There is exactly one image then.
         ensures kept { OnOk result (honest self.old ≡ true → (s : List ℕ) → seen self.new ≡ Some s →
             Only s (may_leave self.new)) }
         ensures seen { honest self.old ≡ true → seen self.new ≡ seen self.old }

@@ -153,6 +153,8 @@ impl<R: Files> Disk for FileDisk<R> {
         ensures counted { CountsFaults (file_faults self.old) (file_faults self.new) result }
         ensures closed { is_open self.old ≡ false → IsErr result }
         ensures open { OnOk result (is_open self.new ≡ is_open self.old) }
+        // After a sync that failed there is no file any more: the system may have dropped what wasn't written, and
+        // report a later sync as done.
         ensures given_up { OnErr result (is_open self.new ≡ false) }
     {
         let done = match &self.file {

@@ -175,7 +175,9 @@ impl Disk for MemDisk {
 
     fn power_cut(&mut self, choice: u64) -> Result<(), Failed>
         ensures outlasts { MemoryOutlasts self.old self.new }
+        // What a read gives is one of the images that the cut might leave.
         ensures left { OnOk result (may_leave self.old.content self.new.content.bytes) }
+        // A further cut leaves the same.
         ensures kept { OnOk result (Only self.new.content.bytes (may_leave self.new.content)) }
         ensures images { IsWithin (may_leave self.old.content) (may_leave self.new.content) }
         ensures time { ElapsesTo self.old.content self.new.content }

@@ -20,8 +20,10 @@ pub trait Sink {
 
     /// Appends the whole piece. A call that fails has appended a front of it, which may be none or all of it.
     fn put(&mut self, piece: &[u8]) -> Result<(), Failed>
+        // So a caller can tell that it made exactly one put.
         ensures one { puts self.old piece.now result self.new }
         ensures ok { OnOk result (Appends (written self.old) (written self.new) piece.now) }
+        // A front of the bytes, which may be none or all of them.
         ensures err { OnErr result (AppendsFront (written self.old) (written self.new) piece.now) }
         ensures serves { Serves written faults self.old self.new (IsErr result) };
 }

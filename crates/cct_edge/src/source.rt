@@ -24,6 +24,7 @@ pub trait Source {
     /// 0 comes only at the end of the input, and stays 0 from then on. A call that fails takes nothing.
     fn take(&mut self, room: &mut [u8]) -> Result<usize, Failed>
         requires { 0 < length room.old }
+        // So a caller can tell each take that it made, and claims no other.
         ensures one { takes self.old (length room.old) result self.new }
         ensures bound { ReadsAtMost result room.new }
         ensures bytes { ReadConsumes (left self.old) (left self.new) result room.new }

@@ -19,6 +19,8 @@ const CYCLE: u16 = 255;
 /// most, oldest first; an event whose first number is 0 is an error of the acceptor and no coin.
 #[tactic(auto, unfolding(cct_model::specs::Reading::judge))]
 pub fn judge(addr: u8, mask: u16, counter: u8, credits: &Credits, mask_seen: u16) -> Judged
+    // A break is told by the mask that isn't the recorded one, or by a counter that is back at 0. At most five of the
+    // newest events are posted, oldest first; more than five are counted as overrun. A break posts its coins too.
     ensures { result ≡ judge addr mask counter credits.now mask_seen }
 {
     let new_events = distance(counter, credits.counter);

@@ -46,10 +46,12 @@ pub fn read<'a>(kind: CheckKind, piece: &'a [u8]) -> Result<FrameView<'a>, Frame
     // the view of a message
     ensures whole { IfOk result (λ view. message kind piece.now ≡ Some (message_of view)) }
     ensures body { IfOk result (λ view. view.body.now ≡ slice_range piece.now 4 (length piece.now - 1)) }
+    // Nothing is copied: the data stay in the bytes that were read, from the fifth on.
     ensures in_place { IfOk result (λ view. view.body.ref_ptr ≡ (piece.entry.ref_ptr.0, piece.entry.ref_ptr.1 + 4)) }
     ensures faultless { OnOk result (fault_in kind piece.now ≡ None) }
 
-    // why there is none
+    // why there is none:
+    // The first thing that is wrong is reported: too few bytes, then a wrong length, then a wrong check.
     ensures first_fault { IfErr result (λ fault. fault_in kind piece.now ≡ Some fault) }
     ensures no_message { OnErr result (message kind piece.now ≡ None) }
 

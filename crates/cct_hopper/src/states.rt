@@ -147,8 +147,10 @@ impl<'s> HopperIdle<'s> {
         serial: u32,
         count: u8,
     ) -> Result<HopperPaying<'s>, (HopperIdle<'s>, DispenseNo)>
+        // The idle hopper is consumed, so no other payout can be asked for.
         ensures stands { (d : DeviceSetup) (past : List Met) → StandsFor (Idle self.entry) d past
             → StandsFor (after_dispense result) d (heard (Some (Dispense serial count)) ∷ past) }
+        // It comes back as it was, with the reason; the serial number is looked at first.
         ensures refused { MatchResult result (λ _. refusal (serial_of self.entry) serial count ≡ None)
             (λ no. (no.0 ≡ self.entry) × (refusal (serial_of self.entry) serial count ≡ Some no.1)) }
         ensures heard { (bytes : List ℕ) → HasHeard (Idle self.entry) bytes → HasHeard (after_dispense result) bytes }

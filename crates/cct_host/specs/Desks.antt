@@ -78,17 +78,21 @@ amount_on desks addr = amount_at_desk (setup_of desks) desks.sale addr (desk_the
 
 -- A taken command takes room for the records that it needs and puts, and reserves its amount.
 pub record TakesIn (c : Command) (old new : Desks) : Type 0 where
+  -- At most the records that the command needs are held more.
   pub holds : held_of new ≤ held_of old + needed (setup_of old) c
   pub puts : puts_of new ≤ puts_of old + puts_in (rows_begun (setup_of old) c)
+  -- And exactly the coins of a payment, or the price of a sale, are reserved more.
   pub reserves : reserved_of new ≡ reserved_of old + amount_of (setup_of old) c
 
 -- A `next` at an address frees room: that of the record that it puts, if it puts one, and then all that the job there
 -- reserved; what the others reserve stays.
 pub record FreesIn (addr : ℕ) (old new : Desks) : Type 0 where
   pub setup : setup_of new ≡ setup_of old
+  -- What its jobs may still put never rises, and falls if a record was due.
   pub left : puts_of new ≤ puts_of old
   pub puts : IfSome (due_on old addr) (λ r. puts_of new < puts_of old)
   pub reserves : amount_on new addr ≤ amount_on old addr
+  -- After a record that was due its job reserves nothing.
   pub clears : IfSome (due_on old addr) (λ r. amount_on new addr ≡ 0)
   pub frees : reserved_of new + (amount_on old addr - amount_on new addr) ≡ reserved_of old
 

@@ -130,25 +130,34 @@ module _ {D : Type 0} {g : Ghosts D} where
   pub record Restarts (old : Host D g) (at : Option CrashAt) (choice : ℕ) (new : Host D g) (crashed : Crashed) : Type 0 where
     pub setup : setup_of new ≡ setup_of old
     pub whole : has_failed new ≡ false
-    -- what it tells, and what it then stands for
+    -- what it tells, and what it then stands for:
+    -- On a trusted disk, after any past: the entries are those of the definitions, with the record that was kept, if
+    -- one was. No job is left, and nothing that only jobs reserved.
     pub tells : TellsRestart old new at crashed
     pub found : Opens (setup_of new) (journal_of new)
+    -- On any disk that tells its bytes, honest or not, the host is the one that starts over what a read gives.
     pub replays : (records : List Record)
         → ReadsRecords (setup_of new) g.seen (disk_of new) (journals.place_of (journal_of new)) records
         → HasReplayed new (reverse records)
     pub records : crashed.records ≡ journals.used_of (journal_of new)
+    -- As many records as before, or one more if one was due.
     pub counts : crashed.records ≡ journals.used_of (journal_of old) + length (put_by crashed.kept)
     pub kept : IfSome crashed.kept (λ r. due_of old at ≡ Some r)
     pub due : (past : List Entry) → StandsFor old past → due_of old at ≡ due_in (setup_of old) past at
-    -- the disk
+    -- the disk:
+    -- Exactly one cut, by the choice given: the disk went on up to it, and was only read after it.
     pub cut : CutOnce g.size g.honest g.seen g.cuts g.cut_to choice (disk_of old) (disk_of new)
     pub outlasts : Outlasts g.size g.honest g.seen g.cuts (disk_of old) (disk_of new)
     pub later : g.faults (disk_of old) ≤ g.faults (disk_of new)
 
   -- A host doesn't start again after a power cut, for this reason, and this disk is left.
   pub record RestartFails (old : Host D g) (at : Option CrashAt) (choice : ℕ) (left : D) (why : CrashNo) : Type 0 where
-    -- why, and what the disk may then keep
+    -- why, and what the disk may then keep:
+    -- The first of these: the disk failed; no journal stands there; a body after an open gate spells no record; the
+    -- records are neither as many as were put nor one more where one was due; one of them doesn't follow those before
+    -- it.
     pub refused : RefusesWith (journal_of old) (due_of old at) (setup_of old) left why
+    -- Over a trusted disk, if the records of the past follow one another, only the disk can have failed.
     pub never : (past : List Entry) → StandsFor old past → RestartSuits (setup_of old) past at
         → IsTrusted g.honest g.seen (disk_of old) → why ≡ Disk
     pub leaves : (past : List Entry) → StandsFor old past → IsTrusted g.honest g.seen (disk_of old)

@@ -82,6 +82,10 @@ impl<'s> Desks<'s> {
         ensures setup { setup_of self.new ≡ setup_of self.old }
         ensures stays { OnErr result (Stays self.old self.new) }
         ensures takes { OnOk result (TakesIn command.now self.old self.new) }
+        // The first reason that holds, whatever room and money there is: no device, another kind, a job, the epoch, the
+        // least place of a mask without a value; of a hopper the open order, then an id that isn't above the last one;
+        // a halt without a payout; of a sale another one that is running, then its id. The last id is the greatest of
+        // the records, of the payments and of the sale that runs.
         ensures answers { Answers self.old self.new command.now result }
     {
         match *command {
@@ -365,6 +369,9 @@ impl<'s> Desks<'s> {
     pub fn next<L: Link>(&mut self, addr: u8, link: &mut L, report: &mut ArrayVec<Entry, 8>)
         requires room { array_vec_len report.old ≤ 6 }
         ensures frees { FreesIn addr self.old self.new }
+        // Over any link: one attempt of one row, at most one exchange, whose bytes are those of its entry, and the job
+        // stays until it ends. A put alone moves the epoch and the open order; an order is closed at the hopper where
+        // it was opened.
         ensures nexts { Nexts L.gives link.old link.new addr self.old self.new report.old.items report.new.items }
     {
         let found = self.find(addr);

@@ -65,6 +65,7 @@ impl<'s, D: Disk> Host<'s, D> {
         ensures knows { IfOk result (λ host. (records : List Record)
             → ReadsRecords setup.now D.seen (journals.disk_of journal) (journals.place_of journal) records
             → HasReplayed host (reverse records)) }
+        // Only at the first record that doesn't follow those before it, by its index, or if the disk failed.
         ensures refused { IfErr result (λ e. (records : List Record)
             → ReadsRecords setup.now D.seen (journals.disk_of journal) (journals.place_of journal) records
             → RefusesStart e.1 setup.now records) }
@@ -74,6 +75,7 @@ impl<'s, D: Disk> Host<'s, D> {
         // over a journal without records
         ensures starts { journals.used_of journal ≡ 0 → IsTrue (is_ok result) }
         ensures fresh { IfOk result (λ host. journals.used_of journal ≡ 0 → HasReplayed host []) }
+        // No call of the disk is made then.
         ensures untouched { IfOk result (λ host. journals.used_of journal ≡ 0 → journal_of host ≡ journal) }
 
         // the journal and its disk
@@ -105,6 +107,8 @@ impl<'s, D: Disk> Host<'s, D> {
         ensures setup { setup_of self.new ≡ setup_of self.old }
         ensures journal { journal_of self.new ≡ journal_of self.old }
         ensures stays { OnErr result (Stays self.old self.new) }
+        // The first reason that holds: those of its desk, then the want of money, then that of room in the journal,
+        // beside the records that are put and held.
         ensures answers { Answers self.old self.new command.now result }
     {
         match self.room_refusal(command) {
@@ -197,12 +201,16 @@ impl<'s, D: Disk> Host<'s, D> {
 
         // the attempt
         ensures whole { OnOk result (has_failed self.new ≡ false) }
+        // After any past: the entries of one attempt of one row, and a record that was due stands on the disk before
+        // its entry is told. Whatever happened before, the journal counts only the record that is told.
         ensures nexts { OnOk result (Nexts L.gives link.old link.new addr self.old self.new report.old.items
             report.new.items) }
 
         // a put that failed
         ensures stays { OnErr result (report.new ≡ report.old) }
         ensures link { OnErr result (link.new ≡ link.old) }
+        // Only with a record due. The host has all of the past as before, and whatever a power cut leaves on a trusted
+        // disk stands for the records of the past, or for these and that one.
         ensures fails { OnErr result (Fails self.old self.new addr) }
 
         // the disk
@@ -262,6 +270,7 @@ impl<'s, D: Disk> Host<'s, D> {
 
     /// What is available, reserved, paid and sold, in units of value.
     pub fn totals(&self) -> Totals
+        // Also after a put that failed.
         ensures { (past : List Entry) → Keeps self.now past → result ≡ totals (setup_of self.now) past }
     {
         self.ledger.totals()

@@ -29,6 +29,7 @@ use Rattle.cct_jobs.specs.Scans.{StandsScan}
 -- can be spelt in a journal; if they close an order, so does the job while it may put anything; and it reserves no more
 -- coins than they do.
 pub record KeepsTo (rows : List TableRow) (job : Job) : Type 0 where
+  -- What it may still put doesn't rise when it hears.
   pub may_put : puts_in (ahead job) ≤ puts_in rows
   pub fits : PutsFit job
   pub closes : has_closes rows ≡ true → 1 ≤ puts_in (ahead job) → has_closes (ahead job) ≡ true

@@ -34,11 +34,14 @@ impl Job {
         requires may_begin { MayBegin command.now setup.now.devices epoch.now (option_map (λ o. o.now) order) }
         requires life { (o : OpenOrder) → option_map (λ o. o.now) order ≡ Some o → o.life < 2 ^ 24 }
 
-        // the lines that it stands for, none yet
+        // the lines that it stands for, none yet:
+        // A round and a stop begin with what is recorded of the epoch, and a settlement with the open order, which it
+        // never lets a hopper dispense again.
         ensures device { (d : DeviceSetup) → device_at setup.now.devices (address_of command.now) ≡ Some d
             → d.serial < 2 ^ 24 → is_of_device command.now ≡ true
             → Stands d result command.now [] epoch.now (option_map (λ o. o.now) order.entry) }
         ensures scan { command.now ≡ Command.Scan → StandsScan result [] }
+        // A sale asks nothing: it puts its record, under its own id and price, and is done then.
         ensures sale { (id price : ℕ) → command.now ≡ Command.Vend id price → StandsSale result command.now [] }
 
         // what it needs first

@@ -123,11 +123,13 @@ impl Job {
     pub fn needs(&self) -> Need
         ensures value { result ≡ need_of self.now }
 
-        // a record that it puts
+        // a record that it puts:
+        // If a record is to be put, it is at least one of those that the job may still put.
         ensures may_put { (entry : Record) → result ≡ Need.Put entry → 1 ≤ puts_in (ahead self.now) }
         ensures fits { PutsFit self.now → (entry : Record) → result ≡ Need.Put entry → Encodable entry }
 
-        // by the lines of a device, of a scan and of a sale
+        // by the lines of a device, of a scan and of a sale:
+        // An exchange, this record to be put, or nothing: its newest line ended it so.
         ensures row { (d : DeviceSetup) (c : Command) (since : List Line) (state : EpochState)
             (owed : Option OpenOrder) → Stands d self.now c since state owed → Needs result d c since state owed }
         ensures scan { (since : List Line) → StandsScan self.now since → NeedsScan result since }
@@ -163,6 +165,7 @@ impl Job {
     #[tactic(auto, using(crate::proofs::Sales::sale_may_put))]
     pub fn may_put(&self) -> u32
         ensures value { result ≡ puts_in (ahead self.now) }
+        // As many as the rows that are left put.
         ensures row { (d : DeviceSetup) (c : Command) (since : List Line) (state : EpochState)
             (owed : Option OpenOrder) → Stands d self.now c since state owed → newest_end d c since state ≡ None
             → result ≡ puts_in (left d c since state) }
@@ -215,6 +218,7 @@ impl Job {
     pub fn request(&self) -> Sending
         requires asks { need_of self.now ≡ Need.Exchange }
         ensures request { Some result ≡ sending_of self.now }
+        // The request of its row, to its device, under that device's check.
         ensures row { SendsToDevice self.now result }
         ensures scan { SendsPoll self.now result }
     {
@@ -226,7 +230,11 @@ impl Job {
     /// again: it ends the job with [`End::Started`], or with [`End::StartUnsure`] where it isn't acknowledged.
     pub fn hear(&mut self, sent: &[u8], heard: &[u8])
         requires asks { need_of self.old ≡ Need.Exchange }
+        // It goes on only by the wanted reply; a row without it is tried again. But a start sends its mask once, and
+        // goes on only from event counter 0; a payment sends its dispense once and goes on whatever is heard. An order
+        // is closed by the life count alone, under its own id.
         ensures device { HearsDevice self.old sent.now heard.now self.new }
+        // An address is listed by its acknowledgement.
         ensures scan { HearsPolled self.old sent.now heard.now self.new }
         ensures keeps { KeepsTo (ahead self.old) self.new }
     {
@@ -259,6 +267,8 @@ impl Job {
     #[tactic(auto, using(crate::proofs::Epochs::put_leaves, crate::proofs::Needs::fewer_after, crate::proofs::Fits::after_put_fits, crate::proofs::Sales::put_sells))]
     pub fn go_on_after_put(&mut self)
         requires puts { IsPut (need_of self.old) }
+        // It goes on to the next row, wherever the record moves the epoch and the open order. So a hopper is asked to
+        // dispense only after the record of its order, and a start sends its mask only after that of its epoch.
         ensures put { GoesOnAfterPut self.old self.new }
         ensures sale { GoesOnAfterSale self.old self.new }
         ensures may_put { puts_in (ahead self.new) < puts_in (ahead self.old) }
@@ -299,9 +309,12 @@ impl Job {
     #[tactic(auto, using(crate::proofs::Halts::halt_leaves, crate::proofs::Halts::halt_again, crate::proofs::Halts::halt_runs, crate::proofs::Halts::halt_ahead, crate::proofs::Fits::halt_fits))]
     pub fn halt(self) -> Job
         requires { has_waits (ahead self) ≡ true }
+        // The hopper is then stopped if it might pay. The halt is remembered over failed tries and over a put, and the
+        // tries of the stop are counted by themselves.
         ensures row { (d : DeviceSetup) (c : Command) (since : List Line) (state : EpochState)
             (owed : Option OpenOrder) (addr : ℕ) → Stands d self c since state owed
             → Stands d result c (taken (command.Halt addr) ∷ since) state owed }
+        // A further halt changes nothing.
         ensures again { after_halt result ≡ result }
         ensures runs { end_of_job result ≡ None }
         ensures ahead { ahead result ≡ ahead self }

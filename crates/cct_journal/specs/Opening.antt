@@ -53,6 +53,7 @@ RefusesRead index body (reading.BadRecord told) = (told ≡ index) × IsRefused 
 -- stands.
 pub record Finds {D : Type 0} (seen : D → Option (List ℕ)) (old new : D) (place : Place) : Type 0 where
   pub found : (image : List ℕ) → seen old ≡ Some image → HasRecords image place.used
+  -- Whatever a power cut may leave: what a read gives counts.
   pub every : (image : List ℕ) (records : List Record) → seen old ≡ Some image → StandsFor image records
       → Reads seen new place records
 
@@ -73,4 +74,5 @@ pub record GivesRecord {D : Type 0} (seen : D → Option (List ℕ)) (disk : D) 
 pub record RefusesRecord {D : Type 0} (seen : D → Option (List ℕ)) (disk : D) (place : Place) (index : ℕ) (why : ReadNo)
     : Type 0 where
   pub reason : (image : List ℕ) → seen disk ≡ Some image → RefusesRead index (body_in place index image) why
+  -- A record that a read of the disk gives is refused only if the disk failed.
   pub never : (records : List Record) → Reads seen disk place records → why ≡ reading.Disk

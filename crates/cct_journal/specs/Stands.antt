@@ -72,5 +72,6 @@ pub record Puts {D : Type 0} (honest : D → Bool) (seen : D → Option (List �
     : Type 0 where
   pub each : (records : List Record) → Stands honest seen may_leave old place records
       → LeavesOnly moment left_since old new (KeepsOneOf records entry)
+  -- Up to two calls the records before alone.
   pub early : calls ≤ 2 → (records : List Record) → Stands honest seen may_leave old place records
       → LeavesOnly moment left_since old new (λ c. Keeps c records)

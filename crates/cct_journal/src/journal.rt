@@ -55,7 +55,8 @@ impl<D: Disk> Journal<D> {
         ensures unchanged { IfErr result (λ e. e.1 ≢ CreateNo.Disk → OnlyReads D.size D.honest D.seen D.may_leave
             D.moment D.left_since D.cuts disk e.0) }
 
-        // the disk at each moment, and after the call
+        // the disk at each moment, and after the call:
+        // At each moment the disk is as it was, has no header of a journal, or has a journal without records.
         ensures moments { (image : List ℕ) → Holds D.honest D.seen D.may_leave disk image → MatchResult result
             (λ journal. LeavesOnly D.moment D.left_since disk (disk_of journal) (IsCreated image))
             (λ e. LeavesOnly D.moment D.left_since disk e.0 (IsCreated image)) }
@@ -83,6 +84,7 @@ impl<D: Disk> Journal<D> {
     /// before it.
     pub fn reopen(disk: D) -> Result<(Journal<D>, u32), (D, OpenNo)>
         ensures finds { IfOk result (λ opened. Finds D.seen disk (disk_of opened.0) (place_of opened.0)) }
+        // If the disk keeps exactly one image, the journal stands for it.
         ensures stands { IfOk result (λ opened. (records : List Record)
             → Settled D.honest D.seen D.may_leave disk records → JournalStands opened.0 records) }
         ensures counted { IfOk result (λ opened. opened.1 ≡ used_of opened.0) }
@@ -90,6 +92,7 @@ impl<D: Disk> Journal<D> {
 
         // why it is refused
         ensures refused { IfErr result (λ e. (image : List ℕ) → D.seen disk ≡ Some image → RefusesOpen e.1 image) }
+        // A disk that stands for records is refused only if it failed.
         ensures never { IfErr result (λ e. (image : List ℕ) (records : List Record) → D.seen disk ≡ Some image
             → StandsFor image records → e.1 ≡ OpenNo.Disk) }
         ensures short { D.size disk < least_size → IsErrAnd result (λ e. e.1 ≡ OpenNo.Alien) }
@@ -174,18 +177,23 @@ impl<D: Disk> Journal<D> {
         requires whole { has_failed self.old ≡ false }
         requires encodable { Encodable entry.now }
 
-        // each image that a power cut at a moment of the call may leave
+        // each image that a power cut at a moment of the call may leave:
+        // Within a call of the disk or between two, whether calls fail or not, each image that a power cut may leave
+        // stands for the records before, or for these and the new one.
         ensures moments { (records : List Record) → JournalStands self.old records
             → LeavesOnly D.moment D.left_since (disk_of self.old) (disk_of self.new) (KeepsOneOf records entry.now) }
 
-        // at the end
+        // at the end:
+        // At Ok each image stands for these and the new one.
         ensures done { OnOk result ((records : List Record) → JournalStands self.old records
             → JournalStands self.new (records ++ entry.now ∷ [])) }
+        // After a failure each image is one of the two.
         ensures left { OnErr result ((records : List Record) → JournalStands self.old records
             → LeavesOneOf D.honest D.seen D.may_leave (disk_of self.new) records entry.now) }
         ensures counted { OnOk result (used_of self.new ≡ used_of self.old + 1) }
         ensures still { OnErr result (place_of self.new ≡ place_of self.old) }
         ensures unbroken { OnOk result (has_failed self.new ≡ false) }
+        // Nothing more may be put on that value: what stands in the slot is open.
         ensures broken { result ≡ Err JournalNo.Disk → has_failed self.new ≡ true }
 
         // why it is refused
@@ -226,7 +234,8 @@ impl<D: Disk> Journal<D> {
         ensures moments { Puts D.honest D.seen D.may_leave D.moment D.left_since (place_of self) entry.now calls
             (disk_of self) (disk_back result) }
 
-        // and at the end
+        // and at the end:
+        // After four calls that were Ok the new one too.
         ensures done { OnOk result (calls ≡ 4 → (records : List Record) → JournalStands self records
             → Settled D.honest D.seen D.may_leave (disk_back result) (records ++ entry.now ∷ [])) }
         ensures left { (records : List Record) → JournalStands self records
@@ -310,13 +319,16 @@ impl<D: Disk> Journal<D> {
         ensures moments { (records : List Record) → JournalStands self.old records
             → LeavesOnly D.moment D.left_since (disk_of self.old) (disk_of self.new) (KeepsWith put.now records) }
 
-        // what is opened
+        // what is opened:
+        // The records before, or these and the one of the put that was cut short: up to two calls the records alone,
+        // after four the new one too.
         ensures stands { OnOk result ((records : List Record) → JournalStands self.old records
             → (left : List Record) × LeftBy calls put.now records left
             × JournalStands self.new left) }
         ensures finds { OnOk result (Finds D.seen (disk_of self.new) (disk_of self.new) (place_of self.new)) }
         ensures counted { IfOk result (λ used. used ≡ used_of self.new) }
         ensures unbroken { OnOk result (has_failed self.new ≡ false) }
+        // What goes over the records was handed as many as the journal has, one by one, oldest first.
         ensures replayed { OnOk result (ReplaysAll D.seen R.replayed (disk_of self.new) (place_of self.new) replay.old
             replay.new) }
 
@@ -330,7 +342,8 @@ impl<D: Disk> Journal<D> {
         ensures still { OnErr result (place_of self.new ≡ place_of self.old) }
         ensures broken { OnErr result (has_failed self.new ≡ true) }
 
-        // the disk
+        // the disk:
+        // Exactly one cut, by the choice given, and the disk was only read after it.
         ensures cut { result ≢ Err OpenNo.Disk
             → CutOnce D.size D.honest D.seen D.cuts D.cut_to choice (disk_of self.old) (disk_of self.new) }
         ensures outlasts { Outlasts D.size D.honest D.seen D.cuts (disk_of self.old) (disk_of self.new) }

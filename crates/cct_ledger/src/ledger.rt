@@ -80,6 +80,7 @@ impl<'s> Ledger<'s> {
     pub fn apply(&mut self, entry: &Record) -> Result<(), NotAllowed>
         requires few { applied self.old < 2 ^ 32 - 1 }
         ensures takes { Takes self.old self.new entry.now result }
+        // A record that posts coins, begins an epoch or ends one is taken whether it follows or not.
         ensures others { is_of_money entry.now ≡ false → is_ok result ≡ true }
     {
         match entry {
@@ -150,6 +151,7 @@ impl<'s> Ledger<'s> {
     pub fn totals(&self) -> Totals
         ensures stands { (before : List Record) (beside : ℕ) → StandsFor self.now before beside
             → result ≡ totals_beside (setup_of self.now) before beside }
+        // Together it is the value of all coins posted.
         ensures whole { (before : List Record) (beside : ℕ) → StandsFor self.now before beside
             → result.available + result.reserved + result.paid + result.sold ≡ posted_in (setup_of self.now) before }
     {

@@ -44,6 +44,7 @@ pub fn since(before: u32, after: u32) -> u32
     requires before { before < 2 ^ 24 }
     requires after { after < 2 ^ 24 }
     ensures difference { result ≡ (after + 2 ^ 24 - before) % 2 ^ 24 }
+    // Exactly so many coins lead from the one count to the other.
     ensures rises { (coins : ℕ) → coins < 2 ^ 24 → after ≡ (before + coins) % 2 ^ 24 → result ≡ coins }
 {
     (after + COUNTS - before) % COUNTS

@@ -141,7 +141,12 @@ module _ {D : Type 0} {g : Ghosts D} (world : World D g) where
     pub steps_are : load_steps load.seed load.rounds ≡ played ++ unplayed
     pub legal : Relies (onto [] transcript) → Legal (capacity_in world) load_setup played transcript
     pub early : LegalBeforeLoss (capacity_in world) load_setup played transcript
+    -- The line of the load before its first step, and after the last one the six sums, each record that was kept
+    -- counted once, and what the operator has; the first line alone if a step wasn't played, and a front of these if
+    -- the sink failed.
     pub ends : Ends left load how played unplayed (onto [] transcript) Written Breaks
+    -- On a trusted disk each image that a power cut may leave stands for the records of the transcript; if the disk
+    -- failed in a step with a record that was due, for these or for these and that one.
     pub book : HasTrusted → RecordsLeft left how unplayed (onto [] transcript)
     pub survived : SurvivedOn left played (onto [] transcript)
     pub cut : RoseBy (crashes (onto [] transcript)) (g.cuts (disk_of world)) (g.cuts left)

@@ -12,6 +12,7 @@ use cct_lines::{Coin, Coins, EVENTS, Record};
 #[tactic(auto, using(crate::proofs::Spellings::refused_unknown, crate::proofs::Spellings::refused_other))]
 pub fn read(bytes: &[u8; 31]) -> Option<Record>
     ensures spelt { IfSome result (λ r. Spells r bytes.now) }
+    // Only bytes that spell no record.
     ensures refused { IfNone result (IsRefused bytes.now) }
 {
     let entry = record_at(bytes)?;

@@ -39,10 +39,13 @@ pub enum ReportEnd {
 pub fn list_journal<K: Sink, D: Disk>(out: &mut K, line: &mut TextLine, disk: D) -> (ReportEnd, D)
     // what the image of the disk stands for, and what was written of it
     ensures found { (image : List ℕ) → D.seen disk ≡ Some image → Finds result.0 image (out.new ≡ out.old) }
+    // Each line by one put. If a put fails, a front of the listing is written, and if the disk fails, whole lines of
+    // the first records.
     ensures every { (image : List ℕ) (records : List Record) → D.seen disk ≡ Some image → FindsIn image records
         → Lists result.0 records (λ entries answer. Writes K.written K.puts out.old entries answer out.new) }
 
-    // what was written, whether or not the disk tells its bytes
+    // what was written, whether or not the disk tells its bytes:
+    // Of a disk that tells no bytes the lines are the listing of some records, or of the first of some.
     ensures lines { ListsSome result.0 (λ entries answer. Writes K.written K.puts out.old entries answer out.new) }
     ensures short { D.size disk < least_size → result.0 ≡ ReportEnd.Unread OpenNo.Alien }
 

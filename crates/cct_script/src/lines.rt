@@ -134,12 +134,15 @@ impl Lines {
     /// 1,201 bytes have no line feed; else `Cut` exactly where the input ends after one or more bytes without a line
     /// feed. What was taken stays held after a refusal.
     pub fn line<S: Source>(&mut self, source: &mut S) -> Result<Line<'_>, LinesNo>
+        // Each line once, in order and whole, and each end exactly where it is. Bytes are taken only while those held
+        // have no line feed, each time into all the room that is left, and none after a take that failed.
         ensures* gives { sem 𝓛 (follows_so the_row the_row self.entry.ghost_name none (λ _ _. ⊤)
             (λ new. Gives (standing_of self.old) (standing_of new)
             (S.left source.old) (S.left source.new) (line_given result)
             × TakesForLine S.takes S.left (standing_of self.old).held source.old
             (standing_of new).held source.new (line_given result))) }
         ensures serves { Serves S.left S.faults source.old source.new (result ≡ Err LinesNo.Read) }
+        // While a whole line is held, nothing is taken.
         ensures still { position is_line_feed (standing_of self.old).held ≢ None → source.new ≡ source.old }
     {
         match self.find(source) {

@@ -155,6 +155,7 @@ fn texts_line(rest: Option<&[u8]>) -> Option<SetupLine>
 #[tactic(auto, unfolding(cct_lines::specs::Grammar::setup_line))]
 pub fn read_setup_line(line: &[u8]) -> Result<SetupLine, LineKind>
     ensures value { result ≡ setup_line line.now }
+    // What it says is in its ranges: each address is 2 to 255, and a hopper's line has a hopper's body.
     ensures said { IfOk result IsSetupLine }
 {
     let (word, rest) = first_field(line);

@@ -91,6 +91,7 @@ impl<const MOST: usize> Bytes<MOST> {
 
     /// The list of the bytes itself, for a callee that writes into it.
     pub fn as_array_mut(&mut self) -> &mut ArrayVec<u8, MOST>
+        // A run of bytes whose list was lent ends as that list is last.
         ensures* lends { sem 𝓛 (LendsBytes MOST.row self.entry result) }
         ensures value { result.now.items ≡ self.old }
     {

@@ -11,6 +11,8 @@ pub record PutsLine {K : Type 0} (written : K → Option (List ℕ))
     (puts : K → List ℕ → Result (Unit {0}) Failed → K → Type 0) (before : K) (line : List ℕ)
     (result : Result (Unit {0}) Failed) (now : K) : Type 0 where
   pub one : puts before line result now
+  -- The line of the definitions: a mask has four hexadecimal digits, all hexadecimal is in lower case, no bytes are a
+  -- hyphen, coins stand oldest first.
   pub ok : OnOk result (Appends (written before) (written now) line)
   pub err : OnErr result (AppendsFront (written before) (written now) line)
 

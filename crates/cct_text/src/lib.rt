@@ -29,7 +29,9 @@ pub use text::TextLine;
 /// line.
 pub fn write_entry<K: Sink>(out: &mut K, line: &mut TextLine, entry: &Entry) -> Result<(), Failed>
     ensures puts { PutsLine K.written K.puts out.old (line_of entry.now) result out.new }
+    // Also if the put failed.
     ensures line { line.new ≡ line_of entry.now }
+    // Its line feed counts too.
     ensures short { length line.new < MOST_TEXT }
     ensures serves { Serves K.written K.faults out.old out.new (IsErr result) }
 {
@@ -43,6 +45,7 @@ pub fn write_entries<K: Sink>(
     line: &mut TextLine,
     entries: &[Entry],
 ) -> Result<(), Failed>
+    // Line by line, up to the first whose put failed.
     ensures writes { Writes K.written K.puts out.old entries.now result out.new }
     ensures serves { Serves K.written K.faults out.old out.new (IsErr result) }
 {

@@ -134,10 +134,17 @@ module _ {D : Type 0} {g : Ghosts D} where
   pub record StepPlayed (old new : Machine D g) (s : Step) (report : List Entry) : Type 0 where
     pub setup : setup_of new ≡ setup_of old
     pub whole : has_failed new ≡ false
+    -- After each past for which the world stands, the step adds the entries of the definitions, and the world goes on
+    -- by them.
     pub plays : Plays old new s report
+    -- Exactly a power cut is told as one.
     pub told : crashes (reverse report) ≡ crashes_of s
+    -- The journal counts the records that the entries tell, whatever happened before and over any disk.
     pub counts : used_of new ≡ used_of old + length (records (reverse report))
+    -- A power cut is played only if a read of the disk then gives as many records as the journal counts, each of which
+    -- follows those before it: as many as before, or one more if one was due, which is told as kept.
     pub restarts : RestartsBy old new s (reverse report)
+    -- A power cut cuts the disk exactly once, by its choice, and no other step cuts it.
     pub cut : CutsIn s g.size g.honest g.seen g.cuts g.cut_to (disk_of old) (disk_of new)
     pub lasts : LastsIn s g.size g.honest g.seen g.cuts (disk_of old) (disk_of new)
     pub later : g.faults (disk_of old) ≤ g.faults (disk_of new)
@@ -145,6 +152,9 @@ module _ {D : Type 0} {g : Ghosts D} where
   -- A step wasn't played, for this reason; it gave no entry, and this disk is left. That the disk failed has its cause;
   -- for any other reason the step is a power cut, which cut the disk once, by its choice.
   pub record StepUnplayed (old : Machine D g) (left : D) (why : CrashNo) (s : Step) (report : List Entry) : Type 0 where
+    -- Only a `next` whose job was about to put a record can fail, and a power cut. If the disk failed, whatever a power
+    -- cut leaves on a trusted one stands for the records of the past, or for these and the one that was due. Else a
+    -- power cut left what no host starts over, as a read of the disk that comes back says; never on a trusted disk.
     pub breaks : Breaks old left why s
     pub empty : report ≡ []
     pub cause : Caused (g.faults (disk_of old)) (g.faults left) (why ≡ crash_no.Disk)
