@@ -1,10 +1,10 @@
 """The clauses that docs/PROOFS.md names stand in the crates.
 
-A cell of the column `Clause` has parts, joined by `; `. The hosts of a part are the names behind ` of ` at its end, or else
-those before its `: `: functions, types, or records of `specs/`. Each other name stands at each host: it is a clause of that
-function, a clause or a ghost of that type, or a field of that record. Without a host it is a function or a clause of
-`bench`; `the lemma` names one of proofs/. A name with a capital is a definition or a type, also of a crate below. `the one
-clause of` asks that each host has just one `ensures`.
+A row of a table with the columns `Function` (or `Law`) and `Clause` names hosts, and what stands at each of them. A host is
+a function, a type with its ghosts, or a record of `specs/`, also of a crate below; `the lemma` names one of proofs/. A
+clause is a clause or a condition of the function, a ghost of the type, or a field of the record; a name with a capital is a
+definition or a type, also of a crate below. `all` asks that each host has a clause, `the one` that it has exactly one
+`ensures`. The crate is that of the row's first column, if that is one, or else that of the section.
 """
 
 import re
@@ -12,22 +12,12 @@ from dataclasses import dataclass, field
 from pathlib import Path
 
 import markdown
-
-NAMES = r"`[^`]+`(?:(?:, and |, | and )`[^`]+`)*"
-
-
-@dataclass
-class Function:
-    name: str
-    # the type and the trait of its block, or the trait alone
-    owners: list[str]
-    promises: list[str] = field(default_factory=list)
-    conditions: list[str] = field(default_factory=list)
+import source
 
 
 @dataclass
 class Crate:
-    functions: list[Function] = field(default_factory=list)
+    functions: list[source.Function] = field(default_factory=list)
     # by the type or trait, the names of its ghosts
     ghosts: dict[str, set[str]] = field(default_factory=dict)
     types: set[str] = field(default_factory=set)
@@ -36,113 +26,76 @@ class Crate:
     lemmas: set[str] = field(default_factory=set)
 
 
-def owners_of(line: str) -> list[str]:
-    """The names of a line that opens a block of a type or a trait."""
-    bare = line
-    while re.search(r"<[^<>]*>", bare):
-        bare = re.sub(r"<[^<>]*>", "", bare)
-    names = re.match(r"(?:pub )?(?:trait (\w+)|impl (?:(\w+) for )?(\w+))", bare)
-    return [name for name in names.groups() if name] if names else []
-
-
-def read_code(crate: Crate, path: Path) -> None:
-    """Adds what a file of src/ has. The head of a function ends with the line of its body's brace, or with its semicolon."""
-    owners, function, margin = [], None, ""
-    for line in path.read_text().splitlines():
-        if re.match(r"(?:pub )?(?:impl|trait)\b", line):
-            owners = owners_of(line)
-        elif line.startswith("}"):
-            owners = []
-        if named := re.match(r"\s*pub (?:struct|enum|trait|type|const) (\w+)", line):
-            crate.types.add(named[1])
-        if named := re.match(r"\s*ghost (?!use\b)(\w+)", line):
-            for owner in owners:
-                crate.ghosts.setdefault(owner, set()).add(named[1])
-        if named := re.match(r"(\s*)(?:pub(?:\(\w+\))? )?(?:const |unsafe )*fn (\w+)", line):
-            margin = named[1]
-            function = Function(named[2], owners)
-            crate.functions.append(function)
-        if function is None:
-            continue
-        for kind, name in re.findall(r"\b(ensures|requires)\*?(?: (\w+))? \{", line):
-            (function.promises if kind == "ensures" else function.conditions).append(name)
-        ends_head = line == margin + "{" or re.match(margin + r"\).*[;{]$", line) or line.endswith("};")
-        if ends_head or re.search(r"\bfn\b.*[;}{]$", line):
-            function = None
-
-
-def read_definitions(crate: Crate, path: Path) -> None:
-    """Adds what a file of specs/ has."""
-    record = ""
-    for line in path.read_text().splitlines():
-        named = re.match(r"\s*((?:pub|abbrev|record|data|mod) )+(\w+)", line)
-        if named is None:
-            continue
-        if line.startswith(" ") and record and re.match(r"\s+pub \w+ :", line):
-            crate.definitions[record].add(named[2])
-        else:
-            crate.definitions.setdefault(named[2], set())
-        if "record " in named[0]:
-            record = named[2]
-
-
 def read_crate(folder: Path) -> Crate:
-    crate = Crate()
-    for path in sorted(folder.glob("src/**/*.rt")):
-        if not path.name.endswith("tests.rt"):
-            read_code(crate, path)
-    for path in sorted(folder.glob("specs/**/*.antt")):
-        read_definitions(crate, path)
+    crate = Crate(source.functions_of(folder))
+    for path in folder.glob("src/**/*.rt"):
+        crate.types.update(re.findall(r"^\s*pub (?:struct|enum|trait|type|const) (\w+)", path.read_text(), re.MULTILINE))
+        for block in source.ghosts_in(path):
+            crate.ghosts.setdefault(block.name, set()).update(ghost.name for ghost in block.clauses)
+    for path in folder.glob("specs/**/*.antt"):
+        for name in re.findall(r"^\s*(?:(?:pub|abbrev|unfoldable|record|data|mod) )+(\w+)", path.read_text(), re.MULTILINE):
+            crate.definitions.setdefault(name, set())
+        for record in source.records_in(path):
+            crate.definitions.setdefault(record.name, set()).update(part.name for part in record.clauses)
     for path in folder.glob("proofs/**/*.antt"):
         crate.lemmas.update(re.findall(r"^pub (\w+) :", path.read_text(), re.MULTILINE))
     return crate
 
 
-def functions_of(crate: Crate, name: str) -> list[Function]:
+def functions_of(crate: Crate, name: str) -> list[source.Function]:
     """Those that a name means: `function`, `Type::function`, or all of a type."""
     owner, _, base = name.rpartition("::")
-    named = [f for f in crate.functions if f.name == base and (not owner or owner in f.owners)]
-    return named or [f for f in crate.functions if name in f.owners]
+    named = [each for each in crate.functions if each.name == base and (not owner or owner in each.owners)]
+    return named or [each for each in crate.functions if name in each.owners]
 
 
 def names_of(crate: Crate, host: str) -> set[str]:
-    """What stands in a host: the clauses of a function and the ghosts beside it, the functions too of a type, or the fields of a record."""
-    functions = functions_of(crate, host)
+    """What stands in a host: the clauses of a function and the ghosts beside it, the functions too of a type, or the fields
+    of a record."""
     names = set(crate.definitions.get(host, set())) | crate.ghosts.get(host, set())
-    for function in functions:
-        names.update(function.promises, function.conditions)
+    for function in functions_of(crate, host):
+        names.update(clause.name for clause in function.clauses)
         names.update(*(crate.ghosts.get(owner, set()) for owner in function.owners))
         if host in function.owners:
             names.add(function.name)
     return names
 
 
-def part_faults(part: str, crate: Crate, below: list[Crate]) -> list[str]:
-    """The names of a part that don't stand where it says."""
-    before = re.match(rf"({NAMES}): ", part)
-    behind = re.search(rf"\bof (?:each )?({NAMES})$", part)
-    functions = markdown.quoted(before[1] if before else "")
-    hosts = markdown.quoted(behind[1] if behind else "") or functions
-    inside = [names_of(crate, host) for host in hosts]
-    clauses = {name for f in crate.functions for name in f.promises}
-    faults = []
-    for name in markdown.quoted(part):
-        if name in hosts or name in functions:
-            known = functions_of(crate, name) or name in crate.definitions or name in clauses
-        elif name[0].isupper() and "::" not in name:
+def is_there(crate: Crate, host: str) -> bool:
+    return bool(functions_of(crate, host)) or host in crate.definitions or host in crate.ghosts
+
+
+def host_faults(crate: Crate, host: str, clause: str) -> list[str]:
+    """A host that isn't there, or hasn't what the row says of all its clauses."""
+    functions = functions_of(crate, host)
+    if not is_there(crate, host):
+        return [f"`{host}`"]
+    if clause == "the one" and not all(len(each.names("ensures")) == 1 for each in functions):
+        return [f"the one clause of `{host}`"]
+    if clause == "all" and not any(each.clauses for each in functions):
+        return [f"a clause of `{host}`"]
+    return []
+
+
+def row_faults(cell: str, clause: str, crate: Crate, below: list[Crate]) -> list[str]:
+    """The names of a row that don't stand where it says. A record may be one of a crate below."""
+    hosts = markdown.quoted(cell)
+    if cell.startswith("the lemma "):
+        return [f"`{name}`" for name in hosts if name not in crate.lemmas]
+    faults = [] if hosts else ["no function"]
+    if clause not in ("all", "the one") and not markdown.quoted(clause):
+        faults.append("no clause")
+    homes = {host: next((each for each in [crate, *below] if is_there(each, host)), crate) if host[0].isupper() else crate
+             for host in hosts}
+    for host, home in homes.items():
+        faults += host_faults(home, host, clause)
+    for name in markdown.quoted(clause):
+        if name[0].isupper():
             known = any(name in each.definitions or name in each.types for each in [crate, *below])
-        elif part.startswith("the lemma "):
-            known = name in crate.lemmas
-        elif hosts:
-            known = all(name in names for names in inside)
         else:
-            known = functions_of(crate, name) or name in {
-                clause for f in crate.functions if f.name == "bench" for clause in f.promises}
+            known = all(name in names_of(home, host) for host, home in homes.items())
         if not known:
             faults.append(f"`{name}`")
-    if "one clause of" in part:
-        faults += [f"the one clause of `{host}`" for host in hosts
-                   if not all(len(f.promises) == 1 for f in functions_of(crate, host))]
     return faults
 
 
@@ -151,17 +104,16 @@ def clauses(root: Path, below: dict[str, list[str]]):
     crates = {name: read_crate(root / "crates" / name) for name in below}
     count, faults = 0, []
     for table in markdown.read(root / "docs/PROOFS.md")[0]:
-        column = next((i for i, title in enumerate(table.header) if title.startswith("Clause")), None)
-        section = re.search(r"cct_\w+", table.section)
-        if column is None:
+        if "Clause" not in table.header:
+            faults.append(f"docs/PROOFS.md: a table without clauses in {table.section}")
             continue
+        at = table.header.index("Clause")
+        section = re.search(r"cct_\w+", table.section)
         for row in table.rows:
             own = re.fullmatch(r"`(cct_\w+)`", row.cells[0])
             name = own[1] if own else section and section[0]
-            if not markdown.quoted(row.cells[column]):
-                faults.append(f"docs/PROOFS.md:{row.line}: no clause is named")
-            for part in row.cells[column].split("; "):
-                count += len(markdown.quoted(part))
-                wrong = part_faults(part, crates[name], [crates[each] for each in below[name]])
-                faults += [f"docs/PROOFS.md:{row.line}: {each} isn't in {name}: {part}" for each in wrong]
+            cell, clause = row.cells[at - 1:at + 1]
+            count += len(markdown.quoted(cell)) + len(markdown.quoted(clause))
+            wrong = row_faults(cell, clause, crates[name], [crates[each] for each in below[name]])
+            faults += [f"docs/PROOFS.md:{row.line}: {each} isn't in {name}: {cell}: {clause}" for each in wrong]
     return count, faults

@@ -38,7 +38,7 @@ class Part:
 @dataclass
 class Field:
     names: list[str]
-    # the part of which it is, or fronts of forms; all where it is empty
+    # the part of which it is, or fronts of forms; all if it is empty
     of: str
     rule: str
     used: bool = False
@@ -52,7 +52,7 @@ class Field:
         return re.sub(r"(?<=\d),(?=\d{3})", "", self.rule.replace("`", ""))
 
     def ends(self) -> list[int]:
-        """The least and the greatest number, where it is one."""
+        """The least and the greatest number, if it is one."""
         return [int(each) for each in re.findall(r"\d+", self.text())] if self.rule.startswith("a number, ") else []
 
     def sample(self) -> str:
@@ -73,7 +73,7 @@ def tables(root: Path) -> tuple[list[Part], list[Field]]:
 
 
 def said(program: Path, part: Part, line: str) -> tuple[str, str]:
-    """The last line that is written where this line is the first of its part, and what standard error says of it."""
+    """The last line that is written if this line is the first of its part, and what standard error says of it."""
     done = played.call(program, ["run"], f"{part.front}{line}\n".encode())
     number = part.front.count("\n") + 1
     explained = done.stderr.decode().rstrip("\n")

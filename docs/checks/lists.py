@@ -100,3 +100,47 @@ def sentences(root: Path):
     listed = subprocess.run([root / "docs/index"], capture_output=True, text=True).stdout.splitlines()
     told = [line for line in listed if line.startswith("  ")]
     return len(told), [line.strip() for line in told if ": NO SENTENCE" in line]
+
+
+def first_page(text: str, anchor: str) -> str:
+    """The part of a document below the heading with this anchor, up to the next heading; without one, its part above the
+    first heading of two marks."""
+    for part in re.split(r"^(?=##+ )", text, flags=re.MULTILINE):
+        slug = re.sub(r"[^\w\- ]", "", part.splitlines()[0].lstrip("# ").lower()).replace(" ", "-") if part else ""
+        if not anchor or slug == anchor:
+            return part
+    return ""
+
+
+def first_pages(root: Path):
+    """The first page of each reader, which README names, is there and has fewer than 1,000 words."""
+    count, faults = 0, []
+    for table in markdown.read(root / "README.md")[0]:
+        if "First page" not in table.header:
+            continue
+        for row in table.rows:
+            for name, anchor in re.findall(r"\]\(([^)#]+)#?([^)]*)\)", row.cells[table.header.index("First page")]):
+                count += 1
+                words = len(first_page((root / name).read_text(), anchor).split())
+                if not 0 < words < 1000:
+                    faults.append(f"README.md:{row.line}: {name}#{anchor} has {words} words")
+    return count, faults
+
+
+def names(root: Path):
+    """Each name of code in back quotes stands in the source: a word with a low line, or with a capital and a small letter;
+    it may also be that of an edit, an example, a measure or a crate."""
+    known = {path.stem for pattern in ("crates/*/must-fail/*.edit", "crates/*", "examples/*", "bench/*", "docs/*")
+             for path in root.glob(pattern)}
+    for pattern in ("src/**/*.rt", "specs/**/*.antt", "proofs/**/*.antt"):
+        for path in root.glob(f"crates/*/{pattern}"):
+            known.update(re.findall(r"\w+", path.read_text()))
+    count, faults = 0, []
+    for path in [root / "README.md", *sorted(root.glob("*/*.md"))]:
+        for number, line in enumerate(path.read_text().splitlines(), 1):
+            for quoted in re.findall(r"`((?!__)\w+(?:::\w+)*)`", line):
+                for name in re.findall(r"[A-Z]\w*[a-z]\w*|[a-z]+_\w+", quoted):
+                    count += 1
+                    if name not in known:
+                        faults.append(f"{path.name}:{number}: `{quoted}` is nowhere in the source")
+    return count, faults

@@ -27,7 +27,7 @@ class Block:
     path: Path
     section: str
     line: int
-    # the words behind the opening fence
+    # the words after the opening fence
     words: str
     lines: list[str]
     # the last line of prose above it

@@ -1,11 +1,11 @@
 """The examples of the documents play as they are written, on the built programs.
 
-- A table with the columns `Line` and `Written` is one script, line by line. Behind each line stand the lines that it
+- A table with the columns `Line` and `Written` is one script, line by line. After each line stand the lines that it
   brings about, in back quotes and joined by `, `; `: ` and what follows it is prose.
 - A table with the columns `Script` and `Last line written` has a whole script in each row, in which `\\n` is a line feed,
   `\\r` a carriage return and `\\t` a tab.
 - A table with the columns `Kind`, `Setup lines` and `Step lines` has lines that are refused with this kind: a setup line
-  as the first of a script, a step line as the first behind `begin`.
+  as the first of a script, a step line as the first after `begin`.
 - A fenced block whose opening fence says `script` is a script that is played to its end.
 """
 
@@ -17,7 +17,7 @@ from pathlib import Path
 
 import markdown
 
-# What no example brings about: a journal is full behind 65,535 records, each of which is synced to a file twice.
+# What no example brings about: a journal is full after 65,535 records, each of which is synced to a file twice.
 WITHOUT_EXAMPLE = {"no COMMAND journalfull USED HELD NEED"}
 
 
@@ -139,7 +139,7 @@ def forms(root: Path) -> dict[str, re.Pattern]:
 
 
 def bare(line: str) -> str:
-    """A line without what the plays of examples/ write around it: a remark or a number before it, a status behind it."""
+    """A line without what the plays of examples/ write around it: a remark or a number before it, a status after it."""
     return re.sub(r",? status \d+$", "", re.sub(r"^(?:.*: |\d+ )", "", line))
 
 

@@ -16,7 +16,7 @@ SHOWN = [
 
 
 def holds(whole: list[str], part: list[str]) -> bool:
-    """The part's lines stand in the whole, one behind the other."""
+    """The part's lines stand in the whole, one after the other."""
     return any(whole[at:at + len(part)] == part for at in range(len(whole) - len(part) + 1))
 
 

@@ -17,7 +17,7 @@ use cct_sorter::{CoinTable, is_place};
 use cct_terms::{COIN_PLACES, Coin, DeviceBody, DeviceSetup, MOST_SENT, Pair, Reply, Request};
 use std::alloc::{AllocError, Global};
 
-/// The accept counter has three bytes, and starts again at 0 behind its last number.
+/// The accept counter has three bytes, and starts again at 0 after its last number.
 const COUNTS: u32 = 1 << 24;
 
 /// The error event of a piece that is no coin.
@@ -83,6 +83,8 @@ impl<'s> Acceptor<'s> {
         requires high { place ≤ COIN_PLACES }
         ensures stands { (d : DeviceSetup) (past : List Met) → StandsFor self.old d past
             → StandsFor self.new d (coin place ∷ past) }
+        // All that came before decides: the last mask, the master inhibit and the path of the place since the last
+        // reset.
         ensures answer { (d : DeviceSetup) (past : List Met) → StandsFor self.old d past
             → result ≡ inserted past place }
         ensures heard { (bytes : List ℕ) → HasHeard self.old bytes → HasHeard self.new bytes }
@@ -130,6 +132,8 @@ impl<'s> Acceptor<'s> {
     /// to another address, to a request that no acceptor knows, and to every broadcast but the address poll, which asks
     /// nothing at its own address.
     pub fn gap(&mut self, out: &mut ArrayVec<u8, MOST_SENT>) -> bool
+        // A gap does what the bytes since the last one ask, and nothing if they ask nothing. Hearing a message is
+        // hearing its bytes and then a gap.
         ensures stands { (d : DeviceSetup) (past : List Met) (bytes : List ℕ) → StandsFor self.old d past
             → HasHeard self.old bytes → StandsFor self.new d (heard (asks_of d bytes) ∷ past) }
         ensures answer { (d : DeviceSetup) (past : List Met) (bytes : List ℕ) → StandsFor self.old d past
@@ -152,8 +156,10 @@ impl<'s> Acceptor<'s> {
     /// Hears a piece and then a gap, where no byte came since the last one. It acts and answers as `gap` says.
     pub fn hear(&mut self, piece: &[u8], out: &mut ArrayVec<u8, MOST_SENT>) -> bool
         requires gap { IsAtGap self.old }
+        // Bytes do what they ask, and nothing if they ask nothing.
         ensures stands { (d : DeviceSetup) (past : List Met) → StandsFor self.old d past
             → StandsFor self.new d (heard (asks_of d piece.now) ∷ past) }
+        // Byte for byte, the answer is the one that all that came before makes it; else there is silence.
         ensures answer { (d : DeviceSetup) (past : List Met) → StandsFor self.old d past
             → MatchOption (answer d past piece.now) ((result ≡ false) × (out.new.items ≡ []))
             (λ bytes. (result ≡ true) × (out.new.items ≡ bytes)) }

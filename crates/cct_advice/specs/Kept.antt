@@ -6,6 +6,6 @@ use Rattle.cct_advice.specs.declared.kept.KeptSource.{KeptSource}
 abbrev pub source_of : {S : Type 0} → KeptSource S → S
 source_of kept = kept.source
 
--- the sink whose last piece is kept
+-- the sink whose last put is kept
 abbrev pub sink_of : {K : Type 0} → KeptSink K → K
 sink_of kept = kept.sink

@@ -1,9 +1,9 @@
-//! The front of a piece.
+//! The front of what is put.
 
-/// How many bytes of a piece are kept. The last lines that tell how a run ended are shorter.
+/// How many bytes of one put are kept. The last lines that tell how a run ended are shorter.
 const ROOM: usize = 64;
 
-/// The front of the last piece.
+/// The front of the last put.
 #[derive(Drop)]
 pub(crate) struct Front {
     bytes: [u8; ROOM],
@@ -19,10 +19,10 @@ impl Front {
         }
     }
 
-    /// Keeps the front of this piece in place of the one before.
-    pub(crate) fn note(&mut self, piece: &[u8]) {
-        let len = piece.len().min(ROOM);
-        self.bytes[..len].copy_from_slice(&piece[..len]);
+    /// Keeps the front of these bytes in place of the ones before.
+    pub(crate) fn note(&mut self, bytes: &[u8]) {
+        let len = bytes.len().min(ROOM);
+        self.bytes[..len].copy_from_slice(&bytes[..len]);
         self.len = len;
     }
 

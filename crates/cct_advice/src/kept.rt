@@ -48,7 +48,7 @@ impl<S: Source> Source for KeptSource<S> {
     }
 }
 
-/// A sink of which the front of the last piece is kept. It tells, and fails, as the one below.
+/// A sink of which the front of the last put is kept. It tells, and fails, as the one below.
 #[derive(Drop)]
 pub struct KeptSink<K> {
     sink: K,
@@ -66,7 +66,7 @@ impl<K: Sink> KeptSink<K> {
         }
     }
 
-    /// The front of the last piece.
+    /// The front of the last put.
     pub fn last(&self) -> &[u8] {
         self.last.bytes()
     }
@@ -77,10 +77,10 @@ impl<K: Sink> Sink for KeptSink<K> {
 
     ghost faults = { λ s. K.faults (sink_of s) };
 
-    ghost puts = { λ before piece answer now. K.puts (sink_of before) piece answer (sink_of now) };
+    ghost puts = { λ before bytes answer now. K.puts (sink_of before) bytes answer (sink_of now) };
 
-    fn put(&mut self, piece: &[u8]) -> Result<(), Failed> {
-        self.last.note(piece);
-        self.sink.put(piece)
+    fn put(&mut self, bytes: &[u8]) -> Result<(), Failed> {
+        self.last.note(bytes);
+        self.sink.put(bytes)
     }
 }

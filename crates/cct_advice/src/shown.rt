@@ -2,7 +2,7 @@
 
 use std::fmt;
 
-/// How many bytes are shown at the most.
+/// How many bytes are shown at most.
 const SHOWN: usize = 24;
 
 /// The first 24 of these bytes: a printing character or a space as it is, any other byte in hexadecimal.

@@ -41,16 +41,16 @@ impl Window {
     }
 
     /// Adds the bytes of a take. After the line `begin` only their line feeds matter.
-    pub(crate) fn note(&mut self, piece: &[u8]) {
+    pub(crate) fn note(&mut self, bytes: &[u8]) {
         if self.begun.is_some() {
-            self.feeds = self.feeds.saturating_add(feeds_in(piece));
+            self.feeds = self.feeds.saturating_add(feeds_in(bytes));
         } else {
-            for byte in piece {
+            for byte in bytes {
                 self.count(*byte);
             }
         }
-        let from = piece.len().saturating_sub(LONGEST);
-        self.keep(&piece[from..]);
+        let from = bytes.len().saturating_sub(LONGEST);
+        self.keep(&bytes[from..]);
     }
 
     /// Counts the lines, and looks for the line `begin`.
@@ -67,26 +67,26 @@ impl Window {
     }
 
     /// Keeps these bytes, and of those before as many as a line may have.
-    fn keep(&mut self, piece: &[u8])
-        requires { length piece.now ≤ LONGEST }
+    fn keep(&mut self, bytes: &[u8])
+        requires { length bytes.now ≤ LONGEST }
     {
-        if piece.len() > ROOM - self.len {
+        if bytes.len() > ROOM - self.len {
             let from = self.len - LONGEST;
             self.bytes.copy_within(from..self.len, 0);
             self.len = LONGEST;
         }
-        let end = self.len + piece.len();
-        self.bytes[self.len..end].copy_from_slice(piece);
+        let end = self.len + bytes.len();
+        self.bytes[self.len..end].copy_from_slice(bytes);
         self.len = end;
     }
 
     /// What was taken of the line of this number, without its line feed, where it is among the last bytes.
     pub(crate) fn line(&self, number: u64) -> Option<&[u8]> {
-        let behind = self.feeds.saturating_add(1).checked_sub(number)?;
+        let after = self.feeds.saturating_add(1).checked_sub(number)?;
         let held = &self.bytes[..self.len];
         let mut left = feeds_in(held);
         for line in held.split(|byte| *byte == b'\n') {
-            if left == behind {
+            if left == after {
                 return Some(line);
             }
             left = left.saturating_sub(1);

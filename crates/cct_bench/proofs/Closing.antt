@@ -12,43 +12,34 @@ use Rattle.cct_model.specs.Legal.{Legal}
 use Rattle.cct_model.specs.lines.entry.Entry.TheVariants as entry
 use Rattle.cct_model.specs.Script.{script, Refusal}
 use Rattle.cct_model.specs.Transcript.{onto}
-use Rattle.cct_laws.proofs.text.Scripts.{played_in_order, played_covers, played_fresh, played_paid}
+use Rattle.cct_laws.proofs.text.Scripts.{played_right}
 use Rattle.cct_journal.specs.Image.{IsBlank, IsFirstByteFrom}
 use Rattle.cct_bench.specs.declared.outcome.Status.{Status}
 use Rattle.cct_bench.specs.declared.outcome.Status.TheVariants as status
 use Rattle.cct_bench.specs.declared.ending.Ending.{Ending}
 use Rattle.cct_bench.specs.declared.ending.Ending.TheVariants as ending
 use Rattle.cct_bench.specs.declared.play.TheConstants.{JOURNAL_BYTES}
+use Rattle.cct_journal.specs.declared.refusal.CreateNo.TheVariants as create_no
 use Rattle.cct_host.specs.declared.refusal.CrashNo.{CrashNo}
 use Rattle.cct_host.specs.declared.refusal.CrashNo.TheVariants as crash_no
 use Rattle.cct_world.specs.Early.{LegalBeforeLoss}
 use Rattle.cct_world.specs.Restarts.{LosesAt, no_step}
-use Rattle.cct_world.specs.Sure.{First, IsCrash, Sure, losses_in}
+use Rattle.cct_world.specs.Relying.{First, IsCrash, IsReliable, losses_in}
 use Rattle.cct_bench.specs.Disks.{Disks, most_records}
-use Rattle.cct_bench.specs.Money.{IsRight, RightBeforeLoss}
+use Rattle.cct_laws.specs.Right.{IsRight}
+use Rattle.cct_bench.specs.Money.{RightBeforeLoss}
 use Rattle.cct_bench.specs.Source.{AreTold, OfBytes, to_come}
 use Rattle.cct_text.specs.Writing.{Writes, Wrote, Broke}
-use Rattle.cct_bench.specs.Run.{Book, BreaksOff, Closes, Completes, Ends, EndsLost, IsOfScript, Over, OverCut}
+use Rattle.cct_bench.specs.Run.{RecordsLeftByLine, BreaksOff, Closes, Completes, Ends, EndsLost, OverCut}
 use Rattle.cct_bench.specs.Run.{OverLost, Played, Ran, TellsLoss, TellsOf, last_entry, listed, status_by, status_of}
 use Rattle.cct_world.proofs.Early.{early_none}
-use Rattle.cct_world.proofs.Sure.{rose_just}
+use Rattle.cct_world.proofs.Relying.{rose_just}
 use Rattle.cct_text.proofs.Writing.{writes_then}
 
 -- what holds of the bytes that an object tells, or of some where it tells none, also holds by a weaker fact
 pub bytes_weaker : (P Q : List ℕ → Type 0) (known : Option (List ℕ)) → ((bytes : List ℕ) → P bytes → Q bytes)
     → OfBytes known P → OfBytes known Q
 bytes_weaker P Q known f h = (h.0, h.1, f h.0 h.2)
-
--- the money of steps that a script says
-script_right : (bytes : List ℕ) (played rest : List Step) (transcript : List Entry)
-    → (script bytes).steps ≡ played ++ rest → Legal most_records (script bytes).setup played transcript
-    → IsRight (script bytes).setup transcript
-script_right bytes played rest transcript fronts legal = record {
-  fresh = played_fresh most_records bytes played rest transcript fronts legal;
-  in_order = λ d own honest. played_in_order most_records bytes played rest transcript d fronts legal honest own;
-  covers = λ d own honest. played_covers most_records bytes played rest transcript d fronts legal honest own;
-  paid = λ d own paying honest. played_paid most_records bytes played rest transcript d fronts legal honest own paying;
-}
 
 -- what is so before the first loss of power, by what is so of the first of the steps
 pub early_right : (setup : Setup) (played : List Step) (transcript : List Entry)
@@ -74,39 +65,43 @@ unread_tail (ending.Refused number why) is = cc is
 unread_tail ending.Unread is = refl
 unread_tail ending.Unwritten is = cc is
 unread_tail ending.NoMemory is = cc is
-unread_tail ending.DiskFailed is = cc is
-unread_tail (ending.NotBlank at) is = cc is
 unread_tail (ending.OtherSize len) is = cc is
-unread_tail ending.JournalAlien is = cc is
-unread_tail (ending.JournalBad index) is = cc is
-unread_tail (ending.RecordsLost found put) is = cc is
+unread_tail (ending.Uncreated (create_no.Small len)) is = cc is
+unread_tail (ending.Uncreated create_no.Disk) is = cc is
+unread_tail (ending.Uncreated (create_no.NotBlank at)) is = cc is
+unread_tail (ending.Unplayed crash_no.Disk) is = cc is
+unread_tail (ending.Unplayed crash_no.Alien) is = cc is
+unread_tail (ending.Unplayed (crash_no.BadRecord index)) is = cc is
+unread_tail (ending.Unplayed (crash_no.Lost found put)) is = cc is
 
-pub failed_tail : (how : Ending) → listed (last_entry how) ≡ entry.DiskFault ∷ [] → how ≡ ending.DiskFailed
+pub failed_tail : (how : Ending) → listed (last_entry how) ≡ entry.DiskFault ∷ [] → status_of how ≡ status.DiskFault
 failed_tail ending.Done is = cc is
 failed_tail (ending.Refused number why) is = cc is
 failed_tail ending.Unread is = cc is
 failed_tail ending.Unwritten is = cc is
 failed_tail ending.NoMemory is = cc is
-failed_tail ending.DiskFailed is = refl
-failed_tail (ending.NotBlank at) is = cc is
 failed_tail (ending.OtherSize len) is = cc is
-failed_tail ending.JournalAlien is = cc is
-failed_tail (ending.JournalBad index) is = cc is
-failed_tail (ending.RecordsLost found put) is = cc is
+failed_tail (ending.Uncreated (create_no.Small len)) is = cc is
+failed_tail (ending.Uncreated create_no.Disk) is = refl
+failed_tail (ending.Uncreated (create_no.NotBlank at)) is = cc is
+failed_tail (ending.Unplayed crash_no.Disk) is = refl
+failed_tail (ending.Unplayed crash_no.Alien) is = cc is
+failed_tail (ending.Unplayed (crash_no.BadRecord index)) is = cc is
+failed_tail (ending.Unplayed (crash_no.Lost found put)) is = cc is
 
 -- the steps came to their end by a fault only where there was one
-pub record Caused (how : Ending) (source_failed disk_failed : Type 0) : Type 0 where
+pub record IsCaused (how : Ending) (source_failed disk_failed : Type 0) : Type 0 where
   pub unread : how ≡ ending.Unread → source_failed
-  pub failed : how ≡ ending.DiskFailed → disk_failed
+  pub failed : status_of how ≡ status.DiskFault → disk_failed
 
 -- a run by its status, from what was played
 ran_by : (bytes : List ℕ) (how : Ending) (s : Status) (tail : List Entry) (left : Option (List ℕ)) (disks : Disks)
     (Before Written : List Entry → Type 0) (Broken Breaks : List Entry → List Entry → Type 0)
-    (source_failed disk_failed : Type 0) → tail ≡ listed (last_entry how) → Caused how source_failed disk_failed
+    (source_failed disk_failed : Type 0) → tail ≡ listed (last_entry how) → IsCaused how source_failed disk_failed
     → (disks.trusted → TellsLoss tail → ⊥)
-    → (p : Played (Sure disks.trusted) bytes how left Before Broken (OverCut disks))
+    → (p : Played (IsReliable disks.trusted) bytes how left Before Broken (OverCut disks))
     → Ends disks bytes p.taken p.played p.unplayed p.transcript s tail Written Breaks
-    → (disks.trusted → p.taken ≢ [] → Book disks (script bytes).setup p.unplayed (onto [] p.transcript) tail)
+    → (disks.trusted → p.taken ≢ [] → RecordsLeftByLine disks (script bytes).setup p.unplayed (onto [] p.transcript) tail)
     → Ran bytes s left Written Breaks disks source_failed disk_failed
 ran_by bytes how s tail left disks Before Written Broken Breaks source_failed disk_failed is caused keeps p ends book =
     record {
@@ -118,9 +113,9 @@ ran_by bytes how s tail left disks Before Written Broken Breaks source_failed di
       took = p.took;
       steps_are = p.steps_are;
       legal = p.legal;
-      money = λ sure. script_right bytes p.played p.unplayed p.transcript p.steps_are (p.legal sure);
+      money = λ sure. played_right most_records bytes p.played p.unplayed p.transcript p.steps_are (p.legal sure);
       early = early_right (script bytes).setup p.played p.transcript
-          (λ first later told fronts legal. script_right bytes first (later ++ p.unplayed) told
+          (λ first later told fronts legal. played_right most_records bytes first (later ++ p.unplayed) told
           (p.steps_are ∙ ap (λ xs. xs ++ p.unplayed) fronts ∙ append_assoc first later p.unplayed) legal) p.early;
       ends = ends;
       book = book;
@@ -173,13 +168,13 @@ module _ (disks : Disks) (bytes taken : List ℕ) (played unplayed : List Step) 
 
 module _ (bytes : List ℕ) (how : Ending) (left : Option (List ℕ)) (disks : Disks) (Before Written : List Entry → Type 0)
     (Broken Breaks : List Entry → List Entry → Type 0) (source_failed disk_failed : Type 0)
-    (caused : Caused how source_failed disk_failed)
-    (p : Played (Sure disks.trusted) bytes how left Before Broken (OverCut disks)) where
+    (caused : IsCaused how source_failed disk_failed)
+    (p : Played (IsReliable disks.trusted) bytes how left Before Broken (OverCut disks)) where
   -- a run whose last line was put
   ran_last : (answer : Result (Unit {0}) Failed) (s : Status) (tail : List Entry) → tail ≡ listed (last_entry how)
       → HasLine s → (disks.trusted → TellsLoss tail → ⊥) → LastLine Before Written Breaks tail answer
       → Before p.transcript → Closes disks bytes p.taken p.played p.unplayed p.transcript s tail
-      → (disks.trusted → p.taken ≢ [] → Book disks (script bytes).setup p.unplayed (onto [] p.transcript) tail)
+      → (disks.trusted → p.taken ≢ [] → RecordsLeftByLine disks (script bytes).setup p.unplayed (onto [] p.transcript) tail)
       → Ran bytes (status_by answer s) left Written Breaks disks source_failed disk_failed
   ran_last (Ok done) s tail is has keeps line wrote closes book =
       ran_by bytes how s tail left disks Before Written Broken Breaks source_failed disk_failed is caused keeps p
@@ -189,7 +184,7 @@ module _ (bytes : List ℕ) (how : Ending) (left : Option (List ℕ)) (disks : D
       ran_by bytes how status.WriteFault tail left disks Before Written Broken Breaks source_failed disk_failed is caused
       keeps p (
         inr (s, closes),
-        breaks_last (Sure disks.trusted) (script bytes).setup p.played p.transcript tail Breaks p.legal
+        breaks_last (IsReliable disks.trusted) (script bytes).setup p.played p.transcript tail Breaks p.legal
             (line p.transcript wrote),
       ) book
 
@@ -202,19 +197,6 @@ module _ (bytes : List ℕ) (how : Ending) (left : Option (List ℕ)) (disks : D
       ran_last answer status.JournalLost tail is tt (λ trusted told. over.2 trusted) line wrote
       (tells (EndsLost disks (script bytes).setup (onto [] p.transcript) p.unplayed) over.1, over.0)
       (λ trusted some. absurd (over.2 trusted))
-
--- what was due in the step in which the disk failed
-torn_book : (disks : Disks) (bytes taken : List ℕ) (played unplayed : List Step) (transcript : List Entry)
-    → Over disks ending.DiskFailed (script bytes).setup taken played unplayed (onto [] transcript) → disks.trusted
-    → taken ≢ [] → Book disks (script bytes).setup unplayed (onto [] transcript) (entry.DiskFault ∷ [])
-torn_book disks bytes taken played unplayed transcript (sized, inl none) trusted some = absurd (some none.0)
-torn_book disks bytes taken played unplayed transcript (sized, inr torn) trusted some = torn.2 trusted
-
-torn_closes : (disks : Disks) (bytes taken : List ℕ) (played unplayed : List Step) (transcript : List Entry)
-    → Over disks ending.DiskFailed (script bytes).setup taken played unplayed (onto [] transcript)
-    → Closes disks bytes taken played unplayed transcript status.DiskFault (entry.DiskFault ∷ [])
-torn_closes disks bytes taken played unplayed transcript (sized, inl none) = (sized, refl, inl none)
-torn_closes disks bytes taken played unplayed transcript (sized, inr torn) = (sized, refl, inr (torn.0, torn.1))
 
 breaks_by : (Relies : List Entry → Type 0) (setup : Setup) (played : List Step) (transcript tail : List Entry)
     (Broken Breaks : List Entry → List Entry → Type 0) → ((xs ys : List Entry) → Broken xs ys → Breaks xs ys)
@@ -236,11 +218,11 @@ breaks_by Relies setup played transcript tail Broken Breaks b h = record {
 -- a run by how its steps came to their end, where its last line is put in this way
 ran_ends : (bytes : List ℕ) (how : Ending) (answer : Result (Unit {0}) Failed) (left : Option (List ℕ)) (disks : Disks)
     (Before Written : List Entry → Type 0) (Broken Breaks : List Entry → List Entry → Type 0)
-    (source_failed disk_failed : Type 0) → Caused how source_failed disk_failed
+    (source_failed disk_failed : Type 0) → IsCaused how source_failed disk_failed
     → LastLine Before Written Breaks (listed (last_entry how)) answer
     → ((xs ys : List Entry) → last_entry how ≡ None → Broken xs ys → Breaks xs ys)
     → ((failed : Failed) → answer ≡ Err failed → last_entry how ≡ None → ⊥)
-    → Played (Sure disks.trusted) bytes how left Before Broken (OverCut disks)
+    → Played (IsReliable disks.trusted) bytes how left Before Broken (OverCut disks)
     → Ran bytes (status_by answer (status_of how)) left Written Breaks disks source_failed disk_failed
 ran_ends bytes ending.Done answer left disks Before Written Broken Breaks source_failed disk_failed caused line broke
     fails p =
@@ -265,7 +247,7 @@ ran_ends bytes ending.Unwritten (Ok done) left disks Before Written Broken Break
     ran_by bytes ending.Unwritten status.WriteFault [] left disks Before Written Broken Breaks source_failed disk_failed
     refl caused (λ trusted tells. tells) p (
       inl (refl, p.beside.over.0),
-      breaks_by (Sure disks.trusted) (script bytes).setup p.played p.transcript [] Broken Breaks
+      breaks_by (IsReliable disks.trusted) (script bytes).setup p.played p.transcript [] Broken Breaks
           (λ xs ys b. broke xs ys refl b) p.stops,
     ) (λ trusted some. p.beside.over.1 trusted)
 ran_ends bytes ending.Unwritten (Err failed) left disks Before Written Broken Breaks source_failed disk_failed caused line broke
@@ -279,35 +261,44 @@ ran_ends bytes ending.NoMemory (Ok done) left disks Before Written Broken Breaks
 ran_ends bytes ending.NoMemory (Err failed) left disks Before Written Broken Breaks source_failed disk_failed caused line broke
     fails p =
     absurd (fails failed refl refl)
-ran_ends bytes ending.DiskFailed answer left disks Before Written Broken Breaks source_failed disk_failed caused line broke
-    fails p =
-    ran_last bytes ending.DiskFailed left disks Before Written Broken Breaks source_failed disk_failed caused p answer status.DiskFault
-    (entry.DiskFault ∷ []) refl tt (λ trusted tells. tells) line p.stops
-    (torn_closes disks bytes p.taken p.played p.unplayed p.transcript p.beside.over)
-    (torn_book disks bytes p.taken p.played p.unplayed p.transcript p.beside.over)
-ran_ends bytes (ending.NotBlank at) answer left disks Before Written Broken Breaks source_failed disk_failed caused line broke
-    fails p =
-    ran_last bytes (ending.NotBlank at) left disks Before Written Broken Breaks source_failed disk_failed caused p answer status.NotBlank
-    (entry.NotBlank at ∷ []) refl tt (λ trusted tells. tells) line p.stops
-    (at, p.beside.over.0, refl, p.beside.over.1, p.beside.over.2)
-    (λ trusted some. absurd (some p.beside.over.1.0))
 ran_ends bytes (ending.OtherSize len) answer left disks Before Written Broken Breaks source_failed disk_failed caused line broke
     fails p =
     ran_last bytes (ending.OtherSize len) left disks Before Written Broken Breaks source_failed disk_failed caused p answer status.DiskSize
     (entry.DiskSize len ∷ []) refl tt (λ trusted tells. tells) line p.stops
     (p.beside.over.0, ap (λ n. entry.DiskSize n ∷ []) p.beside.over.2, p.beside.over.1)
     (λ trusted some. absurd (some p.beside.over.1.0))
-ran_ends bytes ending.JournalAlien answer left disks Before Written Broken Breaks source_failed disk_failed caused line broke
+ran_ends bytes (ending.Uncreated (create_no.Small len)) answer left disks Before Written Broken Breaks source_failed disk_failed caused line broke
     fails p =
-    ran_lost bytes ending.JournalAlien left disks Before Written Broken Breaks source_failed disk_failed caused p answer
+    absurd (omega (arith, p.beside.over.0, p.beside.over.2.1))
+ran_ends bytes (ending.Uncreated create_no.Disk) answer left disks Before Written Broken Breaks source_failed disk_failed caused line broke
+    fails p =
+    ran_last bytes (ending.Uncreated create_no.Disk) left disks Before Written Broken Breaks source_failed disk_failed caused p answer status.DiskFault
+    (entry.DiskFault ∷ []) refl tt (λ trusted tells. tells) line p.stops
+    (p.beside.over.0, refl, inl p.beside.over.1)
+    (λ trusted some. absurd (some p.beside.over.1.0))
+ran_ends bytes (ending.Uncreated (create_no.NotBlank at)) answer left disks Before Written Broken Breaks source_failed disk_failed caused line broke
+    fails p =
+    ran_last bytes (ending.Uncreated (create_no.NotBlank at)) left disks Before Written Broken Breaks source_failed disk_failed caused p answer status.NotBlank
+    (entry.NotBlank at ∷ []) refl tt (λ trusted tells. tells) line p.stops
+    (at, p.beside.over.0, refl, p.beside.over.1, p.beside.over.2.1)
+    (λ trusted some. absurd (some p.beside.over.1.0))
+ran_ends bytes (ending.Unplayed crash_no.Disk) answer left disks Before Written Broken Breaks source_failed disk_failed caused line broke
+    fails p =
+    ran_last bytes (ending.Unplayed crash_no.Disk) left disks Before Written Broken Breaks source_failed disk_failed caused p answer status.DiskFault
+    (entry.DiskFault ∷ []) refl tt (λ trusted tells. tells) line p.stops
+    (p.beside.over.0.sized, refl, inr (p.beside.over.0, p.beside.over.1))
+    (λ trusted some. p.beside.over.2 trusted)
+ran_ends bytes (ending.Unplayed crash_no.Alien) answer left disks Before Written Broken Breaks source_failed disk_failed caused line broke
+    fails p =
+    ran_lost bytes (ending.Unplayed crash_no.Alien) left disks Before Written Broken Breaks source_failed disk_failed caused p answer
     crash_no.Alien (entry.JournalAlien ∷ []) refl (λ P is. is) line p.stops p.beside.over
-ran_ends bytes (ending.JournalBad index) answer left disks Before Written Broken Breaks source_failed disk_failed caused line broke
+ran_ends bytes (ending.Unplayed (crash_no.BadRecord index)) answer left disks Before Written Broken Breaks source_failed disk_failed caused line broke
     fails p =
-    ran_lost bytes (ending.JournalBad index) left disks Before Written Broken Breaks source_failed disk_failed caused p answer
+    ran_lost bytes (ending.Unplayed (crash_no.BadRecord index)) left disks Before Written Broken Breaks source_failed disk_failed caused p answer
     (crash_no.BadRecord index) (entry.JournalBad index ∷ []) refl (λ P is. is) line p.stops p.beside.over
-ran_ends bytes (ending.RecordsLost found put) answer left disks Before Written Broken Breaks source_failed disk_failed caused line broke
+ran_ends bytes (ending.Unplayed (crash_no.Lost found put)) answer left disks Before Written Broken Breaks source_failed disk_failed caused line broke
     fails p =
-    ran_lost bytes (ending.RecordsLost found put) left disks Before Written Broken Breaks source_failed disk_failed caused p answer
+    ran_lost bytes (ending.Unplayed (crash_no.Lost found put)) left disks Before Written Broken Breaks source_failed disk_failed caused p answer
     (crash_no.Lost found put) (entry.JournalLost found put ∷ []) refl (λ P is. is) line p.stops p.beside.over
 
 -- what was written before, and then the last line
@@ -326,9 +317,9 @@ module _ {K : Type 0} (written : K → Option (List ℕ)) (puts : K → List ℕ
 
   pub ran_written : (a b c : K) (bytes : List ℕ) (how : Ending) (s : Status) (answer : Result (Unit {0}) Failed)
       (left : Option (List ℕ)) (disks : Disks) (source_failed disk_failed : Type 0)
-      → Caused how source_failed disk_failed → Writes written puts b (listed (last_entry how)) answer c
+      → IsCaused how source_failed disk_failed → Writes written puts b (listed (last_entry how)) answer c
       → s ≡ status_by answer (status_of how)
-      → Played (Sure disks.trusted) bytes how left (Wrote written puts a b) (Broke written puts a b) (OverCut disks)
+      → Played (IsReliable disks.trusted) bytes how left (Wrote written puts a b) (Broke written puts a b) (OverCut disks)
       → Ran bytes s left (Wrote written puts a c) (Broke written puts a c) disks source_failed disk_failed
   ran_written a b c bytes how s answer left disks source_failed disk_failed caused h is p =
       subst (λ s. Ran bytes s left (Wrote written puts a c) (Broke written puts a c) disks source_failed disk_failed)
@@ -362,9 +353,9 @@ no_memory left Written Breaks disks source_failed disk_failed uncut wrote =
         took = refl;
         steps_are = refl;
         legal = λ sure. legal;
-        money = λ sure. script_right bytes [] (script bytes).steps [] refl legal;
+        money = λ sure. played_right most_records bytes [] (script bytes).steps [] refl legal;
         early = early_right (script bytes).setup [] []
-            (λ first later told fronts legal. script_right bytes first (later ++ (script bytes).steps) told
+            (λ first later told fronts legal. played_right most_records bytes first (later ++ (script bytes).steps) told
             (ap (λ xs. xs ++ (script bytes).steps) fronts ∙ append_assoc first later (script bytes).steps) legal)
             (early_none most_records (script bytes).setup);
         ends = (refl, refl, wrote);
@@ -472,7 +463,7 @@ ran_completes bytes status.JournalLost left Written Breaks disks image source_fa
     h.ends.0.0))
 ran_completes bytes status.JournalLost left Written Breaks disks image source_failed disk_failed told sized blank (inr none) r w d h =
     absurd (none_next h.played h.unplayed (ap losses_in (sym h.steps_are) ∙ none)
-    (lost_next (Sure disks.trusted (onto [] h.transcript)) disks.cut_at (script bytes).setup (onto [] h.transcript) disks.seen_after
+    (lost_next (IsReliable disks.trusted (onto [] h.transcript)) disks.cut_at (script bytes).setup (onto [] h.transcript) disks.seen_after
     h.unplayed h.tail h.ends.0.0))
 
 -- an honest disk that tells is trusted
@@ -494,10 +485,3 @@ told_completes bytes s left Written Breaks disks Read Write Disk Honest (Some im
     λ sized blank kept r w d. ran_completes bytes s left Written Breaks disks image Read Disk told sized blank
     (kept_by Honest disks.trusted (losses_in (script bytes).steps ≡ 0) (λ honest. trusts honest refl) kept)
     (λ is. r (read is)) (λ is. w (write is)) (λ is. d (disk is)) ran
-
--- what the script or its source brings to its end leaves the journal that was there
-pub script_keeps : (how : Ending) → IsOfScript how → status_of how ≡ status.JournalLost → ⊥
-script_keeps ending.Done is lost = cc lost
-script_keeps (ending.Refused number why) is lost = cc lost
-script_keeps ending.Unread is lost = cc lost
-script_keeps how is lost = absurd is

@@ -23,7 +23,7 @@ use Rattle.cct_bench.specs.declared.lines.ScriptStop.{ScriptStop}
 use Rattle.cct_bench.specs.declared.lines.ScriptStop.TheVariants as stop
 use Rattle.cct_bench.specs.SetupLines.{OpensLine}
 use Rattle.cct_bench.specs.Lines.{said_from, IsNext, before_end, behind_end, ScriptGoesOn, IsClosed, StopsAt, EndsAt}
-use Rattle.cct_bench.specs.Lines.{Came}
+use Rattle.cct_bench.specs.Lines.{WithMoreTaken}
 use Rattle.cct_bench.specs.Source.{to_come}
 use Rattle.cct_bench.specs.Run.{ending_at}
 
@@ -201,11 +201,11 @@ abbrev pub Reads : Standing → Standing → Option (List ℕ) → Option (List 
 Reads old new left_before left number stage (Ok line) =
     (number ≤ 1048576) × (new.given ≡ number) × (length line ≤ 1200) × (position is_line_feed line ≡ None)
     × Fills old.held (line ++ 10 ∷ new.held) left_before left
-Reads old new left_before left number stage (Err why) = Came old.held left_before left (StopsAt number stage why left)
+Reads old new left_before left number stage (Err why) = WithMoreTaken old.held left_before left (StopsAt number stage why left)
 
 -- what holds of the bytes held holds where more bytes came
 came_by : (old new : Standing) (left_before left : Option (List ℕ)) (P : List ℕ → Type 0)
-    → Waits old new left_before left → P new.held → Came old.held left_before left P
+    → Waits old new left_before left → P new.held → WithMoreTaken old.held left_before left P
 came_by old new left_before left P waits holds = let fills = waits.1 in (fills.0, fills.2, subst P fills.1 holds)
 
 reads_before_end : (old new : Standing) (left_before left : Option (List ℕ)) (answer : Result (Option (List ℕ)) LinesNo)
@@ -231,36 +231,11 @@ reads_before_end old new left_before left (Err no.Cut) number stage going next g
 reads_before_end old new left_before left (Err no.Read) number stage going next gives =
     came_by old new left_before left (StopsAt number stage stop.Unread left) gives.0 gives.1
 
-pub answer_reads : (old new : Standing) (left_before left : Option (List ℕ)) (answer : Result (Option (List ℕ)) LinesNo)
-    (number : ℕ) (stage : Stage) (read : Result (List ℕ) ScriptStop) → is_over stage ≡ false →
-    IsNext number old → Gives old new left_before left answer → before_end answer ≡ read
-    → Reads old new left_before left number stage read
-answer_reads old new left_before left answer number stage read going next gives is =
-    subst (Reads old new left_before left number stage) is
-    (reads_before_end old new left_before left answer number stage going next gives)
-
--- a refusal that is passed up stops the script
-pub stops_up : {T : Type 0} (old new : Standing) (left_before left : Option (List ℕ))
-    (answer : Result (Option (List ℕ)) LinesNo) (number : ℕ) (stage : Stage) (r : Result T ScriptStop)
-    (why : ScriptStop) →
-    is_over stage ≡ false → IsNext number old → Gives old new left_before left answer → before_end answer ≡ Err why
-    → IsErr r × IsErrAnd r (λ e. e ≡ why) →
-    IfErr r (λ e. Came old.held left_before left (StopsAt number stage e left))
-stops_up old new left_before left answer number stage r why going next gives is passed =
-    subst (λ x. IfErr x (λ e. Came old.held left_before left (StopsAt number stage e left)))
-    (sym (passes_up r why passed))
-    (answer_reads old new left_before left answer number stage (Err why) going next gives is)
-
--- behind a line that was given comes the next number
-pub given_next : (old new : Standing) (left_before left : Option (List ℕ)) (number : ℕ) (stage : Stage) (line : List ℕ)
-    → Reads old new left_before left number stage (Ok line) → IsNext (number + 1) new
-given_next old new left_before left number stage line reads = (omega (arith, reads.1), omega (arith, reads.0))
-
 -- a line that was given goes on with the script as its form says
-pub given_goes : (old new : Standing) (left_before left : Option (List ℕ)) (number : ℕ) (stage : Stage) (line : List ℕ)
+given_goes : (old new : Standing) (left_before left : Option (List ℕ)) (number : ℕ) (stage : Stage) (line : List ℕ)
     (read : Read) → is_over stage ≡ false →
     Reads old new left_before left number stage (Ok line) → read_form stage line ≡ read
-    → Came old.held left_before left (λ held. ScriptGoesOn number stage held read new.held)
+    → WithMoreTaken old.held left_before left (λ held. ScriptGoesOn number stage held read new.held)
 given_goes old new left_before left number stage line read going reads read_is =
     let fills = reads.4 in (
       fills.0,
@@ -269,9 +244,48 @@ given_goes old new left_before left number stage line read going reads read_is =
           (line_goes number stage line new.held read going reads.0 reads.2 reads.3 read_is),
     )
 
+-- The reader of lines answered a script that hasn't ended, which wants a line of this number at a stage.
+pub record Answers (old new : Standing) (left_before left : Option (List ℕ)) (number : ℕ) (stage : Stage)
+    (answer : Result (Option (List ℕ)) LinesNo) : Type 0 where
+  pub going : is_over stage ≡ false
+  pub next : IsNext number old
+  pub gives : Gives old new left_before left answer
+
+module _ {old new : Standing} {left_before left : Option (List ℕ)} {number : ℕ} {stage : Stage}
+    {answer : Result (Option (List ℕ)) LinesNo} (at : Answers old new left_before left number stage answer) where
+  answer_reads : (read : Result (List ℕ) ScriptStop) → before_end answer ≡ read
+      → Reads old new left_before left number stage read
+  answer_reads read is =
+      subst (Reads old new left_before left number stage) is
+      (reads_before_end old new left_before left answer number stage at.going at.next at.gives)
+
+  -- a refusal that is passed up stops the script
+  pub stops_up : {T : Type 0} (r : Result T ScriptStop) (why : ScriptStop) → before_end answer ≡ Err why
+      → IsErr r × IsErrAnd r (λ e. e ≡ why) →
+      IfErr r (λ e. WithMoreTaken old.held left_before left (StopsAt number stage e left))
+  stops_up r why is passed =
+      subst (λ x. IfErr x (λ e. WithMoreTaken old.held left_before left (StopsAt number stage e left)))
+      (sym (passes_up r why passed)) (answer_reads (Err why) is)
+
+  -- after a line that was given comes the next number
+  pub next_after : (line : List ℕ) → before_end answer ≡ Ok line → IsNext (number + 1) new
+  next_after line is = let reads = answer_reads (Ok line) is in (omega (arith, reads.1), omega (arith, reads.0))
+
+  -- the line goes on with the script as its form says
+  pub goes_by : (line : List ℕ) (read : Read) → before_end answer ≡ Ok line → read_form stage line ≡ read
+      → WithMoreTaken old.held left_before left (λ held. ScriptGoesOn number stage held read new.held)
+  goes_by line read is read_is =
+      given_goes old new left_before left number stage line read at.going (answer_reads (Ok line) is) read_is
+
+  -- where it is refused, it closes the script
+  pub closes_by : (line : List ℕ) (why : LineKind) → before_end answer ≡ Ok line → read_form stage line ≡ refuses why
+      → WithMoreTaken old.held left_before left (StopsAt number stage (stop.Refused why) left)
+  closes_by line why is read_is =
+      let came = goes_by line (refuses why) is read_is in (came.0, came.1, came.2 (to_come left))
+
 module _ {S : Type 0} (takes : S → ℕ → Result ℕ Failed → S → Type 0) (left : S → Option (List ℕ)) where
   -- the takes that a line needed which is read
-  pub takes_before_end : (held kept : List ℕ) (before now : S) (answer : Result (Option (List ℕ)) LinesNo)
+  takes_before_end : (held kept : List ℕ) (before now : S) (answer : Result (Option (List ℕ)) LinesNo)
       (line : List ℕ) → TakesForLine takes left held before kept now answer → before_end answer ≡ Ok line
       → TakesOn takes left held before (line ++ 10 ∷ kept) now
   takes_before_end held kept before now (Ok (Some x)) line needed is =
@@ -284,36 +298,27 @@ module _ {S : Type 0} (takes : S → ℕ → Result ℕ Failed → S → Type 0)
   takes_before_end held kept before now (Err no.Read) line needed is = absurd cc
 
   -- a setup line that was given opens what is behind it
-  pub given_opens : (old new : Standing) (before now : S) (number : ℕ) (stage next : Stage) (line : List ℕ)
-      → is_over stage ≡ false → Reads old new (left before) (left now) number stage (Ok line)
-      → TakesOn takes left old.held before (line ++ 10 ∷ new.held) now → read_form stage line ≡ opens next
-      → OpensLine takes left number stage next old.held new.held before now
-  given_opens old new before now number stage next line going reads needed read_is = record {
-    line = line;
-    fills = reads.4;
-    alone = reads.3;
-    reads = by_form number stage line going reads.0 reads.2 ∙ read_is;
-    needed = needed;
-  }
-
--- a line that was given, and is refused, closes the script
-pub given_closes : (old new : Standing) (left_before left : Option (List ℕ)) (number : ℕ) (stage : Stage)
-    (line : List ℕ) (why : LineKind) → is_over stage ≡ false →
-    Reads old new left_before left number stage (Ok line) → read_form stage line ≡ refuses why
-    → Came old.held left_before left (StopsAt number stage (stop.Refused why) left)
-given_closes old new left_before left number stage line why going reads read_is =
-    let came = given_goes old new left_before left number stage line (refuses why) going reads read_is in (
-      came.0,
-      came.1,
-      came.2 (to_come left),
-    )
+  pub opens_by : {old new : Standing} {before now : S} {number : ℕ} {stage : Stage}
+      {answer : Result (Option (List ℕ)) LinesNo}
+      (at : Answers old new (left before) (left now) number stage answer) (next : Stage) (line : List ℕ)
+      → TakesForLine takes left old.held before new.held now answer → before_end answer ≡ Ok line
+      → read_form stage line ≡ opens next → OpensLine takes left number stage next old.held new.held before now
+  opens_by {old} {new} {before} {now} {number} {stage} {answer} at next line needed is read_is =
+      let reads = answer_reads at (Ok line) is in
+      record {
+        line = line;
+        fills = reads.4;
+        alone = reads.3;
+        reads = by_form number stage line at.going reads.0 reads.2 ∙ read_is;
+        needed = takes_before_end old.held new.held before now answer line needed is;
+      }
 
 -- what an answer tells behind the line `end`: nothing follows, or the script stops
 abbrev pub Ends : Standing → Option (List ℕ) → Option (List ℕ) → ℕ → Setup → Result (Unit {0}) ScriptStop → Type 0
 Ends old left_before left number setup (Ok done) =
-    Came old.held left_before left (IsClosed number (at_end setup) None left)
+    WithMoreTaken old.held left_before left (IsClosed number (at_end setup) None left)
 Ends old left_before left number setup (Err why) =
-    Came old.held left_before left (StopsAt number (at_end setup) why left)
+    WithMoreTaken old.held left_before left (StopsAt number (at_end setup) why left)
 
 trails : (old new : Standing) (left_before left : Option (List ℕ)) (number : ℕ) (setup : Setup)
     → Waits old new left_before left → 1 ≤ length new.held →

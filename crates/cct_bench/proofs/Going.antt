@@ -1,10 +1,11 @@
 -- What a run keeps from line to line, and what it leaves where it stops.
-use Rattle.std.proofs.Common.{◌≡◌, ℕ, ◌+◌, ◌≤◌, List, [], ◌∷◌, ◌++◌, reverse, Option, None, Some, Result, refl, inr, ap}
+use Rattle.std.proofs.Common.{◌≡◌, ℕ, ◌+◌, List, [], ◌∷◌, ◌++◌, reverse, Option, None, Some, Result, refl, inr, ap}
 use Rattle.std.proofs.Common.{sym, ◌∙◌, subst, append_assoc, arith}
 use Rattle.std.specs.List.{slice_split, position}
 use Rattle.std.specs.Io.KnownBytes.{Consumes}
 use Rattle.std.proofs.lemmas.List.{append-nil}
-use Rattle.cct_edge.specs.Bytes.{TellsAsBefore}
+use Rattle.std.proofs.Math.Nat.{le_trans}
+use Rattle.cct_edge.specs.Bytes.{Serves}
 use Rattle.cct_edge.specs.declared.fault.Failed.{Failed}
 use Rattle.cct_edge.proofs.Chains.{Consumes-nil, Consumes-trans}
 use Rattle.cct_model.specs.terms.device.Setup.{Setup}
@@ -23,20 +24,19 @@ use Rattle.cct_world.specs.Early.{LegalBeforeLoss}
 use Rattle.cct_world.specs.Machine.{StepSuits}
 use Rattle.cct_world.specs.Step.{crashes, crashes_of}
 use Rattle.cct_host.specs.declared.refusal.CrashNo.{CrashNo}
-use Rattle.cct_host.specs.declared.refusal.CrashNo.TheVariants as crash_no
 use Rattle.cct_world.proofs.Early.{early_more, early_none}
 use Rattle.cct_world.proofs.Suiting.{legal_suits}
 use Rattle.cct_bench.specs.declared.lines.ScriptStop.{ScriptStop}
 use Rattle.cct_bench.specs.declared.lines.ScriptStop.TheVariants as stop
 use Rattle.cct_bench.specs.declared.ending.Ending.TheVariants as ending
-use Rattle.cct_bench.specs.Lines.{said_from, IsNext, ScriptGoesOn, IsClosed, StopsAt, EndsAt, Came}
+use Rattle.cct_bench.specs.Lines.{said_from, IsNext, ScriptGoesOn, IsClosed, StopsAt, EndsAt, WithMoreTaken}
 use Rattle.cct_bench.specs.Disks.{Always, most_records}
 use Rattle.cct_bench.specs.Going.{AlsoSays, Going, IsUnbegun}
 use Rattle.cct_bench.specs.SetupLines.{TookOpening}
 use Rattle.cct_bench.specs.Source.{AreTold, OfBytes, to_come}
 use Rattle.cct_text.specs.Writing.{IsNothing}
 use Rattle.cct_bench.specs.declared.ending.Ending.{Ending}
-use Rattle.cct_bench.specs.Run.{BeforeSteps, IsOfScript, IsUnopened, Played, Stops, ending_at, unplayed_by}
+use Rattle.cct_bench.specs.Run.{BeforeSteps, IsOfScript, IsUnopened, Played, Stops, ending_at}
 use Rattle.cct_bench.proofs.Continuing.{ended}
 use Rattle.cct_bench.proofs.Staying.{IsDone, setup_stays}
 
@@ -120,7 +120,7 @@ early_came taken came more played transcript h =
 pub going_opens : (Relies : List Entry → Type 0) (left0 left left1 : Option (List ℕ)) (held rest : List ℕ)
     (number : ℕ) (stage next : Stage) (Stands : List Step → List Entry → Type 0) (Written : List Entry → Type 0) →
     Going Relies left0 left held number stage Stands Written
-    → Came held left left1 (λ bytes. ScriptGoesOn number stage bytes (opens next) rest) →
+    → WithMoreTaken held left left1 (λ bytes. ScriptGoesOn number stage bytes (opens next) rest) →
     Going Relies left0 left1 rest (number + 1) next Stands Written
 going_opens Relies left0 left left1 held rest number stage next Stands Written g r = record {
   taken = g.taken ++ r.0;
@@ -195,7 +195,7 @@ pub record Carries (Relies : List Entry → Type 0) (Before After : List Step �
 pub going_suits : (Relies : List Entry → Type 0) (left0 left left1 : Option (List ℕ)) (held rest : List ℕ)
     (number : ℕ) (stage next : Stage) (setup : Setup) (Before : List Step → List Entry → Type 0) (Written : List Entry → Type 0) (s : Step)
     → IsDone setup next → (g : Going Relies left0 left held number stage Before Written)
-    → Came held left left1 (λ bytes. ScriptGoesOn number stage bytes (plays s next) rest)
+    → WithMoreTaken held left left1 (λ bytes. ScriptGoesOn number stage bytes (plays s next) rest)
     → Relies (onto [] g.transcript) → StepSuits setup (onto [] g.transcript) s
 going_suits Relies left0 left left1 held rest number stage next setup Before Written s done g r relies =
     let bytes = (g.taken ++ r.0) ++ [] in
@@ -215,7 +215,7 @@ pub going_plays : (Relies : List Entry → Type 0) (left0 left left1 : Option (L
     (Written WritesThem Written1 : List Entry → Type 0) → GoesBack Relies → Trusts Relies → IsDone setup next
     → ((xs ys : List Entry) → Written xs → WritesThem ys → Written1 (xs ++ ys))
     → Going Relies left0 left held number stage Before Written
-    → Came held left left1 (λ bytes. ScriptGoesOn number stage bytes (plays s next) rest)
+    → WithMoreTaken held left left1 (λ bytes. ScriptGoesOn number stage bytes (plays s next) rest)
     → Carries Relies Before After setup s WritesThem
     → Going Relies left0 left1 rest (number + 1) next After Written1
 going_plays Relies left0 left left1 held rest number stage next setup Before After s Written WritesThem Written1 back
@@ -283,7 +283,7 @@ played_closed : (Relies : List Entry → Type 0) (left0 left left1 : Option (Lis
     → EndsBeside stage Stands Beside → (g : Going Relies left0 left held number stage Stands Written)
     → ((bytes taken : List ℕ) → (script bytes).refused ≡ (closed_script number (setup_at stage) why).refused
     → Stops Relies how bytes taken g.played [] g.transcript Written Breaks)
-    → Came held left left1 (IsClosed number stage why left1)
+    → WithMoreTaken held left left1 (IsClosed number stage why left1)
     → OfBytes left0 (λ bytes. Played Relies bytes how left1 Written Breaks Beside)
 played_closed Relies left0 left left1 held number why how stage Stands Written Breaks Beside is beside g stops r =
     let more = to_come left1 in
@@ -310,7 +310,7 @@ played_done : (Relies : List Entry → Type 0) (left0 left left1 : Option (List 
     (setup : Setup) (Stands : List Step → List Entry → Type 0) (Written : List Entry → Type 0) (Breaks : List Entry → List Entry → Type 0)
     (Beside : Ending → Setup → List ℕ → List Step → List Step → List Entry → Type 0)
     → EndsBeside (at_end setup) Stands Beside → Going Relies left0 left held number (at_end setup) Stands Written
-    → Came held left left1 (IsClosed number (at_end setup) None left1)
+    → WithMoreTaken held left left1 (IsClosed number (at_end setup) None left1)
     → OfBytes left0 (λ bytes. Played Relies bytes ending.Done left1 Written Breaks Beside)
 played_done Relies left0 left left1 held number setup Stands Written Breaks Beside beside g r =
     played_closed Relies left0 left left1 held number None ending.Done (at_end setup) Stands Written Breaks Beside tt
@@ -320,7 +320,7 @@ played_refused : (Relies : List Entry → Type 0) (left0 left left1 : Option (Li
     (why : LineKind) (stage : Stage) (Stands : List Step → List Entry → Type 0) (Written : List Entry → Type 0) (Breaks : List Entry → List Entry → Type 0)
     (Beside : Ending → Setup → List ℕ → List Step → List Step → List Entry → Type 0)
     → EndsBeside stage Stands Beside → Going Relies left0 left held number stage Stands Written
-    → Came held left left1 (IsClosed number stage (Some why) left1)
+    → WithMoreTaken held left left1 (IsClosed number stage (Some why) left1)
     → OfBytes left0 (λ bytes. Played Relies bytes (ending.Refused number why) left1 Written Breaks Beside)
 played_refused Relies left0 left left1 held number why stage Stands Written Breaks Beside beside g r =
     played_closed Relies left0 left left1 held number (Some why) (ending.Refused number why) stage Stands Written Breaks
@@ -341,7 +341,7 @@ played_unread : (Relies : List Entry → Type 0) (left0 left left1 : Option (Lis
     (stage : Stage) (Stands : List Step → List Entry → Type 0) (Written : List Entry → Type 0) (Breaks : List Entry → List Entry → Type 0)
     (Beside : Ending → Setup → List ℕ → List Step → List Step → List Entry → Type 0)
     → EndsBeside stage Stands Beside → Going Relies left0 left held number stage Stands Written
-    → Came held left left1 (λ bytes. position is_line_feed bytes ≡ None)
+    → WithMoreTaken held left left1 (λ bytes. position is_line_feed bytes ≡ None)
     → OfBytes left0 (λ bytes. Played Relies bytes ending.Unread left1 Written Breaks Beside)
 played_unread Relies left0 left left1 held number stage Stands Written Breaks Beside beside g r =
     let more = to_come left1 in
@@ -372,7 +372,7 @@ stopped : (Relies : List Entry → Type 0) (left0 left left1 : Option (List ℕ)
     (Breaks : List Entry → List Entry → Type 0)
     (Beside : Ending → Setup → List ℕ → List Step → List Step → List Entry → Type 0)
     → EndsBeside stage Stands Beside → Going Relies left0 left held number stage Stands Written
-    → Came held left left1 (StopsAt number stage why left1)
+    → WithMoreTaken held left left1 (StopsAt number stage why left1)
     → OfBytes left0 (λ bytes. Played Relies bytes (ending_at number why) left1 Written Breaks Beside)
 stopped Relies left0 left left1 held number stage stop.Unread Stands Written Breaks Beside beside g r =
     played_unread Relies left0 left left1 held number stage Stands Written Breaks Beside beside g r
@@ -384,7 +384,7 @@ pub played_stopped : (Relies : List Entry → Type 0) (left0 left left1 : Option
     (Breaks : List Entry → List Entry → Type 0)
     (Beside : Ending → Setup → List ℕ → List Step → List Step → List Entry → Type 0) → how ≡ ending_at number why
     → EndsBeside stage Stands Beside → Going Relies left0 left held number stage Stands Written
-    → Came held left left1 (StopsAt number stage why left1)
+    → WithMoreTaken held left left1 (StopsAt number stage why left1)
     → OfBytes left0 (λ bytes. Played Relies bytes how left1 Written Breaks Beside)
 played_stopped Relies left0 left left1 held number stage why how Stands Written Breaks Beside is beside g r =
     subst (λ how. OfBytes left0 (λ bytes. Played Relies bytes how left1 Written Breaks Beside)) (sym is)
@@ -395,7 +395,7 @@ pub played_ended : (Relies : List Entry → Type 0) (left0 left left1 : Option (
     (setup : Setup) (how : Ending) (Stands : List Step → List Entry → Type 0) (Written : List Entry → Type 0) (Breaks : List Entry → List Entry → Type 0)
     (Beside : Ending → Setup → List ℕ → List Step → List Step → List Entry → Type 0)
     → EndsBeside (at_end setup) Stands Beside → Going Relies left0 left held number (at_end setup) Stands Written
-    → Came held left left1 (EndsAt number setup how left1)
+    → WithMoreTaken held left left1 (EndsAt number setup how left1)
     → OfBytes left0 (λ bytes. Played Relies bytes how left1 Written Breaks Beside)
 played_ended Relies left0 left left1 held number setup ending.Done Stands Written Breaks Beside beside g r =
     played_done Relies left0 left left1 held number setup Stands Written Breaks Beside beside g r
@@ -418,7 +418,7 @@ pub played_broke : (Relies : List Entry → Type 0) (left0 left left1 : Option (
     → Beside ending.Unwritten setup taken played unplayed past) →
     IsDone setup next → ((xs ys : List Entry) → Written xs → WritesThem ys → Breaks xs ys)
     → Going Relies left0 left held number stage Before Written →
-    Came held left left1 (λ bytes. ScriptGoesOn number stage bytes (plays s next) rest)
+    WithMoreTaken held left left1 (λ bytes. ScriptGoesOn number stage bytes (plays s next) rest)
     → Carries Relies Before After setup s WritesThem →
     OfBytes left0 (λ bytes. Played Relies bytes ending.Unwritten left1 Written1 Breaks Beside)
 played_broke Relies left0 left left1 held rest number stage next setup Before After s Written WritesThem Written1 Breaks
@@ -474,26 +474,17 @@ played_broke Relies left0 left left1 held rest number stage next setup Before Af
       },
     )
 
--- a step that isn't played leaves the transcript whole
-unplayed_stops : (Relies : List Entry → Type 0) (why : CrashNo) (bytes taken : List ℕ) (played unplayed : List Step)
-    (transcript : List Entry) (Written : List Entry → Type 0) (Breaks : List Entry → List Entry → Type 0)
-    → Written transcript → Stops Relies (unplayed_by why) bytes taken played unplayed transcript Written Breaks
-unplayed_stops Relies crash_no.Disk bytes taken played unplayed transcript Written Breaks wrote = wrote
-unplayed_stops Relies crash_no.Alien bytes taken played unplayed transcript Written Breaks wrote = wrote
-unplayed_stops Relies (crash_no.BadRecord index) bytes taken played unplayed transcript Written Breaks wrote = wrote
-unplayed_stops Relies (crash_no.Lost found put) bytes taken played unplayed transcript Written Breaks wrote = wrote
-
 -- a step wasn't played
 pub played_torn : (Relies : List Entry → Type 0) (left0 left left1 : Option (List ℕ)) (held rest : List ℕ) (number : ℕ)
     (stage next : Stage) (setup : Setup) (Before : List Step → List Entry → Type 0) (s : Step) (why : CrashNo)
     (Written Written1 : List Entry → Type 0) (Breaks : List Entry → List Entry → Type 0)
     (Beside : Ending → Setup → List ℕ → List Step → List Step → List Entry → Type 0) →
     ((taken : List ℕ) (played unplayed : List Step) (past : List Entry) → Before played past
-    → (Relies past → StepSuits setup past s) → Beside (unplayed_by why) setup taken played (s ∷ unplayed) past) →
+    → (Relies past → StepSuits setup past s) → Beside (ending.Unplayed why) setup taken played (s ∷ unplayed) past) →
     IsDone setup next → ((xs : List Entry) → Written xs → Written1 xs)
     → Going Relies left0 left held number stage Before Written →
-    Came held left left1 (λ bytes. ScriptGoesOn number stage bytes (plays s next) rest) →
-    OfBytes left0 (λ bytes. Played Relies bytes (unplayed_by why) left1 Written1 Breaks Beside)
+    WithMoreTaken held left left1 (λ bytes. ScriptGoesOn number stage bytes (plays s next) rest) →
+    OfBytes left0 (λ bytes. Played Relies bytes (ending.Unplayed why) left1 Written1 Breaks Beside)
 played_torn Relies left0 left left1 held rest number stage next setup Before s why Written Written1 Breaks Beside beside
     done wrote g r =
     let more = to_come left1 in
@@ -513,10 +504,9 @@ played_torn Relies left0 left left1 held rest number stage next setup Before s w
         steps_are = says.steps ∙ append_assoc g.played (s ∷ []) on.steps;
         legal = λ relies. legal_came g.taken r.0 more g.played g.transcript (g.legal relies (r.0 ++ more));
         early = early_came g.taken r.0 more g.played g.transcript (g.early (r.0 ++ more));
-        stops = unplayed_stops Relies why bytes (g.taken ++ r.0) g.played (s ∷ on.steps) g.transcript Written1 Breaks
-            (wrote g.transcript g.wrote);
+        stops = wrote g.transcript g.wrote;
         beside = subst
-            (λ by. Beside (unplayed_by why) by (g.taken ++ r.0) g.played (s ∷ on.steps) (onto [] g.transcript)) same
+            (λ by. Beside (ending.Unplayed why) by (g.taken ++ r.0) g.played (s ∷ on.steps) (onto [] g.transcript)) same
             (beside (g.taken ++ r.0) g.played on.steps (onto [] g.transcript) g.holds
             (going_suits Relies left0 left left1 held rest number stage next setup Before Written s done g r));
       },
@@ -560,9 +550,8 @@ played_none Relies Relies1 left0 left held number stage Stands Written Breaks Be
 before_stops : (Relies : List Entry → Type 0) (bytes : List ℕ) (size : ℕ) (seen : Option (List ℕ)) (how : Ending)
     (unplayed : List Step) (Written : List Entry → Type 0) (Breaks : List Entry → List Entry → Type 0)
     → IsUnopened size seen how → Written [] → Stops Relies how bytes [] [] unplayed [] Written Breaks
-before_stops Relies bytes size seen ending.DiskFailed unplayed Written Breaks is wrote = wrote
-before_stops Relies bytes size seen (ending.NotBlank at) unplayed Written Breaks is wrote = wrote
 before_stops Relies bytes size seen (ending.OtherSize len) unplayed Written Breaks is wrote = wrote
+before_stops Relies bytes size seen (ending.Uncreated why) unplayed Written Breaks is wrote = wrote
 before_stops Relies bytes size seen how unplayed Written Breaks is wrote = absurd is
 
 pub played_before : (Relies : List Entry → Type 0) (left : Option (List ℕ)) (size : ℕ) (seen : Option (List ℕ))
@@ -636,19 +625,24 @@ module _ {S : Type 0} (takes : S → ℕ → Result ℕ Failed → S → Type 0)
   pub record Opens (source0 source : S) (standing : Standing) (number : ℕ) (setup : Setup) : Type 0 where
     pub going : Going Always (left source0) (left source) standing.held number (at_setup setup) IsUnbegun IsNothing
     pub opening : TookOpening takes left source0 source standing.held number (at_setup setup)
-    pub tells : TellsAsBefore (left source0) (left source)
-    pub later : faults source0 ≤ faults source
+    pub serves : Serves left faults source0 source ⊥
     pub next : IsNext number standing
 
--- what the loop over the steps keeps: from what was so at its start comes what is so now, by any disk that was given
-pub record Runs {D : Type 0} (On : D → Type 0) (Start Now : Option (List ℕ) → D → Type 0)
-    (left0 left : Option (List ℕ)) (faults0 faults : ℕ) (old now : Option (List ℕ)) (failed0 failed : ℕ)
-    (Disk : Type 0) (broken0 broken : ℕ) (standing : Standing) (number : ℕ) : Type 0 where
+-- what the loop over the steps keeps: from what was so at its start comes what is so now, by any disk that was given; and
+-- source, sink and disk go on
+pub record Runs {D : Type 0} (On : D → Type 0) (Start Now : Option (List ℕ) → D → Type 0) (Source Sink Disk : Type 0)
+    (standing : Standing) (number : ℕ) : Type 0 where
   pub going : (first : Option (List ℕ)) (given : D) → On given → Start first given → Now first given
-  pub source : TellsAsBefore left0 left
-  pub sink : TellsAsBefore old now
+  pub source : Source
+  pub sink : Sink
   pub disk : Disk
-  pub source_later : faults0 ≤ faults
-  pub sink_later : failed0 ≤ failed
-  pub disk_later : broken0 ≤ broken
   pub next : IsNext number standing
+
+-- a source or a sink that served goes on to
+pub serves_on : {T : Type 0} {told : T → Option (List ℕ)} {faults : T → ℕ} {a b c : T} {Fails : Type 0}
+    → Serves told faults a b ⊥ → Serves told faults b c Fails → Serves told faults a c ⊥
+serves_on first second = record {
+  tells = second.tells ∙ first.tells;
+  later = le_trans first.later second.later;
+  rose = λ never. absurd never;
+}

@@ -1,6 +1,6 @@
 -- What a disk keeps over a run, and what is left on it where the steps come to their end.
 use Rattle.std.proofs.Common.{◌≡◌, ◌≢◌, ◌⊎◌, ◌++◌, ℕ, Bool, List, [], ◌∷◌, reverse, Option, None, refl, sym, ap, ◌∙◌}
-use Rattle.std.proofs.Common.{arith, inl, inr, subst, subst₂, Result, Err}
+use Rattle.std.proofs.Common.{inl, inr, subst, subst₂, Result, Err}
 use Rattle.std.proofs.Math.Nat.{le_trans}
 use Rattle.cct_model.specs.terms.device.Setup.{Setup}
 use Rattle.cct_model.specs.lines.command.Step.{Step}
@@ -13,14 +13,11 @@ use Rattle.cct_model.specs.Script.{Stage, at_setup, no_devices, plays}
 use Rattle.cct_disk.specs.declared.disk.Disk.{Ghosts}
 use Rattle.cct_disk.specs.Disk.{IsTrusted}
 use Rattle.cct_edge.specs.declared.fault.Failed.{Failed}
-use Rattle.cct_journal.specs.Creating.{RefusesCreate}
 use Rattle.cct_journal.specs.Image.{capacity_of}
-use Rattle.cct_journal.specs.declared.refusal.CreateNo.{CreateNo}
-use Rattle.cct_journal.specs.declared.refusal.CreateNo.TheVariants as create_no
 use Rattle.cct_journal.specs.Stands.{GoesOn, Outlasts}
 use Rattle.cct_journal.specs.declared.place.Place.{Place}
 use Rattle.cct_journal.proofs.Calls.{settled_leaves, stands_settled}
-use Rattle.cct_host.specs.Book.{HasBook, LeavesBook}
+use Rattle.cct_host.specs.OnDisk.{KeepsRecords, LeavesRecords}
 use Rattle.cct_host.specs.declared.refusal.CrashNo.{CrashNo}
 use Rattle.cct_host.specs.declared.refusal.CrashNo.TheVariants as crash_no
 use Rattle.cct_world.specs.declared.world.World.{World}
@@ -30,21 +27,21 @@ use Rattle.cct_world.specs.Restarts.{CutAt, Survived, no_step}
 use Rattle.cct_world.specs.Step.{CutsIn, LastsIn, count_after, crashes}
 use Rattle.cct_world.specs.World as worlds
 use Rattle.cct_world.specs.World.{Breaks, StandsFor, disk_of, setup_of, used_of}
-use Rattle.cct_world.specs.Sure.{Sure}
+use Rattle.cct_world.specs.Relying.{IsReliable}
 use Rattle.cct_world.proofs.Holding.{holds_on, loses_at}
 use Rattle.cct_world.proofs.Lasting.{lasts_in, lasts_on, lasts_then, trusted_on, uncut_in}
 use Rattle.cct_world.proofs.Restarts.{behind_on}
-use Rattle.cct_world.proofs.Sure.{crashes_none, rose_just, sure_back, sure_survives}
+use Rattle.cct_world.proofs.Relying.{crashes_none, rose_just, reliable_back, reliable_survives}
 use Rattle.cct_world.proofs.Surviving.{survived_by}
 use Rattle.cct_bench.specs.declared.ending.Ending.{Ending}
 use Rattle.cct_bench.specs.declared.ending.Ending.TheVariants as ending
 use Rattle.cct_bench.specs.Disks.{Books, IsReady, disks, most_records}
 use Rattle.cct_bench.specs.declared.play.TheConstants.{JOURNAL_BYTES}
 use Rattle.cct_bench.specs.Going.{Going, IsUnbegun}
-use Rattle.cct_bench.specs.Lines.{Came, ScriptGoesOn}
+use Rattle.cct_bench.specs.Lines.{WithMoreTaken, ScriptGoesOn}
 use Rattle.cct_bench.specs.Playing.{Plays, PlaysOn}
 use Rattle.cct_bench.specs.Source.{OfBytes}
-use Rattle.cct_bench.specs.Run.{IsUnopened, Over, OverCut, OverLost, Played, uncreated, unplayed_by}
+use Rattle.cct_bench.specs.Run.{IsUnopened, Over, OverCut, OverLost, Played}
 use Rattle.cct_text.specs.Writing.{Broke, Writes, Wrote}
 use Rattle.cct_bench.proofs.Going.{Carries, EndsBeside, IsSetupIn, played_broke, played_torn}
 use Rattle.cct_bench.proofs.Staying.{IsDone}
@@ -52,7 +49,7 @@ use Rattle.cct_bench.proofs.Staying.{IsDone}
 -- each image of a disk that keeps just one stands for what that one does
 pub stands_leaves : {D : Type 0} (setup : Setup) (honest : D → Bool) (seen : D → Option (List ℕ))
     (may_leave : D → List ℕ → Type 0) (disk : D) (place : Place) (rs : List Record)
-    → HasBook setup honest seen may_leave disk place rs → LeavesBook setup honest seen may_leave disk None rs
+    → KeepsRecords setup honest seen may_leave disk place rs → LeavesRecords setup honest seen may_leave disk None rs
 stands_leaves setup honest seen may_leave disk place rs stands = settled_leaves (stands_settled stands)
 
 -- the script or its source brought the end, and the disk has the records of the past
@@ -61,9 +58,9 @@ module _ {D : Type 0} (size : D → ℕ) (honest : D → Bool) (seen : D → Opt
   pub ends_over : (given last : D) (stage : Stage) (Before : List Step → List Entry → Type 0)
       → IsReady (size given) (seen given)
       → ((setup : Setup) (played : List Step) (past : List Entry) → IsSetupIn stage setup → Before played past
-      → IsTrusted honest seen given → LeavesBook setup honest seen may_leave last None (reverse (records past)))
+      → IsTrusted honest seen given → LeavesRecords setup honest seen may_leave last None (reverse (records past)))
       → ((setup : Setup) (played : List Step) (past : List Entry) → IsSetupIn stage setup → Before played past
-      → Survived (Sure (IsTrusted honest seen given)) (CutAt size honest seen cuts cut_to given last) setup played past)
+      → Survived (IsReliable (IsTrusted honest seen given)) (CutAt size honest seen cuts cut_to given last) setup played past)
       → ((played : List Step) (past : List Entry) → Before played past
       → cuts last ≡ count_after (crashes past) (cuts given))
       → EndsBeside stage Before (OverCut (disks size honest seen may_leave cuts cut_to given last))
@@ -99,7 +96,7 @@ module _ {D : Type 0} {g : Ghosts D} where
   pub world_books : (world : World D g) (past : List Entry) → StandsFor world past
       → Books (setup_of world) g.honest g.seen g.may_leave (disk_of world) past
   world_books world past stands trusted =
-      stands_leaves (setup_of world) g.honest g.seen g.may_leave (disk_of world) _ (reverse (records past)) (stands.host.book trusted)
+      stands_leaves (setup_of world) g.honest g.seen g.may_leave (disk_of world) _ (reverse (records past)) (stands.host.on_disk trusted)
 
   -- so what is left where a run over such a machine ends
   pub world_ends : (given last : D) (world : World D g) (stage : Stage)
@@ -110,12 +107,12 @@ module _ {D : Type 0} {g : Ghosts D} where
   world_ends given last world stage same ready on is =
       ends_over g.size g.honest g.seen g.may_leave g.cuts g.cut_to given last stage (WorldHolds given world) ready
       (λ setup played past there holds trusted.
-      subst (λ by. LeavesBook by g.honest g.seen g.may_leave last None (reverse (records past))) (sym (same setup there))
-      (subst (λ disk. LeavesBook (setup_of world) g.honest g.seen g.may_leave disk None (reverse (records past))) (sym is)
+      subst (λ by. LeavesRecords by g.honest g.seen g.may_leave last None (reverse (records past))) (sym (same setup there))
+      (subst (λ disk. LeavesRecords (setup_of world) g.honest g.seen g.may_leave disk None (reverse (records past))) (sym is)
       (world_books world past (holds.stands (inl trusted))
       (trusted_on g.size g.honest g.seen g.cuts given (disk_of world) on trusted))))
       (λ setup played past there holds.
-      let relies = Sure (IsTrusted g.honest g.seen given) in
+      let relies = IsReliable (IsTrusted g.honest g.seen given) in
       let Cut = CutAt g.size g.honest g.seen g.cuts g.cut_to given in
       subst (λ by. Survived relies (Cut last) by played past) (sym (same setup there))
       (subst (λ disk. Survived relies (Cut disk) (setup_of world) played past) (sym is) holds.survived))
@@ -129,7 +126,7 @@ module _ {D : Type 0} {g : Ghosts D} where
       → PlaysOn (IsTrusted g.honest g.seen (disk_of world)) (StandsFor world) After (setup_of world) s
       (CutsIn s g.size g.honest g.seen g.cuts g.cut_to (disk_of world) last) (used_of world) many (g.seen last)
       WritesThem
-      → Carries (Sure (IsTrusted g.honest g.seen given)) (WorldHolds given world)
+      → Carries (IsReliable (IsTrusted g.honest g.seen given)) (WorldHolds given world)
       (Holds g.size g.honest g.seen g.cuts g.cut_to After setup given last many) (setup_of world) s WritesThem
   world_carried given last world After setup many s WritesThem same on lasts p =
       let trusted = IsTrusted g.honest g.seen given in
@@ -138,11 +135,11 @@ module _ {D : Type 0} {g : Ghosts D} where
       record {
         report = p.report;
         goes = λ played past before suits.
-            let goes : Sure trusted (news ++ past)
+            let goes : IsReliable trusted (news ++ past)
             → Entries most_records (setup_of world) past s news × After (news ++ past) =
-            λ sure. let here = sure_back trusted news past sure in
+            λ sure. let here = reliable_back trusted news past sure in
             p.plays past (before.stands here) (suits here)
-            (sure_survives trusted now (trusted_on g.size g.honest g.seen g.cuts given (disk_of world) on) news past s
+            (reliable_survives trusted now (trusted_on g.size g.honest g.seen g.cuts given (disk_of world) on) news past s
             p.told sure) in (
               λ sure. (goes sure).0,
               subst (λ by. Holds g.size g.honest g.seen g.cuts g.cut_to After by given last many (played ++ s ∷ [])
@@ -175,26 +172,17 @@ module _ {D : Type 0} {g : Ghosts D} where
       → (IsTrusted g.honest g.seen given → IsTrusted g.honest g.seen (disk_of world))
       → Breaks world left crash_no.Disk s
       → (taken : List ℕ) (played unplayed : List Step) (past : List Entry) → WorldHolds given world played past
-      → Over (disks g.size g.honest g.seen g.may_leave g.cuts g.cut_to given left) ending.DiskFailed (setup_of world) taken
+      → Over (disks g.size g.honest g.seen g.may_leave g.cuts g.cut_to given left) (ending.Unplayed crash_no.Disk) (setup_of world) taken
       played (s ∷ unplayed) past
   torn_over given left world (step.Next addr) ready on breaks taken played unplayed past holds = (
-    ready.sized,
-    inr (
-      ready,
-      λ sure. let due = breaks past (holds.stands sure) in (due.0, due.1.0),
-      λ trusted. let due = breaks past (holds.stands (inl trusted)) in
-          subst (λ r. LeavesBook (setup_of world) g.honest g.seen g.may_leave left r (reverse (records past))) (sym due.1.0)
-          (due.1.1 (on trusted)),
-    ),
+    ready,
+    λ sure. let due = breaks past (holds.stands sure) in (due.0, due.1.0),
+    λ trusted. let due = breaks past (holds.stands (inl trusted)) in
+        subst (λ r. LeavesRecords (setup_of world) g.honest g.seen g.may_leave left r (reverse (records past))) (sym due.1.0)
+        (due.1.1 (on trusted)),
   )
-  torn_over given left world (step.Crash at choice) ready on breaks taken played unplayed past holds = (
-    ready.sized,
-    inr (
-      ready,
-      tt,
-      λ trusted. breaks past (holds.stands (inl trusted)) (on trusted),
-    ),
-  )
+  torn_over given left world (step.Crash at choice) ready on breaks taken played unplayed past holds =
+      (ready, tt, λ trusted. breaks past (holds.stands (inl trusted)) (on trusted))
   torn_over given left world s ready on breaks taken played unplayed past holds = absurd breaks
 
   -- a loss of power left something else than what stood on the disk
@@ -204,7 +192,7 @@ module _ {D : Type 0} {g : Ghosts D} where
       → CutsIn s g.size g.honest g.seen g.cuts g.cut_to (disk_of world) left
       → LosesIn world.machine.value left why s → (played unplayed : List Step) (past : List Entry)
       → WorldHolds given world played past
-      → (Sure (IsTrusted g.honest g.seen given) past → StepSuits (setup_of world) past s)
+      → (IsReliable (IsTrusted g.honest g.seen given) past → StepSuits (setup_of world) past s)
       → OverLost (disks g.size g.honest g.seen g.may_leave g.cuts g.cut_to given left) (setup_of world) past (s ∷ unplayed) why
   lost_over given left world why (step.Crash at choice) ready lasted lasts cut loses played unplayed past holds suits = (
     ready,
@@ -220,8 +208,8 @@ module _ {D : Type 0} {g : Ghosts D} where
       → (why ≢ crash_no.Disk → CutsIn s g.size g.honest g.seen g.cuts g.cut_to (disk_of world) left)
       → Breaks world left why s → (taken : List ℕ) (played unplayed : List Step) (past : List Entry)
       → WorldHolds given world played past
-      → (Sure (IsTrusted g.honest g.seen given) past → StepSuits (setup_of world) past s)
-      → Over (disks g.size g.honest g.seen g.may_leave g.cuts g.cut_to given left) (unplayed_by why) (setup_of world) taken
+      → (IsReliable (IsTrusted g.honest g.seen given) past → StepSuits (setup_of world) past s)
+      → Over (disks g.size g.honest g.seen g.may_leave g.cuts g.cut_to given left) (ending.Unplayed why) (setup_of world) taken
       played (s ∷ unplayed) past
   unplayed_over given left world crash_no.Disk s ready on lasts lost breaks taken played unplayed past holds suits =
       torn_over given left world s ready (trusted_on g.size g.honest g.seen g.cuts given (disk_of world) on) breaks taken
@@ -244,12 +232,12 @@ module _ {D : Type 0} {g : Ghosts D} where
       → (why ≢ crash_no.Disk → CutsIn s g.size g.honest g.seen g.cuts g.cut_to (disk_of world) left)
       → Breaks world left why s
       → (taken : List ℕ) (played unplayed : List Step) (past : List Entry) → WorldHolds given world played past
-      → (Sure (IsTrusted g.honest g.seen given) past → StepSuits (setup_of world) past s)
-      → OverCut (disks g.size g.honest g.seen g.may_leave g.cuts g.cut_to given left) (unplayed_by why) (setup_of world) taken
+      → (IsReliable (IsTrusted g.honest g.seen given) past → StepSuits (setup_of world) past s)
+      → OverCut (disks g.size g.honest g.seen g.may_leave g.cuts g.cut_to given left) (ending.Unplayed why) (setup_of world) taken
       played (s ∷ unplayed) past
   unplayed_cut given left world why s ready on lasts lost breaks taken played unplayed past holds suits = record {
     over = unplayed_over given left world why s ready on lasts lost breaks taken played unplayed past holds suits;
-    survived = survived_by (Sure (IsTrusted g.honest g.seen given)) (Sure (IsTrusted g.honest g.seen given))
+    survived = survived_by (IsReliable (IsTrusted g.honest g.seen given)) (IsReliable (IsTrusted g.honest g.seen given))
         (CutAt g.size g.honest g.seen g.cuts g.cut_to given (disk_of world))
         (CutAt g.size g.honest g.seen g.cuts g.cut_to given left) (λ es sure. sure)
         (behind_on g.size g.honest g.seen g.cuts g.cut_to given (disk_of world) left
@@ -265,17 +253,17 @@ module _ {D : Type 0} (size : D → ℕ) (honest : D → Bool) (seen : D → Opt
     (may_leave : D → List ℕ → Type 0) (cuts : D → ℕ) (cut_to : D → ℕ → D → Type 0) where
   -- then nothing else is on the disk that comes back
   fresh_leaves : (setup : Setup) (last disk : D) (place : Place) (past : List Entry) → last ≡ disk → past ≡ []
-      → HasBook setup honest seen may_leave disk place []
-      → LeavesBook setup honest seen may_leave last None (reverse (records past))
+      → KeepsRecords setup honest seen may_leave disk place []
+      → LeavesRecords setup honest seen may_leave last None (reverse (records past))
   fresh_leaves setup last disk place past is none stands =
-      subst (λ d. LeavesBook setup honest seen may_leave d None (reverse (records past))) (sym is)
-      (subst (λ p. LeavesBook setup honest seen may_leave disk None (reverse (records p))) (sym none)
+      subst (λ d. LeavesRecords setup honest seen may_leave d None (reverse (records past))) (sym is)
+      (subst (λ p. LeavesRecords setup honest seen may_leave disk None (reverse (records p))) (sym none)
       (stands_leaves setup honest seen may_leave disk place [] stands))
 
   -- where the script or its source brought the end
   pub fresh_ends : (given last disk : D) (place : Place) → IsReady (size given) (seen given)
       → GoesOn size honest seen cuts given disk → last ≡ disk
-      → ((setup : Setup) → IsTrusted honest seen disk → HasBook setup honest seen may_leave disk place [])
+      → ((setup : Setup) → IsTrusted honest seen disk → KeepsRecords setup honest seen may_leave disk place [])
       → EndsBeside (at_setup no_devices) IsUnbegun (OverCut (disks size honest seen may_leave cuts cut_to given last))
   fresh_ends given last disk place ready on is stands =
       let same : cuts last ≡ cuts given = ap cuts is ∙ on.same_cuts in
@@ -283,7 +271,7 @@ module _ {D : Type 0} (size : D → ℕ) (honest : D → Bool) (seen : D → Opt
       (λ setup played past there none trusted. fresh_leaves setup last disk place past is none.1
       (stands setup (trusted_on size honest seen cuts given disk (lasts_on size honest seen cuts given disk on) trusted)))
       (λ setup played past there none.
-      subst₂ (Survived (Sure (IsTrusted honest seen given)) (CutAt size honest seen cuts cut_to given last) setup)
+      subst₂ (Survived (IsReliable (IsTrusted honest seen given)) (CutAt size honest seen cuts cut_to given last) setup)
       (sym none.0) (sym none.1) no_step)
       (λ played past none. same ∙ ap (λ es. count_after (crashes es) (cuts given)) (sym none.1))
 
@@ -300,7 +288,7 @@ module _ {D : Type 0} (size : D → ℕ) (honest : D → Bool) (seen : D → Opt
 
   -- and where there was no memory
   pub fresh_none : (given last disk : D) (place : Place) → GoesOn size honest seen cuts given disk → last ≡ disk
-      → ((setup : Setup) → IsTrusted honest seen disk → HasBook setup honest seen may_leave disk place [])
+      → ((setup : Setup) → IsTrusted honest seen disk → KeepsRecords setup honest seen may_leave disk place [])
       → (setup : Setup) (taken : List ℕ) (unplayed : List Step)
       → OverCut (disks size honest seen may_leave cuts cut_to given last) ending.NoMemory setup taken [] unplayed []
   fresh_none given last disk place on is stands setup taken unplayed =
@@ -311,9 +299,8 @@ module _ {D : Type 0} (size : D → ℕ) (honest : D → Bool) (seen : D → Opt
   -- no journal was created
   unopened_is : (given last : D) (how : Ending) → IsUnopened (size given) (seen given) how → (setup : Setup)
       (unplayed : List Step) → Over (disks size honest seen may_leave cuts cut_to given last) how setup [] [] unplayed []
-  unopened_is given last ending.DiskFailed sized setup unplayed = (sized, inl (refl, refl))
-  unopened_is given last (ending.NotBlank at) h setup unplayed = (h.0, (refl, refl), h.1)
   unopened_is given last (ending.OtherSize len) h setup unplayed = (h.0, (refl, refl), h.1)
+  unopened_is given last (ending.Uncreated why) h setup unplayed = (h.0, (refl, refl), h.1)
   unopened_is given last how h setup unplayed = absurd h
 
   pub unopened_over : (given last : D) (how : Ending) → GoesOn size honest seen cuts given last
@@ -321,13 +308,6 @@ module _ {D : Type 0} (size : D → ℕ) (honest : D → Bool) (seen : D → Opt
       → OverCut (disks size honest seen may_leave cuts cut_to given last) how setup [] [] unplayed []
   unopened_over given last how on h setup unplayed =
       uncut_over given last how setup [] unplayed on.same_cuts (unopened_is given last how h setup unplayed)
-
--- how a run ends where no journal is created on a disk of the size of one
-pub uncreated_is : (size : ℕ) (seen : Option (List ℕ)) (why : CreateNo) → size ≡ JOURNAL_BYTES
-    → RefusesCreate size seen why → IsUnopened size seen (uncreated why)
-uncreated_is size seen (create_no.Small len) sized refused = absurd (omega (arith, sized, refused.1))
-uncreated_is size seen create_no.Disk sized refused = sized
-uncreated_is size seen (create_no.NotBlank at) sized refused = (sized, refused.1)
 
 -- a put to the sink failed, and the disk has the records of the past
 module _ {D : Type 0} (size : D → ℕ) (honest : D → Bool) (seen : D → Option (List ℕ))
@@ -353,18 +333,18 @@ module _ {K D : Type 0} {g : Ghosts D} (written : K → Option (List ℕ))
       × PlaysOn (IsTrusted g.honest g.seen (disk_of world)) (StandsFor world)
       (Books (setup_of world) g.honest g.seen g.may_leave last) (setup_of world) s
       (CutsIn s g.size g.honest g.seen g.cuts g.cut_to (disk_of world) last) (used_of world) many (g.seen last) (λ report. Writes written puts out report (Err failed) out1))
-      ⊎ ((why : CrashNo) × (how ≡ unplayed_by why) × Breaks world last why s
+      ⊎ ((why : CrashNo) × (how ≡ ending.Unplayed why) × Breaks world last why s
       × (why ≢ crash_no.Disk → CutsIn s g.size g.honest g.seen g.cuts g.cut_to (disk_of world) last) × (out1 ≡ out))
 
   pub step_ends : (out out1 out2 : K) (left0 left left1 : Option (List ℕ)) (held rest : List ℕ) (number : ℕ)
       (stage : Stage) (how : Ending) (s : Step) (given last : D) (world : World D g)
       → IsReady (g.size given) (g.seen given) → Outlasts g.size g.honest g.seen g.cuts given (disk_of world)
       → LastsIn s g.size g.honest g.seen g.cuts (disk_of world) last → IsDone (setup_of world) stage
-      → Going (Sure (IsTrusted g.honest g.seen given)) left0 left held number stage (WorldHolds given world)
+      → Going (IsReliable (IsTrusted g.honest g.seen given)) left0 left held number stage (WorldHolds given world)
       (Wrote written puts out out1)
-      → Came held left left1 (λ bytes. ScriptGoesOn number stage bytes (plays s stage) rest)
+      → WithMoreTaken held left left1 (λ bytes. ScriptGoesOn number stage bytes (plays s stage) rest)
       → StepEnds out1 out2 world s how last
-      → OfBytes left0 (λ bytes. Played (Sure (IsTrusted g.honest g.seen given)) bytes how left1
+      → OfBytes left0 (λ bytes. Played (IsReliable (IsTrusted g.honest g.seen given)) bytes how left1
       (Wrote written puts out out2) (Broke written puts out out2)
       (OverCut (disks g.size g.honest g.seen g.may_leave g.cuts g.cut_to given last)))
   step_ends out out1 out2 left0 left left1 held rest number stage how s given last world ready on lasts done going reads
@@ -374,11 +354,11 @@ module _ {K D : Type 0} {g : Ghosts D} (written : K → Option (List ℕ))
       let O = OverCut (disks g.size g.honest g.seen g.may_leave g.cuts g.cut_to given last) in
       let WritesThem : List Entry → Type 0 = λ report. Writes written puts out1 report (Err failed) out2 in
       let books = Books (setup_of world) g.honest g.seen g.may_leave last in
-      subst (λ how. OfBytes left0 (λ bytes. Played (Sure trusted) bytes how left1 (Wrote written puts out out2) B O))
+      subst (λ how. OfBytes left0 (λ bytes. Played (IsReliable trusted) bytes how left1 (Wrote written puts out out2) B O))
       (sym is)
-      (played_broke (Sure trusted) left0 left left1 held rest number stage stage (setup_of world)
+      (played_broke (IsReliable trusted) left0 left left1 held rest number stage stage (setup_of world)
       (WorldHolds given world) (Holds g.size g.honest g.seen g.cuts g.cut_to books (setup_of world) given last many) s
-      (Wrote written puts out out1) WritesThem (Wrote written puts out out2) B O (sure_back trusted)
+      (Wrote written puts out out1) WritesThem (Wrote written puts out out2) B O (reliable_back trusted)
       (λ past none. inr none)
       (broke_over g.size g.honest g.seen g.may_leave g.cuts g.cut_to given last (setup_of world) many ready
       (lasts_then g.size g.honest g.seen g.cuts given (disk_of world) last on
@@ -390,9 +370,9 @@ module _ {K D : Type 0} {g : Ghosts D} (written : K → Option (List ℕ))
       let trusted = IsTrusted g.honest g.seen given in
       let B = Broke written puts out out2 in
       let O = OverCut (disks g.size g.honest g.seen g.may_leave g.cuts g.cut_to given last) in
-      subst (λ how. OfBytes left0 (λ bytes. Played (Sure trusted) bytes how left1 (Wrote written puts out out2) B O))
+      subst (λ how. OfBytes left0 (λ bytes. Played (IsReliable trusted) bytes how left1 (Wrote written puts out out2) B O))
       (sym is)
-      (played_torn (Sure trusted) left0 left left1 held rest number stage stage (setup_of world)
+      (played_torn (IsReliable trusted) left0 left left1 held rest number stage stage (setup_of world)
       (WorldHolds given world) s why (Wrote written puts out out1) (Wrote written puts out out2) B O
       (unplayed_cut given last world why s ready on lasts lost breaks) done
       (λ xs wrote. subst (λ k. Wrote written puts out k xs) (sym same) wrote) going reads)

@@ -1,6 +1,6 @@
 -- What a load leaves, by how its steps came to their end, and its last line.
-use Rattle.std.proofs.Common.{◌≡◌, ◌≢◌, ◌⊎◌, ℕ, true, List, [], ◌∷◌, ◌++◌, Option, None, Some, Result, Ok, Err, All}
-use Rattle.std.proofs.Common.{refl, sym, ap, subst, ◌∙◌, inl, inr, append_assoc}
+use Rattle.std.proofs.Common.{◌≡◌, ◌⊎◌, ℕ, true, List, [], ◌∷◌, ◌++◌, Option, None, Some, Result, Ok, Err, All}
+use Rattle.std.proofs.Common.{refl, sym, ap, subst, ◌∙◌, inl, inr, append_assoc, arith}
 use Rattle.std.specs.Prelude.{IfSome, is_some}
 use Rattle.std.proofs.lemmas.List.{append-nil}
 use Rattle.std.proofs.lemmas.List.Elements.{All-cons, All-head, All-nil, All-tail}
@@ -11,24 +11,24 @@ use Rattle.cct_model.specs.lines.entry.Entry.{Entry}
 use Rattle.cct_model.specs.Legal.{Legal}
 use Rattle.cct_model.specs.Script.{IsInRange}
 use Rattle.cct_model.specs.Transcript.{onto}
-use Rattle.cct_laws.proofs.acceptor.Coinless.{each_covers, each_in_order}
-use Rattle.cct_laws.proofs.orders.Payments.{legal_fresh, legal_paid}
+use Rattle.cct_laws.proofs.text.Scripts.{legal_right}
 use Rattle.cct_journal.specs.Image.{IsBlank, capacity_of}
 use Rattle.cct_journal.specs.Stands.{GoesOn, Outlasts}
 use Rattle.cct_disk.specs.declared.disk.Disk.{Ghosts}
 use Rattle.cct_disk.specs.Disk.{IsTrusted}
 use Rattle.cct_text.specs.Writing.{Broke, Writes, Wrote}
+use Rattle.cct_journal.specs.declared.refusal.CreateNo.TheVariants as create_no
 use Rattle.cct_host.specs.declared.refusal.CrashNo.{CrashNo}
 use Rattle.cct_host.specs.declared.refusal.CrashNo.TheVariants as crash_no
 use Rattle.cct_world.specs.declared.world.World.{World}
 use Rattle.cct_world.specs.Early.{LegalBeforeLoss}
 use Rattle.cct_world.specs.Restarts.{CutAt, LosesAt, no_step}
 use Rattle.cct_world.specs.Step.{RoseBy, count_after, crashes}
-use Rattle.cct_world.specs.Sure.{First, MayFail, Sure, losses_in}
+use Rattle.cct_world.specs.Relying.{First, MayFail, IsReliable, losses_in}
 use Rattle.cct_world.specs.World.{disk_of}
 use Rattle.cct_world.proofs.Lasting.{lasts_on, lasts_then, trusted_on}
 use Rattle.cct_world.proofs.Early.{early_none}
-use Rattle.cct_world.proofs.Sure.{rose_just}
+use Rattle.cct_world.proofs.Relying.{rose_just}
 use Rattle.cct_world.proofs.Surviving.{loses_by, survived_by}
 use Rattle.cct_gen.specs.Load.{load_setup, load_steps}
 use Rattle.cct_gen.proofs.LoadSetup.{setup_sound}
@@ -46,8 +46,8 @@ use Rattle.cct_bench.specs.declared.play.TheConstants.{JOURNAL_BYTES}
 use Rattle.cct_bench.specs.Disks.{Disks, IsReady, disks, most_records}
 use Rattle.cct_bench.specs.Load.{LoadCloses, LoadEnds, LoadPlayed, LoadStops, Loaded, load_ending}
 use Rattle.cct_bench.specs.Report.{IsOrMemory}
-use Rattle.cct_bench.specs.Run.{Book, EndsLost, IsUnopened, TellsLoss, last_entry, listed, status_by, status_of}
-use Rattle.cct_bench.specs.Money.{IsRight}
+use Rattle.cct_bench.specs.Run.{EndsLost, IsUnopened, RecordsLeftByLine, TellsLoss, last_entry, listed, status_by, status_of}
+use Rattle.cct_laws.specs.Right.{IsRight}
 use Rattle.cct_bench.proofs.Closing.{LastLine, blank_first, early_right, failed_tail, kept_by, last_line, lost_next, no_line, none_next, tells_loss}
 
 -- ---- what the laws say of a load
@@ -67,21 +67,12 @@ played_in_range seed rounds played unplayed steps_are =
 load_right : (seed rounds : ℕ) (played rest : List Step) (transcript : List Entry) → load_steps seed rounds ≡ played ++ rest
     → Legal most_records load_setup played transcript → IsRight load_setup transcript
 load_right seed rounds played rest transcript fronts legal =
-    let in_range = played_in_range seed rounds played rest fronts in
-    record {
-      fresh = legal_fresh most_records load_setup played transcript setup_sound legal;
-      in_order = λ d own honest.
-          each_in_order most_records load_setup played transcript d setup_sound own in_range legal honest;
-      covers = λ d own honest.
-          each_covers most_records load_setup played transcript d setup_sound own in_range legal honest;
-      paid = λ d own paying honest.
-          legal_paid most_records load_setup played transcript d setup_sound own paying in_range legal honest;
-    }
+    legal_right most_records load_setup played transcript setup_sound (played_in_range seed rounds played rest fronts) legal
 
 -- a load by its status, from how it came to its end
 loaded_by : (seed rounds : ℕ) (how : Ending) (s : Status) (tail : List Entry) (disks : Disks)
     (Before Written : List Entry → Type 0) (Broken Breaks : List Entry → List Entry → Type 0) (disk_failed : Type 0)
-    → tail ≡ listed (last_entry how) → (how ≡ ending.DiskFailed → disk_failed)
+    → tail ≡ listed (last_entry how) → (status_of how ≡ status.DiskFault → disk_failed)
     → (p : LoadPlayed seed rounds how Before Broken disks)
     → LoadEnds disks seed rounds p.played p.unplayed (onto [] p.transcript) s p.told tail Written Breaks
     → Loaded seed rounds s Written Breaks disks disk_failed
@@ -98,7 +89,7 @@ loaded_by seed rounds how s tail disks Before Written Broken Breaks disk_failed 
       (λ first later told fronts legal. load_right seed rounds first (later ++ p.unplayed) told
       (p.steps_are ∙ ap (λ xs. xs ++ p.unplayed) fronts ∙ append_assoc first later p.unplayed) legal) p.early;
   ends = ends;
-  book = λ trusted some. subst (Book disks load_setup p.unplayed (onto [] p.transcript)) (sym is)
+  book = λ trusted some. subst (RecordsLeftByLine disks load_setup p.unplayed (onto [] p.transcript)) (sym is)
       (p.book trusted some);
   keeps = λ trusted tells. p.keeps trusted (subst TellsLoss is tells);
   disk_cause = λ tells. caused (failed_tail how (sym is ∙ tells));
@@ -145,7 +136,7 @@ module _ (disks : Disks) (seed rounds : ℕ) (played unplayed : List Step) (past
 -- what was written before, and then the last line
 module _ {K : Type 0} (written : K → Option (List ℕ)) (puts : K → List ℕ → Result (Unit {0}) Failed → K → Type 0) where
   pub load_written : (a b c : K) (seed rounds : ℕ) (how : Ending) (s : Status) (answer : Result (Unit {0}) Failed)
-      (disks : Disks) (disk_failed : Type 0) → (how ≡ ending.DiskFailed → disk_failed)
+      (disks : Disks) (disk_failed : Type 0) → (status_of how ≡ status.DiskFault → disk_failed)
       → Writes written puts b (listed (last_entry how)) answer c → s ≡ status_by answer (status_of how)
       → LoadPlayed seed rounds how (Wrote written puts a b) (Broke written puts a b) disks
       → Loaded seed rounds s (Wrote written puts a c) (Broke written puts a c) disks disk_failed
@@ -187,13 +178,15 @@ module _ (seed rounds : ℕ) (Written : List Entry → Type 0) (Breaks : List En
 
   pub load_unopened : (how : Ending) → IsUnopened disks.size disks.seen how → Written []
       → LoadPlayed seed rounds how Written Breaks disks
-  load_unopened ending.DiskFailed sized wrote =
-      unbegun ending.DiskFailed (λ trusted tells. tells) ((sized, refl, inl (refl, refl)), wrote)
-  load_unopened (ending.NotBlank at) h wrote =
-      unbegun (ending.NotBlank at) (λ trusted tells. tells) ((at, h.0, refl, refl, refl, h.1), wrote)
   load_unopened (ending.OtherSize len) h wrote =
       unbegun (ending.OtherSize len) (λ trusted tells. tells)
       ((h.0, refl, refl, ap (λ n. listed (last_entry (ending.OtherSize n))) h.1), wrote)
+  load_unopened (ending.Uncreated (create_no.Small len)) h wrote = absurd (omega (arith, h.0, h.1.1))
+  load_unopened (ending.Uncreated create_no.Disk) h wrote =
+      unbegun (ending.Uncreated create_no.Disk) (λ trusted tells. tells) ((h.0, refl, inl (refl, refl)), wrote)
+  load_unopened (ending.Uncreated (create_no.NotBlank at)) h wrote =
+      unbegun (ending.Uncreated (create_no.NotBlank at)) (λ trusted tells. tells)
+      ((at, h.0, refl, refl, refl, h.1.1), wrote)
   load_unopened how h wrote = absurd h
 
   pub load_no_memory : Written [] → LoadPlayed seed rounds ending.NoMemory Written Breaks disks
@@ -240,7 +233,7 @@ module _ {D : Type 0} {g : Ghosts D} (given left : D) (world : World D g)
   now_trusted : IsTrusted g.honest g.seen given → IsTrusted g.honest g.seen (disk_of world)
   now_trusted = trusted_on g.size g.honest g.seen g.cuts given (disk_of world) lasted
 
-  relies : (past : List Entry) → Sure (IsTrusted g.honest g.seen given) past → Relies world past
+  relies : (past : List Entry) → IsReliable (IsTrusted g.honest g.seen given) past → Relies world past
   relies past (inl trusted) = inl (now_trusted trusted)
   relies past (inr none) = inr none
 
@@ -266,7 +259,7 @@ module _ {D : Type 0} {g : Ghosts D} (given left : D) (world : World D g)
       → LosesAt (Relies world past) (Cut (disk_of world)) load_setup past (g.seen left) why s)
       → First (loads.FailsAt world left why past) unplayed → EndsLost ds load_setup past unplayed why
   lost_by why unplayed past is first =
-      let sure = Sure (IsTrusted g.honest g.seen given) past in
+      let sure = IsReliable (IsTrusted g.honest g.seen given) past in
       first_by (loads.FailsAt world left why past)
       (LosesAt sure (Cut given) load_setup past (g.seen left) why) unplayed
       (λ s fails. loses_by (Relies world past) sure (Cut (disk_of world)) (Cut given) (relies past)
@@ -305,8 +298,8 @@ module _ {D : Type 0} {g : Ghosts D} (given left : D) (world : World D g)
           refl,
           ready,
           first_by (MayFail (Relies world past) load_setup past)
-              (MayFail (Sure (IsTrusted g.honest g.seen given) past) load_setup past) unplayed
-              (fails_by (Relies world past) (Sure (IsTrusted g.honest g.seen given) past) past (relies past)) ends.0,
+              (MayFail (IsReliable (IsTrusted g.honest g.seen given) past) load_setup past) unplayed
+              (fails_by (Relies world past) (IsReliable (IsTrusted g.honest g.seen given) past) past (relies past)) ends.0,
         ),
       ),
       ends.1,
@@ -320,8 +313,8 @@ module _ {D : Type 0} {g : Ghosts D} (given left : D) (world : World D g)
       (_, ((lost_by (crash_no.Lost found put) unplayed past (λ s loses. loses) ends.0, refl, ready), ends.1))
 
   -- what the disk keeps
-  book_by : (how : LoadEnd) (unplayed : List Step) (past : List Entry) → loads.Book world left how unplayed past
-      → Book ds load_setup unplayed past (listed (last_entry (load_ending how)))
+  book_by : (how : LoadEnd) (unplayed : List Step) (past : List Entry) → loads.RecordsLeft world left how unplayed past
+      → RecordsLeftByLine ds load_setup unplayed past (listed (last_entry (load_ending how)))
   book_by load_end.Done unplayed past book = book
   book_by load_end.Unwritten unplayed past book = book
   book_by (load_end.Unplayed crash_no.Disk) unplayed past book = first_by _ _ unplayed (λ s leaves. leaves) book
@@ -333,7 +326,7 @@ module _ {D : Type 0} {g : Ghosts D} (given left : D) (world : World D g)
       absurd (none_first unplayed (first_by _ (λ s. ⊥) unplayed (λ s never. never) book))
 
   -- and that another journal than was there never comes
-  keeps_by : (how : LoadEnd) (unplayed : List Step) (past : List Entry) → loads.Book world left how unplayed past
+  keeps_by : (how : LoadEnd) (unplayed : List Step) (past : List Entry) → loads.RecordsLeft world left how unplayed past
       → TellsLoss (listed (last_entry (load_ending how))) → ⊥
   keeps_by load_end.Done unplayed past book tells = tells
   keeps_by load_end.Unwritten unplayed past book tells = tells
@@ -363,21 +356,13 @@ module _ {D : Type 0} {g : Ghosts D} (given left : D) (world : World D g)
         stops = told.1;
         book = λ trusted some. book_by how p.unplayed past (p.book (now_trusted trusted));
         keeps = λ trusted tells. keeps_by how p.unplayed past (p.book (now_trusted trusted)) tells;
-        survived = survived_by (Relies world) (Sure (IsTrusted g.honest g.seen given)) (Cut (disk_of world)) (Cut given)
+        survived = survived_by (Relies world) (IsReliable (IsTrusted g.honest g.seen given)) (Cut (disk_of world)) (Cut given)
             relies cut_given load_setup p.played past p.survived;
         cut = subst (λ n. RoseBy (crashes past) n (g.cuts left)) on.same_cuts p.cut;
         just = λ next. p.just next ∙ ap (count_after (crashes past)) on.same_cuts;
       }
 
 -- ---- with no fault
-
--- a load has a status of its own
-pub load_statuses : (seed rounds : ℕ) (s : Status) (Written : List Entry → Type 0)
-    (Breaks : List Entry → List Entry → Type 0) (disks : Disks) (disk_failed : Type 0)
-    → Loaded seed rounds s Written Breaks disks disk_failed → (s ≢ status.ReadFault) × (s ≢ status.WordsRefused)
-load_statuses seed rounds status.ReadFault Written Breaks disks disk_failed h = absurd h.ends.0
-load_statuses seed rounds status.WordsRefused Written Breaks disks disk_failed h = absurd h.ends.0
-load_statuses seed rounds s Written Breaks disks disk_failed h = (λ is. cc is, λ is. cc is)
 
 load_done : (seed rounds : ℕ) (s : Status) (Written : List Entry → Type 0) (Breaks : List Entry → List Entry → Type 0)
     (disks : Disks) (image : List ℕ) (disk_failed : Type 0) → disks.seen ≡ Some image → disks.size ≡ JOURNAL_BYTES
@@ -398,7 +383,7 @@ load_done seed rounds status.JournalLost Written Breaks disks image disk_failed 
     absurd (h.keeps trusted (tells_loss (EndsLost disks load_setup (onto [] h.transcript) h.unplayed) h.tail h.ends.0.0))
 load_done seed rounds status.JournalLost Written Breaks disks image disk_failed told sized blank (inr none) w d h =
     absurd (none_next h.played h.unplayed (ap losses_in (sym h.steps_are) ∙ none)
-    (lost_next (Sure disks.trusted (onto [] h.transcript)) disks.cut_at load_setup
+    (lost_next (IsReliable disks.trusted (onto [] h.transcript)) disks.cut_at load_setup
     (onto [] h.transcript) disks.seen_after h.unplayed h.tail h.ends.0.0))
 
 -- with a told disk, and a cause for each fault

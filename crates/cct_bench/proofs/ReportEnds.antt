@@ -8,6 +8,8 @@ use Rattle.cct_model.specs.lines.entry.Entry.{Entry}
 use Rattle.cct_model.specs.lines.entry.Entry.TheVariants as entry
 use Rattle.cct_text.specs.Writing.{Writes}
 use Rattle.cct_text.proofs.Writing.{writes_then}
+use Rattle.cct_journal.specs.declared.refusal.OpenNo.{OpenNo}
+use Rattle.cct_journal.specs.declared.refusal.OpenNo.TheVariants as opening
 use Rattle.cct_report.specs.Listing.{Decides, Finds, FindsIn, Lists, ListsSome, listed, listing_from}
 use Rattle.cct_report.specs.Sums.{no_sums}
 use Rattle.cct_report.specs.declared.listing.ReportEnd.{ReportEnd}
@@ -24,48 +26,48 @@ abbrev pub ListsOf : Known → ReportEnd → (List Entry → Result (Unit {0}) F
 ListsOf disk listing.Done writes = (records : List Record) × disk.stands records × writes (listed 0 no_sums records) (Ok tt)
 ListsOf disk listing.Unwritten writes =
     (records : List Record) × (failed : Failed) × disk.stands records × writes (listed 0 no_sums records) (Err failed)
-ListsOf disk listing.DiskFailed writes =
+ListsOf disk (listing.Unread opening.Disk) writes =
     disk.failed × (writes [] (Ok tt)
     ⊎ ((first : List Record) × (behind : List Record) × disk.stands (first ++ behind)
     × writes (listing_from 0 first) (Ok tt)))
-ListsOf disk listing.Alien writes = disk.alien × writes [] (Ok tt)
-ListsOf disk (listing.Bad index) writes =
+ListsOf disk (listing.Unread opening.Alien) writes = disk.alien × writes [] (Ok tt)
+ListsOf disk (listing.Unread (opening.BadRecord index)) writes =
     (first : List Record) × disk.bad first index × writes (listing_from 0 first) (Ok tt)
 
 pub image_lists : (size : ℕ) (failed : Type 0) (image : List ℕ) (how : ReportEnd) (nothing : Type 0)
     (writes : List Entry → Result (Unit {0}) Failed → Type 0) → (nothing → writes [] (Ok tt))
-    → (how ≡ listing.DiskFailed → failed) → Finds how image nothing → ((records : List Record) → FindsIn image records → Lists how records writes)
+    → (how ≡ listing.Unread opening.Disk → failed) → Finds how image nothing → ((records : List Record) → FindsIn image records → Lists how records writes)
     → ListsOf (image_known size failed image) how writes
 image_lists size failed image listing.Done nothing writes none cause finds every = (finds.0, finds.1, every finds.0 finds.1)
 image_lists size failed image listing.Unwritten nothing writes none cause finds every =
     let lists = every finds.0 finds.1 in (finds.0, lists.0, finds.1, lists.1)
-image_lists size failed image listing.DiskFailed nothing writes none cause (inl finds) every =
+image_lists size failed image (listing.Unread opening.Disk) nothing writes none cause (inl finds) every =
     let lists = every finds.0 finds.1 in
     (cause refl, inr (lists.0, lists.1, subst (FindsIn image) lists.2 finds.1, lists.3))
-image_lists size failed image listing.DiskFailed nothing writes none cause (inr finds) every =
+image_lists size failed image (listing.Unread opening.Disk) nothing writes none cause (inr finds) every =
     (cause refl, inl (none finds))
-image_lists size failed image listing.Alien nothing writes none cause finds every = (finds.0, none finds.1)
-image_lists size failed image (listing.Bad index) nothing writes none cause finds every = ([], (refl, finds.0), none finds.1)
+image_lists size failed image (listing.Unread opening.Alien) nothing writes none cause finds every = (finds.0, none finds.1)
+image_lists size failed image (listing.Unread (opening.BadRecord index)) nothing writes none cause finds every = ([], (refl, finds.0), none finds.1)
 
 pub records_lists : (size : ℕ) (failed : Type 0) (records : List Record) (how : ReportEnd)
-    (writes : List Entry → Result (Unit {0}) Failed → Type 0) → (how ≡ listing.DiskFailed → failed)
+    (writes : List Entry → Result (Unit {0}) Failed → Type 0) → (how ≡ listing.Unread opening.Disk → failed)
     → Lists how records writes → ListsOf (records_known size failed records) how writes
 records_lists size failed records listing.Done writes cause lists = (records, refl, lists)
 records_lists size failed records listing.Unwritten writes cause lists = (records, lists.0, refl, lists.1)
-records_lists size failed records listing.DiskFailed writes cause lists =
+records_lists size failed records (listing.Unread opening.Disk) writes cause lists =
     (cause refl, inr (lists.0, lists.1, sym lists.2, lists.3))
-records_lists size failed records listing.Alien writes cause lists = absurd lists
-records_lists size failed records (listing.Bad index) writes cause lists = absurd lists
+records_lists size failed records (listing.Unread opening.Alien) writes cause lists = absurd lists
+records_lists size failed records (listing.Unread (opening.BadRecord index)) writes cause lists = absurd lists
 
 pub size_lists : (size : ℕ) (failed : Type 0) (how : ReportEnd)
-    (writes : List Entry → Result (Unit {0}) Failed → Type 0) → (how ≡ listing.DiskFailed → failed)
+    (writes : List Entry → Result (Unit {0}) Failed → Type 0) → (how ≡ listing.Unread opening.Disk → failed)
     → ListsSome how writes → ListsOf (size_known size failed) how writes
 size_lists size failed listing.Done writes cause lists = (lists.0, tt, lists.1)
 size_lists size failed listing.Unwritten writes cause lists = (lists.0, lists.1, tt, lists.2)
-size_lists size failed listing.DiskFailed writes cause lists =
+size_lists size failed (listing.Unread opening.Disk) writes cause lists =
     (cause refl, inr (lists.0, [], tt, lists.1))
-size_lists size failed listing.Alien writes cause lists = (tt, lists)
-size_lists size failed (listing.Bad index) writes cause lists = (lists.0, tt, lists.1)
+size_lists size failed (listing.Unread opening.Alien) writes cause lists = (tt, lists)
+size_lists size failed (listing.Unread (opening.BadRecord index)) writes cause lists = (lists.0, tt, lists.1)
 
 -- all lines were written, or up to a put that failed
 pub reported : (disk : Known) (s : Status) (lines : List Entry) (answer : Result (Unit {0}) Failed)
@@ -86,6 +88,20 @@ other_reported disk len s answer writes same other wrote is =
     subst (λ s. Reported disk s writes) (sym is) (reported disk status.DiskSize (entry.DiskSize len ∷ []) answer writes
     (other, ap (λ n. entry.DiskSize n ∷ []) same) wrote)
 
+-- a last line was put as it is for a listing that ended so
+abbrev pub PutsLast : {K : Type 0} → (K → Option (List ℕ)) → (K → List ℕ → Result (Unit {0}) Failed → K → Type 0) → K → K
+    → Status → ReportEnd → Type 0
+PutsLast written puts out out1 s how =
+    (answer : Result (Unit {0}) Failed) × Writes written puts out (line_behind how) answer out1
+    × (s ≡ status_by answer (reported_by how))
+
+pub puts_unread : {K : Type 0} (written : K → Option (List ℕ)) (puts : K → List ℕ → Result (Unit {0}) Failed → K → Type 0)
+    (out out1 : K) (s : Status) (how : ReportEnd) (why known : OpenNo) → how ≡ listing.Unread why → why ≡ known
+    → PutsLast written puts out out1 s (listing.Unread known) → PutsLast written puts out out1 s how
+puts_unread written puts out out1 s how why known is why_is put =
+    subst (PutsLast written puts out out1 s) (sym is)
+    (subst (λ x. PutsLast written puts out out1 s (listing.Unread x)) (sym why_is) put)
+
 -- the listing, and then the last line
 module _ {K : Type 0} (written : K → Option (List ℕ)) (puts : K → List ℕ → Result (Unit {0}) Failed → K → Type 0) where
   behind : (disk : Known) (a b c : K) (how : ReportEnd) (answer : Result (Unit {0}) Failed)
@@ -105,20 +121,20 @@ module _ {K : Type 0} (written : K → Option (List ℕ)) (puts : K → List ℕ
     subst (λ k. Writes written puts a (listed 0 no_sums lists.0) (Err lists.1) k) (sym last.put.1) lists.3,
   )
   behind disk a b c listing.Unwritten (Err failed) sized lists last = cc last.put.0
-  behind disk a b c listing.DiskFailed answer sized (failed, inl none) last =
+  behind disk a b c (listing.Unread opening.Disk) answer sized (failed, inl none) last =
       let tail = entry.DiskFault ∷ [] in
       reported disk status.DiskFault tail answer (λ lines r. Writes written puts a lines r c) (sized, failed, inl refl)
       (writes_then written puts a b c [] tail answer none last)
-  behind disk a b c listing.DiskFailed answer sized (failed, inr lists) last =
+  behind disk a b c (listing.Unread opening.Disk) answer sized (failed, inr lists) last =
       let tail = entry.DiskFault ∷ [] in
       let first = listing_from 0 lists.0 in
       reported disk status.DiskFault (first ++ tail) answer (λ lines r. Writes written puts a lines r c)
       (sized, failed, inr (lists.0, lists.1, lists.2, refl)) (writes_then written puts a b c first tail answer lists.3 last)
-  behind disk a b c listing.Alien answer sized lists last =
+  behind disk a b c (listing.Unread opening.Alien) answer sized lists last =
       let tail = entry.JournalAlien ∷ [] in
       reported disk status.JournalLost tail answer (λ lines r. Writes written puts a lines r c)
       (sized, inl (lists.0, refl)) (writes_then written puts a b c [] tail answer lists.1 last)
-  behind disk a b c (listing.Bad index) answer sized lists last =
+  behind disk a b c (listing.Unread (opening.BadRecord index)) answer sized lists last =
       let tail = entry.JournalBad index ∷ [] in
       let first = listing_from 0 lists.0 in
       reported disk status.JournalLost (first ++ tail) answer (λ lines r. Writes written puts a lines r c)

@@ -1,13 +1,16 @@
 -- The disk that a run is given, and what it leaves on it.
-use Rattle.std.specs.Prelude.{◌≡◌, ℕ, Bool, Option, Some, None, List, reverse, ⊤}
+use Rattle.std.specs.Prelude.{◌≡◌, ℕ, Bool, false, Option, Some, None, List, [], reverse, ⊤}
 use Rattle.cct_model.specs.terms.device.Setup.{Setup}
 use Rattle.cct_model.specs.lines.record.Record.{Record}
 use Rattle.cct_model.specs.lines.entry.Entry.{Entry}
 use Rattle.cct_model.specs.Records.{records}
+use Rattle.cct_disk.specs.declared.disk.Disk.{Ghosts}
 use Rattle.cct_disk.specs.Disk.{IsTrusted}
+use Rattle.cct_journal.specs.declared.journal.Journal.{Journal}
 use Rattle.cct_journal.specs.declared.format.TheConstants.{MOST_RECORDS}
 use Rattle.cct_journal.specs.Image.{IsBlank}
-use Rattle.cct_host.specs.Book.{LeavesBook}
+use Rattle.cct_journal.specs.Journal as journals
+use Rattle.cct_host.specs.OnDisk.{KeepsRecords, LeavesRecords}
 use Rattle.cct_world.specs.Restarts.{CutAt}
 use Rattle.cct_bench.specs.declared.play.TheConstants.{JOURNAL_BYTES}
 
@@ -19,6 +22,16 @@ most_records = MOST_RECORDS
 pub record IsReady (size : ℕ) (seen : Option (List ℕ)) : Type 0 where
   pub sized : size ≡ JOURNAL_BYTES
   pub blank : (image : List ℕ) → seen ≡ Some image → IsBlank image
+
+module _ {D : Type 0} {g : Ghosts D} where
+  -- A journal was just made: it has no record, no put of it failed, and its disk has the length of one; and on a trusted
+  -- disk it is the book of no record, by any setup.
+  pub record IsNewJournal (journal : Journal D g) : Type 0 where
+    pub unused : journals.used_of journal ≡ 0
+    pub whole : journals.has_failed journal ≡ false
+    pub size : g.size (journals.disk_of journal) ≡ JOURNAL_BYTES
+    pub stands : (setup : Setup) → IsTrusted g.honest g.seen (journals.disk_of journal)
+        → KeepsRecords setup g.honest g.seen g.may_leave (journals.disk_of journal) (journals.place_of journal) []
 
 -- What a run is told of its disk. As it was handed in: how many bytes it has, which bytes a read gives, where that is
 -- told, whether it is honest and tells them, and how often its power was cut. As it comes back: that each image that a
@@ -46,7 +59,7 @@ module _ {D : Type 0} (size : D → ℕ) (honest : D → Bool) (seen : D → Opt
     seen = seen given;
     trusted = IsTrusted honest seen given;
     cuts = cuts given;
-    leaves = λ setup. LeavesBook setup honest seen may_leave back;
+    leaves = λ setup. LeavesRecords setup honest seen may_leave back;
     seen_after = seen back;
     cuts_after = cuts back;
     cut_at = CutAt size honest seen cuts cut_to given back;
@@ -56,7 +69,7 @@ module _ {D : Type 0} (size : D → ℕ) (honest : D → Bool) (seen : D → Opt
 abbrev pub Books : {D : Type 0} → Setup → (D → Bool) → (D → Option (List ℕ)) → (D → List ℕ → Type 0) → D → List Entry
     → Type 0
 Books setup honest seen may_leave disk past =
-    IsTrusted honest seen disk → LeavesBook setup honest seen may_leave disk None (reverse (records past))
+    IsTrusted honest seen disk → LeavesRecords setup honest seen may_leave disk None (reverse (records past))
 
 -- Any past may be relied on, as where no disk is used yet.
 abbrev pub Always : List Entry → Type 0

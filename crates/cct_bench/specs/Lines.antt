@@ -72,5 +72,5 @@ EndsAt number setup ending.Unread left held = position is_line_feed held ≡ Non
 EndsAt number setup how left held = ⊥
 
 -- More bytes came from the source behind those held, and then this holds of all of them.
-abbrev pub Came : List ℕ → Option (List ℕ) → Option (List ℕ) → (List ℕ → Type 0) → Type 0
-Came held left_before left P = (came : List ℕ) × Consumes left_before left came × P (held ++ came)
+abbrev pub WithMoreTaken : List ℕ → Option (List ℕ) → Option (List ℕ) → (List ℕ → Type 0) → Type 0
+WithMoreTaken held left_before left P = (came : List ℕ) × Consumes left_before left came × P (held ++ came)

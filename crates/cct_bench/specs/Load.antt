@@ -11,7 +11,7 @@ use Rattle.cct_journal.specs.Image.{IsFirstByteFrom}
 use Rattle.cct_world.specs.Early.{LegalBeforeLoss}
 use Rattle.cct_world.specs.Restarts.{Survived}
 use Rattle.cct_world.specs.Step.{RoseBy, count_after, crashes}
-use Rattle.cct_world.specs.Sure.{First, IsCrash, MayFail, Sure}
+use Rattle.cct_world.specs.Relying.{First, IsCrash, MayFail, IsReliable}
 use Rattle.cct_gen.specs.Load.{load_setup, load_steps}
 use Rattle.cct_load.specs.Sums.{sums_of}
 use Rattle.cct_load.specs.declared.load.LoadEnd.{LoadEnd}
@@ -22,8 +22,9 @@ use Rattle.cct_bench.specs.declared.ending.Ending.{Ending}
 use Rattle.cct_bench.specs.declared.ending.Ending.TheVariants as ending
 use Rattle.cct_bench.specs.declared.play.TheConstants.{JOURNAL_BYTES}
 use Rattle.cct_bench.specs.Disks.{Disks, IsReady, most_records}
-use Rattle.cct_bench.specs.Money.{IsRight, RightBeforeLoss}
-use Rattle.cct_bench.specs.Run.{Book, EndsLost, TellsLoss, TellsOf, last_entry, listed, status_of, unplayed_by}
+use Rattle.cct_laws.specs.Right.{IsRight}
+use Rattle.cct_bench.specs.Money.{RightBeforeLoss}
+use Rattle.cct_bench.specs.Run.{EndsLost, RecordsLeftByLine, TellsLoss, TellsOf, last_entry, listed, status_of}
 
 -- of a load over a disk: the steps that were played and those that weren't, and the past of those played
 module _ (disks : Disks) (seed rounds : ℕ) (played unplayed : List Step) (past : List Entry) where
@@ -31,7 +32,7 @@ module _ (disks : Disks) (seed rounds : ℕ) (played unplayed : List Step) (past
   -- what the operator has, which is so where the past may be relied on.
   abbrev pub TellsAll : List Entry → Type 0
   TellsAll told =
-      (money : Totals) × (Sure disks.trusted past → money ≡ totals load_setup past)
+      (money : Totals) × (IsReliable disks.trusted past → money ≡ totals load_setup past)
       × (told ≡ entry.Load seed rounds ∷ (sums_of played past ++ entry.Balance money ∷ []))
 
   -- No step was played, and the first line alone was to be written.
@@ -52,7 +53,7 @@ module _ (disks : Disks) (seed rounds : ℕ) (played unplayed : List Step) (past
       (disks.size ≡ JOURNAL_BYTES) × (tail ≡ entry.DiskFault ∷ [])
       × (((told ≡ []) × (played ≡ []))
       ⊎ ((told ≡ entry.Load seed rounds ∷ []) × IsReady disks.size disks.seen
-      × First (MayFail (Sure disks.trusted past) load_setup past) unplayed))
+      × First (MayFail (IsReliable disks.trusted past) load_setup past) unplayed))
   LoadCloses status.NotBlank told tail =
       (at : ℕ) × (disks.size ≡ JOURNAL_BYTES) × (told ≡ []) × (played ≡ []) × (tail ≡ entry.NotBlank at ∷ [])
       × ((image : List ℕ) → disks.seen ≡ Some image → IsFirstByteFrom 0 image at)
@@ -94,15 +95,17 @@ pub record Loaded (seed rounds : ℕ) (s : Status) (Written : List Entry → Typ
   pub transcript : List Entry
   pub told : List Entry
   pub tail : List Entry
+  -- The steps are the lines that the definitions draw from the two numbers.
   pub steps_are : load_steps seed rounds ≡ played ++ unplayed
-  pub legal : Sure disks.trusted (onto [] transcript) → Legal most_records load_setup played transcript
-  pub money : Sure disks.trusted (onto [] transcript) → IsRight load_setup transcript
+  pub legal : IsReliable disks.trusted (onto [] transcript) → Legal most_records load_setup played transcript
+  pub money : IsReliable disks.trusted (onto [] transcript) → IsRight load_setup transcript
   pub early : RightBeforeLoss load_setup played transcript
+  -- The first line before the first step, and after the last one the sums and what the operator has; no line of a step.
   pub ends : LoadEnds disks seed rounds played unplayed (onto [] transcript) s told tail Written Breaks
-  pub book : disks.trusted → told ≢ [] → Book disks load_setup unplayed (onto [] transcript) tail
+  pub book : disks.trusted → told ≢ [] → RecordsLeftByLine disks load_setup unplayed (onto [] transcript) tail
   pub keeps : disks.trusted → TellsLoss tail → ⊥
   pub disk_cause : tail ≡ entry.DiskFault ∷ [] → disk_failed
-  pub survived : Survived (Sure disks.trusted) disks.cut_at load_setup played (onto [] transcript)
+  pub survived : Survived (IsReliable disks.trusted) disks.cut_at load_setup played (onto [] transcript)
   pub cut : RoseBy (crashes (onto [] transcript)) disks.cuts disks.cuts_after
   pub just : (First IsCrash unplayed → ⊥) → disks.cuts_after ≡ count_after (crashes (onto [] transcript)) disks.cuts
 
@@ -114,13 +117,13 @@ pub record LoadPlayed (seed rounds : ℕ) (how : Ending) (Written : List Entry �
   pub transcript : List Entry
   pub told : List Entry
   pub steps_are : load_steps seed rounds ≡ played ++ unplayed
-  pub legal : Sure disks.trusted (onto [] transcript) → Legal most_records load_setup played transcript
+  pub legal : IsReliable disks.trusted (onto [] transcript) → Legal most_records load_setup played transcript
   pub early : LegalBeforeLoss most_records load_setup played transcript
   pub stops : LoadStops disks seed rounds played unplayed (onto [] transcript) how told Written Breaks
   pub book : disks.trusted → told ≢ []
-      → Book disks load_setup unplayed (onto [] transcript) (listed (last_entry how))
+      → RecordsLeftByLine disks load_setup unplayed (onto [] transcript) (listed (last_entry how))
   pub keeps : disks.trusted → TellsLoss (listed (last_entry how)) → ⊥
-  pub survived : Survived (Sure disks.trusted) disks.cut_at load_setup played (onto [] transcript)
+  pub survived : Survived (IsReliable disks.trusted) disks.cut_at load_setup played (onto [] transcript)
   pub cut : RoseBy (crashes (onto [] transcript)) disks.cuts disks.cuts_after
   pub just : (First IsCrash unplayed → ⊥) → disks.cuts_after ≡ count_after (crashes (onto [] transcript)) disks.cuts
 
@@ -128,4 +131,4 @@ pub record LoadPlayed (seed rounds : ℕ) (how : Ending) (Written : List Entry �
 abbrev pub load_ending : LoadEnd → Ending
 load_ending load_end.Done = ending.Done
 load_ending load_end.Unwritten = ending.Unwritten
-load_ending (load_end.Unplayed why) = unplayed_by why
+load_ending (load_end.Unplayed why) = ending.Unplayed why

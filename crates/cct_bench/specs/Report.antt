@@ -5,6 +5,7 @@ use Rattle.cct_model.specs.lines.record.Record.{Record}
 use Rattle.cct_model.specs.lines.entry.Entry.{Entry}
 use Rattle.cct_model.specs.lines.entry.Entry.TheVariants as entry
 use Rattle.cct_journal.specs.Image.{IsAlien, IsBadAt}
+use Rattle.cct_journal.specs.declared.refusal.OpenNo.TheVariants as opening
 use Rattle.cct_report.specs.Listing.{FindsIn, listed, listing_from}
 use Rattle.cct_report.specs.Sums.{no_sums}
 use Rattle.cct_report.specs.declared.listing.ReportEnd.{ReportEnd}
@@ -94,15 +95,21 @@ pub record IsDecided (size : ℕ) (image : List ℕ) (s : Status) : Type 0 where
 
 -- The last line of a report whose listing ended so, if it has one.
 abbrev pub line_behind : ReportEnd → List Entry
-line_behind listing.DiskFailed = entry.DiskFault ∷ []
-line_behind listing.Alien = entry.JournalAlien ∷ []
-line_behind (listing.Bad index) = entry.JournalBad index ∷ []
+line_behind (listing.Unread opening.Disk) = entry.DiskFault ∷ []
+line_behind (listing.Unread opening.Alien) = entry.JournalAlien ∷ []
+line_behind (listing.Unread (opening.BadRecord index)) = entry.JournalBad index ∷ []
 line_behind how = []
 
 -- The status of a report whose listing ended so, where its last line, if it has one, is written.
 abbrev pub reported_by : ReportEnd → Status
 reported_by listing.Done = status.Done
 reported_by listing.Unwritten = status.WriteFault
-reported_by listing.DiskFailed = status.DiskFault
-reported_by listing.Alien = status.JournalLost
-reported_by (listing.Bad index) = status.JournalLost
+reported_by (listing.Unread opening.Disk) = status.DiskFault
+reported_by (listing.Unread opening.Alien) = status.JournalLost
+reported_by (listing.Unread (opening.BadRecord index)) = status.JournalLost
+
+-- A status of a report: none that comes of reading a script, of the words, or of want of memory.
+pub record IsOfReport (s : Status) : Type 0 where
+  pub read : s ≢ status.ReadFault
+  pub words : s ≢ status.WordsRefused
+  pub memory : s ≢ status.OutOfMemory

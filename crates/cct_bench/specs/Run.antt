@@ -12,7 +12,7 @@ use Rattle.cct_model.specs.Records.{records}
 use Rattle.cct_model.specs.Script.{Refusal, script}
 use Rattle.cct_model.specs.Transcript.{onto}
 use Rattle.cct_journal.specs.Image.{IsFirstByteFrom}
-use Rattle.cct_journal.specs.declared.refusal.CreateNo.{CreateNo}
+use Rattle.cct_journal.specs.Creating.{RefusesCreate}
 use Rattle.cct_journal.specs.declared.refusal.CreateNo.TheVariants as create_no
 use Rattle.cct_bench.specs.declared.outcome.Status.{Status}
 use Rattle.cct_bench.specs.declared.outcome.Status.TheVariants as status
@@ -26,12 +26,13 @@ use Rattle.cct_bench.specs.declared.play.TheConstants.{JOURNAL_BYTES}
 use Rattle.cct_world.specs.Early.{LegalBeforeLoss}
 use Rattle.cct_world.specs.Restarts.{LosesAt, Survived}
 use Rattle.cct_world.specs.Step.{RoseBy, count_after, crashes}
-use Rattle.cct_world.specs.Sure.{First, IsCrash, MayFail, Sure, due_to}
+use Rattle.cct_world.specs.Relying.{First, IsCrash, MayFail, IsReliable, due_to}
 use Rattle.cct_host.specs.declared.refusal.CrashNo.{CrashNo}
 use Rattle.cct_host.specs.declared.refusal.CrashNo.TheVariants as crash_no
 use Rattle.cct_bench.specs.Disks.{Disks, IsReady, most_records}
 use Rattle.cct_bench.specs.Going.{IsUnbegun}
-use Rattle.cct_bench.specs.Money.{IsRight, RightBeforeLoss}
+use Rattle.cct_laws.specs.Right.{IsRight}
+use Rattle.cct_bench.specs.Money.{RightBeforeLoss}
 use Rattle.cct_bench.specs.Source.{to_come}
 
 -- Writing broke off in the lines of the last step played or in the last line, and all lines before were written whole:
@@ -71,15 +72,15 @@ TellsLoss = TellsOf (λ why. ⊤)
 -- disk then has that comes back.
 abbrev pub EndsLost : Disks → Setup → List Entry → List Step → CrashNo → Type 0
 EndsLost disks setup past unplayed why =
-    First (LosesAt (Sure disks.trusted past) disks.cut_at setup past disks.seen_after why) unplayed
+    First (LosesAt (IsReliable disks.trusted past) disks.cut_at setup past disks.seen_after why) unplayed
 
 -- What a loss of power may leave on the disk behind a past, by the last line, where these steps weren't played: each
 -- image stands for the records of the past; or, where the disk failed in a step with a record that was due, for these
 -- or for these and that record.
-abbrev pub Book : Disks → Setup → List Step → List Entry → List Entry → Type 0
-Book disks setup unplayed past (entry.DiskFault ∷ tail) =
+abbrev pub RecordsLeftByLine : Disks → Setup → List Step → List Entry → List Entry → Type 0
+RecordsLeftByLine disks setup unplayed past (entry.DiskFault ∷ tail) =
     First (λ s. disks.leaves setup (due_to setup past s) (reverse (records past))) unplayed
-Book disks setup unplayed past tail = disks.leaves setup None (reverse (records past))
+RecordsLeftByLine disks setup unplayed past tail = disks.leaves setup None (reverse (records past))
 
 -- of a run over a disk, with a script of these bytes: what it took of them, the steps that it played and those that it
 -- didn't, and the transcript of those played
@@ -102,7 +103,7 @@ module _ (disks : Disks) (bytes taken : List ℕ) (played unplayed : List Step) 
       (disks.size ≡ JOURNAL_BYTES) × (tail ≡ entry.DiskFault ∷ [])
       × (IsUntouched taken played
       ⊎ (IsReady disks.size disks.seen
-      × First (MayFail (Sure disks.trusted (onto [] transcript)) (script bytes).setup (onto [] transcript)) unplayed))
+      × First (MayFail (IsReliable disks.trusted (onto [] transcript)) (script bytes).setup (onto [] transcript)) unplayed))
   Closes status.NotBlank tail =
       (at : ℕ) × (disks.size ≡ JOURNAL_BYTES) × (tail ≡ entry.NotBlank at ∷ []) × IsUntouched taken played
       × ((image : List ℕ) → disks.seen ≡ Some image → IsFirstByteFrom 0 image at)
@@ -117,7 +118,7 @@ module _ (disks : Disks) (bytes taken : List ℕ) (played unplayed : List Step) 
   abbrev pub Ends : Status → List Entry → (List Entry → Type 0) → (List Entry → List Entry → Type 0) → Type 0
   Ends status.WriteFault tail Written Breaks =
       (((tail ≡ []) × IsReady disks.size disks.seen) ⊎ ((s : Status) × Closes s tail))
-      × BreaksOff (Sure disks.trusted) (script bytes).setup played transcript tail Breaks
+      × BreaksOff (IsReliable disks.trusted) (script bytes).setup played transcript tail Breaks
   Ends status.OutOfMemory tail Written Breaks = (played ≡ []) × (tail ≡ []) × Written []
   Ends s tail Written Breaks = Closes s tail × Written (transcript ++ tail)
 
@@ -140,16 +141,28 @@ pub record Ran (bytes : List ℕ) (s : Status) (left : Option (List ℕ)) (Writt
   pub tail : List Entry
   pub took : bytes ≡ taken ++ to_come left
   pub steps_are : (script bytes).steps ≡ played ++ unplayed
-  pub legal : Sure disks.trusted (onto [] transcript) → Legal most_records (script bytes).setup played transcript
-  pub money : Sure disks.trusted (onto [] transcript) → IsRight (script bytes).setup transcript
+  -- The transcript is the legal one of the script's setup and the steps played, where the past may be relied on.
+  pub legal : IsReliable disks.trusted (onto [] transcript) → Legal most_records (script bytes).setup played transcript
+  -- And there the posts are accepted coins in order, none is lost in silence, each order is paid at most once, and no
+  -- id is used twice.
+  pub money : IsReliable disks.trusted (onto [] transcript) → IsRight (script bytes).setup transcript
+  -- Over any disk the same holds of the steps before the first power cut.
   pub early : RightBeforeLoss (script bytes).setup played transcript
+  -- The lines of the transcript, each by one put, then the last line of the status; a front of that if writing failed,
+  -- in which the lines of every step but the last one played are whole.
   pub ends : Ends disks bytes taken played unplayed transcript s tail Written Breaks
-  pub book : disks.trusted → taken ≢ [] → Book disks (script bytes).setup unplayed (onto [] transcript) tail
+  -- Once a byte of the script was taken, each image that a power cut may leave stands for exactly the records of the
+  -- transcript, or, if the disk failed with a record due, for these and that one.
+  pub book : disks.trusted → taken ≢ [] → RecordsLeftByLine disks (script bytes).setup unplayed (onto [] transcript) tail
+  -- Over a trusted disk status 9 never comes.
   pub keeps : disks.trusted → TellsLoss tail → ⊥
   pub source_cause : tail ≡ entry.ReadFault ∷ [] → source_failed
   pub disk_cause : tail ≡ entry.DiskFault ∷ [] → disk_failed
-  pub survived : Survived (Sure disks.trusted) disks.cut_at (script bytes).setup played (onto [] transcript)
+  -- After each power cut a read gave as many records as were put by then, and the one that is told as kept, each of
+  -- which follows those before it.
+  pub survived : Survived (IsReliable disks.trusted) disks.cut_at (script bytes).setup played (onto [] transcript)
   pub cut : RoseBy (crashes (onto [] transcript)) disks.cuts disks.cuts_after
+  -- Exactly so often, if the step after those that were played is no power cut.
   pub just : (First IsCrash unplayed → ⊥) → disks.cuts_after ≡ count_after (crashes (onto [] transcript)) disks.cuts
 
 -- How a run ends where a script is read no further.
@@ -157,27 +170,12 @@ abbrev pub ending_at : ℕ → ScriptStop → Ending
 ending_at number stop.Unread = ending.Unread
 ending_at number (stop.Refused why) = ending.Refused number why
 
--- How a run ends where no journal is created on its disk.
-abbrev pub uncreated : CreateNo → Ending
-uncreated (create_no.Small len) = ending.OtherSize len
-uncreated create_no.Disk = ending.DiskFailed
-uncreated (create_no.NotBlank at) = ending.NotBlank at
-
--- How a run ends where no journal is created on a disk of this size, whose reads give these bytes: the disk failed; it
--- isn't blank, which is told by its first byte that isn't 0; or it has another size, which is told.
+-- How a run ends where no journal is created on a disk of this size, whose reads give these bytes: it has another size, which
+-- is told; or this is why a journal refuses it.
 abbrev pub IsUnopened : ℕ → Option (List ℕ) → Ending → Type 0
-IsUnopened size seen ending.DiskFailed = size ≡ JOURNAL_BYTES
-IsUnopened size seen (ending.NotBlank at) =
-    (size ≡ JOURNAL_BYTES) × ((image : List ℕ) → seen ≡ Some image → IsFirstByteFrom 0 image at)
 IsUnopened size seen (ending.OtherSize len) = (size ≢ JOURNAL_BYTES) × (len ≡ size)
+IsUnopened size seen (ending.Uncreated why) = (size ≡ JOURNAL_BYTES) × RefusesCreate size seen why
 IsUnopened size seen how = ⊥
-
--- How a run ends where a step isn't played.
-abbrev pub unplayed_by : CrashNo → Ending
-unplayed_by crash_no.Disk = ending.DiskFailed
-unplayed_by crash_no.Alien = ending.JournalAlien
-unplayed_by (crash_no.BadRecord index) = ending.JournalBad index
-unplayed_by (crash_no.Lost found put) = ending.RecordsLost found put
 
 -- The script or its source brought the end.
 abbrev pub IsOfScript : Ending → Type 0
@@ -209,21 +207,14 @@ OverLost disks setup past unplayed why =
 abbrev pub Over : Disks → Ending → Setup → List ℕ → List Step → List Step → List Entry → Type 0
 Over disks ending.NoMemory setup taken played unplayed past =
     disks.trusted → disks.leaves setup None (reverse (records past))
-Over disks ending.DiskFailed setup taken played unplayed past =
-    (disks.size ≡ JOURNAL_BYTES)
-    × (IsUntouched taken played
-    ⊎ (IsReady disks.size disks.seen × First (MayFail (Sure disks.trusted past) setup past) unplayed
-    × (disks.trusted → First (λ s. disks.leaves setup (due_to setup past s) (reverse (records past))) unplayed)))
-Over disks (ending.NotBlank at) setup taken played unplayed past =
-    (disks.size ≡ JOURNAL_BYTES) × IsUntouched taken played
-    × ((image : List ℕ) → disks.seen ≡ Some image → IsFirstByteFrom 0 image at)
 Over disks (ending.OtherSize len) setup taken played unplayed past =
     (disks.size ≢ JOURNAL_BYTES) × IsUntouched taken played × (len ≡ disks.size)
-Over disks ending.JournalAlien setup taken played unplayed past = OverLost disks setup past unplayed crash_no.Alien
-Over disks (ending.JournalBad index) setup taken played unplayed past =
-    OverLost disks setup past unplayed (crash_no.BadRecord index)
-Over disks (ending.RecordsLost found put) setup taken played unplayed past =
-    OverLost disks setup past unplayed (crash_no.Lost found put)
+Over disks (ending.Uncreated why) setup taken played unplayed past =
+    (disks.size ≡ JOURNAL_BYTES) × IsUntouched taken played × RefusesCreate disks.size disks.seen why
+Over disks (ending.Unplayed crash_no.Disk) setup taken played unplayed past =
+    IsReady disks.size disks.seen × First (MayFail (IsReliable disks.trusted past) setup past) unplayed
+    × (disks.trusted → First (λ s. disks.leaves setup (due_to setup past s) (reverse (records past))) unplayed)
+Over disks (ending.Unplayed why) setup taken played unplayed past = OverLost disks setup past unplayed why
 Over disks how setup taken played unplayed past =
     IsReady disks.size disks.seen × (disks.trusted → disks.leaves setup None (reverse (records past)))
 
@@ -232,7 +223,7 @@ Over disks how setup taken played unplayed past =
 pub record OverCut (disks : Disks) (how : Ending) (setup : Setup) (taken : List ℕ) (played unplayed : List Step)
     (past : List Entry) : Type 0 where
   pub over : Over disks how setup taken played unplayed past
-  pub survived : Survived (Sure disks.trusted) disks.cut_at setup played past
+  pub survived : Survived (IsReliable disks.trusted) disks.cut_at setup played past
   pub cut : RoseBy (crashes past) disks.cuts disks.cuts_after
   pub just : (First IsCrash unplayed → ⊥) → disks.cuts_after ≡ count_after (crashes past) disks.cuts
 
@@ -273,23 +264,27 @@ status_of (ending.Refused number kind) = status.ScriptRefused
 status_of ending.Unread = status.ReadFault
 status_of ending.Unwritten = status.WriteFault
 status_of ending.NoMemory = status.OutOfMemory
-status_of ending.DiskFailed = status.DiskFault
-status_of (ending.NotBlank at) = status.NotBlank
 status_of (ending.OtherSize len) = status.DiskSize
-status_of ending.JournalAlien = status.JournalLost
-status_of (ending.JournalBad index) = status.JournalLost
-status_of (ending.RecordsLost found put) = status.JournalLost
+status_of (ending.Uncreated (create_no.Small len)) = status.DiskSize
+status_of (ending.Uncreated create_no.Disk) = status.DiskFault
+status_of (ending.Uncreated (create_no.NotBlank at)) = status.NotBlank
+status_of (ending.Unplayed crash_no.Disk) = status.DiskFault
+status_of (ending.Unplayed crash_no.Alien) = status.JournalLost
+status_of (ending.Unplayed (crash_no.BadRecord index)) = status.JournalLost
+status_of (ending.Unplayed (crash_no.Lost found put)) = status.JournalLost
 
 -- Its last line, if it has one.
 abbrev pub last_entry : Ending → Option Entry
 last_entry (ending.Refused number kind) = Some (entry.Line number kind)
 last_entry ending.Unread = Some entry.ReadFault
-last_entry ending.DiskFailed = Some entry.DiskFault
-last_entry (ending.NotBlank at) = Some (entry.NotBlank at)
 last_entry (ending.OtherSize len) = Some (entry.DiskSize len)
-last_entry ending.JournalAlien = Some entry.JournalAlien
-last_entry (ending.JournalBad index) = Some (entry.JournalBad index)
-last_entry (ending.RecordsLost found put) = Some (entry.JournalLost found put)
+last_entry (ending.Uncreated (create_no.Small len)) = Some (entry.DiskSize len)
+last_entry (ending.Uncreated create_no.Disk) = Some entry.DiskFault
+last_entry (ending.Uncreated (create_no.NotBlank at)) = Some (entry.NotBlank at)
+last_entry (ending.Unplayed crash_no.Disk) = Some entry.DiskFault
+last_entry (ending.Unplayed crash_no.Alien) = Some entry.JournalAlien
+last_entry (ending.Unplayed (crash_no.BadRecord index)) = Some (entry.JournalBad index)
+last_entry (ending.Unplayed (crash_no.Lost found put)) = Some (entry.JournalLost found put)
 last_entry how = None
 
 -- One entry, or none.

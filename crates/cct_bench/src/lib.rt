@@ -2,8 +2,8 @@
 //! its sums.
 #![tactic(auto)]
 
-ghost use Rattle.std.specs.Prelude.{◌≡◌, ◌≢◌, ◌≤◌, ◌⊎◌, [], ◌∷◌, IfSome, List, Result, Some, true, ℕ};
-ghost use Rattle.cct_edge.specs.Bytes.{TellsAsBefore};
+ghost use Rattle.std.specs.Prelude.{◌≡◌, ◌≢◌, ◌⊎◌, [], ◌∷◌, IfSome, List, Result, Some, true, ℕ};
+ghost use Rattle.cct_edge.specs.Bytes.{Serves};
 ghost use Rattle.cct_edge.specs.declared.fault.Failed.{Failed};
 ghost use Rattle.cct_edge.specs.Faults.{Rose};
 ghost use Rattle.cct_model.specs.lines.record.Record.{Record};
@@ -11,10 +11,10 @@ ghost use Rattle.cct_model.specs.Script.{script as script_in};
 ghost use Rattle.cct_disk.specs.Disk.{OnlyReads};
 ghost use Rattle.cct_journal.specs.Image.{IsBlank};
 ghost use Rattle.cct_report.specs.Listing.{FindsIn};
-ghost use Rattle.cct_journal.specs.Stands.{Outlasts};
 ghost use Rattle.cct_bench.specs.declared.play.TheConstants.{JOURNAL_BYTES};
 ghost use Rattle.cct_bench.specs.Disks.{disks};
-ghost use Rattle.cct_world.specs.Sure.{losses_in};
+ghost use Rattle.cct_world.specs.Relying.{losses_in};
+ghost use Rattle.cct_world.specs.Serving.{DiskServes};
 ghost use Rattle.cct_bench.specs.SetupLines.{TookSetup};
 ghost use Rattle.cct_bench.specs.Source.{OfBytes};
 ghost use Rattle.cct_text.specs.Writing.{Broke, Writes, Wrote};
@@ -122,12 +122,9 @@ pub fn bench<S: Source, K: Sink, D: Disk>(
         (script.new ≡ script.old) ⊎ TookSetup S.takes S.left script.old script.new }
 
     // Source, sink and disk go on telling, and no count falls.
-    ensures source_tells { TellsAsBefore (S.left script.old) (S.left script.new) }
-    ensures sink_tells { TellsAsBefore (K.written out.old) (K.written out.new) }
-    ensures disk_goes_on { Outlasts D.size D.honest D.seen D.cuts disk result.1 }
-    ensures source_later { S.faults script.old ≤ S.faults script.new }
-    ensures sink_later { K.faults out.old ≤ K.faults out.new }
-    ensures disk_later { D.faults disk ≤ D.faults result.1 }
+    ensures source_goes_on { Serves S.left S.faults script.old script.new ⊥ }
+    ensures sink_goes_on { Serves K.written K.faults out.old out.new ⊥ }
+    ensures disk_goes_on { DiskServes D.size D.honest D.seen D.cuts D.faults disk result.1 ⊥ ⊥ }
 
     // On a blank disk, which is honest or where no step is a loss of power, and with no fault, the script alone
     // decides, but for want of memory.
@@ -169,8 +166,7 @@ fn refuse_words<K: Sink>(out: &mut K) -> Status
         × (result ≡ status_by answer Status.WordsRefused) }
     ensures cause { (result ≡ Status.WordsRefused) ⊎ ((result ≡ Status.WriteFault)
         × Rose (K.faults out.old) (K.faults out.new)) }
-    ensures tells { TellsAsBefore (K.written out.old) (K.written out.new) }
-    ensures later { K.faults out.old ≤ K.faults out.new }
+    ensures sink { Serves K.written K.faults out.old out.new ⊥ }
 {
     close(
         out,

@@ -1,11 +1,10 @@
 //! The setup of a script, line by line.
-ghost use Rattle.std.specs.Prelude.{◌≡◌, ◌≤◌, ◌+◌, Err, Ok, IfOk, MatchResult};
+ghost use Rattle.std.specs.Prelude.{◌≡◌, ◌+◌, Err, Ok, IfOk, MatchResult};
 ghost use Rattle.std.specs.Result.{IfErr};
-ghost use Rattle.cct_edge.specs.Bytes.{TellsAsBefore};
-ghost use Rattle.cct_edge.specs.Faults.{Rose};
+ghost use Rattle.cct_edge.specs.Bytes.{Serves};
 ghost use Rattle.cct_model.specs.Script.{at_setup, at_steps, no_devices, opens, refuses, read_form};
 ghost use Rattle.cct_script.specs.Giving.{none_given, standing_of};
-ghost use Rattle.cct_bench.specs.Lines.{IsNext, ScriptGoesOn, StopsAt, Came};
+ghost use Rattle.cct_bench.specs.Lines.{IsNext, ScriptGoesOn, StopsAt, WithMoreTaken};
 ghost use Rattle.cct_bench.specs.SetupLines.{OpensLine, TookOpening};
 ghost use Rattle.cct_bench.specs.Setup.{stage_of, opened_by};
 ghost use Rattle.cct_text.specs.Writing.{IsNothing, NeverBroke};
@@ -22,7 +21,7 @@ use cct_script::{Lines, add, read_setup_line};
 
 /// What a setup line does to the setup.
 #[derive(Clone, Copy, Debug, PartialEq, Eq)]
-pub enum Opened {
+enum Opened {
     /// It adds to it.
     Added,
     /// The setup is done, and the steps begin.
@@ -50,25 +49,23 @@ fn take_setup_line(setup: &mut Setup, line: &[u8]) -> Result<Opened, LineKind>
 }
 
 /// Reads the next setup line of a script into the setup.
-pub fn read_opening<S: Source>(
+fn read_opening<S: Source>(
     lines: &mut Lines,
     setup: &mut Setup,
     number: u32,
     script: &mut S,
 ) -> Result<Opened, ScriptStop>
     requires { IsNext number (standing_of lines.old) }
-    ensures reads { IfOk result (λ opened. Came (standing_of lines.old).held (S.left script.old) (S.left script.new)
+    ensures reads { IfOk result (λ opened. WithMoreTaken (standing_of lines.old).held (S.left script.old) (S.left script.new)
         (λ held. ScriptGoesOn number (at_setup setup.old) held (opens (stage_of opened setup.new))
         (standing_of lines.new).held)) }
     ensures line { IfOk result (λ opened.
         OpensLine S.takes S.left number (at_setup setup.old) (stage_of opened setup.new)
         (standing_of lines.old).held (standing_of lines.new).held script.old script.new) }
     ensures next { IfOk result (λ opened. IsNext (number + 1) (standing_of lines.new)) }
-    ensures stops { IfErr result (λ why. Came (standing_of lines.old).held (S.left script.old) (S.left script.new)
+    ensures stops { IfErr result (λ why. WithMoreTaken (standing_of lines.old).held (S.left script.old) (S.left script.new)
         (StopsAt number (at_setup setup.old) why (S.left script.new))) }
-    ensures tells { TellsAsBefore (S.left script.old) (S.left script.new) }
-    ensures later { S.faults script.old ≤ S.faults script.new }
-    ensures cause { result ≡ Err ScriptStop.Unread → Rose (S.faults script.old) (S.faults script.new) }
+    ensures source { Serves S.left S.faults script.old script.new (result ≡ Err ScriptStop.Unread) }
 {
     let line = before_end(lines.line(script))?;
     match take_setup_line(setup, line) {
@@ -94,10 +91,8 @@ pub fn read_setup<S: Source>(
     ensures ended { IfErr result (λ how.
         OfBytes (S.left script.old) (λ bytes.
         Played Always bytes how (S.left script.new) IsNothing NeverBroke BeforeSteps)) }
-    ensures unread { result ≡ Err Ending.Unread → Rose (S.faults script.old) (S.faults script.new) }
     ensures of_script { IfErr result IsOfScript }
-    ensures tells { TellsAsBefore (S.left script.old) (S.left script.new) }
-    ensures later { S.faults script.old ≤ S.faults script.new }
+    ensures source { Serves S.left S.faults script.old script.new (result ≡ Err Ending.Unread) }
 {
     let mut number = 1;
     loop {

@@ -1,10 +1,10 @@
 //! A run: the script is read a line at a time, and each step is played and its entries are written before the next line
 //! is read.
-ghost use Rattle.std.specs.Prelude.{◌≡◌, ◌≢◌, false, ◌⊎◌, ℕ, ◌+◌, ◌≤◌, List, [], Option, Result, Ok, Err};
+ghost use Rattle.std.specs.Prelude.{◌≡◌, ◌≢◌, ◌⊎◌, ℕ, ◌+◌, ◌≤◌, List, Option, Result, Ok, Err};
 ghost use Rattle.std.specs.Prelude.{IfOk, IfErr, MatchResult, OnOk};
-ghost use Rattle.cct_edge.specs.Bytes.{TellsAsBefore};
+ghost use Rattle.cct_edge.specs.Bytes.{Serves};
 ghost use Rattle.cct_edge.specs.declared.fault.Failed.{Failed};
-ghost use Rattle.cct_edge.specs.Faults.{Rose};
+ghost use Rattle.cct_edge.specs.Faults.{Caused, Rose};
 ghost use Rattle.cct_model.specs.lines.entry.Entry.{Entry};
 ghost use Rattle.cct_model.specs.terms.device.Setup.{Setup};
 ghost use Rattle.cct_model.specs.Script.{no_devices, at_steps};
@@ -16,19 +16,19 @@ ghost use Rattle.cct_host.specs.declared.refusal.CrashNo.{CrashNo};
 ghost use Rattle.cct_host.specs.declared.refusal.CrashNo.TheVariants as crash_no;
 ghost use Rattle.cct_world.specs.Holds.{WorldHolds};
 ghost use Rattle.cct_world.specs.Step.{CutsIn, LastsIn};
-ghost use Rattle.cct_host.specs.Book.{HasBook};
 ghost use Rattle.cct_world.specs.World.{Breaks, StandsFor, disk_of, setup_of, used_of};
-ghost use Rattle.cct_bench.specs.Lines.{Came, EndsAt, IsNext};
-ghost use Rattle.cct_bench.specs.Disks.{Books, IsReady, disks};
-ghost use Rattle.cct_world.specs.Sure.{Sure};
+ghost use Rattle.cct_bench.specs.Lines.{WithMoreTaken, EndsAt, IsNext};
+ghost use Rattle.cct_bench.specs.Disks.{Books, IsNewJournal, IsReady, disks};
+ghost use Rattle.cct_world.specs.Relying.{IsReliable};
+ghost use Rattle.cct_world.specs.Serving.{DiskServes};
 ghost use Rattle.cct_bench.specs.Going.{Going};
 ghost use Rattle.cct_bench.specs.SetupLines.{TookSetup};
 ghost use Rattle.cct_bench.specs.Source.{OfBytes};
 ghost use Rattle.cct_text.specs.Writing.{Writes, Wrote, Broke};
 ghost use Rattle.cct_bench.specs.Playing.{CanPlay, PlaysOn};
-ghost use Rattle.cct_bench.specs.Run.{IsOfScript, IsUnopened, OverCut, Played, Ran, status_of, unplayed_by};
+ghost use Rattle.cct_bench.specs.Run.{IsOfScript, IsUnopened, OverCut, Played, Ran, status_of};
 
-use crate::ending::{Ending, ending_at, finish_run, uncreated, unplayed_by};
+use crate::ending::{Ending, ending_at, finish_run};
 use crate::lines::behind_end;
 use crate::opening::read_setup;
 use crate::outcome::Status;
@@ -49,18 +49,13 @@ pub const JOURNAL_BYTES: u64 = MADE_LEN;
 /// A new journal on a blank disk that has the length of one; or tells how the run ends, and gives the disk back.
 pub fn opened<D: Disk>(disk: D) -> Result<Journal<D>, (Ending, D)>
     ensures ready { OnOk result (IsReady (D.size disk) (D.seen disk)) }
-    ensures none { IfOk result (λ journal. journals.used_of journal ≡ 0) }
-    ensures whole { IfOk result (λ journal. journals.has_failed journal ≡ false) }
-    ensures size { IfOk result (λ journal. D.size (journals.disk_of journal) ≡ JOURNAL_BYTES) }
-    ensures stands { IfOk result (λ journal. (setup : Setup) → IsTrusted D.honest D.seen (journals.disk_of journal)
-        → HasBook setup D.honest D.seen D.may_leave (journals.disk_of journal) (journals.place_of journal) []) }
+    ensures made { IfOk result IsNewJournal }
     ensures refused { IfErr result (λ e. IsUnopened (D.size disk) (D.seen disk) e.0) }
-    ensures cause { IfErr result (λ e. e.0 ≡ Ending.DiskFailed → Rose (D.faults disk) (D.faults e.1)) }
     ensures goes_on { MatchResult result
         (λ journal. GoesOn D.size D.honest D.seen D.cuts disk (journals.disk_of journal))
         (λ e. GoesOn D.size D.honest D.seen D.cuts disk e.1) }
-    ensures later { MatchResult result (λ journal. D.faults disk ≤ D.faults (journals.disk_of journal))
-        (λ e. D.faults disk ≤ D.faults e.1) }
+    ensures cause { MatchResult result (λ journal. D.faults disk ≤ D.faults (journals.disk_of journal))
+        (λ e. Caused (D.faults disk) (D.faults e.1) (status_of e.0 ≡ Status.DiskFault)) }
 {
     let len = disk.len();
     if len != JOURNAL_BYTES {
@@ -68,19 +63,19 @@ pub fn opened<D: Disk>(disk: D) -> Result<Journal<D>, (Ending, D)>
     }
     match Journal::create(disk) {
         Ok(journal) => Ok(journal),
-        Err((disk, why)) => Err((uncreated(why), disk)),
+        Err((disk, why)) => Err((Ending::Uncreated(why), disk)),
     }
 }
 
-/// The buffers of what a run writes.
+/// Plays a step and writes its entries: the buffers of both.
 #[derive(Drop)]
-struct Page {
+struct StepPlayer {
     /// The entries of the last step.
     report: ArrayVec<Entry, 8>,
     line: TextLine,
 }
 
-impl Page {
+impl StepPlayer {
     /// Plays a step, and writes its entries; or tells how the run ends, and gives the disk back.
     fn play<'s, K: Sink, D: Disk>(
         &mut self,
@@ -103,31 +98,28 @@ impl Page {
             (Books (setup_of world.entry) D.honest D.seen D.may_leave e.1) (setup_of world.entry) step.now
             (CutsIn step.now D.size D.honest D.seen D.cuts D.cut_to (disk_of world.entry) e.1) (used_of world.entry)
             many (D.seen e.1) (λ report. Writes K.written K.puts out.old report (Err failed) out.new))
-            ⊎ ((why : CrashNo) × (e.0 ≡ unplayed_by why) × Breaks world.entry e.1 why step.now
+            ⊎ ((why : CrashNo) × (e.0 ≡ Ending.Unplayed why) × Breaks world.entry e.1 why step.now
             × (why ≢ crash_no.Disk
             → CutsIn step.now D.size D.honest D.seen D.cuts D.cut_to (disk_of world.entry) e.1)
             × (out.new ≡ out.old))) }
         ensures memory { IfErr result (λ e. e.0 ≢ Ending.NoMemory) }
         ensures unread { IfErr result (λ e. e.0 ≢ Ending.Unread) }
-        ensures write_cause { IfErr result (λ e. e.0 ≡ Ending.Unwritten → Rose (K.faults out.old) (K.faults out.new)) }
-        ensures disk_cause { IfErr result (λ e. e.0 ≡ Ending.DiskFailed
-            → Rose (D.faults (disk_of world.entry)) (D.faults e.1)) }
         ensures lost_cause { IfErr result (λ e. status_of e.0 ≡ Status.JournalLost
             → Rose (D.cuts (disk_of world.entry)) (D.cuts e.1)) }
 
         // the sink and the disk
-        ensures tells { TellsAsBefore (K.written out.old) (K.written out.new) }
-        ensures later { K.faults out.old ≤ K.faults out.new }
+        ensures sink { Serves K.written K.faults out.old out.new
+            (MatchResult result (λ _. ⊥) (λ e. e.0 ≡ Ending.Unwritten)) }
         ensures lasts { MatchResult result
             (λ next. LastsIn step.now D.size D.honest D.seen D.cuts (disk_of world.entry) (disk_of next))
             (λ e. LastsIn step.now D.size D.honest D.seen D.cuts (disk_of world.entry) e.1) }
-        ensures disk_later { MatchResult result
+        ensures disk_cause { MatchResult result
             (λ next. D.faults (disk_of world.entry) ≤ D.faults (disk_of next))
-            (λ e. D.faults (disk_of world.entry) ≤ D.faults e.1) }
+            (λ e. Caused (D.faults (disk_of world.entry)) (D.faults e.1) (status_of e.0 ≡ Status.DiskFault)) }
     {
         let world = match world.step(step, &mut self.report) {
             Ok(world) => world,
-            Err((disk, why)) => return Err((unplayed_by(why), disk)),
+            Err((disk, why)) => return Err((Ending::Unplayed(why), disk)),
         };
         match write_entries(out, &mut self.line, self.report.as_slice()) {
             Ok(()) => Ok(world),
@@ -142,7 +134,7 @@ struct ScriptDesk {
     lines: Lines,
     /// The step that was read last.
     step: Step,
-    page: Page,
+    player: StepPlayer,
 }
 
 impl ScriptDesk {
@@ -158,24 +150,17 @@ impl ScriptDesk {
         requires size { D.size (disk_of world) ≡ JOURNAL_BYTES }
         ensures played { (left0 : Option (List ℕ)) (given : D) → IsReady (D.size given) (D.seen given)
             → Outlasts D.size D.honest D.seen D.cuts given (disk_of world.entry)
-            → Going (Sure (IsTrusted D.honest D.seen given)) left0 (S.left script.old)
+            → Going (IsReliable (IsTrusted D.honest D.seen given)) left0 (S.left script.old)
             (standing_of self.old.lines).held first (at_steps (setup_of world.entry)) (WorldHolds given world.entry)
             (Wrote K.written K.puts out.old out.old)
-            → OfBytes left0 (λ bytes. Played (Sure (IsTrusted D.honest D.seen given)) bytes result.0 (S.left script.new)
+            → OfBytes left0 (λ bytes. Played (IsReliable (IsTrusted D.honest D.seen given)) bytes result.0 (S.left script.new)
             (Wrote K.written K.puts out.old out.new) (Broke K.written K.puts out.old out.new)
             (OverCut (disks D.size D.honest D.seen D.may_leave D.cuts D.cut_to given result.1))) }
-        ensures unread { result.0 ≡ Ending.Unread → Rose (S.faults script.old) (S.faults script.new) }
-        ensures unwritten { result.0 ≡ Ending.Unwritten → Rose (K.faults out.old) (K.faults out.new) }
-        ensures disk { result.0 ≡ Ending.DiskFailed → Rose (D.faults (disk_of world.entry)) (D.faults result.1) }
-        ensures lost { status_of result.0 ≡ Status.JournalLost
-            → Rose (D.cuts (disk_of world.entry)) (D.cuts result.1) }
         ensures memory { result.0 ≢ Ending.NoMemory }
-        ensures source { TellsAsBefore (S.left script.old) (S.left script.new) }
-        ensures sink { TellsAsBefore (K.written out.old) (K.written out.new) }
-        ensures lasts { Outlasts D.size D.honest D.seen D.cuts (disk_of world.entry) result.1 }
-        ensures source_later { S.faults script.old ≤ S.faults script.new }
-        ensures sink_later { K.faults out.old ≤ K.faults out.new }
-        ensures disk_later { D.faults (disk_of world.entry) ≤ D.faults result.1 }
+        ensures source { Serves S.left S.faults script.old script.new (result.0 ≡ Ending.Unread) }
+        ensures sink { Serves K.written K.faults out.old out.new (result.0 ≡ Ending.Unwritten) }
+        ensures disk { DiskServes D.size D.honest D.seen D.cuts D.faults (disk_of world.entry) result.1
+            (status_of result.0 ≡ Status.DiskFault) (status_of result.0 ≡ Status.JournalLost) }
     {
         let mut world = world;
         let mut number = first;
@@ -187,7 +172,7 @@ impl ScriptDesk {
             if is_end(&self.step) {
                 return (self.finish(number + 1, script), world.into_disk());
             }
-            match self.page.play(&self.step, world, out) {
+            match self.player.play(&self.step, world, out) {
                 Ok(next) => world = next,
                 Err(ended) => return ended,
             }
@@ -197,12 +182,10 @@ impl ScriptDesk {
 
     /// Ends the steps of a script behind its line `end`: the next line has this number.
     fn finish<S: Source>(&mut self, number: u32, script: &mut S) -> Ending
-        ensures ended { (setup : Setup) → Came (standing_of self.old.lines).held (S.left script.old)
+        ensures ended { (setup : Setup) → WithMoreTaken (standing_of self.old.lines).held (S.left script.old)
             (S.left script.new) (EndsAt number setup result (S.left script.new)) }
-        ensures unread { result ≡ Ending.Unread → Rose (S.faults script.old) (S.faults script.new) }
         ensures of_script { IsOfScript result }
-        ensures tells { TellsAsBefore (S.left script.old) (S.left script.new) }
-        ensures later { S.faults script.old ≤ S.faults script.new }
+        ensures source { Serves S.left S.faults script.old script.new (result ≡ Ending.Unread) }
     {
         match behind_end(self.lines.line(script)) {
             Ok(()) => Ending::Done,
@@ -231,7 +214,7 @@ impl Bench {
             desk: ScriptDesk {
                 lines: Lines::new(),
                 step: Step::End,
-                page: Page {
+                player: StepPlayer {
                     report: ArrayVec::new(),
                     line: TextLine::new(),
                 },
@@ -249,29 +232,18 @@ impl Bench {
     ) -> (Ending, D)
         requires lines { standing_of self.old.desk.lines ≡ none_given }
         requires setup { self.old.setup ≡ no_devices }
-        requires unused { journals.used_of journal ≡ 0 }
-        requires whole { journals.has_failed journal ≡ false }
-        requires size { D.size (journals.disk_of journal) ≡ JOURNAL_BYTES }
+        requires made { IsNewJournal journal }
         ensures played { (given : D) → IsReady (D.size given) (D.seen given)
             → GoesOn D.size D.honest D.seen D.cuts given (journals.disk_of journal)
-            → ((setup : Setup) → IsTrusted D.honest D.seen (journals.disk_of journal)
-            → HasBook setup D.honest D.seen D.may_leave (journals.disk_of journal) (journals.place_of journal) [])
-            → OfBytes (S.left script.old) (λ bytes. Played (Sure (IsTrusted D.honest D.seen given)) bytes result.0
+            → OfBytes (S.left script.old) (λ bytes. Played (IsReliable (IsTrusted D.honest D.seen given)) bytes result.0
             (S.left script.new) (Wrote K.written K.puts out.old out.new) (Broke K.written K.puts out.old out.new)
             (OverCut (disks D.size D.honest D.seen D.may_leave D.cuts D.cut_to given result.1))) }
-        ensures unread { result.0 ≡ Ending.Unread → Rose (S.faults script.old) (S.faults script.new) }
-        ensures unwritten { result.0 ≡ Ending.Unwritten → Rose (K.faults out.old) (K.faults out.new) }
-        ensures disk { result.0 ≡ Ending.DiskFailed → Rose (D.faults (journals.disk_of journal)) (D.faults result.1) }
-        ensures lost { status_of result.0 ≡ Status.JournalLost
-            → Rose (D.cuts (journals.disk_of journal)) (D.cuts result.1) }
         ensures memory { result.0 ≡ Ending.NoMemory →
             (out.new ≡ out.old) × TookSetup S.takes S.left script.old script.new }
-        ensures source { TellsAsBefore (S.left script.old) (S.left script.new) }
-        ensures sink { TellsAsBefore (K.written out.old) (K.written out.new) }
-        ensures lasts { Outlasts D.size D.honest D.seen D.cuts (journals.disk_of journal) result.1 }
-        ensures source_later { S.faults script.old ≤ S.faults script.new }
-        ensures sink_later { K.faults out.old ≤ K.faults out.new }
-        ensures disk_later { D.faults (journals.disk_of journal) ≤ D.faults result.1 }
+        ensures source { Serves S.left S.faults script.old script.new (result.0 ≡ Ending.Unread) }
+        ensures sink { Serves K.written K.faults out.old out.new (result.0 ≡ Ending.Unwritten) }
+        ensures disk { DiskServes D.size D.honest D.seen D.cuts D.faults (journals.disk_of journal) result.1
+            (status_of result.0 ≡ Status.DiskFault) (status_of result.0 ≡ Status.JournalLost) }
     {
         let first = match read_setup(&mut self.desk.lines, &mut self.setup, script) {
             Ok(first) => first,
@@ -293,22 +265,16 @@ impl Bench {
     ) -> (Ending, D)
         requires lines { standing_of self.old.desk.lines ≡ none_given }
         requires setup { self.old.setup ≡ no_devices }
-        ensures played { OfBytes (S.left script.old) (λ bytes. Played (Sure (IsTrusted D.honest D.seen disk)) bytes
+        ensures played { OfBytes (S.left script.old) (λ bytes. Played (IsReliable (IsTrusted D.honest D.seen disk)) bytes
             result.0 (S.left script.new) (Wrote K.written K.puts out.old out.new)
             (Broke K.written K.puts out.old out.new)
             (OverCut (disks D.size D.honest D.seen D.may_leave D.cuts D.cut_to disk result.1))) }
-        ensures unread { result.0 ≡ Ending.Unread → Rose (S.faults script.old) (S.faults script.new) }
-        ensures unwritten { result.0 ≡ Ending.Unwritten → Rose (K.faults out.old) (K.faults out.new) }
-        ensures disk { result.0 ≡ Ending.DiskFailed → Rose (D.faults disk) (D.faults result.1) }
-        ensures lost { status_of result.0 ≡ Status.JournalLost → Rose (D.cuts disk) (D.cuts result.1) }
         ensures memory { result.0 ≡ Ending.NoMemory →
             (out.new ≡ out.old) × TookSetup S.takes S.left script.old script.new }
-        ensures source { TellsAsBefore (S.left script.old) (S.left script.new) }
-        ensures sink { TellsAsBefore (K.written out.old) (K.written out.new) }
-        ensures lasts { Outlasts D.size D.honest D.seen D.cuts disk result.1 }
-        ensures source_later { S.faults script.old ≤ S.faults script.new }
-        ensures sink_later { K.faults out.old ≤ K.faults out.new }
-        ensures disk_later { D.faults disk ≤ D.faults result.1 }
+        ensures source { Serves S.left S.faults script.old script.new (result.0 ≡ Ending.Unread) }
+        ensures sink { Serves K.written K.faults out.old out.new (result.0 ≡ Ending.Unwritten) }
+        ensures disk { DiskServes D.size D.honest D.seen D.cuts D.faults disk result.1
+            (status_of result.0 ≡ Status.DiskFault) (status_of result.0 ≡ Status.JournalLost) }
     {
         match opened(disk) {
             Ok(journal) => self.play_script(alloc, script, out, journal),
@@ -330,21 +296,15 @@ impl Bench {
             (Wrote K.written K.puts out.old out.new) (Broke K.written K.puts out.old out.new)
             (disks D.size D.honest D.seen D.may_leave D.cuts D.cut_to disk result.1)
             (Rose (S.faults script.old) (S.faults script.new)) (Rose (D.faults disk) (D.faults result.1))) }
-        ensures read_cause { result.0 ≡ Status.ReadFault → Rose (S.faults script.old) (S.faults script.new) }
-        ensures write_cause { result.0 ≡ Status.WriteFault → Rose (K.faults out.old) (K.faults out.new) }
-        ensures disk_cause { result.0 ≡ Status.DiskFault → Rose (D.faults disk) (D.faults result.1) }
-        ensures lost_cause { result.0 ≡ Status.JournalLost → Rose (D.cuts disk) (D.cuts result.1) }
         ensures memory { result.0 ≡ Status.OutOfMemory →
             (out.new ≡ out.old) × TookSetup S.takes S.left script.old script.new }
-        ensures source { TellsAsBefore (S.left script.old) (S.left script.new) }
-        ensures sink { TellsAsBefore (K.written out.old) (K.written out.new) }
-        ensures lasts { Outlasts D.size D.honest D.seen D.cuts disk result.1 }
-        ensures source_later { S.faults script.old ≤ S.faults script.new }
-        ensures sink_later { K.faults out.old ≤ K.faults out.new }
-        ensures disk_later { D.faults disk ≤ D.faults result.1 }
         ensures other { result.0 ≢ Status.WordsRefused }
+        ensures source { Serves S.left S.faults script.old script.new (result.0 ≡ Status.ReadFault) }
+        ensures sink { Serves K.written K.faults out.old out.new (result.0 ≡ Status.WriteFault) }
+        ensures disk { DiskServes D.size D.honest D.seen D.cuts D.faults disk result.1
+            (result.0 ≡ Status.DiskFault) (result.0 ≡ Status.JournalLost) }
     {
         let (how, disk) = self.play_over(alloc, script, out, disk);
-        (finish_run(how, out, &mut self.desk.page.line), disk)
+        (finish_run(&how, out, &mut self.desk.player.line), disk)
     }
 }

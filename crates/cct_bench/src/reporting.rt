@@ -1,13 +1,13 @@
 //! A report: the journal on a disk is listed, and the disk is only read.
-ghost use Rattle.std.specs.Prelude.{◌≡◌, ◌≢◌, ◌⊎◌, ◌≤◌, ℕ, List, Result, Some};
-ghost use Rattle.cct_edge.specs.Bytes.{TellsAsBefore};
+ghost use Rattle.std.specs.Prelude.{◌≡◌, ◌⊎◌, ℕ, List, Result, Some};
+ghost use Rattle.cct_edge.specs.Bytes.{Serves};
 ghost use Rattle.cct_edge.specs.declared.fault.Failed.{Failed};
-ghost use Rattle.cct_edge.specs.Faults.{Rose};
+ghost use Rattle.cct_edge.specs.Faults.{Caused, Rose};
 ghost use Rattle.cct_model.specs.lines.record.Record.{Record};
 ghost use Rattle.cct_disk.specs.Disk.{OnlyReads};
 ghost use Rattle.cct_report.specs.Listing.{FindsIn};
 ghost use Rattle.cct_text.specs.Writing.{Writes};
-ghost use Rattle.cct_bench.specs.Report.{IsDecided, Reported, image_known, line_behind, records_known, reported_by};
+ghost use Rattle.cct_bench.specs.Report.{IsDecided, IsOfReport, Reported, image_known, line_behind, records_known, reported_by};
 ghost use Rattle.cct_bench.specs.Report.{size_known};
 ghost use Rattle.cct_bench.specs.Run.{status_by};
 
@@ -16,6 +16,7 @@ use crate::outcome::Status;
 use crate::play::JOURNAL_BYTES;
 use cct_disk::Disk;
 use cct_edge::Sink;
+use cct_journal::OpenNo;
 use cct_model::Entry;
 use cct_report::{ReportEnd, list_journal};
 use cct_text::TextLine;
@@ -33,18 +34,13 @@ pub fn report<K: Sink, D: Disk>(out: &mut K, line: &mut TextLine, disk: D) -> (S
     ensures lines { Reported (size_known (D.size disk) (Rose (D.faults disk) (D.faults result.1))) result.0
         (λ lines answer. Writes K.written K.puts out.old lines answer out.new) }
 
-    // causes
-    ensures write_cause { result.0 ≡ Status.WriteFault → Rose (K.faults out.old) (K.faults out.new) }
-    ensures disk_cause { result.0 ≡ Status.DiskFault → Rose (D.faults disk) (D.faults result.1) }
-    ensures read { result.0 ≢ Status.ReadFault }
-    ensures words { result.0 ≢ Status.WordsRefused }
-    ensures memory { result.0 ≢ Status.OutOfMemory }
+    // the statuses of other words
+    ensures own { IsOfReport result.0 }
 
     // the disk and the sink
     ensures reads { OnlyReads D.size D.honest D.seen D.may_leave D.moment D.left_since D.cuts disk result.1 }
-    ensures disk_later { D.faults disk ≤ D.faults result.1 }
-    ensures sink { TellsAsBefore (K.written out.old) (K.written out.new) }
-    ensures sink_later { K.faults out.old ≤ K.faults out.new }
+    ensures disk_cause { Caused (D.faults disk) (D.faults result.1) (result.0 ≡ Status.DiskFault) }
+    ensures sink { Serves K.written K.faults out.old out.new (result.0 ≡ Status.WriteFault) }
 
     // With no fault the size and the image decide.
     ensures complete { (image : List ℕ) → D.seen disk ≡ Some image → (Rose (K.faults out.old) (K.faults out.new) → ⊥)
@@ -68,19 +64,20 @@ fn finish_report<K: Sink>(how: ReportEnd, out: &mut K, line: &mut TextLine) -> S
         × Rose (K.faults out.old) (K.faults out.new)) }
     ensures unwritten { result ≡ Status.WriteFault → (how ≡ ReportEnd.Unwritten)
         ⊎ Rose (K.faults out.old) (K.faults out.new) }
-    ensures disk { result ≡ Status.DiskFault → how ≡ ReportEnd.DiskFailed }
-    ensures read { result ≢ Status.ReadFault }
-    ensures words { result ≢ Status.WordsRefused }
-    ensures memory { result ≢ Status.OutOfMemory }
-    ensures tells { TellsAsBefore (K.written out.old) (K.written out.new) }
-    ensures later { K.faults out.old ≤ K.faults out.new }
+    ensures disk { result ≡ Status.DiskFault → how ≡ ReportEnd.Unread OpenNo.Disk }
+    ensures own { IsOfReport result }
+    ensures sink { Serves K.written K.faults out.old out.new ⊥ }
 {
     match how {
         ReportEnd::Done => Status::Done,
         ReportEnd::Unwritten => Status::WriteFault,
-        ReportEnd::DiskFailed => close(out, line, &Entry::DiskFault, Status::DiskFault),
-        ReportEnd::Alien => close(out, line, &Entry::JournalAlien, Status::JournalLost),
-        ReportEnd::Bad { index } => {
+        ReportEnd::Unread(OpenNo::Disk) => {
+            close(out, line, &Entry::DiskFault, Status::DiskFault)
+        }
+        ReportEnd::Unread(OpenNo::Alien) => {
+            close(out, line, &Entry::JournalAlien, Status::JournalLost)
+        }
+        ReportEnd::Unread(OpenNo::BadRecord { index }) => {
             close(out, line, &Entry::JournalBad { index }, Status::JournalLost)
         }
     }

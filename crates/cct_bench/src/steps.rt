@@ -1,12 +1,11 @@
 //! The step lines of a script.
-ghost use Rattle.std.specs.Prelude.{◌≡◌, ◌≤◌, ◌+◌, false, Err, OnOk, MatchResult};
+ghost use Rattle.std.specs.Prelude.{◌≡◌, ◌+◌, false, Err, OnOk, MatchResult};
 ghost use Rattle.std.specs.Result.{IfErr};
-ghost use Rattle.cct_edge.specs.Bytes.{TellsAsBefore};
-ghost use Rattle.cct_edge.specs.Faults.{Rose};
+ghost use Rattle.cct_edge.specs.Bytes.{Serves};
 ghost use Rattle.cct_model.specs.Script.{at_steps, refuses, read_form};
 ghost use Rattle.cct_script.specs.Giving.{standing_of};
 ghost use Rattle.cct_world.specs.World.{setup_of};
-ghost use Rattle.cct_bench.specs.Lines.{IsNext, ScriptGoesOn, StopsAt, Came};
+ghost use Rattle.cct_bench.specs.Lines.{IsNext, ScriptGoesOn, StopsAt, WithMoreTaken};
 ghost use Rattle.cct_bench.specs.Playing.{is_end, read_as, CanPlay};
 
 use crate::lines::{ScriptStop, before_end};
@@ -53,16 +52,14 @@ pub fn read_step<S: Source, D: Disk>(
     step: &mut Step,
 ) -> Result<(), ScriptStop>
     requires { IsNext number (standing_of lines.old) }
-    ensures reads { OnOk result (Came (standing_of lines.old).held (S.left script.old) (S.left script.new)
+    ensures reads { OnOk result (WithMoreTaken (standing_of lines.old).held (S.left script.old) (S.left script.new)
         (λ held. ScriptGoesOn number (at_steps (setup_of world.now)) held (read_as (setup_of world.now) step.new)
         (standing_of lines.new).held)) }
     ensures can { OnOk result (is_end step.new ≡ false → CanPlay (setup_of world.now) step.new) }
     ensures next { OnOk result (IsNext (number + 1) (standing_of lines.new)) }
-    ensures stops { IfErr result (λ why. Came (standing_of lines.old).held (S.left script.old) (S.left script.new)
+    ensures stops { IfErr result (λ why. WithMoreTaken (standing_of lines.old).held (S.left script.old) (S.left script.new)
         (StopsAt number (at_steps (setup_of world.now)) why (S.left script.new))) }
-    ensures tells { TellsAsBefore (S.left script.old) (S.left script.new) }
-    ensures later { S.faults script.old ≤ S.faults script.new }
-    ensures cause { result ≡ Err ScriptStop.Unread → Rose (S.faults script.old) (S.faults script.new) }
+    ensures source { Serves S.left S.faults script.old script.new (result ≡ Err ScriptStop.Unread) }
 {
     let line = before_end(lines.line(script))?;
     match take_step_line(world, line, step) {

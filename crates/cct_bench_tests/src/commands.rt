@@ -149,7 +149,7 @@ fn report(alloc: Global, puts: &[u64], disk: MemDisk) -> Result<(Status, Vec<u8>
     play(alloc, &["report"], Vec::new(alloc), 1, &[1], puts, disk)
 }
 
-/// What a report tells behind the run of a posted coin.
+/// What a report tells after the run of a posted coin.
 const LISTED: &[u8] = b"record 0 epoch 2 ffff\nrecord 1 reading 2 1 0 5/1\ntotal 1 0 0 0 0\n";
 
 #[test]
@@ -247,7 +247,7 @@ fn a_report_stops_at_each_fault_of_the_disk(rt: HostRuntime) -> Result<(), Fail>
     Ok(())
 }
 
-/// A byte that is set on the disk behind the run of a posted coin, and how a report then ends. Slots have 32 bytes: the
+/// A byte that is set on the disk after the run of a posted coin, and how a report then ends. Slots have 32 bytes: the
 /// header has the first, the epoch the second, and the reading the third.
 const POKED: [(u64, u8, Status, &[u8]); 28] = [
     // the header
@@ -307,7 +307,7 @@ const POKED: [(u64, u8, Status, &[u8]); 28] = [
         Status::Done,
         b"record 0 epoch 2 ffff\ntotal 0 0 0 0 0\n",
     ),
-    // behind the end
+    // after the end
     (96, 0xa5, Status::JournalLost, b"journal bad 2\n"),
     (96, 0xa4, Status::Done, LISTED),
     (97, 1, Status::Done, LISTED),

@@ -1,4 +1,4 @@
-//! Losses of power in the midst of a script: where a record is kept, what the host knows behind them, and disks that
+//! Power cuts in the midst of a script: where a record is kept, what the host knows after them, and disks that
 //! fail in one.
 
 use crate::runs::{CALLS, DISK, POSTED, POSTED_TEXT, disk, left_by_a_cut, lines_and, play};
@@ -13,7 +13,7 @@ const SCRIPT_LINES: usize = 27;
 
 const TEXT_LINES: usize = 10;
 
-/// A loss of power in the place of the put of a reading, and whether its record is kept. Its gate stands at place 64.
+/// A power cut in the place of the put of a reading, and whether its record is kept. Its gate stands at place 64.
 const READING_LOST: [(&str, bool); 40] = [
     // no put is named
     ("crash 0", false),
@@ -62,7 +62,7 @@ const READING_LOST: [(&str, bool); 40] = [
     ("crash 2 4 3", true),
 ];
 
-/// What is told where the reading is lost, and where it is kept: by the crash, and by a whole round behind it.
+/// What is told where the reading is lost, and where it is kept: by the crash, and by a whole round after it.
 const NOT_KEPT: &[u8] = b"crash 1\n";
 
 const KEPT: &[u8] = b"crash 2\nkept reading 2 1 0 5/1\n";
@@ -98,7 +98,7 @@ fn a_reading_is_kept_or_posted_again(rt: HostRuntime) -> Result<(), Fail> {
     Ok(())
 }
 
-/// What is played behind a coin of value 100 that was posted, by an acceptor at 2 and with a hopper at 3, and the last
+/// What is played after a coin of value 100 that was posted, by an acceptor at 2 and with a hopper at 3, and the last
 /// lines that it gives.
 const BEHIND: [(&[u8], &[u8]); 15] = [
     // an order that was opened, and not paid yet: no second dispense is sent
@@ -123,7 +123,7 @@ const BEHIND: [(&[u8], &[u8]); 15] = [
         b"pay 3 41 4\nnext 3\nnext 3\nbalance\ncrash 3 2 1\nbalance\nsettle 3\nhalt 3\npay 3 41 4\n",
         b"\nbalance 60 40 0 0\ncrash 2\nbalance 100 0 0 0\nno settle 3 noorder\nno halt 3 nopayout\nok pay 3 41 4\n",
     ),
-    // coins fall before and behind the crash
+    // coins fall before and after the crash
     (
         b"pay 3 41 4\nnext 3\nnext 3\nnext 3\nnext 3\nfall 3\ncrash 3 4 1\nfall 3\nfall 3\nfall 3\nfall 3\nsettle 3\n\
           next 3\nnext 3\nnext 3\nbalance\n",
@@ -188,7 +188,7 @@ const BEHIND: [(&[u8], &[u8]); 15] = [
     ),
 ];
 
-/// A coin of value 100 is posted, and this is played behind it.
+/// A coin of value 100 is posted, and this is played after it.
 fn behind_a_coin(alloc: Global, steps: &[u8]) -> Result<Vec<u8>, Fail> {
     let mut script = lines_and(
         alloc,
@@ -283,7 +283,7 @@ const FIRST: &[u8] = b"put epoch 2 ffff\n";
 
 const BOTH: &[u8] = b"put epoch 2 ffff\nput reading 2 1 0 5/1\n";
 
-/// A loss of power in the place of the put of a reading, behind so many of its calls.
+/// A power cut in the place of the put of a reading, after so many of its calls.
 const FAILING: [(&str, u64); 6] = [
     ("crash 1", 0),
     ("crash 2 0 1", 0),
@@ -296,8 +296,8 @@ const FAILING: [(&str, u64); 6] = [
 /// How many calls of the disk were made before the step that puts the reading.
 const CALLS_BEFORE: u64 = CALLS - 4;
 
-/// A loss of power in the place of a put, behind so many of its calls, while the disk's call of this number fails. A
-/// failure is told, and a further loss of power then leaves the record that was put before, or one more.
+/// A power cut in the place of a put, after so many of its calls, while the disk's call of this number fails. A
+/// failure is told, and a further power cut then leaves the record that was put before, or one more.
 fn fails_by(
     rt: &impl Abort,
     alloc: Global,
@@ -325,14 +325,14 @@ fn fails_by(
     Ok(status)
 }
 
-/// How many calls a loss of power makes in all, so many of a put among them: it cuts the power, and reads the header, the
-/// slot of each record, and the slot behind them.
+/// How many calls a power cut makes in all, so many of a put among them: it cuts the power, and reads the header, the
+/// slot of each record, and the slot after them.
 fn calls_of_a_loss(made: u64) -> u64 {
     let records: u64 = if made > 2 { 2 } else { 1 };
     made.saturating_add(1 + 1 + records + 1)
 }
 
-// Each of these calls may fail, and there is none behind them.
+// Each of these calls may fail, and there is none after them.
 #[test]
 fn a_loss_of_power_stops_at_each_fault_of_the_disk(rt: HostRuntime) -> Result<(), Fail> {
     let alloc = rt.alloc();

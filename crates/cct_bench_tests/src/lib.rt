@@ -1,4 +1,4 @@
-//! Tests of the bench: runs, losses of power in the midst of a script, the words of the command line, reports and loads.
+//! Tests of the bench: runs, power cuts in the midst of a script, the words of the command line, reports and loads.
 #![tactic(auto)]
 
 #[cfg(test)]

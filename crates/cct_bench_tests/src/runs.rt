@@ -108,7 +108,7 @@ fn play_words(
     Ok((status, written))
 }
 
-/// The first so many lines of a text, and behind them a last one.
+/// The first so many lines of a text, and after them a last one.
 pub(crate) fn lines_and(
     alloc: Global,
     text: &[u8],
@@ -300,7 +300,7 @@ fn stops_at_each_fault_of_the_disk(rt: HostRuntime) -> Result<(), Fail> {
     Ok(())
 }
 
-/// The records that a loss of power leaves of a journal, each as the line of its put, or none where it leaves no header.
+/// The records that a power cut leaves of a journal, each as the line of its put, or none where it leaves no header.
 pub(crate) fn left_by_a_cut(
     alloc: Global,
     disk: MemDisk,
@@ -322,7 +322,7 @@ pub(crate) fn left_by_a_cut(
     Ok(Some(sink.bytes().to_vec(alloc)?))
 }
 
-/// Behind a run whose disk's call with this number failed, each loss of power leaves the records that were told as put,
+/// After a run whose disk's call with this number failed, each power cut leaves the records that were told as put,
 /// or one more.
 fn try_cuts(rt: &impl Abort, alloc: Global, call: u64) -> Result<(), Fail> {
     for choice in 0..4u64 {

@@ -23,7 +23,7 @@ pub rest_is : (devices all : List Device) (i : ℕ) (y : Device) → i < length 
 rest_is devices all i y within is later =
     sym later ∙ drop_more devices i y within ∙ ap (λ d. d ∷ drop (i + 1) devices) (sym is) ∙ ap (λ ds. y ∷ ds) (drop_more_same devices all i later)
 
--- the devices behind one that changed are those behind it before
+-- the devices after one that changed are those after it before
 pub later_kept : (devices all : List Device) (i : ℕ) (x : Device) → drop i devices ≡ drop i all → drop (i + 1) (set devices i x) ≡ drop (i + 1) all
 later_kept devices all i x later = drop-set-lt (i + 1) devices i x (omega arith) ∙ drop_more_same devices all i later
 
@@ -56,7 +56,7 @@ stand_more devices all i x y piece history within same rest hears stand before =
 abbrev pub answer_of : List ℕ → (DeviceSetup → List Met) → DeviceSetup → List ℕ
 answer_of piece history d = unwrap_or (answer d (history d) piece) []
 
--- the answers of the devices that are left, behind what was said, are all answers
+-- the answers of the devices that are left, after what was said, are all answers
 pub answers_more : (all : List Device) (i : ℕ) (y : Device) (piece before said after whole : List ℕ) (history : DeviceSetup → List Met) → drop i all ≡ y ∷ drop (i + 1) all
     → ((past : List Met) → Lived y past → said ≡ unwrap_or (answer (setup_in y) past piece) []) → All (Stands history) all → after ≡ before ++ said
     → before ++ flat_map (answer_of piece history) (setups_in (drop i all)) ≡ whole → after ++ flat_map (answer_of piece history) (setups_in (drop (i + 1) all)) ≡ whole

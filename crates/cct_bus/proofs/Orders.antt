@@ -82,7 +82,7 @@ answered_by_address piece [] = refl
 answered_by_address piece (d ∷ ds) =
     answered_put piece d (by_address ds) ∙ ap (λ n. most_said d.addr piece + n) (answered_by_address piece ds)
 
--- a device answers a piece for all by one byte at the most, and a piece for another by none
+-- a device answers a piece for all by one byte at most, and a piece for another by none
 said_to_all : (addr : ℕ) (piece : List ℕ) → slice_index piece 0 ≡ 0 → 2 ≤ addr → most_said addr piece ≤ 1
 said_to_all addr piece to_all low = grind (arith, nat_tests)
 
@@ -115,7 +115,7 @@ said_by_none piece (d ∷ ds) to_one none =
     let sum : most_said d.addr piece + most_answered piece ds ≡ 0 = omega arith in
     sum
 
--- to one address one answers at the most
+-- to one address one answers at most
 said_by_one : (piece : List ℕ) (devices : List DeviceSetup) → slice_index piece 0 ≢ 0 → AreDistinct devices → most_answered piece devices ≤ 260
 said_by_one piece [] to_one distinct = omega arith
 said_by_one piece (d ∷ ds) to_one distinct =

@@ -147,6 +147,7 @@ impl<'s> Bus<'s> {
     pub fn fall(&mut self, addr: u8) -> bool
         requires there { IsTrue (known_there happening.Fall (device_at (setup_of self.old).devices addr)) }
         ensures setup { setup_of self.new ≡ setup_of self.old }
+        // True exactly if that hopper had coins left to pay.
         ensures stands { (past : List Entry) → StandsFor self.old past
             → OfKnowing happening.Fall (device_at (setup_of self.old).devices addr)
             (λ d. (result ≡ not (remaining d.serial (met d past) == 0))

@@ -17,7 +17,7 @@ pub(crate) fn heard_by_devices<'a>(fault: &'a WireFault, sent: &'a [u8]) -> &'a 
     }
 }
 
-/// Makes of its echo and the answers behind it what the host hears under a fault.
+/// Makes of its echo and the answers after it what the host hears under a fault.
 pub(crate) fn heard_by_host(fault: &WireFault, sent: &[u8], heard: &mut ArrayVec<u8, MOST_HEARD>)
     requires sent { length sent.now ≤ MOST_SENT }
     requires short { (piece : List ℕ) → fault.now ≡ WireFault.HostHears piece → length piece ≤ MOST_SENT }

@@ -11,7 +11,7 @@ use crate::device::Device;
 use arrayvec::ArrayVec;
 use cct_model::{MOST_HEARD, MOST_SENT};
 
-/// Every device hears a piece, byte by byte, and then a gap. What they answer goes behind what `answers` holds, in the
+/// Every device hears a piece, byte by byte, and then a gap. What they answer goes after what `answers` holds, in the
 /// order of the devices; `frame` is room for one answer.
 pub(crate) fn all_hear(
     devices: &mut [Device<'_>],
@@ -32,7 +32,7 @@ pub(crate) fn all_hear(
     }
 }
 
-/// Puts what a device said behind what others said: mostly it is silent.
+/// Puts what a device said after what others said: mostly it is silent.
 fn put_behind(said: &[u8], answers: &mut ArrayVec<u8, MOST_HEARD>)
     requires { length answers.old.items + length said.now ≤ MOST_HEARD }
     ensures { answers.new.items ≡ answers.old.items ++ said.now }

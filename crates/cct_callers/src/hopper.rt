@@ -27,7 +27,7 @@ fn setup() -> DeviceSetup
     }
 }
 
-/// What the hopper says to bytes that come one by one and a gap after them: nothing where it is silent.
+/// What the hopper answers to bytes that come one by one, and a gap after them: nothing if it is silent.
 fn answer(hopper: &mut Hopper<'_>, bytes: &[u8]) -> ArrayVec<u8, MOST_SENT> {
     let mut answer = ArrayVec::new();
     for byte in bytes {
@@ -44,7 +44,7 @@ fn a_payout_ends_with_a_jam(rt: HostRuntime) -> Result<(), Fail> {
         panic!(rt; "a hopper is off after power-up");
     };
 
-    // Each state is a type. Off has no call that pays; idle pays only where the serial number is its own.
+    // Each state is a type. Off has no call that pays; idle pays only if the serial number is its own.
     let idle = off.enable();
     let Err((idle, DispenseNo::WrongSerial)) = idle.dispense(SERIAL + 1, 4) else {
         panic!(rt; "another hopper's serial number");
@@ -53,7 +53,7 @@ fn a_payout_ends_with_a_jam(rt: HostRuntime) -> Result<(), Fail> {
         panic!(rt; "its own serial number");
     };
 
-    // Paying has no call that dispenses. A coin that falls is one fewer, and behind the last one it is idle.
+    // Paying has no call that dispenses. A coin that falls is one fewer, and after the last one it is idle.
     let AfterFall::Paying(paying) = paying.fall() else {
         panic!(rt; "three are left");
     };
@@ -69,7 +69,7 @@ fn a_payout_ends_with_a_jam(rt: HostRuntime) -> Result<(), Fail> {
         b"\x01\x04\x03\x00\x01\x00\x02\x02\xf3".as_slice()
     );
 
-    // Header 168 reads the life count, low byte first: behind ffffff comes 000000.
+    // Header 168 reads the life count, low byte first: after ffffff comes 000000.
     let heard = answer(&mut hopper, b"\x03\x00\x01\xa8\x54");
     assert_eq!(rt;
         heard.as_slice(),

@@ -1,4 +1,4 @@
-//! A journal on a disk in memory: one record is put, and the power fails in the put of the next one.
+//! A journal on a disk in memory: one record is put, and the power is cut in the put of the next one.
 
 use cct_disk::{Disk, MemDisk};
 use cct_journal::Journal;
@@ -34,14 +34,14 @@ fn is_opened(record: &Record) -> bool {
 }
 
 #[test]
-fn a_record_outlives_a_loss_of_power(rt: HostRuntime) -> Result<(), Fail> {
+fn a_record_outlives_a_power_cut(rt: HostRuntime) -> Result<(), Fail> {
     let alloc = rt.alloc();
     // The header has 32 bytes, and each record too: here is room for three.
     let disk = MemDisk::new(alloc, 128, Vec::new(alloc))?;
     let mut journal = Journal::create(disk).map_err(|(_, why)| why)?;
     journal.put(&OPENED)?;
 
-    // The power fails behind the second of the four disk calls of a put: the body was written and synced, and the gate
+    // The power is cut after the second of the four disk calls of a put: the body was written and synced, and the gate
     // that makes it count wasn't.
     assert!(rt; journal.used() < journal.capacity());
     let mut disk = journal.put_calls(&CLOSED, 2).map_err(|(_, failed)| failed)?;

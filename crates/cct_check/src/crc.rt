@@ -46,6 +46,7 @@ pub fn crc16(bytes: &[u8]) -> u16
 #[tactic(auto, using(crate::proofs::Registers::after_by_place, crate::proofs::Registers::crc_push))]
 pub fn crc16_step(crc: u16, byte: u8) -> u16
     ensures register { result ≡ crc_after crc byte }
+    // So the CRC of a message can be taken byte by byte, as its bytes come.
     ensures longer { (bytes : List ℕ) → crc ≡ crc_of bytes → result ≡ crc_of (bytes ++ byte ∷ []) }
 {
     eight_shifts((crc >> 8) as u8 ^ byte) ^ (crc << 8)

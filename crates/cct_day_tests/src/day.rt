@@ -1,4 +1,4 @@
-//! A day's use, and the same day with one more loss of power: whatever is lost, the coins that were accepted, posted and
+//! A day's use, and the same day with one more power cut: whatever is lost, the coins that were accepted, posted and
 //! paid, the balance, and the records on the disk agree at its end.
 
 use cct_bench::{Status, bench};
@@ -36,7 +36,7 @@ const ROUNDS: Lines = &[
     (3, "next 4"),
 ];
 
-/// Six payouts of three hoppers, of which one jams and one is settled behind a loss of power, and a sale.
+/// Six payouts of three hoppers, of which one jams and one is settled after a power cut, and a sale.
 const PAYOUTS: Lines = &[
     (1, "pay 3 1 10"),
     (4, "next 3"),
@@ -322,7 +322,7 @@ fn written_by(rt: &impl Abort, alloc: Global, script: &str) -> Result<(String, S
     Ok((transcript, report))
 }
 
-/// Plays the day with a loss of power more, up to which and by which this is told, and holds its end against its lines.
+/// Plays the day with a power cut more, up to which and by which this is told, and holds its end against its lines.
 /// No acceptor is reset once it is started, so each coin that one accepts is posted, or told as lost.
 fn agrees(
     rt: &impl Abort,
@@ -354,7 +354,7 @@ fn agrees(
     Ok(transcript)
 }
 
-/// Whether a line of a transcript is the first of its step: the end of a job and a record that was kept stand behind
+/// Whether a line of a transcript is the first of its step: the end of a job and a record that was kept stand after
 /// another line.
 fn begins_step(line: &str) -> bool {
     !matches!(
@@ -444,8 +444,8 @@ fn a_day_outlasts_a_crash_before_each_step(rt: HostRuntime) -> Result<(), Fail> 
     Ok(())
 }
 
-/// Plays the day once more for each of its puts and each of these choices of what a loss of power leaves: it is in the
-/// place of that put, behind so many of its calls. With each choice stands whether the record is kept.
+/// Plays the day once more for each of its puts and each of these choices of what a power cut leaves: it is in the
+/// place of that put, after so many of its calls. With each choice stands whether the record is kept.
 fn outlasts(
     rt: &impl Abort,
     alloc: Global,

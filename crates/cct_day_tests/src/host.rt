@@ -164,7 +164,7 @@ fn a_payment_wants_room_for_two_records(rt: HostRuntime) -> Result<(), Fail> {
     Ok(())
 }
 
-/// How many records there are behind a loss of power in the put of a reading, or none where the disk failed, one of whose
+/// How many records there are after a power cut in the put of a reading, or none where the disk failed, one of whose
 /// calls fails.
 fn crashed(setup: &Setup, alloc: Global, fails: u64) -> Result<Option<u32>, Fail>
     requires { IsSoundSetup setup.now }

@@ -1,4 +1,4 @@
-//! Tests of a host by itself, and of days of use with one more loss of power.
+//! Tests of a host by itself, and of days of use with one more power cut.
 #![tactic(auto)]
 
 #[cfg(test)]

@@ -88,6 +88,8 @@ impl Listener {
     #[tactic(auto, using(crate::proofs::Listening::asks_nothing))]
     pub fn asked(&self, setup: &DeviceSetup) -> Option<Asked>
         requires { kind_of self.now ≡ setup.now.kind }
+        // The bytes since the last gap ask nothing of a device if they are no message under its check, or are for
+        // another address, though it takes in no byte of a message for another.
         ensures { (bytes : List ℕ) → HeardSince self.now setup.now.addr bytes
             → MatchOption result (asks_of setup.now bytes ≡ None)
             (λ asked. (asks_of setup.now bytes ≡ Some asked.request)

@@ -23,6 +23,7 @@ const REVISION: Reply<'static> = Reply::Revision {
 #[tactic(auto, unfolding(cct_terms::specs::Device::common_reply))]
 pub fn common_reply<'s>(setup: &'s DeviceSetup, request: Request) -> Option<Reply<'s>>
     requires serial { setup.now.serial < 2 ^ 24 }
+    // A reset is acknowledged here, and its kind of device carries it out.
     ensures reply { option_map reply_shown result ≡ common_reply setup.now request }
     ensures sayable { IfSome result (λ y. IsSayable (reply_shown y)) }
 {

@@ -82,7 +82,7 @@ module _ (span : Span) (past : List Change) (replaced old new : List ℕ)
         (λ from. ⊎_elim (λ to. inside p from to) (λ more. beside p (inr more) synced) (cases_lt p (span.at + span.len)))
         (cases_lt p span.at)
 
-    -- an image behind a write is one before it, but for the span
+    -- an image after a write is one before it, but for the span
     pub wrote_follows : (d : List ℕ) × IsImage past old d × SameOutside span.at span.len d image
     wrote_follows = (
       image_before,

@@ -99,7 +99,7 @@ left_since content t image = IsImageSince content.past content.replaced content.
 
 -- from one content to another the clock goes on
 abbrev pub ElapsesTo : Content → Content → Type 0
-ElapsesTo old new = Elapses (length old.past) (length new.past) (left_since old) (left_since new) (may_leave new)
+ElapsesTo = Elapses (λ (content : Content). length content.past) left_since may_leave
 
 -- the content after a cut: all is settled, and what the cut replaced is kept
 pub record IsCut (choice : ℕ) (old new : Content) : Type 0 where

@@ -1,6 +1,6 @@
 -- What contracts see of a disk over a file.
-use Rattle.std.specs.Prelude.{◌≡◌, ℕ, Bool, Result, is_some, MatchResult}
-use Rattle.cct_edge.specs.Faults.{next_count}
+use Rattle.std.specs.Prelude.{ℕ, Bool, false, None, is_some}
+use Rattle.cct_disk.specs.Disk.{GoesOn, Outlasts}
 use Rattle.cct_disk.specs.declared.file.FileDisk.{FileDisk}
 
 -- there is a file, of which no sync failed
@@ -19,6 +19,10 @@ file_faults disk = disk.faults
 abbrev pub file_cuts : {R F D : Type 0} → FileDisk R F D → ℕ
 file_cuts disk = disk.cuts
 
--- an error counts one more fault, and nothing else does
-abbrev pub CountsFaults : {T E : Type 0} → ℕ → ℕ → Result T E → Type 0
-CountsFaults before now result = MatchResult result (λ _. now ≡ before) (λ _. now ≡ next_count before)
+-- from one disk to another it goes on
+abbrev pub FileGoesOn : {R F D : Type 0} → FileDisk R F D → FileDisk R F D → Type 0
+FileGoesOn = GoesOn file_len (λ _. false) (λ _. None) file_cuts
+
+-- and outlasts a cut
+abbrev pub FileOutlasts : {R F D : Type 0} → FileDisk R F D → FileDisk R F D → Type 0
+FileOutlasts = Outlasts file_len (λ _. false) (λ _. None) file_cuts

@@ -1,7 +1,8 @@
 -- The value as which contracts see a disk in memory, and what a call makes of it.
-use Rattle.std.specs.Prelude.{◌≡◌, ℕ, ◌+◌, List, length}
-use Rattle.cct_edge.specs.Faults.{next_count}
+use Rattle.std.specs.Prelude.{◌≡◌, ◌↔◌, ℕ, ◌+◌, true, Some, List, length, Result, IsErr, OnOk, OnErr}
+use Rattle.cct_edge.specs.Faults.{HasCause, next_count}
 use Rattle.cct_disk.specs.Content.{Content, IsCut}
+use Rattle.cct_disk.specs.Disk.{GoesOn, Outlasts}
 use Rattle.cct_disk.specs.Traced.{PassesRoom}
 
 -- its content, how many writes, syncs and cuts changed it, the numbers of the calls that fail, and how many calls,
@@ -34,3 +35,22 @@ after_change content disk = record disk { content = content; changes = disk.chan
 pub record IsAfterCut (choice : ℕ) (old new : MemoryDisk) : Type 0 where
   pub cut : IsCut choice old.content new.content
   pub others : new ≡ record (after_change new.content old) { cuts = next_count old.cuts }
+
+-- from one disk to another it goes on
+abbrev pub MemoryGoesOn : MemoryDisk → MemoryDisk → Type 0
+MemoryGoesOn =
+    GoesOn (λ (s : MemoryDisk). length s.content.bytes) (λ _. true) (λ s. Some s.content.bytes) (λ s. s.cuts)
+
+-- and outlasts a cut
+abbrev pub MemoryOutlasts : MemoryDisk → MemoryDisk → Type 0
+MemoryOutlasts =
+    Outlasts (λ (s : MemoryDisk). length s.content.bytes) (λ _. true) (λ s. Some s.content.bytes) (λ s. s.cuts)
+
+-- What a call answers, and what it leaves: it fails just where `Fails` holds, and then only counts the fault; else the
+-- new disk is as `After` says.
+pub record Answers {T E : Type 0} (Fails : Type 0) (After : MemoryDisk → Type 0) (old new : MemoryDisk)
+    (result : Result T E) : Type 0 where
+  pub fails : IsErr result ↔ Fails
+  pub after : OnOk result (After new)
+  pub after_fault : OnErr result (new ≡ after_fault old)
+  pub cause : HasCause old.faults new.faults result

@@ -59,3 +59,9 @@ pub record IsTraced (traced : Traced) : Type 0 where
   pub few_unsynced : traced.unsynced ≤ length traced.replaced.items
   pub is_unsynced : traced.unsynced ≡ unsynced_in (reverse traced.trace.items)
   pub cut_room : length traced.trace.items + writes_in (reverse traced.trace.items) ≤ 2 * traced.changes
+
+-- a disk has this content after so many changes, and its trace fits
+pub record IsTracedAs (content : Content) (changes : ℕ) (disk : Traced) : Type 0 where
+  pub traced : IsTraced disk
+  pub content_is : content_of disk ≡ content
+  pub changes_are : disk.changes ≡ changes

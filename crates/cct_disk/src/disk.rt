@@ -1,12 +1,12 @@
-// A disk of a fixed length, with what a read gives and what a loss of power may leave.
-ghost use Rattle.std.specs.Prelude.{◌≡◌, ℕ, ◌+◌, ◌≤◌, Bool, true, Option, Some, is_some, List, OnOk, OnErr};
+// A disk of a fixed length, with what a read gives and what a power cut may leave.
+ghost use Rattle.std.specs.Prelude.{◌≡◌, ℕ, ◌+◌, ◌≤◌, Bool, true, Option, Some, List, OnOk, OnErr};
 ghost use Rattle.std.specs.Prelude.{length, take, drop};
-ghost use Rattle.cct_disk.specs.Disk.{put_at, SameOutside, Follows, IsWithin, Only, Elapses};
-ghost use Rattle.cct_edge.specs.Faults.{HasCause, next_count};
+ghost use Rattle.cct_disk.specs.Disk.{put_at, SameOutside, Follows, IsWithin, Only, Elapses, GoesOn, Outlasts, IsCutBy, CountsCut};
+ghost use Rattle.cct_edge.specs.Faults.{HasCause};
 
 use cct_edge::Failed;
 
-/// A disk of a fixed number of bytes, which may lose its power between any two calls.
+/// A disk of a fixed number of bytes, whose power may be cut between any two calls.
 ///
 /// Of a disk that is honest and tells what a read gives, the clauses say all that may be relied on: bytes that were
 /// synced stay. `docs/JOURNAL.md` says what is trusted of it. A failed call may succeed when it is made again.
@@ -20,13 +20,13 @@ pub trait Disk {
     /// The bytes that a read gives, where the object tells them.
     ghost seen: { Self → Option (List ℕ) };
 
-    /// The images that a loss of power may leave now.
+    /// The images that a power cut may leave now.
     ghost may_leave: { Self → List ℕ → Type 0 };
 
     /// The clock: a number that never falls.
     ghost moment: { Self → ℕ };
 
-    /// The images that a loss of power might have left at some moment from that reading of the clock on, during a call
+    /// The images that a power cut might have left at some moment from that reading of the clock on, during a call
     /// or between two.
     ghost left_since: { Self → ℕ → List ℕ → Type 0 };
 
@@ -36,7 +36,7 @@ pub trait Disk {
     /// How often the power was cut: a count that each cut raises by one, and that stands still at 2^64 - 1.
     ghost cuts: { Self → ℕ };
 
-    /// What one loss of power does by its choice to the object, before and after it, as far as the object says: so a
+    /// What one power cut does by its choice to the object, before and after it, as far as the object says: so a
     /// caller can tell that it came from just one, and by which choice where that is said.
     ghost cut_to: { Self → ℕ → Self → Type 0 };
 
@@ -52,64 +52,56 @@ pub trait Disk {
         ensures room { length room.new ≡ length room.old }
         ensures seen { seen self.new ≡ seen self.old }
         ensures images { honest self.old ≡ true → IsWithin (may_leave self.old) (may_leave self.new) }
-        ensures size { size self.new ≡ size self.old }
-        ensures honest { honest self.new ≡ honest self.old }
-        ensures cuts { cuts self.new ≡ cuts self.old }
-        ensures time { Elapses (moment self.old) (moment self.new) (left_since self.old) (left_since self.new)
-            (may_leave self.new) }
+
+        // what it leaves alone, and why it fails
+        ensures goes_on { GoesOn size honest seen cuts self.old self.new }
+        ensures time { Elapses moment left_since may_leave self.old self.new }
         ensures cause { HasCause (faults self.old) (faults self.new) result };
 
-    /// Puts `bytes` in place of those from `at` on. Until a sync or a cut a loss of power may leave any bytes there,
+    /// Puts `bytes` in place of those from `at` on. Until a sync or a cut a power cut may leave any bytes there,
     /// also where the call failed; a read after a call that failed may give any there, too.
     fn write(&mut self, at: u64, bytes: &[u8]) -> Result<(), Failed>
         requires { at + length bytes.now ≤ size self.old }
         ensures written { OnOk result (honest self.old ≡ true → (s : List ℕ) → seen self.old ≡ Some s →
             seen self.new ≡ Some (put_at s at bytes.now)) }
+        // A write that failed may have changed what a read gives, but only in its own range.
         ensures torn { OnErr result (honest self.old ≡ true → (s : List ℕ) → seen self.old ≡ Some s →
             (c : List ℕ) × (seen self.new ≡ Some c) × SameOutside at (length bytes.now) s c) }
+        // Until a sync a power cut may leave anything in that range, and leaves every other byte as it might have left
+        // it before.
         ensures images { honest self.old ≡ true →
             Follows (SameOutside at (length bytes.now)) (may_leave self.old) (may_leave self.new) }
-        ensures tells { is_some (seen self.new) ≡ is_some (seen self.old) }
-        ensures size { size self.new ≡ size self.old }
-        ensures honest { honest self.new ≡ honest self.old }
-        ensures cuts { cuts self.new ≡ cuts self.old }
-        ensures time { Elapses (moment self.old) (moment self.new) (left_since self.old) (left_since self.new)
-            (may_leave self.new) }
+
+        // what it leaves alone, and why it fails
+        ensures goes_on { GoesOn size honest seen cuts self.old self.new }
+        ensures time { Elapses moment left_since may_leave self.old self.new }
         ensures cause { HasCause (faults self.old) (faults self.new) result };
 
-    /// Keeps what was written: from here on a loss of power leaves what a read gives. A call that fails may have kept
+    /// Keeps what was written: from here on a power cut leaves what a read gives. A call that fails may have kept
     /// some of it.
     fn sync(&mut self) -> Result<(), Failed>
+        // There is exactly one image then.
         ensures kept { OnOk result (honest self.old ≡ true → (s : List ℕ) → seen self.new ≡ Some s →
             Only s (may_leave self.new)) }
         ensures seen { honest self.old ≡ true → seen self.new ≡ seen self.old }
         ensures images { honest self.old ≡ true → IsWithin (may_leave self.old) (may_leave self.new) }
-        ensures tells { is_some (seen self.new) ≡ is_some (seen self.old) }
-        ensures size { size self.new ≡ size self.old }
-        ensures honest { honest self.new ≡ honest self.old }
-        ensures cuts { cuts self.new ≡ cuts self.old }
-        ensures time { Elapses (moment self.old) (moment self.new) (left_since self.old) (left_since self.new)
-            (may_leave self.new) }
+
+        // what it leaves alone, and why it fails
+        ensures goes_on { GoesOn size honest seen cuts self.old self.new }
+        ensures time { Elapses moment left_since may_leave self.old self.new }
         ensures cause { HasCause (faults self.old) (faults self.new) result };
 
-    /// Loses the power: from here on a read gives one of the images that this might leave, which one by `choice`, and
-    /// a further loss of power leaves just that. A call that fails cuts nothing.
+    /// Cuts the power: from here on a read gives one of the images that this might leave, which one by `choice`, and a
+    /// further power cut leaves just that. A call that fails cuts nothing.
     fn power_cut(&mut self, choice: u64) -> Result<(), Failed>
-        ensures left { OnOk result (honest self.old ≡ true → (s : List ℕ) → seen self.new ≡ Some s →
-            may_leave self.old s) }
-        ensures kept { OnOk result (honest self.old ≡ true → (s : List ℕ) → seen self.new ≡ Some s →
-            Only s (may_leave self.new)) }
+        ensures cut { OnOk result (IsCutBy honest seen may_leave cut_to choice self.old self.new) }
         ensures seen { OnErr result (honest self.old ≡ true → seen self.new ≡ seen self.old) }
         ensures images { honest self.old ≡ true → IsWithin (may_leave self.old) (may_leave self.new) }
-        ensures tells { is_some (seen self.new) ≡ is_some (seen self.old) }
-        ensures size { size self.new ≡ size self.old }
-        ensures honest { honest self.new ≡ honest self.old }
-        ensures one { OnOk result (cut_to self.old choice self.new) }
-        ensures cut { OnOk result (cuts self.new ≡ next_count (cuts self.old)) }
-        ensures not_cut { OnErr result (cuts self.new ≡ cuts self.old) }
-        ensures cuts { cuts self.old ≤ cuts self.new }
-        ensures time { Elapses (moment self.old) (moment self.new) (left_since self.old) (left_since self.new)
-            (may_leave self.new) }
+        ensures counted { CountsCut (cuts self.old) (cuts self.new) result }
+
+        // what it leaves alone, and why it fails
+        ensures outlasts { Outlasts size honest seen cuts self.old self.new }
+        ensures time { Elapses moment left_since may_leave self.old self.new }
         ensures cause { HasCause (faults self.old) (faults self.new) result };
 
     /// What a read gives is as long as the disk.

@@ -1,7 +1,8 @@
 // A disk over a file, which tells nothing of its bytes.
-ghost use Rattle.std.specs.Prelude.{◌≡◌, ◌≤◌, ◌↔◌, false, true, None, IsTrue, IsOk, IsErr, OnOk, OnErr, length};
-ghost use Rattle.cct_edge.specs.Faults.{HasCause, next_count};
-ghost use Rattle.cct_disk.specs.File.{CountsFaults, is_open, file_len, file_faults, file_cuts};
+ghost use Rattle.std.specs.Prelude.{◌≡◌, ◌↔◌, false, true, None, IsTrue, IsOk, IsErr, OnOk, OnErr, length};
+ghost use Rattle.cct_edge.specs.Faults.{CountsFaults, next_count};
+ghost use Rattle.cct_disk.specs.Disk.{CountsCut};
+ghost use Rattle.cct_disk.specs.File.{FileGoesOn, FileOutlasts, is_open, file_len, file_faults, file_cuts};
 ghost use Rattle.cct_disk.specs.Laws.{untold_fits};
 
 use crate::Disk;
@@ -16,8 +17,8 @@ pub const MADE_LEN: u64 = 2_097_152;
 
 /// A disk over a file, which tells nothing of its bytes. `docs/JOURNAL.md` says what a real file does and doesn't do.
 ///
-/// A cut leaves what was written, and answers Ok where there is a file. Behind a sync that failed there is none, and
-/// each call fails: the system may have dropped what was to be synced, and answer a later sync as done all the same.
+/// A cut leaves what was written, and answers Ok where there is a file. After a sync that failed there is none, and each
+/// call fails: the system may have dropped what was to be synced, and answer a later sync as done all the same.
 #[derive(Drop)]
 pub struct FileDisk<R: Files> {
     file: Option<R::File>,
@@ -80,7 +81,6 @@ fn write_at<F: Write + Seek>(file: &mut F, at: u64, bytes: &[u8]) -> io::Result<
 // The answer of a call that was done or not, which counts one more fault in the latter case.
 fn answer(done: bool, faults: &mut u64) -> Result<(), Failed>
     ensures done { IsOk result ↔ IsTrue done }
-    ensures cause { HasCause faults.old faults.new result }
     ensures counted { CountsFaults faults.old faults.new result }
 {
     if done {
@@ -123,9 +123,7 @@ impl<R: Files> Disk for FileDisk<R> {
 
     fn read(&mut self, at: u64, room: &mut [u8]) -> Result<(), Failed>
         ensures room { length room.new ≡ length room.old }
-        ensures size { file_len self.new ≡ file_len self.old }
-        ensures cuts { file_cuts self.new ≡ file_cuts self.old }
-        ensures cause { HasCause (file_faults self.old) (file_faults self.new) result }
+        ensures goes_on { FileGoesOn self.old self.new }
         ensures counted { CountsFaults (file_faults self.old) (file_faults self.new) result }
         ensures closed { is_open self.old ≡ false → IsErr result }
         ensures open { is_open self.new ≡ is_open self.old }
@@ -138,9 +136,7 @@ impl<R: Files> Disk for FileDisk<R> {
     }
 
     fn write(&mut self, at: u64, bytes: &[u8]) -> Result<(), Failed>
-        ensures size { file_len self.new ≡ file_len self.old }
-        ensures cuts { file_cuts self.new ≡ file_cuts self.old }
-        ensures cause { HasCause (file_faults self.old) (file_faults self.new) result }
+        ensures goes_on { FileGoesOn self.old self.new }
         ensures counted { CountsFaults (file_faults self.old) (file_faults self.new) result }
         ensures closed { is_open self.old ≡ false → IsErr result }
         ensures open { is_open self.new ≡ is_open self.old }
@@ -153,12 +149,12 @@ impl<R: Files> Disk for FileDisk<R> {
     }
 
     fn sync(&mut self) -> Result<(), Failed>
-        ensures size { file_len self.new ≡ file_len self.old }
-        ensures cuts { file_cuts self.new ≡ file_cuts self.old }
-        ensures cause { HasCause (file_faults self.old) (file_faults self.new) result }
+        ensures goes_on { FileGoesOn self.old self.new }
         ensures counted { CountsFaults (file_faults self.old) (file_faults self.new) result }
         ensures closed { is_open self.old ≡ false → IsErr result }
         ensures open { OnOk result (is_open self.new ≡ is_open self.old) }
+        // After a sync that failed there is no file any more: the system may have dropped what wasn't written, and
+        // report a later sync as done.
         ensures given_up { OnErr result (is_open self.new ≡ false) }
     {
         let done = match &self.file {
@@ -172,11 +168,8 @@ impl<R: Files> Disk for FileDisk<R> {
     }
 
     fn power_cut(&mut self, _choice: u64) -> Result<(), Failed>
-        ensures size { file_len self.new ≡ file_len self.old }
-        ensures cut { OnOk result (file_cuts self.new ≡ next_count (file_cuts self.old)) }
-        ensures not_cut { OnErr result (file_cuts self.new ≡ file_cuts self.old) }
-        ensures cuts { file_cuts self.old ≤ file_cuts self.new }
-        ensures cause { HasCause (file_faults self.old) (file_faults self.new) result }
+        ensures outlasts { FileOutlasts self.old self.new }
+        ensures cuts { CountsCut (file_cuts self.old) (file_cuts self.new) result }
         ensures counted { CountsFaults (file_faults self.old) (file_faults self.new) result }
         ensures opened { IsOk result ↔ (is_open self.old ≡ true) }
         ensures open { is_open self.new ≡ is_open self.old }

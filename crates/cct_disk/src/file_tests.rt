@@ -257,7 +257,7 @@ fn each_fault_of_a_file_is_told(rt: HostRuntime) {
 }
 
 #[test]
-fn each_call_behind_a_failed_sync_fails(rt: HostRuntime) {
+fn each_call_after_a_failed_sync_fails(rt: HostRuntime) {
     let files = Faulty {
         wrong: Wrong::Syncing,
         is_there: true,

@@ -1,12 +1,12 @@
 // A disk in memory that keeps a trace of its changes, and whose calls fail where they are told to.
 ghost use Rattle.std.specs.Prelude.{◌≡◌, ◌⊎◌, ◌↔◌, ◌+◌, ◌<◌, ◌≤◌, true, [], Some, IsErr, IfOk, OnOk, OnErr};
-ghost use Rattle.std.specs.Prelude.{ℕ, List, length, take, drop, set, replicate, reverse};
-ghost use Rattle.cct_edge.specs.Faults.{HasCause, next_count};
+ghost use Rattle.std.specs.Prelude.{ℕ, List, length, take, drop, set, replicate};
+ghost use Rattle.cct_edge.specs.Faults.{next_count};
 ghost use Rattle.cct_edge.specs.Memory.{FailsNext};
 ghost use Rattle.cct_disk.specs.Content.{written, settled, unsynced_in, may_leave, left_since, ElapsesTo};
-ghost use Rattle.cct_disk.specs.Disk.{put_at, SameOutside, Follows, IsWithin, Only};
+ghost use Rattle.cct_disk.specs.Disk.{SameOutside, Follows, IsWithin, Only};
 ghost use Rattle.cct_disk.specs.Traced.{IsTraced, HasRoom, PassesRoom};
-ghost use Rattle.cct_disk.specs.Memory.{LacksRoom, after_fault, after_read, after_change, IsAfterCut};
+ghost use Rattle.cct_disk.specs.Memory.{Answers, IsAfterCut, LacksRoom, MemoryGoesOn, MemoryOutlasts, after_change, after_read};
 ghost use Rattle.cct_disk.specs.Laws.{fits_bytes, bytes_are_image, now_counts, now_only};
 
 use crate::Disk;
@@ -138,12 +138,8 @@ impl Disk for MemDisk {
         ensures gives { OnOk result ((s : List ℕ) → Some self.old.content.bytes ≡ Some s →
             room.new ≡ take (length room.new) (drop at s)) }
         ensures room { length room.new ≡ length room.old }
-        ensures cause { HasCause self.old.faults self.new.faults result }
-
-        // which calls fail, and what either answer leaves
-        ensures fails { IsErr result ↔ FailsNext self.old.fails self.old.calls }
-        ensures after { OnOk result (self.new ≡ after_read self.old) }
-        ensures after_fault { OnErr result (self.new ≡ after_fault self.old) }
+        ensures answers { Answers (FailsNext self.old.fails self.old.calls) (λ now. now ≡ after_read self.old)
+            self.old self.new result }
     {
         self.calls.begin()?;
         let at = at as usize;
@@ -153,18 +149,12 @@ impl Disk for MemDisk {
 
     fn write(&mut self, at: u64, bytes: &[u8]) -> Result<(), Failed>
         requires { at + length bytes.now ≤ length self.old.content.bytes }
-        ensures size { length self.new.content.bytes ≡ length self.old.content.bytes }
-        ensures cuts { self.new.cuts ≡ self.old.cuts }
+        ensures goes_on { MemoryGoesOn self.old self.new }
         ensures images { Follows (SameOutside at (length bytes.now)) (may_leave self.old.content)
             (may_leave self.new.content) }
         ensures time { ElapsesTo self.old.content self.new.content }
-        ensures cause { HasCause self.old.faults self.new.faults result }
-
-        // which calls fail, and what either answer leaves
-        ensures fails { IsErr result ↔
-            (FailsNext self.old.fails self.old.calls ⊎ LacksRoom self.old (length bytes.now)) }
-        ensures after { OnOk result (self.new ≡ after_change (written at bytes.now self.old.content) self.old) }
-        ensures after_fault { OnErr result (self.new ≡ after_fault self.old) }
+        ensures answers { Answers (FailsNext self.old.fails self.old.calls ⊎ LacksRoom self.old (length bytes.now))
+            (λ now. now ≡ after_change (written at bytes.now self.old.content) self.old) self.old self.new result }
     {
         begin_change(&self.content, &mut self.calls, bytes.len())?;
         self.content.write(at as usize, bytes);
@@ -175,12 +165,8 @@ impl Disk for MemDisk {
         ensures kept { OnOk result (Only self.new.content.bytes (may_leave self.new.content)) }
         ensures images { IsWithin (may_leave self.old.content) (may_leave self.new.content) }
         ensures time { ElapsesTo self.old.content self.new.content }
-        ensures cause { HasCause self.old.faults self.new.faults result }
-
-        // which calls fail, and what either answer leaves
-        ensures fails { IsErr result ↔ (FailsNext self.old.fails self.old.calls ⊎ LacksRoom self.old 0) }
-        ensures after { OnOk result (self.new ≡ after_change (settled self.old.content) self.old) }
-        ensures after_fault { OnErr result (self.new ≡ after_fault self.old) }
+        ensures answers { Answers (FailsNext self.old.fails self.old.calls ⊎ LacksRoom self.old 0)
+            (λ now. now ≡ after_change (settled self.old.content) self.old) self.old self.new result }
     {
         begin_change(&self.content, &mut self.calls, 0)?;
         self.content.settle();
@@ -188,19 +174,16 @@ impl Disk for MemDisk {
     }
 
     fn power_cut(&mut self, choice: u64) -> Result<(), Failed>
-        ensures size { length self.new.content.bytes ≡ length self.old.content.bytes }
+        ensures outlasts { MemoryOutlasts self.old self.new }
+        // What a read gives is one of the images that the cut might leave.
         ensures left { OnOk result (may_leave self.old.content self.new.content.bytes) }
+        // A further cut leaves the same.
         ensures kept { OnOk result (Only self.new.content.bytes (may_leave self.new.content)) }
         ensures images { IsWithin (may_leave self.old.content) (may_leave self.new.content) }
         ensures time { ElapsesTo self.old.content self.new.content }
-        ensures cuts { self.old.cuts ≤ self.new.cuts }
-        ensures cause { HasCause self.old.faults self.new.faults result }
-
-        // which calls fail, and what either answer leaves
-        ensures fails { IsErr result ↔
-            (FailsNext self.old.fails self.old.calls ⊎ LacksRoom self.old (unsynced_in self.old.content.past)) }
-        ensures after { OnOk result (IsAfterCut choice self.old self.new) }
-        ensures after_fault { OnErr result (self.new ≡ after_fault self.old) }
+        ensures answers { Answers
+            (FailsNext self.old.fails self.old.calls ⊎ LacksRoom self.old (unsynced_in self.old.content.past))
+            (λ now. IsAfterCut choice self.old now) self.old self.new result }
     {
         begin_change(&self.content, &mut self.calls, self.content.unsynced())?;
         self.content.cut(choice);

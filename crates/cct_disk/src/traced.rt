@@ -1,10 +1,10 @@
 // Bytes with a trace of their changes: which spans were written, what stood there before, and what was settled.
-ghost use Rattle.std.specs.Prelude.{◌≡◌, ◌⊎◌, ◌↔◌, ◌+◌, ◌-◌, ◌<◌, ◌≤◌, ◌∷◌, [], ◌++◌, IsTrue, IfOk, IfSome};
-ghost use Rattle.std.specs.Prelude.{ℕ, length, take, drop, reverse, get_or, set, replicate, vec_capacity};
+ghost use Rattle.std.specs.Prelude.{◌≡◌, ◌↔◌, ◌+◌, ◌-◌, ◌<◌, ◌≤◌, ◌∷◌, [], ◌++◌, IsTrue, IfOk, IfSome};
+ghost use Rattle.std.specs.Prelude.{ℕ, length, take, reverse, get_or, set, replicate, vec_capacity};
 ghost use Rattle.cct_disk.specs.Disk.{put_at, SameOutside};
 ghost use Rattle.cct_disk.specs.Content.{window, written, settled, unsynced_in, cut_byte};
 ghost use Rattle.cct_disk.specs.Content.{IsCut, CutsBytes, AddsNoImage};
-ghost use Rattle.cct_disk.specs.Traced.{content_of, HasRoom, newest_span, IsKept, IsTraced};
+ghost use Rattle.cct_disk.specs.Traced.{content_of, HasRoom, newest_span, IsKept, IsTraced, IsTracedAs};
 ghost use Rattle.cct_disk.specs.declared.traced.Change.TheVariants.{Wrote};
 
 use std::alloc::{AllocError, Global};
@@ -35,7 +35,7 @@ pub(crate) enum Change {
 pub(crate) struct Traced {
     bytes: Vec<u8>,
     trace: Vec<Change>,
-    // what the writes replaced, one behind the other
+    // what the writes replaced, one after the other
     replaced: Vec<u8>,
     // how many writes, syncs and cuts there were
     changes: u64,
@@ -46,9 +46,7 @@ pub(crate) struct Traced {
 impl Traced {
     // So many zeros, without a change, and with the room for all that may come.
     pub(crate) fn new(alloc: Global, len: usize) -> Result<Traced, AllocError>
-        ensures traced { IfOk result (λ t. IsTraced t) }
-        ensures blank { IfOk result (λ t. (content_of t ≡ record { bytes = replicate len 0; past = []; replaced = [] })
-            × (t.changes ≡ 0)) }
+        ensures { IfOk result (IsTracedAs (record { bytes = replicate len 0; past = []; replaced = [] }) 0) }
     {
         Ok(Traced {
             bytes: Vec::from_elem(alloc, 0, len)?,
@@ -85,9 +83,7 @@ impl Traced {
         requires traced { IsTraced self.old }
         requires place { at + length bytes.now ≤ length self.old.bytes.items }
         requires room { HasRoom self.old (length bytes.now) }
-        ensures traced { IsTraced self.new }
-        ensures content { content_of self.new ≡ written at bytes.now (content_of self.old) }
-        ensures changes { self.new.changes ≡ self.old.changes + 1 }
+        ensures { IsTracedAs (written at bytes.now (content_of self.old)) (self.old.changes + 1) self.new }
     {
         let len = bytes.len();
         overwrite(&mut self.bytes, &mut self.replaced, at, bytes);
@@ -100,9 +96,7 @@ impl Traced {
     pub(crate) fn settle(&mut self)
         requires kept { IsKept self.old }
         requires room { self.old.changes < MOST_CHANGES }
-        ensures traced { IsTraced self.new }
-        ensures content { content_of self.new ≡ settled (content_of self.old) }
-        ensures changes { self.new.changes ≡ self.old.changes + 1 }
+        ensures { IsTracedAs (settled (content_of self.old)) (self.old.changes + 1) self.new }
     {
         self.trace.push_reserved(Change::Settled);
         self.changes += 1;
@@ -145,10 +139,8 @@ impl Traced {
     pub(crate) fn poke(&mut self, at: usize, byte: u8)
         requires traced { IsTraced self.old }
         requires place { at < length self.old.bytes.items }
-        ensures traced { IsTraced self.new }
-        ensures content { content_of self.new
-            ≡ record (content_of self.old) { bytes = set self.old.bytes.items at byte } }
-        ensures changes { self.new.changes ≡ self.old.changes }
+        ensures { IsTracedAs (record (content_of self.old) { bytes = set self.old.bytes.items at byte })
+            self.old.changes self.new }
     {
         self.bytes[at] = byte;
     }

@@ -42,7 +42,7 @@ pub(crate) const NUMBERS_END: u32 = 50;
 /// The left end of the times.
 pub(crate) const TIMES_START: u32 = 8;
 
-/// The left end of the bar of a loss of power.
+/// The left end of the bar of a power cut.
 pub(crate) const BAR_START: u32 = 58;
 
 /// The lane of the host; what is written of it stands to its left.

@@ -22,7 +22,7 @@ pub enum Reach {
     Lost,
 }
 
-/// What the host heard in an exchange, behind what it sent.
+/// What the host heard in an exchange, after what it sent.
 #[derive(Clone, Copy)]
 pub enum Heard {
     /// Its echo, and a reply that is none of the next three.
@@ -33,9 +33,9 @@ pub enum Heard {
     Busy,
     /// Its echo, and a message that isn't the wanted reply.
     Other,
-    /// Its echo, and no byte behind it.
+    /// Its echo, and no byte after it.
     Silence,
-    /// Its echo, and behind it bytes that are no message.
+    /// Its echo, and after it bytes that are no message.
     Damaged,
     /// Something else than its echo first, or nothing at all.
     DamagedEcho,
@@ -48,7 +48,7 @@ pub enum Happening {
     Accepted { place: u8, path: u8 },
     /// An acceptor gave a coin of this place back.
     Inhibited { place: u8 },
-    /// A piece that is no coin fell into an acceptor.
+    /// An object that is no coin fell into an acceptor.
     Alien,
     /// A coin fell out of a hopper.
     Fell,
@@ -69,7 +69,7 @@ pub enum FaultAt {
     Nowhere,
     /// The devices hear something else than the host sends.
     Devices,
-    /// The host hears its echo, and behind it something else than the replies.
+    /// The host hears its echo, and after it something else than the replies.
     Host,
     /// The host hears something else than its echo and the replies.
     Whole,
@@ -106,10 +106,10 @@ pub enum Mark {
         addr: u8,
         what: Happening,
     },
-    /// The wire has a fault in the next exchange: the host or the devices hear this piece, in hexadecimal.
+    /// The wire has a fault in the next exchange: the host or the devices hear these bytes, in hexadecimal.
     Fault {
         at: FaultAt,
-        piece: Label,
+        bytes: Label,
     },
     /// The host took a command, as `pay 3 41 4`.
     Taken(Label),
@@ -117,7 +117,7 @@ pub enum Mark {
     Refused(Label),
     /// The host put a record.
     Put(Record),
-    /// A record was kept of a put that a loss of power cut off.
+    /// A record was kept of a put that a power cut broke off.
     Kept(Record),
     /// A job ended well, as `posted 2`.
     Ended(Label),

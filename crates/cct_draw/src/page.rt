@@ -42,9 +42,9 @@ path.put{fill:#cdf;stroke:#036}\
 path.kept{fill:#fff;stroke:#036;stroke-dasharray:2 1}\
 </style>\n";
 
-/// A page of a picture, by its index and how many there are.
+/// Which page of a picture, by its index and how many there are.
 #[derive(Clone, Copy)]
-pub(crate) struct Page {
+pub(crate) struct PageNumber {
     pub(crate) index: u32,
     pub(crate) count: u32,
 }
@@ -66,7 +66,12 @@ pub(crate) fn begin_picture<K: Sink>(pen: &mut Pen<'_, K>, width: u32, height: u
 }
 
 /// Draws a page: its title, its lanes, and its rows.
-pub(crate) fn draw_page<K: Sink>(pen: &mut Pen<'_, K>, lanes: &Lanes, page: Page, rows: &[Row]) {
+pub(crate) fn draw_page<K: Sink>(
+    pen: &mut Pen<'_, K>,
+    lanes: &Lanes,
+    page: PageNumber,
+    rows: &[Row],
+) {
     begin_group(pen, page.index.saturating_mul(lanes.page_width()), 0);
     draw_title(pen, page, rows);
     draw_lanes(
@@ -93,7 +98,7 @@ fn end_group<K: Sink>(pen: &mut Pen<'_, K>) {
 }
 
 /// Draws what a page is and which lines it has.
-fn draw_title<K: Sink>(pen: &mut Pen<'_, K>, page: Page, rows: &[Row]) {
+fn draw_title<K: Sink>(pen: &mut Pen<'_, K>, page: PageNumber, rows: &[Row]) {
     begin_text(pen, Caption::Title, TITLE_START);
     push_numbered(pen, b"page ", page.index.saturating_add(1), b" of ");
     pen.push_number(page.count);

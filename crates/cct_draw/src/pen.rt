@@ -11,7 +11,7 @@ const ROOM: usize = 4096;
 /// The digits in hexadecimal.
 const DIGITS: [u8; 16] = *b"0123456789abcdef";
 
-/// Collects the bytes of a picture, and puts them in pieces. Once a put failed, what is pushed goes nowhere.
+/// Collects the bytes of a picture, and puts them part by part. Once a put failed, what is pushed goes nowhere.
 #[derive(Drop)]
 pub(crate) struct Pen<'k, K> {
     bytes: ArrayVec<u8, ROOM>,

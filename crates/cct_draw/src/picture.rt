@@ -3,7 +3,7 @@ ghost use Rattle.std.specs.Prelude.{◌≤◌, vec_len};
 ghost use Rattle.cct_draw.specs.declared.picture.TheConstants.{MOST_ROWS};
 
 use crate::layout::{FOOT_HEIGHT, HEAD_HEIGHT, Lanes, PAGE_ROWS, rows_height};
-use crate::page::{Page, begin_picture, draw_left_out, draw_page};
+use crate::page::{PageNumber, begin_picture, draw_left_out, draw_page};
 use crate::pen::Pen;
 use crate::row::Row;
 use crate::{Label, LaneKind, Mark};
@@ -100,7 +100,7 @@ fn draw_pages<K: Sink>(pen: &mut Pen<'_, K>, lanes: &Lanes, count: u32, rows: &[
             break;
         }
         let (part, after) = rest.split_at(rest.len().min(PAGE_ROWS));
-        draw_page(pen, lanes, Page { index, count }, part);
+        draw_page(pen, lanes, PageNumber { index, count }, part);
         rest = after;
     }
 }

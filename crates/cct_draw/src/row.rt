@@ -47,7 +47,7 @@ fn draw_mark<K: Sink>(pen: &mut Pen<'_, K>, lanes: &Lanes, mark: &Mark, times: u
         Mark::Happened { addr, what } => {
             draw_happening(pen, lanes.place(*addr), *what, times);
         }
-        Mark::Fault { at, piece } => draw_fault(pen, lanes.end(), *at, piece, times),
+        Mark::Fault { at, bytes } => draw_fault(pen, lanes.end(), *at, bytes, times),
         Mark::Crash { records } => draw_crash(pen, lanes.end(), *records, times),
         _ => draw_of_host(pen, mark, times),
     }
@@ -147,14 +147,14 @@ fn shape_of(what: Happening) -> Shape {
 }
 
 /// Draws a fault of the wire.
-fn draw_fault<K: Sink>(pen: &mut Pen<'_, K>, end: u32, at: FaultAt, piece: &Label, times: u64) {
+fn draw_fault<K: Sink>(pen: &mut Pen<'_, K>, end: u32, at: FaultAt, bytes: &Label, times: u64) {
     let arrow = match at {
         FaultAt::Nowhere => Arrow::Cleared,
         FaultAt::Devices | FaultAt::Host | FaultAt::Whole => Arrow::Fault,
     };
     draw_arrow(pen, arrow, HOST_LANE, end);
     begin_text(pen, Caption::Heard, HOST_LANE);
-    write_fault(pen, at, piece);
+    write_fault(pen, at, bytes);
     end_times(pen, times);
 }
 
@@ -197,13 +197,13 @@ fn draw_record<K: Sink>(
     end_times(pen, times);
 }
 
-/// Draws a loss of power, through all lanes.
+/// Draws a power cut, through all lanes.
 fn draw_crash<K: Sink>(pen: &mut Pen<'_, K>, end: u32, records: u32, times: u64) {
     draw_arrow(pen, Arrow::Crash, BAR_START, end);
     begin_text(pen, Caption::Crash, HOST_LANE);
     push_numbered(
         pen,
-        b"loss of power; the host starts again over ",
+        b"power cut; the host starts again over ",
         records,
         b" records",
     );

@@ -139,7 +139,7 @@ pub(crate) enum Caption {
     Heard,
     /// At the right of a device's lane.
     Device,
-    /// Within the bar of a loss of power.
+    /// Within the bar of a power cut.
     Crash,
     /// The name of a lane.
     Name,

@@ -26,7 +26,7 @@ pub(crate) fn write_happening<K: Sink>(pen: &mut Pen<'_, K>, what: Happening) {
         Happening::Inhibited { place } => {
             push_numbered(pen, b"coin given back: place ", u32::from(place), b"");
         }
-        Happening::Alien => pen.push(b"alien piece"),
+        Happening::Alien => pen.push(b"alien object"),
         Happening::Fell => pen.push(b"coin out"),
         Happening::NoFall => pen.push(b"no coin left to fall"),
         Happening::Jammed => pen.push(b"jammed"),
@@ -58,24 +58,24 @@ pub(crate) fn write_heard<K: Sink>(pen: &mut Pen<'_, K>, heard: Heard, says: &La
 }
 
 /// Writes what fault the wire has in the next exchange.
-pub(crate) fn write_fault<K: Sink>(pen: &mut Pen<'_, K>, at: FaultAt, piece: &Label) {
+pub(crate) fn write_fault<K: Sink>(pen: &mut Pen<'_, K>, at: FaultAt, bytes: &Label) {
     match at {
         FaultAt::Nowhere => pen.push(b"no fault in the next exchange"),
-        FaultAt::Devices => write_fault_piece(pen, b"fault: the devices will hear ", piece),
-        FaultAt::Host => write_fault_piece(pen, b"fault: as the reply the host will hear ", piece),
-        FaultAt::Whole => write_fault_piece(
+        FaultAt::Devices => write_fault_bytes(pen, b"fault: the devices will hear ", bytes),
+        FaultAt::Host => write_fault_bytes(pen, b"fault: as the reply the host will hear ", bytes),
+        FaultAt::Whole => write_fault_bytes(
             pen,
             b"fault: as echo and reply the host will hear ",
-            piece,
+            bytes,
         ),
     }
 }
 
-/// Writes who will hear a piece, and the piece.
-fn write_fault_piece<K: Sink>(pen: &mut Pen<'_, K>, who: &[u8], piece: &Label) {
+/// Writes who will hear the bytes of a fault, and these bytes.
+fn write_fault_bytes<K: Sink>(pen: &mut Pen<'_, K>, who: &[u8], bytes: &Label) {
     pen.push(who);
-    match piece.as_slice() {
+    match bytes.as_slice() {
         b"-" => pen.push(b"nothing"),
-        _ => pen.push_label(piece),
+        _ => pen.push_label(bytes),
     }
 }

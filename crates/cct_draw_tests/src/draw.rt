@@ -56,7 +56,7 @@ fn add_texts(
         words,
         Mark::Fault {
             at: FaultAt::Host,
-            piece: words,
+            bytes: words,
         },
     )?;
     picture.add(3, words, Mark::Taken(words))?;
@@ -104,7 +104,7 @@ fn picture_of_three_coins(alloc: Global) -> Result<Picture, AllocError> {
         }),
         Mark::Fault {
             at: FaultAt::Devices,
-            piece: Label::new(b"-"),
+            bytes: Label::new(b"-"),
         },
         Mark::Happened {
             addr: 40,
@@ -175,8 +175,8 @@ fn takes_tag(alloc: Global, open: &mut Vec<Vec<u8>>, tag: &[u8]) -> Result<bool,
 fn is_well_formed(alloc: Global, document: &[u8]) -> Result<bool, AllocError> {
     let mut open = Vec::new(alloc);
     let mut good = document.starts_with(b"<svg ") && document.ends_with(b"</svg>\n");
-    for piece in document.split(|byte| *byte == b'<').skip(1) {
-        let mut parts = piece.split(|byte| *byte == b'>');
+    for element in document.split(|byte| *byte == b'<').skip(1) {
+        let mut parts = element.split(|byte| *byte == b'>');
         let tag = parts.next().unwrap_or(b"");
         let text = parts.next().unwrap_or(b"&");
         good &= parts.next().is_none() && has_references(text);
@@ -216,7 +216,7 @@ fn a_picture_says_what_its_marks_are(rt: HostRuntime) -> Result<(), Fail> {
     let wanted: [&[u8]; 8] = [
         b">coin in: place 5, path 1<",
         b">put: posted of 2: 5/1, 6 lost<",
-        b">loss of power; the host starts again over 2 records<",
+        b">power cut; the host starts again over 2 records<",
         b">coin out, 2 times<",
         b">put: order 41 closed: 1 paid, 3 unpaid<",
         b">fault: the devices will hear nothing<",

@@ -1,8 +1,7 @@
 // Where bytes go.
-ghost use Rattle.std.specs.Prelude.{ℕ, Option, List, Result, OnOk, OnErr};
+ghost use Rattle.std.specs.Prelude.{ℕ, Option, List, Result, IsErr, OnOk, OnErr};
 ghost use Rattle.std.specs.Io.KnownBytes.{Appends};
-ghost use Rattle.cct_edge.specs.Bytes.{AppendsFront, TellsAsBefore};
-ghost use Rattle.cct_edge.specs.Faults.{HasCause};
+ghost use Rattle.cct_edge.specs.Bytes.{AppendsFront, Serves};
 ghost use Rattle.cct_edge.specs.declared.fault.Failed.{Failed};
 
 use crate::Failed;
@@ -21,9 +20,10 @@ pub trait Sink {
 
     /// Appends the whole piece. A call that fails has appended a front of it, which may be none or all of it.
     fn put(&mut self, piece: &[u8]) -> Result<(), Failed>
+        // So a caller can tell that it made exactly one put.
         ensures one { puts self.old piece.now result self.new }
         ensures ok { OnOk result (Appends (written self.old) (written self.new) piece.now) }
+        // A front of the bytes, which may be none or all of them.
         ensures err { OnErr result (AppendsFront (written self.old) (written self.new) piece.now) }
-        ensures tells { TellsAsBefore (written self.old) (written self.new) }
-        ensures cause { HasCause (faults self.old) (faults self.new) result };
+        ensures serves { Serves written faults self.old self.new (IsErr result) };
 }

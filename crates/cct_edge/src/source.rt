@@ -1,9 +1,8 @@
 // Where bytes come from.
-ghost use Rattle.std.specs.Prelude.{ℕ, ◌<◌, Option, List, Result, length};
+ghost use Rattle.std.specs.Prelude.{ℕ, ◌<◌, Option, List, Result, IsErr, length};
 ghost use Rattle.std.specs.Io.{ReadsAtMost};
 ghost use Rattle.std.specs.Io.KnownBytes.{ReadConsumes};
-ghost use Rattle.cct_edge.specs.Bytes.{TellsAsBefore};
-ghost use Rattle.cct_edge.specs.Faults.{HasCause};
+ghost use Rattle.cct_edge.specs.Bytes.{Serves};
 ghost use Rattle.cct_edge.specs.declared.fault.Failed.{Failed};
 
 use crate::Failed;
@@ -25,9 +24,9 @@ pub trait Source {
     /// 0 comes only at the end of the input, and stays 0 from then on. A call that fails takes nothing.
     fn take(&mut self, room: &mut [u8]) -> Result<usize, Failed>
         requires { 0 < length room.old }
+        // So a caller can tell each take that it made, and claims no other.
         ensures one { takes self.old (length room.old) result self.new }
         ensures bound { ReadsAtMost result room.new }
         ensures bytes { ReadConsumes (left self.old) (left self.new) result room.new }
-        ensures tells { TellsAsBefore (left self.old) (left self.new) }
-        ensures cause { HasCause (faults self.old) (faults self.new) result };
+        ensures serves { Serves left faults self.old self.new (IsErr result) };
 }

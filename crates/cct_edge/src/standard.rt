@@ -4,7 +4,7 @@ ghost use Rattle.std.specs.Prelude.{◌≡◌, None, OnOk, OnErr, MatchResult};
 ghost use Rattle.std.specs.Io.{ReadsAtMost};
 ghost use Rattle.std.specs.Io.KnownBytes.{Appends, ReadConsumes};
 ghost use Rattle.cct_edge.specs.Bytes.{AppendsFront};
-ghost use Rattle.cct_edge.specs.Faults.{HasCause, next_count};
+ghost use Rattle.cct_edge.specs.Faults.{CountsFaults, HasCause, next_count};
 ghost use Rattle.cct_edge.specs.Standard.{reader_of, reader_faults, writer_of, writer_faults};
 
 use crate::fault::count_fault;
@@ -41,10 +41,7 @@ impl<R: Read> Source for StdSource<R> {
         ensures bound { ReadsAtMost result room.new }
         ensures bytes { ReadConsumes (R.remaining (reader_of self.old))
             (R.remaining (reader_of self.new)) result room.new }
-        ensures cause { HasCause (reader_faults self.old) (reader_faults self.new) result }
-        ensures counted { MatchResult result
-            (λ _. reader_faults self.new ≡ reader_faults self.old)
-            (λ _. reader_faults self.new ≡ next_count (reader_faults self.old)) }
+        ensures counted { CountsFaults (reader_faults self.old) (reader_faults self.new) result }
     {
         match self.reader.read(room) {
             Ok(count) => Ok(count),
@@ -83,10 +80,7 @@ impl<W: Write> Sink for StdSink<W> {
             (W.contents (writer_of self.new)) piece.now) }
         ensures err { OnErr result (AppendsFront (W.contents (writer_of self.old))
             (W.contents (writer_of self.new)) piece.now) }
-        ensures cause { HasCause (writer_faults self.old) (writer_faults self.new) result }
-        ensures counted { MatchResult result
-            (λ _. writer_faults self.new ≡ writer_faults self.old)
-            (λ _. writer_faults self.new ≡ next_count (writer_faults self.old)) }
+        ensures counted { CountsFaults (writer_faults self.old) (writer_faults self.new) result }
     {
         let mut rest = piece;
         while !rest.is_empty() {

@@ -1,6 +1,6 @@
 //! What a reading of a coin acceptor means beside what was recorded before (ccTalk Generic Specification 4, parts 2 and
 //! 3, header 229).
-ghost use Rattle.std.specs.Prelude.{◌≡◌, ◌≤◌, length};
+ghost use Rattle.std.specs.Prelude.{◌≡◌};
 ghost use Rattle.cct_model.specs.Reading.{distance, posted_of, judge};
 
 use cct_model::{Coin, Coins, Credits, EVENTS, Judged, Pair, Record};
@@ -10,7 +10,7 @@ const CYCLE: u16 = 255;
 
 /// Judges a reading of the acceptor at an address, beside the inhibit mask and the event counter that are recorded of its
 /// epoch. The reading is the event counter, the credit buffer of the newest five events and the inhibit mask that was
-/// read behind them.
+/// read after them.
 ///
 /// It is [`Judged::Broken`] where the mask isn't the recorded one, or where the counter is back at 0, since either shows
 /// a reset or a setting of another hand. Else it is [`Judged::Nothing`] where the counter stands still, and else a
@@ -19,6 +19,8 @@ const CYCLE: u16 = 255;
 /// most, oldest first; an event whose first number is 0 is an error of the acceptor and no coin.
 #[tactic(auto, unfolding(cct_model::specs::Reading::judge))]
 pub fn judge(addr: u8, mask: u16, counter: u8, credits: &Credits, mask_seen: u16) -> Judged
+    // A break is told by the mask that isn't the recorded one, or by a counter that is back at 0. At most five of the
+    // newest events are posted, oldest first; more than five are counted as overrun. A break posts its coins too.
     ensures { result ≡ judge addr mask counter credits.now mask_seen }
 {
     let new_events = distance(counter, credits.counter);

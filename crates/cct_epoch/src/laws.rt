@@ -9,5 +9,6 @@ ghost use Rattle.cct_model.specs.Reading.{distance};
 pub fn the_event_counter_tells_the_events_that_came()
     ensures most { (came before : ℕ) → distance (counter before) (counter (came + before)) ≤ came }
     ensures modulo { (came before : ℕ) → distance (counter before) (counter (came + before)) % 255 ≡ came % 255 }
+    // So a counter tells exactly how many events came, if fewer than 255 did.
     ensures near { (came before : ℕ) → came < 255 → distance (counter before) (counter (came + before)) ≡ came }
 {}

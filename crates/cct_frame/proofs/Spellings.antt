@@ -104,7 +104,7 @@ message_spelled kind (to ∷ said ∷ third ∷ header ∷ rest) m bytes e =
     ∙ spelled_at kind to third header last body third_byte last_byte held
     ∙ ap (spelling kind) known.2
 
--- it has 255 data bytes at the most, and names its source under the simple check alone
+-- it has 255 data bytes at most, and names its source under the simple check alone
 pub message_body : (kind : CheckKind) (p : List ℕ) (m : Message) → message kind p ≡ Some m → length m.body ≤ 255
 message_body kind [] m e = absurd (omega (arith, (length_said kind [] m e).0))
 message_body kind (to ∷ []) m e = absurd (omega (arith, (length_said kind (to ∷ []) m e).0))
@@ -130,7 +130,7 @@ message_source kind (to ∷ said ∷ third ∷ header ∷ rest) m e =
     let from_is : source kind third ≡ m.from = ap (λ n. n.from) (known_of kind to said third header rest m e).2 in
     rw (← from_is) (source_named kind third)
 
--- a message that names its source and has 255 data bytes at the most is read back from its spelling under the simple check
+-- a message that names its source and has 255 data bytes at most is read back from its spelling under the simple check
 simple_back_from : (to header : ℕ) (from : Option ℕ) (body : List ℕ) → length body ≤ 255 → IsSome from →
     message Simple (spelling Simple (record { to = to; from = from; header = header; body = body })) ≡ Some (record { to = to; from = from; header = header; body = body })
 simple_back_from to header None body short named = cc

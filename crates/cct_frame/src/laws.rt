@@ -17,7 +17,7 @@ pub fn a_message_is_spelled()
         → (IsSome m.from ↔ (kind ≡ CheckKind.Simple)) }
 {}
 
-/// A message of 255 data bytes at the most is read back from its spelling: under the simple check where it names its
+/// A message of 255 data bytes at most is read back from its spelling: under the simple check where it names its
 /// source, and under the CRC without its source.
 pub fn what_is_spelled_is_read_back()
     ensures simple { (m : Message) → length m.body ≤ 255 → IsSome m.from

@@ -43,13 +43,19 @@ const SHORTEST: usize = 5;
 /// Reads the one message that a whole piece is. The tests come in the order of [`FrameFault`]'s variants, and the first
 /// that fails is told.
 pub fn read<'a>(kind: CheckKind, piece: &'a [u8]) -> Result<FrameView<'a>, FrameFault>
+    // the view of a message
     ensures whole { IfOk result (λ view. message kind piece.now ≡ Some (message_of view)) }
     ensures body { IfOk result (λ view. view.body.now ≡ slice_range piece.now 4 (length piece.now - 1)) }
+    // Nothing is copied: the data stay in the bytes that were read, from the fifth on.
     ensures in_place { IfOk result (λ view. view.body.ref_ptr ≡ (piece.entry.ref_ptr.0, piece.entry.ref_ptr.1 + 4)) }
     ensures faultless { OnOk result (fault_in kind piece.now ≡ None) }
 
+    // why there is none:
+    // The first thing that is wrong is reported: too few bytes, then a wrong length, then a wrong check.
     ensures first_fault { IfErr result (λ fault. fault_in kind piece.now ≡ Some fault) }
     ensures no_message { OnErr result (message kind piece.now ≡ None) }
+
+    // when each fault is told
     ensures short { (result ≡ Err (FrameFault.Short (length piece.now))) ↔ (length piece.now < 5) }
     ensures wrong_length { (result ≡ Err (FrameFault.Length (slice_index piece.now 1) (length piece.now)))
         ↔ ((5 ≤ length piece.now) × (slice_index piece.now 1 + 5 ≢ length piece.now)) }

@@ -9,7 +9,7 @@ use Rattle.cct_lines.specs.Grammar.{added, id_in, ranged, setup_line}
 use Rattle.cct_lines.specs.Script.{most_lines, read_form, script}
 use Rattle.cct_gen.specs.Load.{setup_script, drawn, line_at, lines_before, load_steps}
 
--- each setup line is taken, and the script is cut behind the last
+-- each setup line is taken, and the script is cut after the last
 setup_lines_taken : setup_script.refused ≡ Some (record { number = 19; why = kind.Cut })
 unfolding script read_form setup_line ranged id_in added most_lines number_text
 setup_lines_taken = refl
@@ -48,7 +48,7 @@ one_round :
 unfolding lines_before line_at drawn
 one_round = refl
 
--- a piece that is no coin, a coin where a reply could be lost, and a loss of power; and the payment of the last round
+-- an object that is no coin, a coin where a reply could be lost, and a power cut; and the payment of the last round
 with_great_seeds :
     line_at 18446744073709551613 6
     ∷ line_at 18446744073709551613 7

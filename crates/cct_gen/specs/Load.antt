@@ -39,7 +39,7 @@ drawn seed n = ((seed * 6364136223846793005 + n * 1442695040888963407) % 2 ^ 64)
 abbrev pub coin_of : ℕ → Step
 coin_of number = step.Coin 2 (1 + number % COIN_PLACES)
 
--- A piece that is no coin by one number in eight, else a coin.
+-- An object that is no coin by one number in eight, else a coin.
 abbrev pub coin_or_alien : ℕ → Step
 coin_or_alien number = if number % 8 == 0 then step.Alien 2 else coin_of number
 
@@ -47,7 +47,7 @@ coin_or_alien number = if number % 8 == 0 then step.Alien 2 else coin_of number
 abbrev pub coin_or_loss : ℕ → Step
 coin_or_loss number = if number % 4 == 0 then step.Fault (fault.HostHears []) else coin_of number
 
--- A loss of power by one number in 64, else the balance.
+-- A power cut by one number in 64, else the balance.
 abbrev pub crash_or_balance : ℕ → Step
 crash_or_balance number = if number % 64 == 0 then step.Crash None (number % 5) else step.Balance
 

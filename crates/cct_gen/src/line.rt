@@ -19,7 +19,7 @@ const OPENING: u32 = 5;
 const ROUND: u32 = 18;
 
 /// Line `n` of the load that a seed gives, from line 0 on: five lines that start an epoch, and then 18 a round, of 10,000
-/// rounds at the most. It names devices of the load's setup alone, and its numbers are in the ranges of a script's lines.
+/// rounds at most. It names devices of the load's setup alone, and its numbers are in the ranges of a script's lines.
 #[tactic(auto, using(crate::proofs::Lines::line_in_range, crate::proofs::Lines::line_known))]
 pub fn nth_line(seed: u64, n: u32) -> Step
     requires { n < 5 + 18 * 10000 }
@@ -39,8 +39,8 @@ fn line_at(seed: u64, n: u32) -> Step
     if n < OPENING {
         return opening_line(n);
     }
-    let behind = n - OPENING;
-    round_line(behind / ROUND + 1, drawn(seed, n), behind % ROUND)
+    let later = n - OPENING;
+    round_line(later / ROUND + 1, drawn(seed, n), later % ROUND)
 }
 
 /// The number below 2^24 that line `n` is drawn by.
@@ -99,7 +99,7 @@ fn coin(number: u64) -> Step
     }
 }
 
-/// A piece that is no coin by one number in eight, else a coin.
+/// An object that is no coin by one number in eight, else a coin.
 fn coin_or_alien(number: u64) -> Step
     ensures { result ≡ coin_or_alien number }
 {
@@ -121,7 +121,7 @@ fn coin_or_loss(number: u64) -> Step
     }
 }
 
-/// A loss of power by one number in 64, else the balance.
+/// A power cut by one number in 64, else the balance.
 fn crash_or_balance(number: u64) -> Step
     ensures { result ≡ crash_or_balance number }
 {

@@ -72,7 +72,7 @@ impl<'s> Device<'s> {
     }
 }
 
-/// The event counter of one payout more: behind 255 stands 1.
+/// The event counter of one payout more: after 255 stands 1.
 pub(crate) fn next_event(counter: u8) -> u8
     ensures { result ≡ (if counter == 255 then 1 else counter + 1) }
 {

@@ -118,6 +118,7 @@ impl<'s> Hopper<'s> {
     /// to another address, to a request that no hopper knows, and to every broadcast but the address poll, which asks
     /// nothing at its own address.
     pub fn gap(&mut self, out: &mut ArrayVec<u8, MOST_SENT>) -> bool
+        // A gap does what the bytes since the last one ask, and nothing if they ask nothing.
         ensures stands { (d : DeviceSetup) (past : List Met) (bytes : List ℕ) → StandsFor self.old d past
             → HasHeard self.old bytes → StandsFor self.new d (heard (asks_of d bytes) ∷ past) }
         ensures answer { (d : DeviceSetup) (past : List Met) (bytes : List ℕ) → StandsFor self.old d past
@@ -143,6 +144,7 @@ impl<'s> Hopper<'s> {
         requires gap { IsAtGap self.old }
         ensures stands { (d : DeviceSetup) (past : List Met) → StandsFor self.old d past
             → StandsFor self.new d (heard (asks_of d piece.now) ∷ past) }
+        // Byte for byte, the answer is the one that all that came before makes it; else there is silence.
         ensures answer { (d : DeviceSetup) (past : List Met) → StandsFor self.old d past
             → MatchOption (answer d past piece.now) ((result ≡ false) × (out.new.items ≡ []))
             (λ bytes. (result ≡ true) × (out.new.items ≡ bytes)) }

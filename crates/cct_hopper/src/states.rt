@@ -147,8 +147,10 @@ impl<'s> HopperIdle<'s> {
         serial: u32,
         count: u8,
     ) -> Result<HopperPaying<'s>, (HopperIdle<'s>, DispenseNo)>
+        // The idle hopper is consumed, so no other payout can be asked for.
         ensures stands { (d : DeviceSetup) (past : List Met) → StandsFor (Idle self.entry) d past
             → StandsFor (after_dispense result) d (heard (Some (Dispense serial count)) ∷ past) }
+        // It comes back as it was, with the reason; the serial number is looked at first.
         ensures refused { MatchResult result (λ _. refusal (serial_of self.entry) serial count ≡ None)
             (λ no. (no.0 ≡ self.entry) × (refusal (serial_of self.entry) serial count ≡ Some no.1)) }
         ensures heard { (bytes : List ℕ) → HasHeard (Idle self.entry) bytes → HasHeard (after_dispense result) bytes }
@@ -197,7 +199,7 @@ impl<'s> HopperPaying<'s> {
     ghost use Rattle.cct_hopper.specs.Hopper.{HasHeard, StandsFor, after_fall};
     ghost use Rattle.cct_hopper.specs.declared.hopper.Hopper.TheVariants.{Idle, Off, Paying};
 
-    /// A coin falls out: it is paid, and the life count rises. Behind the last one the hopper is idle.
+    /// A coin falls out: it is paid, and the life count rises. After the last one the hopper is idle.
     pub fn fall(self) -> AfterFall<'s>
         ensures stands { (d : DeviceSetup) (past : List Met) → StandsFor (Paying self.entry) d past
             → StandsFor (after_fall result) d (fall ∷ past) }

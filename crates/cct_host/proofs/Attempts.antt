@@ -30,7 +30,7 @@ use Rattle.cct_jobs.specs.declared.job.Job.{Job}
 use Rattle.cct_jobs.specs.declared.job.Need.{Need}
 use Rattle.cct_jobs.specs.declared.job.Need.TheVariants as need
 use Rattle.cct_jobs.specs.declared.owed.Owed.{Owed}
-use Rattle.cct_host.specs.declared.dues.Dues.{Dues}
+use Rattle.cct_host.specs.declared.orders.OrderState.{OrderState}
 use Rattle.cct_jobs.specs.Jobs.{ClosesItsOwn, Needs, PutsNext, Stands, line_heard, order_of}
 use Rattle.cct_jobs.specs.Sales.{NeedsSale, StandsSale}
 use Rattle.cct_jobs.specs.Scans.{NeedsScan, StandsScan}
@@ -40,7 +40,7 @@ use Rattle.cct_host.specs.Desk.{Attempts, Goes, Keeps, Knows, Works}
 use Rattle.cct_host.specs.Exchange.{Converses, Ends, Talks}
 use Rattle.cct_host.specs.Held.{due_by}
 use Rattle.cct_host.specs.Place.{Asks, AsksNext, NextAt, OwnsAt, Place, StandsAt, addr_of, device, end_at, line_at, lines_at, sales, scans}
-use Rattle.cct_host.specs.Running.{Settles, dues_left}
+use Rattle.cct_host.specs.Running.{Settles, orders_left}
 use Rattle.cct_host.proofs.Keeps.{asked_keeps, knows_same, left_keeps, put_keeps, sold_keeps}
 use Rattle.cct_host.proofs.Lines.{HasExchanges, dosed_at, end_at_too, epoch_dosed, idle_at, idle_line, job_dosed, order_dosed, own_wire, put_at, wire_at}
 
@@ -116,7 +116,7 @@ idle_by hears scans past state owed model.free works = refl
 idle_by hears sales past state owed model.free works = refl
 idle_by hears place past state owed (model.works c since) works = absurd works
 
-idle_goes : (hears : List ℕ → List ℕ) (place : Place) (past : List Entry) (state : EpochState) (owed : Dues)
+idle_goes : (hears : List ℕ → List ℕ) (place : Place) (past : List Entry) (state : EpochState) (owed : OrderState)
     → Keeps place None state owed (lines_at place past)
     → Goes hears place past (entry.Idle (addr_of place) ∷ []) None state owed
 idle_goes hears place past state owed keeps = record {
@@ -126,8 +126,8 @@ idle_goes hears place past state owed keeps = record {
 }
 
 pub idle_attempts : {L : Type 0} (gives : L → List ℕ → List ℕ → L → Type 0) (link : L) (addr : ℕ) (state : EpochState)
-    (owed : Dues) (desk : JobDesk) (report reported : List Entry)
-    → desk.job ≡ None → desk.epoch ≡ state → desk.dues ≡ owed → reported ≡ report ++ entry.Idle addr ∷ []
+    (owed : OrderState) (desk : JobDesk) (report reported : List Entry)
+    → desk.job ≡ None → desk.epoch ≡ state → desk.orders ≡ owed → reported ≡ report ++ entry.Idle addr ∷ []
     → Attempts gives link link addr None state owed desk 0 report reported
 idle_attempts gives link addr state owed desk report reported none same ordered is = record {
   what = attempt.idle;
@@ -136,9 +136,9 @@ idle_attempts gives link addr state owed desk report reported none same ordered 
   put_is = refl;
   used_is = refl;
   goes = λ hears place past heard at keeps owns.
-      subst (λ a. Goes hears place past (entry.Idle a ∷ []) desk.job desk.epoch desk.dues) at
-      (subst (λ j. Goes hears place past (entry.Idle (addr_of place) ∷ []) j desk.epoch desk.dues) (sym none)
-      (subst (λ n. Goes hears place past (entry.Idle (addr_of place) ∷ []) None n desk.dues) (sym same)
+      subst (λ a. Goes hears place past (entry.Idle a ∷ []) desk.job desk.epoch desk.orders) at
+      (subst (λ j. Goes hears place past (entry.Idle (addr_of place) ∷ []) j desk.epoch desk.orders) (sym none)
+      (subst (λ n. Goes hears place past (entry.Idle (addr_of place) ∷ []) None n desk.orders) (sym same)
       (subst (λ o. Goes hears place past (entry.Idle (addr_of place) ∷ []) None state o) (sym ordered)
       (idle_goes hears place past state owed keeps))));
 }
@@ -186,14 +186,14 @@ stands_dosed place past sent job c since stands =
     stands)
 
 asked_by : (hears : List ℕ → List ℕ) (place : Place) (past : List Entry) (old new : Job) (state : EpochState)
-    (owed : Dues) (sent heard : List ℕ) (end : Option End) (kept : Option Job) (told reported : List Entry)
+    (owed : OrderState) (sent heard : List ℕ) (end : Option End) (kept : Option Job) (told reported : List Entry)
     (j : model.Job) → model.job (lines_at place past) ≡ j
     → Works place (Some old) j (model.epoch (lines_at place past)) (order (lines_at place past))
     → Knows place state owed (lines_at place past)
     → AsksOn old → Talks old sent heard new → Ends new end → heard ≡ hears sent
     → Settles end new (addr_of place) kept told reported
     → Goes hears place past (with_end (addr_of place) (entry.Wire (addr_of place) sent heard) end) kept state
-    (dues_left kept owed)
+    (orders_left kept owed)
 asked_by hears place past old new state owed sent heard end kept told reported model.free was works knows needs talks
     ends heard_is settled = absurd works
 asked_by hears place past old new state owed sent heard end kept told reported (model.works c since) was works knows
@@ -220,10 +220,10 @@ asked_by hears place past old new state owed sent heard end kept told reported (
 
 -- a job asks
 pub ask_attempts : {L : Type 0} (gives : L → List ℕ → List ℕ → L → Type 0) (before after : L) (addr : ℕ) (old new : Job)
-    (state : EpochState) (owed : Dues) (desk : JobDesk) (end : Option End) (report told reported : List Entry)
+    (state : EpochState) (owed : OrderState) (desk : JobDesk) (end : Option End) (report told reported : List Entry)
     → AsksOn old → due_by (Some old) ≡ None → Converses gives before after addr old new report told → Ends new end
     → Settles end new addr desk.job told reported
-    → desk.epoch ≡ state → desk.dues ≡ dues_left desk.job owed
+    → desk.epoch ≡ state → desk.orders ≡ orders_left desk.job owed
     → Attempts gives before after addr (Some old) state owed desk 0 report reported
 ask_attempts gives before after addr old new state owed desk end report told reported needs none talk ends settled same
     ordered = record {
@@ -235,11 +235,11 @@ ask_attempts gives before after addr old new state owed desk end report told rep
       used_is = refl;
       goes = λ hears place past heard_is at keeps owns.
           let news = with_end addr (entry.Wire addr talk.sent talk.heard) end in
-          subst (λ n. Goes hears place past news desk.job n desk.dues) (sym same)
+          subst (λ n. Goes hears place past news desk.job n desk.orders) (sym same)
           (subst (λ o. Goes hears place past news desk.job state o) (sym ordered)
           (subst (λ a. Settles end new a desk.job told reported
           → Goes hears place past (with_end a (entry.Wire a talk.sent talk.heard) end) desk.job state
-          (dues_left desk.job owed)) at
+          (orders_left desk.job owed)) at
           (λ s. asked_by hears place past old new state owed talk.sent talk.heard end desk.job told reported
           (model.job (lines_at place past)) refl keeps.works keeps.knows needs talk.talks ends heard_is s) settled));
     }
@@ -251,14 +251,14 @@ due_owns past addr r due is owns = subst (λ x. IfSome x (ClosesItsOwn past addr
 
 -- what a put leaves
 put_by : (hears : List ℕ → List ℕ) (place : Place) (past : List Entry) (old new : Job) (r : Record)
-    (state last : EpochState) (owed left : Dues) (end : Option End) (kept : Option Job)
+    (state last : EpochState) (owed left : OrderState) (end : Option End) (kept : Option Job)
     (told reported : List Entry) (j : model.Job) → model.job (lines_at place past) ≡ j
     → Works place (Some old) j (model.epoch (lines_at place past)) (order (lines_at place past))
     → Knows place state owed (lines_at place past) → OwnsAt place past → last ≡ model.epoch_by r state
     → PutsOn old new r owed.order left.order → IsNoScan old → SellsOn old new r owed.order left.order
     → left.id ≡ owed.id → Ends new end
     → Settles end new (addr_of place) kept told reported
-    → Goes hears place past (with_end (addr_of place) (entry.Put r) end) kept last (dues_left kept left)
+    → Goes hears place past (with_end (addr_of place) (entry.Put r) end) kept last (orders_left kept left)
 put_by hears place past old new r state last owed left end kept told reported model.free was works knows owns moved
     puts_on no_scan sells same ends settled = absurd works
 put_by hears scans past old new r state last owed left end kept told reported (model.works c since) was works knows
@@ -301,12 +301,12 @@ put_by hears (device d) past old new r state last owed left end kept told report
 
 -- a job puts its record
 pub put_attempts : {L : Type 0} (gives : L → List ℕ → List ℕ → L → Type 0) (link : L) (addr : ℕ) (old new : Job)
-    (r : Record) (state : EpochState) (owed moves : Dues) (desk : JobDesk) (used : ℕ) (end : Option End)
+    (r : Record) (state : EpochState) (owed moves : OrderState) (desk : JobDesk) (used : ℕ) (end : Option End)
     (report told reported : List Entry)
     → PutsOn old new r owed.order moves.order → due_by (Some old) ≡ Some r → IsNoScan old
     → SellsOn old new r owed.order moves.order → moves.id ≡ owed.id → Ends new end
     → told ≡ report ++ entry.Put r ∷ [] → Settles end new addr desk.job told reported
-    → desk.epoch ≡ model.epoch_by r state → desk.dues ≡ dues_left desk.job moves → used ≡ id_of r
+    → desk.epoch ≡ model.epoch_by r state → desk.orders ≡ orders_left desk.job moves → used ≡ id_of r
     → Attempts gives link link addr (Some old) state owed desk used report reported
 put_attempts gives link addr old new r state owed moves desk used end report told reported puts_on due no_scan sells
     same ends told_is settled moved left used_is = record {
@@ -318,7 +318,7 @@ put_attempts gives link addr old new r state owed moves desk used end report tol
       goes = λ hears place past heard_is at keeps owns.
           subst (λ o. Goes hears place past (with_end addr (entry.Put r) end) desk.job desk.epoch o) (sym left)
           (subst (λ a. Settles end new a desk.job told reported
-          → Goes hears place past (with_end a (entry.Put r) end) desk.job desk.epoch (dues_left desk.job moves)) at
+          → Goes hears place past (with_end a (entry.Put r) end) desk.job desk.epoch (orders_left desk.job moves)) at
           (λ s. put_by hears place past old new r state desk.epoch owed moves end desk.job told reported
           (model.job (lines_at place past)) refl keeps.works keeps.knows owns moved puts_on no_scan sells same
           ends s) settled);

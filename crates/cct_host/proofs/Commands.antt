@@ -26,14 +26,14 @@ use Rattle.cct_model.specs.Order.{order}
 use Rattle.cct_model.specs.Refusal.{View, first_of, id_refusal, is_busy, last_id, lines_for, running_id, running_refusal, settle_refusal, state_fails, state_refusal, state_tests, unless, view_of}
 use Rattle.cct_model.specs.Transcript.{lines_of, sale_lines, scan_lines}
 use Rattle.cct_jobs.specs.declared.job.Job.{Job}
-use Rattle.cct_host.specs.declared.dues.Dues.{Dues}
+use Rattle.cct_host.specs.declared.orders.OrderState.{OrderState}
 use Rattle.cct_jobs.specs.Ahead.{ahead}
 use Rattle.cct_jobs.specs.Jobs.{IsRunning, MayBegin, Stands, end_of_job, is_of_device, order_of}
 use Rattle.cct_jobs.specs.Sales.{StandsSale}
 use Rattle.cct_jobs.specs.Scans.{StandsScan}
 use Rattle.cct_host.specs.Desk.{Keeps, Works}
 use Rattle.cct_host.specs.Place.{Place, device, sales, scans}
-use Rattle.cct_host.specs.Running.{busy_by, halting_refusal, halts_in, is_halt, is_running, refusal_beside, sale_refusal, seen_at}
+use Rattle.cct_host.specs.Running.{begins_id, busy_by, halting_refusal, halts_in, is_halt, is_running, refusal_beside, sale_refusal, seen_at}
 use Rattle.cct_laws.proofs.jobs.Tests.{Pass, all_pass, test_holds}
 use Rattle.cct_jobs.proofs.Halts.{halts_known}
 use Rattle.cct_jobs.proofs.Needs.{end_known}
@@ -73,7 +73,7 @@ seen d last busy payout state owed = record {
   last = last;
 }
 
-seen_is : (d : DeviceSetup) (job : Option Job) (state : EpochState) (owed : Dues) (last : ℕ) (lines : List Line)
+seen_is : (d : DeviceSetup) (job : Option Job) (state : EpochState) (owed : OrderState) (last : ℕ) (lines : List Line)
     → is_running job ≡ true → Keeps (device d) job state owed lines
     → seen_at d job state owed last ≡ view_of (Some d) lines last
 seen_is d job state owed last lines runs keeps =
@@ -90,23 +90,40 @@ lines_there past command.Scan d of_device = absurd cc
 lines_there past (command.Vend id price) d of_device = absurd cc
 lines_there past c d of_device = refl
 
-pub refusal_is : (setup : Setup) (d : DeviceSetup) (job : Option Job) (state : EpochState) (owed : Dues) (last : ℕ)
-    (past : List Entry) (c : Command) → last ≡ last_id setup past → is_running job ≡ true → is_of_device c ≡ true
+refusal_beside_is : (setup : Setup) (d : DeviceSetup) (job : Option Job) (state : EpochState) (owed : OrderState)
+    (past : List Entry) (c : Command) → is_running job ≡ true → is_of_device c ≡ true
     → device_at setup.devices (address_of c) ≡ Some d → Keeps (device d) job state owed (lines_of d past)
-    → refusal_beside d job state owed last c ≡ state_refusal setup past c
-refusal_is setup d job state owed last past c is_last runs of_device there keeps =
+    → refusal_beside d job state owed (last_id setup past) c ≡ state_refusal setup past c
+refusal_beside_is setup d job state owed past c runs of_device there keeps =
     ap (λ v. first_of (state_fails v) (state_tests c)) (
-    seen_is d job state owed last (lines_of d past) runs keeps
-    ∙ ap (view_of (Some d) (lines_of d past)) is_last
+    seen_is d job state owed (last_id setup past) (lines_of d past) runs keeps
     ∙ ap (λ lines. view_of (Some d) lines (last_id setup past)) (sym (lines_there past c d of_device))
     ∙ ap (λ f. view_of f (lines_for past c f) (last_id setup past)) (sym there))
 
-pub halting_is : (setup : Setup) (d : DeviceSetup) (job : Option Job) (state : EpochState) (owed : Dues)
+-- a command that begins no id isn't judged by the last one
+any_last : (d : DeviceSetup) (job : Option Job) (state : EpochState) (owed : OrderState) (last other : ℕ) (c : Command)
+    → (begins_id c ≡ true → last ≡ other) → refusal_beside d job state owed last c ≡ refusal_beside d job state owed other c
+any_last d job state owed last other (command.Pay addr id count) same =
+    ap (λ n. refusal_beside d job state owed n (command.Pay addr id count)) (same refl)
+any_last d job state owed last other (command.Vend id price) same =
+    ap (λ n. refusal_beside d job state owed n (command.Vend id price)) (same refl)
+any_last d job state owed last other c same = refl
+
+pub refusal_is : (setup : Setup) (d : DeviceSetup) (job : Option Job) (state : EpochState) (owed : OrderState) (last : ℕ)
+    (past : List Entry) (c : Command) → (begins_id c ≡ true → last ≡ last_id setup past) → is_running job ≡ true
+    → is_of_device c ≡ true → device_at setup.devices (address_of c) ≡ Some d
+    → Keeps (device d) job state owed (lines_of d past)
+    → refusal_beside d job state owed last c ≡ state_refusal setup past c
+refusal_is setup d job state owed last past c is_last runs of_device there keeps =
+    any_last d job state owed last (last_id setup past) c is_last
+    ∙ refusal_beside_is setup d job state owed past c runs of_device there keeps
+
+pub halting_is : (setup : Setup) (d : DeviceSetup) (job : Option Job) (state : EpochState) (owed : OrderState)
     (past : List Entry) (c : Command) → is_running job ≡ true → is_halt c ≡ true
     → device_at setup.devices (address_of c) ≡ Some d → Keeps (device d) job state owed (lines_of d past)
     → halting_refusal d job ≡ state_refusal setup past c
 halting_is setup d job state owed past (command.Halt addr) runs halt there keeps =
-    refusal_is setup d job state owed (last_id setup past) past (command.Halt addr) refl runs refl there keeps
+    refusal_beside_is setup d job state owed past (command.Halt addr) runs refl there keeps
 halting_is setup d job state owed past c runs halt there keeps = absurd cc
 
 -- what isn't refused may begin
@@ -127,7 +144,7 @@ runs_where_free Idle free = absurd cc
 runs_where_free (Running mask counter) free = tt
 
 pub may_begin : (devices : List DeviceSetup) (d : DeviceSetup) (job : Option Job) (state : EpochState)
-    (owed : Dues) (last : ℕ) (c : Command) → is_halt c ≡ false → is_of_device c ≡ true
+    (owed : OrderState) (last : ℕ) (c : Command) → is_halt c ≡ false → is_of_device c ≡ true
     → device_at devices (address_of c) ≡ Some d → refusal_beside d job state owed last c ≡ None
     → MayBegin c devices state (order_of owed.order)
 may_begin devices d job state owed last c no_halt of_device there free =
@@ -184,8 +201,8 @@ address_there (e ∷ es) addr d is = there_by (e.addr == addr) e d (device_at es
 
 -- a command at a device
 pub command_taken : (setup : Setup) (d : DeviceSetup) (c : Command) (before : Option Job) (job : Job)
-    (state : EpochState) (owed after : Dues) (last : ℕ) (past : List Entry) → last ≡ last_id setup past
-    → is_of_device c ≡ true → is_running before ≡ true → after.order ≡ owed.order
+    (state : EpochState) (owed after : OrderState) (last : ℕ) (past : List Entry)
+    → (begins_id c ≡ true → last ≡ last_id setup past) → is_of_device c ≡ true → is_running before ≡ true → after.order ≡ owed.order
     → after.id ≡ running_id d (model.works c [])
     → device_at setup.devices (address_of c) ≡ Some d → refusal_beside d before state owed last c ≡ None
     → MayBegin c setup.devices state (order_of owed.order) → Stands d job c [] state (order_of owed.order)
@@ -205,8 +222,8 @@ command_taken setup d c before job state owed after last past is_last of_device 
     )
 
 pub command_refused : (setup : Setup) (d : DeviceSetup) (c : Command) (job : Option Job) (state : EpochState)
-    (owed : Dues) (last : ℕ) (past : List Entry) (why : CommandNo) → last ≡ last_id setup past
-    → is_of_device c ≡ true → is_running job ≡ true
+    (owed : OrderState) (last : ℕ) (past : List Entry) (why : CommandNo)
+    → (begins_id c ≡ true → last ≡ last_id setup past) → is_of_device c ≡ true → is_running job ≡ true
     → device_at setup.devices (address_of c) ≡ Some d → refusal_beside d job state owed last c ≡ Some why
     → Keeps (device d) job state owed (lines_of d past)
     → (Some why ≡ state_refusal setup past c) × Keeps (device d) job state owed (lines_of d (entry.No c why ∷ past))
@@ -218,7 +235,7 @@ command_refused setup d c job state owed last past why is_last of_device runs th
 
 -- a halt at a device
 pub halt_taken : (setup : Setup) (d : DeviceSetup) (c : Command) (before : Option Job) (old new : Job)
-    (state : EpochState) (owed : Dues) (past : List Entry) → before ≡ Some old → is_running before ≡ true
+    (state : EpochState) (owed : OrderState) (past : List Entry) → before ≡ Some old → is_running before ≡ true
     → is_halt c ≡ true → device_at setup.devices (address_of c) ≡ Some d → halting_refusal d before ≡ None
     → GoesByHalt old new → Keeps (device d) before state owed (lines_of d past)
     → (None ≡ state_refusal setup past c) × Keeps (device d) (Some new) state owed (lines_of d (entry.Taken c ∷ past))
@@ -229,7 +246,7 @@ halt_taken setup d c before old new state owed past was runs halt there free goe
 )
 
 pub halt_refused : (setup : Setup) (d : DeviceSetup) (c : Command) (job : Option Job) (state : EpochState)
-    (owed : Dues) (past : List Entry) (why : CommandNo) → is_running job ≡ true → is_halt c ≡ true
+    (owed : OrderState) (past : List Entry) (why : CommandNo) → is_running job ≡ true → is_halt c ≡ true
     → device_at setup.devices (address_of c) ≡ Some d → halting_refusal d job ≡ Some why
     → Keeps (device d) job state owed (lines_of d past)
     → (Some why ≡ state_refusal setup past c) × Keeps (device d) job state owed (lines_of d (entry.No c why ∷ past))
@@ -243,14 +260,14 @@ busy_same : (place : Place) (job : Option Job) (j : model.Job) (state : EpochSta
     → Works place job j state owed → busy_by job ≡ unless (not (is_busy j)) Busy
 busy_same place job j state owed works = ap (λ b. unless (not b) Busy) (busy_is place job j state owed works)
 
-pub scan_refusal : (setup : Setup) (c : Command) (job : Option Job) (state : EpochState) (owed : Dues)
+pub scan_refusal : (setup : Setup) (c : Command) (job : Option Job) (state : EpochState) (owed : OrderState)
     (past : List Entry) → c ≡ command.Scan → Keeps scans job state owed (scan_lines past)
     → busy_by job ≡ state_refusal setup past c
 scan_refusal setup c job state owed past is keeps = busy_same scans job _ _ _ keeps.works
     ∙ sym (ap (state_refusal setup past) is)
 
 pub scan_taken : (setup : Setup) (c : Command) (before : Option Job) (job : Job) (state : EpochState)
-    (owed : Dues) (past : List Entry) → c ≡ command.Scan → busy_by before ≡ None → StandsScan job []
+    (owed : OrderState) (past : List Entry) → c ≡ command.Scan → busy_by before ≡ None → StandsScan job []
     → Keeps scans before state owed (scan_lines past) → (None ≡ state_refusal setup past c)
     × Keeps scans (Some job) state owed
     (scan_lines (entry.Taken c ∷ past))
@@ -260,7 +277,7 @@ scan_taken setup c before job state owed past is free stands keeps = (
       (ap (λ k. model.begun k (model.job (scan_lines past))) is ∙ ap (λ k. model.works k []) (sym is)) stands tt,
 )
 
-pub scan_refused : (setup : Setup) (c : Command) (job : Option Job) (state : EpochState) (owed : Dues) (past : List
+pub scan_refused : (setup : Setup) (c : Command) (job : Option Job) (state : EpochState) (owed : OrderState) (past : List
     Entry)
     (why : CommandNo) → c ≡ command.Scan → busy_by job ≡ Some why
     → Keeps scans job state owed (scan_lines past) → (Some why ≡ state_refusal setup past c) × Keeps scans job state owed
@@ -272,7 +289,7 @@ scan_refused setup c job state owed past why is refused keeps = (
 )
 
 -- a sale
-pub sale_refusal_is : (setup : Setup) (id price : ℕ) (job : Option Job) (state : EpochState) (owed : Dues) (last : ℕ)
+pub sale_refusal_is : (setup : Setup) (id price : ℕ) (job : Option Job) (state : EpochState) (owed : OrderState) (last : ℕ)
     (past : List Entry) → last ≡ last_id setup past → Keeps sales job state owed (sale_lines past)
     → sale_refusal job id last ≡ state_refusal setup past (command.Vend id price)
 sale_refusal_is setup id price job state owed last past is_last keeps =
@@ -280,7 +297,7 @@ sale_refusal_is setup id price job state owed last past is_last keeps =
     ∙ ap (λ l. option_or (unless (not (is_busy (model.job (sale_lines past)))) Busy) (id_refusal id l)) is_last
 
 pub sale_taken : (setup : Setup) (id price : ℕ) (before : Option Job) (job : Job) (state : EpochState)
-    (owed after : Dues) (last : ℕ) (past : List Entry) → last ≡ last_id setup past → after.order ≡ owed.order
+    (owed after : OrderState) (last : ℕ) (past : List Entry) → last ≡ last_id setup past → after.order ≡ owed.order
     → after.id ≡ id → sale_refusal before id last ≡ None → StandsSale job (command.Vend id price) []
     → Keeps sales before state owed (sale_lines past)
     → (None ≡ state_refusal setup past (command.Vend id price))
@@ -290,7 +307,7 @@ sale_taken setup id price before job state owed after last past is_last ordered 
   taken_keeps sales (command.Vend id price) job state after past refl refl stands (ordered ∙ keeps.knows.0, named),
 )
 
-pub sale_refused : (setup : Setup) (id price : ℕ) (job : Option Job) (state : EpochState) (owed : Dues) (last : ℕ)
+pub sale_refused : (setup : Setup) (id price : ℕ) (job : Option Job) (state : EpochState) (owed : OrderState) (last : ℕ)
     (past : List Entry) (why : CommandNo) → last ≡ last_id setup past → sale_refusal job id last ≡ Some why
     → Keeps sales job state owed (sale_lines past)
     → (Some why ≡ state_refusal setup past (command.Vend id price))

@@ -29,9 +29,9 @@ use Rattle.cct_jobs.specs.declared.payout.Payout.TheVariants.{Enables, Counts}
 use Rattle.cct_jobs.specs.declared.stage.Stage.{Stage}
 use Rattle.cct_jobs.specs.declared.stage.Stage.TheVariants.{IdentAsks, Reads, Looks, Pays}
 use Rattle.cct_jobs.specs.declared.target.Target.{Target}
-use Rattle.cct_jobs.specs.declared.stage.Visit.TheVariants.{Round, Stop}
+use Rattle.cct_jobs.specs.declared.stage.ReadBy.TheVariants.{Round, Stop}
 use Rattle.cct_jobs.specs.Ahead.{ahead, coins_in, price_in, stage_ahead}
-use Rattle.cct_jobs.specs.Jobs.{Needs, Stands, end_of_job, need_of, newest_end, order_of}
+use Rattle.cct_jobs.specs.Jobs.{Needs, Stands, end_of_job, need_of, newest_end, order_of, put_in}
 use Rattle.cct_jobs.specs.Sales.{NeedsSale, StandsSale, newest_sale_end}
 use Rattle.cct_jobs.proofs.Needs.{end_known, may_put_known, need_known}
 use Rattle.cct_jobs.proofs.Reserves.{closes_known, frees_by, reserves_known}
@@ -41,7 +41,7 @@ use Rattle.cct_host.specs.declared.desk.JobDesk.{JobDesk}
 use Rattle.cct_host.specs.declared.desks.Desks.{Desks}
 use Rattle.cct_host.specs.Desk.{AllSit, Sits, Works, held_at, held_in, reserved_over}
 use Rattle.cct_host.specs.Desks.{StandsFor, amount_at_desk, due_at_desk, held_of, reserved_of, setup_of}
-use Rattle.cct_host.specs.Held.{coins_by, due_by, held_by, order_left, price_by, put_in, puts_left}
+use Rattle.cct_host.specs.Held.{coins_by, due_by, held_by, order_left, price_by, puts_left}
 use Rattle.cct_host.specs.Place.{device, sales}
 use Rattle.cct_host.specs.Running.{is_running}
 
@@ -86,7 +86,7 @@ one_left (Some job) owed = one_order (has_closes (ahead job)) owed
 few_held : (k : JobDesk) → held_at k ≤ 3
 few_held k =
     let few = few_at_work k.job in
-    let one = one_left k.job (order_of k.dues.order) in
+    let one = one_left k.job (order_of k.orders.order) in
     omega arith
 
 few_held_in : (ks : List JobDesk) → held_in ks ≤ 3 * length ks
@@ -157,7 +157,7 @@ sale_held_works (Some job) model.free owed state left runs works none = absurd w
 
 sale_held : (k : JobDesk) (past : List Entry) → Sits past sales k
     → held_at k ≡ sale_holds (model.job (sale_lines past))
-sale_held k past sits = sale_held_works k.job _ k.dues.order _ _ k.runs sits.works sits.knows.0
+sale_held k past sits = sale_held_works k.job _ k.orders.order _ _ k.runs sits.works sits.knows.0
 
 pub held_is : (desks : Desks) (past : List Entry) → StandsFor desks past → held_of desks ≡ held (setup_of desks) past
 held_is desks past stands =

@@ -27,11 +27,11 @@ use Rattle.cct_jobs.specs.declared.job.Job.TheVariants.{StartPuts, RoundPuts, St
 use Rattle.cct_jobs.specs.declared.job.Need.{Need}
 use Rattle.cct_jobs.specs.declared.job.Need.TheVariants as need
 use Rattle.cct_jobs.specs.Ahead.{ahead, coins_in, price_in}
-use Rattle.cct_jobs.specs.Jobs.{IsPut, after_put, end_of_job, is_of_device, need_of, order_of}
+use Rattle.cct_jobs.specs.Jobs.{IsPut, after_put, end_of_job, is_of_device, need_of, order_of, put_in}
+use Rattle.cct_jobs.specs.Onward.{KeepsTo}
 use Rattle.cct_jobs.specs.Sales.{StandsSale}
-use Rattle.cct_host.specs.declared.dues.Dues.{Dues}
-use Rattle.cct_host.specs.Exchange.{HoldsLess}
-use Rattle.cct_host.specs.Held.{coins_by, due_by, held_by, order_left, price_by, put_in, puts_left, sells_only}
+use Rattle.cct_host.specs.declared.orders.OrderState.{OrderState}
+use Rattle.cct_host.specs.Held.{coins_by, due_by, held_by, order_left, price_by, puts_left, sells_only}
 use Rattle.cct_host.specs.Running.{Settles, busy_by, halting_refusal, is_halt, needed, refusal_beside, rows_begun, sale_refusal, seen_at}
 use Rattle.cct_laws.proofs.jobs.Tests.{Pass, all_pass}
 use Rattle.cct_host.proofs.Commands.{owed_where_free}
@@ -49,16 +49,16 @@ pub put_left : (new : Job) (kept : Option Job) (addr : ℕ) (report reported : L
 put_left new kept addr report reported settled = put_left_by (end_of_job new) new kept addr report reported settled
 
 coins_left_by : (end : Option End) (old new : Job) (kept : Option Job) (addr : ℕ)
-    (report reported : List Entry) → HoldsLess old new → Settles end new addr kept report reported
+    (report reported : List Entry) → KeepsTo (ahead old) new → Settles end new addr kept report reported
     → coins_by kept ≤ coins_by (Some old)
 coins_left_by None old new kept addr report reported less settled =
-    subst (λ k. coins_by k ≤ coins_by (Some old)) (sym settled.0) less.coins
+    subst (λ k. coins_by k ≤ coins_by (Some old)) (sym settled.0) less.reserves
 coins_left_by (Some end) old new kept addr report reported less settled =
     subst (λ k. coins_by k ≤ coins_by (Some old)) (sym settled.0) (omega arith)
 
 -- after an exchange
 pub ask_reserves : (old new : Job) (kept : Option Job) (addr : ℕ) (report reported : List Entry)
-    → HoldsLess old new → Settles (end_of_job new) new addr kept report reported
+    → KeepsTo (ahead old) new → Settles (end_of_job new) new addr kept report reported
     → coins_by kept ≤ coins_by (Some old)
 ask_reserves old new kept addr report reported less settled =
     coins_left_by (end_of_job new) old new kept addr report reported less settled
@@ -103,6 +103,10 @@ put_ends_sale job new kept addr report reported sells goes settled = absurd cc
 pub is_put_by : (n : Need) (r : Record) → n ≡ need.Put r → IsPut n
 is_put_by n r is = subst IsPut (sym is) tt
 
+-- where something is asked, nothing is put
+pub none_put : (job : Job) → need_of job ≡ need.Exchange → (P : Type 0) → IfSome (due_by (Some job)) (λ r. P)
+none_put job asks P = subst (λ n. IfSome (put_in n) (λ r. P)) (sym asks) tt
+
 pub some_put : (n : Need) (P : Type 0) → P → IfSome (put_in n) (λ r. P)
 some_put need.Exchange P p = tt
 some_put (need.Put entry) P p = p
@@ -129,11 +133,11 @@ just_free : (job : Option Job) → busy_by job ≡ None → job ≡ None
 just_free None e = refl
 just_free (Some job) e = absurd cc
 
-passes : (d : DeviceSetup) (job : Option Job) (state : EpochState) (owed : Dues) (last : ℕ) (c : Command)
+passes : (d : DeviceSetup) (job : Option Job) (state : EpochState) (owed : OrderState) (last : ℕ) (c : Command)
     → refusal_beside d job state owed last c ≡ None → Pass (state_fails (seen_at d job state owed last)) (state_tests c)
 passes d job state owed last c free = all_pass (state_fails (seen_at d job state owed last)) (state_tests c) free
 
-pub free_job : (d : DeviceSetup) (job : Option Job) (state : EpochState) (owed : Dues) (last : ℕ) (c : Command)
+pub free_job : (d : DeviceSetup) (job : Option Job) (state : EpochState) (owed : OrderState) (last : ℕ) (c : Command)
     → is_halt c ≡ false → is_of_device c ≡ true → refusal_beside d job state owed last c ≡ None → job ≡ None
 free_job d job state owed last command.Scan no_halt of_device free = absurd cc
 free_job d job state owed last (command.Vend id price) no_halt of_device free = absurd cc
@@ -160,13 +164,13 @@ settles_room : (new : Job) (owed : Option OpenOrder) → IsTrue (is_some owed) �
 settles_room new None there is puts = absurd cc
 settles_room new (Some o) there is puts = closing_room new (Some o) (0 + 1 + 0) is (omega (arith, puts))
 
-told_closes : (qs : List Request) → has_closes (telling qs) ≡ false
-told_closes = told_fact (λ rows. has_closes rows ≡ false) refl (λ q behind rows none. none)
+-- an identification closes no order, puts nothing and reserves nothing
+pub only_tells : (qs : List Request)
+    → (has_closes (telling qs) ≡ false) × (puts_in (telling qs) ≡ 0) × (coins_in (telling qs) ≡ 0)
+only_tells = told_fact (λ rows. (has_closes rows ≡ false) × (puts_in rows ≡ 0) × (coins_in rows ≡ 0)) (refl, refl, refl)
+    (λ q behind rows none. none)
 
-told_puts : (qs : List Request) → puts_in (telling qs) ≡ 0
-told_puts = told_fact (λ rows. puts_in rows ≡ 0) refl (λ q behind rows none. none)
-
-room_by : (d : DeviceSetup) (job : Option Job) (state : EpochState) (owed : Dues) (last : ℕ) (c : Command) (new : Job)
+room_by : (d : DeviceSetup) (job : Option Job) (state : EpochState) (owed : OrderState) (last : ℕ) (c : Command) (new : Job)
     → refusal_beside d job state owed last c ≡ None → ahead new ≡ rows_of d c
     → held_by (Some new) (order_of owed.order) ≤ held_by None (order_of owed.order) + need_in (rows_of d c)
 room_by d job state owed last (command.Pay addr id count) new free rows =
@@ -183,8 +187,8 @@ room_by d job state owed last (command.Round addr) new free rows =
 room_by d job state owed last (command.Stop addr) new free rows =
     plain_room new _ 2 (ap has_closes rows) (ap puts_in rows)
 room_by d job state owed last (command.Ident addr) new free rows =
-    let room = plain_room new (order_of owed.order) 0 (ap has_closes rows ∙ told_closes (ident_requests d.body))
-    (ap puts_in rows ∙ told_puts (ident_requests d.body)) in
+    let tells = only_tells (ident_requests d.body) in
+    let room = plain_room new (order_of owed.order) 0 (ap has_closes rows ∙ tells.0) (ap puts_in rows ∙ tells.1) in
     omega (arith, room)
 room_by d job state owed last c new free rows = plain_room new _ 0 (ap has_closes rows) (ap puts_in rows)
 
@@ -198,7 +202,7 @@ pub rows_begin : (setup : Setup) (d : DeviceSetup) (c : Command) → is_of_devic
     → device_at setup.devices (address_of c) ≡ Some d → rows_begun setup c ≡ rows_of d c
 rows_begin setup d c of_device there = ap (λ found. rows_for found c) there ∙ rows_there d c of_device
 
-pub begun_holds : (setup : Setup) (d : DeviceSetup) (job : Option Job) (state : EpochState) (owed : Dues) (last : ℕ)
+pub begun_holds : (setup : Setup) (d : DeviceSetup) (job : Option Job) (state : EpochState) (owed : OrderState) (last : ℕ)
     (c : Command) (new : Job) → is_halt c ≡ false → is_of_device c ≡ true
     → refusal_beside d job state owed last c ≡ None → device_at setup.devices (address_of c) ≡ Some d
     → ahead new ≡ rows_of d c
@@ -209,7 +213,7 @@ begun_holds setup d job state owed last c new no_halt of_device free there rows 
     (subst (λ begun. held_by (Some new) (order_of owed.order) ≤ held_by None (order_of owed.order) + need_in begun)
     (sym (rows_begin setup d c of_device there)) (room_by d job state owed last c new free rows))
 
-pub begun_reserves : (setup : Setup) (d : DeviceSetup) (job : Option Job) (state : EpochState) (owed : Dues) (last : ℕ)
+pub begun_reserves : (setup : Setup) (d : DeviceSetup) (job : Option Job) (state : EpochState) (owed : OrderState) (last : ℕ)
     (c : Command) (new : Job) → is_halt c ≡ false → is_of_device c ≡ true
     → refusal_beside d job state owed last c ≡ None → device_at setup.devices (address_of c) ≡ Some d
     → ahead new ≡ rows_of d c → coins_by (Some new) ≡ coins_by job + coins_in (rows_begun setup c)

@@ -1,5 +1,5 @@
 -- What a host stands for after it went on.
-use Rattle.std.proofs.Common.{◌≡◌, ℕ, ◌+◌, Bool, List, ◌∷◌, ◌++◌, length, reverse, refl, sym, ap, subst, ◌∙◌, Option, Some, None, arith}
+use Rattle.std.proofs.Common.{◌≡◌, ℕ, ◌+◌, ◌≤◌, Bool, List, ◌∷◌, ◌++◌, length, reverse, refl, sym, ap, ap₂, subst, ◌∙◌, Option, Some, None, arith}
 use Rattle.std.specs.Prelude.{Err, Ok, OnErr, OnOk, Result}
 use Rattle.std.specs.Option.{option_or}
 use Rattle.cct_edge.specs.declared.fault.Failed.{Failed}
@@ -10,24 +10,27 @@ use Rattle.cct_model.specs.lines.entry.Entry.{Entry}
 use Rattle.cct_model.specs.Legal.{EntriesOfNext, command_entry, due_at}
 use Rattle.cct_model.specs.Records.{records}
 use Rattle.cct_model.specs.Refusal.{refusal, state_refusal}
+use Rattle.cct_model.specs.Rows.{puts_in}
 use Rattle.cct_disk.specs.declared.disk.Disk.{Ghosts}
 use Rattle.cct_disk.specs.Disk.{IsTrusted}
+use Rattle.cct_journal.specs.declared.journal.Journal.{Journal}
+use Rattle.cct_journal.specs.declared.place.Place.{Place}
+use Rattle.cct_journal.specs.Image.{capacity_of}
 use Rattle.cct_journal.specs.Journal as journals
 use Rattle.cct_journal.specs.Stands.{GoesOn}
+use Rattle.cct_ledger.specs.declared.ledger.Ledger.{Ledger}
 use Rattle.cct_ledger.specs.Ledger as ledgers
+use Rattle.cct_host.specs.declared.desks.Desks.{Desks}
 use Rattle.cct_host.specs.declared.host.Host.{Host}
 use Rattle.cct_host.specs.Attempt.{news_of}
-use Rattle.cct_host.specs.Book.{HasBook}
-use Rattle.cct_host.specs.Desk.{no_of}
+use Rattle.cct_host.specs.OnDisk.{KeepsRecords}
+use Rattle.cct_host.specs.Desk.{no_of, puts_at, sum_in}
 use Rattle.cct_host.specs.Desks as all_desks
-use Rattle.cct_host.specs.Host.{Answers, Keeps, Nexts, PutSuits, PutsDue, StandsFor, capacity_in, disk_of, put_by, setup_of}
+use Rattle.cct_host.specs.Host.{Advances, Answers, Fails, FailsToPut, Keeps, Nexts, PutSuits, PutsDue, StandsFor, capacity_in, disk_of, put_by, setup_of}
+use Rattle.cct_host.specs.Parts.{BelongTogether, GoOnTogether}
+use Rattle.cct_host.specs.Running.{needed, rows_begun}
 use Rattle.cct_host.proofs.Putting.{next_records, put_last}
-
--- an answer passes on with three facts
-pub all_ok : (result : Result Unit Failed) (P Q R S : Type 0) → OnOk result P → OnOk result Q → OnOk result R
-    → (P → Q → R → S) → OnOk result S
-all_ok (Ok done) P Q R S p q r goes = goes p q r
-all_ok (Err why) P Q R S p q r goes = tt
+use Rattle.cct_host.proofs.Turning.{puts_held, room_kept}
 
 -- what is so is so of an answer that fails
 pub if_failed : (result : Result Unit Failed) (P : Type 0) → P → OnErr result P
@@ -79,34 +82,75 @@ module _ {D : Type 0} {g : Ghosts D} where
       let is = next_records hears (setup_of old) past addr news entries in
       record {
         keeps = next_keeps old new addr past news _ refl is puts stands.keeps suits desks;
-        book = λ trusted. subst
-            (HasBook (setup_of new) g.honest g.seen g.may_leave (disk_of new) (journals.place_of new.journal))
+        on_disk = λ trusted. subst
+            (KeepsRecords (setup_of new) g.honest g.seen g.may_leave (disk_of new) (journals.place_of new.journal))
             (sym (put_last due (records past) (records (news ++ past)) is))
-            (puts.book (stands.book (trusted_before g.size g.honest g.seen g.cuts (disk_of old) (disk_of new) goes
+            (puts.on_disk (stands.on_disk (trusted_before g.size g.honest g.seen g.cuts (disk_of old) (disk_of new) goes
             trusted)));
       }
 
   pub next_goes : {L : Type 0} (gives : L → List ℕ → List ℕ → L → Type 0) (link left : L) (addr : ℕ)
       (old new : Host D g) (report reported : List Entry)
       → GoesOn g.size g.honest g.seen g.cuts (disk_of old) (disk_of new)
-      → all_desks.Nexts gives link left addr old.desks new.desks report reported
-      → journals.used_of new.journal
-      ≡ journals.used_of old.journal + length (put_by (all_desks.due_on old.desks addr))
-      → ((past : List Entry) → all_desks.StandsFor old.desks past
-      → PutsDue past addr old.desks new.desks old.ledger new.ledger old.journal new.journal)
+      → Advances gives link left addr old.desks new.desks old.ledger new.ledger old.journal new.journal report reported
       → Nexts gives link left addr old new report reported
-  next_goes gives link left addr old new report reported goes nexts counts puts = record {
-    what = nexts.what;
-    reported_is = nexts.reported_is;
-    link = nexts.link;
-    counts = counts ∙ ap (λ d. journals.used_of old.journal + length (put_by d)) (sym nexts.put_is);
-    goes = λ hears past heard stands suits.
-        let turned = nexts.goes hears past heard stands.keeps.desks suits.owned in (
-          turned.0,
-          next_stands hears old new addr past (news_of addr nexts.what) goes (puts past stands.keeps.desks) stands suits
-              turned.0 turned.1,
-        );
+  next_goes gives link left addr old new report reported goes advances =
+      let nexts = advances.nexts in
+      record {
+        what = nexts.what;
+        reported_is = nexts.reported_is;
+        link = nexts.link;
+        counts = advances.counts ∙ ap (λ d. journals.used_of old.journal + length (put_by d)) (sym nexts.put_is);
+        goes = λ hears past heard stands suits.
+            let turned = nexts.goes hears past heard stands.keeps.desks suits.owned in (
+              turned.0,
+              next_stands hears old new addr past (news_of addr nexts.what) goes (advances.puts past stands.keeps.desks)
+                  stands suits turned.0 turned.1,
+            );
+      }
+
+  -- a put that failed
+  pub put_failed : (old new : Host D g) (addr : ℕ)
+      → FailsToPut addr old.desks new.desks old.ledger new.ledger old.journal new.journal → Fails old new addr
+  put_failed old new addr fails past stands =
+      let failed = fails.fails past stands.keeps.desks in
+      let desks = subst (λ d. all_desks.StandsFor d past) (sym fails.desks_stay) stands.keeps.desks in
+      let ledger = subst (λ l. ledgers.StandsFor l (records past) (all_desks.reserved_of old.desks))
+      (sym fails.ledger_stays) stands.keeps.ledger in (
+        record {
+          desks = desks;
+          ledger = subst (λ d. ledgers.StandsFor new.ledger (records past) (all_desks.reserved_of d))
+              (sym fails.desks_stay) ledger;
+          used = ap (λ (p : Place). p.used) fails.place ∙ stands.keeps.used;
+        },
+        (failed.0, failed.1, λ trusted. failed.2 (reverse (records past)) (stands.on_disk trusted)),
+      )
+
+  -- after a command that had room the parts of a host still belong together
+  pub together_taken : (desks turned : Desks) (ledger posted : Ledger) (journal : Journal D g) (c : Command)
+      (result : Result Unit CommandNo) → BelongTogether desks ledger journal
+      → GoOnTogether desks turned ledger posted → OnOk result (all_desks.TakesIn c desks turned)
+      → OnErr result (all_desks.Stays desks turned × (posted ≡ ledger))
+      → (1 ≤ puts_in (rows_begun (all_desks.setup_of desks) c)
+      → journals.used_of journal + all_desks.held_of desks + needed (all_desks.setup_of desks) c
+      ≤ capacity_of (g.size (journals.disk_of journal)))
+      → BelongTogether turned posted journal
+  together_taken desks turned ledger posted journal c (Ok taken) together goes takes stays fits = record {
+    same = goes.same ∙ together.same ∙ sym goes.setup;
+    reserved = goes.reserved;
+    counted = omega (arith, goes.counted, together.counted);
+    fits = room_kept (puts_in (rows_begun (all_desks.setup_of desks) c)) _ _ _ _ _ _ _ together.fits takes.puts
+        (puts_held turned) takes.holds fits;
   }
+  together_taken desks turned ledger posted journal c (Err why) together goes takes stays fits =
+      let puts : all_desks.puts_of turned ≡ all_desks.puts_of desks =
+      ap₂ (λ ks k. sum_in puts_at ks + puts_at k) stays.0.1 stays.0.3 in
+      record {
+        same = goes.same ∙ together.same ∙ sym goes.setup;
+        reserved = goes.reserved;
+        counted = omega (arith, goes.counted, together.counted);
+        fits = omega (arith, puts, together.fits);
+      }
 
   -- a command that is tried with room for it is taken or refused as it has to be
   pub tried_answers : (old new : Host D g) (c : Command) (result : Result Unit CommandNo)
@@ -127,10 +171,10 @@ module _ {D : Type 0} {g : Ghosts D} where
                 (ledger (records past) stands.keeps.ledger);
             used = ap journals.used_of same ∙ stands.keeps.used ∙ sym (ap length quiet);
           };
-          book = subst (λ journal. IsTrusted g.honest g.seen (journals.disk_of journal)
-              → HasBook (setup_of new) g.honest g.seen g.may_leave (journals.disk_of journal) (journals.place_of journal)
+          on_disk = subst (λ journal. IsTrusted g.honest g.seen (journals.disk_of journal)
+              → KeepsRecords (setup_of new) g.honest g.seen g.may_leave (journals.disk_of journal) (journals.place_of journal)
               (reverse (records (command_entry c (no_of result) ∷ past)))) (sym same)
-              (λ trusted. subst (λ rs. HasBook (setup_of old) g.honest g.seen g.may_leave (disk_of old)
-              (journals.place_of old.journal) (reverse rs)) (sym quiet) (stands.book trusted));
+              (λ trusted. subst (λ rs. KeepsRecords (setup_of old) g.honest g.seen g.may_leave (disk_of old)
+              (journals.place_of old.journal) (reverse rs)) (sym quiet) (stands.on_disk trusted));
         },
       )

@@ -15,18 +15,17 @@ use Rattle.cct_model.specs.Line as line
 use Rattle.cct_model.specs.Job as model
 use Rattle.cct_model.specs.Legal.{with_end}
 use Rattle.cct_model.specs.Job.{address_of, ident_requests}
-use Rattle.cct_model.specs.Rows.{id_ahead}
-use Rattle.cct_model.proofs.Rows.{told_fact}
+use Rattle.cct_model.proofs.Rows.{told_no_id}
 use Rattle.cct_model.specs.Order.{order, order_by}
 use Rattle.cct_model.specs.Refusal.{running_id, sale_id}
 use Rattle.cct_model.specs.Transcript.{lines_of, owner, sale_lines, sold_line}
 use Rattle.cct_jobs.specs.declared.job.Job.{Job}
-use Rattle.cct_host.specs.declared.dues.Dues.{Dues}
+use Rattle.cct_host.specs.declared.orders.OrderState.{OrderState}
 use Rattle.cct_jobs.specs.Jobs.{Stands, order_of}
 use Rattle.cct_jobs.specs.Sales.{StandsSale}
 use Rattle.cct_host.specs.Desk.{Keeps, Knows, Works}
 use Rattle.cct_host.specs.Place.{IsAsBefore, Place, StandsAt, addr_of, device, line_at, lines_at, sales, scans}
-use Rattle.cct_host.specs.Running.{Settles, dues_left, is_halt}
+use Rattle.cct_host.specs.Running.{Settles, orders_left, is_halt}
 use Rattle.cct_host.proofs.Lines.{IsQuiet, job_asked, own_ended, own_put, own_taken}
 
 -- a line more of a job is of the same payment
@@ -36,16 +35,14 @@ running_line d x (model.works c since) = refl
 
 -- an identification begins no id
 pub no_id_told : (d : DeviceSetup) (addr : ℕ) → 0 ≡ running_id d (model.works (command.Ident addr) [])
-no_id_told d addr =
-    sym (ap (λ found. unwrap_or found 0)
-    (told_fact (λ rows. id_ahead rows ≡ None) refl (λ q behind rows none. none) (ident_requests d.body)))
+no_id_told d addr = sym (ap (λ found. unwrap_or found 0) (told_no_id (ident_requests d.body)))
 
 sale_line : (x : Line) (j : model.Job) → sale_id (model.with_line x j) ≡ sale_id j
 sale_line x model.free = refl
 sale_line x (model.works c since) = refl
 
 -- what is known of an epoch, of an open order and of a payment, where they stay
-pub knows_same : (place : Place) (state : EpochState) (owed : Dues) (old new : List Line)
+pub knows_same : (place : Place) (state : EpochState) (owed : OrderState) (old new : List Line)
     → model.job new ≡ model.job old → model.epoch new ≡ model.epoch old → order new ≡ order old
     → Knows place state owed old → Knows place state owed new
 knows_same (device d) state owed old new jobs same ordered knows =
@@ -54,14 +51,14 @@ knows_same scans state owed old new jobs same ordered knows = tt
 knows_same sales state owed old new jobs same ordered knows = (knows.0, knows.1 ∙ sym (ap sale_id jobs))
 
 -- what is known where a job goes on, and where it ended
-knows_kept : (place : Place) (state : EpochState) (owed : Dues) (job : Job) (lines : List Line)
-    → Knows place state owed lines → Knows place state (dues_left (Some job) owed) lines
+knows_kept : (place : Place) (state : EpochState) (owed : OrderState) (job : Job) (lines : List Line)
+    → Knows place state owed lines → Knows place state (orders_left (Some job) owed) lines
 knows_kept (device d) state owed job lines knows = (knows.0, knows.1, knows.2)
 knows_kept scans state owed job lines knows = tt
 knows_kept sales state owed job lines knows = (knows.0, knows.1)
 
-knows_ended : (place : Place) (state : EpochState) (owed : Dues) (end : End) (lines : List Line)
-    → Knows place state owed lines → Knows place state (dues_left None owed) (line.ended end ∷ lines)
+knows_ended : (place : Place) (state : EpochState) (owed : OrderState) (end : End) (lines : List Line)
+    → Knows place state owed lines → Knows place state (orders_left None owed) (line.ended end ∷ lines)
 knows_ended (device d) state owed end lines knows = (knows.0, knows.1, refl)
 knows_ended scans state owed end lines knows = tt
 knows_ended sales state owed end lines knows = (knows.0, refl)
@@ -75,7 +72,7 @@ works_same place job old new state after owed left jobs epochs orders works =
     (subst (λ n. Works place job old n left) (sym epochs) (subst (λ o. Works place job old state o) (sym orders) works))
 
 -- after entries that change no job, no epoch and no open order there
-pub keeps_other : (place : Place) (job : Option Job) (state : EpochState) (owed : Dues) (past news : List Entry)
+pub keeps_other : (place : Place) (job : Option Job) (state : EpochState) (owed : OrderState) (past news : List Entry)
     → IsAsBefore place past news
     → Keeps place job state owed (lines_at place past) → Keeps place job state owed (lines_at place (news ++ past))
 keeps_other place job state owed past news same keeps = record {
@@ -84,14 +81,14 @@ keeps_other place job state owed past news same keeps = record {
 }
 
 -- after an entry that changes none of them
-pub keeps_quiet : (place : Place) (job : Option Job) (state : EpochState) (owed : Dues) (past : List Entry)
+pub keeps_quiet : (place : Place) (job : Option Job) (state : EpochState) (owed : OrderState) (past : List Entry)
     (e : Entry) → IsQuiet past e
     → Keeps place job state owed (lines_at place past) → Keeps place job state owed (lines_at place (e ∷ past))
 keeps_quiet place job state owed past e quiet keeps =
     keeps_other place job state owed past (e ∷ []) (quiet.jobs place, quiet.epochs place, quiet.orders place) keeps
 
 -- after an exchange
-pub asked_keeps : (place : Place) (c : Command) (since : List Line) (state : EpochState) (owed : Dues)
+pub asked_keeps : (place : Place) (c : Command) (since : List Line) (state : EpochState) (owed : OrderState)
     (sent heard : List ℕ) (new : Job) (lines : List Line)
     → StandsAt place new c (line_at place sent heard ∷ since) (model.epoch lines) (order lines)
     → model.job lines ≡ model.works c since → Knows place state owed lines
@@ -115,7 +112,7 @@ asked_keeps sales c since state owed sent heard new lines stands was knows = rec
 
 -- after a put, which moved the epoch and the open order
 pub put_keeps : (d : DeviceSetup) (c : Command) (since : List Line) (r : Record) (past : List Entry)
-    (state : EpochState) (owed : Dues) (new : Job) → owner past r ≡ d.addr
+    (state : EpochState) (owed : OrderState) (new : Job) → owner past r ≡ d.addr
     → ((after : EpochState) → Stands d new c (line.put r ∷ since) after (order_by r (order (lines_of d past))))
     → model.job (lines_of d past) ≡ model.works c since → state ≡ model.epoch_by r (model.epoch (lines_of d past))
     → order_of owed.order ≡ order_by r (order (lines_of d past)) → owed.id ≡ running_id d (model.job (lines_of d past))
@@ -130,7 +127,7 @@ put_keeps d c since r past state owed new own stands was moved ordered same =
     })
 
 -- after the put of a sale
-pub sold_keeps : (c : Command) (since : List Line) (r : Record) (past : List Entry) (state : EpochState) (owed : Dues)
+pub sold_keeps : (c : Command) (since : List Line) (r : Record) (past : List Entry) (state : EpochState) (owed : OrderState)
     (new : Job) → sold_line r ≡ line.put r ∷ [] → StandsSale new c (line.put r ∷ since)
     → model.job (sale_lines past) ≡ model.works c since → owed.order ≡ None
     → owed.id ≡ sale_id (model.job (sale_lines past))
@@ -143,7 +140,7 @@ sold_keeps c since r past state owed new sold stands was none same =
     })
 
 -- after a command that was taken
-pub taken_keeps : (place : Place) (c : Command) (job : Job) (state : EpochState) (owed : Dues)
+pub taken_keeps : (place : Place) (c : Command) (job : Job) (state : EpochState) (owed : OrderState)
     (past : List Entry) → address_of c ≡ addr_of place
     → model.begun c (model.job (lines_at place past)) ≡ model.works c []
     → StandsAt place job c [] (model.epoch (lines_at place past)) (order (lines_at place past))
@@ -176,7 +173,7 @@ halt_runs_on d (command.Halt addr) j halt = running_line d (line.taken (command.
 halt_runs_on d k j halt = absurd cc
 
 -- after a halt that was taken
-pub halt_keeps : (d : DeviceSetup) (c : Command) (old new : Job) (state : EpochState) (owed : Dues)
+pub halt_keeps : (d : DeviceSetup) (c : Command) (old new : Job) (state : EpochState) (owed : OrderState)
     (past : List Entry) → address_of c ≡ d.addr → is_halt c ≡ true → GoesByHalt old new
     → Keeps (device d) (Some old) state owed (lines_of d past)
     → Keeps (device d) (Some new) state owed (lines_of d (entry.Taken c ∷ past))
@@ -187,20 +184,20 @@ halt_keeps d c old new state owed past here halt goes keeps =
     })
 
 -- what stays of a job after its entry, and its end where it brought one
-pub left_keeps : (place : Place) (kept : Option Job) (new : Job) (state : EpochState) (owed : Dues)
+pub left_keeps : (place : Place) (kept : Option Job) (new : Job) (state : EpochState) (owed : OrderState)
     (past : List Entry) (e : Entry) (end : Option End) (report reported : List Entry)
     → Settles end new (addr_of place) kept report reported
     → Keeps place (Some new) state owed (lines_at place (e ∷ past))
-    → Keeps place kept state (dues_left kept owed) (lines_at place (with_end (addr_of place) e end ++ past))
+    → Keeps place kept state (orders_left kept owed) (lines_at place (with_end (addr_of place) e end ++ past))
 left_keeps place kept new state owed past e None report reported settled keeps =
-    subst (λ k. Keeps place k state (dues_left k owed) (lines_at place (e ∷ past))) (sym settled.0) (record {
+    subst (λ k. Keeps place k state (orders_left k owed) (lines_at place (e ∷ past))) (sym settled.0) (record {
       works = keeps.works;
       knows = knows_kept place state owed new (lines_at place (e ∷ past)) keeps.knows;
     })
 left_keeps place kept new state owed past e (Some end) report reported settled keeps =
-    subst (λ k. Keeps place k state (dues_left k owed) (lines_at place (entry.Ended (addr_of place) end ∷ e ∷ past)))
+    subst (λ k. Keeps place k state (orders_left k owed) (lines_at place (entry.Ended (addr_of place) end ∷ e ∷ past)))
     (sym settled.0)
-    (subst (Keeps place None state (dues_left None owed)) (sym (own_ended place end (e ∷ past))) (record {
+    (subst (Keeps place None state (orders_left None owed)) (sym (own_ended place end (e ∷ past))) (record {
       works = tt;
       knows = knows_ended place state owed end (lines_at place (e ∷ past)) keeps.knows;
     }))

@@ -12,7 +12,7 @@ pub mod Owned
 pub mod Places
 pub mod Putting
 pub mod Quiet
-pub mod Recalling
+pub mod Replaying
 pub mod Records
 pub mod Standing
 pub mod Starting

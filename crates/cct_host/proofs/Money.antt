@@ -1,5 +1,5 @@
 -- What the ledger of a host tells is what the operator has, with what the jobs of its desks reserve.
-use Rattle.std.proofs.Common.{◌≡◌, ℕ, ◌≤◌, ◌<◌, ◌+◌, ◌-◌, true, false, cond, nat_le, List, sym, ap, ◌∙◌, Option, Some, None, arith, le-leb}
+use Rattle.std.proofs.Common.{◌≡◌, ℕ, ◌≤◌, ◌<◌, ◌+◌, ◌-◌, true, false, cond, nat_le, List, sym, ap, ◌∙◌, Option, Some, None, arith, le-leb, subst}
 use Rattle.std.specs.Option.{IfSome}
 use Rattle.std.proofs.lemmas.Bool.Decides.{nat_tests}
 use Rattle.cct_model.specs.terms.device.Setup.{Setup}
@@ -13,7 +13,7 @@ use Rattle.cct_model.specs.Records.{records}
 use Rattle.cct_model.specs.Refusal as refusals
 use Rattle.cct_ledger.specs.Told.{totals_beside}
 use Rattle.cct_host.specs.declared.desks.Desks.{Desks}
-use Rattle.cct_host.specs.Desks.{StandsFor, reserved_of, setup_of}
+use Rattle.cct_host.specs.Desks.{FreesIn, StandsFor, amount_on, due_on, reserved_of, setup_of}
 use Rattle.cct_host.proofs.Held.{reserved_is}
 
 -- what the operator has
@@ -57,14 +57,24 @@ left_of : (before after freed worked taken : ℕ) → after + freed ≡ before �
     → after ≡ worked - taken
 left_of before after freed worked taken frees was is = omega arith
 
-pub freed_is : (desks : Desks) (past : List Entry) (old new after : ℕ) (due : Option Record) → StandsFor desks past
+freed_by_due : (desks : Desks) (past : List Entry) (old new after : ℕ) (due : Option Record) → StandsFor desks past
     → after + (old - new) ≡ reserved_of desks → IfSome due (λ r. new ≡ 0)
     → IfSome due (λ r. old ≡ freed_by (setup_of desks) r)
     → IfSome due (λ r. after ≡ reserved_at_work (setup_of desks) past - freed_by (setup_of desks) r)
-freed_is desks past old new after None stands frees clears takes = tt
-freed_is desks past old new after (Some r) stands frees clears takes =
+freed_by_due desks past old new after None stands frees clears takes = tt
+freed_by_due desks past old new after (Some r) stands frees clears takes =
     left_of (reserved_of desks) after (old - new) _ _ frees (reserved_is desks past stands)
     (omega (arith, clears, takes))
+
+pub freed_is : (desks turned : Desks) (past : List Entry) (addr reserved : ℕ) → FreesIn addr desks turned
+    → reserved ≡ amount_on desks addr → StandsFor desks past
+    → IfSome (due_on desks addr) (λ r. reserved ≡ freed_by (setup_of desks) r)
+    → IfSome (due_on desks addr)
+    (λ r. reserved_of turned ≡ reserved_at_work (setup_of desks) past - freed_by (setup_of desks) r)
+freed_is desks turned past addr reserved frees is stands takes =
+    freed_by_due desks past (amount_on desks addr) (amount_on turned addr) (reserved_of turned) (due_on desks addr) stands
+    frees.frees frees.clears
+    (subst (λ n. IfSome (due_on desks addr) (λ r. n ≡ freed_by (setup_of desks) r)) is takes)
 
 -- so the ledger takes that record
 allowed_beside : (posts setup : Setup) (before : List Record) (r : Record) (left beside : ℕ) → posts ≡ setup

@@ -23,7 +23,7 @@ use Rattle.cct_jobs.specs.Jobs.{ClosesItsOwn}
 use Rattle.cct_host.specs.declared.desk.JobDesk.{JobDesk}
 use Rattle.cct_host.specs.declared.desks.Desks.{Desks}
 use Rattle.cct_host.specs.Desk.{AllSit, Sits, greatest_paying}
-use Rattle.cct_host.specs.Desks.{StandsFor, setup_of, working_id}
+use Rattle.cct_host.specs.Desks.{FindsDesk, StandsFor, desk_there, setup_of, working_id}
 use Rattle.cct_model.specs.Records.{greatest_id, records}
 use Rattle.cct_model.specs.Refusal.{greatest_running, last_id, running_id}
 use Rattle.cct_model.specs.Transcript.{lines_of}
@@ -109,6 +109,59 @@ pub desk_absent : (ds : List DeviceSetup) (ks : List JobDesk) (addr : ℕ) → p
     → option_and_then (slice_get ks) (position (is_at addr) ds) ≡ None
 desk_absent ds ks addr none = ap (option_and_then (slice_get ks)) none
 
+-- an index in a setup that was lent is one of the desks
+pub found_within : (desks : Desks) (lent : List DeviceSetup) (found : Option ℕ) → lent ≡ (setup_of desks).devices
+    → IfSome found (λ i. i < length lent) → IfSome found (λ i. i < length desks.devices.items)
+found_within desks lent found is within =
+    subst (λ n. IfSome found (λ i. i < n)) (ap length is ∙ sym desks.many) within
+
+-- what is known of the desk of the device at an address, by its index
+pub record FoundAt (desks : Desks) (addr i : ℕ) : Type 0 where
+  pub index : position (is_at addr) (setup_of desks).devices ≡ Some i
+  pub within : i < length (setup_of desks).devices
+  pub there : i < length desks.devices.items
+  pub device : DeviceSetup
+  pub is : device ≡ get_or (setup_of desks).devices i device
+  pub at : device_at (setup_of desks).devices addr ≡ Some device
+  pub addr_is : device.addr ≡ addr
+
+pub found_at : (desks : Desks) (addr i : ℕ) (found : Option ℕ) → FindsDesk desks addr found → found ≡ Some i
+    → FoundAt desks addr i
+found_at desks addr i found finds some =
+    let there : i < length desks.devices.items =
+    subst (λ f. IfSome f (λ j. j < length desks.devices.items)) some finds.within in
+    let within : i < length (setup_of desks).devices = subst (λ n. i < n) desks.many there in
+    let index = sym finds.is ∙ some in
+    let this = at_this (setup_of desks).devices i within in
+    let place = device_found (setup_of desks).devices i this.0 addr index this.1 in
+    record {
+      index = index;
+      within = within;
+      there = there;
+      device = this.0;
+      is = this.1;
+      at = place.1;
+      addr_is = place.2;
+    }
+
+pub none_at : (desks : Desks) (addr : ℕ) (found : Option ℕ) → FindsDesk desks addr found → found ≡ None
+    → (device_at (setup_of desks).devices addr ≡ None) × (desk_there desks addr ≡ None)
+none_at desks addr found finds none = (
+  absent (setup_of desks).devices addr found finds.is none,
+  desk_absent (setup_of desks).devices desks.devices.items addr (sym finds.is ∙ none),
+)
+
+-- it is still found where the setup stays
+pub still_found : (old new : Desks) (addr : ℕ) (found : Option ℕ) → setup_of new ≡ setup_of old
+    → FindsDesk old addr found → FindsDesk new addr found
+still_found old new addr found same finds =
+    let many : length old.devices.items ≡ length new.devices.items =
+    old.many ∙ ap (λ (s : Setup). length s.devices) (sym same) ∙ sym new.many in
+    record {
+      is = finds.is ∙ ap (λ (s : Setup). position (is_at addr) s.devices) (sym same);
+      within = subst (λ n. IfSome found (λ i. i < n)) many finds.within;
+    }
+
 -- the desk at the index of a device is the device's
 pub desk_sits : (ds : List DeviceSetup) (ks : List JobDesk) (i : ℕ) (d : DeviceSetup) (k : JobDesk) (past : List Entry)
     → i < length ds → d ≡ get_or ds i d → k ≡ get_or ks i k
@@ -137,7 +190,7 @@ desks_apart [] (m ∷ ms) addr past news none at all = absurd all
 desks_apart (e ∷ es) [] addr past news none at all = absurd all
 desks_apart (e ∷ es) (m ∷ ms) addr past news none at all =
     let parts : ((e.addr == addr) ≡ false) × (device_at es addr ≡ None) = none_here (e.addr == addr) e _ none in (
-      keeps_other (device e) m.job m.epoch m.dues past news (at (device e) (other_of _ _ parts.0)) all.0,
+      keeps_other (device e) m.job m.epoch m.orders past news (at (device e) (other_of _ _ parts.0)) all.0,
       desks_apart es ms addr
           past news parts.1 at all.1,
     )
@@ -164,7 +217,7 @@ desks_at (e ∷ es) (m ∷ ms) (suc i) x d addr past news distinct within is her
     let other : e.addr ≢ addr =
     (λ (same : e.addr ≡ addr). apart es i d e.addr (omega arith) distinct.0
     (ap (λ y. y.addr) (sym is) ∙ here ∙ sym same)) in (
-      keeps_other (device e) m.job m.epoch m.dues past news (at (device e) other) all.0,
+      keeps_other (device e) m.job m.epoch m.orders past news (at (device e) other) all.0,
       desks_at es ms i x d addr past news
           distinct.1 (omega arith) is here at sits all.1,
     )
@@ -221,9 +274,9 @@ device_turn setup ks items scan sale i x d addr past news sound lent found is at
     let place = device_found setup.devices i d addr found is in (
       subst (AllSit (news ++ past) setup.devices) (sym (refilled ks items i x lent))
           (desks_at setup.devices ks i x d addr past news sound.distinct place.0 is place.2 at sits all),
-      keeps_other scans scan.job scan.epoch scan.dues past news
+      keeps_other scans scan.job scan.epoch scan.orders past news
           (at scans (device_apart setup i d addr BROADCAST sound found is (omega arith))) scanned,
-      keeps_other sales sale.job sale.epoch sale.dues past news
+      keeps_other sales sale.job sale.epoch sale.orders past news
           (at sales (device_apart setup i d addr HOST sound found is (omega arith))) sold,
     )
 
@@ -234,7 +287,7 @@ pub scan_turn : (setup : Setup) (ks : List JobDesk) (sale : JobDesk) (past news 
 scan_turn setup ks sale past news sound at all sold = (
   desks_apart setup.devices ks BROADCAST past news
       (no_device_below setup.devices BROADCAST (omega arith) sound.devices) at all,
-  keeps_other sales sale.job sale.epoch sale.dues past news (at sales host_apart) sold,
+  keeps_other sales sale.job sale.epoch sale.orders past news (at sales host_apart) sold,
 )
 
 -- the desk of sales changes, and all else goes on
@@ -243,7 +296,7 @@ pub sale_turn : (setup : Setup) (ks : List JobDesk) (scan : JobDesk) (past news 
     → AllSit (news ++ past) setup.devices ks × Sits (news ++ past) scans scan
 sale_turn setup ks scan past news sound at all scanned = (
   desks_apart setup.devices ks HOST past news (no_device_below setup.devices HOST (omega arith) sound.devices) at all,
-  keeps_other scans scan.job scan.epoch scan.dues past news (at scans all_apart) scanned,
+  keeps_other scans scan.job scan.epoch scan.orders past news (at scans all_apart) scanned,
 )
 
 -- an entry that changes no job, no epoch and no open order
@@ -253,7 +306,7 @@ desks_quiet [] [] past e quiet all = tt
 desks_quiet [] (m ∷ ms) past e quiet all = absurd all
 desks_quiet (d ∷ ds) [] past e quiet all = absurd all
 desks_quiet (d ∷ ds) (m ∷ ms) past e quiet all =
-    (keeps_quiet (device d) m.job m.epoch m.dues past e quiet all.0, desks_quiet ds ms past e quiet all.1)
+    (keeps_quiet (device d) m.job m.epoch m.orders past e quiet all.0, desks_quiet ds ms past e quiet all.1)
 
 -- the last id: the greatest of the records, of the payments and of the sale at work
 paying_is : (ds : List DeviceSetup) (ks : List JobDesk) (past : List Entry) → AllSit past ds ks
@@ -269,7 +322,7 @@ pub last_is : (desks : Desks) (past : List Entry) (last : ℕ) → StandsFor des
     → last ≡ max desks.last (working_id desks) → last ≡ last_id (setup_of desks) past
 last_is desks past last stands is =
     is ∙ ap (λ r. max r (working_id desks)) stands.last
-    ∙ ap (λ id. max (greatest_id (records past)) (max id desks.sale.dues.id))
+    ∙ ap (λ id. max (greatest_id (records past)) (max id desks.sale.orders.id))
     (paying_is (setup_of desks).devices desks.devices.items past stands.devices)
     ∙ ap (λ id. max (greatest_id (records past)) (max (greatest_running past (setup_of desks).devices) id))
     stands.sale.knows.1

@@ -9,7 +9,7 @@ use Rattle.cct_disk.specs.declared.disk.Disk.{Ghosts}
 use Rattle.cct_journal.specs.Journal as journals
 use Rattle.cct_ledger.specs.Ledger as ledgers
 use Rattle.cct_host.specs.declared.host.Host.{Host}
-use Rattle.cct_host.specs.Book.{HasBook}
+use Rattle.cct_host.specs.OnDisk.{KeepsRecords}
 use Rattle.cct_host.specs.Desks as all_desks
 use Rattle.cct_host.specs.Host as hosts
 use Rattle.cct_host.specs.Place.{Place, device, lines_at, sales, scans}
@@ -26,9 +26,9 @@ host_quiet {D} {g} host past e quiet stands =
             subst (λ rs. ledgers.StandsFor host.ledger rs (all_desks.reserved_of host.desks)) same stands.keeps.ledger;
         used = stands.keeps.used ∙ ap length same;
       };
-      book = λ trusted.
-          subst (λ rs. HasBook (hosts.setup_of host) g.honest g.seen g.may_leave (hosts.disk_of host) (journals.place_of host.journal)
-          (reverse rs)) same (stands.book trusted);
+      on_disk = λ trusted.
+          subst (λ rs. KeepsRecords (hosts.setup_of host) g.honest g.seen g.may_leave (hosts.disk_of host) (journals.place_of host.journal)
+          (reverse rs)) same (stands.on_disk trusted);
     }
 
 -- a balance that is told is no line

@@ -1,21 +1,24 @@
 -- A host goes over the records of its journal, oldest first.
 use Rattle.std.proofs.Common.{◌≡◌, ℕ, ◌+◌, ◌&&◌, Bool, true, false, List, [], ◌∷◌, ◌++◌, length, reverse, slice_get, Option, Some, None, refl, sym, ap, subst, ◌∙◌, arith, append_assoc, append-nil, length-append, true≢false}
 use Rattle.std.specs.Option.{is_some}
+use Rattle.std.specs.Prelude.{Err, IfErr, IsErr, IsErrAnd, Ok, Result}
 use Rattle.std.proofs.lemmas.Bool.{and_from}
 use Rattle.std.proofs.lemmas.List.{length-reverse, nil_from_length, reverse-append, reverse-reverse}
 use Rattle.cct_model.specs.terms.device.Setup.{Setup}
 use Rattle.cct_model.specs.lines.record.Record.{Record}
 use Rattle.cct_model.specs.lines.record.Record.TheVariants as record_of
 use Rattle.cct_model.specs.Following.{all_follow, follows, is_allowed}
+use Rattle.cct_journal.specs.declared.refusal.ReadNo.{ReadNo}
+use Rattle.cct_journal.specs.declared.refusal.ReadNo.TheVariants.{Disk}
 use Rattle.cct_ledger.specs.declared.ledger.Ledger.{Ledger}
 use Rattle.cct_ledger.specs.Ledger as ledgers
 use Rattle.cct_ledger.specs.Told.{is_of_money}
 use Rattle.cct_ledger.proofs.Following.{allowed_alone}
 use Rattle.cct_host.specs.declared.desks.Desks.{Desks}
 use Rattle.cct_host.specs.Desks as all_desks
-use Rattle.cct_host.specs.Recalled.{Recalls}
+use Rattle.cct_host.specs.Replayed.{Replays}
 use Rattle.cct_host.specs.Replaying.{GoesOver}
-use Rattle.cct_host.specs.Starting.{IsFirstBad, WentOver, WentOverFirst}
+use Rattle.cct_host.specs.Starting.{IsFirstBad, RefusesStart, WentOver, WentOverFirst}
 
 -- the record behind the first ones
 
@@ -66,44 +69,52 @@ judged setup before r may epochs others = judged_by setup before r may (is_of_mo
 -- so a record that they take is one more that they went over
 pub went_on : (old new : Desks) (ledger posted : Ledger) (entry : Record)
     → all_desks.setup_of new ≡ all_desks.setup_of old → ledgers.setup_of ledger ≡ all_desks.setup_of old
-    → ((before : List Record) → Recalls old before → all_follow (all_desks.setup_of old) before ≡ true
+    → ((before : List Record) → Replays old before → all_follow (all_desks.setup_of old) before ≡ true
     → is_of_money entry ≡ false → true ≡ follows (all_desks.setup_of old) before entry)
     → ledgers.Judges ledger entry true → ledgers.GoesOn ledger posted entry
-    → ((before : List Record) → Recalls old before → all_follow (all_desks.setup_of old) before ≡ true
-    → follows (all_desks.setup_of old) before entry ≡ true → Recalls new (entry ∷ before))
+    → ((before : List Record) → Replays old before → all_follow (all_desks.setup_of old) before ≡ true
+    → follows (all_desks.setup_of old) before entry ≡ true → Replays new (entry ∷ before))
     → (before : List Record) → WentOver old ledger before → WentOver new posted (entry ∷ before)
-went_on old new ledger posted entry setup same epochs judges posts recalls before over =
+went_on old new ledger posted entry setup same epochs judges posts replays before over =
     let follow : follows (all_desks.setup_of old) before entry ≡ true =
-    sym (judged (all_desks.setup_of old) before entry true (epochs before over.recalls over.follow)
+    sym (judged (all_desks.setup_of old) before entry true (epochs before over.replays over.follow)
     (λ _. refl)) ∙ ap (λ s. is_allowed s before 0 entry) (sym same) ∙ sym (judges before 0 over.money) in
     record {
-      recalls = recalls before over.recalls over.follow follow;
+      replays = replays before over.replays over.follow follow;
       money = posts before 0 over.money;
       follow = subst (λ s. all_follow s (entry ∷ before) ≡ true) (sym setup) (and_from _ _ follow over.follow);
     }
 
 -- and one that they don't take doesn't follow
 pub desks_refuse : (desks : Desks) (ledger : Ledger) (entry : Record)
-    → ((before : List Record) → Recalls desks before → all_follow (all_desks.setup_of desks) before ≡ true
+    → ((before : List Record) → Replays desks before → all_follow (all_desks.setup_of desks) before ≡ true
     → is_of_money entry ≡ false → false ≡ follows (all_desks.setup_of desks) before entry)
     → (is_of_money entry ≡ true → false ≡ true)
     → (before : List Record) → WentOver desks ledger before
     → follows (all_desks.setup_of desks) before entry ≡ false
 desks_refuse desks ledger entry epochs others before over =
-    sym (judged (all_desks.setup_of desks) before entry false (epochs before over.recalls over.follow) others)
+    sym (judged (all_desks.setup_of desks) before entry false (epochs before over.replays over.follow) others)
 
 pub ledger_refuses : (desks : Desks) (ledger : Ledger) (entry : Record)
     → ledgers.setup_of ledger ≡ all_desks.setup_of desks
-    → ((before : List Record) → Recalls desks before → all_follow (all_desks.setup_of desks) before ≡ true
+    → ((before : List Record) → Replays desks before → all_follow (all_desks.setup_of desks) before ≡ true
     → is_of_money entry ≡ false → true ≡ follows (all_desks.setup_of desks) before entry)
     → ledgers.Judges ledger entry false
     → (before : List Record) → WentOver desks ledger before
     → follows (all_desks.setup_of desks) before entry ≡ false
 ledger_refuses desks ledger entry same epochs judges before over =
-    sym (judged (all_desks.setup_of desks) before entry true (epochs before over.recalls over.follow)
+    sym (judged (all_desks.setup_of desks) before entry true (epochs before over.replays over.follow)
     (λ _. refl)) ∙ ap (λ s. is_allowed s before 0 entry) (sym same) ∙ sym (judges before 0 over.money)
 
 -- where the records are those that a read gives
+
+-- one that a read gives isn't read only where the disk failed
+pub unread : (result : Result Unit ReadNo) (why : ReadNo) (setup : Setup) (P Q : List Record → Type 0)
+    → IsErr result × IsErrAnd result (λ e. e ≡ why) → ((rs : List Record) → P rs → why ≡ Disk)
+    → IfErr result (λ e. (rs : List Record) → P rs → Q rs → RefusesStart e setup rs)
+unread (Ok done) why setup P Q passed never = tt
+unread (Err e) why setup P Q passed never = λ rs reads went.
+    subst (λ n. RefusesStart n setup rs) (sym (passed.1 ∙ never rs reads)) tt
 
 pub went_next : (old new : Desks) (ledger posted : Ledger) (rs : List Record) (index : ℕ) (entry : Record)
     → slice_get rs index ≡ Some entry

@@ -1,5 +1,5 @@
 -- A host that starts over records has all of a past without a job that has these records.
-use Rattle.std.proofs.Common.{◌≡◌, ◌+◌, List, [], ◌∷◌, length, refl, reverse, sym, ap, ap₂, subst, ◌∙◌}
+use Rattle.std.proofs.Common.{◌≡◌, ◌+◌, ◌≤◌, List, [], ◌∷◌, length, refl, reverse, sym, ap, ap₂, subst, ◌∙◌, arith}
 use Rattle.std.specs.List.{All}
 use Rattle.std.proofs.lemmas.List.Elements.{All-head, All-tail}
 use Rattle.cct_model.specs.terms.device.DeviceSetup.{DeviceSetup}
@@ -15,47 +15,50 @@ use Rattle.cct_model.specs.Refusal.{running_id, sale_id}
 use Rattle.cct_model.specs.Transcript.{lines_of, sale_lines, scan_lines}
 use Rattle.cct_disk.specs.declared.disk.Disk.{Ghosts}
 use Rattle.cct_disk.specs.Disk.{IsTrusted}
+use Rattle.cct_journal.specs.declared.journal.Journal.{Journal}
 use Rattle.cct_journal.specs.Journal as journals
+use Rattle.cct_ledger.specs.declared.ledger.Ledger.{Ledger}
 use Rattle.cct_ledger.specs.Ledger as ledgers
 use Rattle.cct_laws.specs.Recorded.{HasNoJob}
 use Rattle.cct_laws.proofs.money.Recorded.{epoch_recorded, order_recorded}
 use Rattle.cct_host.specs.declared.desk.JobDesk.{JobDesk}
 use Rattle.cct_host.specs.declared.desks.Desks.{Desks}
-use Rattle.cct_host.specs.declared.dues.Dues.{Dues}
+use Rattle.cct_host.specs.declared.orders.OrderState.{OrderState}
 use Rattle.cct_host.specs.declared.host.Host.{Host}
-use Rattle.cct_host.specs.Book.{HasBook}
+use Rattle.cct_host.specs.OnDisk.{KeepsRecords}
 use Rattle.cct_host.specs.Desk.{AllSit, IsFree, Sits, Works, puts_at, reserved_over, sum_in}
 use Rattle.cct_host.specs.Desks as all_desks
 use Rattle.cct_host.specs.Held.{coins_by, price_by, puts_left}
 use Rattle.cct_host.specs.Host.{Keeps, StandsFor, disk_of, setup_of}
+use Rattle.cct_host.specs.Parts.{BelongTogether}
 use Rattle.cct_host.specs.Place.{device, sales, scans}
-use Rattle.cct_host.specs.Recalled.{AllRecall, AreUnused, IsUnused, Recalls, RecallsAt}
-use Rattle.cct_host.specs.Starting.{StartsOver}
+use Rattle.cct_host.specs.Replayed.{AllReplay, AreUnused, IsUnused, Replays, ReplaysAt}
+use Rattle.cct_host.specs.Starting.{HasReplayed}
 use Rattle.cct_host.proofs.Turning.{no_coins}
 
 -- the desk of a device
-recalled_sits : (d : DeviceSetup) (k : JobDesk) (past : List Entry) (before : List Record)
-    → model.job (lines_of d past) ≡ model.free → records past ≡ before → IsUnused k → RecallsAt d k before
+replayed_sits : (d : DeviceSetup) (k : JobDesk) (past : List Entry) (before : List Record)
+    → model.job (lines_of d past) ≡ model.free → records past ≡ before → IsUnused k → ReplaysAt d k before
     → Sits past (device d) k
-recalled_sits d k past before free same unused recalls = record {
+replayed_sits d k past before free same unused replays = record {
   works = subst (λ j. Works (device d) k.job j (model.epoch (lines_of d past)) (order (lines_of d past))) (sym free)
       (subst (λ j. Works (device d) j model.free (model.epoch (lines_of d past)) (order (lines_of d past))) (sym unused)
       tt);
   knows = (
-    recalls.epoch_is ∙ ap (epoch_in d.addr) (sym same) ∙ sym (epoch_recorded d past),
-    recalls.order_is ∙ ap (order_in d.addr) (sym same) ∙ sym (order_recorded d past),
-    recalls.id_is ∙ sym (ap (running_id d) free),
+    replays.epoch_is ∙ ap (epoch_in d.addr) (sym same) ∙ sym (epoch_recorded d past),
+    replays.order_is ∙ ap (order_in d.addr) (sym same) ∙ sym (order_recorded d past),
+    replays.id_is ∙ sym (ap (running_id d) free),
   );
 }
 
-recalled_all : (ds : List DeviceSetup) (ks : List JobDesk) (past : List Entry) (before : List Record)
-    → HasNoJob past → records past ≡ before → All IsUnused ks → AllRecall ds ks before → AllSit past ds ks
-recalled_all [] [] past before none same unused recalls = tt
-recalled_all [] (k ∷ ks) past before none same unused recalls = absurd recalls
-recalled_all (d ∷ ds) [] past before none same unused recalls = absurd recalls
-recalled_all (d ∷ ds) (k ∷ ks) past before none same unused recalls = (
-  recalled_sits d k past before (none.devices d) same (All-head IsUnused k ks unused) recalls.0,
-  recalled_all ds ks past before none same (All-tail IsUnused k ks unused) recalls.1,
+replayed_all : (ds : List DeviceSetup) (ks : List JobDesk) (past : List Entry) (before : List Record)
+    → HasNoJob past → records past ≡ before → All IsUnused ks → AllReplay ds ks before → AllSit past ds ks
+replayed_all [] [] past before none same unused replays = tt
+replayed_all [] (k ∷ ks) past before none same unused replays = absurd replays
+replayed_all (d ∷ ds) [] past before none same unused replays = absurd replays
+replayed_all (d ∷ ds) (k ∷ ks) past before none same unused replays = (
+  replayed_sits d k past before (none.devices d) same (All-head IsUnused k ks unused) replays.0,
+  replayed_all ds ks past before none same (All-tail IsUnused k ks unused) replays.1,
 )
 
 -- the desk of scans
@@ -72,19 +75,19 @@ free_sale k past none free = record {
   works = subst (λ j. Works sales k.job j (model.epoch (sale_lines past)) (order (sale_lines past))) (sym none)
       (subst (λ j. Works sales j model.free (model.epoch (sale_lines past)) (order (sale_lines past))) (sym free.0) tt);
   knows = (
-    ap (λ (x : Dues). x.order) free.2,
-    ap (λ (x : Dues). x.id) free.2 ∙ sym (ap sale_id none),
+    ap (λ (x : OrderState). x.order) free.2,
+    ap (λ (x : OrderState). x.id) free.2 ∙ sym (ap sale_id none),
   );
 }
 
-pub recalled_stand : (desks : Desks) (past : List Entry) (before : List Record) → HasNoJob past → records past ≡ before
-    → Recalls desks before → all_desks.StandsFor desks past
-recalled_stand desks past before none same recalls = record {
-  sound = recalls.sound;
-  devices = recalled_all _ _ past before none same recalls.unused.devices recalls.devices;
-  scan = free_scan desks.scan past none.scan recalls.unused.scan;
-  sale = free_sale desks.sale past none.sale recalls.unused.sale;
-  last = recalls.last ∙ ap greatest_id (sym same);
+pub replayed_stand : (desks : Desks) (past : List Entry) (before : List Record) → HasNoJob past → records past ≡ before
+    → Replays desks before → all_desks.StandsFor desks past
+replayed_stand desks past before none same replays = record {
+  sound = replays.sound;
+  devices = replayed_all _ _ past before none same replays.unused.devices replays.devices;
+  scan = free_scan desks.scan past none.scan replays.unused.scan;
+  sale = free_sale desks.sale past none.sale replays.unused.sale;
+  last = replays.last ∙ ap greatest_id (sym same);
 }
 
 -- no job may put anything, and none reserves anything
@@ -120,24 +123,37 @@ pub nothing_yet : HasNoJob []
 nothing_yet = record { devices = λ d. refl; scan = refl; sale = refl }
 
 module _ {D : Type 0} {g : Ghosts D} where
+  -- parts without a job belong together
+  pub free_together : (desks : Desks) (ledger : Ledger) (journal : Journal D g) → AreUnused desks
+      → ledgers.setup_of ledger ≡ all_desks.setup_of desks → ledgers.reserved_of ledger ≡ 0
+      → ledgers.applied ledger ≤ journals.used_of journal → BelongTogether desks ledger journal
+  free_together desks ledger journal unused same none counted =
+      let puts = nothing_put desks unused in
+      record {
+        same = same;
+        reserved = none ∙ sym (nothing_reserved desks unused);
+        counted = counted;
+        fits = omega (arith, puts, journal.placed.fits);
+      }
+
   pub started_keeps : (host : Host D g) (past : List Entry) (before : List Record) → HasNoJob past
-      → records past ≡ before → StartsOver host before → Keeps host past
+      → records past ≡ before → HasReplayed host before → Keeps host past
   started_keeps host past before none same starts = record {
-    desks = recalled_stand host.desks past before none same starts.over.recalls;
+    desks = replayed_stand host.desks past before none same starts.over.replays;
     ledger = subst (ledgers.StandsFor host.ledger (records past))
-        (sym (nothing_reserved host.desks starts.over.recalls.unused))
+        (sym (nothing_reserved host.desks starts.over.replays.unused))
         (subst (λ rs. ledgers.StandsFor host.ledger rs 0) (sym same) starts.over.money);
     used = starts.used ∙ ap length (sym same);
   }
 
   -- and stands for it, where its disk, if that is trusted, keeps just these records
   pub started_stands : (host : Host D g) (past : List Entry) (before : List Record) → HasNoJob past
-      → records past ≡ before → StartsOver host before
+      → records past ≡ before → HasReplayed host before
       → (IsTrusted g.honest g.seen (disk_of host)
-      → HasBook (setup_of host) g.honest g.seen g.may_leave (disk_of host) (journals.place_of host.journal) (reverse before))
+      → KeepsRecords (setup_of host) g.honest g.seen g.may_leave (disk_of host) (journals.place_of host.journal) (reverse before))
       → StandsFor host past
-  started_stands host past before none same starts book = record {
+  started_stands host past before none same starts on_disk = record {
     keeps = started_keeps host past before none same starts;
-    book = λ trusted. subst (λ rs. HasBook (setup_of host) g.honest g.seen g.may_leave (disk_of host)
-        (journals.place_of host.journal) (reverse rs)) (sym same) (book trusted);
+    on_disk = λ trusted. subst (λ rs. KeepsRecords (setup_of host) g.honest g.seen g.may_leave (disk_of host)
+        (journals.place_of host.journal) (reverse rs)) (sym same) (on_disk trusted);
   }

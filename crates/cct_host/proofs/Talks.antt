@@ -1,7 +1,6 @@
 -- What one exchange of a job does, told by what its calls make.
-use Rattle.std.proofs.Common.{Option, ◌≡◌, ℕ, List, [], ◌∷◌, ◌++◌, length, set, Some, refl, sym, ap, subst, ◌∙◌}
+use Rattle.std.proofs.Common.{Option, ◌≡◌, ℕ, List, [], ◌∷◌, ◌++◌, length, set, refl, ap, subst, ◌∙◌}
 use Rattle.cct_model.specs.terms.wire.CheckKind.{CheckKind}
-use Rattle.cct_model.specs.terms.device.DeviceSetup.{DeviceSetup}
 use Rattle.cct_model.specs.terms.request.Request.{Request}
 use Rattle.cct_model.specs.lines.command.Command.{Command}
 use Rattle.cct_model.specs.lines.entry.Entry.{Entry}
@@ -9,14 +8,10 @@ use Rattle.cct_model.specs.declared.judging.EpochState.{EpochState}
 use Rattle.cct_model.specs.declared.judging.OpenOrder.{OpenOrder}
 use Rattle.cct_model.specs.Exchange.{ask}
 use Rattle.cct_model.specs.Line.{Line}
-use Rattle.cct_model.specs.Job.{sends}
-use Rattle.cct_model.specs.Rows.{row}
-use Rattle.cct_model.specs.Scan.{poll_of, scan_row}
-use Rattle.cct_model.specs.Transcript.{scan_line}
+use Rattle.cct_model.specs.Scan.{poll_of}
 use Rattle.cct_jobs.specs.declared.job.Job.{Job}
 use Rattle.cct_jobs.specs.declared.job.Sending.{Sending}
-use Rattle.cct_jobs.specs.Jobs.{Stands, line_heard}
-use Rattle.cct_jobs.specs.Scans.{StandsScan}
+use Rattle.cct_jobs.specs.Onward.{HearsDevice, HearsPolled, SendsPoll, SendsToDevice}
 use Rattle.cct_host.specs.Exchange.{Converses, Fills, Talks}
 use Rattle.cct_host.specs.Place.{Place, StandsAt, device, line_at, sales, scans}
 
@@ -35,41 +30,28 @@ as_lent place new c since state owed sent heard piece rest piece_is rest_is afte
     (subst (λ r. StandsAt place new c (line_at place piece r ∷ since) state owed) rest_is after)
 
 -- a job sends what its row asks, and hears what follows
-pub talks : (old same new : Job) (s : Sending) (sent heard piece rest : List ℕ) → same ≡ old
-    → ((d : DeviceSetup) (c : Command) (since : List Line) (state : EpochState)
-    (owed : Option OpenOrder) (q : Request) → Stands d old c since state owed → row d c since state owed ≡ sends q
-    → s ≡ record { to = d.addr; kind = d.kind; request = q })
-    → ((since : List Line) (check : CheckKind) (addr : ℕ) → StandsScan old since → scan_row since ≡ Some (check, addr)
-    → s ≡ record { to = addr; kind = check; request = poll_of addr })
-    → sent ≡ ask s.kind s.to s.request → piece ≡ sent → rest ≡ heard
-    → ((d : DeviceSetup) (c : Command) (since : List Line) (state : EpochState)
-    (owed : Option OpenOrder) (q : Request) → Stands d same c since state owed → row d c since state owed ≡ sends q
-    → piece ≡ ask d.kind d.addr q → Stands d new c (line_heard d piece rest ∷ since) state owed)
-    → ((since : List Line) (check : CheckKind) (addr : ℕ) → StandsScan same since → scan_row since ≡ Some (check, addr)
-    → piece ≡ ask check addr (poll_of addr) → StandsScan new (scan_line piece rest ∷ since))
-    → Talks old sent heard new
-talks old same new s sent heard piece rest kept asks polls is_ask piece_is rest_is hears scanned (device d) c since
-    state owed stands needs =
+pub talks : (old new : Job) (s : Sending) (sent heard piece rest : List ℕ) → SendsToDevice old s → SendsPoll old s
+    → sent ≡ ask s.kind s.to s.request → piece ≡ sent → rest ≡ heard → HearsDevice old piece rest new
+    → HearsPolled old piece rest new → Talks old sent heard new
+talks old new s sent heard piece rest asks polls is_ask piece_is rest_is hears scanned (device d) c since state owed stands
+    needs =
     let q = needs.request in
     let sent_is : sent ≡ ask d.kind d.addr q = spelled s sent d.kind d.addr q is_ask
     (asks d c since state owed q stands needs.row_is) in (
       (q, needs.row_is, sent_is),
       as_lent (device d) new c since state owed sent heard piece rest piece_is rest_is
-          (hears d c since state owed q (subst (λ j. Stands d j c since state owed) (sym kept) stands) needs.row_is
-          (piece_is ∙ sent_is)),
+          (hears d c since state owed q stands needs.row_is (piece_is ∙ sent_is)),
     )
-talks old same new s sent heard piece rest kept asks polls is_ask piece_is rest_is hears scanned scans c since
-    state owed stands needs =
+talks old new s sent heard piece rest asks polls is_ask piece_is rest_is hears scanned scans c since state owed stands needs =
     let sent_is : sent ≡ ask needs.check needs.addr (poll_of needs.addr) =
     spelled s sent needs.check needs.addr (poll_of needs.addr) is_ask
     (polls since needs.check needs.addr stands needs.row_is) in (
       ((needs.check, needs.addr), needs.row_is, sent_is),
       as_lent scans new c since state owed sent heard piece rest piece_is rest_is
-          (scanned since needs.check needs.addr (subst (λ j. StandsScan j since) (sym kept) stands) needs.row_is
-          (piece_is ∙ sent_is)),
+          (scanned since needs.check needs.addr stands needs.row_is (piece_is ∙ sent_is)),
     )
-talks old same new s sent heard piece rest kept asks polls is_ask piece_is rest_is hears scanned sales c since
-    state owed stands needs = absurd needs
+talks old new s sent heard piece rest asks polls is_ask piece_is rest_is hears scanned sales c since state owed stands needs =
+    absurd needs
 
 last_set : (report : List Entry) (e said : Entry) → set (report ++ e ∷ []) (length report) said ≡ report ++ said ∷ []
 last_set [] e said = refl

@@ -18,7 +18,6 @@ use Rattle.cct_model.specs.Exchange.{device_at}
 use Rattle.cct_model.specs.Money.{coins_of, hopper_value}
 use Rattle.cct_model.specs.Job.{address_of, ident_requests}
 use Rattle.cct_model.specs.Rows.{rows_of}
-use Rattle.cct_model.proofs.Rows.{told_fact}
 use Rattle.cct_jobs.specs.declared.job.Job.{Job}
 use Rattle.cct_jobs.specs.Ahead.{coins_in}
 use Rattle.cct_jobs.specs.Jobs.{is_of_device}
@@ -28,7 +27,7 @@ use Rattle.cct_host.specs.Desk.{held_at, puts_at, reserved_over, sum_in}
 use Rattle.cct_host.specs.Desks.{due_at_desk, held_of, puts_of}
 use Rattle.cct_host.specs.Held.{coins_by, due_by, puts_left}
 use Rattle.cct_host.specs.Running.{amount_of, rows_begun}
-use Rattle.cct_host.proofs.Holding.{due_left, rows_begin}
+use Rattle.cct_host.proofs.Holding.{due_left, only_tells, rows_begin}
 use Rattle.cct_host.proofs.Places.{is_at, refilled}
 
 -- an answer passes on
@@ -174,7 +173,7 @@ rows_ask : (setup : Setup) (d : DeviceSetup) (c : Command) (addr : ℕ) → is_o
 rows_ask setup d (command.Pay at id count) addr of_device here = ap (λ a. coins_of setup a count) (sym here)
 rows_ask setup d (command.Vend id price) addr of_device here = absurd cc
 rows_ask setup d (command.Ident at) addr of_device here =
-    ap (coins_of setup addr) (told_fact (λ rows. coins_in rows ≡ 0) refl (λ q behind rows none. none) (ident_requests d.body))
+    ap (coins_of setup addr) (only_tells (ident_requests d.body)).2
     ∙ no_coins (hopper_value (device_at setup.devices addr))
 rows_ask setup d c addr of_device here = no_coins (hopper_value (device_at setup.devices addr))
 

@@ -1,6 +1,7 @@
 -- Desks that stand for all that happened.
-use Rattle.std.specs.Prelude.{◌≡◌, ◌+◌, ◌==◌, ℕ, List, ◌∷◌, ◌++◌, if◌then◌else◌, Option, Some, None, Result, max, option_and_then, reverse, slice_get}
+use Rattle.std.specs.Prelude.{◌≡◌, ◌+◌, ◌-◌, ◌≤◌, ◌<◌, ◌==◌, ℕ, List, ◌∷◌, ◌++◌, if◌then◌else◌, Option, Some, None, Result, length, max, option_and_then, reverse, slice_get}
 use Rattle.std.specs.List.{position}
+use Rattle.std.specs.Option.{IfSome}
 use Rattle.cct_model.specs.terms.wire.TheConstants.{HOST}
 use Rattle.cct_model.specs.terms.device.Setup.{Setup}
 use Rattle.cct_model.specs.lines.command.Command.{Command}
@@ -11,6 +12,7 @@ use Rattle.cct_model.specs.Legal.{EntriesOfNext, command_entry}
 use Rattle.cct_model.specs.Money.{coins_of}
 use Rattle.cct_model.specs.Records.{greatest_id, records}
 use Rattle.cct_model.specs.Refusal.{state_refusal}
+use Rattle.cct_model.specs.Rows.{puts_in}
 use Rattle.cct_model.specs.Setup.{IsSoundSetup}
 use Rattle.cct_host.specs.declared.desk.JobDesk.{JobDesk}
 use Rattle.cct_host.specs.declared.desks.Desks.{Desks}
@@ -18,6 +20,7 @@ use Rattle.cct_host.specs.Attempt.{Attempt, HeardBy, Links, news_of, put_of}
 use Rattle.cct_host.specs.Desk.{AllSit, Sits, greatest_paying, held_at, held_in, no_of, puts_at, reserved_over, sum_in}
 use Rattle.cct_host.specs.Held.{coins_by, due_by, price_by}
 use Rattle.cct_host.specs.Place.{OwnsItsPut, sales, scans}
+use Rattle.cct_host.specs.Running.{amount_of, needed, rows_begun}
 
 -- The setup of desks.
 abbrev pub setup_of : Desks → Setup
@@ -38,12 +41,20 @@ reserved_of desks =
 
 -- The greatest id of the payments and the sale at work.
 abbrev pub working_id : Desks → ℕ
-working_id desks = max (greatest_paying desks.devices.items) desks.sale.dues.id
+working_id desks = max (greatest_paying desks.devices.items) desks.sale.orders.id
+
+-- The index of the device at an address, if there is one.
+abbrev pub index_at : Setup → ℕ → Option ℕ
+index_at setup addr = position (λ d. d.addr == addr) setup.devices
 
 -- The desk of the device at an address, if there is one.
 abbrev pub desk_there : Desks → ℕ → Option JobDesk
-desk_there desks addr =
-    option_and_then (slice_get desks.devices.items) (position (λ d. d.addr == addr) (setup_of desks).devices)
+desk_there desks addr = option_and_then (slice_get desks.devices.items) (index_at (setup_of desks) addr)
+
+-- This is the index of the desk of the device at an address, if there is one.
+pub record FindsDesk (desks : Desks) (addr : ℕ) (found : Option ℕ) : Type 0 where
+  pub is : found ≡ index_at (setup_of desks) addr
+  pub within : IfSome found (λ i. i < length desks.devices.items)
 
 -- The record that the job at an address is about to put, if it is about to put one, where this desk of a device is
 -- there; one without a device that puts something is the sale's.
@@ -64,6 +75,26 @@ amount_at_desk setup sale addr None = if addr == HOST then price_by sale.job els
 -- What the job at an address reserves.
 abbrev pub amount_on : Desks → ℕ → ℕ
 amount_on desks addr = amount_at_desk (setup_of desks) desks.sale addr (desk_there desks addr)
+
+-- A taken command takes room for the records that it needs and puts, and reserves its amount.
+pub record TakesIn (c : Command) (old new : Desks) : Type 0 where
+  -- At most the records that the command needs are held more.
+  pub holds : held_of new ≤ held_of old + needed (setup_of old) c
+  pub puts : puts_of new ≤ puts_of old + puts_in (rows_begun (setup_of old) c)
+  -- And exactly the coins of a payment, or the price of a sale, are reserved more.
+  pub reserves : reserved_of new ≡ reserved_of old + amount_of (setup_of old) c
+
+-- A `next` at an address frees room: that of the record that it puts, if it puts one, and then all that the job there
+-- reserved; what the others reserve stays.
+pub record FreesIn (addr : ℕ) (old new : Desks) : Type 0 where
+  pub setup : setup_of new ≡ setup_of old
+  -- What its jobs may still put never rises, and falls if a record was due.
+  pub left : puts_of new ≤ puts_of old
+  pub puts : IfSome (due_on old addr) (λ r. puts_of new < puts_of old)
+  pub reserves : amount_on new addr ≤ amount_on old addr
+  -- After a record that was due its job reserves nothing.
+  pub clears : IfSome (due_on old addr) (λ r. amount_on new addr ≡ 0)
+  pub frees : reserved_of new + (amount_on old addr - amount_on new addr) ≡ reserved_of old
 
 -- Desks stand for a transcript, newest entry first: their setup is sound, each has the job, the epoch and the open order
 -- that the lines of its device tell, the scan is that of the lines of address 0, the sale that of the lines of address

@@ -1,5 +1,5 @@
 -- One exchange that a job makes over a link.
-use Rattle.std.specs.Prelude.{◌≡◌, ℕ, ◌≤◌, List, [], ◌∷◌, ◌++◌, Option}
+use Rattle.std.specs.Prelude.{◌≡◌, ℕ, List, [], ◌∷◌, ◌++◌, Option}
 use Rattle.cct_model.specs.lines.command.Command.{Command}
 use Rattle.cct_model.specs.lines.entry.End.{End}
 use Rattle.cct_model.specs.lines.entry.Entry.{Entry}
@@ -8,8 +8,6 @@ use Rattle.cct_model.specs.declared.judging.EpochState.{EpochState}
 use Rattle.cct_model.specs.declared.judging.OpenOrder.{OpenOrder}
 use Rattle.cct_model.specs.Line.{Line}
 use Rattle.cct_jobs.specs.declared.job.Job.{Job}
-use Rattle.cct_model.specs.Rows.{puts_in}
-use Rattle.cct_jobs.specs.Ahead.{ahead, coins_in}
 use Rattle.cct_host.specs.Place.{Asks, AsksNext, Place, StandsAt, end_at, line_at}
 
 -- Wherever a job is, and its row sends something next, it sends that, and goes on by the line of what it heard.
@@ -24,11 +22,6 @@ abbrev pub Ends : Job → Option End → Type 0
 Ends job end =
     (place : Place) (c : Command) (line : Line) (since : List Line) (state : EpochState) (owed : Option OpenOrder)
     → StandsAt place job c (line ∷ since) state owed → end ≡ end_at place c line since state
-
--- What a job may still put and what it reserves is no more than before.
-pub record HoldsLess (old new : Job) : Type 0 where
-  pub puts : puts_in (ahead new) ≤ puts_in (ahead old)
-  pub coins : coins_in (ahead new) ≤ coins_in (ahead old)
 
 -- A job made an exchange at an address over a link, and this is its entry.
 pub record Fills {L : Type 0} (gives : L → List ℕ → List ℕ → L → Type 0) (before after : L) (addr : ℕ) (old new : Job)

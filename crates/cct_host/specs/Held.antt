@@ -4,15 +4,13 @@ use Rattle.std.proofs.Props.{props}
 use Rattle.cct_model.specs.lines.record.Record.{Record}
 use Rattle.cct_model.specs.lines.record.Record.TheVariants as record_of
 use Rattle.cct_model.specs.declared.judging.OpenOrder.{OpenOrder}
-use Rattle.cct_jobs.specs.declared.job.Need.{Need}
-use Rattle.cct_jobs.specs.declared.job.Need.TheVariants as need
 use Rattle.cct_record.specs.Body.{Encodable}
 use Rattle.cct_jobs.specs.declared.job.Job.{Job}
 use Rattle.cct_jobs.specs.declared.job.Job.TheVariants.{RoundPuts, StopPuts, OrderCloses, SalePuts}
 use Rattle.cct_model.specs.Rows.{has_closes, puts_in}
 use Rattle.cct_model.specs.Refusal.{order_holds}
 use Rattle.cct_jobs.specs.Ahead.{ahead, coins_in, price_in}
-use Rattle.cct_jobs.specs.Jobs.{PutsFit, need_of}
+use Rattle.cct_jobs.specs.Jobs.{PutsFit, need_of, put_in}
 
 -- How many records the job at a place may still put.
 abbrev pub puts_left : Option Job → ℕ
@@ -27,11 +25,6 @@ order_left (Some job) owed = order_holds (has_closes (ahead job)) owed
 -- How many records are held for a place.
 abbrev pub held_by : Option Job → Option OpenOrder → ℕ
 held_by job owed = puts_left job + order_left job owed
-
--- The record that is needed to be put, if one is.
-abbrev pub put_in : Need → Option Record
-put_in (need.Put entry) = Some entry
-put_in other = None
 
 -- The record that the job at a place is about to put, if it is about to put one.
 abbrev pub due_by : Option Job → Option Record

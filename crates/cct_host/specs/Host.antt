@@ -1,5 +1,5 @@
 -- A host over its journal, that stands for all that happened.
-use Rattle.std.specs.Prelude.{◌≡◌, ◌≤◌, ℕ, Bool, ◌+◌, ◌-◌, List, [], ◌∷◌, ◌++◌, Option, Some, None, Result, true, length, reverse}
+use Rattle.std.specs.Prelude.{◌≡◌, ◌≤◌, ℕ, Bool, ◌+◌, ◌-◌, List, [], ◌∷◌, ◌++◌, Option, Some, None, Result, false, true, length, reverse}
 use Rattle.std.specs.Option.{IfSome}
 use Rattle.cct_model.specs.terms.device.Setup.{Setup}
 use Rattle.cct_model.specs.lines.command.Command.{Command}
@@ -21,7 +21,7 @@ use Rattle.cct_ledger.specs.Ledger as ledgers
 use Rattle.cct_host.specs.declared.desks.Desks.{Desks}
 use Rattle.cct_host.specs.declared.host.Host.{Host}
 use Rattle.cct_host.specs.Attempt.{Attempt, HeardBy, Links, news_of, put_of}
-use Rattle.cct_host.specs.Book.{HasBook, LeavesBook}
+use Rattle.cct_host.specs.OnDisk.{KeepsRecords, LeavesRecords}
 use Rattle.cct_host.specs.Desk.{no_of}
 use Rattle.cct_host.specs.Desks as all_desks
 use Rattle.cct_host.specs.Place.{OwnsItsPut}
@@ -77,8 +77,8 @@ module _ {D : Type 0} {g : Ghosts D} where
   -- records.
   pub record StandsFor (host : Host D g) (past : List Entry) : Type 0 where
     pub keeps : Keeps host past
-    pub book : IsTrusted g.honest g.seen (disk_of host)
-        → HasBook (setup_of host) g.honest g.seen g.may_leave (disk_of host) (journals.place_of host.journal)
+    pub on_disk : IsTrusted g.honest g.seen (disk_of host)
+        → KeepsRecords (setup_of host) g.honest g.seen g.may_leave (disk_of host) (journals.place_of host.journal)
         (reverse (records past))
 
   -- Nothing changed.
@@ -115,7 +115,24 @@ module _ {D : Type 0} {g : Ghosts D} where
       (past : List Entry) → StandsFor old past
       → Keeps new past × ((r : Record) × (due_at (setup_of old) past addr ≡ Some r)
       × (IsTrusted g.honest g.seen (disk_of old)
-      → LeavesBook (setup_of old) g.honest g.seen g.may_leave (disk_of new) (Some r) (reverse (records past))))
+      → LeavesRecords (setup_of old) g.honest g.seen g.may_leave (disk_of new) (Some r) (reverse (records past))))
+
+  -- A record that was due, if one was, is put into a journal: so many more does it count, and its disk keeps them.
+  pub record Puts (due : Option Record) (journal written : Journal D g) : Type 0 where
+    pub whole : journals.has_failed written ≡ false
+    pub counted : journals.used_of written ≡ journals.used_of journal + length (put_by due)
+    pub done : (setup : Setup) (before : List Record)
+        → KeepsRecords setup g.honest g.seen g.may_leave (journals.disk_of journal) (journals.place_of journal) before
+        → KeepsRecords setup g.honest g.seen g.may_leave (journals.disk_of written) (journals.place_of written)
+        (before ++ put_by due)
+
+  -- A put fails: a record was due, and whatever a power cut leaves on the disk has the records before it, or these and that
+  -- one.
+  pub record PutFails (due : Option Record) (journal written : Journal D g) : Type 0 where
+    pub place : journals.place_of written ≡ journals.place_of journal
+    pub left : (r : Record) × (due ≡ Some r) × ((setup : Setup) (before : List Record)
+        → KeepsRecords setup g.honest g.seen g.may_leave (journals.disk_of journal) (journals.place_of journal) before
+        → LeavesRecords setup g.honest g.seen g.may_leave (journals.disk_of written) (Some r) before)
 
   -- After all that happened the record that was due at an address, if one was due, was put: the journal has it, and the
   -- ledger, beside what is reserved after it.
@@ -123,11 +140,33 @@ module _ {D : Type 0} {g : Ghosts D} where
       (journal written : Journal D g) : Type 0 where
     pub used : journals.used_of written
         ≡ journals.used_of journal + length (put_by (due_at (all_desks.setup_of desks) past addr))
-    pub book : HasBook (all_desks.setup_of desks) g.honest g.seen g.may_leave (journals.disk_of journal)
+    pub on_disk : KeepsRecords (all_desks.setup_of desks) g.honest g.seen g.may_leave (journals.disk_of journal)
         (journals.place_of journal) (reverse (records past))
-        → HasBook (all_desks.setup_of desks) g.honest g.seen g.may_leave (journals.disk_of written)
+        → KeepsRecords (all_desks.setup_of desks) g.honest g.seen g.may_leave (journals.disk_of written)
         (journals.place_of written) (reverse (records past) ++ put_by (due_at (all_desks.setup_of desks) past addr))
     pub posts : TakesItsPut (all_desks.setup_of desks) past addr
         → ledgers.StandsFor ledger (records past) (all_desks.reserved_of desks)
         → ledgers.StandsFor posted (put_by (due_at (all_desks.setup_of desks) past addr) ++ records past)
         (all_desks.reserved_of turned)
+
+  -- The parts of a host make one attempt at an address over a link, and the record that was due there, if one was, is put.
+  pub record Advances {L : Type 0} (gives : L → List ℕ → List ℕ → L → Type 0) (old new : L) (addr : ℕ)
+      (desks turned : Desks) (ledger posted : Ledger) (journal written : Journal D g) (report reported : List Entry)
+      : Type 0 where
+    pub whole : journals.has_failed written ≡ false
+    pub nexts : all_desks.Nexts gives old new addr desks turned report reported
+    pub counts : journals.used_of written ≡ journals.used_of journal + length (put_by (all_desks.due_on desks addr))
+    pub puts : (past : List Entry) → all_desks.StandsFor desks past
+        → PutsDue past addr desks turned ledger posted journal written
+
+  -- The put of the record that is due at an address fails, and nothing but the disk changes.
+  pub record FailsToPut (addr : ℕ) (desks turned : Desks) (ledger posted : Ledger) (journal written : Journal D g)
+      : Type 0 where
+    pub desks_stay : turned ≡ desks
+    pub ledger_stays : posted ≡ ledger
+    pub place : journals.place_of written ≡ journals.place_of journal
+    pub fails : (past : List Entry) → all_desks.StandsFor desks past
+        → (r : Record) × (due_at (all_desks.setup_of desks) past addr ≡ Some r) × ((before : List Record)
+        → KeepsRecords (all_desks.setup_of desks) g.honest g.seen g.may_leave (journals.disk_of journal)
+        (journals.place_of journal) before
+        → LeavesRecords (all_desks.setup_of desks) g.honest g.seen g.may_leave (journals.disk_of written) (Some r) before)

@@ -7,9 +7,10 @@ pub mod Running
 pub mod Held
 pub mod Desk
 pub mod Desks
-pub mod Recalled
+pub mod Replayed
+pub mod Parts
 pub mod Host
 pub mod Starting
-pub mod Book
+pub mod OnDisk
 pub mod Restarting
 pub mod Replaying

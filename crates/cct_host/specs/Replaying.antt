@@ -1,13 +1,13 @@
--- What a host recalls of the records that are found behind a loss of power.
+-- What a host replays of the records that are found after a power cut.
 use Rattle.std.specs.Prelude.{◌≡◌, ◌≤◌, ◌+◌, ℕ, Option, Some, None, List, length, reverse}
 use Rattle.cct_model.specs.terms.device.Setup.{Setup}
 use Rattle.cct_model.specs.lines.record.Record.{Record}
 use Rattle.cct_ledger.specs.declared.ledger.Ledger.{Ledger}
 use Rattle.cct_ledger.specs.Ledger as ledgers
 use Rattle.cct_host.specs.declared.desks.Desks.{Desks}
-use Rattle.cct_host.specs.declared.recall.Recollection.{Recollection}
+use Rattle.cct_host.specs.declared.replay.ReplayState.{ReplayState}
 use Rattle.cct_host.specs.Desks as all_desks
-use Rattle.cct_host.specs.Recalled.{AreUnused}
+use Rattle.cct_host.specs.Replayed.{AreUnused}
 use Rattle.cct_host.specs.Starting.{IsFirstBad, WentOver}
 
 -- Desks and a ledger went over records, newest first, of which the oldest has the index `from`, or there is a first that
@@ -19,7 +19,7 @@ GoesOver from (Some index) setup desks ledger before =
 
 -- What went over records, newest first, from an index on, from one value to another: it has no job, and the setup of the
 -- first.
-pub record Recollects (from : ℕ) (first : Recollection) (before : List Record) (now : Recollection) : Type 0 where
+pub record ReplaysTo (from : ℕ) (first : ReplayState) (before : List Record) (now : ReplayState) : Type 0 where
   pub setup : all_desks.setup_of now.desks ≡ all_desks.setup_of first.desks
   pub same : ledgers.setup_of now.ledger ≡ all_desks.setup_of now.desks
   pub unused : AreUnused now.desks

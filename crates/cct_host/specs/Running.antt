@@ -17,7 +17,7 @@ use Rattle.cct_model.specs.Job.{address_of}
 use Rattle.cct_model.specs.Rows.{TableRow, has_waits, need_in, rows_for}
 use Rattle.cct_model.specs.Refusal.{View, first_of, id_refusal, money_in, state_fails, state_tests, tests_of, unless}
 use Rattle.cct_jobs.specs.declared.job.Job.{Job}
-use Rattle.cct_host.specs.declared.dues.Dues.{Dues}
+use Rattle.cct_host.specs.declared.orders.OrderState.{OrderState}
 use Rattle.cct_jobs.specs.Ahead.{ahead}
 use Rattle.cct_jobs.specs.Jobs.{end_of_job, order_of}
 
@@ -43,6 +43,12 @@ abbrev pub is_halt : Command → Bool
 is_halt (command.Halt addr) = true
 is_halt c = false
 
+-- A command that begins an order or a sale, which its id has to be new for.
+abbrev pub begins_id : Command → Bool
+begins_id (command.Pay addr id count) = true
+begins_id (command.Vend id price) = true
+begins_id c = false
+
 -- There is a job that can be halted.
 abbrev pub halts_in : Option Job → Bool
 halts_in None = false
@@ -53,7 +59,7 @@ abbrev pub halting_refusal : DeviceSetup → Option Job → Option CommandNo
 halting_refusal d job = option_or (unless (is_hopper d.body) WrongKind) (unless (halts_in job) NoPayout)
 
 -- What the tests of a command to a device look at: its job, its epoch, its open order and the last id.
-abbrev pub seen_at : DeviceSetup → Option Job → EpochState → Dues → ℕ → View
+abbrev pub seen_at : DeviceSetup → Option Job → EpochState → OrderState → ℕ → View
 seen_at d job state owed last = record {
   found = Some d;
   is_busy = is_some job;
@@ -64,7 +70,7 @@ seen_at d job state owed last = record {
 }
 
 -- Why a command to a device is refused beside these, if it is.
-abbrev pub refusal_beside : DeviceSetup → Option Job → EpochState → Dues → ℕ → Command → Option CommandNo
+abbrev pub refusal_beside : DeviceSetup → Option Job → EpochState → OrderState → ℕ → Command → Option CommandNo
 refusal_beside d job state owed last c = first_of (state_fails (seen_at d job state owed last)) (state_tests c)
 
 -- The tests of a sale: one is there, and then its id isn't new.
@@ -89,8 +95,8 @@ id_left None id = 0
 id_left (Some job) id = id
 
 -- What is recorded of the payments or the sales at a place after an attempt.
-abbrev pub dues_left : Option Job → Dues → Dues
-dues_left kept owed = record { order = owed.order; id = id_left kept owed.id }
+abbrev pub orders_left : Option Job → OrderState → OrderState
+orders_left kept owed = record { order = owed.order; id = id_left kept owed.id }
 
 -- What becomes of a job with this end: one that is done adds its end to the entries and frees the address; another
 -- stays, and adds nothing.

@@ -1,21 +1,19 @@
 //! One attempt of a job, over the parts of a host: a record is put before its entry is told.
 ghost use Rattle.std.specs.Prelude.{◌≡◌, ◌≤◌, ◌<◌, ◌+◌, ◌-◌, ◌^◌, ◌++◌, ℕ, List, Option, Some, IfSome, OnErr, OnOk, true, false, length};
 ghost use Rattle.arrayvec.specs.ArrayVec.{array_vec_len};
-ghost use Rattle.cct_edge.specs.Faults.{Rose};
+ghost use Rattle.cct_edge.specs.Faults.{HasCause};
 ghost use Rattle.cct_model.specs.lines.entry.Entry.{Entry};
 ghost use Rattle.cct_model.specs.lines.record.Record.{Record};
-ghost use Rattle.cct_model.specs.terms.device.Setup.{Setup};
 ghost use Rattle.cct_model.specs.Following.{is_allowed};
-ghost use Rattle.cct_model.specs.Legal.{due_at};
 ghost use Rattle.cct_model.specs.Money.{freed_by, reserved_at_work};
 ghost use Rattle.cct_record.specs.Body.{Encodable};
 ghost use Rattle.cct_journal.specs.Image.{capacity_of};
 ghost use Rattle.cct_journal.specs.Journal as journals;
 ghost use Rattle.cct_journal.specs.Stands.{GoesOn};
 ghost use Rattle.cct_ledger.specs.Ledger as ledgers;
-ghost use Rattle.cct_host.specs.Book.{HasBook, LeavesBook};
 ghost use Rattle.cct_host.specs.Desks as all_desks;
-ghost use Rattle.cct_host.specs.Host.{PutsDue, put_by};
+ghost use Rattle.cct_host.specs.Host.{Advances, FailsToPut, PutFails, Puts, put_by};
+ghost use Rattle.cct_host.specs.Parts.{BelongTogether, GoOnTogether};
 
 use crate::Desks;
 use arrayvec::ArrayVec;
@@ -37,52 +35,30 @@ pub(crate) fn advance<D: Disk, L: Link>(
 ) -> Result<(), Failed>
     requires room { array_vec_len report.old ≤ 6 }
     requires whole { journals.has_failed journal.old ≡ false }
-    requires fits { journals.used_of journal.old + all_desks.puts_of desks.old
-        ≤ capacity_of (D.size (journals.disk_of journal.old)) }
-    requires reserved { ledgers.reserved_of ledger.old ≡ all_desks.reserved_of desks.old }
-    requires counted { ledgers.applied ledger.old ≤ journals.used_of journal.old }
-    requires same { ledgers.setup_of ledger.old ≡ all_desks.setup_of desks.old }
+    requires together { BelongTogether desks.old ledger.old journal.old }
 
     // what holds of the parts of a host
     ensures setup { all_desks.setup_of desks.new ≡ all_desks.setup_of desks.old }
-    ensures same { ledgers.setup_of ledger.new ≡ all_desks.setup_of desks.new }
-    ensures reserved { ledgers.reserved_of ledger.new ≡ all_desks.reserved_of desks.new }
-    ensures counted { ledgers.applied ledger.new ≤ journals.used_of journal.new }
-    ensures fits { journals.used_of journal.new + all_desks.puts_of desks.new
-        ≤ capacity_of (D.size (journals.disk_of journal.new)) }
+    ensures together { BelongTogether desks.new ledger.new journal.new }
 
     // the attempt
-    ensures whole { OnOk result (journals.has_failed journal.new ≡ false) }
-    ensures nexts { OnOk result (all_desks.Nexts L.gives link.old link.new addr desks.old desks.new report.old.items
-        report.new.items) }
-    ensures counts { OnOk result (journals.used_of journal.new
-        ≡ journals.used_of journal.old + length (put_by (all_desks.due_on desks.old addr))) }
-    ensures puts { OnOk result ((past : List Entry) → all_desks.StandsFor desks.old past
-        → PutsDue past addr desks.old desks.new ledger.old ledger.new journal.old journal.new) }
+    ensures advances { OnOk result (Advances L.gives link.old link.new addr desks.old desks.new ledger.old ledger.new
+        journal.old journal.new report.old.items report.new.items) }
 
     // a put that failed
-    ensures kept { OnErr result (desks.new ≡ desks.old) }
-    ensures ledger { OnErr result (ledger.new ≡ ledger.old) }
+    ensures fails { OnErr result (FailsToPut addr desks.old desks.new ledger.old ledger.new journal.old journal.new) }
     ensures report { OnErr result (report.new ≡ report.old) }
     ensures link { OnErr result (link.new ≡ link.old) }
-    ensures place { OnErr result (journals.place_of journal.new ≡ journals.place_of journal.old) }
-    ensures fails { OnErr result ((past : List Entry) → all_desks.StandsFor desks.old past
-        → (r : Record) × (due_at (all_desks.setup_of desks.old) past addr ≡ Some r) × ((before : List Record)
-        → HasBook (all_desks.setup_of desks.old) D.honest D.seen D.may_leave (journals.disk_of journal.old)
-        (journals.place_of journal.old) before
-        → LeavesBook (all_desks.setup_of desks.old) D.honest D.seen D.may_leave (journals.disk_of journal.new) (Some r)
-        before)) }
 
     // the disk
-    ensures cause { OnErr result (Rose (D.faults (journals.disk_of journal.old))
-        (D.faults (journals.disk_of journal.new))) }
+    ensures cause { HasCause (D.faults (journals.disk_of journal.old)) (D.faults (journals.disk_of journal.new)) result }
     ensures goes_on { GoesOn D.size D.honest D.seen D.cuts (journals.disk_of journal.old)
         (journals.disk_of journal.new) }
-    ensures later { D.faults (journals.disk_of journal.old) ≤ D.faults (journals.disk_of journal.new) }
 {
-    let due = desks.due(addr);
+    let found = desks.find(addr);
+    let due = desks.due_there(addr, found);
     put(journal, &due)?;
-    go_on(desks, ledger, addr, link, report);
+    go_on(desks, ledger, addr, found, link, report);
     enter(ledger, &due);
     Ok(())
 }
@@ -93,22 +69,11 @@ fn put<D: Disk>(journal: &mut Journal<D>, due: &Option<Record>) -> Result<(), Fa
     requires encodable { IfSome due.now Encodable }
     requires room { IfSome due.now (λ r. journals.used_of journal.old
         < capacity_of (D.size (journals.disk_of journal.old))) }
-    ensures whole { OnOk result (journals.has_failed journal.new ≡ false) }
-    ensures counted { OnOk result (journals.used_of journal.new
-        ≡ journals.used_of journal.old + length (put_by due.now)) }
-    ensures done { OnOk result ((setup : Setup) (before : List Record)
-        → HasBook setup D.honest D.seen D.may_leave (journals.disk_of journal.old) (journals.place_of journal.old) before
-        → HasBook setup D.honest D.seen D.may_leave (journals.disk_of journal.new) (journals.place_of journal.new)
-        (before ++ put_by due.now)) }
-    ensures place { OnErr result (journals.place_of journal.new ≡ journals.place_of journal.old) }
-    ensures left { OnErr result ((r : Record) × (due.now ≡ Some r) × ((setup : Setup) (before : List Record)
-        → HasBook setup D.honest D.seen D.may_leave (journals.disk_of journal.old) (journals.place_of journal.old) before
-        → LeavesBook setup D.honest D.seen D.may_leave (journals.disk_of journal.new) (Some r) before)) }
-    ensures cause { OnErr result (Rose (D.faults (journals.disk_of journal.old))
-        (D.faults (journals.disk_of journal.new))) }
+    ensures puts { OnOk result (Puts due.now journal.old journal.new) }
+    ensures fails { OnErr result (PutFails due.now journal.old journal.new) }
+    ensures cause { HasCause (D.faults (journals.disk_of journal.old)) (D.faults (journals.disk_of journal.new)) result }
     ensures goes_on { GoesOn D.size D.honest D.seen D.cuts (journals.disk_of journal.old)
         (journals.disk_of journal.new) }
-    ensures later { D.faults (journals.disk_of journal.old) ≤ D.faults (journals.disk_of journal.new) }
 {
     match due {
         None => Ok(()),
@@ -125,30 +90,26 @@ fn go_on<L: Link>(
     desks: &mut Desks<'_>,
     ledger: &mut Ledger<'_>,
     addr: u8,
+    found: Option<usize>,
     link: &mut L,
     report: &mut ArrayVec<Entry, 8>,
 )
     requires room { array_vec_len report.old ≤ 6 }
+    requires found { all_desks.FindsDesk desks.old addr found }
     requires reserved { ledgers.reserved_of ledger.old ≡ all_desks.reserved_of desks.old }
-    ensures setup { all_desks.setup_of desks.new ≡ all_desks.setup_of desks.old }
-    ensures same { ledgers.setup_of ledger.new ≡ ledgers.setup_of ledger.old }
-    ensures reserved { ledgers.reserved_of ledger.new ≡ all_desks.reserved_of desks.new }
-    ensures counted { ledgers.applied ledger.new ≡ ledgers.applied ledger.old }
+    ensures together { GoOnTogether desks.old desks.new ledger.old ledger.new }
     ensures left { all_desks.puts_of desks.new + length (put_by (all_desks.due_on desks.old addr))
         ≤ all_desks.puts_of desks.old }
     ensures nexts { all_desks.Nexts L.gives link.old link.new addr desks.old desks.new report.old.items
         report.new.items }
-    ensures stands { (before : List Record)
-        → ledgers.StandsFor ledger.old before (all_desks.reserved_of desks.old)
-        → ledgers.StandsFor ledger.new before (all_desks.reserved_of desks.new) }
     ensures frees { (past : List Entry) → all_desks.StandsFor desks.old past
         → IfSome (all_desks.due_on desks.old addr) (λ r. all_desks.reserved_of desks.new
         ≡ reserved_at_work (all_desks.setup_of desks.old) past - freed_by (all_desks.setup_of desks.old) r) }
 {
-    let reserved = desks.reserved_at(addr);
-    desks.next(addr, link, report);
+    let reserved = desks.reserved_there(addr, found);
+    desks.next_there(addr, found, link, report);
     if reserved > 0 {
-        ledger.release(reserved - desks.reserved_at(addr));
+        ledger.release(reserved - desks.reserved_there(addr, found));
     }
 }
 

@@ -1,5 +1,5 @@
 //! The host's desk for one place: a device, the address of all devices, where scans are, or that of sales.
-ghost use Rattle.std.specs.Prelude.{◌≡◌, ◌<◌, ◌≤◌, ◌^◌, [], ◌+◌, Option, Some, None, true, false, IfSome, OnErr, OnOk};
+ghost use Rattle.std.specs.Prelude.{◌≡◌, ◌<◌, ◌≤◌, ◌^◌, [], Option, Some, None, true, false, OnErr, OnOk};
 ghost use Rattle.std.specs.Option.{option_map};
 ghost use Rattle.arrayvec.specs.ArrayVec.{array_vec_len};
 ghost use Rattle.cct_model.specs.declared.judging.OpenOrder.{OpenOrder};
@@ -8,15 +8,13 @@ ghost use Rattle.cct_model.specs.terms.device.Setup.{Setup};
 ghost use Rattle.cct_model.specs.Exchange.{device_at};
 ghost use Rattle.cct_model.specs.Job.{address_of, works};
 ghost use Rattle.cct_model.specs.Refusal.{running_id};
-ghost use Rattle.cct_model.specs.Rows.{puts_in};
-ghost use Rattle.cct_jobs.specs.Ahead.{coins_in};
 ghost use Rattle.cct_jobs.specs.Jobs.{is_of_device, order_of};
-ghost use Rattle.cct_host.specs.Held.{FitsIn, FitsIn-prop, coins_by, due_by, price_by, puts_left, sells_only};
+ghost use Rattle.cct_host.specs.Held.{FitsIn, FitsIn-prop, price_by, sells_only};
 ghost use Rattle.cct_host.specs.Place as places;
-ghost use Rattle.cct_host.specs.Running.{id_left, is_halt, is_running, needed, rows_begun};
+ghost use Rattle.cct_host.specs.Running.{id_left, is_halt, is_running};
 
-use crate::dues::Dues;
 use crate::exchange::{converse, settled};
+use crate::orders::OrderState;
 use crate::recorded::{epoch_by, id_of};
 use arrayvec::ArrayVec;
 use cct_jobs::{Job, Need};
@@ -28,7 +26,7 @@ use cct_wire::Link;
 pub(crate) struct JobDesk {
     pub(crate) job: Option<Job>,
     pub(crate) epoch: EpochState,
-    pub(crate) dues: Dues,
+    pub(crate) orders: OrderState,
     ghost runs: { is_running job ≡ true },
     ghost fits: { FitsIn job } by { FitsIn-prop job },
 }
@@ -42,13 +40,13 @@ impl Default for JobDesk {
         JobDesk {
             job: None,
             epoch: EpochState::Idle,
-            dues: Dues { order: None, id: 0 },
+            orders: OrderState { order: None, id: 0 },
         }
     }
 }
 
 impl JobDesk {
-    ghost use Rattle.cct_host.specs.Desk.{Attempts, Commands, CommandsAbove, held_at, puts_at};
+    ghost use Rattle.cct_host.specs.Desk.{Attempts, Commands, CommandsAbove, Frees, Takes, TakesFor, puts_at};
 
     /// A command to the device of this desk is taken, or refused for the first reason that holds; a refused one changes
     /// nothing.
@@ -62,9 +60,7 @@ impl JobDesk {
         requires there { device_at setup.now.devices (address_of command.now) ≡ Some device.now }
         requires of_device { is_of_device command.now ≡ true }
         ensures stays { OnErr result (self.new ≡ self.old) }
-        ensures holds { OnOk result (held_at self.new ≤ held_at self.old + needed setup.now command.now) }
-        ensures puts { OnOk result (puts_at self.new ≤ puts_at self.old + puts_in (rows_begun setup.now command.now)) }
-        ensures reserves { OnOk result (coins_by self.new.job ≡ coins_by self.old.job + coins_in (rows_begun setup.now command.now)) }
+        ensures takes { OnOk result (TakesFor setup.now command.now self.old self.new) }
         ensures commands { device.now.serial < 2 ^ 24
             → CommandsAbove setup.now last (places.device device.now) self.old self.new command.now result }
     {
@@ -85,9 +81,7 @@ impl JobDesk {
         requires there { device_at setup.now.devices (address_of command.now) ≡ Some device.now }
         requires halt { is_halt command.now ≡ true }
         ensures stays { OnErr result (self.new ≡ self.old) }
-        ensures holds { OnOk result (held_at self.new ≤ held_at self.old + needed setup.now command.now) }
-        ensures puts { OnOk result (puts_at self.new ≤ puts_at self.old + puts_in (rows_begun setup.now command.now)) }
-        ensures reserves { OnOk result (coins_by self.new.job ≡ coins_by self.old.job + coins_in (rows_begun setup.now command.now)) }
+        ensures takes { OnOk result (TakesFor setup.now command.now self.old self.new) }
         ensures commands { Commands setup.now (places.device device.now) self.old self.new command.now result }
     {
         match self.halting_refusal(device) {
@@ -114,9 +108,7 @@ impl JobDesk {
         requires no_halt { is_halt command.now ≡ false }
         requires of_device { is_of_device command.now ≡ true }
         ensures stays { OnErr result (self.new ≡ self.old) }
-        ensures holds { OnOk result (held_at self.new ≤ held_at self.old + needed setup.now command.now) }
-        ensures puts { OnOk result (puts_at self.new ≤ puts_at self.old + puts_in (rows_begun setup.now command.now)) }
-        ensures reserves { OnOk result (coins_by self.new.job ≡ coins_by self.old.job + coins_in (rows_begun setup.now command.now)) }
+        ensures takes { OnOk result (TakesFor setup.now command.now self.old self.new) }
         ensures commands { device.now.serial < 2 ^ 24
             → CommandsAbove setup.now last (places.device device.now) self.old self.new command.now result }
     {
@@ -124,7 +116,7 @@ impl JobDesk {
             Some(why) => Err(why),
             None => {
                 self.job = Some(Job::begin(command, setup, &self.epoch, self.order()));
-                self.dues.id = id_begun(command);
+                self.orders.id = id_begun(command);
                 Ok(())
             }
         }
@@ -132,10 +124,10 @@ impl JobDesk {
 
     /// The open order, if there is one.
     fn order(&self) -> Option<&OpenOrder>
-        ensures value { option_map (λ o. o.now) result ≡ order_of self.now.dues.order }
+        ensures value { option_map (λ o. o.now) result ≡ order_of self.now.orders.order }
         ensures life { (o : OpenOrder) → option_map (λ o. o.now) result ≡ Some o → o.life < 2 ^ 24 }
     {
-        match &self.dues.order {
+        match &self.orders.order {
             Some(owed) => Some(&owed.order),
             None => None,
         }
@@ -166,9 +158,7 @@ impl JobDesk {
         last: u32,
     ) -> Result<(), CommandNo>
         ensures stays { OnErr result (self.new ≡ self.old) }
-        ensures holds { OnOk result (held_at self.new ≤ held_at self.old + 1) }
-        ensures puts { OnOk result (puts_at self.new ≤ puts_at self.old + 1) }
-        ensures reserves { OnOk result (price_by self.new.job ≡ price_by self.old.job + price) }
+        ensures takes { OnOk result (Takes 1 1 price_by price self.old self.new) }
         ensures sells { sells_only self.old.job ≡ true → sells_only self.new.job ≡ true }
         ensures commands { CommandsAbove setup.now last places.sales self.old self.new (Command.Vend id price) result }
     {
@@ -177,7 +167,7 @@ impl JobDesk {
             None => {
                 let command = Command::Vend { id, price };
                 self.job = Some(Job::begin(&command, setup, &self.epoch, None));
-                self.dues.id = id;
+                self.orders.id = id;
                 Ok(())
             }
         }
@@ -192,13 +182,9 @@ impl JobDesk {
         report: &mut ArrayVec<Entry, 8>,
     ) -> u32
         requires room { array_vec_len report.old ≤ 6 }
-        ensures attempts { Attempts L.gives link.old link.new addr self.old.job self.old.epoch self.old.dues
+        ensures attempts { Attempts L.gives link.old link.new addr self.old.job self.old.epoch self.old.orders
             self.new result report.old.items report.new.items }
-        ensures left { puts_at self.new ≤ puts_at self.old }
-        ensures puts { IfSome (due_by self.old.job) (λ r. puts_at self.new < puts_at self.old) }
-        ensures reserves { coins_by self.new.job ≤ coins_by self.old.job }
-        ensures clears { IfSome (due_by self.old.job) (λ r. coins_by self.new.job ≡ 0) }
-        ensures sells { sells_only self.old.job ≡ true → self.new.job ≡ None }
+        ensures frees { Frees self.old.job self.new }
     {
         match self.job.take() {
             None => {
@@ -220,28 +206,26 @@ impl JobDesk {
         requires running { is_running (Some job) ≡ true }
         requires fits { FitsIn (Some job) }
         requires room { array_vec_len report.old ≤ 6 }
-        ensures attempts { Attempts L.gives link.old link.new addr (Some job) self.old.epoch self.old.dues
+        ensures attempts { Attempts L.gives link.old link.new addr (Some job) self.old.epoch self.old.orders
             self.new result report.old.items report.new.items }
-        ensures left { puts_at self.new ≤ puts_left (Some job) }
-        ensures puts { IfSome (due_by (Some job)) (λ r. puts_at self.new < puts_left (Some job)) }
-        ensures reserves { coins_by self.new.job ≤ coins_by (Some job) }
-        ensures clears { IfSome (due_by (Some job)) (λ r. coins_by self.new.job ≡ 0) }
-        ensures sells { sells_only (Some job) ≡ true → self.new.job ≡ None }
+        ensures frees { Frees (Some job) self.new }
     {
+        let mut job = job;
         match job.needs() {
             Need::Exchange => {
-                let job = converse(job, addr, link, report);
+                converse(&mut job, addr, link, report);
                 self.job = settled(job, addr, report);
-                self.dues.id = self.id_left();
+                self.orders.id = self.id_left();
                 0
             }
             Need::Put(entry) => {
                 self.epoch = epoch_by(&entry, self.epoch);
-                self.dues.order = job.order_after(self.dues.order);
+                self.orders.order = job.order_after(self.orders.order);
                 let id = id_of(&entry);
                 report.push(Entry::Put(entry));
-                self.job = settled(job.was_put(), addr, report);
-                self.dues.id = self.id_left();
+                job.go_on_after_put();
+                self.job = settled(job, addr, report);
+                self.orders.id = self.id_left();
                 id
             }
             Need::Done(_) => unreachable!(),
@@ -250,18 +234,18 @@ impl JobDesk {
 
     /// The id of the payment or the sale that is at work, or 0.
     pub(crate) fn id(&self) -> u32
-        ensures { result ≡ self.now.dues.id }
+        ensures { result ≡ self.now.orders.id }
     {
-        self.dues.id
+        self.orders.id
     }
 
     /// The id of the payment or the sale that is still at work, or 0.
     fn id_left(&self) -> u32
-        ensures { result ≡ id_left self.now.job self.now.dues.id }
+        ensures { result ≡ id_left self.now.job self.now.orders.id }
     {
         match self.job {
             None => 0,
-            Some(_) => self.dues.id,
+            Some(_) => self.orders.id,
         }
     }
 }

@@ -1,5 +1,5 @@
 //! The host's desks: a job at each address, the epochs of its acceptors, and the open orders of its hoppers.
-ghost use Rattle.std.specs.Prelude.{◌≡◌, ◌==◌, ◌<◌, ◌≤◌, ℕ, List, [], ◌∷◌, ◌++◌, ◌+◌, ◌-◌, ◌*◌, IfSome, OnErr, OnOk, Option, Some, None, false, length, max, true};
+ghost use Rattle.std.specs.Prelude.{◌≡◌, ◌==◌, ◌<◌, ◌≤◌, List, [], ◌∷◌, ◌+◌, ◌-◌, ◌*◌, IfSome, OnErr, OnOk, Option, Some, None, false, length, max, true};
 ghost use Rattle.std.specs.List.{All, position};
 ghost use Rattle.arrayvec.specs.ArrayVec.{array_vec_len};
 ghost use Rattle.cct_model.specs.Exchange.{device_at};
@@ -8,10 +8,10 @@ ghost use Rattle.cct_model.specs.Job.{address_of};
 ghost use Rattle.cct_model.specs.lines.entry.Entry.{Entry};
 ghost use Rattle.cct_model.specs.lines.record.Record.TheVariants as record_of;
 ghost use Rattle.cct_model.specs.Legal.{due_at};
+ghost use Rattle.cct_model.specs.Money as money;
 ghost use Rattle.cct_model.specs.Money.{freed_by};
 ghost use Rattle.cct_model.specs.Records.{epoch_in, owner_in};
 ghost use Rattle.cct_model.specs.Refusal.{held};
-ghost use Rattle.cct_model.specs.Rows.{puts_in};
 ghost use Rattle.cct_model.specs.Setup.{IsSoundSetup};
 ghost use Rattle.cct_ledger.specs.Orders.{has_id};
 ghost use Rattle.cct_ledger.specs.Told.{is_of_money};
@@ -19,7 +19,7 @@ ghost use Rattle.cct_record.specs.Body.{Encodable};
 ghost use Rattle.cct_jobs.specs.Jobs.{is_of_device, order_of};
 ghost use Rattle.cct_host.specs.Desk.{IsFree, puts_at};
 ghost use Rattle.cct_host.specs.Held.{sells_only};
-ghost use Rattle.cct_host.specs.Running.{amount_of, needed, rows_begun};
+ghost use Rattle.cct_host.specs.Running.{begins_id};
 ghost use Rattle.cct_host.specs.Sound.{IsSoundSetup-prop};
 
 use crate::desk::JobDesk;
@@ -51,14 +51,14 @@ pub struct Desks<'s> {
 }
 
 impl<'s> Desks<'s> {
-    ghost use Rattle.cct_host.specs.Desks.{Answers, Nexts, Refuses, StandsFor, Stays, amount_at_desk, amount_on, desk_there, due_at_desk, due_on, held_of, puts_of, reserved_of, setup_of, working_id};
-    ghost use Rattle.cct_host.specs.Recalled.{AreUnused, Recalls};
+    ghost use Rattle.cct_host.specs.Desks.{Answers, FindsDesk, FreesIn, Nexts, Refuses, StandsFor, Stays, TakesIn, amount_at_desk, amount_on, desk_there, due_at_desk, due_on, held_of, puts_of, setup_of, working_id};
+    ghost use Rattle.cct_host.specs.Replayed.{AreUnused, Replays};
 
     /// The desks of a host to which nothing has happened: there is no job, and no epoch runs.
     pub fn new(setup: &'s Setup) -> Self
         requires sound { IsSoundSetup setup.now }
         ensures setup { setup_of result ≡ setup.now }
-        ensures recalls { Recalls result [] }
+        ensures replays { Replays result [] }
         ensures fresh { StandsFor result [] }
     {
         Desks {
@@ -81,10 +81,11 @@ impl<'s> Desks<'s> {
     pub fn command(&mut self, command: &Command) -> Result<(), CommandNo>
         ensures setup { setup_of self.new ≡ setup_of self.old }
         ensures stays { OnErr result (Stays self.old self.new) }
-        ensures holds { OnOk result (held_of self.new ≤ held_of self.old + needed (setup_of self.old) command.now) }
-        ensures puts { OnOk result (puts_of self.new ≤ puts_of self.old + puts_in (rows_begun (setup_of self.old) command.now)) }
-        ensures reserves { OnOk result (reserved_of self.new
-            ≡ reserved_of self.old + amount_of (setup_of self.old) command.now) }
+        ensures takes { OnOk result (TakesIn command.now self.old self.new) }
+        // The first reason that holds, whatever room and money there is: no device, another kind, a job, the epoch, the
+        // least place of a mask without a value; of a hopper the open order, then an id that isn't above the last one;
+        // a halt without a payout; of a sale another one that is running, then its id. The last id is the greatest of
+        // the records, of the payments and of the sale that runs.
         ensures answers { Answers self.old self.new command.now result }
     {
         match *command {
@@ -110,15 +111,12 @@ impl<'s> Desks<'s> {
         requires address { address_of command.now ≡ addr }
         ensures setup { setup_of self.new ≡ setup_of self.old }
         ensures stays { OnErr result (Stays self.old self.new) }
-        ensures holds { OnOk result (held_of self.new ≤ held_of self.old + needed (setup_of self.old) command.now) }
-        ensures puts { OnOk result (puts_of self.new ≤ puts_of self.old + puts_in (rows_begun (setup_of self.old) command.now)) }
-        ensures reserves { OnOk result (reserved_of self.new
-            ≡ reserved_of self.old + amount_of (setup_of self.old) command.now) }
+        ensures takes { OnOk result (TakesIn command.now self.old self.new) }
         ensures answers { Answers self.old self.new command.now result }
     {
         let devices = self.setup.devices.as_slice();
-        let last = self.last_id();
-        match index_of(devices, addr) {
+        let last = self.last_before(command);
+        match self.find(addr) {
             None => Err(CommandNo::NoDevice),
             Some(index) => self.devices[index].command(command, &devices[index], self.setup, last),
         }
@@ -143,12 +141,12 @@ impl<'s> Desks<'s> {
         ensures { Refuses self.now command.now result }
     {
         let devices = self.setup.devices.as_slice();
-        match index_of(devices, addr) {
+        match self.find(addr) {
             None => Some(CommandNo::NoDevice),
             Some(index) => self.devices[index].command_refusal(
                 command,
                 &devices[index],
-                self.last_id(),
+                self.last_before(command),
             ),
         }
     }
@@ -162,6 +160,17 @@ impl<'s> Desks<'s> {
             self.sale.id(),
         );
         greater(self.last, at_work)
+    }
+
+    /// The last id, where a command to a device begins one; any other isn't judged by it.
+    fn last_before(&self, command: &Command) -> u32
+        requires of_device { is_of_device command.now ≡ true }
+        ensures { begins_id command.now ≡ true → result ≡ max self.now.last (working_id self.now) }
+    {
+        match command {
+            Command::Pay { .. } => self.last_id(),
+            _ => 0,
+        }
     }
 
     /// How many records are held: those that running jobs may still put, and one for each open order that no job is at
@@ -183,6 +192,13 @@ impl<'s> Desks<'s> {
         3 * (self.devices.len() as u32 + 1)
     }
 
+    /// The index of the desk of the device at an address, or none.
+    pub(crate) fn find(&self, addr: u8) -> Option<usize>
+        ensures { FindsDesk self.now addr result }
+    {
+        index_of(self.setup.devices.as_slice(), addr)
+    }
+
     /// The record that the job at an address is about to put, if it is about to put one.
     pub fn due(&self, addr: u8) -> Option<Record>
         ensures value { result ≡ due_on self.now addr }
@@ -191,7 +207,19 @@ impl<'s> Desks<'s> {
         ensures stands { (past : List Entry) → StandsFor self.now past
             → result ≡ due_at (setup_of self.now) past addr }
     {
-        match index_of(self.setup.devices.as_slice(), addr) {
+        self.due_there(addr, self.find(addr))
+    }
+
+    /// The same, where the desk at the address is found.
+    pub(crate) fn due_there(&self, addr: u8, found: Option<usize>) -> Option<Record>
+        requires found { FindsDesk self.now addr found }
+        ensures value { result ≡ due_on self.now addr }
+        ensures fits { IfSome result Encodable }
+        ensures puts { IfSome result (λ r. 1 ≤ puts_of self.now) }
+        ensures stands { (past : List Entry) → StandsFor self.now past
+            → result ≡ due_at (setup_of self.now) past addr }
+    {
+        match found {
             Some(index) => self.devices[index].due(),
             None => self.bare_due(addr),
         }
@@ -209,7 +237,7 @@ impl<'s> Desks<'s> {
     /// Whether a record of an epoch follows those before it. A record of an order or of a sale is the ledger's to
     /// judge.
     pub(crate) fn may_follow(&self, entry: &Record) -> bool
-        ensures epochs { (before : List Record) → Recalls self.now before
+        ensures epochs { (before : List Record) → Replays self.now before
             → all_follow (setup_of self.now) before ≡ true → is_of_money entry.now ≡ false
             → result ≡ follows (setup_of self.now) before entry.now }
         ensures others { is_of_money entry.now ≡ true → result ≡ true }
@@ -225,11 +253,11 @@ impl<'s> Desks<'s> {
 
     /// Whether an epoch with a mask may begin at an address.
     fn epoch_may_begin(&self, addr: u8, mask: u16) -> bool
-        ensures { (before : List Record) → Recalls self.now before
+        ensures { (before : List Record) → Replays self.now before
             → result ≡ follows (setup_of self.now) before (record_of.Epoch addr mask) }
     {
         let devices = self.setup.devices.as_slice();
-        match index_of(devices, addr) {
+        match self.find(addr) {
             Some(index) => self.devices[index].epoch_may_begin(&devices[index], mask),
             None => false,
         }
@@ -237,46 +265,45 @@ impl<'s> Desks<'s> {
 
     /// Whether an epoch runs at an address.
     fn epoch_runs(&self, addr: u8) -> bool
-        ensures { (before : List Record) → Recalls self.now before → all_follow (setup_of self.now) before ≡ true
+        ensures { (before : List Record) → Replays self.now before → all_follow (setup_of self.now) before ≡ true
             → result ≡ is_running (epoch_in addr before) }
     {
-        match index_of(self.setup.devices.as_slice(), addr) {
+        match self.find(addr) {
             Some(index) => self.devices[index].epoch_runs(),
             None => false,
         }
     }
 
-    /// A record that follows those before it is recalled: its device's epoch or open order goes on by it, and its id is
+    /// A record that follows those before it is replayed: its device's epoch or open order goes on by it, and its id is
     /// used.
-    pub(crate) fn recall(&mut self, entry: &Record)
+    pub(crate) fn replay(&mut self, entry: &Record)
         requires encodable { Encodable entry.now }
         ensures setup { setup_of self.new ≡ setup_of self.old }
         ensures unused { AreUnused self.old → AreUnused self.new }
-        ensures recalls { (before : List Record) → Recalls self.old before
+        ensures replays { (before : List Record) → Replays self.old before
             → all_follow (setup_of self.old) before ≡ true → follows (setup_of self.old) before entry.now ≡ true
-            → Recalls self.new (entry.now ∷ before) }
+            → Replays self.new (entry.now ∷ before) }
     {
         let owner = self.owner_of(entry);
         self.last = greater(id_of(entry), self.last);
         if let Some(index) = owner {
-            self.devices[index].recall(entry);
+            self.devices[index].replay(entry);
         }
     }
 
     /// The index of the device that a record belongs to, or none of a sale.
     fn owner_of(&self, entry: &Record) -> Option<usize>
         ensures within { IfSome result (λ index. index < length self.now.devices.items) }
-        ensures owner { (before : List Record) → Recalls self.now before
+        ensures owner { (before : List Record) → Replays self.now before
             → all_follow (setup_of self.now) before ≡ true → follows (setup_of self.now) before entry.now ≡ true
             → result ≡ position (λ d. d.addr == owner_in before entry.now) (setup_of self.now).devices }
     {
-        let devices = self.setup.devices.as_slice();
         match entry {
-            Record::Epoch { addr, .. } => index_of(devices, *addr),
-            Record::Reading { addr, .. } => index_of(devices, *addr),
-            Record::Broken { addr, .. } => index_of(devices, *addr),
-            Record::EpochEnd { addr } => index_of(devices, *addr),
-            Record::Opened { addr, .. } => index_of(devices, *addr),
+            Record::Epoch { addr, .. } => self.find(*addr),
+            Record::Reading { addr, .. } => self.find(*addr),
+            Record::Broken { addr, .. } => self.find(*addr),
+            Record::EpochEnd { addr } => self.find(*addr),
+            Record::Opened { addr, .. } => self.find(*addr),
             Record::Closed { id, .. } => self.owing(*id),
             Record::Odd { id, .. } => self.owing(*id),
             Record::Sold { .. } => None,
@@ -286,7 +313,7 @@ impl<'s> Desks<'s> {
     /// The index of the device whose open order has an id, or none.
     fn owing(&self, id: u32) -> Option<usize>
         ensures within { IfSome result (λ index. index < length self.now.devices.items) }
-        ensures first { result ≡ position (λ desk. has_id id (order_of desk.dues.order)) self.now.devices.items }
+        ensures first { result ≡ position (λ desk. has_id id (order_of desk.orders.order)) self.now.devices.items }
     {
         self.devices.iter().position(|desk| desk.owes(id))
     }
@@ -299,9 +326,30 @@ impl<'s> Desks<'s> {
         ensures frees { (past : List Entry) → StandsFor self.now past → IfSome (due_on self.now addr)
             (λ r. result ≡ freed_by (setup_of self.now) r) }
     {
-        match index_of(self.setup.devices.as_slice(), addr) {
-            Some(index) => coins_of(self.setup, addr, self.devices[index].coins_reserved()),
+        self.reserved_there(addr, self.find(addr))
+    }
+
+    /// The same, where the desk at the address is found.
+    pub(crate) fn reserved_there(&self, addr: u8, found: Option<usize>) -> u64
+        requires found { FindsDesk self.now addr found }
+        ensures value { result ≡ amount_on self.now addr }
+        ensures frees { (past : List Entry) → StandsFor self.now past → IfSome (due_on self.now addr)
+            (λ r. result ≡ freed_by (setup_of self.now) r) }
+    {
+        match found {
+            Some(index) => self.worth_of(addr, self.devices[index].coins_reserved()),
             None => self.bare_reserved(addr),
+        }
+    }
+
+    /// What so many coins of the hopper at an address are worth. Without a coin it isn't looked for.
+    fn worth_of(&self, addr: u8, coins: u8) -> u64
+        ensures { result ≡ money.coins_of (setup_of self.now) addr coins }
+    {
+        if coins == 0 {
+            0
+        } else {
+            coins_of(self.setup, addr, coins)
         }
     }
 
@@ -320,16 +368,31 @@ impl<'s> Desks<'s> {
     /// or a put, and where the job is then done its end, which frees the address. With no job the address is idle.
     pub fn next<L: Link>(&mut self, addr: u8, link: &mut L, report: &mut ArrayVec<Entry, 8>)
         requires room { array_vec_len report.old ≤ 6 }
-        ensures setup { setup_of self.new ≡ setup_of self.old }
-        ensures left { puts_of self.new ≤ puts_of self.old }
-        ensures puts { IfSome (due_on self.old addr) (λ r. puts_of self.new < puts_of self.old) }
-        ensures reserves { amount_on self.new addr ≤ amount_on self.old addr }
-        ensures clears { IfSome (due_on self.old addr) (λ r. amount_on self.new addr ≡ 0) }
-        ensures frees { reserved_of self.new + (amount_on self.old addr - amount_on self.new addr)
-            ≡ reserved_of self.old }
+        ensures frees { FreesIn addr self.old self.new }
+        // Over any link: one attempt of one row, at most one exchange, whose bytes are those of its entry, and the job
+        // stays until it ends. A put alone moves the epoch and the open order; an order is closed at the hopper where
+        // it was opened.
         ensures nexts { Nexts L.gives link.old link.new addr self.old self.new report.old.items report.new.items }
     {
-        match index_of(self.setup.devices.as_slice(), addr) {
+        let found = self.find(addr);
+        self.next_there(addr, found, link, report);
+    }
+
+    /// The same, where the desk at the address is found.
+    pub(crate) fn next_there<L: Link>(
+        &mut self,
+        addr: u8,
+        found: Option<usize>,
+        link: &mut L,
+        report: &mut ArrayVec<Entry, 8>,
+    )
+        requires room { array_vec_len report.old ≤ 6 }
+        requires found { FindsDesk self.old addr found }
+        ensures found { FindsDesk self.new addr found }
+        ensures frees { FreesIn addr self.old self.new }
+        ensures nexts { Nexts L.gives link.old link.new addr self.old self.new report.old.items report.new.items }
+    {
+        match found {
             Some(index) => {
                 let used = self.devices[index].next(addr, link, report);
                 self.last = greater(used, self.last);
@@ -343,13 +406,7 @@ impl<'s> Desks<'s> {
         requires bare { device_at (setup_of self.old).devices addr ≡ None }
         requires nobody { desk_there self.old addr ≡ None }
         requires room { array_vec_len report.old ≤ 6 }
-        ensures setup { setup_of self.new ≡ setup_of self.old }
-        ensures left { puts_of self.new ≤ puts_of self.old }
-        ensures puts { IfSome (due_on self.old addr) (λ r. puts_of self.new < puts_of self.old) }
-        ensures reserves { amount_on self.new addr ≤ amount_on self.old addr }
-        ensures clears { IfSome (due_on self.old addr) (λ r. amount_on self.new addr ≡ 0) }
-        ensures frees { reserved_of self.new + (amount_on self.old addr - amount_on self.new addr)
-            ≡ reserved_of self.old }
+        ensures frees { FreesIn addr self.old self.new }
         ensures nexts { Nexts L.gives link.old link.new addr self.old self.new report.old.items report.new.items }
     {
         if addr == BROADCAST {

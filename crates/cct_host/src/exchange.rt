@@ -1,13 +1,12 @@
 //! One exchange of a job over a link, and what becomes of the job.
-ghost use Rattle.std.specs.Prelude.{◌≡◌, ◌<◌, ◌≤◌, ℕ, List, [], true, ◌∷◌, length};
+ghost use Rattle.std.specs.Prelude.{◌≡◌, ◌<◌, [], true};
 ghost use Rattle.arrayvec.specs.ArrayVec.{array_vec_len};
-ghost use Rattle.cct_model.specs.lines.command.Command.{Command};
 ghost use Rattle.cct_model.specs.lines.entry.Entry.TheVariants as entry;
-ghost use Rattle.cct_model.specs.declared.judging.EpochState.{EpochState};
-ghost use Rattle.cct_model.specs.Line.{Line};
+ghost use Rattle.cct_jobs.specs.Ahead.{ahead};
 ghost use Rattle.cct_jobs.specs.Jobs.{PutsFit, end_of_job, need_of};
+ghost use Rattle.cct_jobs.specs.Onward.{KeepsTo};
 ghost use Rattle.cct_jobs.specs.declared.job.Need.TheVariants as need;
-ghost use Rattle.cct_host.specs.Exchange.{Converses, Ends, Fills, HoldsLess, Talks};
+ghost use Rattle.cct_host.specs.Exchange.{Converses, Ends, Fills, Talks};
 ghost use Rattle.cct_host.specs.Held.{FitsIn};
 ghost use Rattle.cct_host.specs.Running.{Settles, is_running};
 
@@ -19,16 +18,15 @@ use cct_wire::Link;
 
 /// A job sends its request over a link, and hears what follows. The exchange is a further entry.
 pub(crate) fn converse<L: Link>(
-    job: Job,
+    job: &mut Job,
     addr: u8,
     link: &mut L,
     report: &mut ArrayVec<Entry, 8>,
-) -> Job
-    requires asks { need_of job ≡ need.Exchange }
+)
+    requires asks { need_of job.old ≡ need.Exchange }
     requires room { array_vec_len report.old < 8 }
-    ensures converses { Converses L.gives link.old link.new addr job result report.old.items report.new.items }
-    ensures holds { HoldsLess job result }
-    ensures fits { PutsFit result }
+    ensures converses { Converses L.gives link.old link.new addr job.old job.new report.old.items report.new.items }
+    ensures keeps { KeepsTo (ahead job.old) job.new }
 {
     let index = report.len();
     report.push(Entry::Wire {
@@ -43,12 +41,11 @@ pub(crate) fn converse<L: Link>(
 }
 
 /// A job sends its request over a link, and hears what follows. The pieces of an entry are filled where they stand.
-fn fill<L: Link>(job: Job, link: &mut L, addr: u8, said: &mut Entry) -> Job
-    requires asks { need_of job ≡ need.Exchange }
+fn fill<L: Link>(job: &mut Job, link: &mut L, addr: u8, said: &mut Entry)
+    requires asks { need_of job.old ≡ need.Exchange }
     requires empty { said.old ≡ entry.Wire addr [] [] }
-    ensures fills { Fills L.gives link.old link.new addr job result said.new }
-    ensures holds { HoldsLess job result }
-    ensures fits { PutsFit result }
+    ensures fills { Fills L.gives link.old link.new addr job.old job.new said.new }
+    ensures keeps { KeepsTo (ahead job.old) job.new }
 {
     match said {
         Entry::Wire { sent, heard, .. } => talk(job, link, sent, heard),
@@ -57,14 +54,13 @@ fn fill<L: Link>(job: Job, link: &mut L, addr: u8, said: &mut Entry) -> Job
 }
 
 /// A job sends its request over a link, and hears what follows. The two pieces are put in the place of what they hold.
-fn talk<L: Link>(job: Job, link: &mut L, sent: &mut Sent, heard: &mut Piece) -> Job
-    requires asks { need_of job ≡ need.Exchange }
+fn talk<L: Link>(job: &mut Job, link: &mut L, sent: &mut Sent, heard: &mut Piece)
+    requires asks { need_of job.old ≡ need.Exchange }
     ensures goes { L.gives link.old sent.new heard.new link.new }
-    ensures talks { Talks job sent.new heard.new result }
-    ensures holds { HoldsLess job result }
-    ensures fits { PutsFit result }
+    ensures talks { Talks job.old sent.new heard.new job.new }
+    ensures keeps { KeepsTo (ahead job.old) job.new }
 {
-    let (sending, job) = job.sending();
+    let sending = job.request();
     encode_request(
         sending.kind,
         sending.to,
@@ -72,7 +68,7 @@ fn talk<L: Link>(job: Job, link: &mut L, sent: &mut Sent, heard: &mut Piece) -> 
         sent.as_array_mut(),
     );
     link.exchange(sent.as_slice(), heard.as_array_mut());
-    job.heard(sent.as_slice(), heard.as_slice())
+    job.hear(sent.as_slice(), heard.as_slice());
 }
 
 /// What stays of a job at an address: nothing, where it is done, and then the report has its end.

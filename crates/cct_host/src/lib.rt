@@ -5,13 +5,13 @@
 mod advance;
 mod desk;
 mod desks;
-mod dues;
 mod exchange;
 mod host;
+mod orders;
 mod reasons;
-mod recall;
 mod recorded;
 mod refusal;
+mod replay;
 mod reserves;
 mod restart;
 mod values;

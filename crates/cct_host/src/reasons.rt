@@ -73,7 +73,7 @@ impl JobDesk {
         device: &DeviceSetup,
         last: u32,
     ) -> Option<CommandNo>
-        ensures { result ≡ refusal_beside device.now self.now.job self.now.epoch self.now.dues last command.now }
+        ensures { result ≡ refusal_beside device.now self.now.job self.now.epoch self.now.orders last command.now }
     {
         match *command {
             Command::Start { mask, .. } => self.acceptor_refusal(
@@ -128,9 +128,9 @@ impl JobDesk {
 
     /// Why a payment is refused beside the open order and the last id: an order is open, or its id isn't new.
     fn pay_refusal(&self, id: u32, last: u32) -> Option<CommandNo>
-        ensures { result ≡ option_or (order_refusal (order_of self.now.dues.order)) (id_refusal id last) }
+        ensures { result ≡ option_or (order_refusal (order_of self.now.orders.order)) (id_refusal id last) }
     {
-        match &self.dues.order {
+        match &self.orders.order {
             None => id_refusal(id, last),
             Some(owed) => Some(CommandNo::OrderOpen { id: owed.order.id }),
         }
@@ -138,9 +138,9 @@ impl JobDesk {
 
     /// Why a settlement is refused beside the open order: there is none.
     fn settle_refusal(&self) -> Option<CommandNo>
-        ensures { result ≡ settle_refusal (order_of self.now.dues.order) }
+        ensures { result ≡ settle_refusal (order_of self.now.orders.order) }
     {
-        match &self.dues.order {
+        match &self.orders.order {
             None => Some(CommandNo::NoOrder),
             Some(_) => None,
         }

@@ -7,7 +7,7 @@ ghost use Rattle.cct_model.specs.Records.{id_of};
 ghost use Rattle.cct_record.specs.Body.{Encodable};
 ghost use Rattle.cct_jobs.specs.Jobs.{order_of};
 ghost use Rattle.cct_ledger.specs.Orders.{has_id};
-ghost use Rattle.cct_host.specs.Recalled.{may_begin};
+ghost use Rattle.cct_host.specs.Replayed.{may_begin};
 
 use crate::desk::JobDesk;
 use crate::values::valueless;
@@ -38,24 +38,24 @@ impl JobDesk {
 
     /// Whether the open order has this id.
     pub(crate) fn owes(&self, id: u32) -> bool
-        ensures { result ≡ has_id id (order_of self.now.dues.order) }
+        ensures { result ≡ has_id id (order_of self.now.orders.order) }
     {
-        match &self.dues.order {
+        match &self.orders.order {
             Some(owed) => owed.order.id == id,
             None => false,
         }
     }
 
-    /// A record of this desk's device is recalled: the epoch or the open order goes on by it.
-    pub(crate) fn recall(&mut self, entry: &Record)
+    /// A record of this desk's device is replayed: the epoch or the open order goes on by it.
+    pub(crate) fn replay(&mut self, entry: &Record)
         requires encodable { Encodable entry.now }
         ensures job { self.new.job ≡ self.old.job }
         ensures epoch { self.new.epoch ≡ epoch_by entry.now self.old.epoch }
-        ensures order { order_of self.new.dues.order ≡ order_by entry.now (order_of self.old.dues.order) }
-        ensures id { self.new.dues.id ≡ self.old.dues.id }
+        ensures order { order_of self.new.orders.order ≡ order_by entry.now (order_of self.old.orders.order) }
+        ensures id { self.new.orders.id ≡ self.old.orders.id }
     {
         self.epoch = epoch_by(entry, self.epoch);
-        self.dues.order = order_by(entry, self.dues.order);
+        self.orders.order = order_by(entry, self.orders.order);
     }
 }
 

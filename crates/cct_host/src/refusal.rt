@@ -1,18 +1,10 @@
 //! Why a host isn't started.
 use thiserror::Error;
 
-/// Why a host isn't started over a journal.
-#[derive(Clone, Copy, Debug, Error, PartialEq, Eq)]
-pub enum StartNo {
-    /// A call of the disk failed.
-    #[error("the disk failed")]
-    Disk,
-    /// The record of this index, the first at 0, can't be read or doesn't follow those before it.
-    #[error("record {index} of the journal can't be read or doesn't follow")]
-    BadRecord { index: u32 },
-}
+/// Why a host isn't started over a journal: a record can't be read, or doesn't follow those before it.
+pub use cct_journal::ReadNo as StartNo;
 
-/// Why a host isn't started again behind a loss of power.
+/// Why a host isn't started again after a power cut.
 #[derive(Clone, Copy, Debug, Error, PartialEq, Eq)]
 pub enum CrashNo {
     /// A call of the disk failed.

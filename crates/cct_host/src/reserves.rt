@@ -3,10 +3,9 @@ ghost use Rattle.std.specs.Prelude.{◌≡◌, ◌≤◌, ◌*◌, Option, max, 
 ghost use Rattle.cct_record.specs.Body.{Encodable};
 ghost use Rattle.cct_jobs.specs.Jobs.{order_of};
 ghost use Rattle.cct_host.specs.Desk.{greatest_paying, held_at, held_in};
-ghost use Rattle.cct_host.specs.Held.{coins_by, due_by, order_left, price_by, put_in, puts_left};
+ghost use Rattle.cct_host.specs.Held.{coins_by, due_by, order_left, price_by, puts_left};
 
 use crate::desk::JobDesk;
-use cct_jobs::Need;
 use cct_model::{DEVICES, Record};
 
 impl JobDesk {
@@ -45,10 +44,10 @@ impl JobDesk {
 
     /// One record for the open order that no job is at work to close, if there is one.
     fn order_left(&self) -> u32
-        ensures value { result ≡ order_left self.now.job (order_of self.now.dues.order) }
+        ensures value { result ≡ order_left self.now.job (order_of self.now.orders.order) }
         ensures few { result ≤ 1 }
     {
-        match (&self.dues.order, &self.job) {
+        match (&self.orders.order, &self.job) {
             (None, _) => 0,
             (Some(_), None) => 1,
             (Some(_), Some(job)) => u32::from(!job.closes_order()),
@@ -61,7 +60,7 @@ impl JobDesk {
         ensures fits { IfSome result Encodable }
     {
         match &self.job {
-            Some(job) => put_in(job.needs()),
+            Some(job) => job.due(),
             None => None,
         }
     }
@@ -92,18 +91,8 @@ impl JobDesk {
     {
         match desks {
             [] => 0,
-            [desk, rest @ ..] => greater(desk.dues.id, JobDesk::greatest_paying(rest)),
+            [desk, rest @ ..] => greater(desk.orders.id, JobDesk::greatest_paying(rest)),
         }
-    }
-}
-
-/// The record that is needed to be put, if one is.
-fn put_in(need: Need) -> Option<Record>
-    ensures { result ≡ put_in need }
-{
-    match need {
-        Need::Put(entry) => Some(entry),
-        _ => None,
     }
 }
 

@@ -1,5 +1,5 @@
 //! The values of an acceptor's coin places.
-ghost use Rattle.std.specs.Prelude.{◌≡◌, ◌≤◌, ◌==◌, ◌&&◌, ℕ};
+ghost use Rattle.std.specs.Prelude.{◌≡◌, ◌≤◌, ◌==◌, ◌&&◌};
 ghost use Rattle.cct_model.specs.Refusal as refusal;
 ghost use Rattle.cct_host.specs.CoinPlaces.{lacks};
 

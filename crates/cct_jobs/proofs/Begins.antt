@@ -1,7 +1,6 @@
 -- How a job begins.
-use Rattle.std.proofs.Common.{◌≡◌, ℕ, ◌==◌, Bool, true, false, cond, List, [], ◌∷◌, refl, sym, ap, subst, ◌∙◌, Option, Some, arith}
+use Rattle.std.proofs.Common.{◌≡◌, ℕ, List, [], refl, sym, ap, subst, ◌∙◌, Option, Some, arith}
 use Rattle.std.specs.Prelude.{slice_get}
-use Rattle.std.proofs.lemmas.Bool.{eqb-true}
 use Rattle.cct_model.specs.lines.command.Command.{Command}
 use Rattle.cct_model.specs.lines.command.Command.TheVariants as command
 use Rattle.cct_model.specs.terms.device.DeviceSetup.{DeviceSetup}
@@ -18,24 +17,10 @@ use Rattle.cct_jobs.specs.declared.stage.Stage.TheVariants.{IdentAsks}
 use Rattle.cct_jobs.specs.declared.target.Target.{Target}
 use Rattle.cct_jobs.specs.Ahead.{place_of, questions_of, stage_ahead, table_of}
 use Rattle.cct_jobs.specs.Jobs.{Knows, Stands, Suits, target_of}
+use Rattle.cct_model.proofs.Addresses.{address_there}
 use Rattle.cct_model.proofs.Rows.{after_none}
 use Rattle.cct_jobs.proofs.Moves.{begun_rest}
 use Rattle.cct_jobs.proofs.Questions.{same_questions}
-
-address_by : (b : Bool) (x : DeviceSetup) (devices : List DeviceSetup) (addr : ℕ) (d : DeviceSetup)
-    → (x.addr == addr) ≡ b → (device_at devices addr ≡ Some d → d.addr ≡ addr)
-    → cond b (Some x) (device_at devices addr) ≡ Some d → d.addr ≡ addr
-address_by true x devices addr d same later e =
-    let is : x ≡ d = cc in
-    ap (λ (y : DeviceSetup). y.addr) (sym is) ∙ eqb-true _ _ same
-address_by false x devices addr d other later e = later e
-
--- the device that is found at an address has it
-address_there : (devices : List DeviceSetup) (addr : ℕ) (d : DeviceSetup) → device_at devices addr ≡ Some d
-    → d.addr ≡ addr
-address_there [] addr d e = absurd cc
-address_there (x ∷ devices) addr d e =
-    address_by (x.addr == addr) x devices addr d refl (address_there devices addr d) e
 
 -- the table looks at nothing else of a device than what a job knows of it
 pub table_known : (d : DeviceSetup) (c : Command) → table_of (target_of d) c ≡ rows_of d c

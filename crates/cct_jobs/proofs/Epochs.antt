@@ -22,13 +22,13 @@ use Rattle.cct_jobs.specs.declared.stage.Recorded.{Recorded}
 use Rattle.cct_jobs.specs.declared.stage.Stage.TheVariants.{Looks, Pays, StartReads, StartSets}
 use Rattle.cct_jobs.specs.declared.owed.Owed.{Owed}
 use Rattle.cct_jobs.specs.declared.payout.Payout.TheVariants.{Dispenses}
-use Rattle.cct_jobs.specs.declared.stage.Visit.{Visit}
-use Rattle.cct_jobs.specs.declared.stage.Visit.TheVariants as visit_of
+use Rattle.cct_jobs.specs.declared.stage.ReadBy.{ReadBy}
+use Rattle.cct_jobs.specs.declared.stage.ReadBy.TheVariants as by_job
 use Rattle.cct_jobs.specs.declared.target.Target.{Target}
 use Rattle.cct_jobs.specs.declared.job.Job.{Job}
 use Rattle.cct_jobs.specs.declared.job.Need.TheVariants as need
 use Rattle.cct_jobs.specs.declared.job.Job.TheVariants.{Asks, StartPuts, RoundPuts, StopPuts, StopEnds, OrderOpens, OrderCloses, Done}
-use Rattle.cct_jobs.specs.Ahead.{ahead, visit_ahead}
+use Rattle.cct_jobs.specs.Ahead.{ahead, reading_ahead}
 use Rattle.cct_jobs.specs.Jobs.{Asking, Opening, Putting, Stands, after_put, need_of, newest_end, opened_by, round_after, runs, stop_after, target_of}
 use Rattle.cct_model.proofs.Rows.{but_first}
 use Rattle.cct_jobs.proofs.Moves.{put_moves}
@@ -98,22 +98,22 @@ break_ends of_reading rows addr mask counter read seen entry e =
     ap (end_kept (puts_due reading (if_posted of_reading) ∷ rows)) (sym (by_broken _ _ _ _ entry e))
 
 -- the end that a look at the mask brings
-abbrev end_of_visit : Visit → Judged → Option End
-end_of_visit visit_of.Round means = end_of_reading means
-end_of_visit visit_of.Stop means = None
+abbrev end_of_looking : ReadBy → Judged → Option End
+end_of_looking by_job.Round means = end_of_reading means
+end_of_looking by_job.Stop means = None
 
-looked_by : (visit : Visit) (device : Target) (meant means : Judged) (y : Reply)
-    → end_answered (from (after (visit_ahead device visit) 1) meant) y means ≡ end_of_visit visit means
-looked_by visit_of.Round device meant means y = refl
-looked_by visit_of.Stop device meant means y = refl
+looked_by : (read_by : ReadBy) (device : Target) (meant means : Judged) (y : Reply)
+    → end_answered (from (after (reading_ahead device read_by) 1) meant) y means ≡ end_of_looking read_by means
+looked_by by_job.Round device meant means y = refl
+looked_by by_job.Stop device meant means y = refl
 
 -- the line of a look at the mask
 abbrev looked : ℕ → Line
 looked seen = exchange (Some GetMask) (Some (reply.mask seen))
 
-module _ {d : DeviceSetup} {device : Target} {visit : Visit} {recorded : Recorded} {read : Credits} {failed : ℕ}
+module _ {d : DeviceSetup} {device : Target} {read_by : ReadBy} {recorded : Recorded} {read : Credits} {failed : ℕ}
     {c : Command} {since : List Line} {state : EpochState} {owed : Option OpenOrder}
-    (at : Asking d device (Looks visit recorded read) failed c since state owed) (seen : ℕ) (means : Judged)
+    (at : Asking d device (Looks read_by recorded read) failed c since state owed) (seen : ℕ) (means : Judged)
     (meant : judge device.addr recorded.mask recorded.counter read seen ≡ means) where
   -- what was read means to the job what it means beside what is recorded
   judged_is : judged_in c (looked seen ∷ since) state ≡ means
@@ -124,21 +124,21 @@ module _ {d : DeviceSetup} {device : Target} {visit : Visit} {recorded : Recorde
       ∙ ap (λ (t : Target). judge t.addr recorded.mask recorded.counter read seen) (sym at.device_is)
       ∙ meant
 
-  looked_end : newest_end d c (looked seen ∷ since) state ≡ end_of_visit visit means
+  looked_end : newest_end d c (looked seen ∷ since) state ≡ end_of_looking read_by means
   looked_end =
       end_after at GetMask (reply.mask seen)
-      ∙ looked_by visit device (judged_in c since state) (judged_in c (looked seen ∷ since) state) (reply.mask seen)
-      ∙ ap (end_of_visit visit) judged_is
+      ∙ looked_by read_by device (judged_in c since state) (judged_in c (looked seen ∷ since) state) (reply.mask seen)
+      ∙ ap (end_of_looking read_by) judged_is
 
   -- the rows that are left then
-  looked_rest : rest d c (looked seen ∷ since) ≡ but_first (after (visit_ahead device visit) 1)
+  looked_rest : rest d c (looked seen ∷ since) ≡ but_first (after (reading_ahead device read_by) 1)
   looked_rest = answered_rest at tt (reply.mask seen)
 
   -- a record that is put
   put_at : (job : Job) (entry : Record) (end : Option End)
-      → from (but_first (after (visit_ahead device visit) 1)) means ≡ ahead job
-      → ((p : Payment) → first d.addr means p (ahead job) ≡ puts entry) → end_of_visit visit means ≡ None
-      → end_kept (but_first (after (visit_ahead device visit) 1)) entry ≡ end
+      → from (but_first (after (reading_ahead device read_by) 1)) means ≡ ahead job
+      → ((p : Payment) → first d.addr means p (ahead job) ≡ puts entry) → end_of_looking read_by means ≡ None
+      → end_kept (but_first (after (reading_ahead device read_by) 1)) entry ≡ end
       → Putting d job entry end c (looked seen ∷ since) state owed
   put_at job entry end rows_are is_row on ends =
       let left_is : left d c (looked seen ∷ since) state ≡ ahead job = ap₂ from looked_rest judged_is ∙ rows_are in
@@ -156,7 +156,7 @@ module _ {d : DeviceSetup} {device : Target} {visit : Visit} {recorded : Recorde
 
 pub round_judges : {d : DeviceSetup} {device : Target} {recorded : Recorded} {read : Credits} {failed : ℕ} {c : Command}
     {since : List Line} {state : EpochState} {owed : Option OpenOrder}
-    → Asking d device (Looks visit_of.Round recorded read) failed c since state owed
+    → Asking d device (Looks by_job.Round recorded read) failed c since state owed
     → (seen : ℕ) (means : Judged) → judge device.addr recorded.mask recorded.counter read seen ≡ means
     → Stands d (round_after means) c (looked seen ∷ since) state owed
 round_judges at seen Nothing e = looked_end at seen Nothing e
@@ -169,7 +169,7 @@ round_judges {d} {read = read} at seen (Broken entry) e =
 
 pub stop_judges : {d : DeviceSetup} {device : Target} {recorded : Recorded} {read : Credits} {failed : ℕ} {c : Command}
     {since : List Line} {state : EpochState} {owed : Option OpenOrder}
-    → Asking d device (Looks visit_of.Stop recorded read) failed c since state owed
+    → Asking d device (Looks by_job.Stop recorded read) failed c since state owed
     → (seen : ℕ) (means : Judged) → judge device.addr recorded.mask recorded.counter read seen ≡ means
     → Stands d (stop_after device means) c (looked seen ∷ since) state owed
 stop_judges {d} {device} at seen Nothing e =

@@ -1,5 +1,6 @@
 -- What a job puts can be spelt in a journal.
-use Rattle.std.proofs.Common.{◌≡◌, ℕ, ◌-◌, ◌<◌, ◌^◌, ◌==◌, nat_le, Bool, true, false, cond, List, [], ◌∷◌, take, reverse, min, refl, sym, subst, ◌∙◌, Some, None, arith}
+use Rattle.std.proofs.Common.{◌≡◌, ℕ, ◌-◌, ◌<◌, ◌^◌, ◌==◌, nat_le, Bool, true, false, cond, List, [], ◌∷◌, take, reverse, min, refl, sym, subst, ◌∙◌, Option, Some, None, arith}
+use Rattle.std.specs.Prelude.{IfSome}
 use Rattle.std.specs.List.{All}
 use Rattle.std.proofs.lemmas.Bool.Decides.{nat_tests}
 use Rattle.std.proofs.lemmas.List.{reverse-append}
@@ -23,7 +24,7 @@ use Rattle.cct_jobs.specs.declared.job.Need.{Need}
 use Rattle.cct_jobs.specs.declared.job.Need.TheVariants as need
 use Rattle.cct_jobs.specs.declared.stage.Stage.TheVariants.{Pays}
 use Rattle.cct_jobs.specs.Ahead.{ahead}
-use Rattle.cct_jobs.specs.Jobs.{IsPut, JudgedFits, PutsFit, after_halt, after_put, need_of}
+use Rattle.cct_jobs.specs.Jobs.{IsPut, JudgedFits, PutsFit, after_halt, after_put, need_of, put_in}
 
 -- the coins that a reading posts have a place
 
@@ -98,6 +99,19 @@ fits_by job entry is fits = absurd cc
 pub put_fits : (job : Job) (n : Need) (entry : Record) → n ≡ need_of job → PutsFit job → n ≡ need.Put entry
     → Encodable entry
 put_fits job n entry is fits puts = fits_by job entry (sym is ∙ puts) fits
+
+due_by : (job : Job) → PutsFit job → IfSome (put_in (need_of job)) Encodable
+due_by (StartPuts target mask) fits = tt
+due_by (RoundPuts own end) fits = fits
+due_by (StopPuts target own end) fits = fits
+due_by (StopEnds target) fits = tt
+due_by (OrderOpens target own halted) fits = own.fits
+due_by (OrderCloses own end) fits = fits
+due_by (SalePuts id price) fits = tt
+due_by job fits = tt
+
+pub due_fits : (job : Job) (due : Option Record) → due ≡ put_in (need_of job) → PutsFit job → IfSome due Encodable
+due_fits job due is fits = subst (λ o. IfSome o Encodable) (sym is) (due_by job fits)
 
 -- after a put, and after a halt
 

@@ -15,7 +15,7 @@ use Rattle.cct_jobs.specs.declared.payout.Payout.{Payout}
 use Rattle.cct_jobs.specs.declared.payout.Payout.TheVariants.{Enables, Counts, Dispenses, Waits, Stops, Recounts}
 use Rattle.cct_jobs.specs.declared.stage.Stage.{Stage}
 use Rattle.cct_jobs.specs.declared.stage.Stage.TheVariants.{Reads, Looks, Pays, IdentAsks}
-use Rattle.cct_jobs.specs.declared.stage.Visit.TheVariants.{Round, Stop}
+use Rattle.cct_jobs.specs.declared.stage.ReadBy.TheVariants.{Round, Stop}
 use Rattle.cct_jobs.specs.declared.target.Target.{Target}
 use Rattle.cct_jobs.specs.Ahead.{ahead, payout_ahead, stage_ahead}
 use Rattle.cct_jobs.specs.Jobs.{Asking, KnowsPayout, Opening, Stands, SuitsPayout, Trying, after_halt, end_of_job, halted_row, halted_tries, newest_end, payout_request}

@@ -16,7 +16,7 @@ use Rattle.cct_jobs.specs.declared.payout.Payout.{Payout}
 use Rattle.cct_jobs.specs.declared.payout.Payout.TheVariants.{Dispenses}
 use Rattle.cct_jobs.specs.declared.stage.Stage.{Stage}
 use Rattle.cct_jobs.specs.declared.stage.Stage.TheVariants.{Reads, Looks, IdentAsks, Pays}
-use Rattle.cct_jobs.specs.declared.stage.Visit.TheVariants.{Round, Stop}
+use Rattle.cct_jobs.specs.declared.stage.ReadBy.TheVariants.{Round, Stop}
 use Rattle.cct_jobs.specs.declared.target.Target.{Target}
 use Rattle.cct_jobs.specs.Ahead.{ahead, payout_ahead, place_of, questions_of, stage_ahead}
 use Rattle.cct_jobs.specs.Jobs.{Stands, newest_end}

@@ -3,6 +3,7 @@ pub mod Epochs
 pub mod Fits
 pub mod Halts
 pub mod Heard
+pub mod Keeping
 pub mod Left
 pub mod Lives
 pub mod Moves

@@ -13,7 +13,7 @@ use Rattle.cct_model.specs.Rows.{TableRow, after, done, ends_first, rest, rows_o
 use Rattle.cct_msg.specs.Forms.{form_shown}
 use Rattle.cct_jobs.specs.declared.stage.Stage.{Stage}
 use Rattle.cct_jobs.specs.declared.stage.Stage.TheVariants.{Reads, Looks, IdentAsks, Pays}
-use Rattle.cct_jobs.specs.declared.stage.Visit.TheVariants.{Round, Stop}
+use Rattle.cct_jobs.specs.declared.stage.ReadBy.TheVariants.{Round, Stop}
 use Rattle.cct_jobs.specs.declared.target.Target.{Target}
 use Rattle.cct_jobs.specs.Ahead.{place_of, questions_of, stage_ahead}
 use Rattle.cct_jobs.specs.Jobs.{Suits}

@@ -1,6 +1,6 @@
 -- What a job needs, and that a put brings fewer to come.
-use Rattle.std.specs.Prelude.{⊤}
-use Rattle.std.proofs.Common.{◌≡◌, ℕ, ◌<◌, ◌≤◌, List, sym, ap, subst, ◌∙◌, Option, Some, None, arith}
+use Rattle.std.specs.Prelude.{⊤, IfSome}
+use Rattle.std.proofs.Common.{◌≡◌, ℕ, ◌<◌, ◌≤◌, List, refl, sym, ap, subst, ◌∙◌, Option, Some, None, arith}
 use Rattle.cct_model.specs.terms.device.DeviceSetup.{DeviceSetup}
 use Rattle.cct_model.specs.lines.command.Command.{Command}
 use Rattle.cct_model.specs.lines.entry.End.{End}
@@ -12,11 +12,12 @@ use Rattle.cct_model.specs.terms.request.Request.{Request}
 use Rattle.cct_model.specs.terms.wire.CheckKind.{CheckKind}
 use Rattle.cct_model.specs.terms.wire.CheckKind.TheVariants.{Simple, Crc}
 use Rattle.cct_model.specs.Exchange.{ask}
-use Rattle.cct_model.specs.Job.{Row, address_of, credits_read, mask_read, sends, puts}
+use Rattle.cct_model.specs.Job.{address_of, credits_read, mask_read, sends, puts}
 use Rattle.cct_model.specs.Rows.{left, puts_in, row}
 use Rattle.cct_model.specs.Line.{Line}
 use Rattle.cct_model.specs.Scan.{end_of_scan, poll_of, scan_row}
 use Rattle.cct_model.specs.Transcript.{owner}
+use Rattle.cct_model.proofs.Tries.{same_request}
 use Rattle.cct_jobs.specs.declared.job.Need.{Need}
 use Rattle.cct_jobs.specs.declared.job.Need.TheVariants as need
 use Rattle.cct_jobs.specs.declared.job.Sending.{Sending}
@@ -25,7 +26,7 @@ use Rattle.cct_jobs.specs.declared.job.Job.TheVariants.{Asks, StartPuts, RoundPu
 use Rattle.cct_jobs.specs.declared.stage.Stage.{Stage}
 use Rattle.cct_jobs.specs.declared.target.Target.{Target}
 use Rattle.cct_jobs.specs.Ahead.{ahead}
-use Rattle.cct_jobs.specs.Jobs.{Asking, ClosesItsOwn, IsPut, Needs, Stands, after_put, asks_at, end_of_job, need_of, newest_end, request_of, sending_of}
+use Rattle.cct_jobs.specs.Jobs.{Asking, ClosesItsOwn, IsPut, Needs, Stands, after_put, asks_at, end_in, end_of_job, need_of, newest_end, put_in, request_of, sending_of}
 use Rattle.cct_jobs.specs.Scans.{NeedsScan, StandsScan}
 use Rattle.cct_jobs.proofs.Left.{left_known}
 use Rattle.cct_jobs.proofs.Owners.{closing_owner, reading_owner}
@@ -136,6 +137,23 @@ pub scan_end_known : (job : Job) (since : List Line) (end : Option End) → end 
     → end ≡ end_of_scan since
 scan_end_known job since end is at = is ∙ scan_end_by job since at
 
+-- what is needed, by its end and by the record that is needed to be put
+
+pub done_is : (n : Need) (end : End) → Some end ≡ end_in n → need.Done end ≡ n
+done_is need.Exchange end is = absurd cc
+done_is (need.Put entry) end is = absurd cc
+done_is (need.Done other) end is = cc
+
+pub put_is : (n : Need) (entry : Record) → Some entry ≡ put_in n → need.Put entry ≡ n
+put_is need.Exchange entry is = absurd cc
+put_is (need.Put other) entry is = cc
+put_is (need.Done end) entry is = absurd cc
+
+pub exchange_is : (n : Need) → None ≡ end_in n → None ≡ put_in n → need.Exchange ≡ n
+exchange_is need.Exchange no_end no_put = refl
+exchange_is (need.Put entry) no_end no_put = absurd cc
+exchange_is (need.Done end) no_end no_put = absurd cc
+
 -- what may still be put
 
 put_has_room : (job : Job) (entry : Record) → need_of job ≡ need.Put entry → 1 ≤ puts_in (ahead job)
@@ -150,6 +168,20 @@ put_has_room job entry e = absurd cc
 
 pub put_allowed : (job : Job) (n : Need) (entry : Record) → n ≡ need_of job → n ≡ need.Put entry → 1 ≤ puts_in (ahead job)
 put_allowed job n entry is e = put_has_room job entry (sym is ∙ e)
+
+due_by : (job : Job) → IfSome (put_in (need_of job)) (λ r. 1 ≤ puts_in (ahead job))
+due_by (StartPuts device mask) = omega arith
+due_by (RoundPuts own end) = omega arith
+due_by (StopPuts device own end) = omega arith
+due_by (StopEnds device) = omega arith
+due_by (OrderOpens device own halted) = omega arith
+due_by (OrderCloses own end) = omega arith
+due_by (SalePuts id price) = omega arith
+due_by job = tt
+
+pub due_allowed : (job : Job) (due : Option Record) → due ≡ put_in (need_of job)
+    → IfSome due (λ r. 1 ≤ puts_in (ahead job))
+due_allowed job due is = subst (λ o. IfSome o (λ r. 1 ≤ puts_in (ahead job))) (sym is) (due_by job)
 
 put_falls : (job : Job) → IsPut (need_of job) → puts_in (ahead (after_put job)) < puts_in (ahead job)
 put_falls (StartPuts device mask) put = omega arith
@@ -173,17 +205,12 @@ may_put_known d job c since state owed n is at on = is ∙ ap puts_in (left_know
 
 -- what is sent
 
-same_request : (r : Row) (p q : Request) → r ≡ sends p → r ≡ sends q → p ≡ q
-same_request r p q first second =
-    let both : sends p ≡ sends q = sym first ∙ second in
-    cc
-
 -- the request of a row is that of its stage
 pub stage_asked : {d : DeviceSetup} {device : Target} {stage : Stage} {failed : ℕ} {c : Command} {since : List Line}
     {state : EpochState} (owed : Option OpenOrder) (q : Request) → Asking d device stage failed c since state owed
     → row d c since state owed ≡ sends q
     → q ≡ request_of stage
-stage_asked owed q at is = same_request _ q _ is (stage_row at)
+stage_asked owed q at is = same_request q _ (sym is ∙ stage_row at)
 
 -- what a job sends to its device
 pub sending_is : (d : DeviceSetup) (job : Job) (c : Command) (since : List Line) (state : EpochState)

@@ -15,7 +15,7 @@ use Rattle.cct_jobs.specs.declared.payout.Payout.TheVariants.{Dispenses, Waits, 
 use Rattle.cct_jobs.specs.declared.target.Target.{Target}
 use Rattle.cct_jobs.specs.Ahead.{payout_ahead}
 use Rattle.cct_jobs.specs.Jobs.{KnowsPayout, SuitsPayout, payout_request}
-use Rattle.cct_jobs.proofs.Questions.{again_fits}
+use Rattle.cct_msg.proofs.Exchanges.{again_fits}
 
 -- a row that waits isn't marked, and one that stops is
 abbrev pub MarkedFor : Payout → Bool → Type 0

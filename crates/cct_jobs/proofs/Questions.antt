@@ -1,5 +1,6 @@
 -- The questions of an identification, each after the one before.
-use Rattle.std.proofs.Common.{◌≡◌, ℕ, ◌+◌, suc, zero, ◌<◌, ◌&&◌, Bool, true, false, true≢false, List, [], ◌∷◌, length, map, refl, ap, sym, ◌∙◌, subst, Option, Some, None, arith}
+use Rattle.std.proofs.Common.{◌≡◌, ℕ, ◌+◌, suc, zero, ◌<◌, Bool, true, false, List, [], ◌∷◌, length, map, refl, ap, subst, Option, Some, None, arith}
+use Rattle.std.proofs.lemmas.Bool.{and_parts}
 use Rattle.std.proofs.lemmas.Bool.Decides.{nat_tests}
 use Rattle.std.specs.Prelude.{◌==◌, slice_get}
 use Rattle.std.specs.List.{list_all}
@@ -10,12 +11,11 @@ use Rattle.cct_model.specs.terms.family.Family.TheVariants as family
 use Rattle.cct_model.specs.terms.request.Request.{Request}
 use Rattle.cct_model.specs.Job.{ident_requests}
 use Rattle.cct_model.specs.Family.{family_of}
-use Rattle.cct_msg.specs.Forms.{FitsItsBytes}
 use Rattle.cct_jobs.specs.Ahead.{body_of, place_of}
 use Rattle.cct_jobs.specs.Jobs.{question_after}
-use Rattle.cct_model.proofs.Tries.{IsAgain, is_asked_again}
+use Rattle.cct_model.proofs.Requests.{IsAgain, is_asked_again}
 
--- what stands behind each element
+-- what stands after each element
 abbrev behind_each : List Request → List (Option Request)
 behind_each [] = []
 behind_each (q ∷ rest) = slice_get rest 0 ∷ behind_each rest
@@ -40,7 +40,7 @@ each_follows : (which : Family) → map (question_after which) (questions which)
 each_follows family.Acceptor = refl
 each_follows family.Hopper = refl
 
--- the question at the place behind one is the one that follows it
+-- the question at the place after one is the one that follows it
 pub next_question : (which : Family) (n : ℕ) (q : Request) → slice_get (questions which) n ≡ Some q
     → slice_get (questions which) (suc n) ≡ question_after which q
 next_question which n q at = follows (question_after which) (questions which) n q (each_follows which) at
@@ -94,27 +94,19 @@ other n m less = grind (arith, nat_tests, less)
 pub question_within : (xs : List Request) (n : ℕ) (q : Request) → slice_get xs n ≡ Some q → (length xs == n) ≡ false
 question_within xs n q e = other n (length xs) (below xs n q e)
 
--- a request that is sent again fits its bytes
-pub again_fits : (q : Request) → IsAgain q → FitsItsBytes q
-again_fits q again number count e = absurd (true≢false (sym again ∙ ap is_asked_again e))
-
-both_true : (a b : Bool) → (a && b) ≡ true → (a ≡ true) × (b ≡ true)
-both_true true b e = (refl, e)
-both_true false b e = absurd cc
-
 -- a test of all of a list is one of each
 all_at : (test : Request → Bool) (xs : List Request) (n : ℕ) (q : Request) → list_all test xs ≡ true
     → slice_get xs n ≡ Some q → test q ≡ true
 all_at test [] n q e at = absurd cc
 all_at test (x ∷ xs) zero q e at =
     let is : x ≡ q = cc in
-    subst (λ r. test r ≡ true) is (both_true (test x) (list_all test xs) e).0
-all_at test (x ∷ xs) (suc n) q e at = all_at test xs n q (both_true (test x) (list_all test xs) e).1 at
+    subst (λ r. test r ≡ true) is (and_parts (test x) (list_all test xs) e).0
+all_at test (x ∷ xs) (suc n) q e at = all_at test xs n q (and_parts (test x) (list_all test xs) e).1 at
 
 each_again : (which : Family) → list_all is_asked_again (questions which) ≡ true
 each_again family.Acceptor = refl
 each_again family.Hopper = refl
 
--- so is every question
+-- every question is asked again
 pub question_again : (which : Family) (n : ℕ) (q : Request) → slice_get (questions which) n ≡ Some q → IsAgain q
 question_again which n q at = all_at is_asked_again (questions which) n q (each_again which) at

@@ -1,5 +1,5 @@
--- What a payment or a settlement is at work to close, and how many coins a payment reserves.
-use Rattle.std.proofs.Common.{◌≡◌, ℕ, ◌+◌, ◌≤◌, ◌*◌, Bool, List, refl, sym, ap, ◌∙◌, Option, None, arith}
+-- What a payment or a settlement is running to close, and how many coins a payment reserves.
+use Rattle.std.proofs.Common.{◌≡◌, ℕ, ◌+◌, ◌*◌, Bool, List, refl, sym, ap, ◌∙◌, Option, None, arith}
 use Rattle.cct_model.specs.lines.command.Command.{Command}
 use Rattle.cct_model.specs.lines.record.Record.{Record}
 use Rattle.cct_model.specs.terms.device.DeviceSetup.{DeviceSetup}
@@ -8,7 +8,7 @@ use Rattle.cct_model.specs.declared.judging.EpochState.{EpochState}
 use Rattle.cct_model.specs.declared.judging.OpenOrder.{OpenOrder}
 use Rattle.cct_model.specs.Exchange.{device_at}
 use Rattle.cct_model.specs.Job.{address_of, works, credits_read, mask_read}
-use Rattle.cct_model.specs.Rows.{closes_order, has_closes, puts_in}
+use Rattle.cct_model.specs.Rows.{closes_order, has_closes}
 use Rattle.cct_model.specs.Line.{Line}
 use Rattle.cct_model.specs.Money.{coins_of, freed_by, hopper_value, reserved_by, reserved_for}
 use Rattle.cct_jobs.specs.declared.job.Job.{Job}
@@ -18,7 +18,7 @@ use Rattle.cct_jobs.specs.declared.payout.Payout.{Payout}
 use Rattle.cct_jobs.specs.declared.payout.Payout.TheVariants.{Enables, Counts}
 use Rattle.cct_jobs.specs.declared.stage.Stage.{Stage}
 use Rattle.cct_jobs.specs.declared.stage.Stage.TheVariants.{IdentAsks, Reads, Looks, Pays}
-use Rattle.cct_jobs.specs.declared.stage.Visit.TheVariants.{Round, Stop}
+use Rattle.cct_jobs.specs.declared.stage.ReadBy.TheVariants.{Round, Stop}
 use Rattle.cct_jobs.specs.declared.target.Target.{Target}
 use Rattle.cct_jobs.specs.Ahead.{ahead, coins_in, payout_ahead, stage_ahead}
 use Rattle.cct_jobs.specs.Jobs.{Stands, need_of, newest_end, opened_by}
@@ -27,26 +27,7 @@ use Rattle.cct_jobs.proofs.Owners.{close_frees, reading_frees}
 use Rattle.cct_jobs.proofs.Puts.{round_row, stop_row}
 use Rattle.cct_jobs.proofs.Told.{ident_none}
 
--- what puts one record at the most reserves nothing
-
-few_in_stage : (stage : Stage) (device : Target) (n : ℕ) → n ≤ 1 → puts_in (stage_ahead device stage) ≤ n
-    → coins_in (stage_ahead device stage) ≡ 0
-few_in_stage (Pays (Enables id count halted)) device n few at = absurd (omega arith)
-few_in_stage (Pays (Counts id count halted)) device n few at = absurd (omega arith)
-few_in_stage (Pays row) device n few at = refl
-few_in_stage (Reads Round recorded) device n few at = refl
-few_in_stage (Reads Stop recorded) device n few at = refl
-few_in_stage (Looks Round recorded read) device n few at = refl
-few_in_stage (Looks Stop recorded read) device n few at = refl
-few_in_stage (IdentAsks question) device n few at = ident_none coins_in (λ q behind rows. refl) device question
-few_in_stage stage device n few at = refl
-
-pub few_reserve_none : (job : Job) (n : ℕ) → n ≤ 1 → puts_in (ahead job) ≤ n → coins_in (ahead job) ≡ 0
-few_reserve_none (Asks device stage failed) n few at = few_in_stage stage device n few at
-few_reserve_none (OrderOpens device own halted) n few at = absurd (omega arith)
-few_reserve_none job n few at = refl
-
--- which jobs are at work to close an order
+-- which jobs are running to close an order
 pub closes_known : (d : DeviceSetup) (job : Job) (c : Command) (since : List Line) (state : EpochState)
     (owed : Option OpenOrder) (b : Bool) → b ≡ has_closes (ahead job) → Stands d job c since state owed
     → newest_end d c since state ≡ None → b ≡ closes_order d (works c since)

@@ -20,7 +20,7 @@ use Rattle.cct_jobs.specs.declared.owed.Owed.{Owed}
 use Rattle.cct_jobs.specs.declared.payout.Payout.TheVariants.{Enables}
 use Rattle.cct_jobs.specs.declared.stage.Stage.{Stage}
 use Rattle.cct_jobs.specs.declared.stage.Stage.TheVariants.{IdentAsks, Reads, Looks, Pays}
-use Rattle.cct_jobs.specs.declared.stage.Visit.TheVariants.{Round, Stop}
+use Rattle.cct_jobs.specs.declared.stage.ReadBy.TheVariants.{Round, Stop}
 use Rattle.cct_jobs.specs.declared.target.Target.{Target}
 use Rattle.cct_jobs.specs.Ahead.{ahead, coins_in, price_in, stage_ahead}
 use Rattle.cct_jobs.specs.Jobs.{Stands, after_put, end_of_job, need_of, owed_after}
@@ -111,32 +111,27 @@ no_price d job c since state owed n is at = is ∙ price_none d job c since stat
 
 -- what it has none of
 
-coins_none : (job : Job) (c : Command) (since : List Line) → StandsSale job c since → coins_in (ahead job) ≡ 0
-coins_none (SalePuts id price) c since at = refl
-coins_none (Done end) c since at = refl
-coins_none job c since at = absurd at
+-- what holds of a sale that is still to be put, and of a job that is done, holds of each job that stands for its lines
+by_sale : (P : Job → Type 0) → ((id price : ℕ) → P (SalePuts id price)) → ((end : End) → P (Done end)) → (job : Job)
+    (c : Command) (since : List Line) → StandsSale job c since → P job
+by_sale P to_put ended (SalePuts id price) c since at = to_put id price
+by_sale P to_put ended (Done end) c since at = ended end
+by_sale P to_put ended job c since at = absurd at
 
 pub no_coins : (job : Job) (c : Command) (since : List Line) (n : ℕ) → n ≡ coins_in (ahead job)
     → StandsSale job c since → n ≡ 0
-no_coins job c since n is at = is ∙ coins_none job c since at
-
-closes_none : (job : Job) (c : Command) (since : List Line) → StandsSale job c since → has_closes (ahead job) ≡ false
-closes_none (SalePuts id price) c since at = refl
-closes_none (Done end) c since at = refl
-closes_none job c since at = absurd at
+no_coins job c since n is at =
+    is ∙ by_sale (λ j. coins_in (ahead j) ≡ 0) (λ id price. refl) (λ end. refl) job c since at
 
 pub sale_never_closes : (job : Job) (c : Command) (since : List Line) (b : Bool) → b ≡ has_closes (ahead job)
     → StandsSale job c since → b ≡ false
-sale_never_closes job c since b is at = is ∙ closes_none job c since at
-
-stays : (job : Job) (c : Command) (since : List Line) → StandsSale job c since → has_waits (ahead job) ≡ false
-stays (SalePuts id price) c since at = refl
-stays (Done end) c since at = refl
-stays job c since at = absurd at
+sale_never_closes job c since b is at =
+    is ∙ by_sale (λ j. has_closes (ahead j) ≡ false) (λ id price. refl) (λ end. refl) job c since at
 
 pub sale_never_halts : (job : Job) (c : Command) (since : List Line) (b : Bool) → b ≡ has_waits (ahead job)
     → StandsSale job c since → b ≡ false
-sale_never_halts job c since b is at = is ∙ stays job c since at
+sale_never_halts job c since b is at =
+    is ∙ by_sale (λ j. has_waits (ahead j) ≡ false) (λ id price. refl) (λ end. refl) job c since at
 
 -- what its put leaves
 
@@ -158,12 +153,7 @@ pub put_sells : (job after : Job) (c : Command) (since : List Line) (entry : Rec
     → need_of job ≡ need.Put entry → StandsSale job c since → StandsSale after c (put entry ∷ since)
 put_sells job after c since entry is e at = rw is (sells_by job c since entry e at)
 
-owes_by : (job : Job) (c : Command) (since : List Line) (before : Option Owed) → StandsSale job c since
-    → owed_after job before ≡ before
-owes_by (SalePuts id price) c since before at = refl
-owes_by (Done end) c since before at = refl
-owes_by job c since before at = absurd at
-
 pub sale_owes : (job : Job) (c : Command) (since : List Line) (before after : Option Owed)
     → after ≡ owed_after job before → StandsSale job c since → after ≡ before
-sale_owes job c since before after is at = is ∙ owes_by job c since before at
+sale_owes job c since before after is at =
+    is ∙ by_sale (λ j. owed_after j before ≡ before) (λ id price. refl) (λ end. refl) job c since at

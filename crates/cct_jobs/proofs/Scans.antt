@@ -2,6 +2,7 @@
 use Rattle.std.proofs.Common.{◌≡◌, inl, inr, ℕ, suc, ◌<◌, ◌==◌, ◌&&◌, ◌||◌, not, Bool, true, false, cond, List, [], ◌∷◌, ◌++◌, length, refl, sym, ap, subst, ◌∙◌, Option, Some, None, arith, eq-eqb}
 use Rattle.std.specs.Prelude.{find, nat_le}
 use Rattle.std.specs.List.{list_any}
+use Rattle.std.proofs.Math.Bool.{and-false, or-true}
 use Rattle.std.proofs.lemmas.Bool.{and_parts, cases_eq, ne_eqb}
 use Rattle.std.proofs.lemmas.Bool.Decides.{nat_tests}
 use Rattle.std.proofs.lemmas.List.{append-nil}
@@ -30,10 +31,6 @@ simple_line addr sent heard is_ask = subst (λ p. scan_line p heard ≡ scanned 
 pub crc_line : (addr : ℕ) (sent heard : List ℕ) → addr < 256 → sent ≡ ask Crc addr (poll_of addr) → scan_line sent heard ≡ scanned Crc addr (after_echo sent heard)
 crc_line addr sent heard within is_ask = subst (λ p. scan_line p heard ≡ scanned Crc addr (after_echo p heard)) (sym is_ask) (poll_line Crc addr heard within)
 
-or_true : (b : Bool) → (b || true) ≡ true
-or_true true = refl
-or_true false = refl
-
 device_not_all : (addr : ℕ) → nat_le 2 addr ≡ true → (0 == addr) ≡ false
 device_not_all addr is = ne_eqb 0 addr (λ e. grind (arith, nat_tests, is, e))
 
@@ -43,10 +40,6 @@ all_not_device addr is = ne_eqb addr 0 (λ e. grind (arith, nat_tests, is, e))
 and_gone : (b c : Bool) → ((b && false && c) || false) ≡ false
 and_gone true c = refl
 and_gone false c = refl
-
-and_end : (b : Bool) → (b && false) ≡ false
-and_end true = refl
-and_end false = refl
 
 second_open : (x y : Bool) → (x || (y && true)) ≡ ((x || y) && true)
 second_open true y = refl
@@ -111,7 +104,7 @@ crc_unanswered failed due since at last =
     let all : suc (scan_tries Crc since) ≡ 3 = ap suc (sym at.counted) ∙ third_try failed last in
     rw (eq-eqb _ _ all) refl
 
--- what is noted behind a call
+-- what is noted after a call
 
 abbrev among : ℕ → List ℕ → Bool
 among a bytes = list_any (λ byte. byte == a) bytes
@@ -174,7 +167,7 @@ and_gone_3 false c = refl
 
 no_echo : (call check : CheckKind) (addr : ℕ) (rest : Option (List ℕ)) → (addr == 0) ≡ false → echoes call 0 (scanned check addr rest) ≡ false
 no_echo call check addr None e = refl
-no_echo call check addr (Some piece) e = rw e (and_end (same_check call check))
+no_echo call check addr (Some piece) e = rw e (and-false (same_check call check))
 
 nothing_noted : (check : CheckKind) (addr : ℕ) (rest : Option (List ℕ)) → (addr == 0) ≡ false → noted_by (scanned check addr rest) ≡ []
 nothing_noted check addr None e = refl
@@ -235,7 +228,7 @@ found_more check addr rest since device acked a = elim (cases_eq a addr) [
 found_same : (check : CheckKind) (addr : ℕ) (rest : Option (List ℕ)) (since : List Line) → is_acknowledged check addr rest ≡ false
     → (a : ℕ) → found check since a ≡ found check (scanned check addr rest ∷ since) a
 found_same check addr rest since unacked a = elim (cases_eq a addr) [
-  | inl same ↦ sym (found_by check check addr rest since a (ap (λ n. same_check check check && (addr == a) && is_acknowledged check n rest) same ∙ ap (λ b. same_check check check && (addr == a) && b) unacked ∙ and_end (same_check check check && (addr == a))))
+  | inl same ↦ sym (found_by check check addr rest since a (ap (λ n. same_check check check && (addr == a) && is_acknowledged check n rest) same ∙ ap (λ b. same_check check check && (addr == a) && b) unacked ∙ and-false (same_check check check && (addr == a))))
   | inr other ↦
       sym (found_by check check addr rest since a (ap (λ b. same_check check check && b && is_acknowledged check a rest) (ne_eqb addr a (λ e. other (sym e))) ∙ and_gone_3 (same_check check check) (is_acknowledged check a rest)))
 ]
@@ -250,8 +243,8 @@ lists_after : (check : CheckKind) (addr : ℕ) (rest : Option (List ℕ)) (befor
 lists_after check addr rest before due was listed since at device due_is simple_is crc_is simple_whole crc_whole =
     let apart = all_not_device addr device in
     record {
-      simple = ap (λ b. echoes Simple 0 (scanned check addr rest) || b) at.simple ∙ or_true (echoes Simple 0 (scanned check addr rest));
-      crc = ap (λ b. echoes Crc 0 (scanned check addr rest) || b) at.crc ∙ or_true (echoes Crc 0 (scanned check addr rest));
+      simple = ap (λ b. echoes Simple 0 (scanned check addr rest) || b) at.simple ∙ or-true (echoes Simple 0 (scanned check addr rest));
+      crc = ap (λ b. echoes Crc 0 (scanned check addr rest) || b) at.crc ∙ or-true (echoes Crc 0 (scanned check addr rest));
       due_is = due_is;
       found_simple = simple_is;
       found_crc = crc_is;
@@ -304,7 +297,7 @@ crc_missed addr rest due was since at unacked =
 
 pub after_found : (addr : ℕ) (rest : Option (List ℕ)) (since : List Line) → is_acknowledged Simple addr rest ≡ true
     → poll_after (scanned Simple addr rest ∷ since) ≡ poll_due (next_due (scanned Simple addr rest ∷ since))
-after_found addr rest since acked = rw (acked, and_end (not (addr == 0))) refl
+after_found addr rest since acked = rw (acked, and-false (not (addr == 0))) refl
 
 pub polls_again : (addr : ℕ) (rest : Option (List ℕ)) (before due : DeviceSet) (was : Listed) (since : List Line) → Polls Simple addr before was since
     → ((a : ℕ) → has due a ≡ (not (a == addr) && has before a)) → is_acknowledged Simple addr rest ≡ false → Polls Crc addr due was (scanned Simple addr rest ∷ since)

@@ -21,19 +21,19 @@ use Rattle.cct_jobs.specs.declared.job.Job.{Job}
 use Rattle.cct_jobs.specs.declared.job.Job.TheVariants.{Asks}
 use Rattle.cct_jobs.specs.declared.stage.Stage.{Stage}
 use Rattle.cct_jobs.specs.declared.stage.Stage.TheVariants.{StartSets, StopInhibits, Reads, Looks, IdentAsks, PathSets, PathReads, Pays}
-use Rattle.cct_jobs.specs.declared.stage.Visit.{Visit}
-use Rattle.cct_jobs.specs.declared.stage.Visit.TheVariants.{Round, Stop}
+use Rattle.cct_jobs.specs.declared.stage.ReadBy.{ReadBy}
+use Rattle.cct_jobs.specs.declared.stage.ReadBy.TheVariants.{Round, Stop}
 use Rattle.cct_jobs.specs.declared.target.Target.{Target}
-use Rattle.cct_jobs.specs.Ahead.{place_of, questions_of, stage_ahead, visit_ahead}
+use Rattle.cct_jobs.specs.Ahead.{place_of, questions_of, stage_ahead, reading_ahead}
 use Rattle.cct_jobs.specs.Jobs.{Asking, Knows, Stands, Suits, Trying, after_failed, newest_end, question_after, request_of}
 use Rattle.cct_jobs.proofs.Moves.{IsSettled, answer_ends_first, exchange_moves, exchange_stays}
 use Rattle.cct_jobs.proofs.Payouts.{MarkedFor, first_of_payout, marked_for, payout_fits, payout_knows}
-use Rattle.cct_jobs.proofs.Questions.{next_question, last_question, placed, question_again, question_within, again_fits}
-use Rattle.cct_model.proofs.Tries.{path_set_again, path_read_again}
+use Rattle.cct_jobs.proofs.Questions.{next_question, last_question, placed, question_again, question_within}
+use Rattle.cct_msg.proofs.Exchanges.{again_fits}
+use Rattle.cct_model.proofs.Tries.{asked_fails, path_set_again, path_read_again, tried}
 use Rattle.cct_jobs.proofs.Left.{from_stage}
 use Rattle.cct_model.proofs.RowEnds.{unanswered_ends}
 use Rattle.cct_model.proofs.Rows.{after_next, but_first, told_first, told_end}
-use Rattle.cct_model.proofs.Tries.{asked_fails}
 
 -- the row of a stage
 
@@ -73,11 +73,6 @@ fits_of stage device suits = again_fits (request_of stage) refl
 
 -- failed tries
 
--- tries of a row
-pub tried : (q : Request) (since : List Line)
-    → tries (header_of q) (exchange (Some q) None ∷ since) ≡ suc (tries (header_of q) since)
-tried q since = rw (eq-eqb (header_of q) (header_of q) refl) refl
-
 test_none : (b : Bool) (n : ℕ) → cond b None (Some n) ≡ None → b ≡ true
 test_none true n e = refl
 test_none false n e = absurd cc
@@ -103,8 +98,8 @@ tries_now q failed n since at is = is ∙ ap suc at.counted ∙ sym (tried q sin
 still_knows : (stage : Stage) (since : List Line) (state : EpochState) (owed : Option OpenOrder)
     → Knows stage since state owed → Knows stage (exchange (Some (request_of stage)) None ∷ since) state owed
 still_knows (StopInhibits recorded) since state owed knows = knows
-still_knows (Reads visit recorded) since state owed knows = knows
-still_knows (Looks visit recorded read) since state owed knows = knows
+still_knows (Reads read_by recorded) since state owed knows = knows
+still_knows (Looks read_by recorded read) since state owed knows = knows
 still_knows (Pays row) since state owed knows = payout_knows row since owed knows
 still_knows stage since state owed knows = tt
 
@@ -194,13 +189,13 @@ module _ {d : DeviceSetup} {device : Target} {stage : Stage} {failed : ℕ} {c :
       (line_on next _ (answered_rest settled y ∙ rows) suits knows refl (end_after (request_of stage) y ∙ on))
 
 -- the credits that a round or a stop reads end it never
-pub read_on : (visit : Visit) (device : Target) (y : Reply) (meant means : Judged)
-    → end_answered (from (visit_ahead device visit) meant) y means ≡ None
+pub read_on : (read_by : ReadBy) (device : Target) (y : Reply) (meant means : Judged)
+    → end_answered (from (reading_ahead device read_by) meant) y means ≡ None
 read_on Round device y meant means = refl
 read_on Stop device y meant means = refl
 
 -- after them it looks at its inhibit mask
-pub look_next : (visit : Visit) (device : Target) → but_first (visit_ahead device visit) ≡ after (visit_ahead device visit) 1
+pub look_next : (read_by : ReadBy) (device : Target) → but_first (reading_ahead device read_by) ≡ after (reading_ahead device read_by) 1
 look_next Round device = refl
 look_next Stop device = refl
 

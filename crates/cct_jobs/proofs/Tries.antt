@@ -14,11 +14,11 @@ use Rattle.cct_model.specs.Rows.{end_of, TableRow, Then, asks_for, rows_of, firs
 use Rattle.cct_model.specs.Line.{Line, exchange}
 use Rattle.cct_model.specs.Reply.{Reply}
 use Rattle.cct_model.specs.Request.{header_of}
-use Rattle.cct_jobs.proofs.Stages.{tried}
 use Rattle.cct_model.proofs.Rows.{EachRow, IfEnd, answer_end, each_left, told_each}
 use Rattle.cct_model.specs.declared.judging.OpenOrder.{OpenOrder}
 use Rattle.std.specs.Prelude.{⊤}
-use Rattle.cct_model.proofs.Tries.{IsAgain, IsHeardEnd, ident_again, path_set_again, path_read_again, asked_fails, same_request, answers_heard, due_sends}
+use Rattle.cct_model.proofs.Requests.{IsAgain}
+use Rattle.cct_model.proofs.Tries.{IsHeardEnd, ident_again, path_set_again, path_read_again, asked_fails, same_request, answers_heard, due_sends, tried}
 
 cond_some : (b : Bool) → cond b (Some NoAnswer) None ≡ Some NoAnswer → b ≡ true
 cond_some true e = refl

@@ -17,8 +17,8 @@ use Rattle.cct_model.specs.Rows.{TableRow, puts_due, new_order, sale, reading, i
 use Rattle.cct_jobs.specs.declared.target.Target.{Target}
 use Rattle.cct_jobs.specs.declared.payout.Payout.{Payout}
 use Rattle.cct_jobs.specs.declared.payout.Payout.TheVariants.{Enables, Counts, Dispenses, Waits, Stops, Recounts}
-use Rattle.cct_jobs.specs.declared.stage.Visit.{Visit}
-use Rattle.cct_jobs.specs.declared.stage.Visit.TheVariants.{Round, Stop}
+use Rattle.cct_jobs.specs.declared.stage.ReadBy.{ReadBy}
+use Rattle.cct_jobs.specs.declared.stage.ReadBy.TheVariants.{Round, Stop}
 use Rattle.cct_jobs.specs.declared.stage.Stage.{Stage}
 use Rattle.cct_jobs.specs.declared.stage.Stage.TheVariants.{StartResets, StartReads, StartSets, StopInhibits, Reads, Looks, IdentAsks, PathSets, PathReads, Pays}
 use Rattle.cct_jobs.specs.declared.job.Job.{Job}
@@ -59,9 +59,9 @@ place_of question [] = 0
 place_of question (other ∷ more) = if same_question question other then 0 else suc (place_of question more)
 
 -- The rows that a round or a stop has ahead that reads an acceptor.
-abbrev pub visit_ahead : Target → Visit → List TableRow
-visit_ahead device Round = table_of device (command.Round device.addr)
-visit_ahead device Stop = after (table_of device (command.Stop device.addr)) 1
+abbrev pub reading_ahead : Target → ReadBy → List TableRow
+reading_ahead device Round = table_of device (command.Round device.addr)
+reading_ahead device Stop = after (table_of device (command.Stop device.addr)) 1
 
 -- The rows that a payment or a settlement has ahead.
 abbrev pub payout_ahead : Target → Payout → List TableRow
@@ -79,8 +79,8 @@ stage_ahead device (StartResets mask) = table_of device (command.Start device.ad
 stage_ahead device (StartReads mask) = after (table_of device (command.Start device.addr mask)) 1
 stage_ahead device (StartSets mask) = after (table_of device (command.Start device.addr mask)) 3
 stage_ahead device (StopInhibits recorded) = table_of device (command.Stop device.addr)
-stage_ahead device (Reads visit recorded) = visit_ahead device visit
-stage_ahead device (Looks visit recorded read) = after (visit_ahead device visit) 1
+stage_ahead device (Reads read_by recorded) = reading_ahead device read_by
+stage_ahead device (Looks read_by recorded read) = after (reading_ahead device read_by) 1
 stage_ahead device (IdentAsks question) =
     after (table_of device (command.Ident device.addr)) (place_of question (questions_of device))
 stage_ahead device (PathSets place path) = table_of device (command.Path device.addr place path)

@@ -69,8 +69,8 @@ request_of (StartResets mask) = ResetDevice
 request_of (StartReads mask) = ReadCredits
 request_of (StartSets mask) = SetMask mask
 request_of (StopInhibits recorded) = SetMaster 0
-request_of (Reads visit recorded) = ReadCredits
-request_of (Looks visit recorded read) = GetMask
+request_of (Reads read_by recorded) = ReadCredits
+request_of (Looks read_by recorded read) = GetMask
 request_of (IdentAsks question) = question
 request_of (PathSets place path) = path_set place path
 request_of (PathReads place path) = path_read place
@@ -84,11 +84,11 @@ IsOfStart (StartSets mask) = ⊤
 IsOfStart stage = ⊥
 
 -- The stage is one of a round or a stop.
-abbrev pub IsOfVisit : Stage → Type 0
-IsOfVisit (StopInhibits recorded) = ⊤
-IsOfVisit (Reads visit recorded) = ⊤
-IsOfVisit (Looks visit recorded read) = ⊤
-IsOfVisit stage = ⊥
+abbrev pub IsOfReading : Stage → Type 0
+IsOfReading (StopInhibits recorded) = ⊤
+IsOfReading (Reads read_by recorded) = ⊤
+IsOfReading (Looks read_by recorded read) = ⊤
+IsOfReading stage = ⊥
 
 -- The stage is one of the setting of a sorter path.
 abbrev pub IsOfPath : Stage → Type 0
@@ -135,6 +135,11 @@ first_need c = need.Exchange
 abbrev pub IsPut : Need → Type 0
 IsPut (need.Put entry) = ⊤
 IsPut other = ⊥
+
+-- The record that is needed to be put, if one is.
+abbrev pub put_in : Need → Option Record
+put_in (need.Put entry) = Some entry
+put_in other = None
 
 -- The end, where nothing more is needed.
 abbrev pub end_in : Need → Option End
@@ -325,8 +330,8 @@ KnowsPayout (Recounts closing own) since owed = owed ≡ Some own.order
 -- a settlement knows of its payout.
 abbrev pub Knows : Stage → List Line → EpochState → Option OpenOrder → Type 0
 Knows (StopInhibits recorded) since state owed = state ≡ runs recorded
-Knows (Reads visit recorded) since state owed = state ≡ runs recorded
-Knows (Looks visit recorded read) since state owed = (state ≡ runs recorded) × (credits_read since ≡ Some read)
+Knows (Reads read_by recorded) since state owed = state ≡ runs recorded
+Knows (Looks read_by recorded read) since state owed = (state ≡ runs recorded) × (credits_read since ≡ Some read)
 Knows (Pays row) since state owed = KnowsPayout row since owed
 Knows stage since state owed = ⊤
 

@@ -1,4 +1,5 @@
 pub mod Ahead
 pub mod Jobs
+pub mod Onward
 pub mod Scans
 pub mod Sales

@@ -1,18 +1,19 @@
 //! What a job hears from the device that it asked: the wanted reply, or a failed try.
-ghost use Rattle.std.specs.Prelude.{Option, ◌≡◌, ◌≤◌, List, ℕ, ◌∷◌, Some, None, true, false};
+ghost use Rattle.std.specs.Prelude.{Option, ◌≡◌, List, ℕ, ◌∷◌, Some, None, false};
 ghost use Rattle.cct_model.specs.lines.command.Command.{Command};
 ghost use Rattle.cct_model.specs.terms.device.DeviceSetup.{DeviceSetup};
 ghost use Rattle.cct_model.specs.declared.judging.EpochState.{EpochState};
 ghost use Rattle.cct_model.specs.declared.judging.OpenOrder.{OpenOrder};
 ghost use Rattle.cct_model.specs.Exchange.{ask};
-ghost use Rattle.cct_model.specs.Line.{Line, exchange};
+ghost use Rattle.cct_model.specs.Line.{Line};
 ghost use Rattle.cct_model.specs.Reply.{reply_shown};
 ghost use Rattle.cct_model.specs.Request.{form_of};
 ghost use Rattle.cct_msg.specs.Forms.{form_shown};
 ghost use Rattle.cct_jobs.specs.declared.stage.Stage.TheVariants.{Pays};
-ghost use Rattle.cct_model.specs.Rows.{has_closes, puts_in, sent_once};
-ghost use Rattle.cct_jobs.specs.Ahead.{ahead, coins_in, payout_ahead, stage_ahead};
-ghost use Rattle.cct_jobs.specs.Jobs.{Asking, FitsLife, PutsFit, Stands, line_heard, payout_request, request_of};
+ghost use Rattle.cct_model.specs.Rows.{sent_once};
+ghost use Rattle.cct_jobs.specs.Ahead.{payout_ahead, stage_ahead};
+ghost use Rattle.cct_jobs.specs.Jobs.{Asking, FitsLife, Stands, line_heard, request_of};
+ghost use Rattle.cct_jobs.specs.Onward.{KeepsTo, LeadsTo};
 
 use crate::job::Job;
 use crate::payout::Payout;
@@ -32,35 +33,32 @@ pub(crate) fn first_try(device: Target, stage: Stage) -> Job
     }
 }
 
-/// The job after it heard what followed the request of its stage.
-pub(crate) fn heard(device: Target, stage: Stage, failed: u8, sent: &[u8], heard: &[u8]) -> Job
+/// The job heard what followed the request of its stage, and goes on.
+pub(crate) fn heard(
+    job: &mut Job,
+    device: Target,
+    stage: Stage,
+    failed: u8,
+    sent: &[u8],
+    heard: &[u8],
+)
     ensures device { (d : DeviceSetup) (c : Command) (since : List Line) (state : EpochState)
         (owed : Option OpenOrder) → Asking d device stage failed c since state owed
         → sent.now ≡ ask d.kind d.addr (request_of stage)
-        → Stands d result c (line_heard d sent.now heard.now ∷ since) state owed }
-    ensures may_put { puts_in (ahead result) ≤ puts_in (stage_ahead device stage) }
-    ensures fits { PutsFit result }
-    ensures closes { has_closes (stage_ahead device stage) ≡ true → 1 ≤ puts_in (ahead result)
-        → has_closes (ahead result) ≡ true }
-    ensures reserves { coins_in (ahead result) ≤ coins_in (stage_ahead device stage) }
+        → Stands d job.new c (line_heard d sent.now heard.now ∷ since) state owed }
+    ensures keeps { KeepsTo (stage_ahead device stage) job.new }
 {
     match device.reply(stage.wanted(), sent, heard) {
-        Some(reply) => answered(device, stage, &reply),
-        None => unanswered(device, stage, failed),
+        Some(reply) => answered(job, device, stage, &reply),
+        None => *job = unanswered(device, stage, failed),
     }
 }
 
-/// The job after a failed try of its stage, which is tried three times in succession at the most. The mask of a start
+/// The job after a failed try of its stage, which is tried three times in succession at most. The mask of a start
 /// and a dispense are never sent again.
 fn unanswered(device: Target, stage: Stage, failed: u8) -> Job
-    ensures device { (d : DeviceSetup) (c : Command) (since : List Line) (state : EpochState)
-        (owed : Option OpenOrder) → Asking d device stage failed c since state owed
-        → Stands d result c (exchange (Some (request_of stage)) None ∷ since) state owed }
-    ensures may_put { puts_in (ahead result) ≤ puts_in (stage_ahead device stage) }
-    ensures fits { PutsFit result }
-    ensures closes { has_closes (stage_ahead device stage) ≡ true → 1 ≤ puts_in (ahead result)
-        → has_closes (ahead result) ≡ true }
-    ensures reserves { coins_in (ahead result) ≤ coins_in (stage_ahead device stage) }
+    ensures device { LeadsTo device stage failed None result }
+    ensures keeps { KeepsTo (stage_ahead device stage) result }
 {
     match stage {
         Stage::StartSets { .. } => Job::Done(End::StartUnsure),
@@ -69,15 +67,10 @@ fn unanswered(device: Target, stage: Stage, failed: u8) -> Job
     }
 }
 
-/// The payment or the settlement after a failed try of its row. A payment whose dispense was sent goes on behind it.
+/// The payment or the settlement after a failed try of its row. A payment whose dispense was sent goes on after it.
 fn payout_unanswered(device: Target, row: Payout, failed: u8) -> Job
-    ensures device { (d : DeviceSetup) (c : Command) (since : List Line) (state : EpochState)
-        (owed : Option OpenOrder) → Asking d device (Pays row) failed c since state owed
-        → Stands d result c (exchange (Some (payout_request row)) None ∷ since) state owed }
-    ensures may_put { puts_in (ahead result) ≤ puts_in (payout_ahead device row) }
-    ensures fits { PutsFit result }
-    ensures closes { 1 ≤ puts_in (ahead result) → has_closes (ahead result) ≡ true }
-    ensures reserves { coins_in (ahead result) ≤ coins_in (payout_ahead device row) }
+    ensures device { LeadsTo device (Pays row) failed None result }
+    ensures keeps { KeepsTo (payout_ahead device row) result }
 {
     match row {
         Payout::Dispenses { owed, halted, .. } => payment::dispensed(device, owed, halted),
@@ -88,14 +81,8 @@ fn payout_unanswered(device: Target, row: Payout, failed: u8) -> Job
 /// The job after a failed try of a stage that is tried again: after the third in succession it ends.
 fn tried_again(device: Target, stage: Stage, failed: u8) -> Job
     requires { sent_once (stage_ahead device stage) ≡ false }
-    ensures device { (d : DeviceSetup) (c : Command) (since : List Line) (state : EpochState)
-        (owed : Option OpenOrder) → Asking d device stage failed c since state owed
-        → Stands d result c (exchange (Some (request_of stage)) None ∷ since) state owed }
-    ensures may_put { puts_in (ahead result) ≤ puts_in (stage_ahead device stage) }
-    ensures fits { PutsFit result }
-    ensures closes { has_closes (stage_ahead device stage) ≡ true → 1 ≤ puts_in (ahead result)
-        → has_closes (ahead result) ≡ true }
-    ensures reserves { coins_in (ahead result) ≤ coins_in (stage_ahead device stage) }
+    ensures device { LeadsTo device stage failed None result }
+    ensures keeps { KeepsTo (stage_ahead device stage) result }
 {
     match after_failed(failed) {
         Some(failed) => Job::Asks {
@@ -107,31 +94,24 @@ fn tried_again(device: Target, stage: Stage, failed: u8) -> Job
     }
 }
 
-/// The job after its stage got the wanted reply: each kind of job has its own.
-#[tactic(auto, using(crate::proofs::Reserves::few_reserve_none))]
-fn answered(device: Target, stage: Stage, reply: &Reply<'_>) -> Job
+/// The stage of the job got the wanted reply, and the job goes on: each kind of job has its own way.
+#[tactic(auto, using(crate::proofs::Keeping::none_keep))]
+fn answered(job: &mut Job, device: Target, stage: Stage, reply: &Reply<'_>)
     requires wanted { form_shown (reply_shown reply.now) ≡ form_of (request_of stage) }
     requires life { FitsLife (reply_shown reply.now) }
-    ensures device { (d : DeviceSetup) (c : Command) (since : List Line) (state : EpochState)
-        (owed : Option OpenOrder) (failed : ℕ)
-        → Asking d device stage failed c since state owed
-        → Stands d result c (exchange (Some (request_of stage)) (Some (reply_shown reply.now)) ∷ since) state owed }
-    ensures may_put { puts_in (ahead result) ≤ puts_in (stage_ahead device stage) }
-    ensures fits { PutsFit result }
-    ensures closes { has_closes (stage_ahead device stage) ≡ true → 1 ≤ puts_in (ahead result)
-        → has_closes (ahead result) ≡ true }
-    ensures reserves { coins_in (ahead result) ≤ coins_in (stage_ahead device stage) }
+    ensures device { (failed : ℕ) → LeadsTo device stage failed (Some (reply_shown reply.now)) job.new }
+    ensures keeps { KeepsTo (stage_ahead device stage) job.new }
 {
     match stage {
-        Stage::StartResets { .. } => start::answered(device, stage, reply),
-        Stage::StartReads { .. } => start::answered(device, stage, reply),
-        Stage::StartSets { .. } => start::answered(device, stage, reply),
-        Stage::StopInhibits { .. } => reading::answered(device, stage, reply),
-        Stage::Reads { .. } => reading::answered(device, stage, reply),
-        Stage::Looks { .. } => reading::answered(device, stage, reply),
-        Stage::IdentAsks { question } => ident::told(device, question),
-        Stage::PathSets { .. } => path::answered(device, stage, reply),
-        Stage::PathReads { .. } => path::answered(device, stage, reply),
-        Stage::Pays { row } => payment::answered(device, row, reply),
+        Stage::StartResets { .. } => start::answered(job, device, stage, reply),
+        Stage::StartReads { .. } => start::answered(job, device, stage, reply),
+        Stage::StartSets { .. } => start::answered(job, device, stage, reply),
+        Stage::StopInhibits { .. } => reading::answered(job, device, stage, reply),
+        Stage::Reads { .. } => reading::answered(job, device, stage, reply),
+        Stage::Looks { .. } => reading::answered(job, device, stage, reply),
+        Stage::IdentAsks { question } => ident::told(job, device, question),
+        Stage::PathSets { .. } => path::answered(job, device, stage, reply),
+        Stage::PathReads { .. } => path::answered(job, device, stage, reply),
+        Stage::Pays { row } => payment::answered(job, device, row, reply),
     }
 }

@@ -2,7 +2,7 @@
 ghost use Rattle.std.specs.Prelude.{◌≡◌, Option, Some, true};
 ghost use Rattle.cct_model.specs.Rows.{has_closes, has_waits, puts_in};
 ghost use Rattle.cct_jobs.specs.Ahead.{ahead, coins_in};
-ghost use Rattle.cct_jobs.specs.Jobs.{IsPut, after_halt, after_put, end_of_job, need_of, opened_by, owed_after, sending_of};
+ghost use Rattle.cct_jobs.specs.Jobs.{IsPut, after_halt, after_put, end_of_job, need_of, opened_by, owed_after, put_in, sending_of};
 
 use crate::asks::first_try;
 use crate::job::{Job, Need, Sending};
@@ -15,25 +15,38 @@ use std::alloc::AllocError;
 
 impl Job {
     /// What the job needs next, by its row.
+    #[tactic(auto, using(crate::proofs::Needs::done_is, crate::proofs::Needs::put_is, crate::proofs::Needs::exchange_is))]
     pub(crate) fn need(&self) -> Need
         ensures { result ≡ need_of self.now }
     {
+        match self.told_end() {
+            Some(end) => Need::Done(end),
+            None => match self.record() {
+                Some(entry) => Need::Put(entry),
+                None => Need::Exchange,
+            },
+        }
+    }
+
+    /// The record that the job is about to put, by its row.
+    pub(crate) fn record(&self) -> Option<Record>
+        ensures { result ≡ put_in (need_of self.now) }
+    {
         match self {
-            Job::StartPuts { device, mask } => Need::Put(Record::Epoch {
+            Job::StartPuts { device, mask } => Some(Record::Epoch {
                 addr: device.addr,
                 mask: *mask,
             }),
-            Job::RoundPuts { entry, .. } => Need::Put(copied(entry)),
-            Job::StopPuts { entry, .. } => Need::Put(copied(entry)),
-            Job::StopEnds { device } => Need::Put(Record::EpochEnd { addr: device.addr }),
-            Job::OrderOpens { owed, .. } => Need::Put(opened(&owed.order)),
-            Job::OrderCloses { entry, .. } => Need::Put(copied(entry)),
-            Job::SalePuts { id, price } => Need::Put(Record::Sold {
+            Job::RoundPuts { entry, .. } => Some(copied(entry)),
+            Job::StopPuts { entry, .. } => Some(copied(entry)),
+            Job::StopEnds { device } => Some(Record::EpochEnd { addr: device.addr }),
+            Job::OrderOpens { owed, .. } => Some(opened(&owed.order)),
+            Job::OrderCloses { entry, .. } => Some(copied(entry)),
+            Job::SalePuts { id, price } => Some(Record::Sold {
                 id: *id,
                 price: *price,
             }),
-            Job::Done(end) => Need::Done(*end),
-            _ => Need::Exchange,
+            _ => None,
         }
     }
 
@@ -64,7 +77,7 @@ impl Job {
         }
     }
 
-    /// Whether the job is at work to close an order, by its row.
+    /// Whether the job is running to close an order, by its row.
     pub(crate) fn closes(&self) -> bool
         ensures { result ≡ has_closes (ahead self.now) }
     {
@@ -87,8 +100,8 @@ impl Job {
         }
     }
 
-    /// The request that the job sends next.
-    pub(crate) fn request(&self) -> Sending
+    /// The request that the job sends next, by its row.
+    pub(crate) fn own_request(&self) -> Sending
         requires { need_of self.now ≡ Need.Exchange }
         ensures { Some result ≡ sending_of self.now }
     {
@@ -107,16 +120,16 @@ impl Job {
     }
 
     /// The job after its record was put, by its row.
-    pub(crate) fn after_put(self) -> Job
-        requires { IsPut (need_of self) }
-        ensures { result ≡ after_put self }
+    pub(crate) fn after_put(&self) -> Job
+        requires { IsPut (need_of self.now) }
+        ensures { result ≡ after_put self.now }
     {
         match self {
-            Job::StartPuts { device, mask } => first_try(device, Stage::StartSets { mask }),
-            Job::RoundPuts { end, .. } => Job::Done(end),
+            Job::StartPuts { device, mask } => first_try(*device, Stage::StartSets { mask: *mask }),
+            Job::RoundPuts { end, .. } => Job::Done(*end),
             Job::StopPuts { device, end, .. } => match end {
-                Some(end) => Job::Done(end),
-                None => Job::StopEnds { device },
+                Some(end) => Job::Done(*end),
+                None => Job::StopEnds { device: *device },
             },
             Job::StopEnds { .. } => Job::Done(End::Stopped),
             Job::OrderOpens {
@@ -124,16 +137,16 @@ impl Job {
                 owed,
                 halted,
             } => first_try(
-                device,
+                *device,
                 Stage::Pays {
                     row: Payout::Dispenses {
                         serial: device.serial,
-                        owed,
-                        halted,
+                        owed: *owed,
+                        halted: *halted,
                     },
                 },
             ),
-            Job::OrderCloses { end, .. } => Job::Done(end),
+            Job::OrderCloses { end, .. } => Job::Done(*end),
             Job::SalePuts { .. } => Job::Done(End::Sold),
             _ => unreachable!(),
         }

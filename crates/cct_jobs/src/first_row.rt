@@ -16,7 +16,7 @@ use crate::asks::first_try;
 use crate::job::Job;
 use crate::owed::Owed;
 use crate::payout::{Closing, Payout};
-use crate::stage::{Recorded, Stage, Visit};
+use crate::stage::{ReadBy, Recorded, Stage};
 use crate::target::target_at;
 use cct_epoch::EpochState;
 use cct_model::{Command, OpenOrder, Request, Setup};
@@ -33,17 +33,26 @@ impl Job {
     ) -> Job
         requires may_begin { MayBegin command.now setup.now.devices epoch.now (option_map (λ o. o.now) order) }
         requires life { (o : OpenOrder) → option_map (λ o. o.now) order ≡ Some o → o.life < 2 ^ 24 }
+
+        // the lines that it stands for, none yet:
+        // A round and a stop begin with what is recorded of the epoch, and a settlement with the open order, which it
+        // never lets a hopper dispense again.
         ensures device { (d : DeviceSetup) → device_at setup.now.devices (address_of command.now) ≡ Some d
             → d.serial < 2 ^ 24 → is_of_device command.now ≡ true
             → Stands d result command.now [] epoch.now (option_map (λ o. o.now) order.entry) }
         ensures scan { command.now ≡ Command.Scan → StandsScan result [] }
+        // A sale asks nothing: it puts its record, under its own id and price, and is done then.
         ensures sale { (id price : ℕ) → command.now ≡ Command.Vend id price → StandsSale result command.now [] }
+
+        // what it needs first
         ensures needs { need_of result ≡ first_need command.now }
         ensures runs { end_of_job result ≡ None }
+        ensures fits { PutsFit result }
+
+        // the rows that it has ahead
         ensures rows { (d : DeviceSetup) → device_at setup.now.devices (address_of command.now) ≡ Some d
             → is_of_device command.now ≡ true → ahead result ≡ rows_of d command.now }
         ensures other_rows { is_of_device command.now ≡ false → ahead result ≡ rows_of_sale command.now }
-        ensures fits { PutsFit result }
     {
         match *command {
             Command::Start { addr, mask } => {
@@ -52,7 +61,7 @@ impl Job {
             Command::Round { addr } => first_try(
                 target_at(setup, addr),
                 Stage::Reads {
-                    visit: Visit::Round,
+                    read_by: ReadBy::Round,
                     recorded: recorded_in(epoch),
                 },
             ),

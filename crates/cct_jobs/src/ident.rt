@@ -1,16 +1,10 @@
 //! The identification: a device is asked for all that it tells of itself, one thing after the other (ccTalk Generic
 //! Specification 4, parts 2 and 3).
-ghost use Rattle.std.specs.Prelude.{Option, ◌≡◌, ◌≤◌, List, ℕ, ◌∷◌, Some};
-ghost use Rattle.cct_model.specs.lines.command.Command.{Command};
-ghost use Rattle.cct_model.specs.terms.device.DeviceSetup.{DeviceSetup};
-ghost use Rattle.cct_model.specs.declared.judging.EpochState.{EpochState};
-ghost use Rattle.cct_model.specs.declared.judging.OpenOrder.{OpenOrder};
-ghost use Rattle.cct_model.specs.Line.{Line, exchange};
+ghost use Rattle.std.specs.Prelude.{[], Option, ◌≡◌, ℕ, Some};
 ghost use Rattle.cct_model.specs.Reply.{Reply};
 ghost use Rattle.cct_jobs.specs.declared.stage.Stage.TheVariants.{IdentAsks};
-ghost use Rattle.cct_model.specs.Rows.{puts_in};
-ghost use Rattle.cct_jobs.specs.Ahead.{ahead};
-ghost use Rattle.cct_jobs.specs.Jobs.{Asking, PutsFit, Stands, first_own_question, question_after};
+ghost use Rattle.cct_jobs.specs.Jobs.{first_own_question, question_after};
+ghost use Rattle.cct_jobs.specs.Onward.{KeepsTo, LeadsTo};
 
 use crate::asks::first_try;
 use crate::job::Job;
@@ -18,18 +12,14 @@ use crate::stage::Stage;
 use crate::target::Target;
 use cct_model::{COIN_PLACES, End, Family, Request};
 
-/// The identification after this question was answered.
-pub(crate) fn told(device: Target, question: Request) -> Job
-    ensures device { (d : DeviceSetup) (c : Command) (since : List Line) (state : EpochState)
-        (owed : Option OpenOrder) (failed : ℕ) (y : Reply)
-        → Asking d device (IdentAsks question) failed c since state owed
-        → Stands d result c (exchange (Some question) (Some y) ∷ since) state owed }
-    ensures may_put { puts_in (ahead result) ≤ 0 }
-    ensures fits { PutsFit result }
+/// This question of the identification was answered, and the identification goes on.
+pub(crate) fn told(job: &mut Job, device: Target, question: Request)
+    ensures device { (failed : ℕ) (y : Reply) → LeadsTo device (IdentAsks question) failed (Some y) job.new }
+    ensures keeps { KeepsTo [] job.new }
 {
     match question_after(question, device.family) {
-        Some(question) => first_try(device, Stage::IdentAsks { question }),
-        None => Job::Done(End::Told),
+        Some(question) => *job = first_try(device, Stage::IdentAsks { question }),
+        None => *job = Job::Done(End::Told),
     }
 }
 

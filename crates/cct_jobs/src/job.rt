@@ -1,27 +1,24 @@
 //! A job, by the row at which it stands.
-ghost use Rattle.std.specs.Prelude.{◌≡◌, ◌≤◌, ◌<◌, List, ℕ, ◌∷◌, Option, Some, None, true, false};
+ghost use Rattle.std.specs.Prelude.{◌≡◌, ◌≤◌, ◌<◌, List, ℕ, ◌∷◌, Option, Some, None, IfSome, true, false};
 ghost use Rattle.cct_model.specs.lines.command.Command.{Command};
 ghost use Rattle.cct_model.specs.lines.command.Command.TheVariants as command;
 ghost use Rattle.cct_model.specs.terms.device.DeviceSetup.{DeviceSetup};
 ghost use Rattle.cct_model.specs.terms.device.Setup.{Setup};
 ghost use Rattle.cct_model.specs.declared.judging.EpochState.{EpochState};
 ghost use Rattle.cct_model.specs.lines.record.Record.{Record};
-ghost use Rattle.cct_model.specs.terms.request.Request.{Request};
-ghost use Rattle.cct_model.specs.terms.wire.CheckKind.{CheckKind};
-ghost use Rattle.cct_model.specs.Exchange.{ask};
 ghost use Rattle.cct_model.specs.declared.judging.OpenOrder.{OpenOrder};
-ghost use Rattle.cct_model.specs.Job.{sends, works};
-ghost use Rattle.cct_model.specs.Rows.{can_halt, closes_order, has_closes, has_waits, left, left_of_sale, puts_in, row};
-ghost use Rattle.cct_model.specs.Line.{Line, put, taken};
+ghost use Rattle.cct_model.specs.Job.{works};
+ghost use Rattle.cct_model.specs.Rows.{can_halt, closes_order, has_closes, has_waits, left, left_of_sale, puts_in};
+ghost use Rattle.cct_model.specs.Line.{Line, taken};
 ghost use Rattle.cct_model.specs.Money.{coins_of, reserved_by, reserved_by_sale};
 ghost use Rattle.cct_model.specs.Order.{order_by};
-ghost use Rattle.cct_model.specs.Scan.{end_of_scan, poll_of, scan_row};
-ghost use Rattle.cct_model.specs.Transcript.{scan_line};
+ghost use Rattle.cct_model.specs.Scan.{end_of_scan};
 ghost use Rattle.cct_record.specs.Body.{Encodable};
 ghost use Rattle.cct_jobs.specs.Ahead.{ahead, coins_in, price_in};
-ghost use Rattle.cct_jobs.specs.Jobs.{IsPut, Needs, PutsFit, Stands, after_halt, after_put, end_of_job, line_heard, need_of, newest_end, order_of, owed_after, sending_of};
+ghost use Rattle.cct_jobs.specs.Jobs.{IsPut, Needs, PutsFit, Stands, after_halt, after_put, end_of_job, need_of, newest_end, order_of, owed_after, put_in, sending_of};
 ghost use Rattle.cct_jobs.specs.Sales.{NeedsSale, StandsSale, newest_sale_end};
 ghost use Rattle.cct_jobs.specs.Scans.{NeedsScan, StandsScan};
+ghost use Rattle.cct_jobs.specs.Onward.{GoesOnAfterPut, GoesOnAfterSale, HearsDevice, HearsPolled, KeepsTo, SendsPoll, SendsToDevice};
 
 use crate::owed::Owed;
 use crate::stage::Stage;
@@ -32,7 +29,7 @@ use cct_model::{CheckKind, DeviceSet, End, Listed, Record, Request};
 /// A job of the host, by the row at which it stands.
 #[derive(Debug, Drop)]
 pub enum Job {
-    /// A row that asks the job's device is tried three times in succession at the most: `failed` of its tries got no
+    /// A row that asks the job's device is tried three times in succession at most: `failed` of its tries got no
     /// wanted reply so far.
     Asks {
         device: Target,
@@ -125,14 +122,30 @@ impl Job {
     #[tactic(auto, using(crate::proofs::Needs::need_known, crate::proofs::Needs::scan_need_known, crate::proofs::Needs::put_allowed, crate::proofs::Fits::put_fits, crate::proofs::Sales::sale_need_known))]
     pub fn needs(&self) -> Need
         ensures value { result ≡ need_of self.now }
+
+        // a record that it puts:
+        // If a record is to be put, it is at least one of those that the job may still put.
         ensures may_put { (entry : Record) → result ≡ Need.Put entry → 1 ≤ puts_in (ahead self.now) }
         ensures fits { PutsFit self.now → (entry : Record) → result ≡ Need.Put entry → Encodable entry }
+
+        // by the lines of a device, of a scan and of a sale:
+        // An exchange, this record to be put, or nothing: its newest line ended it so.
         ensures row { (d : DeviceSetup) (c : Command) (since : List Line) (state : EpochState)
             (owed : Option OpenOrder) → Stands d self.now c since state owed → Needs result d c since state owed }
         ensures scan { (since : List Line) → StandsScan self.now since → NeedsScan result since }
         ensures sale { (c : Command) (since : List Line) → StandsSale self.now c since → NeedsSale result c since }
     {
         self.need()
+    }
+
+    /// The record that the job is about to put, if it is about to put one: what it needs, where that is a put.
+    #[tactic(auto, using(crate::proofs::Needs::due_allowed, crate::proofs::Fits::due_fits))]
+    pub fn due(&self) -> Option<Record>
+        ensures value { result ≡ put_in (need_of self.now) }
+        ensures may_put { IfSome result (λ r. 1 ≤ puts_in (ahead self.now)) }
+        ensures fits { PutsFit self.now → IfSome result Encodable }
+    {
+        self.record()
     }
 
     /// The end of a job that is done, or none while it runs.
@@ -152,6 +165,7 @@ impl Job {
     #[tactic(auto, using(crate::proofs::Sales::sale_may_put))]
     pub fn may_put(&self) -> u32
         ensures value { result ≡ puts_in (ahead self.now) }
+        // As many as the rows that are left put.
         ensures row { (d : DeviceSetup) (c : Command) (since : List Line) (state : EpochState)
             (owed : Option OpenOrder) → Stands d self.now c since state owed → newest_end d c since state ≡ None
             → result ≡ puts_in (left d c since state) }
@@ -161,7 +175,7 @@ impl Job {
         self.records()
     }
 
-    /// Whether the job is a payment or a settlement, which is at work to close an order.
+    /// Whether the job is a payment or a settlement, which is running to close an order.
     #[tactic(auto, using(crate::proofs::Reserves::closes_known, crate::proofs::Sales::sale_never_closes))]
     pub fn closes_order(&self) -> bool
         ensures value { result ≡ has_closes (ahead self.now) }
@@ -201,73 +215,67 @@ impl Job {
     }
 
     /// The request that the job sends next. The job stays at its row until it has heard what follows.
-    pub fn sending(self) -> (Sending, Job)
-        requires asks { need_of self ≡ Need.Exchange }
-        ensures same { result.1 ≡ self }
-        ensures request { Some result.0 ≡ sending_of self }
-        ensures row { (d : DeviceSetup) (c : Command) (since : List Line) (state : EpochState)
-            (owed : Option OpenOrder) (q : Request) → Stands d self c since state owed
-            → row d c since state owed ≡ sends q → result.0 ≡ record { to = d.addr; kind = d.kind; request = q } }
-        ensures scan { (since : List Line) (check : CheckKind) (addr : ℕ)
-            → StandsScan self since → scan_row since ≡ Some (check, addr)
-            → result.0 ≡ record { to = addr; kind = check; request = poll_of addr } }
+    pub fn request(&self) -> Sending
+        requires asks { need_of self.now ≡ Need.Exchange }
+        ensures request { Some result ≡ sending_of self.now }
+        // The request of its row, to its device, under that device's check.
+        ensures row { SendsToDevice self.now result }
+        ensures scan { SendsPoll self.now result }
     {
-        let sending = self.request();
-        (sending, self)
+        self.own_request()
     }
 
-    /// The job after its request was sent, and this was heard. A row whose reply isn't the wanted one is tried again, and
-    /// after the third such try in succession the job ends with [`End::NoAnswer`]. The mask of a start is never sent
+    /// The job's request was sent, and it hears this. A row whose reply isn't the wanted one is tried again, and after
+    /// the third such try in succession the job ends with [`End::NoAnswer`]. The mask of a start is never sent
     /// again: it ends the job with [`End::Started`], or with [`End::StartUnsure`] where it isn't acknowledged.
-    pub fn heard(self, sent: &[u8], heard: &[u8]) -> Job
-        requires asks { need_of self ≡ Need.Exchange }
-        ensures device { (d : DeviceSetup) (c : Command) (since : List Line) (state : EpochState)
-            (owed : Option OpenOrder) (q : Request) → Stands d self c since state owed
-            → row d c since state owed ≡ sends q → sent.now ≡ ask d.kind d.addr q
-            → Stands d result c (line_heard d sent.now heard.now ∷ since) state owed }
-        ensures scan { (since : List Line) (check : CheckKind) (addr : ℕ)
-            → StandsScan self since → scan_row since ≡ Some (check, addr) → sent.now ≡ ask check addr (poll_of addr)
-            → StandsScan result (scan_line sent.now heard.now ∷ since) }
-        ensures may_put { puts_in (ahead result) ≤ puts_in (ahead self) }
-        ensures fits { PutsFit result }
-        ensures closes { has_closes (ahead self) ≡ true → 1 ≤ puts_in (ahead result)
-            → has_closes (ahead result) ≡ true }
-        ensures reserves { coins_in (ahead result) ≤ coins_in (ahead self) }
+    pub fn hear(&mut self, sent: &[u8], heard: &[u8])
+        requires asks { need_of self.old ≡ Need.Exchange }
+        // It goes on only by the wanted reply; a row without it is tried again. But a start sends its mask once, and
+        // goes on only from event counter 0; a payment sends its dispense once and goes on whatever is heard. An order
+        // is closed by the life count alone, under its own id.
+        ensures device { HearsDevice self.old sent.now heard.now self.new }
+        // An address is listed by its acknowledgement.
+        ensures scan { HearsPolled self.old sent.now heard.now self.new }
+        ensures keeps { KeepsTo (ahead self.old) self.new }
     {
         match self {
             Job::Asks {
                 device,
                 stage,
                 failed,
-            } => asks::heard(device, stage, failed, sent, heard),
-            Job::ScanCallsSimple { failed } => scan::simple_call_heard(failed, sent, heard),
-            Job::ScanCallsCrc { failed, due } => scan::crc_call_heard(failed, due, sent, heard),
+            } => {
+                let (device, stage, failed) = (*device, *stage, *failed);
+                asks::heard(self, device, stage, failed, sent, heard);
+            }
+            Job::ScanCallsSimple { failed } => {
+                *self = scan::simple_call_heard(*failed, sent, heard);
+            }
+            Job::ScanCallsCrc { failed, due } => {
+                *self = scan::crc_call_heard(*failed, *due, sent, heard);
+            }
             Job::ScanPollsSimple { addr, due, listed } => {
-                scan::simple_poll_heard(addr, due, listed, sent, heard)
+                *self = scan::simple_poll_heard(*addr, *due, *listed, sent, heard);
             }
             Job::ScanPollsCrc { addr, due, listed } => {
-                scan::crc_poll_heard(addr, due, listed, sent, heard)
+                *self = scan::crc_poll_heard(*addr, *due, *listed, sent, heard);
             }
             _ => unreachable!(),
         }
     }
 
-    /// The job after its record was put. What it does then no longer depends on the epoch, which the record has
-    /// moved, and beside an order the record has moved it.
+    /// The job's record was put, and the job goes on.
     #[tactic(auto, using(crate::proofs::Epochs::put_leaves, crate::proofs::Needs::fewer_after, crate::proofs::Fits::after_put_fits, crate::proofs::Sales::put_sells))]
-    pub fn was_put(self) -> Job
-        requires puts { IsPut (need_of self) }
-        ensures put { (d : DeviceSetup) (c : Command) (since : List Line) (state after : EpochState)
-            (owed : Option OpenOrder) (entry : Record)
-            → need_of self ≡ Need.Put entry → Stands d self c since state owed
-            → Stands d result c (put entry ∷ since) after (order_by entry owed) }
-        ensures sale { (c : Command) (since : List Line) (entry : Record) → need_of self ≡ Need.Put entry
-            → StandsSale self c since → StandsSale result c (put entry ∷ since) }
-        ensures may_put { puts_in (ahead result) < puts_in (ahead self) }
-        ensures fits { PutsFit result }
-        ensures value { result ≡ after_put self }
+    pub fn go_on_after_put(&mut self)
+        requires puts { IsPut (need_of self.old) }
+        // It goes on to the next row, wherever the record moves the epoch and the open order. So a hopper is asked to
+        // dispense only after the record of its order, and a start sends its mask only after that of its epoch.
+        ensures put { GoesOnAfterPut self.old self.new }
+        ensures sale { GoesOnAfterSale self.old self.new }
+        ensures may_put { puts_in (ahead self.new) < puts_in (ahead self.old) }
+        ensures fits { PutsFit self.new }
+        ensures value { self.new ≡ after_put self.old }
     {
-        self.after_put()
+        *self = self.after_put();
     }
 
     /// The order that is open at the job's device after its record was put, where this one was open before.
@@ -301,9 +309,12 @@ impl Job {
     #[tactic(auto, using(crate::proofs::Halts::halt_leaves, crate::proofs::Halts::halt_again, crate::proofs::Halts::halt_runs, crate::proofs::Halts::halt_ahead, crate::proofs::Fits::halt_fits))]
     pub fn halt(self) -> Job
         requires { has_waits (ahead self) ≡ true }
+        // The hopper is then stopped if it might pay. The halt is remembered over failed tries and over a put, and the
+        // tries of the stop are counted by themselves.
         ensures row { (d : DeviceSetup) (c : Command) (since : List Line) (state : EpochState)
             (owed : Option OpenOrder) (addr : ℕ) → Stands d self c since state owed
             → Stands d result c (taken (command.Halt addr) ∷ since) state owed }
+        // A further halt changes nothing.
         ensures again { after_halt result ≡ result }
         ensures runs { end_of_job result ≡ None }
         ensures ahead { ahead result ≡ ahead self }

@@ -23,5 +23,5 @@ pub use job::{Job, Need, Sending};
 pub use laws::no_answer_comes_at_the_third_failed_try;
 pub use owed::Owed;
 pub use payout::{Closing, Payout};
-pub use stage::{Recorded, Stage, Visit};
+pub use stage::{ReadBy, Recorded, Stage};
 pub use target::Target;

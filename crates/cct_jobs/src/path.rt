@@ -1,20 +1,15 @@
 //! The setting of a sorter path: it is set, and then read back (ccTalk Generic Specification 4, part 2, headers 210, 209,
 //! 189 and 188).
-ghost use Rattle.std.specs.Prelude.{Option, ◌≡◌, ◌≤◌, List, ℕ, ◌∷◌, Some};
-ghost use Rattle.cct_model.specs.lines.command.Command.{Command};
-ghost use Rattle.cct_model.specs.terms.device.DeviceSetup.{DeviceSetup};
-ghost use Rattle.cct_model.specs.declared.judging.EpochState.{EpochState};
-ghost use Rattle.cct_model.specs.declared.judging.OpenOrder.{OpenOrder};
-ghost use Rattle.cct_model.specs.Line.{Line, exchange};
+ghost use Rattle.std.specs.Prelude.{◌≡◌, ℕ, Some};
 ghost use Rattle.cct_model.specs.Request.{form_of};
-ghost use Rattle.cct_model.specs.Rows.{puts_in};
-ghost use Rattle.cct_jobs.specs.Ahead.{ahead, stage_ahead};
-ghost use Rattle.cct_jobs.specs.Jobs.{Asking, IsOfPath, PutsFit, Stands, request_of};
+ghost use Rattle.cct_jobs.specs.Ahead.{stage_ahead};
+ghost use Rattle.cct_jobs.specs.Jobs.{IsOfPath, request_of};
 ghost use Rattle.cct_model.specs.Job.{path_read, path_set};
 ghost use Rattle.cct_model.specs.Reply as shown;
 ghost use Rattle.cct_model.specs.Reply.{reply_shown};
 ghost use Rattle.cct_model.specs.terms.request.ReplyForm.TheVariants as form;
 ghost use Rattle.cct_msg.specs.Forms.{form_shown};
+ghost use Rattle.cct_jobs.specs.Onward.{KeepsTo, LeadsTo};
 
 use crate::asks::first_try;
 use crate::job::Job;
@@ -25,23 +20,23 @@ use cct_model::{End, Reply, Request};
 /// The place that stands for the default path.
 const DEFAULT: u8 = 0;
 
-/// The setting of a path after its stage got the wanted reply.
-pub(crate) fn answered(device: Target, stage: Stage, reply: &Reply<'_>) -> Job
+/// The stage of the setting of a path got the wanted reply, and the setting goes on.
+pub(crate) fn answered(job: &mut Job, device: Target, stage: Stage, reply: &Reply<'_>)
     requires row { IsOfPath stage }
     requires wanted { form_shown (reply_shown reply.now) ≡ form_of (request_of stage) }
-    ensures device { (d : DeviceSetup) (c : Command) (since : List Line) (state : EpochState)
-        (owed : Option OpenOrder) (failed : ℕ)
-        → Asking d device stage failed c since state owed
-        → Stands d result c (exchange (Some (request_of stage)) (Some (reply_shown reply.now)) ∷ since) state owed }
-    ensures may_put { puts_in (ahead result) ≤ puts_in (stage_ahead device stage) }
-    ensures fits { PutsFit result }
+    ensures device { (failed : ℕ) → LeadsTo device stage failed (Some (reply_shown reply.now)) job.new }
+    ensures keeps { KeepsTo (stage_ahead device stage) job.new }
 {
     match stage {
-        Stage::PathSets { place, path } => first_try(device, Stage::PathReads { place, path }),
-        Stage::PathReads { place, .. } => Job::Done(End::PathSet {
-            place,
-            path: path_in(reply),
-        }),
+        Stage::PathSets { place, path } => {
+            *job = first_try(device, Stage::PathReads { place, path });
+        }
+        Stage::PathReads { place, .. } => {
+            *job = Job::Done(End::PathSet {
+                place,
+                path: path_in(reply),
+            });
+        }
         _ => unreachable!(),
     }
 }

@@ -1,25 +1,21 @@
 //! The payment of an order, and the settlement of one that stayed open: the hopper is enabled, its life count read, the
 //! order opened and its coins dispensed once; when nothing is left to pay, the life count tells how many coins fell
 //! (ccTalk Generic Specification 4, part 3, headers 164, 166, 167, 168 and 172).
-ghost use Rattle.std.specs.Prelude.{◌≡◌, ◌≤◌, ◌<◌, ◌^◌, List, ℕ, ◌∷◌, Option, Some, true};
-ghost use Rattle.cct_model.specs.lines.command.Command.{Command};
-ghost use Rattle.cct_model.specs.terms.device.DeviceSetup.{DeviceSetup};
-ghost use Rattle.cct_model.specs.declared.judging.EpochState.{EpochState};
+ghost use Rattle.std.specs.Prelude.{◌≡◌, ◌<◌, ◌^◌, ℕ, Option, Some, true};
 ghost use Rattle.cct_model.specs.declared.judging.OpenOrder.{OpenOrder};
 ghost use Rattle.cct_model.specs.terms.request.ReplyForm.TheVariants as form;
-ghost use Rattle.cct_model.specs.terms.request.Request.TheVariants.{Dispense, GetLife, GetStatus};
-ghost use Rattle.cct_model.specs.Line.{Line, exchange};
 ghost use Rattle.cct_model.specs.Reply as shown;
 ghost use Rattle.cct_model.specs.Reply.{reply_shown};
 ghost use Rattle.cct_model.specs.Request.{form_of};
 ghost use Rattle.cct_msg.specs.Forms.{form_shown};
 ghost use Rattle.cct_jobs.specs.declared.stage.Stage.TheVariants.{Pays};
 ghost use Rattle.cct_jobs.specs.declared.payout.Payout.TheVariants.{Counts, Dispenses, Recounts, Waits};
-ghost use Rattle.cct_model.specs.Rows.{has_closes, puts_in};
-ghost use Rattle.cct_jobs.specs.Ahead.{ahead, coins_in, nothing_left, payout_ahead};
-ghost use Rattle.cct_jobs.specs.Jobs.{Asking, FitsLife, PutsFit, Stands, closing_end, halted_row, halted_tries, payout_request, settling};
+ghost use Rattle.cct_jobs.specs.Ahead.{nothing_left, payout_ahead};
+ghost use Rattle.cct_jobs.specs.Jobs.{FitsLife, closing_end, halted_row, halted_tries, payout_request, settling};
 ghost use Rattle.cct_jobs.specs.declared.payout.Closing.{Closing};
 ghost use Rattle.cct_jobs.specs.declared.target.Target.{Target};
+ghost use Rattle.cct_model.specs.Rows as rows;
+ghost use Rattle.cct_jobs.specs.Onward.{KeepsClosing, LeadsTo};
 
 use crate::asks::first_try;
 use crate::job::Job;
@@ -30,31 +26,27 @@ use crate::target::Target;
 use cct_model::{End, OpenOrder, Record, Reply};
 use cct_order::close;
 
-/// The payment or the settlement after its row got the wanted reply.
-pub(crate) fn answered(device: Target, row: Payout, reply: &Reply<'_>) -> Job
+/// The row of the payment or the settlement got the wanted reply, and the job goes on.
+pub(crate) fn answered(job: &mut Job, device: Target, row: Payout, reply: &Reply<'_>)
     requires wanted { form_shown (reply_shown reply.now) ≡ form_of (payout_request row) }
     requires life { FitsLife (reply_shown reply.now) }
-    ensures device { (d : DeviceSetup) (c : Command) (since : List Line) (state : EpochState)
-        (owed : Option OpenOrder) (failed : ℕ)
-        → Asking d device (Pays row) failed c since state owed
-        → Stands d result c (exchange (Some (payout_request row)) (Some (reply_shown reply.now)) ∷ since) state owed }
-    ensures may_put { puts_in (ahead result) ≤ puts_in (payout_ahead device row) }
-    ensures fits { PutsFit result }
-    ensures closes { has_closes (ahead result) ≡ true }
-    ensures reserves { coins_in (ahead result) ≤ coins_in (payout_ahead device row) }
+    ensures device { (failed : ℕ) → LeadsTo device (Pays row) failed (Some (reply_shown reply.now)) job.new }
+    ensures keeps { KeepsClosing (payout_ahead device row) job.new }
 {
     match row {
-        Payout::Enables { id, count, halted } => first_try(
-            device,
-            Stage::Pays {
-                row: Payout::Counts { id, count, halted },
-            },
-        ),
-        Payout::Counts { id, count, halted } => opens(device, id, count, halted, life_in(reply)),
-        Payout::Dispenses { owed, halted, .. } => dispensed(device, owed, halted),
-        Payout::Waits { closing, owed } => waited(device, closing, owed, is_paid_out(reply)),
-        Payout::Stops { closing, owed } => settles(device, closing, owed, false),
-        Payout::Recounts { owed, .. } => closes(owed, life_in(reply)),
+        Payout::Enables { id, count, halted } => {
+            let row = Payout::Counts { id, count, halted };
+            *job = first_try(device, Stage::Pays { row });
+        }
+        Payout::Counts { id, count, halted } => {
+            *job = opens(device, id, count, halted, life_in(reply));
+        }
+        Payout::Dispenses { owed, halted, .. } => *job = dispensed(device, owed, halted),
+        Payout::Waits { closing, owed } => {
+            *job = waited(device, closing, owed, is_paid_out(reply));
+        }
+        Payout::Stops { closing, owed } => *job = settles(device, closing, owed, false),
+        Payout::Recounts { owed, .. } => *job = closes(owed, life_in(reply)),
     }
 }
 
@@ -73,14 +65,9 @@ fn settles(device: Target, closing: Closing, owed: Owed, halted: bool) -> Job
 /// The payment after its dispense was sent, whatever was heard of it.
 #[tactic(auto, using(crate::proofs::Payments::dispense_leaves))]
 pub(crate) fn dispensed(device: Target, owed: Owed, halted: bool) -> Job
-    ensures device { (d : DeviceSetup) (c : Command) (since : List Line) (state : EpochState)
-        (open_order : Option OpenOrder) (serial failed : ℕ) (got : Option shown.Reply)
-        → Asking d device (Pays (Dispenses serial owed halted)) failed c since state open_order
-        → Stands d result c (exchange (Some (Dispense serial owed.order.count)) got ∷ since) state open_order }
-    ensures may_put { puts_in (ahead result) ≤ 1 }
-    ensures fits { PutsFit result }
-    ensures closes { has_closes (ahead result) ≡ true }
-    ensures reserves { coins_in (ahead result) ≡ 0 }
+    ensures device { (serial failed : ℕ) (got : Option shown.Reply)
+        → LeadsTo device (Pays (Dispenses serial owed halted)) failed got result }
+    ensures keeps { KeepsClosing rows.settling result }
 {
     settles(device, Closing::Payment, owed, halted)
 }
@@ -88,15 +75,9 @@ pub(crate) fn dispensed(device: Target, owed: Owed, halted: bool) -> Job
 /// The payment or the settlement after it was told whether nothing is left to pay.
 #[tactic(auto, using(crate::proofs::Payments::status_paid, crate::proofs::Payments::status_goes_on))]
 fn waited(device: Target, closing: Closing, owed: Owed, is_paid_out: bool) -> Job
-    ensures device { (d : DeviceSetup) (c : Command) (since : List Line) (state : EpochState)
-        (open_order : Option OpenOrder) (failed : ℕ) (y : shown.Reply)
-        → is_paid_out ≡ nothing_left y
-        → Asking d device (Pays (Waits closing owed)) failed c since state open_order
-        → Stands d result c (exchange (Some GetStatus) (Some y) ∷ since) state open_order }
-    ensures may_put { puts_in (ahead result) ≤ 1 }
-    ensures fits { PutsFit result }
-    ensures closes { has_closes (ahead result) ≡ true }
-    ensures reserves { coins_in (ahead result) ≡ 0 }
+    ensures device { (failed : ℕ) (y : shown.Reply) → is_paid_out ≡ nothing_left y
+        → LeadsTo device (Pays (Waits closing owed)) failed (Some y) result }
+    ensures keeps { KeepsClosing rows.settling result }
 {
     let row = if is_paid_out {
         Payout::Recounts { closing, owed }
@@ -110,14 +91,8 @@ fn waited(device: Target, closing: Closing, owed: Owed, is_paid_out: bool) -> Jo
 #[tactic(auto, using(crate::proofs::Payments::count_opens))]
 fn opens(device: Target, id: u32, count: u8, halted: bool, life: u32) -> Job
     requires { life < 2 ^ 24 }
-    ensures device { (d : DeviceSetup) (c : Command) (since : List Line) (state : EpochState)
-        (owed : Option OpenOrder) (failed : ℕ)
-        → Asking d device (Pays (Counts id count halted)) failed c since state owed
-        → Stands d result c (exchange (Some GetLife) (Some (shown.life life)) ∷ since) state owed }
-    ensures may_put { puts_in (ahead result) ≤ 2 }
-    ensures fits { PutsFit result }
-    ensures closes { has_closes (ahead result) ≡ true }
-    ensures reserves { coins_in (ahead result) ≡ count }
+    ensures device { (failed : ℕ) → LeadsTo device (Pays (Counts id count halted)) failed (Some (shown.life life)) result }
+    ensures keeps { KeepsClosing (payout_ahead device (Counts id count halted)) result }
 {
     let owed = Owed {
         order: OpenOrder {
@@ -138,14 +113,9 @@ fn opens(device: Target, id: u32, count: u8, halted: bool, life: u32) -> Job
 #[tactic(auto, using(crate::proofs::Payments::recount_closes, crate::proofs::Fits::closed_fits))]
 fn closes(owed: Owed, life: u32) -> Job
     requires { life < 2 ^ 24 }
-    ensures device { (d : DeviceSetup) (device : Target) (closing : Closing) (c : Command) (since : List Line)
-        (state : EpochState) (open_order : Option OpenOrder) (failed : ℕ)
-        → Asking d device (Pays (Recounts closing owed)) failed c since state open_order
-        → Stands d result c (exchange (Some GetLife) (Some (shown.life life)) ∷ since) state open_order }
-    ensures may_put { puts_in (ahead result) ≤ 1 }
-    ensures fits { PutsFit result }
-    ensures closes { has_closes (ahead result) ≡ true }
-    ensures reserves { coins_in (ahead result) ≡ 0 }
+    ensures device { (device : Target) (closing : Closing) (failed : ℕ)
+        → LeadsTo device (Pays (Recounts closing owed)) failed (Some (shown.life life)) result }
+    ensures keeps { KeepsClosing rows.settling result }
 {
     let entry = close(&owed.order, life);
     let end = end_of(&entry);

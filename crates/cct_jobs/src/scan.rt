@@ -1,6 +1,6 @@
 //! The scan: all devices are called under each check, and then each address that was noted is polled (ccTalk Generic
 //! Specification 4, part 3, headers 253 and 254).
-ghost use Rattle.std.specs.Prelude.{◌≡◌, ◌≤◌, ◌==◌, ◌&&◌, ◌||◌, nat_le, List, ℕ, ◌∷◌, Some};
+ghost use Rattle.std.specs.Prelude.{[], ◌≡◌, ◌==◌, ◌&&◌, ◌||◌, nat_le, List, ℕ, ◌∷◌, Some};
 ghost use Rattle.std.specs.List.{list_any};
 ghost use Rattle.cct_model.specs.terms.wire.CheckKind.TheVariants.{Simple, Crc};
 ghost use Rattle.cct_model.specs.DeviceSet.{has};
@@ -8,10 +8,9 @@ ghost use Rattle.cct_model.specs.Exchange.{after_echo, ask};
 ghost use Rattle.cct_model.specs.Line.{Line};
 ghost use Rattle.cct_model.specs.Scan.{is_acknowledged, next_due, poll_after, poll_due, poll_of};
 ghost use Rattle.cct_model.specs.Transcript.{scan_line};
-ghost use Rattle.cct_model.specs.Rows.{puts_in};
-ghost use Rattle.cct_jobs.specs.Ahead.{ahead};
-ghost use Rattle.cct_jobs.specs.Jobs.{PutsFit, asks_at};
+ghost use Rattle.cct_jobs.specs.Jobs.{asks_at};
 ghost use Rattle.cct_jobs.specs.Scans.{CallsCrc, CallsSimple, Lists, Polls, StandsScan};
+ghost use Rattle.cct_jobs.specs.Onward.{KeepsTo};
 
 use crate::job::{Job, Sending};
 use crate::target::{after_failed, wanted_reply};
@@ -40,8 +39,7 @@ pub(crate) fn poll(kind: CheckKind, addr: u8) -> Sending
 pub(crate) fn simple_call_heard(failed: u8, sent: &[u8], heard: &[u8]) -> Job
     ensures scan { (since : List Line) → CallsSimple failed since → sent.now ≡ ask Simple 0 (poll_of 0)
         → StandsScan result (scan_line sent.now heard.now ∷ since) }
-    ensures may_put { puts_in (ahead result) ≤ 0 }
-    ensures fits { PutsFit result }
+    ensures keeps { KeepsTo [] result }
 {
     match bare_after_echo(sent, heard) {
         Ok(rest) => {
@@ -60,8 +58,7 @@ pub(crate) fn simple_call_heard(failed: u8, sent: &[u8], heard: &[u8]) -> Job
 pub(crate) fn crc_call_heard(failed: u8, mut due: DeviceSet, sent: &[u8], heard: &[u8]) -> Job
     ensures scan { (since : List Line) → CallsCrc failed due since → sent.now ≡ ask Crc 0 (poll_of 0)
         → StandsScan result (scan_line sent.now heard.now ∷ since) }
-    ensures may_put { puts_in (ahead result) ≤ 0 }
-    ensures fits { PutsFit result }
+    ensures keeps { KeepsTo [] result }
 {
     match bare_after_echo(sent, heard) {
         Ok(rest) => {
@@ -90,8 +87,7 @@ pub(crate) fn simple_poll_heard(
 ) -> Job
     ensures scan { (since : List Line) → Polls Simple addr due listed since → sent.now ≡ ask Simple addr (poll_of addr)
         → StandsScan result (scan_line sent.now heard.now ∷ since) }
-    ensures may_put { puts_in (ahead result) ≤ 0 }
-    ensures fits { PutsFit result }
+    ensures keeps { KeepsTo [] result }
 {
     due.remove(addr);
     if is_acknowledged(CheckKind::Simple, addr, sent, heard) {
@@ -112,8 +108,7 @@ pub(crate) fn crc_poll_heard(
 ) -> Job
     ensures scan { (since : List Line) → Polls Crc addr due listed since → sent.now ≡ ask Crc addr (poll_of addr)
         → StandsScan result (scan_line sent.now heard.now ∷ since) }
-    ensures may_put { puts_in (ahead result) ≤ 0 }
-    ensures fits { PutsFit result }
+    ensures keeps { KeepsTo [] result }
 {
     if is_acknowledged(CheckKind::Crc, addr, sent, heard) {
         listed.crc.insert(addr);
@@ -134,8 +129,7 @@ fn is_acknowledged(kind: CheckKind, addr: u8, sent: &[u8], heard: &[u8]) -> bool
 fn next_poll(due: DeviceSet, listed: Listed) -> Job
     ensures scan { (since : List Line) → Lists due listed since → poll_after since ≡ poll_due (next_due since)
         → StandsScan result since }
-    ensures may_put { puts_in (ahead result) ≤ 0 }
-    ensures fits { PutsFit result }
+    ensures keeps { KeepsTo [] result }
 {
     match due.first() {
         Some(addr) => Job::ScanPollsSimple { addr, due, listed },

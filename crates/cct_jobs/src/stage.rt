@@ -3,7 +3,7 @@ ghost use Rattle.std.specs.Prelude.{◌≡◌};
 ghost use Rattle.cct_model.specs.Request.{form_of};
 ghost use Rattle.cct_model.specs.Rows.{has_closes, has_waits, puts_in};
 ghost use Rattle.cct_jobs.specs.declared.target.Target.{Target};
-ghost use Rattle.cct_jobs.specs.Ahead.{coins_in, stage_ahead, visit_ahead};
+ghost use Rattle.cct_jobs.specs.Ahead.{coins_in, stage_ahead, reading_ahead};
 ghost use Rattle.cct_jobs.specs.Jobs.{request_of};
 
 use crate::path;
@@ -21,12 +21,12 @@ pub struct Recorded {
     pub counter: u8,
 }
 
-/// For what the credits and the inhibit mask of an acceptor are read.
+/// By which job the credits and the inhibit mask of an acceptor are read.
 #[derive(Clone, Copy, Debug, PartialEq, Eq)]
-pub enum Visit {
-    /// A round.
+pub enum ReadBy {
+    /// By a round.
     Round,
-    /// The stop of its epoch.
+    /// By the stop of its epoch.
     Stop,
 }
 
@@ -51,12 +51,12 @@ pub enum Stage {
     },
     /// A round or a stop reads the credits, beside what is recorded of the epoch.
     Reads {
-        visit: Visit,
+        read_by: ReadBy,
         recorded: Recorded,
     },
     /// It looks at the inhibit mask after these credits were read.
     Looks {
-        visit: Visit,
+        read_by: ReadBy,
         recorded: Recorded,
         credits: Credits,
     },
@@ -118,8 +118,8 @@ impl Stage {
             Stage::StartReads { .. } => 1,
             Stage::StartSets { .. } => 0,
             Stage::StopInhibits { .. } => 2,
-            Stage::Reads { visit, .. } => visit.may_put(),
-            Stage::Looks { visit, .. } => visit.may_put(),
+            Stage::Reads { read_by, .. } => read_by.may_put(),
+            Stage::Looks { read_by, .. } => read_by.may_put(),
             Stage::IdentAsks { .. } => 0,
             Stage::PathSets { .. } => 0,
             Stage::PathReads { .. } => 0,
@@ -127,7 +127,7 @@ impl Stage {
         }
     }
 
-    /// Whether the job is at work there to close an order.
+    /// Whether the job is running there to close an order.
     pub(crate) fn closes_order(&self) -> bool
         ensures { (device : Target) → result ≡ has_closes (stage_ahead device self.now) }
     {
@@ -158,14 +158,14 @@ impl Stage {
     }
 }
 
-impl Visit {
-    /// How many records it still leads to: a stop puts the epoch's end too.
+impl ReadBy {
+    /// How many records that job may still put: a stop puts the epoch's end too.
     fn may_put(&self) -> u32
-        ensures { (device : Target) → result ≡ puts_in (visit_ahead device self.now) }
+        ensures { (device : Target) → result ≡ puts_in (reading_ahead device self.now) }
     {
         match self {
-            Visit::Round => 1,
-            Visit::Stop => 2,
+            ReadBy::Round => 1,
+            ReadBy::Stop => 2,
         }
     }
 }

@@ -1,20 +1,14 @@
 //! The start of an epoch: the acceptor is reset, its credits are read, the epoch is put, and the inhibit mask is set once
 //! (ccTalk Generic Specification 4, parts 2 and 3, headers 1, 229 and 231).
-ghost use Rattle.std.specs.Prelude.{Option, ◌≡◌, ◌≤◌, List, ℕ, ◌∷◌, Some};
-ghost use Rattle.cct_model.specs.lines.command.Command.{Command};
-ghost use Rattle.cct_model.specs.terms.device.DeviceSetup.{DeviceSetup};
-ghost use Rattle.cct_model.specs.declared.judging.EpochState.{EpochState};
-ghost use Rattle.cct_model.specs.declared.judging.OpenOrder.{OpenOrder};
-ghost use Rattle.cct_model.specs.terms.request.Request.TheVariants.{ReadCredits};
-ghost use Rattle.cct_model.specs.Line.{Line, exchange};
+ghost use Rattle.std.specs.Prelude.{◌≡◌, ℕ, Some};
 ghost use Rattle.cct_model.specs.Reply as shown;
 ghost use Rattle.cct_model.specs.Reply.{reply_shown};
 ghost use Rattle.cct_model.specs.Request.{form_of};
 ghost use Rattle.cct_msg.specs.Forms.{form_shown};
 ghost use Rattle.cct_jobs.specs.declared.stage.Stage.TheVariants.{StartReads};
-ghost use Rattle.cct_model.specs.Rows.{puts_in};
-ghost use Rattle.cct_jobs.specs.Ahead.{ahead, stage_ahead};
-ghost use Rattle.cct_jobs.specs.Jobs.{Asking, IsOfStart, PutsFit, Stands, request_of};
+ghost use Rattle.cct_jobs.specs.Ahead.{stage_ahead};
+ghost use Rattle.cct_jobs.specs.Jobs.{IsOfStart, request_of};
+ghost use Rattle.cct_jobs.specs.Onward.{KeepsTo, LeadsTo};
 
 use crate::asks::first_try;
 use crate::job::Job;
@@ -23,21 +17,17 @@ use crate::stage::Stage;
 use crate::target::Target;
 use cct_model::{Credits, End, Reply};
 
-/// The start after its stage got the wanted reply.
-pub(crate) fn answered(device: Target, stage: Stage, reply: &Reply<'_>) -> Job
+/// The stage of the start got the wanted reply, and the start goes on.
+pub(crate) fn answered(job: &mut Job, device: Target, stage: Stage, reply: &Reply<'_>)
     requires row { IsOfStart stage }
     requires wanted { form_shown (reply_shown reply.now) ≡ form_of (request_of stage) }
-    ensures device { (d : DeviceSetup) (c : Command) (since : List Line) (state : EpochState)
-        (owed : Option OpenOrder) (failed : ℕ)
-        → Asking d device stage failed c since state owed
-        → Stands d result c (exchange (Some (request_of stage)) (Some (reply_shown reply.now)) ∷ since) state owed }
-    ensures may_put { puts_in (ahead result) ≤ puts_in (stage_ahead device stage) }
-    ensures fits { PutsFit result }
+    ensures device { (failed : ℕ) → LeadsTo device stage failed (Some (reply_shown reply.now)) job.new }
+    ensures keeps { KeepsTo (stage_ahead device stage) job.new }
 {
     match stage {
-        Stage::StartResets { mask } => first_try(device, Stage::StartReads { mask }),
-        Stage::StartReads { mask } => after_reset(device, mask, &credits_in(reply)),
-        Stage::StartSets { .. } => Job::Done(End::Started),
+        Stage::StartResets { mask } => *job = first_try(device, Stage::StartReads { mask }),
+        Stage::StartReads { mask } => *job = after_reset(device, mask, &credits_in(reply)),
+        Stage::StartSets { .. } => *job = Job::Done(End::Started),
         _ => unreachable!(),
     }
 }
@@ -45,12 +35,8 @@ pub(crate) fn answered(device: Target, stage: Stage, reply: &Reply<'_>) -> Job
 /// The start after it read these credits: the event counter of an acceptor that was just reset is 0.
 #[tactic(auto, using(crate::proofs::Epochs::start_puts, crate::proofs::Epochs::start_unquiet))]
 fn after_reset(device: Target, mask: u16, credits: &Credits) -> Job
-    ensures device { (d : DeviceSetup) (c : Command) (since : List Line) (state : EpochState)
-        (owed : Option OpenOrder) (failed : ℕ)
-        → Asking d device (StartReads mask) failed c since state owed
-        → Stands d result c (exchange (Some ReadCredits) (Some (shown.credits credits.now)) ∷ since) state owed }
-    ensures may_put { puts_in (ahead result) ≤ 1 }
-    ensures fits { PutsFit result }
+    ensures device { (failed : ℕ) → LeadsTo device (StartReads mask) failed (Some (shown.credits credits.now)) result }
+    ensures keeps { KeepsTo (stage_ahead device (StartReads mask)) result }
 {
     if credits.counter == 0 {
         Job::StartPuts { device, mask }

@@ -15,39 +15,39 @@ use Rattle.cct_disk.proofs.Ranges.{outside, put_outside}
 use Rattle.cct_journal.proofs.Bytes.{first_byte, put_there}
 use Rattle.cct_journal.proofs.Rooms.{closed}
 
--- a byte of a piece is one of the image
-piece_byte : (room image : List ℕ) (at : ℕ) → room ≡ take (length room) (drop at image) → (p : ℕ) → at ≤ p
+-- a byte of a block is one of the image
+block_byte : (room image : List ℕ) (at : ℕ) → room ≡ take (length room) (drop at image) → (p : ℕ) → at ≤ p
     → p < at + length room → slice_index image p ≡ slice_index room (p - at)
-piece_byte room image at read p behind before =
+block_byte room image at read p behind before =
     let place : p ≡ at + (p - at) = omega arith in
     let few : p - at < length room = omega arith in
     sym (ap (λ (l : List ℕ). slice_index l (p - at)) read ∙ get_or-take (length room) (drop at image) (p - at) 0 few
     ∙ get_or-drop at image (p - at) 0 ∙ ap (λ k. slice_index image k) (sym place))
 
--- what is found in a piece is found in the image
-pub piece_found : (room image : List ℕ) (at : ℕ) (found : Option ℕ) → room ≡ take (length room) (drop at image)
+-- what is found in a block is found in the image
+pub block_found : (room image : List ℕ) (at : ℕ) (found : Option ℕ) → room ≡ take (length room) (drop at image)
     → at + length room ≤ length image → MatchOption found (IsBlank room) (IsFirstByteFrom 0 room)
     → MatchOption found (IsBlankBetween at (at + length room) image) (λ index. IsFirstByteFrom at image (at + index))
-piece_found room image at None read inside blank = λ p behind before.
-    piece_byte room image at read p behind before ∙ blank (p - at) (omega arith) (omega arith)
-piece_found room image at (Some index) read inside first = record {
+block_found room image at None read inside blank = λ p behind before.
+    block_byte room image at read p behind before ∙ blank (p - at) (omega arith) (omega arith)
+block_found room image at (Some index) read inside first = record {
   behind = omega arith;
   is_there = omega (arith, first.is_there);
-  blank_before = λ p behind before. piece_byte room image at read p behind (omega (arith, first.is_there))
+  blank_before = λ p behind before. block_byte room image at read p behind (omega (arith, first.is_there))
       ∙ first.blank_before (p - at) (omega arith) (omega arith);
   not_zero = λ zero.
       let place : index ≡ at + index - at = omega arith in
       first.not_zero (ap (λ k. slice_index room k) place
-      ∙ sym (piece_byte room image at read (at + index) (omega arith) (omega (arith, first.is_there))) ∙ zero);
+      ∙ sym (block_byte room image at read (at + index) (omega arith) (omega (arith, first.is_there))) ∙ zero);
 }
 
--- a blank piece behind blank bytes
+-- a blank block after blank bytes
 pub blank_more : (image : List ℕ) (at to : ℕ) → IsBlankBetween 0 at image → IsBlankBetween at to image
     → IsBlankBetween 0 to image
 blank_more image at to first second p behind before =
     elim (cases_lt p at) [ inl below ↦ first p behind below | inr above ↦ second p above before ]
 
--- the first byte of a piece behind blank bytes
+-- the first byte of a block after blank bytes
 pub blank_first : (image : List ℕ) (at place : ℕ) → IsBlankBetween 0 at image → IsFirstByteFrom at image place
     → IsFirstByteFrom 0 image place
 blank_first image at place blank first = record {
@@ -57,12 +57,12 @@ blank_first image at place blank first = record {
   not_zero = first.not_zero;
 }
 
--- the header behind its gate
+-- the header after its gate
 abbrev pub title : List ℕ
 title = drop 1 header
 
 module _ (image : List ℕ) (blank : IsBlank image) (long : least_size ≤ length image) where
-  -- whatever stands behind a gate of 0 is no journal
+  -- whatever stands after a gate of 0 is no journal
   torn_alien : (c : List ℕ) → SameOutside 1 31 image c → IsAlien c
   torn_alien c torn = inr (λ is.
       let zero : slice_index c 0 ≡ 0 = outside 1 31 image c 0 torn (inl (omega arith))
@@ -82,7 +82,7 @@ module _ (image : List ℕ) (blank : IsBlank image) (long : least_size ≤ lengt
   unfolding titled
   titled_there = put_there 1 title image (omega arith)
 
-  -- a byte behind the header is 0
+  -- a byte after the header is 0
   behind_blank : (c : List ℕ) → SameOutside 0 1 titled c → (p : ℕ) → 32 ≤ p → p < length c → slice_index c p ≡ 0
   behind_blank c gated p behind before =
       outside 0 1 titled c p gated (inr (omega arith))

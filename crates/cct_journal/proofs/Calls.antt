@@ -3,12 +3,12 @@ use Rattle.std.proofs.Common.{◌≡◌, ◌⊎◌, inl, inr, ⊎_elim, ◌≤�
 use Rattle.std.proofs.Common.{Some, List, [], ◌∷◌, ◌++◌, length, sym, ◌∙◌, ap, subst, arith, length-append}
 use Rattle.cct_lines.specs.declared.record.Record.{Record}
 use Rattle.cct_record.specs.Body.{InRange, body_of}
-use Rattle.cct_disk.specs.Disk.{Holds, LeavesOnly, Only, SameOutside}
+use Rattle.cct_disk.specs.Disk.{Holds, IsCutBy, LeavesOnly, SameOutside}
 use Rattle.cct_journal.specs.declared.place.Place.{Place}
 use Rattle.cct_journal.specs.Image.{Keeps, KeepsOneOf, capacity_of}
 use Rattle.cct_journal.specs.Gated.{IsBegun, behind_open_gate}
-use Rattle.cct_journal.specs.Losing.{KeepsWith, LeavesBy, LeavesWith, LeftBy}
-use Rattle.cct_journal.specs.Stands.{Leaves, LeavesOneOf, Reads, Settled, Stands}
+use Rattle.cct_journal.specs.PowerCuts.{KeepsWith, LeavesBy, LeavesWith, LeftBy}
+use Rattle.cct_journal.specs.Stands.{Leaves, LeavesOneOf, Outlasts, Puts, Reads, Settled, Stands}
 use Rattle.cct_journal.proofs.Moments.{now_too, weaker}
 use Rattle.cct_journal.proofs.Puts.{begun_keeps, body_torn, written_keeps}
 use Rattle.cct_journal.proofs.Blanks.{told_image}
@@ -30,7 +30,7 @@ module _ {D : Type 0} (size : D → ℕ) (honest : D → Bool) (seen : D → Opt
   place_is records stands = ap (λ k. 32 * (k + 1)) (sym stands.count) ∙ sym gate_is
 
   -- at each moment an image stands for the records, or for these and the new one
-  pub slot_moments : (new : D) (records : List Record) → Stands honest seen may_leave old place records
+  slot_moments : (new : D) (records : List Record) → Stands honest seen may_leave old place records
       → ((image : List ℕ) → Holds honest seen may_leave old image
       → LeavesOnly moment left_since old new (IsBegun gate body image))
       → LeavesOnly moment left_since old new (KeepsOneOf records entry)
@@ -41,7 +41,7 @@ module _ {D : Type 0} (size : D → ℕ) (honest : D → Bool) (seen : D → Opt
       (run stands.image stands.held)
 
   -- and for the records alone while the gate isn't written
-  pub slot_early : (new : D) (records : List Record) → Stands honest seen may_leave old place records
+  slot_early : (new : D) (records : List Record) → Stands honest seen may_leave old place records
       → ((image : List ℕ) → Holds honest seen may_leave old image
       → LeavesOnly moment left_since old new (SameOutside (gate + 1) (length body) image))
       → LeavesOnly moment left_since old new (λ c. Keeps c records)
@@ -52,93 +52,101 @@ module _ {D : Type 0} (size : D → ℕ) (honest : D → Bool) (seen : D → Opt
       (subst (λ g. SameOutside (g + 1) (length body) stands.image c) (sym (place_is records stands)) torn)))
       (run stands.image stands.held)
 
+  -- both, by how many calls were made
+  pub slot_puts : (calls : ℕ) (new : D)
+      → ((image : List ℕ) → Holds honest seen may_leave old image
+      → LeavesOnly moment left_since old new (IsBegun gate body image))
+      → (calls ≤ 2 → (image : List ℕ) → Holds honest seen may_leave old image
+      → LeavesOnly moment left_since old new (SameOutside (gate + 1) (length body) image))
+      → Puts honest seen may_leave moment left_since place entry calls old new
+  slot_puts calls new run brief = record {
+    each = λ records stands. slot_moments new records stands run;
+    early = λ at_most records stands. slot_early new records stands (brief at_most);
+  }
+
   -- at the end for these and the new one
-  pub slot_done : (new : D) (after : Place) (records : List Record) → Stands honest seen may_leave old place records
-      → after.used ≡ place.used + 1
+  pub slot_done : (new : D) (records : List Record) → Stands honest seen may_leave old place records
       → ((image : List ℕ) → Holds honest seen may_leave old image
       → Holds honest seen may_leave new (behind_open_gate gate body image))
-      → Stands honest seen may_leave new after (records ++ entry ∷ [])
-  slot_done new after records stands one_more run = record {
+      → Stands honest seen may_leave new (record { used = place.used + 1 }) (records ++ entry ∷ [])
+  slot_done new records stands run = record {
     image = behind_open_gate gate body stands.image;
     held = run stands.image stands.held;
     keeps = subst (λ g. Keeps (behind_open_gate g body stands.image) (records ++ entry ∷ [])) (place_is records stands)
         (written_keeps stands.image records entry body stands.keeps (few records stands) in_range spelt whole);
-    count = omega (arith, one_more, stands.count, length-append records (entry ∷ []));
+    count = omega (arith, stands.count, length-append records (entry ∷ []));
   }
 
-module _ {D : Type 0} (honest : D → Bool) (seen : D → Option (List ℕ)) (may_leave : D → List ℕ → Type 0)
-    (moment : D → ℕ) (left_since : D → ℕ → List ℕ → Type 0)
+-- What a power cut may leave after a run on a disk on which a journal stands.
+module _ {D : Type 0} {honest : D → Bool} {seen : D → Option (List ℕ)} {may_leave : D → List ℕ → Type 0}
+    {moment : D → ℕ} {left_since : D → ℕ → List ℕ → Type 0} {old new : D} {place : Place} {records : List Record}
     (counts_now : (disk : D) (t : ℕ) (c : List ℕ) → t ≤ moment disk → may_leave disk c → left_since disk t c)
-    (old new : D) (place : Place) (records : List Record) (stands : Stands honest seen may_leave old place records)
-    (same_honest : honest new ≡ honest old) (same_telling : is_some (seen new) ≡ is_some (seen old)) where
-  still_told : is_some (seen new) ≡ true
-  still_told = same_telling ∙ ap is_some stands.held.tells
-
-  -- what a loss of power may leave behind a run that adds none
+    (same_honest : honest new ≡ honest old) (same_telling : is_some (seen new) ≡ is_some (seen old))
+    (stands : Stands honest seen may_leave old place records) where
+  -- where the run adds no record
   pub leaves_same : LeavesOnly moment left_since old new (λ c. Keeps c records)
       → Leaves honest seen may_leave new records
   leaves_same run = record {
     keeps_synced = same_honest ∙ stands.held.keeps_synced;
-    tells = still_told;
+    tells = same_telling ∙ ap is_some stands.held.tells;
     each = now_too moment left_since old new (λ c. Keeps c records) (may_leave new) (counts_now new) run;
   }
 
-  -- and behind one that may add one
+  -- where it may add one
   pub leaves_one_of : (entry : Record) → LeavesOnly moment left_since old new (KeepsOneOf records entry)
       → LeavesOneOf honest seen may_leave new records entry
   leaves_one_of entry run = record {
     keeps_synced = same_honest ∙ stands.held.keeps_synced;
-    tells = still_told;
+    tells = same_telling ∙ ap is_some stands.held.tells;
     each = now_too moment left_since old new (KeepsOneOf records entry) (may_leave new) (counts_now new) run;
   }
 
-  -- and behind one in which a record is put, or none
+  -- where a record is put in it, or none
   pub leaves_with : (put : Option Record) → LeavesOnly moment left_since old new (KeepsWith put records)
       → LeavesWith honest seen may_leave new put records
   leaves_with None run = leaves_same run
   leaves_with (Some r) run = leaves_one_of r run
 
--- An honest disk whose power was lost keeps one of the images that this might leave.
-module _ {D : Type 0} (honest : D → Bool) (seen : D → Option (List ℕ)) (may_leave : D → List ℕ → Type 0) (old new : D)
-    (same_honest : honest new ≡ honest old) (same_telling : is_some (seen new) ≡ is_some (seen old))
-    (left : honest old ≡ true → (s : List ℕ) → seen new ≡ Some s → may_leave old s)
-    (kept : honest old ≡ true → (s : List ℕ) → seen new ≡ Some s → Only s (may_leave new)) where
-  cut_holds : honest old ≡ true → is_some (seen old) ≡ true
-      → (image : List ℕ) × Holds honest seen may_leave new image × may_leave old image
-  cut_holds is_honest told =
-      let found = told_image (seen new) (same_telling ∙ told) in (
-        found.0,
-        record {
-          keeps_synced = same_honest
-              ∙ is_honest;
-          tells = found.1;
-          only = kept is_honest found.0 found.1;
-        },
-        left is_honest found.0 found.1,
-      )
+-- An honest disk whose power was cut keeps one of the images that this might leave.
+module _ {D : Type 0} {size : D → ℕ} {honest : D → Bool} {seen : D → Option (List ℕ)}
+    {may_leave : D → List ℕ → Type 0} {cuts : D → ℕ} {cut_to : D → ℕ → D → Type 0} {choice : ℕ} {old new : D}
+    (outlasts : Outlasts size honest seen cuts old new) (cut : IsCutBy honest seen may_leave cut_to choice old new)
+  where
+    cut_holds : honest old ≡ true → is_some (seen old) ≡ true
+        → (image : List ℕ) × Holds honest seen may_leave new image × may_leave old image
+    cut_holds is_honest told =
+        let found = told_image (seen new) (outlasts.same_telling ∙ told) in (
+          found.0,
+          record {
+            keeps_synced = outlasts.same_honest ∙ is_honest;
+            tells = found.1;
+            only = cut.kept is_honest found.0 found.1;
+          },
+          cut.left is_honest found.0 found.1,
+        )
 
-  pub cut_settled : (records : List Record) → Leaves honest seen may_leave old records
-      → Settled honest seen may_leave new records
-  cut_settled records leaves =
-      let found = cut_holds leaves.keeps_synced leaves.tells in
-      record { image = found.0; held = found.1; keeps = leaves.each found.0 found.2 }
+    pub cut_settled : (records : List Record) → Leaves honest seen may_leave old records
+        → Settled honest seen may_leave new records
+    cut_settled records leaves =
+        let found = cut_holds leaves.keeps_synced leaves.tells in
+        record { image = found.0; held = found.1; keeps = leaves.each found.0 found.2 }
 
-  pub cut_by : (calls : ℕ) (put : Option Record) (records : List Record)
-      → LeavesBy honest seen may_leave old calls put records
-      → (left : List Record) × LeftBy calls put records left × Settled honest seen may_leave new left
-  cut_by calls put records leaves =
-      let found = cut_holds leaves.keeps_synced leaves.tells in
-      let which = leaves.each found.0 found.2 in
-      (which.0, which.1, record { image = found.0; held = found.1; keeps = which.2 })
+    pub cut_by : (calls : ℕ) (put : Option Record) (records : List Record)
+        → LeavesBy honest seen may_leave old calls put records
+        → (left : List Record) × LeftBy calls put records left × Settled honest seen may_leave new left
+    cut_by calls put records leaves =
+        let found = cut_holds leaves.keeps_synced leaves.tells in
+        let which = leaves.each found.0 found.2 in
+        (which.0, which.1, record { image = found.0; held = found.1; keeps = which.2 })
 
-  pub cut_one_of : (records : List Record) (entry : Record) → LeavesOneOf honest seen may_leave old records entry
-      → Settled honest seen may_leave new records ⊎ Settled honest seen may_leave new (records ++ entry ∷ [])
-  cut_one_of records entry leaves =
-      let found = cut_holds leaves.keeps_synced leaves.tells in
-      ⊎_elim (λ keeps. inl (record { image = found.0; held = found.1; keeps = keeps }))
-      (λ keeps. inr (record { image = found.0; held = found.1; keeps = keeps })) (leaves.each found.0 found.2)
+    pub cut_one_of : (records : List Record) (entry : Record) → LeavesOneOf honest seen may_leave old records entry
+        → Settled honest seen may_leave new records ⊎ Settled honest seen may_leave new (records ++ entry ∷ [])
+    cut_one_of records entry leaves =
+        let found = cut_holds leaves.keeps_synced leaves.tells in
+        ⊎_elim (λ keeps. inl (record { image = found.0; held = found.1; keeps = keeps }))
+        (λ keeps. inr (record { image = found.0; held = found.1; keeps = keeps })) (leaves.each found.0 found.2)
 
--- A journal's disk keeps just one image, and a loss of power leaves that.
+-- A journal's disk keeps just one image, and a power cut leaves that.
 pub stands_settled : {D : Type 0} {honest : D → Bool} {seen : D → Option (List ℕ)} {may_leave : D → List ℕ → Type 0}
     {disk : D} {place : Place} {records : List Record}
     → Stands honest seen may_leave disk place records → Settled honest seen may_leave disk records

@@ -7,4 +7,4 @@ mod Walks
 mod Blanks
 mod Opens
 mod Gathered
-mod Losses
+mod Cuts

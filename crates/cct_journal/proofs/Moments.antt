@@ -1,4 +1,4 @@
--- What a loss of power might have left over a run of calls.
+-- What a power cut might have left over a run of calls.
 use Rattle.std.proofs.Common.{◌≡◌, inl, inr, ⊎_elim, ℕ, ◌≤◌, Bool, true, Option, List, ◌∙◌, arith}
 use Rattle.cct_disk.specs.Disk.{Elapses, Holds, IsWithin, LeavesOnly, OnlyReads}
 
@@ -13,7 +13,7 @@ module _ {D : Type 0} (moment : D → ℕ) (left_since : D → ℕ → List ℕ 
     before = λ t c le left. inl left;
   }
 
-  -- one run behind another
+  -- one run after another
   pub then : (old mid new : D) (P : List ℕ → Type 0) → LeavesOnly moment left_since old mid P
       → LeavesOnly moment left_since mid new P → LeavesOnly moment left_since old new P
   then old mid new P first second = record {
@@ -38,7 +38,7 @@ module _ {D : Type 0} (moment : D → ℕ) (left_since : D → ℕ → List ℕ 
       → LeavesOnly moment left_since old new P → (c : List ℕ) → may_leave c → P c
   now_too old new P may_leave counts_now run c now = run.each c (counts_now (moment old) c run.later now)
 
-  -- a call behind a run, which adds no image
+  -- a call after a run, which adds no image
   then_adds_none : (old mid new : D) (P may_leave : List ℕ → Type 0)
       → ((t : ℕ) (c : List ℕ) → t ≤ moment mid → may_leave c → left_since mid t c)
       → LeavesOnly moment left_since old mid P → LeavesOnly moment left_since mid new may_leave
@@ -46,20 +46,21 @@ module _ {D : Type 0} (moment : D → ℕ) (left_since : D → ℕ → List ℕ 
   then_adds_none old mid new P may_leave counts_now first second =
       then old mid new P first (weaker mid new may_leave P (now_too old mid P may_leave counts_now first) second)
 
-  -- the same by what the call says of the clock
-  pub then_elapses : (old mid new : D) (P before now : List ℕ → Type 0)
-      → ((t : ℕ) (c : List ℕ) → t ≤ moment mid → before c → left_since mid t c)
-      → ((c : List ℕ) → left_since mid (moment mid) c → before c) → IsWithin before now
-      → Elapses (moment mid) (moment new) (left_since mid) (left_since new) now
-      → LeavesOnly moment left_since old mid P → LeavesOnly moment left_since old new P
-  then_elapses old mid new P before now counts_now only_now within time first =
-      then_adds_none old mid new P before counts_now first (record {
-        later = time.later;
-        each = λ c left. ⊎_elim (only_now c) (within c) (time.nothing_else (moment mid) c (omega arith) left);
-        before = λ t c le left. ⊎_elim (λ was. inl was) (λ has. inr (within c has)) (time.nothing_else t c le left);
-      })
+-- a call after a run, which adds no image by what it says of the clock
+pub then_elapses : {D : Type 0} {moment : D → ℕ} {left_since : D → ℕ → List ℕ → Type 0}
+    {may_leave : D → List ℕ → Type 0} {old mid new : D} {P : List ℕ → Type 0}
+    → ((disk : D) (t : ℕ) (c : List ℕ) → t ≤ moment disk → may_leave disk c → left_since disk t c)
+    → ((disk : D) (c : List ℕ) → left_since disk (moment disk) c → may_leave disk c)
+    → IsWithin (may_leave mid) (may_leave new) → Elapses moment left_since may_leave mid new
+    → LeavesOnly moment left_since old mid P → LeavesOnly moment left_since old new P
+then_elapses {D} {moment} {left_since} {may_leave} {old} {mid} {new} {P} counts_now only_now within time first =
+    then_adds_none moment left_since old mid new P (may_leave mid) (counts_now mid) first (record {
+      later = time.later;
+      each = λ c left. ⊎_elim (only_now mid c) (within c) (time.nothing_else (moment mid) c (omega arith) left);
+      before = λ t c le left. ⊎_elim (λ was. inl was) (λ has. inr (within c has)) (time.nothing_else t c le left);
+    })
 
--- one run that only reads behind another
+-- one run that only reads after another
 pub reads_then : {D : Type 0} {size : D → ℕ} {honest : D → Bool} {seen : D → Option (List ℕ)}
     {may_leave : D → List ℕ → Type 0} {moment : D → ℕ} {left_since : D → ℕ → List ℕ → Type 0} {cuts : D → ℕ}
     {old mid new : D}
@@ -89,7 +90,7 @@ reads_hold run image held = record {
   only = λ c left. held.only c (run.images held.keeps_synced c left);
 }
 
--- a run behind one that only reads, by what it leaves of what the disk held
+-- a run after one that only reads, by what it leaves of what the disk held
 pub then_leaves : {D : Type 0} {size : D → ℕ} {honest : D → Bool} {seen : D → Option (List ℕ)}
     {may_leave : D → List ℕ → Type 0} {moment : D → ℕ} {left_since : D → ℕ → List ℕ → Type 0} {cuts : D → ℕ}
     {old mid new : D}
@@ -104,7 +105,7 @@ then_leaves {D} {size} {honest} {seen} {may_leave} {moment} {left_since} {cuts} 
     (run.moments held.keeps_synced))
     (weaker moment left_since mid new P Q to (second (reads_hold run image held)))
 
--- a run that only reads behind one that leaves only what has P
+-- a run that only reads after one that leaves only what has P
 pub then_reads : {D : Type 0} {size : D → ℕ} {honest : D → Bool} {seen : D → Option (List ℕ)}
     {may_leave : D → List ℕ → Type 0} {moment : D → ℕ} {left_since : D → ℕ → List ℕ → Type 0} {cuts : D → ℕ}
     {old mid new : D} (P : List ℕ → Type 0)

@@ -14,7 +14,7 @@ use Rattle.cct_disk.proofs.Ranges.{outside, put_outside}
 use Rattle.cct_journal.proofs.Bytes.{same_before, first_byte, put_there}
 use Rattle.cct_journal.proofs.Rooms.{Room, bodies_same, closed, room}
 
--- the place of the gate behind so many records
+-- the place of the gate after so many records
 abbrev gate_place : ℕ → ℕ
 gate_place count = 32 * (count + 1)
 
@@ -28,11 +28,11 @@ image_room image records stands few =
 
 module _ (image : List ℕ) (records : List Record) (keeps : Keeps image records)
     (few : length records < capacity_of (length image)) where
-  -- the header stays where what is written stands behind it
+  -- the header stays where what is written stands after it
   header_stays : (at n : ℕ) (c : List ℕ) → 32 ≤ at → SameOutside at n image c → take 32 c ≡ header
   header_stays at n c behind same = same_before at n image c same 0 32 behind ∙ keeps.stands.header_is
 
-  -- whatever stands behind the shut gate, the records are the same
+  -- whatever stands after the shut gate, the records are the same
   pub body_torn : (c : List ℕ) → SameOutside (gate_place (length records) + 1) 31 image c → Keeps c records
   body_torn c same =
       let number : length (map body_of records) ≡ length records = length-map records body_of in
@@ -54,7 +54,7 @@ module _ (image : List ℕ) (records : List Record) (keeps : Keeps image records
             keeps.shut i above inside (sym (outside _ 31 image c (32 * (i + 1)) same place) ∙ is_open);
       }
 
-  -- where the byte behind the header that ends the records lies
+  -- where the byte after the header that ends the records lies
   split_at_gate : (c : List ℕ) (r : Room (capacity_of (length image)) (drop 32 image) (map body_of records))
       → SameOutside (gate_place (length records)) 1 image c
       → drop 32 c ≡ r.front ++ (slice_index c (gate_place (length records)) ∷ drop (gate_place (length records) + 1) c)
@@ -98,7 +98,7 @@ module _ (image : List ℕ) (records : List Record) (keeps : Keeps image records
         ];
       }
 
-  -- no body stands behind the slot of the put
+  -- no body stands after the slot of the put
   none_behind : bodies (capacity_of (length image) - suc (length records))
       (drop (gate_place (length records + 1)) image) ≡ []
   none_behind = elim (cases_lt (length records + 1) (capacity_of (length image))) [

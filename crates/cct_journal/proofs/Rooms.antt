@@ -1,4 +1,4 @@
--- The slots of an image: its bodies, and the first slot with a shut gate behind them, which is the room for one more.
+-- The slots of an image: its bodies, and the first slot with a shut gate after them, which is the room for one more.
 use Rattle.std.proofs.Common.{◌≡◌, ◌≢◌, inl, inr, ℕ, zero, suc, ◌+◌, ◌-◌, ◌*◌, ◌<◌, ◌≤◌, cond, List, [], ◌∷◌, ◌++◌}
 use Rattle.std.proofs.Common.{length, take, drop, refl, sym, ◌∙◌, ap, subst, arith, append_assoc, length-append}
 use Rattle.std.proofs.Common.{length-drop, take-append-drop, eq-eqb}
@@ -6,13 +6,13 @@ use Rattle.std.proofs.lemmas.Bool.{cases_eq, ne_eqb}
 use Rattle.std.proofs.lemmas.List.{take_at, drop_at, length-take-le}
 use Rattle.cct_journal.specs.Image.{bodies, open_gate}
 
--- the bytes behind an open gate are a body
+-- the bytes after an open gate are a body
 pub opened : (n gate : ℕ) (back : List ℕ) → gate ≡ open_gate
     → bodies (suc n) (gate ∷ back) ≡ take 31 back ∷ bodies n (drop 31 back)
 opened n gate back is_open =
     ap (λ b. cond b (take 31 back ∷ bodies n (drop 31 back)) []) (eq-eqb gate open_gate is_open)
 
--- behind an open gate a body counts
+-- after an open gate a body counts
 step : (n gate : ℕ) (body back : List ℕ) → gate ≡ open_gate → length body ≡ 31
     → bodies (suc n) (gate ∷ (body ++ back)) ≡ body ∷ bodies n back
 step n gate body back is_open whole =
@@ -20,13 +20,13 @@ step n gate body back is_open whole =
     ∙ ap (λ x. x ∷ bodies n (drop 31 (body ++ back))) (take_at body back 31 whole)
     ∙ ap (λ (x : List ℕ). body ∷ bodies n x) (drop_at body back 31 whole)
 
--- behind a shut gate nothing counts
+-- after a shut gate nothing counts
 pub closed : (n gate : ℕ) (back : List ℕ) → gate ≢ open_gate → bodies n (gate ∷ back) ≡ []
 closed zero gate back shut = refl
 closed (suc n) gate back shut =
     ap (λ b. cond b (take 31 back ∷ bodies n (drop 31 back)) []) (ne_eqb gate open_gate shut)
 
--- the first slot with a shut gate: what a byte there and bytes behind it make of the bodies
+-- the first slot with a shut gate: what a byte there and bytes after it make of the bodies
 pub record Room (n : ℕ) (bytes : List ℕ) (old : List (List ℕ)) : Type 0 where
   pub front : List ℕ
   pub gate : ℕ
@@ -53,7 +53,7 @@ here n gate rest shut = record {
       step n open_gate b back refl whole ∙ ap (λ bs. b ∷ bs) (subst (λ m. bodies m back ≡ []) same none);
 }
 
--- the first slot is open, and the room is among the slots behind it
+-- the first slot is open, and the room is among the slots after it
 behind : (n gate : ℕ) (body bytes : List ℕ) (old : List (List ℕ)) → gate ≡ open_gate → length body ≡ 31
     → Room n bytes old → Room (suc n) (gate ∷ (body ++ bytes)) (body ∷ old)
 behind n gate body bytes old is_open whole r = record {

@@ -16,7 +16,7 @@ pub room_read : (bytes image : List ℕ) (at n : ℕ) → bytes ≡ take (length
     → bytes ≡ take n (drop at image)
 room_read bytes image at n read whole = read ∙ ap (λ k. take k (drop at image)) whole
 
--- the bytes of a slot behind its gate are its body
+-- the bytes of a slot after its gate are its body
 pub body_read : (bytes body image : List ℕ) (index at : ℕ) → bytes ≡ take (length bytes) (drop at image)
     → length bytes ≡ 32 → at ≡ 32 * (index + 1) → body ≡ take 31 (drop 1 bytes) → body ≡ body_at index image
 body_read bytes body image index at read whole place is =
@@ -38,7 +38,7 @@ walked_none image =
     }
 
 module _ (image : List ℕ) (index : ℕ) (records : List Record) (walked : Walked image index records) where
-  -- behind the last slot
+  -- after the last slot
   pub walked_full : (all : ℕ) → index ≡ all → all ≡ capacity_of (length image) → CountsIn image records
   walked_full all last full =
       let none : capacity_of (length image) - index ≡ 0 = omega arith in
@@ -67,7 +67,7 @@ module _ (image : List ℕ) (index : ℕ) (records : List Record) (walked : Walk
       in_range = walked.in_range;
     }
 
-    -- behind an open gate stands one body more
+    -- after an open gate stands one body more
     one_more : gate_at index image ≡ open_gate
         → bodies (capacity_of (length image) - index) (drop (32 * (index + 1)) image) ≡ body_at index image ∷ bodies
         (capacity_of (length image) - (index + 1)) (drop (32 * (index + 1 + 1)) image)

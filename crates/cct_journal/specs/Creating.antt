@@ -1,6 +1,8 @@
 -- What an image is to a journal that is created on it.
-use Rattle.std.specs.Prelude.{◌≡◌, ◌⊎◌, ℕ, ◌<◌, ◌≤◌, Option, Some, List, [], ⊤}
-use Rattle.cct_journal.specs.Image.{IsAlien, IsFirstByteFrom, Keeps, least_size}
+use Rattle.std.specs.Prelude.{◌≡◌, ◌⊎◌, ℕ, ◌<◌, ◌≤◌, Bool, true, Option, Some, is_some, List, [], ⊤}
+use Rattle.cct_journal.specs.Image.{IsAlien, IsBlank, IsFirstByteFrom, Keeps, least_size}
+use Rattle.cct_journal.specs.Stands.{Stands}
+use Rattle.cct_journal.specs.declared.place.Place.{Place}
 use Rattle.cct_journal.specs.declared.refusal.CreateNo.{CreateNo}
 use Rattle.cct_journal.specs.declared.refusal.CreateNo.TheVariants.{Small, Disk, NotBlank}
 
@@ -20,3 +22,11 @@ RefusesCreate size seen (NotBlank at) = (least_size ≤ size)
 -- What may stand on a disk while a journal is created on it: what stood there, no journal, or an empty one.
 abbrev pub IsCreated : List ℕ → List ℕ → Type 0
 IsCreated old image = (image ≡ old) ⊎ (IsAlien image ⊎ Keeps image [])
+
+-- A journal without records was created on a disk that reads as blank.
+pub record Creates {D : Type 0} (size : D → ℕ) (honest : D → Bool) (seen : D → Option (List ℕ))
+    (may_leave : D → List ℕ → Type 0) (old new : D) (place : Place) : Type 0 where
+  pub stands : honest old ≡ true → is_some (seen old) ≡ true → Stands honest seen may_leave new place []
+  pub none : place.used ≡ 0
+  pub blank : (image : List ℕ) → seen old ≡ Some image → IsBlank image
+  pub long : least_size ≤ size old

@@ -21,7 +21,7 @@ least_size = 64
 abbrev pub capacity_of : ℕ → ℕ
 capacity_of size = min (size / 32 - 1) MOST_RECORDS
 
--- The bodies of the slots that these bytes are, up to the first shut gate, and so many at the most.
+-- The bodies of the slots that these bytes are, up to the first shut gate, and so many at most.
 abbrev pub bodies : ℕ → List ℕ → List (List ℕ)
 bodies (suc most) (gate ∷ rest) = if gate == open_gate then take 31 rest ∷ bodies most (drop 31 rest) else []
 bodies most bytes = []
@@ -30,7 +30,7 @@ bodies most bytes = []
 abbrev pub bodies_in : List ℕ → List (List ℕ)
 bodies_in image = bodies (capacity_of (length image)) (drop 32 image)
 
--- An image stands for records: it has the header, and behind it just the bodies of these records.
+-- An image stands for records: it has the header, and after it just the bodies of these records.
 pub record StandsFor (image : List ℕ) (records : List Record) : Type 0 where
   pub long : least_size ≤ length image
   pub header_is : take 32 image ≡ header
@@ -45,7 +45,7 @@ HasRecords image many = (records : List Record) × StandsFor image records × (l
 abbrev pub IsAlien : List ℕ → Type 0
 IsAlien image = (length image < least_size) ⊎ (take 32 image ≢ header)
 
--- Behind so many records of an image stands a body that spells none.
+-- After so many records of an image stands a body that spells none.
 pub record IsRefusedAt (image : List ℕ) (index : ℕ) : Type 0 where
   pub before : List Record
   pub body : List ℕ
@@ -55,7 +55,7 @@ pub record IsRefusedAt (image : List ℕ) (index : ℕ) : Type 0 where
   pub count : index ≡ length before
   pub refused : IsRefused body
 
--- An image has the header, and behind so many records a body that spells none.
+-- An image has the header, and after so many records a body that spells none.
 pub record IsBadAt (image : List ℕ) (index : ℕ) : Type 0 where
   pub long : least_size ≤ length image
   pub header_is : take 32 image ≡ header
@@ -73,7 +73,7 @@ body_at index image = take 31 (drop (32 * (index + 1) + 1) image)
 abbrev pub ShutFrom : ℕ → List ℕ → Type 0
 ShutFrom count image = (i : ℕ) → count ≤ i → i < capacity_of (length image) → gate_at i image ≢ open_gate
 
--- An image stands for records, and no slot behind them has an open gate.
+-- An image stands for records, and no slot after them has an open gate.
 pub record Keeps (image : List ℕ) (records : List Record) : Type 0 where
   pub stands : StandsFor image records
   pub shut : ShutFrom (length records) image

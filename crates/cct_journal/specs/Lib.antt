@@ -1,7 +1,7 @@
 pub mod Image
 pub mod Gated
 pub mod Stands
-pub mod Losing
+pub mod PowerCuts
 pub mod Opening
 pub mod Creating
 pub mod Journal

@@ -2,7 +2,8 @@
 use Rattle.std.specs.Prelude.{◌≡◌, ℕ, ◌≤◌, Bool, true, Option, Some, is_some, List, length}
 use Rattle.cct_edge.specs.Faults.{next_count}
 use Rattle.cct_lines.specs.declared.record.Record.{Record}
-use Rattle.cct_disk.specs.Disk.{Holds}
+use Rattle.cct_disk.specs.Disk.{Holds, LeavesOnly}
+pub use Rattle.cct_disk.specs.Disk.{GoesOn, Outlasts}
 use Rattle.cct_journal.specs.Image.{Keeps, KeepsOneOf, StandsFor, body_at, capacity_of, least_size}
 use Rattle.cct_journal.specs.declared.place.Place.{Place}
 
@@ -31,7 +32,7 @@ pub record Stands {D : Type 0} (honest : D → Bool) (seen : D → Option (List 
   pub keeps : Keeps image records
   pub count : place.used ≡ length records
 
--- What a read gives stands for records, whatever a loss of power may leave, and so many does the journal count.
+-- What a read gives stands for records, whatever a power cut may leave, and so many does the journal count.
 pub record Reads {D : Type 0} (seen : D → Option (List ℕ)) (disk : D) (place : Place) (records : List Record)
     : Type 0 where
   pub image : List ℕ
@@ -39,38 +40,21 @@ pub record Reads {D : Type 0} (seen : D → Option (List ℕ)) (disk : D) (place
   pub stands : StandsFor image records
   pub count : place.used ≡ length records
 
--- Each image that a loss of power may leave on this honest disk stands for records.
+-- Each image that a power cut may leave on this honest disk stands for records.
 pub record Leaves {D : Type 0} (honest : D → Bool) (seen : D → Option (List ℕ)) (may_leave : D → List ℕ → Type 0)
     (disk : D) (records : List Record) : Type 0 where
   pub keeps_synced : honest disk ≡ true
   pub tells : is_some (seen disk) ≡ true
   pub each : (c : List ℕ) → may_leave disk c → Keeps c records
 
--- Each image that a loss of power may leave on this honest disk stands for records, or for these and one more.
+-- Each image that a power cut may leave on this honest disk stands for records, or for these and one more.
 pub record LeavesOneOf {D : Type 0} (honest : D → Bool) (seen : D → Option (List ℕ))
     (may_leave : D → List ℕ → Type 0) (disk : D) (records : List Record) (entry : Record) : Type 0 where
   pub keeps_synced : honest disk ≡ true
   pub tells : is_some (seen disk) ≡ true
   pub each : (c : List ℕ) → may_leave disk c → KeepsOneOf records entry c
 
--- A disk goes on to tell or not to tell its bytes, and to be honest or not, and has the same size; no power was cut.
-pub record GoesOn {D : Type 0} (size : D → ℕ) (honest : D → Bool) (seen : D → Option (List ℕ)) (cuts : D → ℕ)
-    (old new : D) : Type 0 where
-  pub same_size : size new ≡ size old
-  pub same_honest : honest new ≡ honest old
-  pub same_telling : is_some (seen new) ≡ is_some (seen old)
-  pub same_cuts : cuts new ≡ cuts old
-
--- A disk goes on to tell or not to tell its bytes, and to be honest or not, and has the same size; its power may have been
--- cut.
-pub record Outlasts {D : Type 0} (size : D → ℕ) (honest : D → Bool) (seen : D → Option (List ℕ)) (cuts : D → ℕ)
-    (old new : D) : Type 0 where
-  pub same_size : size new ≡ size old
-  pub same_honest : honest new ≡ honest old
-  pub same_telling : is_some (seen new) ≡ is_some (seen old)
-  pub later_cuts : cuts old ≤ cuts new
-
--- The power of a disk was cut just once, by this choice: it went on up to the cut, and was only read behind it.
+-- The power of a disk was cut just once, by this choice: it went on up to the cut, and was only read after it.
 pub record CutOnce {D : Type 0} (size : D → ℕ) (honest : D → Bool) (seen : D → Option (List ℕ)) (cuts : D → ℕ)
     (cut_to : D → ℕ → D → Type 0) (choice : ℕ) (old new : D) : Type 0 where
   pub before : D
@@ -80,3 +64,14 @@ pub record CutOnce {D : Type 0} (size : D → ℕ) (honest : D → Bool) (seen :
   pub lasts : GoesOn size honest seen cuts behind new
   pub same_seen : seen new ≡ seen behind
   pub count : cuts new ≡ next_count (cuts old)
+
+-- From one disk to another the first calls of a put were made: each image that a power cut might have left stands for the
+-- records before it, or for these and the new one; and up to the second call for the former alone.
+pub record Puts {D : Type 0} (honest : D → Bool) (seen : D → Option (List ℕ)) (may_leave : D → List ℕ → Type 0)
+    (moment : D → ℕ) (left_since : D → ℕ → List ℕ → Type 0) (place : Place) (entry : Record) (calls : ℕ) (old new : D)
+    : Type 0 where
+  pub each : (records : List Record) → Stands honest seen may_leave old place records
+      → LeavesOnly moment left_since old new (KeepsOneOf records entry)
+  -- Up to two calls the records before alone.
+  pub early : calls ≤ 2 → (records : List Record) → Stands honest seen may_leave old place records
+      → LeavesOnly moment left_since old new (λ c. Keeps c records)

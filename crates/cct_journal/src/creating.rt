@@ -1,14 +1,14 @@
 //! A journal is created on a blank disk.
-ghost use Rattle.std.specs.Prelude.{◌≡◌, ◌≢◌, ℕ, ◌+◌, ◌<◌, ◌≤◌, true, Err, Some, is_some, List, [], length};
+ghost use Rattle.std.specs.Prelude.{◌≡◌, ◌≢◌, ℕ, ◌+◌, ◌<◌, ◌≤◌, true, Err, Some, List, length};
 ghost use Rattle.std.specs.Prelude.{IfErr, IfOk, IfSome, MatchOption, OnOk};
-ghost use Rattle.cct_edge.specs.Faults.{HasCause, Rose};
+ghost use Rattle.cct_edge.specs.Faults.{Caused, HasCause};
 ghost use Rattle.cct_disk.specs.Disk.{Holds, LeavesOnly, OnlyReads};
 ghost use Rattle.cct_journal.specs.Image.{IsBlank, IsBlankBetween, IsFirstByteFrom};
-ghost use Rattle.cct_journal.specs.Creating.{IsCreated, IsNotBlank, RefusesCreate};
-ghost use Rattle.cct_journal.specs.Stands.{GoesOn, IsPlaced, Stands};
+ghost use Rattle.cct_journal.specs.Creating.{Creates, IsCreated, IsNotBlank, RefusesCreate};
+ghost use Rattle.cct_journal.specs.Stands.{GoesOn, IsPlaced};
 
 use crate::CreateNo;
-use crate::format::{HEADER, LEAST, PIECE};
+use crate::format::{BLOCK, HEADER, LEAST};
 use crate::place::Place;
 use crate::range::{GATED_CALLS, write_gated};
 use cct_disk::Disk;
@@ -34,7 +34,7 @@ fn is_blank(bytes: &[u8]) -> bool
 }
 
 /// Reads as many bytes as the room has, and tells where among them the first stands that isn't 0.
-fn read_piece<D: Disk>(disk: &mut D, at: u64, room: &mut [u8]) -> Result<Option<usize>, Failed>
+fn read_block<D: Disk>(disk: &mut D, at: u64, room: &mut [u8]) -> Result<Option<usize>, Failed>
     requires { at + length room.old ≤ D.size disk.old }
     ensures within { IfOk result (λ found. IfSome found (λ index. index < length room.old)) }
     ensures found { IfOk result (λ found. (image : List ℕ) → D.seen disk.old ≡ Some image
@@ -47,20 +47,19 @@ fn read_piece<D: Disk>(disk: &mut D, at: u64, room: &mut [u8]) -> Result<Option<
     Ok(first_byte(room))
 }
 
-/// Whether every byte of the disk is 0, which is read in pieces. Where one isn't, the answer tells the first.
+/// Whether every byte of the disk is 0, which is read in blocks. Where one isn't, the answer tells the first.
 fn check_blank<D: Disk>(disk: &mut D) -> Result<(), CreateNo>
     ensures blank { OnOk result ((image : List ℕ) → D.seen disk.old ≡ Some image → IsBlank image) }
     ensures refused { IfErr result (λ why. IsNotBlank (D.seen disk.old) why) }
     ensures reads { OnlyReads D.size D.honest D.seen D.may_leave D.moment D.left_since D.cuts disk.old disk.new }
-    ensures later { D.faults disk.old ≤ D.faults disk.new }
-    ensures cause { result ≡ Err CreateNo.Disk → Rose (D.faults disk.old) (D.faults disk.new) }
+    ensures cause { Caused (D.faults disk.old) (D.faults disk.new) (result ≡ Err CreateNo.Disk) }
 {
     let len = disk.len();
-    let mut room = [0; PIECE];
+    let mut room = [0; BLOCK];
     let mut at = 0;
     while at < len {
-        let count = (len - at).min(PIECE as u64) as usize;
-        if let Some(index) = read_piece(disk, at, &mut room[..count])? {
+        let count = (len - at).min(BLOCK as u64) as usize;
+        if let Some(index) = read_block(disk, at, &mut room[..count])? {
             return Err(CreateNo::NotBlank {
                 at: at + index as u64,
             });
@@ -73,18 +72,16 @@ fn check_blank<D: Disk>(disk: &mut D) -> Result<(), CreateNo>
 /// Lays the header of a journal on a blank disk, and gives the place of its first record.
 pub(crate) fn lay_header<D: Disk>(disk: &mut D) -> Result<Place, CreateNo>
     ensures placed { IfOk result (IsPlaced (D.size disk.old)) }
-    ensures none { IfOk result (λ place. place.used ≡ 0) }
-    ensures blank { OnOk result ((image : List ℕ) → D.seen disk.old ≡ Some image → IsBlank image) }
-    ensures stands { IfOk result (λ place. D.honest disk.old ≡ true → is_some (D.seen disk.old) ≡ true
-        → Stands D.honest D.seen D.may_leave disk.new place []) }
+    ensures created { IfOk result (Creates D.size D.honest D.seen D.may_leave disk.old disk.new) }
     ensures refused { IfErr result (RefusesCreate (D.size disk.old) (D.seen disk.old)) }
     ensures unchanged { IfErr result (λ why. why ≢ CreateNo.Disk → OnlyReads D.size D.honest D.seen D.may_leave
         D.moment D.left_since D.cuts disk.old disk.new) }
+
+    // the disk at each moment, and after the call
     ensures moments { (image : List ℕ) → Holds D.honest D.seen D.may_leave disk.old image
         → LeavesOnly D.moment D.left_since disk.old disk.new (IsCreated image) }
     ensures goes_on { GoesOn D.size D.honest D.seen D.cuts disk.old disk.new }
-    ensures later { D.faults disk.old ≤ D.faults disk.new }
-    ensures cause { result ≡ Err CreateNo.Disk → Rose (D.faults disk.old) (D.faults disk.new) }
+    ensures cause { Caused (D.faults disk.old) (D.faults disk.new) (result ≡ Err CreateNo.Disk) }
 {
     let len = disk.len();
     if len < LEAST {

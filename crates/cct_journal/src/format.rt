@@ -19,4 +19,4 @@ pub(crate) const LEAST: u64 = 64;
 pub const MOST_RECORDS: u64 = 65_535;
 
 /// The bytes that are read at once where all are read.
-pub(crate) const PIECE: usize = 4096;
+pub(crate) const BLOCK: usize = 4096;

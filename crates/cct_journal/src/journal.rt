@@ -1,19 +1,18 @@
 //! The journal.
-ghost use Rattle.std.specs.Prelude.{◌≡◌, ◌≢◌, ◌⊎◌, ◌↔◌, ◌<◌, ◌≤◌, ◌+◌, ℕ, true, false, Err, Some, is_some, List, []};
-ghost use Rattle.std.specs.Prelude.{◌∷◌, ◌++◌, length, reverse};
-ghost use Rattle.std.specs.Prelude.{IfErr, IfOk, IfSome, IsErrAnd, MatchResult, OnErr, OnOk, slice_get};
-ghost use Rattle.cct_edge.specs.Faults.{Rose, next_count};
+ghost use Rattle.std.specs.Prelude.{◌≡◌, ◌≢◌, ◌⊎◌, ◌↔◌, ◌<◌, ◌≤◌, ◌+◌, ℕ, true, false, Err, Some, List, []};
+ghost use Rattle.std.specs.Prelude.{◌∷◌, ◌++◌, IfErr, IfOk, IfSome, IsErrAnd, MatchResult, OnErr, OnOk};
+ghost use Rattle.cct_edge.specs.Faults.{Caused, HasCause};
 ghost use Rattle.cct_lines.specs.declared.record.Record.{Record};
-ghost use Rattle.cct_record.specs.Body.{Encodable, Spells};
-ghost use Rattle.cct_disk.specs.Disk.{Holds, IsWithin, LeavesOnly, Only, OnlyReads};
-ghost use Rattle.cct_journal.specs.Image.{HasRecords, IsBlank, Keeps, KeepsOneOf, StandsFor, capacity_of, least_size};
-ghost use Rattle.cct_journal.specs.Creating.{IsCreated, RefusesCreate};
-ghost use Rattle.cct_journal.specs.Losing.{KeepsWith, LeavesWith, LeftBy};
-ghost use Rattle.cct_journal.specs.Opening.{RefusesOpen, RefusesRead};
-ghost use Rattle.cct_journal.specs.Stands.{CutOnce, GoesOn, IsPlaced, Leaves, LeavesOneOf, Reads, Settled, Stands, body_in};
+ghost use Rattle.cct_record.specs.Body.{Encodable};
+ghost use Rattle.cct_disk.specs.Disk.{CountsCut, Holds, IsCutBy, IsWithin, LeavesOnly, OnlyReads};
+ghost use Rattle.cct_journal.specs.Image.{KeepsOneOf, StandsFor, capacity_of, least_size};
+ghost use Rattle.cct_journal.specs.Creating.{Creates, IsCreated, RefusesCreate};
+ghost use Rattle.cct_journal.specs.PowerCuts.{KeepsWith, LeavesWith, LeftBy};
+ghost use Rattle.cct_journal.specs.Opening.{Finds, GivesRecord, RefusesOpen, RefusesRecord, ReplaysAll};
+ghost use Rattle.cct_journal.specs.Stands.{CutOnce, GoesOn, IsPlaced, Leaves, LeavesOneOf, Outlasts, Puts, Settled};
 
 use crate::creating::lay_header;
-use crate::losing::lose;
+use crate::cutting::cut_power;
 use crate::opening::find_place;
 use crate::place::Place;
 use crate::range::GATED_CALLS;
@@ -27,48 +26,45 @@ use cct_lines::Record;
 
 /// A journal of records on a disk (`docs/JOURNAL.md`).
 ///
-/// Whenever the power is lost, what was put stands on the disk, and what is being put stands there or doesn't. This
+/// Whenever the power is cut, what was put stands on the disk, and what is being put stands there or doesn't. This
 /// rests on an honest disk alone, of which bytes that were synced stay.
 #[derive(Drop)]
 pub struct Journal<D: Disk> {
     disk: D,
     place: Place,
-    /// Whether a put failed, behind which nothing more may be put.
+    /// Whether a put failed, after which nothing more may be put.
     failed: bool,
     ghost placed: { IsPlaced (D.size disk) place },
 }
 
 impl<D: Disk> Journal<D> {
-    ghost use Rattle.cct_journal.specs.Journal.{disk_back, disk_of, has_failed, place_of, used_of};
+    ghost use Rattle.cct_journal.specs.Journal.{JournalReads, JournalStands, disk_back, disk_of, has_failed, place_of, used_of};
 
     /// Creates a journal without records on a blank disk.
     ///
     /// The refusals come in the order of [`CreateNo`]. [`CreateNo::Small`] comes where the disk has fewer than 64 bytes
-    /// and [`CreateNo::NotBlank`] where a byte isn't 0; then nothing is written. Behind [`CreateNo::Disk`] the disk is
+    /// and [`CreateNo::NotBlank`] where a byte isn't 0; then nothing is written. After [`CreateNo::Disk`] the disk is
     /// as it was, or has no journal, or one without records.
     pub fn create(disk: D) -> Result<Journal<D>, (D, CreateNo)>
-        ensures stands { IfOk result (λ journal. D.honest disk ≡ true → is_some (D.seen disk) ≡ true
-            → Stands D.honest D.seen D.may_leave (disk_of journal) (place_of journal) []) }
-        ensures none { IfOk result (λ journal. used_of journal ≡ 0) }
+        ensures created { IfOk result (λ journal. Creates D.size D.honest D.seen D.may_leave disk (disk_of journal)
+            (place_of journal)) }
         ensures unbroken { IfOk result (λ journal. has_failed journal ≡ false) }
-        ensures blank { OnOk result ((image : List ℕ) → D.seen disk ≡ Some image → IsBlank image) }
-        ensures long { OnOk result (least_size ≤ D.size disk) }
 
         // why it is refused
         ensures refused { IfErr result (λ e. RefusesCreate (D.size disk) (D.seen disk) e.1) }
         ensures unchanged { IfErr result (λ e. e.1 ≢ CreateNo.Disk → OnlyReads D.size D.honest D.seen D.may_leave
             D.moment D.left_since D.cuts disk e.0) }
-        ensures cause { IfErr result (λ e. e.1 ≡ CreateNo.Disk → Rose (D.faults disk) (D.faults e.0)) }
 
-        // the disk at each moment, and behind the call
+        // the disk at each moment, and after the call:
+        // At each moment the disk is as it was, has no header of a journal, or has a journal without records.
         ensures moments { (image : List ℕ) → Holds D.honest D.seen D.may_leave disk image → MatchResult result
             (λ journal. LeavesOnly D.moment D.left_since disk (disk_of journal) (IsCreated image))
             (λ e. LeavesOnly D.moment D.left_since disk e.0 (IsCreated image)) }
         ensures goes_on { MatchResult result
             (λ journal. GoesOn D.size D.honest D.seen D.cuts disk (disk_of journal))
             (λ e. GoesOn D.size D.honest D.seen D.cuts disk e.0) }
-        ensures later { MatchResult result (λ journal. D.faults disk ≤ D.faults (disk_of journal))
-            (λ e. D.faults disk ≤ D.faults e.0) }
+        ensures cause { MatchResult result (λ journal. D.faults disk ≤ D.faults (disk_of journal))
+            (λ e. Caused (D.faults disk) (D.faults e.0) (e.1 ≡ CreateNo.Disk)) }
     {
         let mut disk = disk;
         match lay_header(&mut disk) {
@@ -84,33 +80,30 @@ impl<D: Disk> Journal<D> {
     /// Opens the journal that stands on a disk, and tells how many records it has. The disk is only read.
     ///
     /// [`OpenNo::Alien`] comes where the disk has fewer than 64 bytes or doesn't begin with the header, and
-    /// [`OpenNo::BadRecord`] at the first body behind an open gate that spells no record, where no shut gate stands
+    /// [`OpenNo::BadRecord`] at the first body after an open gate that spells no record, where no shut gate stands
     /// before it.
     pub fn reopen(disk: D) -> Result<(Journal<D>, u32), (D, OpenNo)>
-        ensures found { IfOk result (λ opened. (image : List ℕ) → D.seen disk ≡ Some image
-            → HasRecords image (used_of opened.0)) }
-        ensures every { IfOk result (λ opened. (image : List ℕ) (records : List Record) → D.seen disk ≡ Some image
-            → StandsFor image records → Reads D.seen (disk_of opened.0) (place_of opened.0) records) }
+        ensures finds { IfOk result (λ opened. Finds D.seen disk (disk_of opened.0) (place_of opened.0)) }
+        // If the disk keeps exactly one image, the journal stands for it.
         ensures stands { IfOk result (λ opened. (records : List Record)
-            → Settled D.honest D.seen D.may_leave disk records
-            → Stands D.honest D.seen D.may_leave (disk_of opened.0) (place_of opened.0) records) }
+            → Settled D.honest D.seen D.may_leave disk records → JournalStands opened.0 records) }
         ensures counted { IfOk result (λ opened. opened.1 ≡ used_of opened.0) }
         ensures unbroken { IfOk result (λ opened. has_failed opened.0 ≡ false) }
 
         // why it is refused
         ensures refused { IfErr result (λ e. (image : List ℕ) → D.seen disk ≡ Some image → RefusesOpen e.1 image) }
+        // A disk that stands for records is refused only if it failed.
         ensures never { IfErr result (λ e. (image : List ℕ) (records : List Record) → D.seen disk ≡ Some image
             → StandsFor image records → e.1 ≡ OpenNo.Disk) }
         ensures short { D.size disk < least_size → IsErrAnd result (λ e. e.1 ≡ OpenNo.Alien) }
-        ensures cause { IfErr result (λ e. e.1 ≡ OpenNo.Disk → Rose (D.faults disk) (D.faults e.0)) }
 
         // the disk
         ensures reads { MatchResult result
             (λ opened. OnlyReads D.size D.honest D.seen D.may_leave D.moment D.left_since D.cuts disk
             (disk_of opened.0))
             (λ e. OnlyReads D.size D.honest D.seen D.may_leave D.moment D.left_since D.cuts disk e.0) }
-        ensures later { MatchResult result (λ opened. D.faults disk ≤ D.faults (disk_of opened.0))
-            (λ e. D.faults disk ≤ D.faults e.0) }
+        ensures cause { MatchResult result (λ opened. D.faults disk ≤ D.faults (disk_of opened.0))
+            (λ e. Caused (D.faults disk) (D.faults e.0) (e.1 ≡ OpenNo.Disk)) }
     {
         let mut disk = disk;
         match find_place(&mut disk, &mut OnlyCounted) {
@@ -134,7 +127,7 @@ impl<D: Disk> Journal<D> {
         self.place.used
     }
 
-    /// How many records the journal takes at the most.
+    /// How many records the journal takes at most.
     pub fn capacity(&self) -> u32
         ensures { result ≡ capacity_of (D.size (disk_of self.now)) }
     {
@@ -159,58 +152,48 @@ impl<D: Disk> Journal<D> {
     /// give what the journal was opened on.
     pub fn read_at(&mut self, index: u32) -> Result<Record, ReadNo>
         requires { index < used_of self.old }
-        ensures given { IfOk result (λ entry. (records : List Record)
-            → Reads D.seen (disk_of self.old) (place_of self.old) records → slice_get records index ≡ Some entry) }
-        ensures spelt { IfOk result (λ entry. (image : List ℕ) → D.seen (disk_of self.old) ≡ Some image
-            → Spells entry (body_in (place_of self.old) index image)) }
-        ensures fits { IfOk result Encodable }
-
-        // why it is refused
-        ensures refused { IfErr result (λ why. (image : List ℕ) → D.seen (disk_of self.old) ≡ Some image
-            → RefusesRead index (body_in (place_of self.old) index image) why) }
-        ensures never { IfErr result (λ why. (records : List Record)
-            → Reads D.seen (disk_of self.old) (place_of self.old) records → why ≡ ReadNo.Disk) }
-        ensures cause { result ≡ Err ReadNo.Disk → Rose (D.faults (disk_of self.old)) (D.faults (disk_of self.new)) }
+        ensures gives { IfOk result (GivesRecord D.seen (disk_of self.old) (place_of self.old) index) }
+        ensures refused { IfErr result (RefusesRecord D.seen (disk_of self.old) (place_of self.old) index) }
 
         // the journal stays as it is
-        ensures stands { (records : List Record)
-            → Stands D.honest D.seen D.may_leave (disk_of self.old) (place_of self.old) records
-            → Stands D.honest D.seen D.may_leave (disk_of self.new) (place_of self.new) records }
-        ensures told { (records : List Record) → Reads D.seen (disk_of self.old) (place_of self.old) records
-            → Reads D.seen (disk_of self.new) (place_of self.new) records }
+        ensures stands { (records : List Record) → JournalStands self.old records → JournalStands self.new records }
+        ensures told { (records : List Record) → JournalReads self.old records → JournalReads self.new records }
         ensures place { place_of self.new ≡ place_of self.old }
         ensures unbroken { has_failed self.new ≡ has_failed self.old }
         ensures reads { OnlyReads D.size D.honest D.seen D.may_leave D.moment D.left_since D.cuts (disk_of self.old)
             (disk_of self.new) }
-        ensures later { D.faults (disk_of self.old) ≤ D.faults (disk_of self.new) }
+        ensures cause { Caused (D.faults (disk_of self.old)) (D.faults (disk_of self.new))
+            (result ≡ Err ReadNo.Disk) }
     {
         read_record(&mut self.disk, self.place, index)
     }
 
-    /// Puts a record behind the others, by four disk calls. At `Ok` every loss of power leaves it.
+    /// Puts a record after the others, by four disk calls. At `Ok` every power cut leaves it.
     ///
     /// No earlier put on this value may have failed. [`JournalNo::Full`] comes where the journal has as many records as
-    /// it takes, and changes nothing. Behind [`JournalNo::Disk`] it is open whether the record stands, and the disk has
+    /// it takes, and changes nothing. After [`JournalNo::Disk`] it is open whether the record stands, and the disk has
     /// to be opened again.
     pub fn put(&mut self, entry: &Record) -> Result<(), JournalNo>
         requires whole { has_failed self.old ≡ false }
         requires encodable { Encodable entry.now }
 
-        // each image that a loss of power at a moment of the call may leave
-        ensures moments { (records : List Record)
-            → Stands D.honest D.seen D.may_leave (disk_of self.old) (place_of self.old) records
+        // each image that a power cut at a moment of the call may leave:
+        // Within a call of the disk or between two, whether calls fail or not, each image that a power cut may leave
+        // stands for the records before, or for these and the new one.
+        ensures moments { (records : List Record) → JournalStands self.old records
             → LeavesOnly D.moment D.left_since (disk_of self.old) (disk_of self.new) (KeepsOneOf records entry.now) }
 
-        // at the end
-        ensures done { OnOk result ((records : List Record)
-            → Stands D.honest D.seen D.may_leave (disk_of self.old) (place_of self.old) records
-            → Stands D.honest D.seen D.may_leave (disk_of self.new) (place_of self.new) (records ++ entry.now ∷ [])) }
-        ensures left { OnErr result ((records : List Record)
-            → Stands D.honest D.seen D.may_leave (disk_of self.old) (place_of self.old) records
+        // at the end:
+        // At Ok each image stands for these and the new one.
+        ensures done { OnOk result ((records : List Record) → JournalStands self.old records
+            → JournalStands self.new (records ++ entry.now ∷ [])) }
+        // After a failure each image is one of the two.
+        ensures left { OnErr result ((records : List Record) → JournalStands self.old records
             → LeavesOneOf D.honest D.seen D.may_leave (disk_of self.new) records entry.now) }
         ensures counted { OnOk result (used_of self.new ≡ used_of self.old + 1) }
         ensures still { OnErr result (place_of self.new ≡ place_of self.old) }
         ensures unbroken { OnOk result (has_failed self.new ≡ false) }
+        // Nothing more may be put on that value: what stands in the slot is open.
         ensures broken { result ≡ Err JournalNo.Disk → has_failed self.new ≡ true }
 
         // why it is refused
@@ -218,19 +201,21 @@ impl<D: Disk> Journal<D> {
             ↔ (used_of self.old ≡ capacity_of (D.size (disk_of self.old))) }
         ensures why { IfErr result (λ why. (why ≡ JournalNo.Disk) ⊎ (why ≡ JournalNo.Full (used_of self.old))) }
         ensures unchanged { result ≡ Err (JournalNo.Full (used_of self.old)) → self.new ≡ self.old }
-        ensures cause { result ≡ Err JournalNo.Disk
-            → Rose (D.faults (disk_of self.old)) (D.faults (disk_of self.new)) }
 
         // the disk
         ensures goes_on { GoesOn D.size D.honest D.seen D.cuts (disk_of self.old) (disk_of self.new) }
-        ensures later { D.faults (disk_of self.old) ≤ D.faults (disk_of self.new) }
+        ensures cause { Caused (D.faults (disk_of self.old)) (D.faults (disk_of self.new))
+            (result ≡ Err JournalNo.Disk) }
     {
         let used = self.place.used;
         if used == self.capacity() {
             return Err(JournalNo::Full { used });
         }
-        match put_slot(&mut self.disk, &mut self.place, entry, GATED_CALLS) {
-            Ok(()) => Ok(()),
+        match put_slot(&mut self.disk, self.place, entry, GATED_CALLS) {
+            Ok(()) => {
+                self.place.used += 1;
+                Ok(())
+            }
             Err(_) => {
                 self.failed = true;
                 Err(JournalNo::Disk)
@@ -245,42 +230,35 @@ impl<D: Disk> Journal<D> {
         requires room { used_of self < capacity_of (D.size (disk_of self)) }
         requires encodable { Encodable entry.now }
 
-        // each image that a loss of power at a moment of the call may leave
-        ensures moments { (records : List Record)
-            → Stands D.honest D.seen D.may_leave (disk_of self) (place_of self) records
-            → LeavesOnly D.moment D.left_since (disk_of self) (disk_back result) (KeepsOneOf records entry.now) }
-        ensures early { calls ≤ 2 → (records : List Record)
-            → Stands D.honest D.seen D.may_leave (disk_of self) (place_of self) records
-            → LeavesOnly D.moment D.left_since (disk_of self) (disk_back result) (λ c. Keeps c records) }
+        // each image that a power cut at a moment of the call may leave
+        ensures moments { Puts D.honest D.seen D.may_leave D.moment D.left_since (place_of self) entry.now calls
+            (disk_of self) (disk_back result) }
 
-        // and at the end
-        ensures done { OnOk result (calls ≡ 4 → (records : List Record)
-            → Stands D.honest D.seen D.may_leave (disk_of self) (place_of self) records
+        // and at the end:
+        // After four calls that were Ok the new one too.
+        ensures done { OnOk result (calls ≡ 4 → (records : List Record) → JournalStands self records
             → Settled D.honest D.seen D.may_leave (disk_back result) (records ++ entry.now ∷ [])) }
-        ensures left { (records : List Record)
-            → Stands D.honest D.seen D.may_leave (disk_of self) (place_of self) records
+        ensures left { (records : List Record) → JournalStands self records
             → LeavesOneOf D.honest D.seen D.may_leave (disk_back result) records entry.now }
-        ensures left_early { calls ≤ 2 → (records : List Record)
-            → Stands D.honest D.seen D.may_leave (disk_of self) (place_of self) records
+        ensures left_early { calls ≤ 2 → (records : List Record) → JournalStands self records
             → Leaves D.honest D.seen D.may_leave (disk_back result) records }
 
         // the disk
         ensures goes_on { GoesOn D.size D.honest D.seen D.cuts (disk_of self) (disk_back result) }
-        ensures later { D.faults (disk_of self) ≤ D.faults (disk_back result) }
-        ensures cause { OnErr result (Rose (D.faults (disk_of self)) (D.faults (disk_back result))) }
+        ensures cause { HasCause (D.faults (disk_of self)) (D.faults (disk_back result)) result }
     {
         let Journal {
             mut disk,
-            mut place,
+            place,
             failed: _,
         } = self;
-        match put_slot(&mut disk, &mut place, entry, calls) {
+        match put_slot(&mut disk, place, entry, calls) {
             Ok(()) => Ok(disk),
             Err(failed) => Err((disk, failed)),
         }
     }
 
-    /// Loses the power and gives the disk back, which then keeps one of the images that this might leave, which one by
+    /// Cuts the power and gives the disk back, which then keeps one of the images that this might leave, which one by
     /// `choice`.
     pub fn power_cut(self, choice: u64) -> Result<D, (D, Failed)>
         ensures stands { OnOk result ((records : List Record)
@@ -290,29 +268,21 @@ impl<D: Disk> Journal<D> {
             → LeavesOneOf D.honest D.seen D.may_leave (disk_of self) records entry
             → Settled D.honest D.seen D.may_leave (disk_back result) records
             ⊎ Settled D.honest D.seen D.may_leave (disk_back result) (records ++ entry ∷ [])) }
-        ensures one { OnOk result (D.cut_to (disk_of self) choice (disk_back result)) }
-        ensures cut { OnOk result (D.cuts (disk_back result) ≡ next_count (D.cuts (disk_of self))) }
-        ensures left { OnOk result (D.honest (disk_of self) ≡ true → (s : List ℕ)
-            → D.seen (disk_back result) ≡ Some s → D.may_leave (disk_of self) s) }
-        ensures kept { OnOk result (D.honest (disk_of self) ≡ true → (s : List ℕ)
-            → D.seen (disk_back result) ≡ Some s → Only s (D.may_leave (disk_back result))) }
+        ensures cut { OnOk result (IsCutBy D.honest D.seen D.may_leave D.cut_to choice (disk_of self)
+            (disk_back result)) }
 
         // a cut that fails
         ensures seen { OnErr result (D.honest (disk_of self) ≡ true
             → D.seen (disk_back result) ≡ D.seen (disk_of self)) }
-        ensures not_cut { OnErr result (D.cuts (disk_back result) ≡ D.cuts (disk_of self)) }
-        ensures cuts { D.cuts (disk_of self) ≤ D.cuts (disk_back result) }
-        ensures cause { OnErr result (Rose (D.faults (disk_of self)) (D.faults (disk_back result))) }
 
         // either
+        ensures counted { CountsCut (D.cuts (disk_of self)) (D.cuts (disk_back result)) result }
         ensures images { D.honest (disk_of self) ≡ true
             → IsWithin (D.may_leave (disk_of self)) (D.may_leave (disk_back result)) }
         ensures moments { D.honest (disk_of self) ≡ true → LeavesOnly D.moment D.left_since (disk_of self)
             (disk_back result) (D.may_leave (disk_of self)) }
-        ensures tells { is_some (D.seen (disk_back result)) ≡ is_some (D.seen (disk_of self)) }
-        ensures size { D.size (disk_back result) ≡ D.size (disk_of self) }
-        ensures honest { D.honest (disk_back result) ≡ D.honest (disk_of self) }
-        ensures later { D.faults (disk_of self) ≤ D.faults (disk_back result) }
+        ensures outlasts { Outlasts D.size D.honest D.seen D.cuts (disk_of self) (disk_back result) }
+        ensures cause { HasCause (D.faults (disk_of self)) (D.faults (disk_back result)) result }
     {
         let Journal {
             mut disk,
@@ -325,12 +295,12 @@ impl<D: Disk> Journal<D> {
         }
     }
 
-    /// Loses the power in the midst of a put or in none, opens what is left in place, and tells how many records it
+    /// Cuts the power in the midst of a put or in none, opens what is left in place, and tells how many records it
     /// has. Each is replayed as it is found, so each slot is read once.
     ///
-    /// `put` is the record of the put that is interrupted, behind the first `calls` of its four disk calls, 0 to 4, and
+    /// `put` is the record of the put that is interrupted, after the first `calls` of its four disk calls, 0 to 4, and
     /// `choice` is that of [`Disk::power_cut`]. No earlier put on this value may have failed. [`OpenNo::Disk`] comes
-    /// where a disk call fails, and the others as from [`Journal::reopen`]. Behind any of them nothing more may be put,
+    /// where a disk call fails, and the others as from [`Journal::reopen`]. After any of them nothing more may be put,
     /// and some of the records may have been replayed.
     pub fn restart<R: Replay>(
         &mut self,
@@ -345,56 +315,42 @@ impl<D: Disk> Journal<D> {
         requires encodable { IfSome put.now Encodable }
         requires starts { R.replayed 0 replay.old [] replay.old }
 
-        // each image that a loss of power at a moment of the call may leave
-        ensures moments { (records : List Record)
-            → Stands D.honest D.seen D.may_leave (disk_of self.old) (place_of self.old) records
+        // each image that a power cut at a moment of the call may leave
+        ensures moments { (records : List Record) → JournalStands self.old records
             → LeavesOnly D.moment D.left_since (disk_of self.old) (disk_of self.new) (KeepsWith put.now records) }
 
-        // what is opened
-        ensures stands { OnOk result ((records : List Record)
-            → Stands D.honest D.seen D.may_leave (disk_of self.old) (place_of self.old) records
+        // what is opened:
+        // The records before, or these and the one of the put that was cut short: up to two calls the records alone,
+        // after four the new one too.
+        ensures stands { OnOk result ((records : List Record) → JournalStands self.old records
             → (left : List Record) × LeftBy calls put.now records left
-            × Stands D.honest D.seen D.may_leave (disk_of self.new) (place_of self.new) left) }
-        ensures found { OnOk result ((image : List ℕ) → D.seen (disk_of self.new) ≡ Some image
-            → HasRecords image (used_of self.new)) }
-        ensures every { OnOk result ((image : List ℕ) (records : List Record)
-            → D.seen (disk_of self.new) ≡ Some image → StandsFor image records
-            → Reads D.seen (disk_of self.new) (place_of self.new) records) }
+            × JournalStands self.new left) }
+        ensures finds { OnOk result (Finds D.seen (disk_of self.new) (disk_of self.new) (place_of self.new)) }
         ensures counted { IfOk result (λ used. used ≡ used_of self.new) }
         ensures unbroken { OnOk result (has_failed self.new ≡ false) }
-
-        // what was replayed then: so many records, and just those that a read gives
-        ensures replayed { OnOk result ((before : List Record) × (used_of self.new ≡ length before)
-            × R.replayed 0 replay.old before replay.new) }
-        ensures told { OnOk result ((records : List Record)
-            → Reads D.seen (disk_of self.new) (place_of self.new) records
-            → R.replayed 0 replay.old (reverse records) replay.new) }
+        // What goes over the records was handed as many as the journal has, one by one, oldest first.
+        ensures replayed { OnOk result (ReplaysAll D.seen R.replayed (disk_of self.new) (place_of self.new) replay.old
+            replay.new) }
 
         // why nothing is opened, and what stands then
         ensures refused { IfErr result (λ why. (image : List ℕ) → D.seen (disk_of self.new) ≡ Some image
             → RefusesOpen why image) }
-        ensures never { IfErr result (λ why. (records : List Record)
-            → Stands D.honest D.seen D.may_leave (disk_of self.old) (place_of self.old) records
+        ensures never { IfErr result (λ why. (records : List Record) → JournalStands self.old records
             → why ≡ OpenNo.Disk) }
-        ensures left { OnErr result ((records : List Record)
-            → Stands D.honest D.seen D.may_leave (disk_of self.old) (place_of self.old) records
+        ensures left { OnErr result ((records : List Record) → JournalStands self.old records
             → LeavesWith D.honest D.seen D.may_leave (disk_of self.new) put.now records) }
         ensures still { OnErr result (place_of self.new ≡ place_of self.old) }
         ensures broken { OnErr result (has_failed self.new ≡ true) }
-        ensures cause { result ≡ Err OpenNo.Disk
-            → Rose (D.faults (disk_of self.old)) (D.faults (disk_of self.new)) }
 
-        // the disk
+        // the disk:
+        // Exactly one cut, by the choice given, and the disk was only read after it.
         ensures cut { result ≢ Err OpenNo.Disk
             → CutOnce D.size D.honest D.seen D.cuts D.cut_to choice (disk_of self.old) (disk_of self.new) }
-        ensures cuts { D.cuts (disk_of self.old) ≤ D.cuts (disk_of self.new) }
-        ensures tells { is_some (D.seen (disk_of self.new)) ≡ is_some (D.seen (disk_of self.old)) }
-        ensures size { D.size (disk_of self.new) ≡ D.size (disk_of self.old) }
-        ensures honest { D.honest (disk_of self.new) ≡ D.honest (disk_of self.old) }
-        ensures later { D.faults (disk_of self.old) ≤ D.faults (disk_of self.new) }
+        ensures outlasts { Outlasts D.size D.honest D.seen D.cuts (disk_of self.old) (disk_of self.new) }
+        ensures cause { Caused (D.faults (disk_of self.old)) (D.faults (disk_of self.new)) (result ≡ Err OpenNo.Disk) }
     {
         self.failed = true;
-        let Ok(()) = lose(&mut self.disk, self.place, put, calls, choice) else {
+        let Ok(()) = cut_power(&mut self.disk, self.place, put, calls, choice) else {
             return Err(OpenNo::Disk);
         };
         match find_place(&mut self.disk, replay) {

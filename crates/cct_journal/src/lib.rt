@@ -1,10 +1,10 @@
-//! A journal of records on a disk that may lose its power between any two calls (`docs/JOURNAL.md`).
+//! A journal of records on a disk whose power may be cut between any two calls (`docs/JOURNAL.md`).
 #![tactic(auto)]
 
 mod creating;
+mod cutting;
 mod format;
 mod journal;
-mod losing;
 mod opening;
 mod place;
 mod range;

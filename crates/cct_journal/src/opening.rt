@@ -1,11 +1,10 @@
 //! The journal that stands on a disk is found.
-ghost use Rattle.std.specs.Prelude.{◌≡◌, ℕ, ◌<◌, ◌≤◌, Err, Some, List, [], IfErr, IfOk, length, reverse};
-ghost use Rattle.cct_edge.specs.Faults.{Rose};
-ghost use Rattle.cct_lines.specs.declared.record.Record.{Record};
+ghost use Rattle.std.specs.Prelude.{◌≡◌, ℕ, ◌<◌, Err, Some, List, [], IfErr, IfOk};
+ghost use Rattle.cct_edge.specs.Faults.{Caused};
 ghost use Rattle.cct_disk.specs.Disk.{OnlyReads};
-ghost use Rattle.cct_journal.specs.Image.{HasRecords, StandsFor, least_size};
-ghost use Rattle.cct_journal.specs.Opening.{RefusesOpen};
-ghost use Rattle.cct_journal.specs.Stands.{IsPlaced, Reads};
+ghost use Rattle.cct_journal.specs.Image.{least_size};
+ghost use Rattle.cct_journal.specs.Opening.{Finds, RefusesOpen, ReplaysAll};
+ghost use Rattle.cct_journal.specs.Stands.{IsPlaced};
 
 use crate::format::LEAST;
 use crate::place::Place;
@@ -17,19 +16,16 @@ use cct_disk::Disk;
 pub(crate) fn find_place<D: Disk, R: Replay>(disk: &mut D, replay: &mut R) -> Result<Place, OpenNo>
     requires { R.replayed 0 replay.old [] replay.old }
     ensures placed { IfOk result (IsPlaced (D.size disk.old)) }
-    ensures found { IfOk result (λ place. (image : List ℕ) → D.seen disk.old ≡ Some image
-        → HasRecords image place.used) }
-    ensures every { IfOk result (λ place. (image : List ℕ) (records : List Record) → D.seen disk.old ≡ Some image
-        → StandsFor image records → Reads D.seen disk.new place records) }
-    ensures replayed { IfOk result (λ place. (before : List Record) × (place.used ≡ length before)
-        × R.replayed 0 replay.old before replay.new) }
-    ensures told { IfOk result (λ place. (records : List Record) → Reads D.seen disk.new place records
-        → R.replayed 0 replay.old (reverse records) replay.new) }
+    ensures finds { IfOk result (Finds D.seen disk.old disk.new) }
+    ensures replayed { IfOk result (λ place. ReplaysAll D.seen R.replayed disk.new place replay.old replay.new) }
+
+    // why none is found
     ensures refused { IfErr result (λ why. (image : List ℕ) → D.seen disk.old ≡ Some image → RefusesOpen why image) }
     ensures short { D.size disk.old < least_size → result ≡ Err OpenNo.Alien }
+
+    // the disk
     ensures reads { OnlyReads D.size D.honest D.seen D.may_leave D.moment D.left_since D.cuts disk.old disk.new }
-    ensures later { D.faults disk.old ≤ D.faults disk.new }
-    ensures cause { result ≡ Err OpenNo.Disk → Rose (D.faults disk.old) (D.faults disk.new) }
+    ensures cause { Caused (D.faults disk.old) (D.faults disk.new) (result ≡ Err OpenNo.Disk) }
 {
     if disk.len() < LEAST {
         return Err(OpenNo::Alien);

@@ -32,10 +32,10 @@ pub(crate) fn write_range<D: Disk>(
     Ok(())
 }
 
-/// The calls by which bytes are written behind a gate that is opened.
+/// The calls by which bytes are written after a gate that is opened.
 pub(crate) const GATED_CALLS: u8 = 4;
 
-/// Makes the first `calls` of four calls: it writes bytes behind a gate, syncs, writes the gate open, and syncs. So the
+/// Makes the first `calls` of four calls: it writes bytes after a gate, syncs, writes the gate open, and syncs. So the
 /// gate is never open over bytes that the disk might lose.
 pub(crate) fn write_gated<D: Disk>(
     disk: &mut D,

@@ -1,13 +1,12 @@
 //! What stands on the disk is read: single slots, the header, and how many records there are.
-ghost use Rattle.std.specs.Prelude.{◌≡◌, ◌≢◌, ℕ, ◌+◌, ◌*◌, ◌<◌, ◌≤◌, ◌↔◌, Err, Some, List, [], length, take};
-ghost use Rattle.std.specs.Prelude.{IfErr, IfOk, IsTrue, slice_get};
-ghost use Rattle.cct_edge.specs.Faults.{HasCause, Rose};
+ghost use Rattle.std.specs.Prelude.{◌≡◌, ℕ, ◌+◌, ◌*◌, ◌<◌, ◌≤◌, ◌↔◌, Err, Some, List, [], take};
+ghost use Rattle.std.specs.Prelude.{IfErr, IfOk, IsTrue};
+ghost use Rattle.cct_edge.specs.Faults.{Caused, HasCause};
 ghost use Rattle.cct_lines.specs.declared.record.Record.{Record};
-ghost use Rattle.cct_record.specs.Body.{Encodable, Spells};
 ghost use Rattle.cct_disk.specs.Disk.{OnlyReads};
 ghost use Rattle.cct_journal.specs.Image.{body_at, capacity_of, gate_at, header, least_size};
-ghost use Rattle.cct_journal.specs.Stands.{IsPlaced, Reads, body_in};
-ghost use Rattle.cct_journal.specs.Opening.{CountsIn, RefusesRead, Replayed, StopsCount};
+ghost use Rattle.cct_journal.specs.Stands.{IsPlaced};
+ghost use Rattle.cct_journal.specs.Opening.{CountsIn, GivesRecord, RefusesRecord, Replayed, StopsCount};
 
 use crate::format::{HEADER, MOST_RECORDS, OPEN, SLOT};
 use crate::place::Place;
@@ -72,7 +71,7 @@ fn is_header(bytes: &[u8; 32]) -> bool
     *bytes == HEADER
 }
 
-/// How many records there are behind the header: those of the slots up to the first shut gate or the last slot. Each is
+/// How many records there are after the header: those of the slots up to the first shut gate or the last slot. Each is
 /// replayed as it is found.
 pub(crate) fn replay_records<D: Disk, R: Replay>(
     disk: &mut D,
@@ -85,8 +84,7 @@ pub(crate) fn replay_records<D: Disk, R: Replay>(
         (λ records. (image : List ℕ) → D.seen disk.old ≡ Some image → CountsIn image records)) }
     ensures stopped { IfErr result (λ why. (image : List ℕ) → D.seen disk.old ≡ Some image → StopsCount why image) }
     ensures reads { OnlyReads D.size D.honest D.seen D.may_leave D.moment D.left_since D.cuts disk.old disk.new }
-    ensures later { D.faults disk.old ≤ D.faults disk.new }
-    ensures cause { result ≡ Err OpenNo.Disk → Rose (D.faults disk.old) (D.faults disk.new) }
+    ensures cause { Caused (D.faults disk.old) (D.faults disk.new) (result ≡ Err OpenNo.Disk) }
 {
     let capacity = capacity_in(disk.len());
     for index in 0..capacity {
@@ -106,18 +104,10 @@ pub(crate) fn replay_records<D: Disk, R: Replay>(
 pub(crate) fn read_record<D: Disk>(disk: &mut D, place: Place, index: u32) -> Result<Record, ReadNo>
     requires placed { IsPlaced (D.size disk.old) place }
     requires within { index < place.used }
-    ensures given { IfOk result (λ entry. (records : List Record) → Reads D.seen disk.old place records
-        → slice_get records index ≡ Some entry) }
-    ensures spelt { IfOk result (λ entry. (image : List ℕ) → D.seen disk.old ≡ Some image
-        → Spells entry (body_in place index image)) }
-    ensures fits { IfOk result Encodable }
-    ensures refused { IfErr result (λ why. (image : List ℕ) → D.seen disk.old ≡ Some image
-        → RefusesRead index (body_in place index image) why) }
-    ensures never { IfErr result (λ why. (records : List Record) → Reads D.seen disk.old place records
-        → why ≡ ReadNo.Disk) }
+    ensures gives { IfOk result (GivesRecord D.seen disk.old place index) }
+    ensures refused { IfErr result (RefusesRecord D.seen disk.old place index) }
     ensures reads { OnlyReads D.size D.honest D.seen D.may_leave D.moment D.left_since D.cuts disk.old disk.new }
-    ensures later { D.faults disk.old ≤ D.faults disk.new }
-    ensures cause { result ≡ Err ReadNo.Disk → Rose (D.faults disk.old) (D.faults disk.new) }
+    ensures cause { Caused (D.faults disk.old) (D.faults disk.new) (result ≡ Err ReadNo.Disk) }
 {
     let slot = read_slot(disk, index)?;
     match read(&slot.body) {

@@ -37,7 +37,7 @@ pub enum OpenNo {
     /// The disk has no header of a journal of this version.
     #[error("the disk has no journal")]
     Alien,
-    /// The body behind so many records spells none, though its gate is open.
+    /// The body after so many records spells none, though its gate is open.
     #[error("record {index} of the journal is spelt wrongly")]
     BadRecord { index: u32 },
 }
@@ -52,14 +52,15 @@ impl From<Failed> for OpenNo {
     }
 }
 
-/// Why a record wasn't read.
-#[derive(Debug, Drop, Error)]
+/// Why a record wasn't read, or why a host isn't started over the records of a journal.
+#[derive(Clone, Copy, Debug, Error, PartialEq, Eq)]
 pub enum ReadNo {
-    /// The disk failed.
+    /// A call of the disk failed.
     #[error("the disk failed")]
     Disk,
-    /// The body of the record at `index` spells none.
-    #[error("record {index} of the journal is spelt wrongly")]
+    /// The record of this index, the first at 0, is bad: its body spells none, or, as a host starts, it doesn't follow those
+    /// before it.
+    #[error("record {index} of the journal is bad")]
     BadRecord { index: u32 },
 }
 

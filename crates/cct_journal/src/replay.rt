@@ -8,11 +8,11 @@ use cct_lines::Record;
 
 /// Whatever goes over the records of a journal as they are found, oldest first, so that each slot is read once.
 pub trait Replay {
-    /// What goes over these records, newest first, from an index on, is the first value before them and the second behind
+    /// What goes over these records, newest first, from an index on, is the first value before them and the second after
     /// them.
     ghost replayed: { ℕ → Self → List Record → Self → Type 0 };
 
-    /// Goes over the record of an index, behind those before it.
+    /// Goes over the record of an index, after those before it.
     fn replay(&mut self, index: u32, entry: &Record)
         requires few { index < MOST_RECORDS }
         requires encodable { Encodable entry.now }

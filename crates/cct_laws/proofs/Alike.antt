@@ -1,4 +1,4 @@
--- Steps of which none names a put that power is lost in have one transcript.
+-- Steps of which none names a put that a power cut interrupts have one transcript.
 use Rattle.std.proofs.Common.{◌≡◌, ◌⊎◌, inl, inr, ℕ, ◌==◌, Bool, true, false, List, [], ◌∷◌, ◌++◌, reverse, refl, sym, ap, ap₂, subst, ◌∙◌, Option, Some, None, All, append_assoc}
 use Rattle.std.specs.Prelude.{MatchBool}
 use Rattle.std.proofs.lemmas.List.{append-nil, reverse-append, reverse-reverse}
@@ -110,7 +110,7 @@ one_step capacity setup past (step.Crash (Some at) choice) no_put = absurd no_pu
 one_step capacity setup past step.Balance no_put = one_is _
 one_step capacity setup past step.End no_put = none_is
 
--- a past stays behind what steps bring
+-- steps leave a past as it is, and add to it
 goes_on : (capacity : ℕ) (setup : Setup) (past : List Entry) (steps : List Step) (end : List Entry) →
     LegalFrom capacity setup past steps end → (more : List Entry) × (end ≡ more ++ past)
 goes_on capacity setup past [] end legal = ([], legal)

@@ -16,7 +16,7 @@ use Rattle.cct_model.specs.Job.{ident_requests, own_requests}
 use Rattle.cct_model.specs.Exchange.{to_one}
 use Rattle.cct_msg.specs.Forms.{FitsItsBytes, IsWhole, form_shown}
 use Rattle.cct_laws.proofs.Exchanges.{Replied}
-use Rattle.cct_model.proofs.Rows.{Each}
+use Rattle.cct_model.proofs.Requests.{Each}
 
 -- a text of 24 characters can be said
 word_short : (text : List ℕ) → IsWord text → length text ≤ 255

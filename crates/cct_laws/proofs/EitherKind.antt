@@ -9,10 +9,10 @@ use Rattle.cct_model.specs.History.{Met, heard}
 use Rattle.cct_model.specs.Line.{Line, exchange}
 use Rattle.cct_model.specs.Job.{epoch}
 use Rattle.cct_model.specs.Rows.{end_of}
-use Rattle.cct_laws.specs.Kept.{is_for_acceptor, is_for_hopper, suits, with_ended}
+use Rattle.cct_laws.specs.DeviceJobs.{is_for_acceptor, is_for_hopper, suits, with_ended}
 use Rattle.cct_laws.specs.KeptBoth.{IsKeptBoth}
 use Rattle.cct_laws.specs.KeptHopper.{IsKeptHopper}
-use Rattle.cct_laws.specs.Since.{IsKeptSince}
+use Rattle.cct_laws.specs.SinceEpoch.{IsKeptSince}
 use Rattle.cct_model.proofs.Doses.{no_doses}
 
 -- a device is of one kind
@@ -52,7 +52,7 @@ both_acceptor d P accepting kept = record {
       (with_ended (end_of d c (exchange (Some q) got) work (epoch lines)) (exchange (Some q) got ∷ dosed ++ lines)))
       (sym (no_doses d.body d.serial past asked accepting))
       (kept.asks since past lines c work q asked got at row_is fate holds);
-  crashes = kept.crashes;
+  restarts = kept.restarts;
   keeps = kept.keeps;
   puts = kept.puts;
 }
@@ -74,7 +74,7 @@ both_hopper d P paying kept = record {
   halts = λ since past lines is can holds. kept.halts past lines can holds;
   asks = λ since past lines c work q asked got at row_is fate holds.
       kept.asks past lines c work q asked got at row_is fate holds;
-  crashes = λ since past lines holds. kept.crashes past lines holds;
+  restarts = λ since past lines holds. kept.restarts past lines holds;
   keeps = λ since past lines c work r at row_is holds. kept.keeps past lines c work r at row_is holds;
   puts = λ since past lines c work r at row_is holds. kept.puts past lines c work r at row_is holds;
 }

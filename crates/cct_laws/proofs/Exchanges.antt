@@ -26,9 +26,9 @@ use Rattle.cct_model.specs.Honest.{IsHonestFault}
 use Rattle.cct_laws.specs.Honesty.{IsNoMessage, IsAddressPoll, DamagesHonestly}
 use Rattle.cct_laws.proofs.Echoes.{echo_off, echo_known}
 use Rattle.cct_laws.proofs.Honesty.{honest_means}
-use Rattle.cct_laws.specs.Kept.{Fate, unheard, silenced, answered, IsRefused}
+use Rattle.cct_laws.specs.DeviceJobs.{Fate, unheard, silenced, answered, IsRefused}
 use Rattle.cct_laws.specs.Law.{IsOf}
-use Rattle.cct_laws.proofs.Pieces.{ask_to, asks_nothing, none_under, damaged_asks}
+use Rattle.cct_laws.proofs.HeardBytes.{ask_to, asks_nothing, none_under, damaged_asks}
 use Rattle.cct_laws.proofs.Setups.{found_in, same_some}
 
 -- a request with the reply of a device that met all this
@@ -54,7 +54,7 @@ pub record Refused (d : DeviceSetup) (past : List Met) (q : Request) : Type 0 wh
 abbrev pub Answers : DeviceSetup → List Met → Request → Type 0
 Answers d past q = Replied d past q ⊎ Refused d past q
 
--- the host's piece is its message
+-- what the host sends is its message
 message_asked : (kind : CheckKind) (addr : ℕ) (q : Request) →
     message kind (ask kind addr q) ≡ Some (carried kind (asking addr q))
 unfolding ask
@@ -197,7 +197,7 @@ unfolding got_by
 got_by_back d past q is =
     rw (asked_back d.kind d.addr q is.fits, is.wants) (got_back d past q (ask d.kind d.addr q) is)
 
--- the reply in a form that a piece from an address is
+-- the reply in a form that bytes from an address are
 abbrev read_from : CheckKind → ℕ → ReplyForm → List ℕ → Option Reply
 read_from kind addr form piece = option_and_then (reply_from form addr) (message kind piece)
 
@@ -223,7 +223,7 @@ refusal_read kind addr form =
     ap (option_and_then (reply_from form addr)) (written_back kind (replying 1 addr nak) (omega arith) refl)
     ∙ refusal_carried kind addr form
 
--- nothing is got where no such reply stands behind the echo
+-- nothing is got where no such reply stands after the echo
 none_got : (found : Option ReplyForm) (g : ReplyForm → Option Reply) → ((form : ReplyForm) → g form ≡ None) →
     option_and_then g found ≡ None
 none_got None g none = refl
@@ -254,7 +254,7 @@ none_behind d sent piece none =
     nothing_got d sent (sent ++ piece) (λ form rest found.
     ap (read_from d.kind d.addr form) (same_some rest piece (sym found ∙ echo_off sent piece)) ∙ none form)
 
--- no device answers a damaged piece
+-- no device answers damaged bytes
 all_silent : (f : DeviceSetup → List ℕ) (devices : List DeviceSetup) → ((e : DeviceSetup) → f e ≡ []) →
     flat_map f devices ≡ []
 all_silent f [] silent = refl

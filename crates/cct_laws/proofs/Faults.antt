@@ -23,7 +23,7 @@ use Rattle.cct_model.specs.Script.{IsInRange}
 use Rattle.cct_model.specs.Transcript.{pending, met, own, lines_of, heard_after, answers, doses_of, got_by, onto}
 use Rattle.cct_laws.specs.Faults.{IsFaultSet, FailsByFault, is_dispense, FailsByFaultBut, EchoFailsByFault}
 use Rattle.cct_laws.specs.Ids.{Ids}
-use Rattle.cct_laws.specs.Kept.{WorksAt}
+use Rattle.cct_laws.specs.DeviceJobs.{WorksAt}
 use Rattle.cct_laws.specs.Law.{IsOf, EachEntry, IsAnswered}
 use Rattle.cct_laws.proofs.jobs.Asked.{asked_at, undisturbed_at, undisturbed_accepting}
 use Rattle.cct_laws.proofs.jobs.Brought.{AtDevice, came, took, halted, idled, made_exchange, made_put, row_after, wire_of, wire_end, record_end, poll_wire, poll_end, Brought, of_device, faulted, refused, began_scan, began_sale, nobody, polled, sold, balanced, lost_power, lost_in_put, lost_in_sale, brought}

@@ -16,15 +16,15 @@ use Rattle.cct_model.specs.Exchange.{ask, asked, asks_of}
 use Rattle.cct_model.specs.Line.{Line, exchange, put, taken}
 use Rattle.cct_model.specs.Job.{Job, free, works, job, with_line, epoch}
 use Rattle.cct_model.specs.Rows.{end_of}
-use Rattle.cct_model.specs.Legal.{with_end, keeping_crash}
+use Rattle.cct_model.specs.Legal.{with_end, keeping_restart}
 use Rattle.cct_model.specs.Script.{IsCommand, IsInRange}
 use Rattle.cct_model.specs.Transcript.{pending, meets, met, owner, lines_of, heard_by_devices, heard_after, got_by, doses_of}
 use Rattle.cct_model.specs.Honest.{IsHonestAt, IsHonestFault, HonestPast}
 use Rattle.cct_laws.specs.Ids.{Ids}
-use Rattle.cct_laws.specs.Kept.{WorksAt, suits, with_ended}
+use Rattle.cct_laws.specs.DeviceJobs.{WorksAt, suits, with_ended}
 use Rattle.cct_laws.specs.KeptBoth.{IsKeptBoth}
 use Rattle.cct_laws.specs.Law.{IsOf}
-use Rattle.cct_laws.specs.Since.{since_record, since_epoch}
+use Rattle.cct_laws.specs.SinceEpoch.{since_record, since_epoch}
 use Rattle.cct_laws.proofs.jobs.Asked.{asked_at, fate_at}
 use Rattle.cct_laws.proofs.jobs.Brought.{Comes, takes_coin, leaves_coin, leaves_alien, drops_coin, drops_none, jams, jams_none, is_reset, AtDevice, came, took, halted, idled, made_exchange, made_put, AtWork, Brought, wire_of, wire_end, record_end, begun_at_work}
 use Rattle.cct_model.proofs.Doses.{job_undosed}
@@ -149,7 +149,7 @@ came_kept d P since past lines _ _ _ _ kept range (jams paying test) holds = kep
 came_kept d P since past lines _ _ _ _ kept range (jams_none paying test) holds = kept.jams since past lines paying holds
 came_kept d P since past lines _ _ _ _ kept range is_reset holds = kept.resets since past lines holds
 
--- an entry of its job, and the end behind it
+-- an entry of its job, and the end after it
 honest_first : (addr : ℕ) (e : Entry) (end : Option End) (past : List Entry) →
     HonestPast (with_end addr e end ++ past) →
     IsHonestAt past e
@@ -205,14 +205,14 @@ kept_there capacity setup d P past _ _ sound own ids kept range ranged (made_put
     (kept.puts (since_epoch d past) (met d past) (lines_of d past) c since r (works_at d past c since at_work ranged)
     is_row holds))
 
--- a loss of power
+-- a power cut
 since_kept : (d : DeviceSetup) (past : List Entry) (r : Record) → owner past r ≢ d.addr →
-    since_epoch d (keeping_crash past r ++ past) ≡ since_epoch d past
+    since_epoch d (keeping_restart past r ++ past) ≡ since_epoch d past
 since_kept d past r away = since_elsewhere d past r (since_epoch d past) away
 
 kept_lost : (d : DeviceSetup) (P : Fact) (past news : List Entry) → IsKeptBoth d P → IsRanged d (job (lines_of d past)) →
     Lost d past news → HoldsAt d P past → HoldsAt d P (news ++ past)
-kept_lost d P past _ kept ranged bare holds = kept.crashes (since_epoch d past) (met d past) (lines_of d past) holds
+kept_lost d P past _ kept ranged bare holds = kept.restarts (since_epoch d past) (met d past) (lines_of d past) holds
 kept_lost d P past _ kept ranged (kept_here c since r at_work is_row owned) holds =
     subst (P (since_record d r (since_epoch d past)) (met d past)) (sym (lines_kept d past r owned))
     (kept.keeps (since_epoch d past) (met d past) (lines_of d past) c since r (works_at d past c since at_work ranged)
@@ -220,7 +220,7 @@ kept_lost d P past _ kept ranged (kept_here c since r at_work is_row owned) hold
 kept_lost d P past _ kept ranged (kept_elsewhere r away caused) holds =
     subst₂ (λ since lines. P since (met d past) lines) (sym (since_kept d past r away))
     (sym (lines_kept_elsewhere d past r away))
-    (kept.crashes (since_epoch d past) (met d past) (lines_of d past) holds)
+    (kept.restarts (since_epoch d past) (met d past) (lines_of d past) holds)
 
 pub kept_step : (capacity : ℕ) (setup : Setup) (d : DeviceSetup) (P : Fact) (past news : List Entry) (s : Step) →
     IsSoundSetup setup → IsOf setup d → IsKeptBoth d P → IsInRange s → IsRanged d (job (lines_of d past)) →

@@ -16,7 +16,7 @@ use Rattle.cct_text.specs.Written.{IsListed, IsEnd}
 use Rattle.cct_terms.proofs.OfBytes.{Bytes, IfThere, bytes_more}
 
 -- what holds of an address of a device in the lines of a scan: its polls under the simple check go before any answer, and
--- there is one of them at the most
+-- there is at most one of them
 abbrev pub FreshHead : ℕ → List Line → Type 0
 FreshHead a (scanned Simple addr rest ∷ since) = (addr == a) ≡ true → list_any (answers Simple a) since ≡ false
 FreshHead a since = ⊤

@@ -5,6 +5,7 @@ use Rattle.std.proofs.lemmas.List.Elements.{All-head, All-tail}
 use Rattle.cct_model.specs.terms.device.DeviceSetup.{DeviceSetup}
 use Rattle.cct_model.specs.terms.device.Setup.{Setup}
 use Rattle.cct_model.specs.Exchange.{device_at}
+use Rattle.cct_model.proofs.Addresses.{address_there}
 use Rattle.cct_laws.specs.Law.{IsOf}
 
 pub same_some : {A : Type 0} (x y : A) → Some x ≡ Some y → x ≡ y
@@ -23,12 +24,8 @@ found_in P [] addr d all found = absurd cc
 found_in P (e ∷ devices) addr d all found =
     found_by P addr e d (device_at devices addr) (e.addr == addr) refl (All-head P e devices all) (found_in P devices addr d (All-tail P e devices all)) found
 
-found_at : (devices : List DeviceSetup) (addr : ℕ) (d : DeviceSetup) → device_at devices addr ≡ Some d → d.addr ≡ addr
-found_at [] addr d found = absurd cc
-found_at (e ∷ devices) addr d found = (found_by (λ _. Unit) addr e d (device_at devices addr) (e.addr == addr) refl tt (λ later. (tt, found_at devices addr d later)) found).1
-
 pub address_found : (setup : Setup) (addr : ℕ) (d : DeviceSetup) → device_at setup.devices addr ≡ Some d → d.addr ≡ addr
-address_found setup addr d found = found_at setup.devices addr d found
+address_found setup addr d found = address_there setup.devices addr d found
 
 -- the device that is found is the one at hand, or has another address
 pub same_or_other : (setup : Setup) (d e : DeviceSetup) (addr : ℕ) → IsOf setup d → device_at setup.devices addr ≡ Some e → (e ≡ d) ⊎ (e.addr ≢ d.addr)

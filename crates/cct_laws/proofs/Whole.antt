@@ -18,7 +18,7 @@ use Rattle.cct_laws.specs.Ids.{Ids}
 use Rattle.cct_laws.specs.KeptBoth.{IsKeptBoth}
 use Rattle.cct_laws.specs.KeptHopper.{IsKeptHopper}
 use Rattle.cct_laws.specs.Law.{IsOf, lines_in}
-use Rattle.cct_laws.specs.Since.{since_epoch_in, IsKeptSince, IsKept}
+use Rattle.cct_laws.specs.SinceEpoch.{since_epoch_in, IsKeptSince, IsKept}
 use Rattle.cct_laws.proofs.jobs.Brought.{Brought}
 use Rattle.cct_laws.proofs.Keeping.{Fact, HoldsAt, IsRanged, ranged_step, kept_step}
 use Rattle.cct_laws.proofs.EitherKind.{both_acceptor, both_hopper}

@@ -1,6 +1,5 @@
 -- What the books say: sums, what is held, reserved and needed, room, and the laws of the journal.
 pub mod AllHeld
-pub mod AtWork
 pub mod Balances
 pub mod Books
 pub mod Counting
@@ -11,8 +10,9 @@ pub mod Freed
 pub mod Held
 pub mod Journal
 pub mod Needed
-pub mod Recalling
 pub mod Recorded
+pub mod Replaying
+pub mod Reserved
 pub mod Restarts
 pub mod Room
 pub mod Spending

@@ -3,6 +3,7 @@ pub mod Coins
 pub mod Growing
 pub mod HopperReplies
 pub mod Ids
+pub mod LifeCounts
 pub mod NewIds
 pub mod Opening
 pub mod Orders
@@ -11,5 +12,4 @@ pub mod PaidOut
 pub mod Paying
 pub mod Payments
 pub mod Payouts
-pub mod Unodd
 pub mod Used

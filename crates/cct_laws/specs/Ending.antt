@@ -42,17 +42,17 @@ is_payment (command.Pay addr id count) = true
 is_payment (command.Settle addr) = true
 is_payment c = false
 
--- How many rows the job of a command has at the most, at a device.
+-- How many rows the job of a command has at most, at a device.
 abbrev pub row_count : DeviceSetup → Command → ℕ
 row_count d c = length (rows_of d c)
 
--- How many `next` the job of a command needs at the most, where these steps come: one for each of its rows, and for a
+-- How many `next` the job of a command needs at most, where these steps come: one for each of its rows, and for a
 -- payment one more for each halt.
 abbrev pub nexts_needed : DeviceSetup → Command → List Step → ℕ
 nexts_needed d c steps = if is_payment c then row_count d c + halts_at d.addr steps else row_count d c
 
 -- The ends of a job that got its answers: a start that started, or whose acceptor wasn't quiet; a round or a stop that
--- came to its end, or broke; an order that was closed; an identification and a path that were told; a sale.
+-- came to its end, or broke; an order that was closed. An identification and a path were told, and a sale was made.
 abbrev pub IsEndOf : Command → End → Type 0
 IsEndOf (command.Start addr mask) Started = ⊤
 IsEndOf (command.Start addr mask) (Unquiet counter) = ⊤
@@ -91,22 +91,22 @@ HasNoEnd addr [] = ⊤
 HasNoEnd addr (entry.Ended other end ∷ news) = (other ≢ addr) × HasNoEnd addr news
 HasNoEnd addr (e ∷ news) = HasNoEnd addr news
 
--- Of the entries that went onto a past, each that came while the job that was at an address there was at work, so
--- before the first end at it, has this fact.
-abbrev pub EachAtWork : (List Entry → Entry → Type 0) → ℕ → List Entry → List Entry → Type 0
-EachAtWork P addr past [] = ⊤
-EachAtWork P addr past (e ∷ news) = (HasNoEnd addr news → P (news ++ past) e) × EachAtWork P addr past news
+-- Of the entries that went onto a past, each that came while the job at an address was running has this fact: each
+-- before the first end at that address.
+abbrev pub EachWhileRunning : (List Entry → Entry → Type 0) → ℕ → List Entry → List Entry → Type 0
+EachWhileRunning P addr past [] = ⊤
+EachWhileRunning P addr past (e ∷ news) = (HasNoEnd addr news → P (news ++ past) e) × EachWhileRunning P addr past news
 
--- An entry is no exchange at an address for which a fault was set, and no loss of power.
+-- An entry is no exchange at an address for which a fault was set, and no power cut.
 abbrev pub LeavesAlone : ℕ → List Entry → Entry → Type 0
 LeavesAlone addr past (entry.Wire other sent piece) = other ≡ addr → pending past ≡ Clear
 LeavesAlone addr past (entry.Crash records) = ⊥
 LeavesAlone addr past e = ⊤
 
--- A past goes on to another, and while the job was at work that was at an address, no fault was set for its exchanges,
--- and the host didn't lose its power. Faults for later exchanges, and for those of other addresses, may be set.
+-- A past goes on to another, and while the job at an address was running, no fault was set for its exchanges, and the
+-- power wasn't cut. Faults for later exchanges, and for those of other addresses, may be set.
 abbrev pub IsUndisturbed : ℕ → List Entry → List Entry → Type 0
-IsUndisturbed addr past end = (news : List Entry) → end ≡ news ++ past → EachAtWork (LeavesAlone addr) addr past news
+IsUndisturbed addr past end = (news : List Entry) → end ≡ news ++ past → EachWhileRunning (LeavesAlone addr) addr past news
 
 -- Where an exchange asks a hopper how its payout goes, no coin is left to pay.
 abbrev pub FindsNoneLeft : DeviceSetup → List Entry → Entry → Type 0
@@ -115,5 +115,5 @@ FindsNoneLeft d past (entry.Wire other sent piece) =
 FindsNoneLeft d past e = ⊤
 
 -- A past goes on to another, and whenever the job at a hopper asked how its payout goes, no coin was left to pay.
-abbrev pub IsPaidOut : DeviceSetup → List Entry → List Entry → Type 0
-IsPaidOut d past end = (news : List Entry) → end ≡ news ++ past → EachAtWork (FindsNoneLeft d) d.addr past news
+abbrev pub AlwaysFindsNoneLeft : DeviceSetup → List Entry → List Entry → Type 0
+AlwaysFindsNoneLeft d past end = (news : List Entry) → end ≡ news ++ past → EachWhileRunning (FindsNoneLeft d) d.addr past news

@@ -8,16 +8,16 @@ use Rattle.cct_model.specs.lines.command.WireFault.TheVariants as fault
 use Rattle.cct_model.specs.Message.{message}
 use Rattle.cct_model.specs.Exchange.{ask}
 
--- A piece is no message, under either check.
+-- Bytes are no message, under either check.
 abbrev pub IsNoMessage : List ℕ → Type 0
 IsNoMessage piece = (message Simple piece ≡ None) × (message Crc piece ≡ None)
 
--- A piece is the address poll by which a scan asks all devices, under one of the checks.
+-- Bytes are the address poll by which a scan asks all devices, under one of the checks.
 abbrev pub IsAddressPoll : List ℕ → Type 0
 IsAddressPoll sent = (kind : CheckKind) × (sent ≡ ask kind 0 AddressPoll)
 
--- The piece that the devices hear is no message. Where no address poll is sent, the piece that the host hears is none,
--- nor is what follows the host's own echo in it.
+-- The bytes that the devices hear are no message. Where no address poll is sent, the bytes that the host hears are none,
+-- nor are those after the host's own echo.
 abbrev pub DamagesHonestly : WireFault → List ℕ → Type 0
 DamagesHonestly fault.Clear sent = ⊤
 DamagesHonestly (fault.DevicesHear piece) sent = IsNoMessage piece

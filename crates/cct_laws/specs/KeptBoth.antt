@@ -12,19 +12,19 @@ use Rattle.cct_model.specs.Acceptor.{path_of}
 use Rattle.cct_model.specs.Acceptor as acceptor
 use Rattle.cct_model.specs.Device.{IsAcceptor, IsHopper}
 use Rattle.cct_model.specs.Hopper.{remaining}
-use Rattle.cct_model.specs.Line.{Line, accepted, inhibited, fell, exchange, put, taken, crashed}
+use Rattle.cct_model.specs.Line.{Line, accepted, inhibited, fell, exchange, put, taken, restarted}
 use Rattle.cct_model.specs.Line as line
 use Rattle.cct_model.specs.Order.{order}
 use Rattle.cct_model.specs.Job.{free, job, epoch, sends, puts, address_of}
 use Rattle.cct_model.specs.Rows.{row, end_of, can_halt}
 use Rattle.cct_model.specs.Script.{IsCommand}
 use Rattle.cct_model.specs.Transcript.{doses}
-use Rattle.cct_laws.specs.Kept.{Fate, IsForOthers, suits, with_ended, IsTaken, WorksAt}
+use Rattle.cct_laws.specs.DeviceJobs.{Fate, IsForOthers, suits, with_ended, IsTaken, WorksAt}
 use Rattle.cct_laws.specs.KeptHopper.{IsOwed}
-use Rattle.cct_laws.specs.Since.{since_record}
+use Rattle.cct_laws.specs.SinceEpoch.{since_record}
 
--- A fact of what a device met since its epoch began, of all that it met, and of its lines, each newest first, holds before
--- anything came, and is kept by each thing that can come to it over an honest wire.
+-- A fact of what a device met since its epoch began, of all that it met, and of its lines, each newest first. It holds
+-- before anything came, and is kept by each thing that can come to it over an honest wire.
 pub record IsKeptBoth (d : DeviceSetup) (P : List Met → List Met → List Line → Type 0) : Type 0 where
   pub starts : P [] [] []
   pub accepts : (since past : List Met) (lines : List Line) (place : ℕ) → IsAcceptor d.body → 1 ≤ place →
@@ -56,10 +56,10 @@ pub record IsKeptBoth (d : DeviceSetup) (P : List Met → List Met → List Line
       P since past lines → P (heard asked ∷ since) (heard asked ∷ past)
       (with_ended (end_of d c (exchange (Some q) got) work (epoch lines))
       (exchange (Some q) got ∷ doses d.body d.serial past asked ++ lines))
-  pub crashes : (since past : List Met) (lines : List Line) → P since past lines → P since past (crashed ∷ lines)
+  pub restarts : (since past : List Met) (lines : List Line) → P since past lines → P since past (restarted ∷ lines)
   pub keeps : (since past : List Met) (lines : List Line) (c : Command) (work : List Line) (r : Record) →
       WorksAt d lines c work → row d c work (epoch lines) (order lines) ≡ puts r →
-      P since past lines → P (since_record d r since) past (put r ∷ crashed ∷ lines)
+      P since past lines → P (since_record d r since) past (put r ∷ restarted ∷ lines)
   pub puts : (since past : List Met) (lines : List Line) (c : Command) (work : List Line) (r : Record) →
       WorksAt d lines c work → row d c work (epoch lines) (order lines) ≡ puts r →
       P since past lines → P (since_record d r since) past (with_ended (end_of d c (put r) work (epoch lines))

@@ -10,14 +10,14 @@ use Rattle.cct_model.specs.Reply.{Reply}
 use Rattle.cct_model.specs.History.{Met, fall, jam, reset, heard}
 use Rattle.cct_model.specs.Hopper.{remaining}
 use Rattle.cct_model.specs.Line as line
-use Rattle.cct_model.specs.Line.{Line, fell, exchange, put, taken, crashed}
+use Rattle.cct_model.specs.Line.{Line, fell, exchange, put, taken, restarted}
 use Rattle.cct_model.specs.Order.{order}
 use Rattle.cct_model.specs.Job.{free, job, sends, puts, address_of, epoch}
 use Rattle.cct_model.specs.Rows.{row, end_of, can_halt}
 use Rattle.cct_model.specs.Refusal.{settle_refusal}
 use Rattle.cct_model.specs.Script.{IsCommand}
 use Rattle.cct_model.specs.Transcript.{doses}
-use Rattle.cct_laws.specs.Kept.{Fate, IsForOthers, is_for_hopper, WorksAt, with_ended}
+use Rattle.cct_laws.specs.DeviceJobs.{Fate, IsForOthers, is_for_hopper, WorksAt, with_ended}
 
 -- A command to a hopper is not refused because of its open order.
 abbrev pub IsOwed : Command → Option OpenOrder → Type 0
@@ -41,7 +41,7 @@ pub record IsKeptHopper (d : DeviceSetup) (P : List Met → List Line → Type 0
       IsCommand c → is_for_hopper c ≡ true → IsOwed c (order lines) → P past lines → P past (taken c ∷ lines)
   pub halts : (past : List Met) (lines : List Line) → can_halt d (job lines) ≡ true →
       P past lines → P past (taken (command.Halt d.addr) ∷ lines)
-  pub crashes : (past : List Met) (lines : List Line) → P past lines → P past (crashed ∷ lines)
+  pub restarts : (past : List Met) (lines : List Line) → P past lines → P past (restarted ∷ lines)
   pub asks : (past : List Met) (lines : List Line) (c : Command) (work : List Line) (q : Request)
       (asked : Option Request) (got : Option Reply) →
       WorksAt d lines c work → row d c work (epoch lines) (order lines) ≡ sends q → Fate d past q asked got →
@@ -50,7 +50,7 @@ pub record IsKeptHopper (d : DeviceSetup) (P : List Met → List Line → Type 0
       (exchange (Some q) got ∷ doses d.body d.serial past asked ++ lines))
   pub keeps : (past : List Met) (lines : List Line) (c : Command) (work : List Line) (r : Record) →
       WorksAt d lines c work → row d c work (epoch lines) (order lines) ≡ puts r →
-      P past lines → P past (put r ∷ crashed ∷ lines)
+      P past lines → P past (put r ∷ restarted ∷ lines)
   pub puts : (past : List Met) (lines : List Line) (c : Command) (work : List Line) (r : Record) →
       WorksAt d lines c work → row d c work (epoch lines) (order lines) ≡ puts r →
       P past lines → P past (with_ended (end_of d c (put r) work (epoch lines)) (put r ∷ lines))

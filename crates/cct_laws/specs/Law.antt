@@ -1,4 +1,4 @@
--- What the laws speak of beside the definitions of the machine and of an honest wire.
+-- Words of the laws: a device of a setup and its lines, a fact of each entry, an answered exchange, steps that say bytes.
 use Rattle.std.specs.Prelude.{◌≡◌, ◌<◌, true, List, [], ◌∷◌, ◌++◌, Some, None, ⊤}
 use Rattle.std.specs.List.{All}
 use Rattle.cct_model.specs.terms.device.DeviceSetup.{DeviceSetup}
@@ -49,7 +49,7 @@ IsCommandOfBytes (command.Start addr mask) = (addr < 256) × (mask < 65536)
 IsCommandOfBytes c = address_of c < 256
 
 -- What a step sends or shows in bytes is such: the address of a `next`, the address and the mask of a command, and the
--- piece of a fault.
+-- bytes of a fault.
 abbrev pub HasBytes : Step → Type 0
 HasBytes (step.Next addr) = addr < 256
 HasBytes (step.Command c) = IsCommandOfBytes c
@@ -62,12 +62,12 @@ pub record AreOfToday (steps : List Step) : Type 0 where
   pub bytes : All HasBytes steps
   pub played : All (λ s. is_played s ≡ true) steps
 
--- Devices stand in strictly rising order of address: each has a lower one than all behind it.
+-- Devices stand in strictly rising order of address: each has a lower one than all after it.
 abbrev pub AreRising : List DeviceSetup → Type 0
 AreRising [] = ⊤
 AreRising (d ∷ devices) = All (λ e. d.addr < e.addr) devices × AreRising devices
 
--- A step is no loss of power that names a put, so a disk has no choice in it.
+-- A step is no power cut that names a put, so a disk has no choice in it.
 abbrev pub NamesNoPut : Step → Type 0
 NamesNoPut (step.Crash (Some at) choice) = ⊥
 NamesNoPut s = ⊤

@@ -20,7 +20,7 @@ put_in [] = []
 put_in (put r ∷ past) = r ∷ put_in past
 put_in (line ∷ past) = put_in past
 
--- The host has just lost its power: that is the newest entry, or it is a record that was kept then.
+-- The power was just cut: that is the newest entry, or it is a record that was kept then.
 abbrev pub IsRestart : List Entry → Type 0
 IsRestart (entry.Crash n ∷ past) = ⊤
 IsRestart (entry.Kept r ∷ entry.Crash n ∷ past) = ⊤

@@ -27,8 +27,8 @@ abbrev pub failed_in : Job → ℕ
 failed_in free = 0
 failed_in (works command since) = failed_tries since
 
--- A job ends for want of an answer exactly after its third failed try in succession: that end stands behind three, and
--- any other line behind fewer.
+-- A job ends for want of an answer exactly after its third failed try in succession: that end stands after three, and
+-- any other line after fewer.
 abbrev pub TriesAt : List Line → Line → Type 0
 TriesAt past (ended NoAnswer) = failed_in (job past) ≡ 3
 TriesAt past line = failed_in (job past) < 3

@@ -1,21 +1,23 @@
-//! Laws of all legal transcripts of a setup of several devices of both kinds and under both checks, with losses of power
-//! at every step and after each disk call of a put, over the definitions of `cct_model`: each is a clause of a function
-//! without parameters, whose body is empty.
+//! Laws of all legal transcripts, over the definitions of `cct_model`: each is a clause of a function without parameters,
+//! whose body is empty. They hold of a setup of several devices, of both kinds and under both checks, with power cuts at
+//! every step and after each disk call of a put. `specs/Scope.antt` names the transcripts and the devices that a law is of.
 //!
 //! Each goes by cases on what one step brought (`Brought` of `proofs/jobs/Brought.antt`, to which `brought` leads from
 //! the definition of legal), or on how that is seen from one device (`seen_from` of `proofs/jobs/Seen.antt`); `along`
 //! there carries a fact over all steps.
 //!
-//! A crate above cites the lemmas behind them, each of which is named in its function's `Answers.antt`; and beside them
-//! `kept_legal`, `kept_since_legal` and `kept_hopper_legal` of `proofs/Whole.antt`, by which any fact of a device holds
-//! that each thing that can come keeps; `along` of `proofs/jobs/Seen.antt`, by which one of all entries does;
-//! `setup_sound`, `steps_of_today` and `front_of_today` of `proofs/text/Scripts.antt`, and there `played_in_order`,
-//! `played_covers`, `played_paid` and `played_fresh`, which say four laws of the front of a script; and `legal_written`
-//! of `proofs/text/Texts.antt`. For a host that starts again over its records there are `proofs/money/Recalling.antt`,
-//! which says what each record more tells, and `proofs/money/Restarts.antt`, which says what entries a loss of power
-//! leaves. `books_legal` of `proofs/money/Books.antt` says of every legal past that ids are in order and the books are
-//! kept; and `kept_due_allowed` of `proofs/money/Journal.antt` and `kept_crash_suits` of `proofs/money/Restarts.antt`,
-//! that a ledger then takes what a job is about to put, and that a loss of power is survived.
+//! A crate above cites the lemmas of these laws, each of which is named in its function's `Answers.antt`. Beside them it
+//! cites:
+//!
+//! - `kept_legal`, `kept_since_legal` and `kept_hopper_legal` of `proofs/Whole.antt`, by which any fact of a device holds
+//!   that each thing that can come keeps; `along` of `proofs/jobs/Seen.antt`, by which one of all entries does;
+//! - `setup_sound`, `steps_of_today` and `front_of_today` of `proofs/text/Scripts.antt`, and there `legal_right` and
+//!   `played_right`, which say four laws at once; `legal_written` of `proofs/text/Texts.antt`;
+//! - for a host that restarts over its records `proofs/money/Replaying.antt`, which says what each record more tells, and
+//!   `proofs/money/Restarts.antt`, which says what entries a power cut leaves;
+//! - `books_legal` of `proofs/money/Books.antt`: of every legal past, ids are in order and the books are kept;
+//! - `kept_due_allowed` of `proofs/money/Journal.antt` and `kept_restart_suits` of `proofs/money/Restarts.antt`: a ledger then
+//!   takes what a job is about to put, and a power cut is survived.
 #![tactic(auto)]
 
 ghost use Rattle.std.specs.Prelude.{ℕ, ◌≡◌, ◌<◌, ◌≤◌, ◌⊎◌, false, List, [], ◌++◌, None, true, Option, Some, ◌≢◌, ◌+◌, ◌-◌, length};
@@ -38,14 +40,14 @@ ghost use Rattle.cct_model.specs.lines.entry.Entry.{Entry};
 ghost use Rattle.cct_model.specs.terms.wire.TheConstants.{BROADCAST};
 ghost use Rattle.cct_model.specs.Acceptor.{accepts, events, credits_of};
 ghost use Rattle.cct_model.specs.Claims.{AllPast, InOrder, Covers, Pace};
-ghost use Rattle.cct_model.specs.Device.{IsAcceptor, IsHopper};
+ghost use Rattle.cct_model.specs.Device.{IsAcceptor};
 ghost use Rattle.cct_model.specs.Exchange.{ask, by_address};
 ghost use Rattle.cct_model.specs.Job.{works, job, epoch, sends, puts, Payment};
 ghost use Rattle.cct_model.specs.Rows.{row, row_at};
-ghost use Rattle.cct_model.specs.Legal.{EntriesOfCrash, Legal, LegalFrom, due_at};
+ghost use Rattle.cct_model.specs.Legal.{EntriesOfRestart, Legal, LegalFrom, due_at};
 ghost use Rattle.cct_model.specs.Line.{Line};
 ghost use Rattle.cct_model.specs.Reading.{coins_among};
-ghost use Rattle.cct_model.specs.Script.{IsCommand, IsInRange, script};
+ghost use Rattle.cct_model.specs.Script.{IsInRange, script};
 ghost use Rattle.cct_model.specs.Setup.{IsSoundSetup};
 ghost use Rattle.cct_model.specs.Text.{text};
 ghost use Rattle.cct_model.specs.Transcript.{pending, met, lines_of, scan_lines, onto};
@@ -60,54 +62,55 @@ ghost use Rattle.cct_model.specs.Refusal.{held, last_id, refusal};
 ghost use Rattle.cct_model.specs.Following.{all_follow, follows, is_allowed};
 ghost use Rattle.cct_model.specs.Paid.{Paid, OfOrder, AreFresh, dispenses, fallen};
 ghost use Rattle.cct_laws.specs.Honesty.{DamagesHonestly};
-ghost use Rattle.cct_laws.specs.Kept.{IsRefused, suits};
+ghost use Rattle.cct_laws.specs.DeviceJobs.{IsRefused};
 ghost use Rattle.cct_laws.specs.Balanced.{IsBalanced, IsConserved};
 ghost use Rattle.cct_laws.specs.Coins.{all_fallen, all_paid};
-ghost use Rattle.cct_laws.specs.Odd.{FitsLife};
+ghost use Rattle.cct_laws.specs.LifeCounts.{FitsLife};
 ghost use Rattle.cct_laws.specs.PaidOut.{is_paid_out};
 ghost use Rattle.cct_laws.specs.Recorded.{HasNoJob, IsRestart, open_orders, totals_in};
-ghost use Rattle.cct_laws.specs.Ending.{nexts_at, EndsRound, IsUndisturbed, nexts_needed, is_payment, EndsAs, IsPaidOut};
+ghost use Rattle.cct_laws.specs.Ending.{nexts_at, EndsRound, IsUndisturbed, nexts_needed, is_payment, EndsAs, AlwaysFindsNoneLeft};
 ghost use Rattle.cct_laws.specs.Faults.{FailsByFault, EchoFailsByFault, EndsByFaults, is_dispense, FailsByFaultBut};
 ghost use Rattle.cct_model.specs.Honest.{Honest, IsHonestFault};
 ghost use Rattle.cct_laws.specs.Law.{AreOfToday, AreRising, Begins, EachEntry, HasBytes, IsAnswered, IsOf, IsUnanswered, NamesNoPut, lines_in};
-ghost use Rattle.cct_laws.specs.Since.{since_epoch_in, mask_set_in, IsMaskedBy, MayBreak, HaveCauses};
+ghost use Rattle.cct_laws.specs.Right.{IsRight};
+ghost use Rattle.cct_laws.specs.Scope.{EachAcceptor, EachHopper, EachTranscript, IsCommandFor};
+ghost use Rattle.cct_laws.specs.SinceEpoch.{since_epoch_in, mask_set_in, IsMaskedBy, MayBreak, HaveCauses};
 ghost use Rattle.cct_laws.specs.Tries.{TriesAt, ScanTriesAt, HasFewTries, failed_in};
 
-/// Where no fault is set for the next exchange, a job at a device of a sound setup, begun by a command that suits the
-/// device's kind, gets an answer to each request that it sends: the device replies, and the host gets just that reply,
-/// in the form that the request wants. One request alone may be refused in the place of it: a dispense that the hopper
-/// doesn't take; the host then gets nothing. An acceptor refuses nothing. The other devices of the setup may be of any
-/// kind, and of either check. Nothing is said of the devices that a scan polls.
+/// Where no fault is set for the next exchange, a job at a device of a sound setup gets an answer to each request that it
+/// sends, where its command suits the device. The device replies, and the host gets just that reply, in the form that
+/// the request wants. Only a dispense that the hopper doesn't take may be refused; the host then gets nothing. An
+/// acceptor refuses nothing. The other devices of the setup may be of any kind, and of either check. Nothing is said of
+/// the devices that a scan polls.
 pub fn an_undisturbed_exchange_is_answered()
     ensures { (setup : Setup) (past : List Entry) (d : DeviceSetup) (command : Command) (rows : ℕ) (judged : Judged)
         (payment : Payment) (q : Request)
-        → IsSoundSetup setup → IsOf setup d → suits d.body command ≡ true → IsCommand command
-        → pending past ≡ Clear → row_at d command rows judged payment ≡ sends q
+        → IsCommandFor setup d command → pending past ≡ Clear → row_at d command rows judged payment ≡ sends q
         → IsAnswered setup d past q ⊎ (IsRefused d (met d past) q × IsUnanswered setup d past q) }
 {}
 
-/// The test of an honest fault says exactly what honest damage is: the piece that the devices hear is no message; and
-/// where no address poll is sent, the piece that the host hears is none, nor is what follows the host's own echo in it.
+/// The test of an honest fault says exactly what honest damage is. The bytes that the devices hear are no message. Where
+/// no address poll is sent, the bytes that the host hears are none, nor are those after the host's own echo.
 pub fn an_honest_fault_does_honest_damage()
     ensures means { (f : WireFault) (sent : List ℕ) → IsHonestFault f sent → DamagesHonestly f sent }
     ensures tested { (f : WireFault) (sent : List ℕ) → DamagesHonestly f sent → IsHonestFault f sent }
 {}
 
 /// Where an honest fault is set for the next exchange, such a job gets the device's own reply to what it asks, or
-/// nothing: damage never makes another reply of it. An honest fault is one whose piece fails its check. A dispense that
-/// the hopper refuses gets nothing.
+/// nothing: damage never makes another reply of it. A fault is honest if its bytes fail their check. A dispense that the
+/// hopper refuses gets nothing.
 pub fn an_honest_exchange_gets_the_reply_or_nothing()
     ensures { (setup : Setup) (past : List Entry) (d : DeviceSetup) (command : Command) (rows : ℕ) (judged : Judged)
         (payment : Payment) (q : Request)
-        → IsSoundSetup setup → IsOf setup d → suits d.body command ≡ true → IsCommand command
-        → IsHonestFault (pending past) (ask d.kind d.addr q) → row_at d command rows judged payment ≡ sends q
+        → IsCommandFor setup d command → IsHonestFault (pending past) (ask d.kind d.addr q)
+        → row_at d command rows judged payment ≡ sends q
         → IsUnanswered setup d past q ⊎ IsAnswered setup d past q }
 {}
 
-/// A round that was just taken at an acceptor ends within three `next` at its address where no fault is set for one of
-/// its own exchanges, and the host doesn't lose its power before: nothing came, a reading is put, or a break. Its past
-/// is legal. Whatever else comes between them doesn't hinder it: coins, resets, commands, the jobs of other devices,
-/// and faults set for the exchanges of those, or of later jobs. It doesn't say what the round posts.
+/// A round that was just taken at an acceptor ends within three `next` at its address, where no fault is set for one of
+/// its own exchanges and the power isn't cut before. Nothing came, a reading is put, or a break. Its past is legal.
+/// Whatever else comes between them doesn't hinder it: coins, resets, commands, the jobs of other devices, and faults
+/// set for the exchanges of those, or of later jobs. It doesn't say what the round posts.
 pub fn a_round_without_a_fault_ends()
     ensures { (capacity : ℕ) (setup : Setup) (before : List Step) (past : List Entry) (d : DeviceSetup)
         (steps : List Step) (end : List Entry)
@@ -118,49 +121,43 @@ pub fn a_round_without_a_fault_ends()
 {}
 
 /// Every job at a device that was just taken ends in the same way, within as many `next` at its address as it has rows,
-/// and for a payment one more for each halt: a start within 4, a stop within 5, a payment within 7, a settlement within
-/// 3, an identification within one for each of its questions, the setting of a path within 2. A payment and a
+/// and for a payment one more for each halt. A start ends within 4, a stop within 5, a payment within 7, a settlement
+/// within 3, an identification within one for each of its questions, the setting of a path within 2. A payment and a
 /// settlement do so where no coin is left to pay whenever the hopper is asked how its payout goes. The end is one of a
 /// job that got its answers, never one for want of an answer. It doesn't say which coins were paid, nor that coins
 /// fall.
 pub fn a_job_without_a_fault_ends()
     ensures { (capacity : ℕ) (setup : Setup) (before : List Step) (past : List Entry) (d : DeviceSetup)
         (command : Command) (steps : List Step) (end : List Entry)
-        → IsSoundSetup setup → IsOf setup d → IsCommand command → suits d.body command ≡ true
-        → LegalFrom capacity setup [] before past → job (lines_of d past) ≡ works command []
-        → nexts_needed d command steps ≤ nexts_at d.addr steps → LegalFrom capacity setup past steps end
-        → IsUndisturbed d.addr past end → (is_payment command ≡ true → IsPaidOut d past end)
+        → IsCommandFor setup d command → LegalFrom capacity setup [] before past
+        → job (lines_of d past) ≡ works command [] → nexts_needed d command steps ≤ nexts_at d.addr steps
+        → LegalFrom capacity setup past steps end → IsUndisturbed d.addr past end
+        → (is_payment command ≡ true → AlwaysFindsNoneLeft d past end)
         → EndsAs command d.addr past end }
 {}
 
-/// Posts are accepted coins in their order, none twice: in every legal transcript over an honest wire, for every
-/// acceptor of the setup, each record's posts are the newest coins of its part, which begins where the part of the
-/// record or the clean end before it ended. It holds whatever is asked besides, however exchanges fail, and whenever a
-/// device is reset. It doesn't say that a coin is ever posted: that takes a round that ends.
+/// Posts are accepted coins in their order, none twice, for every acceptor of the setup, in every legal transcript over
+/// an honest wire. Each record's posts are the newest coins of its part, which begins where the part of the record or
+/// the clean end before it ended. It holds whatever is asked besides, however exchanges fail, and whenever a device is
+/// reset. It doesn't say that a coin is ever posted: that takes a round that ends.
 pub fn posts_in_order()
-    ensures { (capacity : ℕ) (setup : Setup) (steps : List Step) (transcript : List Entry) (d : DeviceSetup)
-        → IsSoundSetup setup → IsOf setup d → IsAcceptor d.body → All IsInRange steps
-        → Legal capacity setup steps transcript → Honest transcript
-        → InOrder (lines_in d transcript) }
+    ensures { EachAcceptor (λ d transcript. InOrder (lines_in d transcript)) }
 {}
 
-/// No coin that came before a completed reading is lost in silence in such a transcript, where fewer than 255 pieces,
-/// coins or not, come between the reading of each record that begins an epoch or is a reading, and that of each record
-/// or clean end up to the next record: a reading reports as lost at least the coins of its part that it doesn't post,
-/// and a clean end and the end of an epoch have no coin in theirs. It doesn't say which coins were lost, nor that as
-/// many coins were lost as are reported; and behind a break it says nothing of the coins of the part that it doesn't
-/// post.
+/// No coin that came before a completed reading is lost in silence in such a transcript. A reading reports as lost at
+/// least the coins of its part that it doesn't post, and a clean end and the end of an epoch have no coin in theirs. The
+/// premise is the pace: fewer than 255 objects, coins or not, come between the reading of each record that begins an
+/// epoch or is a reading, and that of each record or clean end up to the next record. It doesn't say which coins were
+/// lost, nor that as many coins were lost as are reported. After a break it says nothing of the coins of the part that
+/// it doesn't post.
 pub fn none_lost_in_silence()
-    ensures { (capacity : ℕ) (setup : Setup) (steps : List Step) (transcript : List Entry) (d : DeviceSetup)
-        → IsSoundSetup setup → IsOf setup d → IsAcceptor d.body → All IsInRange steps
-        → Legal capacity setup steps transcript → Honest transcript
-        → Pace (lines_in d transcript) → Covers (lines_in d transcript) }
+    ensures { EachAcceptor (λ d transcript. Pace (lines_in d transcript) → Covers (lines_in d transcript)) }
 {}
 
-/// A job at a device ends for want of an answer exactly after the third failed try in succession of one of its rows: in
-/// every legal transcript that end stands behind three failed tries, any other line of the address behind fewer, and a
-/// job that goes on has fewer than three. The row that stops a payout behind a halt counts its own tries. It holds
-/// whatever the wire does, at devices of either kind, and over losses of power, which free every job.
+/// A job at a device ends for want of an answer exactly after the third failed try in succession of one of its rows. In
+/// every legal transcript that end stands after three failed tries, and any other line of the address after fewer; a
+/// job that goes on has fewer than three. The row that stops a payout after a halt counts its own tries. It holds
+/// whatever the wire does, at devices of either kind, and over power cuts, which free every job.
 pub fn third_failed_try_ends_a_job()
     ensures exact { (capacity : ℕ) (setup : Setup) (steps : List Step) (transcript : List Entry)
         (d : DeviceSetup)
@@ -173,8 +170,8 @@ pub fn third_failed_try_ends_a_job()
 {}
 
 /// A scan, which is a job at no device, ends for want of an answer exactly after the third failed try in succession of
-/// an address poll under one of the checks; a try of it fails where the host's own echo is damaged. Any other line of
-/// address 0, a loss of power too, stands behind fewer.
+/// an address poll under one of the checks. A try of it fails where the host's own echo is damaged. Any other line of
+/// address 0, a power cut too, stands after fewer.
 pub fn third_failed_try_ends_a_scan()
     ensures exact { (capacity : ℕ) (setup : Setup) (steps : List Step) (transcript : List Entry)
         → IsSoundSetup setup → Legal capacity setup steps transcript
@@ -184,9 +181,9 @@ pub fn third_failed_try_ends_a_scan()
         → HasFewTries (job (scan_lines (onto [] transcript))) }
 {}
 
-/// An exchange that fails had a fault: where an acceptor's job didn't get the wanted reply, where a job at a device of
-/// either kind didn't get it to anything but a dispense, which a hopper may refuse, and where the host didn't hear its
-/// own echo, a fault was set for that exchange. Nothing is asked of the wire, nor of the damage that the fault does.
+/// An exchange that fails had a fault, which was set for it. It fails where an acceptor's job didn't get the wanted
+/// reply; where a job at a device of either kind didn't get it to anything but a dispense, which a hopper may refuse;
+/// and where the host didn't hear its own echo. Nothing is asked of the wire, nor of the damage that the fault does.
 pub fn a_failed_exchange_had_a_fault()
     ensures replies { (capacity : ℕ) (setup : Setup) (steps : List Step) (transcript : List Entry)
         (d : DeviceSetup)
@@ -200,7 +197,7 @@ pub fn a_failed_exchange_had_a_fault()
         → Legal capacity setup steps transcript → EachEntry EchoFailsByFault (onto [] transcript) }
 {}
 
-/// A job ends for want of an answer only by faults: where a job at a device of either kind or a scan ends so, a fault
+/// A job ends for want of an answer only by faults. Where a job at a device of either kind or a scan ends so, a fault
 /// was set for each of the last three exchanges that it made. So no job ends so whose exchanges have no fault. It
 /// doesn't say that three faults end a job.
 pub fn a_job_given_up_had_three_faults()
@@ -213,8 +210,8 @@ pub fn a_job_given_up_had_three_faults()
 {}
 
 /// Whatever bytes a script has, its setup is sound, and its steps and every front of them are in range, say bytes and are
-/// played: the laws above hold of them, also where a line of the script is refused. The devices of the setup may be of
-/// either kind.
+/// played. So the laws above hold of them, also where a line of the script is refused. The devices of the setup may be
+/// of either kind.
 pub fn scripts_are_in_range()
     ensures setup { (bytes : List ℕ) → IsSoundSetup (script bytes).setup }
     ensures steps { (bytes : List ℕ) → AreOfToday (script bytes).steps }
@@ -222,27 +219,14 @@ pub fn scripts_are_in_range()
         → AreOfToday played }
 {}
 
-/// A script that was played up to any of its steps, over an honest wire, posts in order at each device of its setup,
-/// where a hopper posts nothing; at each device that keeps the pace it loses no coin in silence; and at each hopper it
-/// pays each order at most once, and closes it with exactly the coins that fell. Whatever the wire does, no id stands in
-/// two of its records.
+/// The money of a script that was played up to any of its steps is right. Over an honest wire each device of its setup
+/// posts in order, where a hopper posts nothing; each that keeps the pace loses no coin in silence; and each hopper pays
+/// each order at most once, and closes it with exactly the coins that fell. Whatever the wire does, no id stands in two
+/// of its records.
 pub fn played_scripts_keep_the_laws()
-    ensures in_order { (capacity : ℕ) (bytes : List ℕ) (played rest : List Step) (transcript : List Entry)
-        (d : DeviceSetup)
+    ensures { (capacity : ℕ) (bytes : List ℕ) (played rest : List Step) (transcript : List Entry)
         → (script bytes).steps ≡ played ++ rest → Legal capacity (script bytes).setup played transcript
-        → Honest transcript → IsOf (script bytes).setup d → InOrder (lines_in d transcript) }
-    ensures covers { (capacity : ℕ) (bytes : List ℕ) (played rest : List Step) (transcript : List Entry)
-        (d : DeviceSetup)
-        → (script bytes).steps ≡ played ++ rest → Legal capacity (script bytes).setup played transcript
-        → Honest transcript → IsOf (script bytes).setup d
-        → Pace (lines_in d transcript) → Covers (lines_in d transcript) }
-    ensures paid { (capacity : ℕ) (bytes : List ℕ) (played rest : List Step) (transcript : List Entry)
-        (d : DeviceSetup)
-        → (script bytes).steps ≡ played ++ rest → Legal capacity (script bytes).setup played transcript
-        → Honest transcript → IsOf (script bytes).setup d → IsHopper d.body → Paid (lines_in d transcript) }
-    ensures fresh { (capacity : ℕ) (bytes : List ℕ) (played rest : List Step) (transcript : List Entry)
-        → (script bytes).steps ≡ played ++ rest → Legal capacity (script bytes).setup played transcript
-        → AreFresh (records (onto [] transcript)) }
+        → IsRight (script bytes).setup transcript }
 {}
 
 /// By address, in which order a bus has its devices answer, the devices of a setup are the same devices, each as often as
@@ -252,10 +236,10 @@ pub fn by_address_devices_are_the_same_rising()
     ensures rising { (setup : Setup) → IsSoundSetup setup → AreRising (by_address setup.devices) }
 {}
 
-/// Steps tell their legal transcript, as long as none of them is a loss of power that names a put: where one list of
-/// steps continues another, the legal transcript of the shorter begins that of the longer; and of the transcripts of two
+/// Steps tell their legal transcript, as long as none of them is a power cut that names a put. If one list of steps
+/// continues another, the legal transcript of the shorter begins that of the longer; and of the transcripts of two
 /// fronts of one list one begins the other. Both are over the same setup and a journal of the same capacity. It says
-/// nothing of a loss of power that names a put: there the disk may keep the record or not.
+/// nothing of a power cut that names a put: there the disk may keep the record or not.
 pub fn steps_tell_their_transcript()
     ensures longer { (capacity : ℕ) (setup : Setup) (played rest : List Step) (shorter longer : List Entry)
         → All NamesNoPut played → Legal capacity setup played shorter → Legal capacity setup (played ++ rest) longer
@@ -288,82 +272,62 @@ pub fn a_text_tells_its_transcript()
 /// holds in every legal transcript over an honest wire, whenever the acceptor is reset, and wherever a start, a round
 /// or a stop ended for want of an answer.
 pub fn no_coin_is_accepted_without_an_epoch()
-    ensures { (capacity : ℕ) (setup : Setup) (steps : List Step) (transcript : List Entry) (d : DeviceSetup)
-        → IsSoundSetup setup → IsOf setup d → IsAcceptor d.body → All IsInRange steps
-        → Legal capacity setup steps transcript → Honest transcript → epoch (lines_in d transcript) ≡ Idle
-        → (place : ℕ) → accepts (met d (onto [] transcript)) place ≡ false }
+    ensures { EachAcceptor (λ d transcript. epoch (lines_in d transcript) ≡ Idle → (place : ℕ)
+        → accepts (met d (onto [] transcript)) place ≡ false) }
 {}
 
 /// While an epoch with a mask runs at an acceptor, its inhibit mask is that one or 0. It is the epoch's mask just where
 /// the acceptor heard the epoch's own header 231 since the Epoch record, and was not reset after that. It doesn't say
 /// that a start whose 231 was sent is answered.
 pub fn a_running_epoch_sets_its_mask_or_none()
-    ensures { (capacity : ℕ) (setup : Setup) (steps : List Step) (transcript : List Entry)
-        (d : DeviceSetup) (mask counter : ℕ)
-        → IsSoundSetup setup → IsOf setup d → IsAcceptor d.body → All IsInRange steps
-        → Legal capacity setup steps transcript → Honest transcript
-        → epoch (lines_in d transcript) ≡ Running mask counter
-        → IsMaskedBy mask (since_epoch_in d transcript) (met d (onto [] transcript)) }
+    ensures { EachAcceptor (λ d transcript. (mask counter : ℕ) → epoch (lines_in d transcript) ≡ Running mask counter
+        → IsMaskedBy mask (since_epoch_in d transcript) (met d (onto [] transcript))) }
 {}
 
 /// While an epoch runs at an acceptor that didn't hear the epoch's header 231 since the Epoch record, or was reset
-/// after that, none of its events since its last reset is a credit, and so no pair of its credit buffer is one.
+/// after that, none of its events since its last reset is a credit. So no pair of its credit buffer is one.
 pub fn after_a_reset_no_event_is_a_credit()
-    ensures events { (capacity : ℕ) (setup : Setup) (steps : List Step) (transcript : List Entry)
-        (d : DeviceSetup) (mask counter : ℕ)
-        → IsSoundSetup setup → IsOf setup d → IsAcceptor d.body → All IsInRange steps
-        → Legal capacity setup steps transcript → Honest transcript
-        → epoch (lines_in d transcript) ≡ Running mask counter
-        → mask_set_in (since_epoch_in d transcript) ≡ None
-        → coins_among (events (met d (onto [] transcript))) ≡ [] }
-    ensures pairs { (capacity : ℕ) (setup : Setup) (steps : List Step) (transcript : List Entry)
-        (d : DeviceSetup) (mask counter : ℕ)
-        → IsSoundSetup setup → IsOf setup d → IsAcceptor d.body → All IsInRange steps
-        → Legal capacity setup steps transcript → Honest transcript
-        → epoch (lines_in d transcript) ≡ Running mask counter
-        → mask_set_in (since_epoch_in d transcript) ≡ None
-        → coins_among (credits_of (met d (onto [] transcript))).pairs ≡ [] }
+    ensures events { EachAcceptor (λ d transcript. (mask counter : ℕ)
+        → epoch (lines_in d transcript) ≡ Running mask counter → mask_set_in (since_epoch_in d transcript) ≡ None
+        → coins_among (events (met d (onto [] transcript))) ≡ []) }
+    ensures pairs { EachAcceptor (λ d transcript. (mask counter : ℕ)
+        → epoch (lines_in d transcript) ≡ Running mask counter → mask_set_in (since_epoch_in d transcript) ≡ None
+        → coins_among (credits_of (met d (onto [] transcript))).pairs ≡ []) }
 {}
 
-/// An epoch breaks only with a cause: a job at an acceptor has a Broken record to put only where, since the Epoch
-/// record, the acceptor was reset, or heard no header 231; and the same holds of each Broken record in the transcript,
-/// at the moment when it was put. It doesn't say that such an epoch breaks: that takes a round or a stop that reads the
+/// An epoch breaks only with a cause. A job at an acceptor has a Broken record to put only where, since the Epoch
+/// record, the acceptor was reset, or heard no header 231. The same holds of each Broken record in the transcript, at
+/// the moment when it was put. It doesn't say that such an epoch breaks: that takes a round or a stop that reads the
 /// mask.
 pub fn a_break_has_its_cause()
-    ensures waiting { (capacity : ℕ) (setup : Setup) (steps : List Step) (transcript : List Entry)
-        (d : DeviceSetup)
-        (command : Command) (since : List Line) (addr seen counter : ℕ) (posted : List Coin)
-        → IsSoundSetup setup → IsOf setup d → IsAcceptor d.body → All IsInRange steps
-        → Legal capacity setup steps transcript → Honest transcript → job (lines_in d transcript) ≡ works command since
+    ensures waiting { EachAcceptor (λ d transcript. (command : Command) (since : List Line) (addr seen counter : ℕ)
+        (posted : List Coin)
+        → job (lines_in d transcript) ≡ works command since
         → row d command since (epoch (lines_in d transcript)) (order (lines_in d transcript))
         ≡ puts (Broken addr seen counter posted)
-        → MayBreak (since_epoch_in d transcript) }
-    ensures put { (capacity : ℕ) (setup : Setup) (steps : List Step) (transcript : List Entry) (d : DeviceSetup)
-        → IsSoundSetup setup → IsOf setup d → IsAcceptor d.body → All IsInRange steps
-        → Legal capacity setup steps transcript → Honest transcript → HaveCauses d (onto [] transcript) }
+        → MayBreak (since_epoch_in d transcript)) }
+    ensures put { EachAcceptor (λ d transcript. HaveCauses d (onto [] transcript)) }
 {}
 
-/// Each order is paid at most once, and closed with exactly the coins that fell: in every legal transcript over an
-/// honest wire, for every hopper of the setup, a dispense is taken only where an order is open that none was taken for,
-/// for just its coins; a coin falls only for an open order, no more of them than it has; and a closed order's record
-/// says how many fell and how many of its count did not. Whatever replies are lost, and whenever the hopper jams, is
-/// halted or is reset, or the host loses its power. It doesn't say that an order is ever completed, or closed.
+/// Each order is paid at most once, and closed with exactly the coins that fell, for every hopper of the setup, in every
+/// legal transcript over an honest wire. A dispense is taken only where an order is open that none was taken for, and
+/// for just its coins. A coin falls only for an open order, no more of them than it has. A closed order's record says
+/// how many fell and how many of its count did not. Whatever replies are lost, and whenever the hopper jams, is halted
+/// or is reset, or the power is cut. It doesn't say that an order is ever completed, or closed.
 pub fn each_order_is_paid_once()
-    ensures { (capacity : ℕ) (setup : Setup) (steps : List Step) (transcript : List Entry) (d : DeviceSetup)
-        → IsSoundSetup setup → IsOf setup d → IsHopper d.body → All IsInRange steps
-        → Legal capacity setup steps transcript → Honest transcript → Paid (lines_in d transcript) }
+    ensures { EachHopper (λ d transcript. Paid (lines_in d transcript)) }
 {}
 
 /// All coins that ever fell out of a hopper are those that the records of its closed orders say were paid, and those
-/// that fell for the order that is open; so where none is open, they are what was recorded. It follows from
+/// that fell for the order that is open. So where none is open, they are what was recorded. It follows from
 /// `each_order_is_paid_once` alone.
 pub fn coins_that_fell_are_those_paid()
     ensures all { (lines : List Line) → Paid lines → all_fallen lines ≡ all_paid lines + fallen lines }
     ensures closed { (lines : List Line) → Paid lines → order lines ≡ None → all_fallen lines ≡ all_paid lines }
 {}
 
-/// No id is used twice: in every legal transcript, whatever the wire does and whenever the host loses its power, no two
-/// records that open an order or sell have the same id. An id that was never recorded may be used again.
+/// No id is used twice: in every legal transcript, whatever the wire does and whenever the power is cut, no two records
+/// that open an order or sell have the same id. An id that was never recorded may be used again.
 pub fn no_id_is_used_twice()
     ensures { (capacity : ℕ) (setup : Setup) (steps : List Step) (transcript : List Entry)
         → IsSoundSetup setup → Legal capacity setup steps transcript → AreFresh (records (onto [] transcript)) }
@@ -371,57 +335,51 @@ pub fn no_id_is_used_twice()
 
 /// A hopper without an open order has nothing left to pay: no coin falls out of it. It holds over an honest wire.
 pub fn an_unowed_hopper_has_nothing_to_pay()
-    ensures { (capacity : ℕ) (setup : Setup) (steps : List Step) (transcript : List Entry) (d : DeviceSetup)
-        → IsSoundSetup setup → IsOf setup d → IsHopper d.body → All IsInRange steps
-        → Legal capacity setup steps transcript → Honest transcript
-        → order (lines_in d transcript) ≡ None → remaining d.serial (met d (onto [] transcript)) ≡ 0 }
+    ensures { EachHopper (λ d transcript. order (lines_in d transcript) ≡ None
+        → remaining d.serial (met d (onto [] transcript)) ≡ 0) }
 {}
 
-/// A hopper that has shown that nothing is left to pay has nothing left to pay until the next order is opened: where an
-/// answered header 166 had no coin remaining and no order was opened since, no coin falls out of the hopper. It holds
-/// in every legal transcript over an honest wire, between jobs too: behind a payment or a settlement that ended for
-/// want of an answer, behind one that closed its order, and over losses of power. It doesn't say that a hopper ever
+/// A hopper that has shown that nothing is left to pay has nothing left to pay until the next order is opened. It has
+/// shown it by an answered header 166 with no coin remaining; while no order is opened after that, no coin falls out of
+/// it. It holds in every legal transcript over an honest wire, between jobs too: after a payment or a settlement that
+/// ended for want of an answer, after one that closed its order, and over power cuts. It doesn't say that a hopper ever
 /// shows it.
 pub fn a_hopper_shown_paid_out_stays_so()
-    ensures { (capacity : ℕ) (setup : Setup) (steps : List Step) (transcript : List Entry) (d : DeviceSetup)
-        → IsSoundSetup setup → IsOf setup d → IsHopper d.body → All IsInRange steps
-        → Legal capacity setup steps transcript → Honest transcript
-        → is_paid_out (lines_in d transcript) ≡ true → remaining d.serial (met d (onto [] transcript)) ≡ 0 }
+    ensures { EachHopper (λ d transcript. is_paid_out (lines_in d transcript) ≡ true
+        → remaining d.serial (met d (onto [] transcript)) ≡ 0) }
 {}
 
 /// A job sends a dispense only to its own hopper, and only where an order of just its coins is open that no dispense
 /// was taken for. It holds over an honest wire. It doesn't say that the hopper takes it.
 pub fn a_dispense_is_for_a_fresh_order()
-    ensures { (capacity : ℕ) (setup : Setup) (steps : List Step) (transcript : List Entry) (d : DeviceSetup)
-        (command : Command) (since : List Line) (serial count : ℕ)
-        → IsSoundSetup setup → IsOf setup d → IsHopper d.body → All IsInRange steps
-        → Legal capacity setup steps transcript → Honest transcript → job (lines_in d transcript) ≡ works command since
+    ensures { EachHopper (λ d transcript. (command : Command) (since : List Line) (serial count : ℕ)
+        → job (lines_in d transcript) ≡ works command since
         → row d command since (epoch (lines_in d transcript)) (order (lines_in d transcript))
         ≡ sends (Dispense serial count)
         → (serial ≡ d.serial)
-        × OfOrder (order (lines_in d transcript)) (λ o. (dispenses (lines_in d transcript) ≡ 0) × (count ≡ o.count)) }
+        × OfOrder (order (lines_in d transcript)) (λ o. (dispenses (lines_in d transcript) ≡ 0) × (count ≡ o.count))) }
 {}
 
 /// The life counts of a hopper always fit its order: over an honest wire no record says that they don't, and no job
 /// ends so, in every legal transcript.
 pub fn life_counts_fit_each_order()
-    ensures { (capacity : ℕ) (setup : Setup) (steps : List Step) (transcript : List Entry)
-        → IsSoundSetup setup → All IsInRange steps → Legal capacity setup steps transcript → Honest transcript
-        → EachEntry FitsLife (onto [] transcript) }
+    ensures { EachTranscript (λ capacity setup transcript. Honest transcript → EachEntry FitsLife (onto [] transcript)) }
 {}
 
 /// What the records alone tell: the epoch of an acceptor and the open order of a hopper are those that the device's
-/// address and the records tell, after any entries whatever. Where the host has just lost its power, in a put or not, no
-/// job is left, and what the operator has, the last id and how many records are held are what the records tell. So a
-/// host that is built from a journal needs nothing else.
+/// address and the records tell, after any entries whatever. Where the power was just cut, in a put or not, no job is
+/// left, and what the operator has, the last id and how many records are held are what the records tell. So a host that
+/// is built from a journal needs nothing else.
 pub fn records_tell_what_a_host_needs()
+    // After any entries.
     ensures epochs { (d : DeviceSetup) (past : List Entry)
         → epoch (lines_of d past) ≡ epoch_in d.addr (records past) }
     ensures orders { (d : DeviceSetup) (past : List Entry)
         → order (lines_of d past) ≡ order_in d.addr (records past) }
+    // After a power cut, which leaves no job.
     ensures restart { (past : List Entry) → IsRestart past → HasNoJob past }
-    ensures crash { (setup : Setup) (past : List Entry) (at : Option CrashAt) (news : List Entry)
-        → EntriesOfCrash setup past at news → HasNoJob (news ++ past) }
+    ensures entries { (setup : Setup) (past : List Entry) (at : Option CrashAt) (news : List Entry)
+        → EntriesOfRestart setup past at news → HasNoJob (news ++ past) }
     ensures totals { (setup : Setup) (past : List Entry) → HasNoJob past
         → totals setup past ≡ totals_in setup (records past) }
     ensures last_id { (setup : Setup) (past : List Entry) → HasNoJob past
@@ -431,56 +389,45 @@ pub fn records_tell_what_a_host_needs()
 {}
 
 /// Each record follows those before it, and so does one that a running job is about to put, in every legal transcript,
-/// whatever the wire does and whenever the host loses its power: so a host that is built from them, and its ledger,
-/// refuses none. It doesn't say that a hopper paid what a record says.
+/// whatever the wire does and whenever the power is cut. So a host that is built from them, and its ledger, refuses
+/// none. It doesn't say that a hopper paid what a record says.
 pub fn each_record_follows()
-    ensures all { (capacity : ℕ) (setup : Setup) (steps : List Step) (transcript : List Entry)
-        → IsSoundSetup setup → All IsInRange steps → Legal capacity setup steps transcript
-        → all_follow setup (records (onto [] transcript)) ≡ true }
-    ensures due { (capacity : ℕ) (setup : Setup) (steps : List Step) (transcript : List Entry) (addr : ℕ) (r : Record)
-        → IsSoundSetup setup → All IsInRange steps → Legal capacity setup steps transcript
-        → due_at setup (onto [] transcript) addr ≡ Some r → follows setup (records (onto [] transcript)) r ≡ true }
+    ensures all { EachTranscript (λ capacity setup transcript. all_follow setup (records (onto [] transcript)) ≡ true) }
+    ensures due { EachTranscript (λ capacity setup transcript. (addr : ℕ) (r : Record)
+        → due_at setup (onto [] transcript) addr ≡ Some r
+        → follows setup (records (onto [] transcript)) r ≡ true) }
 {}
 
 /// What a running job is about to put, the ledger takes beside what the other jobs reserve, in every legal transcript,
-/// whatever the wire does: a payment reserves the coins of the order that it opens until it puts that, and a sale its
+/// whatever the wire does. A payment reserves the coins of the order that it opens until it puts that, and a sale its
 /// price, so neither is refused for want of money. It doesn't say that a job ever comes to its put.
 pub fn a_ledger_takes_each_put()
-    ensures { (capacity : ℕ) (setup : Setup) (steps : List Step) (transcript : List Entry) (addr : ℕ) (r : Record)
-        → IsSoundSetup setup → All IsInRange steps → Legal capacity setup steps transcript
+    ensures { EachTranscript (λ capacity setup transcript. (addr : ℕ) (r : Record)
         → due_at setup (onto [] transcript) addr ≡ Some r
         → (freed_by setup r ≤ reserved_at_work setup (onto [] transcript))
         × (is_allowed setup (records (onto [] transcript))
-        (reserved_at_work setup (onto [] transcript) - freed_by setup r) r ≡ true) }
+        (reserved_at_work setup (onto [] transcript) - freed_by setup r) r ≡ true)) }
 {}
 
-/// Money is conserved, in every legal transcript, whatever the wire does: what is available, reserved, paid and sold is
-/// together the value of all coins posted, at every moment and in each balance that is told; and what is reserved, paid
-/// and sold is never more than that.
+/// Money is conserved, in every legal transcript, whatever the wire does. What is available, reserved, paid and sold is
+/// together the value of all coins posted, at every moment and in each balance that is told. What is reserved, paid and
+/// sold is never more than that.
 pub fn money_is_conserved()
-    ensures moments { (capacity : ℕ) (setup : Setup) (steps : List Step) (transcript : List Entry)
-        → IsSoundSetup setup → All IsInRange steps → Legal capacity setup steps transcript
-        → IsConserved setup (onto [] transcript) (totals setup (onto [] transcript)) }
-    ensures balances { (capacity : ℕ) (setup : Setup) (steps : List Step) (transcript : List Entry)
-        → IsSoundSetup setup → All IsInRange steps → Legal capacity setup steps transcript
-        → EachEntry (IsBalanced setup) (onto [] transcript) }
-    ensures covered { (capacity : ℕ) (setup : Setup) (steps : List Step) (transcript : List Entry)
-        → IsSoundSetup setup → All IsInRange steps → Legal capacity setup steps transcript
-        → spoken_for setup (onto [] transcript) ≤ posted_in setup (records (onto [] transcript)) }
+    ensures moments { EachTranscript (λ capacity setup transcript.
+        IsConserved setup (onto [] transcript) (totals setup (onto [] transcript))) }
+    ensures balances { EachTranscript (λ capacity setup transcript. EachEntry (IsBalanced setup) (onto [] transcript)) }
+    ensures covered { EachTranscript (λ capacity setup transcript.
+        spoken_for setup (onto [] transcript) ≤ posted_in setup (records (onto [] transcript))) }
 {}
 
-/// A put never meets a full journal, in every legal transcript, whatever the wire does: its records and those that are
-/// held for running jobs and open orders find room, so one that a job is about to put does, and no settlement is
+/// A put never meets a full journal, in every legal transcript, whatever the wire does. Its records and those that are
+/// held for running jobs and open orders find room. So one that a job is about to put does, and no settlement is
 /// refused for want of it.
 pub fn a_put_finds_room()
-    ensures held { (capacity : ℕ) (setup : Setup) (steps : List Step) (transcript : List Entry)
-        → IsSoundSetup setup → All IsInRange steps → Legal capacity setup steps transcript
-        → length (records (onto [] transcript)) + held setup (onto [] transcript) ≤ capacity }
-    ensures puts { (capacity : ℕ) (setup : Setup) (steps : List Step) (transcript : List Entry) (addr : ℕ) (r : Record)
-        → IsSoundSetup setup → All IsInRange steps → Legal capacity setup steps transcript
-        → due_at setup (onto [] transcript) addr ≡ Some r → length (records (onto [] transcript)) < capacity }
-    ensures settlements { (capacity : ℕ) (setup : Setup) (steps : List Step) (transcript : List Entry)
-        (addr used held need : ℕ)
-        → IsSoundSetup setup → All IsInRange steps → Legal capacity setup steps transcript
-        → refusal capacity setup (onto [] transcript) (Settle addr) ≢ Some (JournalFull used held need) }
+    ensures held { EachTranscript (λ capacity setup transcript.
+        length (records (onto [] transcript)) + held setup (onto [] transcript) ≤ capacity) }
+    ensures puts { EachTranscript (λ capacity setup transcript. (addr : ℕ) (r : Record)
+        → due_at setup (onto [] transcript) addr ≡ Some r → length (records (onto [] transcript)) < capacity) }
+    ensures settlements { EachTranscript (λ capacity setup transcript. (addr used held need : ℕ)
+        → refusal capacity setup (onto [] transcript) (Settle addr) ≢ Some (JournalFull used held need)) }
 {}

@@ -1,5 +1,5 @@
 -- A ledger that stands for the records that it took.
-use Rattle.std.specs.Prelude.{◌≡◌, ℕ, ◌+◌, Bool, List, ◌∷◌, length}
+use Rattle.std.specs.Prelude.{◌≡◌, ℕ, ◌+◌, Bool, List, ◌∷◌, length, Result, is_ok, OnOk, OnErr}
 use Rattle.cct_model.specs.terms.device.Setup.{Setup}
 use Rattle.cct_model.specs.lines.record.Record.{Record}
 use Rattle.cct_model.specs.Setup.{IsSoundSetup}
@@ -38,7 +38,7 @@ pub record StandsFor (ledger : Ledger) (before : List Record) (beside : ℕ) : T
   pub posted : available_of ledger + ledger.owed + reserved_of ledger + ledger.paid + ledger.sold
       ≡ posted_in (setup_of ledger) before
 
--- A ledger takes a record exactly where it may, behind the records and beside what is reserved for which it stands.
+-- A ledger takes a record exactly if it may, after the records and beside what is reserved for which it stands.
 abbrev pub Judges : Ledger → Record → Bool → Type 0
 Judges ledger r taken =
     (before : List Record) (beside : ℕ) → StandsFor ledger before beside →
@@ -48,3 +48,26 @@ Judges ledger r taken =
 abbrev pub GoesOn : Ledger → Ledger → Record → Type 0
 GoesOn old new r =
     (before : List Record) (beside : ℕ) → StandsFor old before beside → StandsFor new (r ∷ before) beside
+
+-- What a ledger makes of a record, by its answer: it takes it exactly if it may, and then goes on by it; one that it
+-- refuses changes nothing. Its setup stays, and so does what is reserved beside the records.
+pub record Takes {T E : Type 0} (old new : Ledger) (r : Record) (result : Result T E) : Type 0 where
+  pub setup : setup_of new ≡ setup_of old
+  pub reserved : reserved_of new ≡ reserved_of old
+  pub counted : OnOk result (applied new ≡ applied old + 1)
+  -- It is taken exactly if it follows the records before it, and what it takes is available beside all that is
+  -- reserved.
+  pub exactly : Judges old r (is_ok result)
+  -- Coins that are posted have the value of their places at the acceptor; a closed order pays what fell and frees the
+  -- rest; one whose life counts don't fit stays reserved.
+  pub taken : OnOk result (GoesOn old new r)
+  pub refused : OnErr result (new ≡ old)
+
+-- A ledger then has so much available, and so much reserved beside the records, of which it takes none.
+pub record Reserves (free held : ℕ) (beside_after : ℕ → ℕ) (old new : Ledger) : Type 0 where
+  pub setup : setup_of new ≡ setup_of old
+  pub available : available_of new ≡ free
+  pub reserved : reserved_of new ≡ held
+  pub counted : applied new ≡ applied old
+  pub stands : (before : List Record) (beside : ℕ) → StandsFor old before beside
+      → StandsFor new before (beside_after beside)

@@ -1,6 +1,6 @@
 //! The ledger: what became of the money of all coins posted.
 ghost use Rattle.std.specs.Prelude.{◌≡◌, ◌+◌, ◌-◌, ◌*◌, ◌^◌, ◌<◌, ◌≤◌, ◌==◌, ◌&&◌, nat_le, not, true, false};
-ghost use Rattle.std.specs.Prelude.{ℕ, List, [], None, length, sum_by, is_ok, is_none, OnOk, OnErr, slice_index_or};
+ghost use Rattle.std.specs.Prelude.{ℕ, List, [], None, length, sum_by, is_ok, is_none, slice_index_or};
 ghost use Rattle.std.specs.List.{list_any};
 ghost use Rattle.cct_model.specs.terms.coin.TheConstants.{EVENTS};
 ghost use Rattle.cct_model.specs.lines.record.Record.{Record};
@@ -29,7 +29,7 @@ pub struct NotAllowed;
 #[derive(Debug, Drop)]
 pub struct Ledger<'s> {
     setup: &'s Setup,
-    /// How many records were applied. Each posts five coins at the most, so their number bounds every sum.
+    /// How many records were applied. Each posts five coins at most, so their number bounds every sum.
     records: u32,
     /// The open order of each device of the setup, in its order.
     orders: ArrayVec<Option<OpenOrder>, DEVICES>,
@@ -47,7 +47,7 @@ pub struct Ledger<'s> {
 }
 
 impl<'s> Ledger<'s> {
-    ghost use Rattle.cct_ledger.specs.Ledger.{StandsFor, Judges, GoesOn, setup_of, applied, available_of, reserved_of};
+    ghost use Rattle.cct_ledger.specs.Ledger.{StandsFor, GoesOn, Reserves, Takes, setup_of, applied, available_of, reserved_of};
 
     /// The ledger over a setup before any record.
     pub fn new(setup: &'s Setup) -> Ledger<'s>
@@ -79,13 +79,9 @@ impl<'s> Ledger<'s> {
     /// at the acceptor of that address, and none where the place has no value or no acceptor is there.
     pub fn apply(&mut self, entry: &Record) -> Result<(), NotAllowed>
         requires few { applied self.old < 2 ^ 32 - 1 }
-        ensures setup { setup_of self.new ≡ setup_of self.old }
-        ensures reserved { reserved_of self.new ≡ reserved_of self.old }
-        ensures counted { OnOk result (applied self.new ≡ applied self.old + 1) }
-        ensures exactly { Judges self.old entry.now (is_ok result) }
+        ensures takes { Takes self.old self.new entry.now result }
+        // A record that posts coins, begins an epoch or ends one is taken whether it follows or not.
         ensures others { is_of_money entry.now ≡ false → is_ok result ≡ true }
-        ensures taken { OnOk result (GoesOn self.old self.new entry.now) }
-        ensures refused { OnErr result (self.new ≡ self.old) }
     {
         match entry {
             Record::Epoch { .. } => {
@@ -133,12 +129,8 @@ impl<'s> Ledger<'s> {
     /// Reserves what is available, for a payment or a sale whose record is still to be put.
     pub fn reserve(&mut self, amount: u64)
         requires { amount ≤ available_of self.old }
-        ensures setup { setup_of self.new ≡ setup_of self.old }
-        ensures available { available_of self.new ≡ available_of self.old - amount }
-        ensures reserved { reserved_of self.new ≡ reserved_of self.old + amount }
-        ensures counted { applied self.new ≡ applied self.old }
-        ensures stands { (before : List Record) (beside : ℕ) → StandsFor self.old before beside
-            → StandsFor self.new before (beside + amount) }
+        ensures { Reserves (available_of self.old - amount) (reserved_of self.old + amount)
+            (λ beside. beside + amount) self.old self.new }
     {
         self.available -= amount;
         self.reserved += amount;
@@ -147,12 +139,8 @@ impl<'s> Ledger<'s> {
     /// Frees what was reserved: before the record is applied that takes it, or where no such record comes.
     pub fn release(&mut self, amount: u64)
         requires { amount ≤ reserved_of self.old }
-        ensures setup { setup_of self.new ≡ setup_of self.old }
-        ensures available { available_of self.new ≡ available_of self.old + amount }
-        ensures reserved { reserved_of self.new ≡ reserved_of self.old - amount }
-        ensures counted { applied self.new ≡ applied self.old }
-        ensures stands { (before : List Record) (beside : ℕ) → StandsFor self.old before beside
-            → StandsFor self.new before (beside - amount) }
+        ensures { Reserves (available_of self.old + amount) (reserved_of self.old - amount)
+            (λ beside. beside - amount) self.old self.new }
     {
         self.reserved -= amount;
         self.available += amount;
@@ -163,6 +151,7 @@ impl<'s> Ledger<'s> {
     pub fn totals(&self) -> Totals
         ensures stands { (before : List Record) (beside : ℕ) → StandsFor self.now before beside
             → result ≡ totals_beside (setup_of self.now) before beside }
+        // Together it is the value of all coins posted.
         ensures whole { (before : List Record) (beside : ℕ) → StandsFor self.now before beside
             → result.available + result.reserved + result.paid + result.sold ≡ posted_in (setup_of self.now) before }
     {
@@ -192,13 +181,7 @@ impl<'s> Ledger<'s> {
     /// Opens an order at a hopper that has none, where its coins are available.
     fn open(&mut self, order: OpenOrder) -> Result<(), NotAllowed>
         requires few { applied self.old < 2 ^ 32 - 1 }
-        ensures setup { setup_of self.new ≡ setup_of self.old }
-        ensures reserved { reserved_of self.new ≡ reserved_of self.old }
-        ensures counted { OnOk result (applied self.new ≡ applied self.old + 1) }
-        ensures exactly { Judges self.old (record_of.Opened order.id order.addr order.count order.life) (is_ok result) }
-        ensures taken { OnOk result
-            (GoesOn self.old self.new (record_of.Opened order.id order.addr order.count order.life)) }
-        ensures refused { OnErr result (self.new ≡ self.old) }
+        ensures { Takes self.old self.new (record_of.Opened order.id order.addr order.count order.life) result }
     {
         let Some(place) = hopper_place(self.setup, order.addr) else {
             return Err(NotAllowed);
@@ -217,12 +200,7 @@ impl<'s> Ledger<'s> {
     /// Closes an open order: the coins that fell are paid, and the others are available again.
     fn close(&mut self, id: u32, paid: u8, unpaid: u8) -> Result<(), NotAllowed>
         requires few { applied self.old < 2 ^ 32 - 1 }
-        ensures setup { setup_of self.new ≡ setup_of self.old }
-        ensures reserved { reserved_of self.new ≡ reserved_of self.old }
-        ensures counted { OnOk result (applied self.new ≡ applied self.old + 1) }
-        ensures exactly { Judges self.old (record_of.Closed id paid unpaid) (is_ok result) }
-        ensures taken { OnOk result (GoesOn self.old self.new (record_of.Closed id paid unpaid)) }
-        ensures refused { OnErr result (self.new ≡ self.old) }
+        ensures { Takes self.old self.new (record_of.Closed id paid unpaid) result }
     {
         let Some((place, order)) = opened(&self.orders, id) else {
             return Err(NotAllowed);
@@ -241,14 +219,8 @@ impl<'s> Ledger<'s> {
     /// Closes an open order whose counts of life don't fit it: its amount stays reserved.
     fn set_aside(&mut self, id: u32) -> Result<(), NotAllowed>
         requires few { applied self.old < 2 ^ 32 - 1 }
-        ensures setup { setup_of self.new ≡ setup_of self.old }
-        ensures reserved { reserved_of self.new ≡ reserved_of self.old }
-        ensures counted { OnOk result (applied self.new ≡ applied self.old + 1) }
-        ensures exactly { (life_before life_after : ℕ)
-            → Judges self.old (record_of.Odd id life_before life_after) (is_ok result) }
-        ensures taken { (life_before life_after : ℕ)
-            → OnOk result (GoesOn self.old self.new (record_of.Odd id life_before life_after)) }
-        ensures refused { OnErr result (self.new ≡ self.old) }
+        ensures { (life_before life_after : ℕ)
+            → Takes self.old self.new (record_of.Odd id life_before life_after) result }
     {
         let Some((odd_place, _order)) = opened(&self.orders, id) else {
             return Err(NotAllowed);
@@ -261,12 +233,7 @@ impl<'s> Ledger<'s> {
     /// Sells something for what is available.
     fn sell(&mut self, id: u32, price: u32) -> Result<(), NotAllowed>
         requires few { applied self.old < 2 ^ 32 - 1 }
-        ensures setup { setup_of self.new ≡ setup_of self.old }
-        ensures reserved { reserved_of self.new ≡ reserved_of self.old }
-        ensures counted { OnOk result (applied self.new ≡ applied self.old + 1) }
-        ensures exactly { Judges self.old (record_of.Sold id price) (is_ok result) }
-        ensures taken { OnOk result (GoesOn self.old self.new (record_of.Sold id price)) }
-        ensures refused { OnErr result (self.new ≡ self.old) }
+        ensures { Takes self.old self.new (record_of.Sold id price) result }
     {
         let price = u64::from(price);
         if id == 0 || price == 0 || self.available < price {

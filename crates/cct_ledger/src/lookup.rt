@@ -1,8 +1,8 @@
 //! Hoppers and open orders, looked up by their places in a setup.
-ghost use Rattle.std.specs.Prelude.{◌≡◌, ◌<◌, ◌≤◌, ◌==◌, ◌&&◌, not, Some, None, length, map, is_none, IfSome, slice_get, slice_set};
-ghost use Rattle.std.specs.List.{position, list_any};
+ghost use Rattle.std.specs.Prelude.{◌≡◌, ◌<◌, ◌==◌, ◌&&◌, None, length, map, IfSome, slice_set};
+ghost use Rattle.std.specs.List.{position};
 ghost use Rattle.cct_model.specs.Device.{is_hopper};
-ghost use Rattle.cct_ledger.specs.Orders.{has_id};
+ghost use Rattle.cct_ledger.specs.Orders.{Finds, has_id};
 
 use arrayvec::ArrayVec;
 use cct_model::{DEVICES, OpenOrder, Setup};
@@ -36,9 +36,7 @@ pub(crate) fn opened(
     orders: &ArrayVec<Option<OpenOrder>, DEVICES>,
     id: u32,
 ) -> Option<(usize, OpenOrder)>
-    ensures found { IfSome result (λ found. slice_get orders.now.items found.0 ≡ Some (Some found.1)) }
-    ensures own { IfSome result (λ found. found.1.id ≡ id) }
-    ensures is_open { is_none result ≡ not (list_any (has_id id) orders.now.items) }
+    ensures { Finds id orders.now.items result }
 {
     let place = order_place(orders, id)?;
     let order = orders[place]?;

@@ -1,7 +1,7 @@
 //! The life count, which header 168 reads (ccTalk Generic Specification 4, part 3).
 ghost use Rattle.std.specs.Prelude.{◌≡◌, ℕ, ◌+◌, ◌-◌, ◌%◌, ◌^◌, ◌<◌};
 
-/// The life count has three bytes, and starts again at 0 behind its last number.
+/// The life count has three bytes, and starts again at 0 after its last number.
 const COUNTS: u32 = 1 << 24;
 
 /// How many coins a hopper ever paid, modulo 2^24. No reset clears it.
@@ -22,7 +22,7 @@ impl LifeCount {
         LifeCount { count: start }
     }
 
-    /// One more coin was paid. The number behind 2^24 - 1 is 0.
+    /// One more coin was paid. The number after 2^24 - 1 is 0.
     pub fn rise(&mut self)
         ensures { count_of self.new ≡ (count_of self.old + 1) % 2 ^ 24 }
     {
@@ -44,6 +44,7 @@ pub fn since(before: u32, after: u32) -> u32
     requires before { before < 2 ^ 24 }
     requires after { after < 2 ^ 24 }
     ensures difference { result ≡ (after + 2 ^ 24 - before) % 2 ^ 24 }
+    // Exactly so many coins lead from the one count to the other.
     ensures rises { (coins : ℕ) → coins < 2 ^ 24 → after ≡ (before + coins) % 2 ^ 24 → result ≡ coins }
 {
     (after + COUNTS - before) % COUNTS

@@ -24,7 +24,7 @@ only b a = cond b (a ∷ []) []
 filter_more : (p : ℕ → Bool) (n : ℕ) → filter p (addresses_below (suc n)) ≡ filter p (addresses_below n) ++ only (p n) n
 filter_more p n = filter-append p (addresses_below n) (n ∷ [])
 
--- an address is put behind those below it
+-- an address is put after those below it
 put_behind_one : (addr m : ℕ) (b : Bool) (ys : List ℕ) → m < addr
     → with_address addr (only b m ++ ys) ≡ only b m ++ with_address addr ys
 unfolding with_address
@@ -51,7 +51,7 @@ unfolding with_address
 put_last addr true = rw (le-ltb addr addr (omega arith), eq-eqb addr addr refl) refl
 put_last addr false = refl
 
--- a greater one behind it stays behind it
+-- a greater one after it stays after it
 put_past : (addr n : ℕ) (b : Bool) (x : ℕ) (xs : List ℕ) → x ≢ addr
     → with_address addr xs ++ only b n ≡ with_address addr (xs ++ only b n)
     → with_address addr (x ∷ xs) ++ only b n ≡ with_address addr (x ∷ xs ++ only b n)

@@ -95,7 +95,7 @@ abbrev pub is_over : Stage → Bool
 is_over (at_end setup) = true
 is_over stage = false
 
--- A whole line with its number: a line behind the end first, then too many lines, then too long a line, then its form.
+-- A whole line with its number: a line after the end first, then too many lines, then too long a line, then its form.
 abbrev pub read_line : ℕ → Stage → List ℕ → Read
 read_line number stage line =
     if is_over stage then refuses kind.Trailing
@@ -103,8 +103,8 @@ read_line number stage line =
     else if nat_lt most_bytes (length line) then refuses kind.Long
     else read_form stage line
 
--- Why an unfinished line is refused, if it is: a byte behind the end; a byte too many lines; a byte too long; else the
--- input ends within it. Nothing behind the end is no line.
+-- Why an unfinished line is refused, if it is: a byte after the end; a byte too many lines; a byte too long; else the
+-- input ends within it. Nothing after the end is no line.
 abbrev pub unfinished : ℕ → Stage → List ℕ → Option LineKind
 unfinished number stage rest =
     if is_over stage then (if nat_lt 0 (length rest) then Some kind.Trailing else None)
@@ -149,7 +149,7 @@ goes_on number stage (opens next) rest = rest
 goes_on number stage (plays s next) rest = with_steps (s ∷ []) rest
 goes_on number stage (refuses why) rest = closed_script number (setup_at stage) (Some why)
 
--- What the lines from this number on say: whole lines, and last the bytes behind the last line feed.
+-- What the lines from this number on say: whole lines, and last the bytes after the last line feed.
 abbrev pub script_from : ℕ → Stage → List (List ℕ) → Script
 script_from number stage [] = closed_script number (setup_at stage) (unfinished number stage [])
 script_from number stage (rest ∷ []) = closed_script number (setup_at stage) (unfinished number stage rest)

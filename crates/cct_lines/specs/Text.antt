@@ -22,12 +22,12 @@ use Rattle.cct_lines.specs.declared.entry.Entry.{Entry}
 use Rattle.cct_lines.specs.declared.entry.Entry.TheVariants as entry
 use Rattle.cct_lines.specs.DeviceSet.{has, all_addresses}
 
--- The last digits of a number: one, and so many more at the most.
+-- The last digits of a number: one, and so many more at most.
 abbrev pub last_digits : ℕ → ℕ → List ℕ
 last_digits zero n = (48 + n % 10) ∷ []
 last_digits (suc more) n = if nat_lt n 10 then (48 + n) ∷ [] else last_digits more (n / 10) ++ (48 + n % 10) ∷ []
 
--- A number in decimal, with all its digits: 64 at the most below 10 ^ 64, and for each 10 ^ 64 in it no more than one
+-- A number in decimal, with all its digits: 64 at most below 10 ^ 64, and for each 10 ^ 64 in it no more than one
 -- more.
 unfoldable pub number_text : ℕ → List ℕ
 number_text n = last_digits (n / 10 ^ 64 + 63) n

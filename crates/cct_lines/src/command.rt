@@ -78,9 +78,9 @@ pub enum CommandNo {
 pub enum WireFault {
     /// Nothing.
     Clear,
-    /// The devices hear this piece, 260 bytes at the most, in the place of what the host sends.
+    /// The devices hear this piece, 260 bytes at most, in the place of what the host sends.
     DevicesHear(Piece),
-    /// The host hears this piece, 260 bytes at the most, behind its echo in the place of the replies.
+    /// The host hears this piece, 260 bytes at most, after its echo in the place of the replies.
     HostHears(Piece),
     /// The host hears this piece, and nothing else.
     WholeHeard(Piece),
@@ -96,7 +96,7 @@ impl WireFault {
     }
 }
 
-/// Where in a put of a record the host loses its power: the job at this address has made so many, 0 to 4, of the four
+/// Where in a put of a record the host's power is cut: the job at this address has made so many, 0 to 4, of the four
 /// disk calls of its put.
 #[derive(Clone, Copy, Debug, PartialEq, Eq)]
 pub struct CrashAt {
@@ -109,7 +109,7 @@ pub struct CrashAt {
 pub enum Step {
     /// A coin of this coin place, 1 to 16, falls into acceptor `addr`.
     Coin { addr: u8, place: u8 },
-    /// A piece that is no coin falls into acceptor `addr`.
+    /// An object that is no coin falls into acceptor `addr`.
     Alien { addr: u8 },
     /// A coin falls out of hopper `addr`, where it pays.
     Fall { addr: u8 },
@@ -123,7 +123,7 @@ pub enum Step {
     Next { addr: u8 },
     /// The operator gives the host a command.
     Command(Command),
-    /// The host loses its power and starts again; the bytes that were not synced then are told by `choice`.
+    /// The host's power is cut and starts again; the bytes that were not synced then are told by `choice`.
     Crash { at: Option<CrashAt>, choice: u64 },
     /// The operator reads the balance.
     Balance,

@@ -65,7 +65,7 @@ pub struct Totals {
 /// Why a line of a script is refused, by the first of these that holds.
 #[derive(Clone, Copy, Debug, PartialEq, Eq, Error)]
 pub enum LineKind {
-    /// A byte stands behind the line `end`.
+    /// A byte stands after the line `end`.
     #[error("a byte stands behind the end")]
     Trailing,
     /// A byte of a line past the limit of lines was read.
@@ -121,7 +121,7 @@ pub enum Entry {
         addr: u8,
         place: u8,
     },
-    /// A piece that is no coin fell into an acceptor.
+    /// An object that is no coin fell into an acceptor.
     Alien {
         addr: u8,
     },

@@ -1,6 +1,8 @@
 -- What the playing of a load keeps from line to line, and what it leaves where it stops.
-use Rattle.std.proofs.Common.{◌≡◌, ◌≢◌, ◌≤◌, ◌<◌, ◌+◌, ℕ, List, [], ◌∷◌, ◌++◌, length, reverse, Some, refl, sym, ◌∙◌, subst}
+use Rattle.std.proofs.Common.{◌≡◌, ◌≢◌, ◌≤◌, ◌<◌, ◌+◌, ℕ, List, [], ◌∷◌, ◌++◌, reverse, Some, refl, sym, ◌∙◌, subst}
 use Rattle.std.proofs.Common.{inl, inr, arith, add-one}
+use Rattle.std.proofs.Math.Nat.{le_trans}
+use Rattle.cct_edge.proofs.Chains.{Rose-earlier}
 use Rattle.cct_model.specs.lines.command.Step.{Step}
 use Rattle.cct_model.specs.lines.command.Step.TheVariants as step
 use Rattle.cct_model.specs.lines.entry.Entry.{Entry}
@@ -11,7 +13,7 @@ use Rattle.cct_disk.specs.declared.disk.Disk.{Ghosts}
 use Rattle.cct_disk.specs.Disk.{IsTrusted}
 use Rattle.cct_journal.specs.Image.{capacity_of}
 use Rattle.cct_journal.specs.Stands.{Outlasts}
-use Rattle.cct_host.specs.Book.{LeavesBook}
+use Rattle.cct_host.specs.OnDisk.{LeavesRecords}
 use Rattle.cct_laws.specs.Restart.{due_in}
 use Rattle.cct_laws.proofs.Onto.{legal_more, transcript_on}
 use Rattle.cct_host.specs.declared.refusal.CrashNo.{CrashNo}
@@ -20,16 +22,18 @@ use Rattle.cct_world.specs.declared.world.World.{World}
 use Rattle.cct_world.specs.Early.{LegalBeforeLoss}
 use Rattle.cct_world.specs.Holds.{WorldHolds}
 use Rattle.cct_world.specs.Machine.{FailsIn, LosesIn, StepSuits}
+use Rattle.cct_world.specs.World as worlds
 use Rattle.cct_world.specs.Restarts.{LosesAt, Survived}
 use Rattle.cct_world.specs.Step.{CutsIn, LastsIn, RoseBy, count_after, crashes, crashes_of}
-use Rattle.cct_world.specs.Sure.{MayFail, due_to}
-use Rattle.cct_world.specs.World.{Breaks, Plays, RestartsBy, StandsFor, capacity_in, disk_of, setup_of, used_of}
+use Rattle.cct_world.specs.Relying.{MayFail, due_to}
+use Rattle.cct_world.specs.Serving.{DiskServes}
+use Rattle.cct_world.specs.World.{Breaks, StandsFor, StepPlayed, StepUnplayed, capacity_in, disk_of, setup_of, used_of}
 use Rattle.cct_world.proofs.Early.{early_more, early_none}
 use Rattle.cct_world.proofs.Holding.{holds_first, loses_at, world_on}
 use Rattle.cct_world.proofs.Lasting.{lasts_here, lasts_in, lasts_then, trusted_on, uncut_in}
 use Rattle.cct_world.proofs.Restarts.{behind_on}
 use Rattle.cct_world.proofs.Suiting.{legal_suits}
-use Rattle.cct_world.proofs.Sure.{crashes_none, sure_back, sure_survives}
+use Rattle.cct_world.proofs.Relying.{crashes_none, reliable_back, reliable_survives}
 use Rattle.cct_world.proofs.Surviving.{survived_by}
 use Rattle.cct_gen.specs.Load.{line_at, lines_before, load_setup}
 use Rattle.cct_gen.proofs.LoadSetup.{setup_sound}
@@ -48,8 +52,7 @@ module _ {D : Type 0} {g : Ghosts D} (world : World D g) where
   pub record Goes (now : World D g) (sums : LoadSums) (seed n : ℕ) : Type 0 where
     pub lines : PlayedLines world seed n (Became world now sums seed n)
     pub setup : setup_of now ≡ load_setup
-    pub lasts : Outlasts g.size g.honest g.seen g.cuts (disk_of world) (disk_of now)
-    pub later : g.faults (disk_of world) ≤ g.faults (disk_of now)
+    pub disk : DiskServes g.size g.honest g.seen g.cuts g.faults (disk_of world) (disk_of now) ⊥ ⊥
 
   pub goes_begin : (sums : LoadSums) (seed : ℕ) → StandsFor world [] → SumsUp sums [] [] → setup_of world ≡ load_setup
       → Goes world sums seed 0
@@ -66,8 +69,12 @@ module _ {D : Type 0} {g : Ghosts D} (world : World D g) where
       };
     };
     setup = setup;
-    lasts = lasts_here g.size g.honest g.seen g.cuts (disk_of world);
-    later = omega arith;
+    disk = record {
+      outlasts = lasts_here g.size g.honest g.seen g.cuts (disk_of world);
+      later = omega arith;
+      rose = λ never. absurd never;
+      lost = λ never. absurd never;
+    };
   }
 
   -- what a step takes for granted of the past is so after the lines before it
@@ -81,36 +88,29 @@ module _ {D : Type 0} {g : Ghosts D} (world : World D g) where
 
   -- the entries of the step that comes next, and that the world goes on by them
   next_goes : (now next : World D g) (sums : LoadSums) (seed n : ℕ) (s : Step) (report : List Entry)
-      → (goes : Goes now sums seed n) → Plays now next s report → crashes (reverse report) ≡ crashes_of s
+      → (goes : Goes now sums seed n) → worlds.Plays now next s report → crashes (reverse report) ≡ crashes_of s
       → Relies world (reverse report ++ onto [] goes.lines.transcript)
       → Entries (capacity_in world) load_setup (onto [] goes.lines.transcript) s (reverse report)
       × StandsFor next (reverse report ++ onto [] goes.lines.transcript)
   next_goes now next sums seed n s report goes plays told relies =
       let past = onto [] goes.lines.transcript in
       let news = reverse report in
-      let here = sure_back (HasTrusted world) news past relies in
+      let here = reliable_back (HasTrusted world) news past relies in
       let survives =
-      sure_survives (HasTrusted world) (HasTrusted now)
-      (trusted_on g.size g.honest g.seen g.cuts (disk_of world) (disk_of now) goes.lasts) news past s told relies in
+      reliable_survives (HasTrusted world) (HasTrusted now)
+      (trusted_on g.size g.honest g.seen g.cuts (disk_of world) (disk_of now) goes.disk.outlasts) news past s told relies in
       let goes_so = plays past (goes.lines.holds.so.stands here) (suits now sums seed n goes here s) survives in
       let by_setup : Entries (capacity_in now) load_setup past s news =
       subst (λ setup. Entries (capacity_in now) setup past s news) goes.setup goes_so.0 in
-      (subst (λ size. Entries (capacity_of size) load_setup past s news) goes.lasts.same_size by_setup, goes_so.1)
+      (subst (λ size. Entries (capacity_of size) load_setup past s news) goes.disk.outlasts.same_size by_setup, goes_so.1)
 
   -- one line more
   pub goes_on : (now next : World D g) (sums sums1 : LoadSums) (seed n : ℕ) (s : Step) (report : List Entry)
-      → s ≡ line_at seed n → Goes now sums seed n → Plays now next s report
-      → crashes (reverse report) ≡ crashes_of s
-      → CutsIn s g.size g.honest g.seen g.cuts g.cut_to (disk_of now) (disk_of next)
-      → used_of next ≡ used_of now + length (records (reverse report))
-      → RestartsBy now next s (reverse report)
-      → setup_of next ≡ setup_of now
-      → LastsIn s g.size g.honest g.seen g.cuts (disk_of now) (disk_of next)
-      → g.faults (disk_of now) ≤ g.faults (disk_of next)
+      → s ≡ line_at seed n → Goes now sums seed n → StepPlayed now next s report
       → ((played : List Step) (past : List Entry) (s : Step) → SumsUp sums played past
       → SumsUp sums1 (played ++ s ∷ []) (reverse report ++ past))
       → Goes next sums1 seed (n + 1)
-  goes_on now next sums sums1 seed n s report is goes plays told cut many restarts same lasts later counts =
+  goes_on now next sums sums1 seed n s report is goes played counts =
       let t = goes.lines.transcript in
       let past = onto [] t in
       let news = reverse report in
@@ -118,29 +118,33 @@ module _ {D : Type 0} {g : Ghosts D} (world : World D g) where
       let on : onto [] (t ++ report) ≡ news ++ past = transcript_on t report in
       let more : lines_before seed (n + 1) ≡ lines_before seed n ++ s ∷ [] =
       rw (is, add-one) (one_line_more seed n) in
-      let entries = next_goes now next sums seed n s report goes plays told in
+      let entries = next_goes now next sums seed n s report goes played.plays played.told in
       record {
         lines = record {
           transcript = t ++ report;
           legal = λ relies. let here = subst (Relies world) on relies in
               subst (λ steps. Legal (capacity_in world) load_setup steps (t ++ report)) (sym more)
               (legal_more (capacity_in world) load_setup (lines_before seed n) t report s
-              (goes.lines.legal (sure_back (HasTrusted world) news past here)) (entries here).0);
+              (goes.lines.legal (reliable_back (HasTrusted world) news past here)) (entries here).0);
           early = subst (λ steps. LegalBeforeLoss (capacity_in world) load_setup steps (t ++ report)) (sym more)
               (early_more (Relies world) (capacity_in world) load_setup (lines_before seed n) t report s
-              (λ es none. inr none) told (λ relies. (entries relies).0) goes.lines.early);
+              (λ es none. inr none) played.told (λ relies. (entries relies).0) goes.lines.early);
           holds = subst (Became world next sums1 seed (n + 1)) (sym on) (record {
             so = subst (λ steps. WorldHolds (disk_of world) next steps (news ++ past)) (sym more)
-                (world_on (disk_of world) now next s news (lines_before seed n) past goes.lasts lasts told cut many
-                restarts same (λ relies. (entries relies).1) before.so);
+                (world_on (disk_of world) now next s report (lines_before seed n) past goes.disk.outlasts played
+                (λ relies. (entries relies).1) before.so);
             counted = subst (λ steps. SumsUp sums1 steps (news ++ past)) (sym more)
                 (counts (lines_before seed n) past s before.counted);
           });
         };
-        setup = same ∙ goes.setup;
-        lasts = lasts_then g.size g.honest g.seen g.cuts (disk_of world) (disk_of now) (disk_of next) goes.lasts
-            (lasts_in g.size g.honest g.seen g.cuts s (disk_of now) (disk_of next) lasts);
-        later = omega (arith, goes.later, later);
+        setup = played.setup ∙ goes.setup;
+        disk = record {
+          outlasts = lasts_then g.size g.honest g.seen g.cuts (disk_of world) (disk_of now) (disk_of next)
+              goes.disk.outlasts (lasts_in g.size g.honest g.seen g.cuts s (disk_of now) (disk_of next) played.lasts);
+          later = le_trans goes.disk.later played.later;
+          rose = λ never. absurd never;
+          lost = λ never. absurd never;
+        };
       }
 
   -- why a step isn't played
@@ -174,14 +178,14 @@ module _ {D : Type 0} {g : Ghosts D} (world : World D g) where
 
     disk_leaves : (s : Step) → HasTrusted world → IsTrusted g.honest g.seen (disk_of now)
         → FailsIn now.machine.value left s
-        → LeavesBook load_setup g.honest g.seen g.may_leave left (due_to load_setup past s) (reverse (records past))
+        → LeavesRecords load_setup g.honest g.seen g.may_leave left (due_to load_setup past s) (reverse (records past))
     disk_leaves (step.Next addr) given trusted breaks =
         let due = breaks past (holds.stands (inl given)) in
         let is : due_at load_setup past addr ≡ Some due.0 =
         subst (λ setup. due_at setup past addr ≡ Some due.0) same due.1.0 in
-        subst (λ r. LeavesBook load_setup g.honest g.seen g.may_leave left r (reverse (records past))) (sym is) (due.1.1 trusted)
+        subst (λ r. LeavesRecords load_setup g.honest g.seen g.may_leave left r (reverse (records past))) (sym is) (due.1.1 trusted)
     disk_leaves (step.Crash at choice) given trusted breaks =
-        subst (λ setup. LeavesBook setup g.honest g.seen g.may_leave left (due_in setup past at) (reverse (records past)))
+        subst (λ setup. LeavesRecords setup g.honest g.seen g.may_leave left (due_in setup past at) (reverse (records past)))
         same (breaks past (holds.stands (inl given)) trusted)
     disk_leaves s given trusted breaks = absurd breaks
 
@@ -197,11 +201,10 @@ module _ {D : Type 0} {g : Ghosts D} (world : World D g) where
 
   -- a line wasn't played
   pub goes_stops : (now : World D g) (left : D) (why : CrashNo) (sums : LoadSums) (seed n lines : ℕ) (s : Step)
-      → n < lines → s ≡ line_at seed n → Goes now sums seed n → Breaks now left why s
-      → LastsIn s g.size g.honest g.seen g.cuts (disk_of now) left
-      → (why ≢ crash_no.Disk → CutsIn s g.size g.honest g.seen g.cuts g.cut_to (disk_of now) left)
-      → StoppedWithin world seed lines left why
-  goes_stops now left why sums seed n lines s within is goes breaks lasts lost =
+      → n < lines → (report : List Entry) → s ≡ line_at seed n → Goes now sums seed n
+      → StepUnplayed now left why s report → StoppedWithin world seed lines left why
+  goes_stops now left why sums seed n lines s within report is goes unplayed =
+      let lasts = unplayed.lasts in
       let past = onto [] goes.lines.transcript in
       let before = goes.lines.holds.so in
       let outlasts = lasts_in g.size g.honest g.seen g.cuts s (disk_of now) left lasts in (
@@ -212,10 +215,11 @@ module _ {D : Type 0} {g : Ghosts D} (world : World D g) where
           legal = goes.lines.legal;
           early = goes.lines.early;
           holds = subst (λ x. Stopped world left why x (lines_before seed n) past) is (record {
-            fails = fails_at now left (lines_before seed n) past goes.setup before s goes.lasts lasts why breaks lost;
+            fails = fails_at now left (lines_before seed n) past goes.setup before s goes.disk.outlasts lasts why
+                unplayed.breaks unplayed.cut;
             book = λ given. left_at now left (lines_before seed n) past goes.setup before why s given
-                (trusted_on g.size g.honest g.seen g.cuts (disk_of world) (disk_of now) goes.lasts given)
-                (suits now sums seed n goes (inl given) s) breaks;
+                (trusted_on g.size g.honest g.seen g.cuts (disk_of world) (disk_of now) goes.disk.outlasts given)
+                (suits now sums seed n goes (inl given) s) unplayed.breaks;
             survived = subst (λ setup. Survived (Relies world) (CutFor world left) setup (lines_before seed n) past)
                 goes.setup
                 (survived_by (Relies world) (Relies world) (CutFor world (disk_of now)) (CutFor world left)
@@ -229,3 +233,15 @@ module _ {D : Type 0} {g : Ghosts D} (world : World D g) where
           });
         },
       )
+
+  pub disk_stops : (now : World D g) (left : D) (why : CrashNo) (sums : LoadSums) (seed n : ℕ) (s : Step)
+      (report : List Entry) → Goes now sums seed n → StepUnplayed now left why s report
+      → DiskServes g.size g.honest g.seen g.cuts g.faults (disk_of world) left (why ≡ crash_no.Disk)
+      (why ≢ crash_no.Disk)
+  disk_stops now left why sums seed n s report goes unplayed = record {
+    outlasts = lasts_then g.size g.honest g.seen g.cuts (disk_of world) (disk_of now) left goes.disk.outlasts
+        (lasts_in g.size g.honest g.seen g.cuts s (disk_of now) left unplayed.lasts);
+    later = le_trans goes.disk.later unplayed.cause.later;
+    rose = λ is. Rose-earlier _ _ _ goes.disk.later (unplayed.cause.rose is);
+    lost = λ is. Rose-earlier _ _ _ goes.disk.outlasts.later_cuts (unplayed.lost is);
+  }

@@ -1,5 +1,6 @@
 -- What the playing of a load leaves: what was played and written, and what is on the disk, by how it came to its end.
-use Rattle.std.specs.Prelude.{◌≡◌, ◌⊎◌, ℕ, ◌<◌, List, [], ◌∷◌, ◌++◌, None, reverse, Option}
+use Rattle.std.specs.Prelude.{◌≡◌, ◌≢◌, ◌⊎◌, ℕ, ◌<◌, List, [], ◌∷◌, ◌++◌, None, reverse, Option, Result, Ok, Err}
+use Rattle.cct_edge.specs.declared.fault.Failed.{Failed}
 use Rattle.cct_model.specs.lines.command.Step.{Step}
 use Rattle.cct_model.specs.lines.entry.Entry.{Entry}
 use Rattle.cct_model.specs.lines.entry.Entry.TheVariants as entry
@@ -10,7 +11,7 @@ use Rattle.cct_model.specs.Records.{records}
 use Rattle.cct_model.specs.Transcript.{onto}
 use Rattle.cct_disk.specs.declared.disk.Disk.{Ghosts}
 use Rattle.cct_disk.specs.Disk.{IsTrusted}
-use Rattle.cct_host.specs.Book.{LeavesBook}
+use Rattle.cct_host.specs.OnDisk.{LeavesRecords}
 use Rattle.cct_host.specs.declared.refusal.CrashNo.{CrashNo}
 use Rattle.cct_host.specs.declared.refusal.CrashNo.TheVariants as crash_no
 use Rattle.cct_world.specs.declared.world.World.{World}
@@ -18,7 +19,7 @@ use Rattle.cct_world.specs.Early.{LegalBeforeLoss}
 use Rattle.cct_world.specs.Holds.{WorldHolds}
 use Rattle.cct_world.specs.Restarts.{CutAt, LosesAt, Survived}
 use Rattle.cct_world.specs.Step.{RoseBy, count_after, crashes}
-use Rattle.cct_world.specs.Sure.{First, IsCrash, MayFail, Sure, due_to}
+use Rattle.cct_world.specs.Relying.{First, IsCrash, MayFail, IsReliable, due_to}
 use Rattle.cct_world.specs.World.{capacity_in, disk_of}
 use Rattle.cct_gen.specs.Load.{line_at, lines_before, load_setup, load_steps}
 use Rattle.cct_load.specs.declared.load.Load.{Load}
@@ -31,6 +32,15 @@ use Rattle.cct_load.specs.Sums.{SumsUp, sums_of}
 abbrev pub first_line : Load → Entry
 first_line load = entry.Load load.seed load.rounds
 
+-- How a load ends whose steps were all played, by whether the lines after them were written.
+abbrev pub end_of : Result (Unit {0}) Failed → LoadEnd
+end_of (Ok done) = load_end.Done
+end_of (Err failed) = load_end.Unwritten
+
+-- A load ended since a power cut left another journal than was there.
+abbrev pub LosesJournal : LoadEnd → Type 0
+LosesJournal how = (why : CrashNo) × (why ≢ crash_no.Disk) × (how ≡ load_end.Unplayed why)
+
 module _ {D : Type 0} {g : Ghosts D} (world : World D g) where
   -- The disk of the world is trusted.
   abbrev pub HasTrusted : Type 0
@@ -38,7 +48,7 @@ module _ {D : Type 0} {g : Ghosts D} (world : World D g) where
 
   -- A past may be relied on: the disk was trusted, or no loss of power is told.
   abbrev pub Relies : List Entry → Type 0
-  Relies past = Sure HasTrusted past
+  Relies past = IsReliable HasTrusted past
 
   -- So many lines of a load were played on the world, from the first on: the entries of the transcript are those of the
   -- steps, where its past may be relied on, and in any case up to the first loss of power; and this holds of its past.
@@ -75,7 +85,7 @@ module _ {D : Type 0} {g : Ghosts D} (world : World D g) where
   -- disk failed never comes on a trusted disk.
   abbrev pub LeftAt : D → CrashNo → List Entry → Step → Type 0
   LeftAt left crash_no.Disk past s =
-      LeavesBook load_setup g.honest g.seen g.may_leave left (due_to load_setup past s) (reverse (records past))
+      LeavesRecords load_setup g.honest g.seen g.may_leave left (due_to load_setup past s) (reverse (records past))
   LeftAt left why past s = ⊥
 
   -- The step behind a past wasn't played, for this reason, and this disk is left.
@@ -112,9 +122,9 @@ module _ {D : Type 0} {g : Ghosts D} (world : World D g) where
       First (FailsAt left why past) unplayed × Written (first_line load ∷ [])
 
   -- What a loss of power may leave on this disk, by how a load ended.
-  abbrev pub Book : D → LoadEnd → List Step → List Entry → Type 0
-  Book left (load_end.Unplayed why) unplayed past = First (LeftAt left why past) unplayed
-  Book left how unplayed past = LeavesBook load_setup g.honest g.seen g.may_leave left None (reverse (records past))
+  abbrev pub RecordsLeft : D → LoadEnd → List Step → List Entry → Type 0
+  RecordsLeft left (load_end.Unplayed why) unplayed past = First (LeftAt left why past) unplayed
+  RecordsLeft left how unplayed past = LeavesRecords load_setup g.honest g.seen g.may_leave left None (reverse (records past))
 
   -- A load was played on the world, ended so, and left this disk: the steps that were played and those that weren't;
   -- the transcript, whose entries are those of the steps, where its past may be relied on, and in any case up to the
@@ -131,8 +141,13 @@ module _ {D : Type 0} {g : Ghosts D} (world : World D g) where
     pub steps_are : load_steps load.seed load.rounds ≡ played ++ unplayed
     pub legal : Relies (onto [] transcript) → Legal (capacity_in world) load_setup played transcript
     pub early : LegalBeforeLoss (capacity_in world) load_setup played transcript
+    -- The line of the load before its first step, and after the last one the six sums, each record that was kept
+    -- counted once, and what the operator has; the first line alone if a step wasn't played, and a front of these if
+    -- the sink failed.
     pub ends : Ends left load how played unplayed (onto [] transcript) Written Breaks
-    pub book : HasTrusted → Book left how unplayed (onto [] transcript)
+    -- On a trusted disk each image that a power cut may leave stands for the records of the transcript; if the disk
+    -- failed in a step with a record that was due, for these or for these and that one.
+    pub book : HasTrusted → RecordsLeft left how unplayed (onto [] transcript)
     pub survived : SurvivedOn left played (onto [] transcript)
     pub cut : RoseBy (crashes (onto [] transcript)) (g.cuts (disk_of world)) (g.cuts left)
     pub just : (First IsCrash unplayed → ⊥)

@@ -1,17 +1,15 @@
 //! A load is played, line by line, and what its transcript sums up to is written.
-ghost use Rattle.std.specs.Prelude.{◌≡◌, ◌≢◌, ◌≤◌, ◌+◌, ◌*◌, List, [], ◌∷◌, ◌++◌, IfErr, IfOk, MatchResult};
-ghost use Rattle.cct_edge.specs.Bytes.{TellsAsBefore};
-ghost use Rattle.cct_edge.specs.Faults.{HasCause, Rose};
+ghost use Rattle.std.specs.Prelude.{◌≡◌, ◌≢◌, ◌≤◌, ◌+◌, ◌*◌, List, [], ◌∷◌, ◌++◌, IfErr, IfOk, IsErr, MatchResult};
+ghost use Rattle.cct_edge.specs.Bytes.{Serves};
 ghost use Rattle.cct_model.specs.lines.command.Step.{Step};
 ghost use Rattle.cct_model.specs.lines.entry.Entry.{Entry};
 ghost use Rattle.cct_model.specs.lines.entry.Entry.TheVariants.{Balance};
-ghost use Rattle.cct_journal.specs.Stands.{Outlasts};
 ghost use Rattle.cct_text.specs.Writing.{Broke, Writes, Wrote};
-ghost use Rattle.cct_host.specs.declared.refusal.CrashNo.{CrashNo};
+ghost use Rattle.cct_world.specs.Serving.{DiskServes};
 ghost use Rattle.cct_world.specs.World.{StandsFor, disk_of, setup_of};
 ghost use Rattle.cct_gen.specs.Load.{load_setup};
 ghost use Rattle.cct_load.specs.Sums.{SumsUp, sums_of};
-ghost use Rattle.cct_load.specs.Played.{Became, PlayedLines, PlaysLoad, StoppedWithin, first_line};
+ghost use Rattle.cct_load.specs.Played.{Became, LosesJournal, PlayedLines, PlaysLoad, StoppedWithin, end_of, first_line};
 
 use crate::sums::LoadSums;
 use arrayvec::ArrayVec;
@@ -72,13 +70,10 @@ impl LoadDesk {
             × PlayedLines world.entry load.seed (5 + 18 * load.rounds)
             (Became world.entry next self.new.sums load.seed (5 + 18 * load.rounds))) }
         ensures stopped { IfErr result (λ e. StoppedWithin world.entry load.seed (5 + 18 * load.rounds) e.0 e.1) }
-        ensures cause { IfErr result (λ e. e.1 ≡ WorldNo.Disk → Rose (D.faults (disk_of world.entry)) (D.faults e.0)) }
-        ensures lost { IfErr result (λ e. e.1 ≢ WorldNo.Disk → Rose (D.cuts (disk_of world.entry)) (D.cuts e.0)) }
-        ensures lasts { MatchResult result
-            (λ next. Outlasts D.size D.honest D.seen D.cuts (disk_of world.entry) (disk_of next))
-            (λ e. Outlasts D.size D.honest D.seen D.cuts (disk_of world.entry) e.0) }
-        ensures later { MatchResult result (λ next. D.faults (disk_of world.entry) ≤ D.faults (disk_of next))
-            (λ e. D.faults (disk_of world.entry) ≤ D.faults e.0) }
+        ensures disk { MatchResult result
+            (λ next. DiskServes D.size D.honest D.seen D.cuts D.faults (disk_of world.entry) (disk_of next) ⊥ ⊥)
+            (λ e. DiskServes D.size D.honest D.seen D.cuts D.faults (disk_of world.entry) e.0 (e.1 ≡ WorldNo.Disk)
+            (e.1 ≢ WorldNo.Disk)) }
     {
         let mut world = world;
         for line in 0..FIRST_LINES + ROUND_LINES * load.rounds {
@@ -94,7 +89,7 @@ impl LoadDesk {
 }
 
 /// Plays a load on a world on which nothing has happened, and gives its disk back. The line of the load is written
-/// before its first step, and behind the last one those of the sums over the transcript and that of what the operator
+/// before its first step, and after the last one those of the sums over the transcript and that of what the operator
 /// has; no entry of a step is. Each line is written by one put. The line buffer is used for it, whatever it holds.
 pub fn play_load<K: Sink, D: Disk>(
     load: Load,
@@ -109,18 +104,10 @@ pub fn play_load<K: Sink, D: Disk>(
     ensures played { PlaysLoad world.entry load result.0 result.1 (Wrote K.written K.puts out.old out.new)
         (Broke K.written K.puts out.old out.new) }
 
-    // Each end but that of a load that is done has its cause.
-    ensures write_cause { result.0 ≡ LoadEnd.Unwritten → Rose (K.faults out.old) (K.faults out.new) }
-    ensures disk_cause { result.0 ≡ LoadEnd.Unplayed WorldNo.Disk
-        → Rose (D.faults (disk_of world.entry)) (D.faults result.1) }
-    ensures lost_cause { (why : CrashNo) → why ≢ WorldNo.Disk → result.0 ≡ LoadEnd.Unplayed why
-        → Rose (D.cuts (disk_of world.entry)) (D.cuts result.1) }
-
-    // Sink and disk go on telling, and no count of faults falls.
-    ensures tells { TellsAsBefore (K.written out.old) (K.written out.new) }
-    ensures lasts { Outlasts D.size D.honest D.seen D.cuts (disk_of world.entry) result.1 }
-    ensures sink_later { K.faults out.old ≤ K.faults out.new }
-    ensures disk_later { D.faults (disk_of world.entry) ≤ D.faults result.1 }
+    // Sink and disk go on, and each end but that of a load that is done has its cause.
+    ensures sink { Serves K.written K.faults out.old out.new (result.0 ≡ LoadEnd.Unwritten) }
+    ensures disk { DiskServes D.size D.honest D.seen D.cuts D.faults (disk_of world.entry) result.1
+        (result.0 ≡ LoadEnd.Unplayed WorldNo.Disk) (LosesJournal result.0) }
 {
     match write_first(load, out, line) {
         Ok(()) => {}
@@ -134,17 +121,24 @@ pub fn play_load<K: Sink, D: Disk>(
         Ok(world) => world,
         Err((disk, why)) => return (LoadEnd::Unplayed(why), disk),
     };
-    match write_sums(&desk.sums, world.totals(), out, line) {
-        Ok(()) => (LoadEnd::Done, world.into_disk()),
-        Err(Failed) => (LoadEnd::Unwritten, world.into_disk()),
+    let written = write_sums(&desk.sums, world.totals(), out, line);
+    (end_of(written), world.into_disk())
+}
+
+/// How a load ends whose steps were all played, by whether the lines after them were written.
+fn end_of(written: Result<(), Failed>) -> LoadEnd
+    ensures { result ≡ end_of written }
+{
+    match written {
+        Ok(()) => LoadEnd::Done,
+        Err(Failed) => LoadEnd::Unwritten,
     }
 }
 
 /// Writes the line of a load.
 fn write_first<K: Sink>(load: Load, out: &mut K, line: &mut TextLine) -> Result<(), Failed>
     ensures writes { Writes K.written K.puts out.old (first_line load ∷ []) result out.new }
-    ensures tells { TellsAsBefore (K.written out.old) (K.written out.new) }
-    ensures cause { HasCause (K.faults out.old) (K.faults out.new) result }
+    ensures sink { Serves K.written K.faults out.old out.new (IsErr result) }
 {
     let first = Entry::Load {
         seed: load.seed,
@@ -153,7 +147,7 @@ fn write_first<K: Sink>(load: Load, out: &mut K, line: &mut TextLine) -> Result<
     write_entry(out, line, &first)
 }
 
-/// Writes the lines of the sums, and behind them that of what the operator has.
+/// Writes the lines of the sums, and after them that of what the operator has.
 fn write_sums<K: Sink>(
     sums: &LoadSums,
     totals: Totals,
@@ -162,8 +156,7 @@ fn write_sums<K: Sink>(
 ) -> Result<(), Failed>
     ensures writes { (played : List Step) (past : List Entry) → SumsUp sums.now played past
         → Writes K.written K.puts out.old (sums_of played past ++ Balance totals ∷ []) result out.new }
-    ensures tells { TellsAsBefore (K.written out.old) (K.written out.new) }
-    ensures cause { HasCause (K.faults out.old) (K.faults out.new) result }
+    ensures sink { Serves K.written K.faults out.old out.new (IsErr result) }
 {
     let mut told = sums.told();
     told.push(Entry::Balance(totals));

@@ -1,32 +1,32 @@
-//! The pieces of a line, gathered word by word.
+//! The bytes of a line, gathered word by word.
 
 use crate::word::{Way, value_of};
 use arrayvec::ArrayVec;
 
-/// The most bytes of a piece: a message, its echo and its reply.
+/// The most bytes of one run: a message, its echo and its reply.
 pub const MOST_LOGGED: usize = 780;
 
-/// The bytes of a piece.
+/// The bytes of one run.
 pub type LogBytes = ArrayVec<u8, MOST_LOGGED>;
 
-/// Bytes that went one way, where that is told.
+/// A run of bytes that went one way, where that is told.
 #[derive(Drop)]
 pub(crate) struct Logged {
     pub(crate) way: Option<Way>,
     pub(crate) bytes: LogBytes,
-    /// Whether it is a word of its own, as a word of several bytes is, so that the next one is another piece.
+    /// Whether it is a word of its own, as a word of several bytes is, so that the next one is another run.
     is_word: bool,
 }
 
-/// The pieces of a line: two at the most.
+/// The runs of bytes of a line: two at most.
 #[derive(Drop)]
-pub(crate) struct Pieces {
+pub(crate) struct Gathered {
     pub(crate) first: Option<Logged>,
     pub(crate) second: Option<Logged>,
 }
 
 impl Logged {
-    /// A piece without a byte.
+    /// A run without a byte.
     fn new(way: Option<Way>, is_word: bool) -> Logged {
         Logged {
             way,
@@ -48,16 +48,16 @@ impl Logged {
     }
 }
 
-impl Pieces {
-    /// No piece.
-    pub(crate) fn new() -> Pieces {
-        Pieces {
+impl Gathered {
+    /// No run.
+    pub(crate) fn new() -> Gathered {
+        Gathered {
             first: None,
             second: None,
         }
     }
 
-    /// Begins a piece, or gives `None` where there are two already.
+    /// Begins a run, or gives `None` where there are two already.
     pub(crate) fn begin(&mut self, way: Option<Way>, is_word: bool) -> Option<()> {
         if self.first.is_none() {
             self.first = Some(Logged::new(way, is_word));
@@ -69,7 +69,7 @@ impl Pieces {
         Some(())
     }
 
-    /// Adds the bytes of a word: to the last piece, or where that is a word of its own and nothing told the way as a new
+    /// Adds the bytes of a word: to the last run, or where that is a word of its own and nothing told the way as a new
     /// one.
     pub(crate) fn add(&mut self, digits: &[u8]) -> Option<()> {
         let is_word = digits.len() > 2;
@@ -83,7 +83,7 @@ impl Pieces {
         self.last()?.add(digits)
     }
 
-    /// Takes a hyphen in place of bytes: it is a piece without a byte, or says that the last one has none.
+    /// Takes a hyphen in place of bytes: it is a run without a byte, or says that the last one has none.
     pub(crate) fn begin_none(&mut self) -> Option<()> {
         match self.last() {
             Some(last) if last.way.is_some() && last.bytes.as_slice().is_empty() => Some(()),
@@ -91,15 +91,15 @@ impl Pieces {
         }
     }
 
-    /// Whether there is no piece yet.
+    /// Whether there is no run yet.
     pub(crate) fn is_empty(&self) -> bool {
         self.first.is_none()
     }
 
-    /// The last piece.
+    /// The last run.
     fn last(&mut self) -> Option<&mut Logged> {
         match &mut self.second {
-            Some(piece) => Some(piece),
+            Some(second) => Some(second),
             None => self.first.as_mut(),
         }
     }

@@ -1,6 +1,6 @@
 //! A line of a bus log.
 
-use crate::gather::{LogBytes, Logged, Pieces};
+use crate::gather::{Gathered, LogBytes, Logged};
 use crate::time::Time;
 use crate::word::{Way, Word, word_in};
 
@@ -33,47 +33,47 @@ pub enum Said {
 /// else in it, and for fewer bytes than a message has with neither a time nor a way before them.
 pub fn read_log_line(line: &[u8]) -> Option<LogLine<'_>> {
     let mut time = None;
-    let mut pieces = Pieces::new();
+    let mut gathered = Gathered::new();
     for word in line.split(|byte| matches!(*byte, b' ' | b'\t' | b',' | b';')) {
         if word.is_empty() {
             continue;
         }
         match word_in(word)? {
-            Word::Way(way) => pieces.begin(Some(way), false)?,
-            Word::NoByte => pieces.begin_none()?,
-            Word::Hex(digits) => pieces.add(digits)?,
-            Word::Date if pieces.is_empty() => {}
-            Word::Time(found) if pieces.is_empty() && time.is_none() => time = Some(found),
+            Word::Way(way) => gathered.begin(Some(way), false)?,
+            Word::NoByte => gathered.begin_none()?,
+            Word::Hex(digits) => gathered.add(digits)?,
+            Word::Date if gathered.is_empty() => {}
+            Word::Time(found) if gathered.is_empty() && time.is_none() => time = Some(found),
             Word::Date | Word::Time(_) => return None,
         }
     }
-    let said = said_in(pieces, time.is_some())?;
+    let said = said_in(gathered, time.is_some())?;
     Some(LogLine { time, said })
 }
 
-/// What pieces say, of a line with a time or without.
-fn said_in(pieces: Pieces, has_time: bool) -> Option<Said> {
-    match (pieces.first, pieces.second) {
+/// What the bytes say, of a line with a time or without.
+fn said_in(gathered: Gathered, has_time: bool) -> Option<Said> {
+    match (gathered.first, gathered.second) {
         (Some(first), None) => one_said(first, has_time),
         (Some(first), Some(second)) => two_said(first, second),
         (None, _) => None,
     }
 }
 
-/// What one piece says. Without a way before it, bytes after the end of a first message were heard after it.
-fn one_said(piece: Logged, has_time: bool) -> Option<Said> {
-    match piece.way {
-        Some(Way::Sent) => return Some(Said::Sent(piece.bytes)),
-        Some(Way::Heard) => return Some(Said::Heard(piece.bytes)),
+/// What one run of bytes says. Without a way before it, bytes after the end of a first message were heard after it.
+fn one_said(logged: Logged, has_time: bool) -> Option<Said> {
+    match logged.way {
+        Some(Way::Sent) => return Some(Said::Sent(logged.bytes)),
+        Some(Way::Heard) => return Some(Said::Heard(logged.bytes)),
         None => {}
     }
-    let count = piece.bytes.as_slice().len();
+    let count = logged.bytes.as_slice().len();
     if count < LEAST_MESSAGE && !has_time {
         return None;
     }
-    match split_message(piece.bytes.as_slice()) {
+    match split_message(logged.bytes.as_slice()) {
         Some((sent, heard)) => Some(Said::Exchange { sent, heard }),
-        None => Some(Said::Either(piece.bytes)),
+        None => Some(Said::Either(logged.bytes)),
     }
 }
 
@@ -97,7 +97,7 @@ fn bytes_of(slice: &[u8]) -> Option<LogBytes> {
     Some(bytes)
 }
 
-/// What two pieces say: what was sent, and what was then heard.
+/// What two runs of bytes say: what was sent, and what was then heard.
 fn two_said(first: Logged, second: Logged) -> Option<Said> {
     match (first.way, second.way) {
         (Some(Way::Heard), _) | (_, Some(Way::Sent)) => None,

@@ -12,7 +12,7 @@ pub struct Time<'l> {
 }
 
 /// The time that a word spells: `H:M:S`, `M:S` or seconds with a point, each with a fraction or without, in brackets or
-/// not, and behind a date and a `T` or not.
+/// not, and after a date and a `T` or not.
 pub(crate) fn time_in(word: &[u8]) -> Option<Time<'_>> {
     let text = without_frame(word);
     let of_day = text.rsplit(|byte| *byte == b'T').next()?;
@@ -48,7 +48,7 @@ pub(crate) fn is_date(word: &[u8]) -> bool {
     between == 2 && text.len() >= 6
 }
 
-/// A word without brackets around it, without a colon behind it and without the `Z` of a time zone.
+/// A word without brackets around it, without a colon after it and without the `Z` of a time zone.
 fn without_frame(word: &[u8]) -> &[u8] {
     let word = word.strip_suffix(b":").unwrap_or(word);
     let word = match word {

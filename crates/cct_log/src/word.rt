@@ -41,7 +41,7 @@ pub(crate) fn word_in(word: &[u8]) -> Option<Word<'_>> {
     Some(Word::Time(time_in(word)?))
 }
 
-/// The way that a word names, with a colon behind it or without.
+/// The way that a word names, with a colon after it or without.
 fn way_in(word: &[u8]) -> Option<Way> {
     match word.strip_suffix(b":").unwrap_or(word) {
         b"TX" | b"Tx" | b"tx" => Some(Way::Sent),

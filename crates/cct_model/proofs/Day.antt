@@ -1,4 +1,4 @@
--- A day of two acceptors and three hoppers: both checks, a jam and a loss of power, up to the balance in the evening.
+-- A day of two acceptors and three hoppers: both checks, a jam and a power cut, up to the balance in the evening.
 use Rattle.std.proofs.Common.{◌≡◌, List, [], ◌∷◌, None, refl}
 use Rattle.cct_model.specs.Message.{message, spelling, crc}
 use Rattle.cct_model.specs.Request.{data_of, request_of, requests_with, form_of}
@@ -18,7 +18,7 @@ use Rattle.cct_model.specs.lines.record.Record.TheVariants as record_of
 use Rattle.cct_model.specs.lines.entry.Entry.{Entry}
 use Rattle.cct_model.specs.lines.entry.Entry.TheVariants as entry
 use Rattle.cct_model.specs.lines.entry.End.TheVariants as end_of
-use Rattle.cct_model.proofs.Machine.{Row, Plays, after, house, coin, one, both, wire}
+use Rattle.cct_model.proofs.Machine.{Row, PlayOn, after, house, coin, one, both, wire}
 use Rattle.cct_model.proofs.Ledger.{five, day}
 
 -- both acceptors are started
@@ -35,12 +35,6 @@ opening =
     ∷ one (step.Next 4) (entry.Put (record_of.Epoch 4 65535))
     ∷ both (step.Next 4) (wire 4 "0402c0e7ffff5c" "0402c0e7ffff5c0100300037") (entry.Ended 4 end_of.Started)
     ∷ []
-
-opening_plays : Plays 65535 house [] opening
-unfolding message spelling data_of request_of requests_with form_of reply_data reply_in has_place acceptor_reply
-    hopper_reply common_reply reply_of ask asked asks_of asker after_echo got heard_after got_by distance judge
-    life_between close crc
-opening_plays = search
 
 abbrev after_opening : List Entry
 after_opening = after [] opening
@@ -86,12 +80,6 @@ morning =
     ∷ both (step.Next 4) (entry.Put (record_of.Reading 4 10 0 five)) (entry.Ended 4 end_of.Posted)
     ∷ []
 
-morning_plays : Plays 65535 house after_opening morning
-unfolding message spelling data_of request_of requests_with form_of reply_data reply_in has_place acceptor_reply
-    hopper_reply common_reply reply_of ask asked asks_of asker after_echo got heard_after got_by distance judge
-    life_between close crc
-morning_plays = search
-
 abbrev after_morning : List Entry
 after_morning = after after_opening morning
 
@@ -136,12 +124,6 @@ noon =
     ∷ both (step.Next 4) (entry.Put (record_of.Reading 4 20 0 five)) (entry.Ended 4 end_of.Posted)
     ∷ []
 
-noon_plays : Plays 65535 house after_morning noon
-unfolding message spelling data_of request_of requests_with form_of reply_data reply_in has_place acceptor_reply
-    hopper_reply common_reply reply_of ask asked asks_of asker after_echo got heard_after got_by distance judge
-    life_between close crc
-noon_plays = search
-
 abbrev after_noon : List Entry
 after_noon = after after_morning noon
 
@@ -180,12 +162,6 @@ payouts =
     ∷ both (step.Next 5) (entry.Put (record_of.Closed 2 4 0)) (entry.Ended 5 end_of.Closed)
     ∷ []
 
-payouts_plays : Plays 65535 house after_noon payouts
-unfolding message spelling data_of request_of requests_with form_of reply_data reply_in has_place acceptor_reply
-    hopper_reply common_reply reply_of ask asked asks_of asker after_echo got heard_after got_by distance judge
-    life_between close crc
-payouts_plays = search
-
 abbrev after_payouts : List Entry
 after_payouts = after after_noon payouts
 
@@ -216,16 +192,10 @@ jam =
     ∷ both (step.Next 3) (entry.Put (record_of.Closed 4 2 3)) (entry.Ended 3 end_of.Closed)
     ∷ []
 
-jam_plays : Plays 65535 house after_payouts jam
-unfolding message spelling data_of request_of requests_with form_of reply_data reply_in has_place acceptor_reply
-    hopper_reply common_reply reply_of ask asked asks_of asker after_echo got heard_after got_by distance judge
-    life_between close crc
-jam_plays = search
-
 abbrev after_jam : List Entry
 after_jam = after after_payouts jam
 
--- the host loses its power while an order is paid, and settles it; then one more is paid
+-- the power is cut while an order is paid, and the host settles it; then one more is paid
 abbrev power_cut : List Row
 power_cut =
     one (step.Command (command.Pay 5 5 2)) (entry.Taken (command.Pay 5 5 2))
@@ -251,12 +221,6 @@ power_cut =
     ∷ both (step.Next 6) (entry.Put (record_of.Closed 6 1 0)) (entry.Ended 6 end_of.Closed)
     ∷ []
 
-power_cut_plays : Plays 65535 house after_jam power_cut
-unfolding message spelling data_of request_of requests_with form_of reply_data reply_in has_place acceptor_reply
-    hopper_reply common_reply reply_of ask asked asks_of asker after_echo got heard_after got_by distance judge
-    life_between close crc
-power_cut_plays = search
-
 abbrev after_power_cut : List Entry
 after_power_cut = after after_jam power_cut
 
@@ -278,14 +242,15 @@ closing =
     ∷ one step.Balance (entry.Balance (record { available = 2030; reserved = 0; paid = 820; sold = 150 }))
     ∷ []
 
-closing_plays : Plays 65535 house after_power_cut closing
+abbrev after_closing : List Entry
+after_closing = after after_power_cut closing
+
+-- the whole day is played, one part after the other
+day_plays : PlayOn house [] (opening ∷ morning ∷ noon ∷ payouts ∷ jam ∷ power_cut ∷ closing ∷ [])
 unfolding message spelling data_of request_of requests_with form_of reply_data reply_in has_place acceptor_reply
     hopper_reply common_reply reply_of ask asked asks_of asker after_echo got heard_after got_by distance judge
     life_between close crc
-closing_plays = search
-
-abbrev after_closing : List Entry
-after_closing = after after_power_cut closing
+day_plays = (search, (search, (search, (search, (search, (search, (search, tt)))))))
 
 -- its records are those of which the ledger tells
 day_records : records after_closing ≡ day

@@ -11,7 +11,6 @@ use Rattle.cct_model.specs.Line.{Line, dispensed}
 use Rattle.cct_model.specs.Job.{job, epoch}
 use Rattle.cct_model.specs.Order.{order}
 use Rattle.cct_model.specs.Transcript.{dispensed_by, doses}
-use Rattle.cct_model.specs.Claims.{AllPast}
 
 -- what does not change over a dispense does not change over doses
 pub undosed : {A : Type 0} (f : List Line → A) → ((count : Option ℕ) (lines : List Line) → f (dispensed_by count ++ lines) ≡ f lines) →
@@ -69,12 +68,3 @@ pub same_over : {A : Type 0} (f : List Line → A) → ((count : ℕ) (lines : L
 same_over f same [] lines are = refl
 same_over f same (dispensed count ∷ ls) lines are = same count (ls ++ lines) ∙ same_over f same ls lines are
 same_over f same (l ∷ ls) lines are = absurd are
-
--- what holds of each line and all before it goes on over them, where it holds of one
-pub kept_over : (P : List Line → Line → Type 0) → ((count : ℕ) (lines : List Line) → AllPast P lines → P lines (dispensed count)) →
-    (ls lines : List Line) → AreDoses ls → AllPast P lines → AllPast P (ls ++ lines)
-kept_over P holds [] lines are before = before
-kept_over P holds (dispensed count ∷ ls) lines are before =
-    let later = kept_over P holds ls lines are before in
-    (holds count (ls ++ lines) later, later)
-kept_over P holds (l ∷ ls) lines are before = absurd are

@@ -28,7 +28,7 @@ use Rattle.cct_model.specs.lines.entry.Entry.TheVariants as entry
 use Rattle.cct_model.specs.lines.entry.End.TheVariants as end_of
 use Rattle.cct_model.proofs.Machine.{Row, after, setup, acceptor, hopper, starting, funded, coin, one, wire}
 use Rattle.cct_model.proofs.Payments.{paid, lost_ack, halted, one_after_another}
-use Rattle.cct_model.proofs.Crashes.{two_calls, four_calls, order_not_kept, goes_on_falling, settled_after, epoch_not_kept}
+use Rattle.cct_model.proofs.Restarts.{two_calls, four_calls, order_not_kept, goes_on_falling, settled_after, epoch_not_kept}
 
 -- two lists of entries of which one passes a test and the other doesn't are not the same
 differ : (test : List Entry → Bool) (xs ys : List Entry) → test xs ≡ true → test ys ≡ false → xs ≡ ys → ⊥
@@ -59,10 +59,10 @@ abbrev keeps_counter : ℕ → List Entry → Bool
 keeps_counter wanted (entry.Kept (record_of.Reading addr counter lost posted) ∷ past) = counter == wanted
 keeps_counter wanted past = false
 
--- behind a record kept, the host starts over so many records
-abbrev starts_over : ℕ → List Entry → Bool
-starts_over wanted (entry.Kept r ∷ entry.Crash records ∷ past) = records == wanted
-starts_over wanted past = false
+-- after a record kept, the host restarts over so many records
+abbrev restarts_over : ℕ → List Entry → Bool
+restarts_over wanted (entry.Kept r ∷ entry.Crash records ∷ past) = records == wanted
+restarts_over wanted past = false
 
 -- the newest entry refuses a command
 abbrev is_refused : List Entry → Bool
@@ -79,7 +79,7 @@ abbrev closes : ℕ → List Entry → Bool
 closes coins (entry.Ended addr end ∷ entry.Put (record_of.Closed id paid unpaid) ∷ past) = paid == coins
 closes coins past = false
 
--- the right lines hold, with two orders and behind a crash too
+-- the right lines hold, with two orders and after a power cut too
 paid_holds : Paid (lines_of hopper (after funded paid))
 unfolding message spelling data_of request_of requests_with form_of reply_data reply_in has_place acceptor_reply
     hopper_reply common_reply reply_of ask asked asks_of asker after_echo got heard_after got_by distance judge
@@ -116,7 +116,7 @@ unfolding message spelling data_of request_of requests_with form_of reply_data r
     life_between close
 goes_on_falling_holds = (tt, ((refl, refl, refl), (tt, (tt, (tt, (omega arith, (tt, (omega arith, (omega arith, (omega arith, (tt, ((refl, refl), (refl, (tt, (tt, (tt, tt))))))))))))))))
 
--- and the posts of an acceptor are in order and cover its coins, whether the crash kept its reading or not
+-- and the posts of an acceptor are in order and cover its coins, whether the power cut kept its reading or not
 kept_in_order : InOrder (lines_of acceptor (after (after [] starting) four_calls))
 unfolding message spelling data_of request_of requests_with form_of reply_data reply_in has_place acceptor_reply
     hopper_reply common_reply reply_of ask asked asks_of asker after_echo got heard_after got_by distance judge
@@ -227,7 +227,7 @@ unfolding message spelling data_of request_of requests_with form_of reply_data r
     life_between close
 opened_twice e = absurd cc
 
--- the dispense is sent before the order is opened, and the host loses its power
+-- the dispense is sent before the order is opened, and the power is cut
 abbrev sent_first : List Row
 sent_first =
     one (step.Command (command.Pay 3 41 4)) (entry.Taken (command.Pay 3 41 4))
@@ -275,7 +275,7 @@ does_not_fall e = differ is_fell _ _ refl refl (sym e)
 abbrev kept_and_read : List Entry
 kept_and_read = after (after [] starting) (take 8 four_calls)
 
--- the coin is posted again behind a crash that kept it
+-- the coin is posted again after a power cut that kept it
 posted_again : Entries 65535 setup kept_and_read (step.Next 2) (entry.Put (record_of.Reading 2 1 0 (coin 5 1 ∷ [])) ∷ []) → ⊥
 unfolding message spelling data_of request_of requests_with form_of reply_data reply_in has_place acceptor_reply
     hopper_reply common_reply reply_of ask asked asks_of asker after_echo got heard_after got_by distance judge
@@ -288,7 +288,7 @@ unfolding message spelling data_of request_of requests_with form_of reply_data r
     life_between close
 not_in_order e = absurd cc
 
--- the host lost its power in the put of a reading
+-- the power was cut in the put of a reading
 abbrev posting : List Entry
 posting = after (after [] starting) (take 4 four_calls)
 
@@ -296,7 +296,7 @@ posting = after (after [] starting) (take 4 four_calls)
 abbrev its_reading : Record
 its_reading = record_of.Reading 2 1 0 (coin 5 1 ∷ [])
 
--- a crash after so many of the four disk calls of a put at an address
+-- a power cut after so many of the four disk calls of a put at an address
 abbrev crash_at : ℕ → ℕ → Step
 crash_at addr calls = step.Crash (Some (record { addr = addr; calls = calls })) 0
 
@@ -344,7 +344,7 @@ counted_wrong : Entries 65535 setup posting (crash_at 2 4) (entry.Kept its_readi
 unfolding message spelling data_of request_of requests_with form_of reply_data reply_in has_place acceptor_reply
     hopper_reply common_reply reply_of ask asked asks_of asker after_echo got heard_after got_by distance judge
     life_between close
-counted_wrong e = elim e [ inl w ↦ absurd (omega (w.0, arith)) | inr w ↦ differ (starts_over 1) _ _ refl refl w.1 ]
+counted_wrong e = elim e [ inl w ↦ absurd (omega (w.0, arith)) | inr w ↦ differ (restarts_over 1) _ _ refl refl w.1 ]
 
 -- a payment whose order was not kept
 abbrev order_lost : List Entry
@@ -354,7 +354,7 @@ order_lost = after funded (take 4 order_not_kept)
 abbrev epoch_lost : List Entry
 epoch_lost = after [] (take 4 epoch_not_kept)
 
--- orders, epochs and jobs that are kept in memory over a crash
+-- orders, epochs and jobs that are kept in memory over a power cut
 order_in_memory : Entries 65535 setup order_lost (step.Command (command.Pay 3 42 1)) (entry.No (command.Pay 3 42 1) (command_no.OrderOpen 41) ∷ []) → ⊥
 unfolding message spelling data_of request_of requests_with form_of reply_data reply_in has_place acceptor_reply
     hopper_reply common_reply reply_of ask asked asks_of asker after_echo got heard_after got_by distance judge
@@ -379,7 +379,7 @@ unfolding message spelling data_of request_of requests_with form_of reply_data r
     life_between close
 job_in_memory e = differ (sends 167) _ _ refl refl e
 
--- an epoch that the host forgets over a crash is broken by nothing: its coin is accepted, and must be posted
+-- an epoch that the host forgets over a power cut is broken by nothing: its coin is accepted, and must be posted
 abbrev epoch_there : List Entry
 epoch_there = entry.Crash 1 ∷ after [] starting
 
@@ -402,7 +402,7 @@ unfolding message spelling data_of request_of requests_with form_of reply_data r
     life_between close
 lost_in_silence e = absurd (omega (e.0, arith))
 
--- a round that ends clean with a coin behind the last reading
+-- a round that ends clean with a coin after the last reading
 clean_too_early : Covers (ended end_of.Clean ∷ lines_of acceptor posting) → ⊥
 unfolding message spelling data_of request_of requests_with form_of reply_data reply_in has_place acceptor_reply
     hopper_reply common_reply reply_of ask asked asks_of asker after_echo got heard_after got_by distance judge

@@ -1,8 +1,5 @@
 -- Which records may follow those before them, and what records are worth.
 use Rattle.std.proofs.Common.{◌≡◌, ℕ, List, [], ◌∷◌, map, replicate, true, false, Some, None, refl}
-use Rattle.std.specs.Prelude.{codes}
-use Rattle.cct_model.specs.terms.wire.CheckKind.TheVariants.{Simple}
-use Rattle.cct_model.specs.terms.device.DeviceBody.TheVariants.{Acceptor}
 use Rattle.cct_model.specs.terms.coin.Coin.{Coin}
 use Rattle.cct_model.specs.terms.device.Setup.{Setup}
 use Rattle.cct_model.specs.lines.record.Record.{Record}
@@ -15,7 +12,7 @@ use Rattle.cct_model.specs.Records.{order_in, greatest_id}
 use Rattle.cct_model.specs.Money.{totals}
 use Rattle.cct_model.specs.Following.{follows, all_follow}
 use Rattle.cct_model.specs.Paid.{AreFresh}
-use Rattle.cct_model.proofs.Machine.{house, setup, hopper, texts, coin}
+use Rattle.cct_model.proofs.Machine.{house, setup, acceptor_of, hopper, coin}
 
 -- the totals, in the order of the line of a balance
 abbrev amounts : ℕ → ℕ → ℕ → ℕ → Totals
@@ -43,17 +40,7 @@ odd = Odd 41 0 5 ∷ owing
 
 -- an acceptor whose place 3 has no value
 abbrev sparse : Setup
-sparse = record {
-  devices =
-      record {
-        addr = 2;
-        kind = Simple;
-        serial = 1;
-        texts = texts;
-        named = false;
-        body = Acceptor 0 (100 ∷ 100 ∷ 0 ∷ replicate 13 100) (replicate 16 (codes "XX100A"));
-      } ∷ hopper ∷ [];
-}
+sparse = record { devices = acceptor_of (100 ∷ 100 ∷ 0 ∷ replicate 13 100) ∷ hopper ∷ [] }
 
 -- an epoch begins at an acceptor where none runs; its mask isn't 0, and each of its places has a value
 epoch_first : follows setup [] (Epoch 2 65535) ≡ true

@@ -4,6 +4,7 @@ pub use Rattle.cct_lines.proofs.Hoppers
 pub use Rattle.cct_lines.proofs.Replaced
 pub use Rattle.cct_lines.proofs.Added
 pub use Rattle.cct_lines.proofs.Sound
+pub mod Addresses
 pub mod Polls
 pub mod Doses
 pub mod OpenOrders
@@ -15,7 +16,7 @@ mod Vectors
 mod Machine
 mod Payments
 mod Payouts
-mod Crashes
+mod Restarts
 mod Refusals
 mod Ledger
 mod Forged

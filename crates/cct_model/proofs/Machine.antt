@@ -31,8 +31,12 @@ bytes_of (high ∷ low ∷ more) = (16 * digit high + digit low) ∷ bytes_of mo
 abbrev pub texts : Texts
 texts = record { maker = codes "BENCH"; product = codes "CCT"; software = codes "1"; build = codes "1" }
 
+-- the acceptor with these values of its coin places
+abbrev pub acceptor_of : List ℕ → DeviceSetup
+acceptor_of values = record { addr = 2; kind = Simple; serial = 1; texts = texts; named = false; body = Acceptor 0 values (replicate 16 (codes "XX100A")) }
+
 abbrev pub acceptor : DeviceSetup
-acceptor = record { addr = 2; kind = Simple; serial = 1; texts = texts; named = false; body = Acceptor 0 (replicate 16 100) (replicate 16 (codes "XX100A")) }
+acceptor = acceptor_of (replicate 16 100)
 
 abbrev pub hopper : DeviceSetup
 hopper = record { addr = 3; kind = Simple; serial = 197121; texts = texts; named = false; body = Hopper 16777214 10 }
@@ -75,17 +79,27 @@ abbrev pub Plays : ℕ → Setup → List Entry → List Row → Type 0
 Plays capacity the past [] = ⊤
 Plays capacity the past (row ∷ rows) = Entries capacity the past row.play row.news × Plays capacity the (row.news ++ past) rows
 
+-- each of these runs is played after a past
+abbrev pub AllPlay : Setup → List Entry → List (List Row) → Type 0
+AllPlay the past [] = ⊤
+AllPlay the past (rows ∷ runs) = Plays 65535 the past rows × AllPlay the past runs
+
 -- all entries after these rows
 abbrev pub after : List Entry → List Row → List Entry
 after past [] = past
 after past (row ∷ rows) = after (row.news ++ past) rows
+
+-- each of these runs is played after those before it
+abbrev pub PlayOn : Setup → List Entry → List (List Row) → Type 0
+PlayOn the past [] = ⊤
+PlayOn the past (rows ∷ runs) = Plays 65535 the past rows × PlayOn the (after past rows) runs
 
 pub plays_legal : (capacity : ℕ) (the : Setup) (past : List Entry) (rows : List Row) → Plays capacity the past rows
     → LegalFrom capacity the past (map (λ row. row.play) rows) (after past rows)
 plays_legal capacity the past [] plays = refl
 plays_legal capacity the past (row ∷ rows) plays = (row.news, plays.0, plays_legal capacity the (row.news ++ past) rows plays.1)
 
--- the row of a step that gives this entry, and of one that gives these two, the second behind the first
+-- the row of a step that gives this entry, and of one that gives these two, the second after the first
 abbrev pub one : Step → Entry → Row
 one play e = record { play = play; news = e ∷ [] }
 
@@ -102,16 +116,46 @@ starting =
     ∷ both (step.Next 2) (wire 2 "020201e7ffff16" "020201e7ffff1601000200fd") (entry.Ended 2 end_of.Started)
     ∷ []
 
--- it is started, takes a coin of place 5, and is read
-abbrev pub funding : List Row
-funding =
-    starting
-    ++ one (step.Coin 2 5) (entry.Accepted 2 (coin 5 1))
+-- a coin of place 5 is accepted and read
+abbrev pub coin_read : List Row
+coin_read =
+    one (step.Coin 2 5) (entry.Accepted 2 (coin 5 1))
     ∷ one (step.Command (command.Round 2)) (entry.Taken (command.Round 2))
     ∷ one (step.Next 2) (wire 2 "020001e518" "020001e518010b02000105010000000000000000eb")
     ∷ one (step.Next 2) (wire 2 "020001e617" "020001e61701020200fffffd")
-    ∷ both (step.Next 2) (entry.Put (record_of.Reading 2 1 0 (coin 5 1 ∷ []))) (entry.Ended 2 end_of.Posted)
+    ∷ []
+
+-- it is started, takes that coin, and is read
+abbrev pub funding : List Row
+funding =
+    starting ++ coin_read
+    ++ both (step.Next 2) (entry.Put (record_of.Reading 2 1 0 (coin 5 1 ∷ []))) (entry.Ended 2 end_of.Posted)
     ∷ []
 
 abbrev pub funded : List Entry
 funded = after [] funding
+
+-- a payment of four coins, up to the record that opens its order
+abbrev pub ordered : List Row
+ordered =
+    one (step.Command (command.Pay 3 41 4)) (entry.Taken (command.Pay 3 41 4))
+    ∷ one (step.Next 3) (wire 3 "030101a4a5b2" "030101a4a5b201000300fc")
+    ∷ one (step.Next 3) (wire 3 "030001a854" "030001a85401030300fefffffd")
+    ∷ one (step.Next 3) (entry.Put (record_of.Opened 41 3 4 16777214))
+    ∷ []
+
+-- up to its dispense
+abbrev pub dispensed : List Row
+dispensed = ordered ++ one (step.Next 3) (wire 3 "030401a70102030447" "030401a7010203044701000300fc") ∷ []
+
+-- up to the life count after all four fell
+abbrev pub paid_out : List Row
+paid_out =
+    dispensed
+    ++ one (step.Fall 3) (entry.Fell 3)
+    ∷ one (step.Fall 3) (entry.Fell 3)
+    ∷ one (step.Fall 3) (entry.Fell 3)
+    ∷ one (step.Fall 3) (entry.Fell 3)
+    ∷ one (step.Next 3) (wire 3 "030001a656" "030001a6560104030001000400f3")
+    ∷ one (step.Next 3) (wire 3 "030001a854" "030001a85401030300020000f7")
+    ∷ []

@@ -1,5 +1,5 @@
 -- Payments and a sale, row by row: the bytes that are sent and heard, the records put, and how each job ends.
-use Rattle.std.proofs.Common.{[], ◌∷◌, List}
+use Rattle.std.proofs.Common.{[], ◌∷◌, ◌++◌, List}
 use Rattle.cct_model.specs.Message.{message, spelling}
 use Rattle.cct_model.specs.Request.{data_of, request_of, requests_with, form_of}
 use Rattle.cct_model.specs.Reply.{reply_data, reply_in}
@@ -18,7 +18,7 @@ use Rattle.cct_model.specs.lines.command.WireFault.TheVariants as fault
 use Rattle.cct_model.specs.lines.record.Record.TheVariants as record_of
 use Rattle.cct_model.specs.lines.entry.Entry.TheVariants as entry
 use Rattle.cct_model.specs.lines.entry.End.TheVariants as end_of
-use Rattle.cct_model.proofs.Machine.{Row, Plays, setup, funding, funded, one, both, wire}
+use Rattle.cct_model.proofs.Machine.{Row, Plays, AllPlay, setup, funding, funded, ordered, dispensed, paid_out, one, both, wire}
 
 funding_plays : Plays 65535 setup [] funding
 unfolding message spelling data_of request_of requests_with form_of reply_data reply_in has_place acceptor_reply
@@ -26,37 +26,49 @@ unfolding message spelling data_of request_of requests_with form_of reply_data r
     life_between close
 funding_plays = search
 
+-- a payment of two coins, up to its dispense
+abbrev dispensed_two : List Row
+dispensed_two =
+    one (step.Command (command.Pay 3 41 2)) (entry.Taken (command.Pay 3 41 2))
+    ∷ one (step.Next 3) (wire 3 "030101a4a5b2" "030101a4a5b201000300fc")
+    ∷ one (step.Next 3) (wire 3 "030001a854" "030001a85401030300fefffffd")
+    ∷ one (step.Next 3) (entry.Put (record_of.Opened 41 3 2 16777214))
+    ∷ one (step.Next 3) (wire 3 "030401a70102030249" "030401a7010203024901000300fc")
+    ∷ []
+
+-- with two lost looks at the payout
+abbrev looked_twice : List Row
+looked_twice =
+    dispensed_two
+    ++ one (step.Fault (fault.HostHears [])) (entry.Fault (fault.HostHears []))
+    ∷ one (step.Next 3) (wire 3 "030001a656" "030001a656")
+    ∷ one (step.Fault (fault.HostHears [])) (entry.Fault (fault.HostHears []))
+    ∷ one (step.Next 3) (wire 3 "030001a656" "030001a656")
+    ∷ []
+
+-- a halt, and two lost stops
+abbrev stopped_twice : List Row
+stopped_twice =
+    looked_twice
+    ++ one (step.Command (command.Halt 3)) (entry.Taken (command.Halt 3))
+    ∷ one (step.Fault (fault.HostHears [])) (entry.Fault (fault.HostHears []))
+    ∷ one (step.Next 3) (wire 3 "030001ac50" "030001ac50")
+    ∷ one (step.Fault (fault.HostHears [])) (entry.Fault (fault.HostHears []))
+    ∷ one (step.Next 3) (wire 3 "030001ac50" "030001ac50")
+    ∷ []
+
 -- every coin falls; the life count goes from 2 ^ 24 - 1 to 0 meanwhile
 abbrev pub paid : List Row
 paid =
-    one (step.Command (command.Pay 3 41 4)) (entry.Taken (command.Pay 3 41 4))
-    ∷ one (step.Next 3) (wire 3 "030101a4a5b2" "030101a4a5b201000300fc")
-    ∷ one (step.Next 3) (wire 3 "030001a854" "030001a85401030300fefffffd")
-    ∷ one (step.Next 3) (entry.Put (record_of.Opened 41 3 4 16777214))
-    ∷ one (step.Next 3) (wire 3 "030401a70102030447" "030401a7010203044701000300fc")
-    ∷ one (step.Fall 3) (entry.Fell 3)
-    ∷ one (step.Fall 3) (entry.Fell 3)
-    ∷ one (step.Fall 3) (entry.Fell 3)
-    ∷ one (step.Fall 3) (entry.Fell 3)
-    ∷ one (step.Next 3) (wire 3 "030001a656" "030001a6560104030001000400f3")
-    ∷ one (step.Next 3) (wire 3 "030001a854" "030001a85401030300020000f7")
-    ∷ both (step.Next 3) (entry.Put (record_of.Closed 41 4 0)) (entry.Ended 3 end_of.Closed)
+    paid_out
+    ++ both (step.Next 3) (entry.Put (record_of.Closed 41 4 0)) (entry.Ended 3 end_of.Closed)
     ∷ []
-
-paid_plays : Plays 65535 setup funded paid
-unfolding message spelling data_of request_of requests_with form_of reply_data reply_in has_place acceptor_reply
-    hopper_reply common_reply reply_of ask asked asks_of asker after_echo got heard_after got_by distance judge
-    life_between close
-paid_plays = search
 
 -- the reply to the dispense is lost and the hopper is reset: the life count still tells what fell
 abbrev pub lost_ack : List Row
 lost_ack =
-    one (step.Command (command.Pay 3 41 4)) (entry.Taken (command.Pay 3 41 4))
-    ∷ one (step.Next 3) (wire 3 "030101a4a5b2" "030101a4a5b201000300fc")
-    ∷ one (step.Next 3) (wire 3 "030001a854" "030001a85401030300fefffffd")
-    ∷ one (step.Next 3) (entry.Put (record_of.Opened 41 3 4 16777214))
-    ∷ one (step.Fault (fault.HostHears [])) (entry.Fault (fault.HostHears []))
+    ordered
+    ++ one (step.Fault (fault.HostHears [])) (entry.Fault (fault.HostHears []))
     ∷ one (step.Next 3) (wire 3 "030401a70102030447" "030401a70102030447")
     ∷ one (step.Fall 3) (entry.Fell 3)
     ∷ one (step.Fall 3) (entry.Fell 3)
@@ -66,20 +78,11 @@ lost_ack =
     ∷ both (step.Next 3) (entry.Put (record_of.Closed 41 2 2)) (entry.Ended 3 end_of.Closed)
     ∷ []
 
-lost_ack_plays : Plays 65535 setup funded lost_ack
-unfolding message spelling data_of request_of requests_with form_of reply_data reply_in has_place acceptor_reply
-    hopper_reply common_reply reply_of ask asked asks_of asker after_echo got heard_after got_by distance judge
-    life_between close
-lost_ack_plays = search
-
 -- the dispense itself is lost: no coin falls, and it is not sent again
 abbrev lost_dispense : List Row
 lost_dispense =
-    one (step.Command (command.Pay 3 41 4)) (entry.Taken (command.Pay 3 41 4))
-    ∷ one (step.Next 3) (wire 3 "030101a4a5b2" "030101a4a5b201000300fc")
-    ∷ one (step.Next 3) (wire 3 "030001a854" "030001a85401030300fefffffd")
-    ∷ one (step.Next 3) (entry.Put (record_of.Opened 41 3 4 16777214))
-    ∷ one (step.Fault (fault.DevicesHear [])) (entry.Fault (fault.DevicesHear []))
+    ordered
+    ++ one (step.Fault (fault.DevicesHear [])) (entry.Fault (fault.DevicesHear []))
     ∷ one (step.Next 3) (wire 3 "030401a70102030447" "030401a70102030447")
     ∷ one (step.Fall 3) (entry.NoFall 3)
     ∷ one (step.Fall 3) (entry.NoFall 3)
@@ -88,21 +91,11 @@ lost_dispense =
     ∷ both (step.Next 3) (entry.Put (record_of.Closed 41 0 4)) (entry.Ended 3 end_of.Closed)
     ∷ []
 
-lost_dispense_plays : Plays 65535 setup funded lost_dispense
-unfolding message spelling data_of request_of requests_with form_of reply_data reply_in has_place acceptor_reply
-    hopper_reply common_reply reply_of ask asked asks_of asker after_echo got heard_after got_by distance judge
-    life_between close
-lost_dispense_plays = search
-
 -- three lost replies end a payment; its order stays open, and is settled later
 abbrev given_up : List Row
 given_up =
-    one (step.Command (command.Pay 3 41 2)) (entry.Taken (command.Pay 3 41 2))
-    ∷ one (step.Next 3) (wire 3 "030101a4a5b2" "030101a4a5b201000300fc")
-    ∷ one (step.Next 3) (wire 3 "030001a854" "030001a85401030300fefffffd")
-    ∷ one (step.Next 3) (entry.Put (record_of.Opened 41 3 2 16777214))
-    ∷ one (step.Next 3) (wire 3 "030401a70102030249" "030401a7010203024901000300fc")
-    ∷ one (step.Fall 3) (entry.Fell 3)
+    dispensed_two
+    ++ one (step.Fall 3) (entry.Fell 3)
     ∷ one (step.Fall 3) (entry.Fell 3)
     ∷ one (step.Fault (fault.HostHears [])) (entry.Fault (fault.HostHears []))
     ∷ one (step.Next 3) (wire 3 "030001a656" "030001a656")
@@ -117,12 +110,6 @@ given_up =
     ∷ both (step.Next 3) (entry.Put (record_of.Closed 41 2 0)) (entry.Ended 3 end_of.Closed)
     ∷ one (step.Command (command.Settle 3)) (entry.No (command.Settle 3) command_no.NoOrder)
     ∷ []
-
-given_up_plays : Plays 65535 setup funded given_up
-unfolding message spelling data_of request_of requests_with form_of reply_data reply_in has_place acceptor_reply
-    hopper_reply common_reply reply_of ask asked asks_of asker after_echo got heard_after got_by distance judge
-    life_between close
-given_up_plays = search
 
 -- a halt stops the payout half way; the rest is unpaid and is available again
 abbrev pub halted : List Row
@@ -144,21 +131,11 @@ halted =
     ∷ one (step.Command (command.Halt 3)) (entry.No (command.Halt 3) command_no.NoPayout)
     ∷ []
 
-halted_plays : Plays 65535 setup funded halted
-unfolding message spelling data_of request_of requests_with form_of reply_data reply_in has_place acceptor_reply
-    hopper_reply common_reply reply_of ask asked asks_of asker after_echo got heard_after got_by distance judge
-    life_between close
-halted_plays = search
-
--- a second halt behind the first stop sends a second one, which stops nothing
+-- a second halt after the first stop sends a second one, which stops nothing
 abbrev halted_twice : List Row
 halted_twice =
-    one (step.Command (command.Pay 3 41 4)) (entry.Taken (command.Pay 3 41 4))
-    ∷ one (step.Next 3) (wire 3 "030101a4a5b2" "030101a4a5b201000300fc")
-    ∷ one (step.Next 3) (wire 3 "030001a854" "030001a85401030300fefffffd")
-    ∷ one (step.Next 3) (entry.Put (record_of.Opened 41 3 4 16777214))
-    ∷ one (step.Next 3) (wire 3 "030401a70102030447" "030401a7010203044701000300fc")
-    ∷ one (step.Fall 3) (entry.Fell 3)
+    dispensed
+    ++ one (step.Fall 3) (entry.Fell 3)
     ∷ one (step.Command (command.Halt 3)) (entry.Taken (command.Halt 3))
     ∷ one (step.Next 3) (wire 3 "030001ac50" "030001ac500101030003f8")
     ∷ one (step.Command (command.Halt 3)) (entry.Taken (command.Halt 3))
@@ -168,33 +145,17 @@ halted_twice =
     ∷ both (step.Next 3) (entry.Put (record_of.Closed 41 1 3)) (entry.Ended 3 end_of.Closed)
     ∷ []
 
-halted_twice_plays : Plays 65535 setup funded halted_twice
-unfolding message spelling data_of request_of requests_with form_of reply_data reply_in has_place acceptor_reply
-    hopper_reply common_reply reply_of ask asked asks_of asker after_echo got heard_after got_by distance judge
-    life_between close
-halted_twice_plays = search
-
 -- a second halt before the stop changes nothing
 abbrev halted_at_once : List Row
 halted_at_once =
-    one (step.Command (command.Pay 3 41 4)) (entry.Taken (command.Pay 3 41 4))
-    ∷ one (step.Next 3) (wire 3 "030101a4a5b2" "030101a4a5b201000300fc")
-    ∷ one (step.Next 3) (wire 3 "030001a854" "030001a85401030300fefffffd")
-    ∷ one (step.Next 3) (entry.Put (record_of.Opened 41 3 4 16777214))
-    ∷ one (step.Next 3) (wire 3 "030401a70102030447" "030401a7010203044701000300fc")
-    ∷ one (step.Command (command.Halt 3)) (entry.Taken (command.Halt 3))
+    dispensed
+    ++ one (step.Command (command.Halt 3)) (entry.Taken (command.Halt 3))
     ∷ one (step.Command (command.Halt 3)) (entry.Taken (command.Halt 3))
     ∷ one (step.Next 3) (wire 3 "030001ac50" "030001ac500101030004f7")
     ∷ one (step.Next 3) (wire 3 "030001a656" "030001a6560104030001000004f3")
     ∷ one (step.Next 3) (wire 3 "030001a854" "030001a85401030300fefffffd")
     ∷ both (step.Next 3) (entry.Put (record_of.Closed 41 0 4)) (entry.Ended 3 end_of.Closed)
     ∷ []
-
-halted_at_once_plays : Plays 65535 setup funded halted_at_once
-unfolding message spelling data_of request_of requests_with form_of reply_data reply_in has_place acceptor_reply
-    hopper_reply common_reply reply_of ask asked asks_of asker after_echo got heard_after got_by distance judge
-    life_between close
-halted_at_once_plays = search
 
 -- a halt at the first row: the stop comes before the first look at the payout
 abbrev halted_early : List Row
@@ -211,30 +172,11 @@ halted_early =
     ∷ both (step.Next 3) (entry.Put (record_of.Closed 41 0 4)) (entry.Ended 3 end_of.Closed)
     ∷ []
 
-halted_early_plays : Plays 65535 setup funded halted_early
-unfolding message spelling data_of request_of requests_with form_of reply_data reply_in has_place acceptor_reply
-    hopper_reply common_reply reply_of ask asked asks_of asker after_echo got heard_after got_by distance judge
-    life_between close
-halted_early_plays = search
-
 -- a stop is a row of its own: two tries of the look, two of the stop and two of the next look end nothing
 abbrev tries_anew : List Row
 tries_anew =
-    one (step.Command (command.Pay 3 41 2)) (entry.Taken (command.Pay 3 41 2))
-    ∷ one (step.Next 3) (wire 3 "030101a4a5b2" "030101a4a5b201000300fc")
-    ∷ one (step.Next 3) (wire 3 "030001a854" "030001a85401030300fefffffd")
-    ∷ one (step.Next 3) (entry.Put (record_of.Opened 41 3 2 16777214))
-    ∷ one (step.Next 3) (wire 3 "030401a70102030249" "030401a7010203024901000300fc")
-    ∷ one (step.Fault (fault.HostHears [])) (entry.Fault (fault.HostHears []))
-    ∷ one (step.Next 3) (wire 3 "030001a656" "030001a656")
-    ∷ one (step.Fault (fault.HostHears [])) (entry.Fault (fault.HostHears []))
-    ∷ one (step.Next 3) (wire 3 "030001a656" "030001a656")
-    ∷ one (step.Command (command.Halt 3)) (entry.Taken (command.Halt 3))
-    ∷ one (step.Fault (fault.HostHears [])) (entry.Fault (fault.HostHears []))
-    ∷ one (step.Next 3) (wire 3 "030001ac50" "030001ac50")
-    ∷ one (step.Fault (fault.HostHears [])) (entry.Fault (fault.HostHears []))
-    ∷ one (step.Next 3) (wire 3 "030001ac50" "030001ac50")
-    ∷ one (step.Next 3) (wire 3 "030001ac50" "030001ac500101030000fb")
+    stopped_twice
+    ++ one (step.Next 3) (wire 3 "030001ac50" "030001ac500101030000fb")
     ∷ one (step.Fault (fault.HostHears [])) (entry.Fault (fault.HostHears []))
     ∷ one (step.Next 3) (wire 3 "030001a656" "030001a656")
     ∷ one (step.Fault (fault.HostHears [])) (entry.Fault (fault.HostHears []))
@@ -244,30 +186,11 @@ tries_anew =
     ∷ both (step.Next 3) (entry.Put (record_of.Closed 41 0 2)) (entry.Ended 3 end_of.Closed)
     ∷ []
 
-tries_anew_plays : Plays 65535 setup funded tries_anew
-unfolding message spelling data_of request_of requests_with form_of reply_data reply_in has_place acceptor_reply
-    hopper_reply common_reply reply_of ask asked asks_of asker after_echo got heard_after got_by distance judge
-    life_between close
-tries_anew_plays = search
-
 -- three lost replies to a stop end a payment, and a settlement may be halted until its look shows 0
 abbrev stop_given_up : List Row
 stop_given_up =
-    one (step.Command (command.Pay 3 41 2)) (entry.Taken (command.Pay 3 41 2))
-    ∷ one (step.Next 3) (wire 3 "030101a4a5b2" "030101a4a5b201000300fc")
-    ∷ one (step.Next 3) (wire 3 "030001a854" "030001a85401030300fefffffd")
-    ∷ one (step.Next 3) (entry.Put (record_of.Opened 41 3 2 16777214))
-    ∷ one (step.Next 3) (wire 3 "030401a70102030249" "030401a7010203024901000300fc")
-    ∷ one (step.Fault (fault.HostHears [])) (entry.Fault (fault.HostHears []))
-    ∷ one (step.Next 3) (wire 3 "030001a656" "030001a656")
-    ∷ one (step.Fault (fault.HostHears [])) (entry.Fault (fault.HostHears []))
-    ∷ one (step.Next 3) (wire 3 "030001a656" "030001a656")
-    ∷ one (step.Command (command.Halt 3)) (entry.Taken (command.Halt 3))
-    ∷ one (step.Fault (fault.HostHears [])) (entry.Fault (fault.HostHears []))
-    ∷ one (step.Next 3) (wire 3 "030001ac50" "030001ac50")
-    ∷ one (step.Fault (fault.HostHears [])) (entry.Fault (fault.HostHears []))
-    ∷ one (step.Next 3) (wire 3 "030001ac50" "030001ac50")
-    ∷ one (step.Fault (fault.HostHears [])) (entry.Fault (fault.HostHears []))
+    stopped_twice
+    ++ one (step.Fault (fault.HostHears [])) (entry.Fault (fault.HostHears []))
     ∷ both (step.Next 3) (wire 3 "030001ac50" "030001ac50") (entry.Ended 3 end_of.NoAnswer)
     ∷ one (step.Command (command.Halt 3)) (entry.No (command.Halt 3) command_no.NoPayout)
     ∷ one (step.Command (command.Settle 3)) (entry.Taken (command.Settle 3))
@@ -279,25 +202,11 @@ stop_given_up =
     ∷ both (step.Next 3) (entry.Put (record_of.Closed 41 0 2)) (entry.Ended 3 end_of.Closed)
     ∷ []
 
-stop_given_up_plays : Plays 65535 setup funded stop_given_up
-unfolding message spelling data_of request_of requests_with form_of reply_data reply_in has_place acceptor_reply
-    hopper_reply common_reply reply_of ask asked asks_of asker after_echo got heard_after got_by distance judge
-    life_between close
-stop_given_up_plays = search
-
 -- a look that shows coins left to pay is answered: it ends the tries before it
 abbrev tries_go_on : List Row
 tries_go_on =
-    one (step.Command (command.Pay 3 41 2)) (entry.Taken (command.Pay 3 41 2))
-    ∷ one (step.Next 3) (wire 3 "030101a4a5b2" "030101a4a5b201000300fc")
-    ∷ one (step.Next 3) (wire 3 "030001a854" "030001a85401030300fefffffd")
-    ∷ one (step.Next 3) (entry.Put (record_of.Opened 41 3 2 16777214))
-    ∷ one (step.Next 3) (wire 3 "030401a70102030249" "030401a7010203024901000300fc")
-    ∷ one (step.Fault (fault.HostHears [])) (entry.Fault (fault.HostHears []))
-    ∷ one (step.Next 3) (wire 3 "030001a656" "030001a656")
-    ∷ one (step.Fault (fault.HostHears [])) (entry.Fault (fault.HostHears []))
-    ∷ one (step.Next 3) (wire 3 "030001a656" "030001a656")
-    ∷ one (step.Next 3) (wire 3 "030001a656" "030001a6560104030001020000f5")
+    looked_twice
+    ++ one (step.Next 3) (wire 3 "030001a656" "030001a6560104030001020000f5")
     ∷ one (step.Fault (fault.HostHears [])) (entry.Fault (fault.HostHears []))
     ∷ one (step.Next 3) (wire 3 "030001a656" "030001a656")
     ∷ one (step.Fault (fault.HostHears [])) (entry.Fault (fault.HostHears []))
@@ -310,21 +219,11 @@ tries_go_on =
     ∷ both (step.Next 3) (entry.Put (record_of.Closed 41 2 0)) (entry.Ended 3 end_of.Closed)
     ∷ []
 
-tries_go_on_plays : Plays 65535 setup funded tries_go_on
-unfolding message spelling data_of request_of requests_with form_of reply_data reply_in has_place acceptor_reply
-    hopper_reply common_reply reply_of ask asked asks_of asker after_echo got heard_after got_by distance judge
-    life_between close
-tries_go_on_plays = search
-
 -- a jam ends the payout, and what falls or jams afterwards is nothing
 abbrev jammed : List Row
 jammed =
-    one (step.Command (command.Pay 3 41 4)) (entry.Taken (command.Pay 3 41 4))
-    ∷ one (step.Next 3) (wire 3 "030101a4a5b2" "030101a4a5b201000300fc")
-    ∷ one (step.Next 3) (wire 3 "030001a854" "030001a85401030300fefffffd")
-    ∷ one (step.Next 3) (entry.Put (record_of.Opened 41 3 4 16777214))
-    ∷ one (step.Next 3) (wire 3 "030401a70102030447" "030401a7010203044701000300fc")
-    ∷ one (step.Fall 3) (entry.Fell 3)
+    dispensed
+    ++ one (step.Fall 3) (entry.Fell 3)
     ∷ one (step.Jam 3) (entry.Jammed 3)
     ∷ one (step.Fall 3) (entry.NoFall 3)
     ∷ one (step.Jam 3) (entry.NoJam 3)
@@ -333,32 +232,17 @@ jammed =
     ∷ both (step.Next 3) (entry.Put (record_of.Closed 41 1 3)) (entry.Ended 3 end_of.Closed)
     ∷ []
 
-jammed_plays : Plays 65535 setup funded jammed
-unfolding message spelling data_of request_of requests_with form_of reply_data reply_in has_place acceptor_reply
-    hopper_reply common_reply reply_of ask asked asks_of asker after_echo got heard_after got_by distance judge
-    life_between close
-jammed_plays = search
-
 -- a hopper that was reset before its dispense refuses it, and pays nothing
 abbrev refused_dispense : List Row
 refused_dispense =
-    one (step.Command (command.Pay 3 41 4)) (entry.Taken (command.Pay 3 41 4))
-    ∷ one (step.Next 3) (wire 3 "030101a4a5b2" "030101a4a5b201000300fc")
-    ∷ one (step.Next 3) (wire 3 "030001a854" "030001a85401030300fefffffd")
-    ∷ one (step.Next 3) (entry.Put (record_of.Opened 41 3 4 16777214))
-    ∷ one (step.Reset 3) (entry.Reset 3)
+    ordered
+    ++ one (step.Reset 3) (entry.Reset 3)
     ∷ one (step.Next 3) (wire 3 "030401a70102030447" "030401a7010203044701000305f7")
     ∷ one (step.Fall 3) (entry.NoFall 3)
     ∷ one (step.Next 3) (wire 3 "030001a656" "030001a6560104030000000000f8")
     ∷ one (step.Next 3) (wire 3 "030001a854" "030001a85401030300fefffffd")
     ∷ both (step.Next 3) (entry.Put (record_of.Closed 41 0 4)) (entry.Ended 3 end_of.Closed)
     ∷ []
-
-refused_dispense_plays : Plays 65535 setup funded refused_dispense
-unfolding message spelling data_of request_of requests_with form_of reply_data reply_in has_place acceptor_reply
-    hopper_reply common_reply reply_of ask asked asks_of asker after_echo got heard_after got_by distance judge
-    life_between close
-refused_dispense_plays = search
 
 -- a second order begins at the life count of the first
 abbrev pub one_after_another : List Row
@@ -384,12 +268,6 @@ one_after_another =
     ∷ both (step.Next 3) (entry.Put (record_of.Closed 42 2 0)) (entry.Ended 3 end_of.Closed)
     ∷ []
 
-one_after_another_plays : Plays 65535 setup funded one_after_another
-unfolding message spelling data_of request_of requests_with form_of reply_data reply_in has_place acceptor_reply
-    hopper_reply common_reply reply_of ask asked asks_of asker after_echo got heard_after got_by distance judge
-    life_between close
-one_after_another_plays = search
-
 -- a sale takes its price from what is available; a second one with its id, and one beyond what is left, are refused
 abbrev sold : List Row
 sold =
@@ -400,8 +278,9 @@ sold =
     ∷ one step.Balance (entry.Balance (record { available = 70; reserved = 0; paid = 0; sold = 30 }))
     ∷ []
 
-sold_plays : Plays 65535 setup funded sold
+-- each of these runs is played
+payments_play : AllPlay setup funded (paid ∷ lost_ack ∷ lost_dispense ∷ given_up ∷ halted ∷ halted_twice ∷ halted_at_once ∷ halted_early ∷ tries_anew ∷ stop_given_up ∷ tries_go_on ∷ jammed ∷ refused_dispense ∷ one_after_another ∷ sold ∷ [])
 unfolding message spelling data_of request_of requests_with form_of reply_data reply_in has_place acceptor_reply
     hopper_reply common_reply reply_of ask asked asks_of asker after_echo got heard_after got_by distance judge
     life_between close
-sold_plays = search
+payments_play = (search, (search, (search, (search, (search, (search, (search, (search, (search, (search, (search, (search, (search, (search, (search, tt)))))))))))))))

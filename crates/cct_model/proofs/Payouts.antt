@@ -16,11 +16,11 @@ use Rattle.cct_model.specs.Device.{common_reply, reply_of}
 use Rattle.cct_model.specs.Exchange.{asks_of, asker, answer}
 use Rattle.cct_model.proofs.Machine.{Row, Plays, setup, hopper, bytes_of, one}
 
--- a hopper met all this and hears a piece
+-- a hopper met all this and hears bytes
 abbrev hears : String → List Met → List Met
 hears piece past = heard (asks_of hopper (bytes_of (codes piece))) ∷ past
 
--- what it answers to a piece
+-- what it answers to bytes
 abbrev says : List Met → String → Option (List ℕ)
 says past piece = answer hopper past (bytes_of (codes piece))
 
@@ -90,7 +90,7 @@ no_coins : hopper_reply 197121 16777214 (awake) (Dispense 197121 0) ≡ Some rep
 unfolding hopper_reply
 no_coins = refl
 
--- it takes no dispense while it pays, nor behind a reset or a disable
+-- it takes no dispense while it pays, nor after a reset or a disable
 already_paying : hopper_reply 197121 16777214 (half) (Dispense 197121 1) ≡ Some reply.nak
 unfolding hopper_reply
 already_paying = refl
@@ -107,7 +107,7 @@ disabled : hopper_reply 197121 16777214 (heard (Some (Enable 0)) ∷ awake) (Dis
 unfolding hopper_reply
 disabled = refl
 
--- behind its last coin, a jam or a stop it takes the next one
+-- after its last coin, a jam or a stop it takes the next one
 pays_again : hopper_reply 197121 16777214 (fall ∷ fall ∷ half) (Dispense 197121 1) ≡ Some reply.ack
 unfolding hopper_reply
 pays_again = refl
@@ -152,7 +152,7 @@ disabled_half = refl
 refused_meanwhile : status_of 197121 (heard (Some (Dispense 197121 9)) ∷ half) ≡ reply.status 1 2 2 0
 refused_meanwhile = refl
 
--- what comes behind that changes nothing
+-- what comes after that changes nothing
 stopped_twice : status_of 197121 (fall ∷ jam ∷ heard (Some StopNow) ∷ heard (Some StopNow) ∷ half) ≡ reply.status 1 0 2 2
 stopped_twice = refl
 

@@ -42,7 +42,7 @@ not_true : (b : Bool) → not b ≡ true → b ≡ false
 not_true true e = absurd cc
 not_true false e = refl
 
--- the two polls of an address are different pieces, at each address
+-- the two polls of an address are different bytes, at each address
 polls_differ : (addr : ℕ) → addr < 256 → bytes_eq (ask Crc addr (poll_of addr)) (ask Simple addr (poll_of addr)) ≡ false
 unfolding ask spelling crc data_of
 polls_differ addr within = not_true _ (below (λ a. not (bytes_eq (ask Crc a (poll_of a)) (ask Simple a (poll_of a)))) 256 refl addr within)

@@ -1,8 +1,5 @@
 -- Each test of each command, in its order: a past in which the later tests hold too.
-use Rattle.std.proofs.Common.{◌≡◌, List, [], ◌∷◌, replicate, false, Some, None, refl}
-use Rattle.std.specs.Prelude.{codes}
-use Rattle.cct_model.specs.terms.wire.CheckKind.TheVariants.{Simple}
-use Rattle.cct_model.specs.terms.device.DeviceBody.TheVariants.{Acceptor}
+use Rattle.std.proofs.Common.{◌≡◌, List, [], ◌∷◌, replicate, Some, None, refl}
 use Rattle.cct_model.specs.terms.device.Setup.{Setup}
 use Rattle.cct_model.specs.lines.command.Command.TheVariants.{Start, Round, Stop, Pay, Settle, Halt, Scan, Ident, Path, Vend}
 use Rattle.cct_model.specs.lines.command.CommandNo.TheVariants.{NoDevice, WrongKind, Busy, EpochRuns, NoEpoch, NoValue, OrderOpen, NoOrder, NoPayout, OldId, Short, JournalFull}
@@ -18,13 +15,13 @@ use Rattle.cct_model.specs.Exchange.{asked, asks_of, after_echo, got}
 use Rattle.cct_model.specs.Transcript.{got_by}
 use Rattle.cct_model.specs.Reading.{distance, judge}
 use Rattle.cct_model.specs.Refusal.{refusal, held}
-use Rattle.cct_model.proofs.Machine.{setup, texts, coin, wire}
+use Rattle.cct_model.proofs.Machine.{setup, acceptor_of, coin, wire}
 
--- an epoch runs and a coin of value 100 was posted, no job is at work, and two records are used
+-- an epoch runs and a coin of value 100 was posted, no job is running, and two records are used
 abbrev posted : List Entry
 posted = Ended 2 end_of.Posted ∷ Put (Reading 2 1 0 (coin 5 1 ∷ [])) ∷ Put (Epoch 2 65535) ∷ []
 
--- an order is open that no job is at work to close
+-- an order is open that no job is to close
 abbrev owing : List Entry
 owing = Put (Opened 41 3 4 0) ∷ posted
 
@@ -58,17 +55,7 @@ empty = wire 3 "030001a656" "030001a6560104030001000400f3" ∷ sent
 
 -- an acceptor whose places 3 and 5 have no value
 abbrev sparse : Setup
-sparse = record {
-  devices =
-      record {
-        addr = 2;
-        kind = Simple;
-        serial = 1;
-        texts = texts;
-        named = false;
-        body = Acceptor 0 (100 ∷ 100 ∷ 0 ∷ 100 ∷ 0 ∷ replicate 11 100) (replicate 16 (codes "XX100A"));
-      } ∷ [];
-}
+sparse = record { devices = acceptor_of (100 ∷ 100 ∷ 0 ∷ 100 ∷ 0 ∷ replicate 11 100) ∷ [] }
 
 -- a start
 start_nowhere : refusal 0 setup crowded (Start 9 65535) ≡ Some NoDevice
@@ -296,11 +283,11 @@ vend_full = refl
 vend_last : refusal 3 setup posted (Vend 5 100) ≡ None
 vend_last = refl
 
--- an id of a job that put nothing is free again behind its end
+-- an id of a job that put nothing is free again after its end
 id_given_up : refusal 65535 setup (Ended 3 end_of.NoAnswer ∷ paying) (Pay 3 42 4) ≡ None
 id_given_up = refl
 
--- how many records are held: by an order without a job, by a payment up to its opened order and behind it
+-- how many records are held: by an order without a job, by a payment up to its opened order and after it
 holds_nothing : held setup posted ≡ 0
 holds_nothing = refl
 

@@ -14,7 +14,8 @@ use Rattle.cct_model.specs.Line.{Line, exchange}
 use Rattle.cct_model.specs.Order.{is_marked}
 use Rattle.cct_model.specs.Job.{sends, Payment, payment_in, judged_in, address_of, state_row}
 use Rattle.cct_model.specs.Rows.{TableRow, asks_for, asks_once, waits_for_coins, puts_due, after, done, rest, first, row, sent_once, ends_first, has_waits}
-use Rattle.cct_model.proofs.Tries.{IsAgain, is_asked_again, FailsAs, fails_as, left_asks, due_sends, same_request}
+use Rattle.cct_model.proofs.Requests.{is_asked_again, IsAgain}
+use Rattle.cct_model.proofs.Tries.{FailsAs, fails_as, left_asks, due_sends, same_request}
 use Rattle.cct_model.proofs.Rows.{EachRow}
 
 -- without an answer only what is sent once ends

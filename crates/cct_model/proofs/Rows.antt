@@ -1,6 +1,6 @@
 -- What the rows of a job at a device send and put, and how they end: the walks over the rows that are left, and that each
 -- record is of the job's address.
-use Rattle.std.proofs.Common.{◌≡◌, ◌∙◌, ℕ, ◌-◌, ◌==◌, ◌&&◌, nat_le, zero, suc, cond, true, false, Bool, List, [], ◌∷◌, length, slice_get, arith, refl, ap, sym, subst, Option, Some, None, true≢false}
+use Rattle.std.proofs.Common.{◌≡◌, ◌∙◌, ℕ, ◌-◌, ◌==◌, ◌&&◌, nat_le, zero, suc, cond, true, false, Bool, List, [], ◌∷◌, length, slice_get, arith, refl, ap, sym, subst, Option, Some, None}
 use Rattle.std.specs.Prelude.{⊤}
 use Rattle.std.proofs.lemmas.Bool.{and_parts}
 use Rattle.std.proofs.lemmas.Bool.Decides.{nat_tests}
@@ -27,8 +27,9 @@ use Rattle.cct_model.specs.Line.{Line, exchange, put}
 use Rattle.cct_model.specs.Reading.{judge}
 use Rattle.cct_model.specs.Order.{close, life_between}
 use Rattle.cct_model.specs.Job.{Row, sends, puts, no_row, put_or, Payment, payment_in, state_row, open_row, close_row, ident_requests, judged_by, judged_in, credits_read, mask_read, address_of, end_of_reading, end_of_close}
-use Rattle.cct_model.specs.Rows.{done, Then, goes_on, ends_as, if_quiet, if_judged, path_told, if_posted, if_closed, Due, new_epoch, reading, epoch_end, new_order, order_end, sale, TableRow, asks_for, asks_once, waits_for_coins, puts_due, telling, rows_of, after, from, left, rest, first, due_row, row, row_at, end_by_answer, end_by_record, end_bare, end_answered, end_failed, end_kept, end_of, has_waits, ends_first}
+use Rattle.cct_model.specs.Rows.{done, Then, goes_on, ends_as, if_quiet, if_judged, path_told, if_posted, if_closed, Due, new_epoch, reading, epoch_end, new_order, order_end, sale, TableRow, asks_for, asks_once, waits_for_coins, puts_due, telling, rows_of, after, from, left, rest, first, due_row, row, row_at, end_by_answer, end_by_record, end_bare, end_answered, end_failed, end_kept, end_of, has_waits, id_ahead, ends_first}
 use Rattle.cct_model.specs.Transcript.{owner, opened_at}
+use Rattle.cct_model.proofs.Requests.{Each}
 
 -- a fact of the request that a row sends, and one of the record that it puts
 abbrev pub RowHolds : (Request → Type 0) → (Record → Type 0) → Row → Type 0
@@ -36,21 +37,12 @@ RowHolds P Q (sends q) = P q
 RowHolds P Q (puts r) = Q r
 RowHolds P Q no_row = ⊤
 
--- a row puts nothing, and a fact holds of the request that it sends
-abbrev pub IfSends : (Request → Type 0) → Row → Type 0
-IfSends P r = RowHolds P (λ entry. ⊥) r
-
 -- both facts apart
 pub both_hold : (P : Request → Type 0) (Q : Record → Type 0) (r : Row) → RowHolds P (λ entry. ⊤) r →
     RowHolds (λ q. ⊤) Q r → RowHolds P Q r
 both_hold P Q (sends q) asks keeps = asks
 both_hold P Q (puts r) asks keeps = keeps
 both_hold P Q no_row asks keeps = tt
-
--- a fact of each request of a list
-abbrev pub Each : (Request → Type 0) → List Request → Type 0
-Each P [] = ⊤
-Each P (q ∷ qs) = P q × Each P qs
 
 -- a fact of the record that was judged, if there is one
 abbrev pub JudgedHolds : (Record → Type 0) → Judged → Type 0
@@ -373,22 +365,19 @@ waits_before (asks_for q behind ∷ rows) (suc n) waits = waits_before rows n wa
 waits_before (asks_once q behind without ∷ rows) (suc n) waits = waits_before rows n waits
 waits_before (puts_due due behind ∷ rows) (suc n) waits = waits_before rows n waits
 
-pub none_waits : (rows : List TableRow) (n : ℕ) → has_waits rows ≡ false → has_waits (after rows n) ≡ false
-none_waits rows n none = by_found (has_waits (after rows n)) refl
-  where
-    by_found : (found : Bool) → has_waits (after rows n) ≡ found → found ≡ false
-    by_found true is = absurd (true≢false (sym (waits_before rows n is) ∙ none))
-    by_found false is = refl
-
 pub told_no_waits : (qs : List Request) → has_waits (telling qs) ≡ false
 told_no_waits = told_fact (λ rows. has_waits rows ≡ false) refl (λ q behind rows none. none)
+
+-- and they record no id
+pub told_no_id : (qs : List Request) → id_ahead (telling qs) ≡ None
+told_no_id = told_fact (λ rows. id_ahead rows ≡ None) refl (λ q behind rows none. none)
 
 -- a fact of an end, if there is one
 abbrev pub IfEnd : (End → Type 0) → Option End → Type 0
 IfEnd P None = ⊤
 IfEnd P (Some end) = P end
 
--- a fact of each end that is brought behind a row
+-- a fact of each end that is brought after a row
 abbrev pub Behind : (End → Type 0) → Then → Type 0
 Behind P goes_on = ⊤
 Behind P (ends_as end) = P end

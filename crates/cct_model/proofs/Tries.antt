@@ -1,5 +1,5 @@
 -- What a failed try brings: no end for want of an answer but at the third of what is asked again.
-use Rattle.std.proofs.Common.{◌≡◌, ℕ, ◌==◌, ◌||◌, not, Bool, true, false, cond, List, [], ◌∷◌, ◌⊎◌, inl, inr, refl, sym, ◌∙◌, true≢false, subst, Option, rules}
+use Rattle.std.proofs.Common.{◌≡◌, ℕ, suc, ◌==◌, Bool, true, false, cond, List, [], ◌∷◌, ◌⊎◌, inl, inr, refl, sym, ◌∙◌, true≢false, subst, Option, Some, None, rules, eq-eqb}
 use Rattle.std.specs.Prelude.{⊤}
 use Rattle.cct_model.specs.terms.device.DeviceBody.{DeviceBody}
 use Rattle.cct_model.specs.terms.device.DeviceBody.TheVariants.{Acceptor, Hopper}
@@ -15,21 +15,11 @@ use Rattle.cct_model.specs.lines.command.Command.TheVariants as command
 use Rattle.cct_model.specs.lines.entry.End.{End}
 use Rattle.cct_model.specs.lines.entry.End.TheVariants.{NoAnswer}
 use Rattle.cct_model.specs.Request.{header_of}
-use Rattle.cct_model.specs.Line.{Line}
-use Rattle.cct_model.specs.Job.{sends, Payment, payment_in, judged_in, address_of, ident_requests, state_row, end_of_tries}
+use Rattle.cct_model.specs.Line.{Line, exchange}
+use Rattle.cct_model.specs.Job.{sends, Payment, payment_in, judged_in, address_of, ident_requests, state_row, end_of_tries, tries}
 use Rattle.cct_model.specs.Rows.{Due, reading, TableRow, asks_for, asks_once, waits_for_coins, puts_due, telling, rows_of, from, done, rest, left, first, due_row, row, sent_once, end_failed}
-use Rattle.cct_model.proofs.Rows.{IfEnd, RowHolds, Each, EachRow, fact_after, EachBefore, before_on, told_fact, told_each, AnswerEnds, PutEnds, Behind, each_left, each_told, due_holds, any_due, behind_bare}
-
--- a header under which a job asks once
-abbrev pub is_once_header : ℕ → Bool
-is_once_header header = (header == 231) || (header == 167)
-
--- a request that a job asks again, under a header that what is sent once doesn't have
-abbrev pub is_asked_again : Request → Bool
-is_asked_again q = not (is_once_header (header_of q))
-
-abbrev pub IsAgain : Request → Type 0
-IsAgain q = is_asked_again q ≡ true
+use Rattle.cct_model.proofs.Requests.{is_asked_again, IsAgain, Each}
+use Rattle.cct_model.proofs.Rows.{IfEnd, RowHolds, EachRow, fact_after, EachBefore, before_on, told_fact, told_each, AnswerEnds, PutEnds, Behind, each_left, each_told, due_holds, any_due, behind_bare}
 
 -- an end but that for want of an answer
 abbrev pub IsHeardEnd : End → Type 0
@@ -38,6 +28,11 @@ IsHeardEnd end = ⊤
 
 abbrev pub IfHeard : Option End → Type 0
 IfHeard found = IfEnd IsHeardEnd found
+
+-- one more failed try of a row
+pub tried : (q : Request) (since : List Line)
+    → tries (header_of q) (exchange (Some q) None ∷ since) ≡ suc (tries (header_of q) since)
+tried q since = rw (eq-eqb (header_of q) (header_of q) refl) refl
 
 pub ident_again : (body : DeviceBody) → Each IsAgain (ident_requests body)
 ident_again (Acceptor accepts values ids) = search rules

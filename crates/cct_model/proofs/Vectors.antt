@@ -171,7 +171,7 @@ a_refusal_is_no_acknowledgement = refl
 a_refused_mask : end_of (acceptor 2 Simple) start (exchange (Some (SetMask 80)) None) after_epoch (Running 80 0) ≡ Some StartUnsure
 a_refused_mask = refl
 
--- a scan that hears the bytes 2 and 9 behind its first address poll asks device 2, and then device 9 under both checks
+-- a scan that hears the bytes 2 and 9 after its first address poll asks device 2, and then device 9 under both checks
 first_poll : scan_row [] ≡ Some (Simple, 0)
 unfolding scan_row
 first_poll = refl
@@ -184,7 +184,7 @@ first_device : scan_row (scanned Crc 0 (Some []) ∷ scanned Simple 0 (Some (2 �
 unfolding scan_row next_due all_addresses
 first_device = refl
 
--- the acknowledgement of device 2 is the piece 01 00 02 00 fd
+-- the acknowledgement of device 2 is the bytes 01 00 02 00 fd
 second_device : scan_row (scanned Simple 2 (Some (1 ∷ 0 ∷ 2 ∷ 0 ∷ 253 ∷ [])) ∷ scanned Crc 0 (Some []) ∷ scanned Simple 0 (Some (2 ∷ 9 ∷ [])) ∷ []) ≡ Some (Simple, 9)
 unfolding scan_row next_due all_addresses message reply_in
 second_device = refl

@@ -15,7 +15,7 @@ coins [] = []
 coins (accepted coin ∷ past) = coin ∷ coins past
 coins (_ ∷ past) = coins past
 
--- How many pieces came: coins, accepted or not, and pieces that are no coin.
+-- How many objects came: coins, accepted or not, and objects that are no coin.
 abbrev pub arrivals : List Line → ℕ
 arrivals [] = 0
 arrivals (accepted coin ∷ past) = suc (arrivals past)
@@ -38,8 +38,8 @@ abbrev pub looking : List Line → List Line
 looking [] = []
 looking (line ∷ past) = behind (mask_line line) past (looking past)
 
--- Up to which coins a record that is an item tells, newest first: a reading, those that were accepted before the credits
--- were read; a break, those before the mask was read; the begin and the end of an epoch, all that were accepted.
+-- Up to which coins a record that is an item tells, newest first. A reading tells up to those that were accepted before the
+-- credits were read; a break, before the mask was read; the begin and the end of an epoch tell all that were accepted.
 abbrev pub known_by : Record → List Line → List Coin
 known_by (record_of.Reading addr counter lost posted) past = coins (reading past)
 known_by (record_of.Broken addr seen counter posted) past = coins (looking past)
@@ -65,7 +65,7 @@ abbrev pub mark : List Line → ℕ
 mark [] = 0
 mark (line ∷ past) = count_or (mark past) (told past line)
 
--- The part of an item that tells up to these coins: those of them behind the mark of the item before it, newest first.
+-- The part of an item that tells up to these coins: those of them after the mark of the item before it, newest first.
 abbrev pub part : List Line → List Coin → List Coin
 part past known = take (length known - mark past) known
 
@@ -109,7 +109,7 @@ CoverAt past (put entry) = UnpostedOf past entry
 CoverAt past (ended Clean) = part past (coins (reading past)) ≡ []
 CoverAt past line = ⊤
 
--- How many pieces had come at the reading of the last record, where that begins an epoch or is a reading; none behind a
+-- How many objects had come at the reading of the last record, where that begins an epoch or is a reading; none after a
 -- record that ends an epoch.
 abbrev pub base_by : Record → List Line → Option ℕ → Option ℕ
 base_by (record_of.Epoch addr mask) past before = Some (arrivals (reading past))
@@ -124,12 +124,12 @@ base [] = None
 base (put entry ∷ past) = base_by entry past (base past)
 base (line ∷ past) = base past
 
--- Fewer than 255 pieces came from one number of pieces to another, where there is the first.
+-- Fewer than 255 objects came from one number of objects to another, where there is the first.
 abbrev pub IsNear : Option ℕ → ℕ → Type 0
 IsNear None now = ⊤
 IsNear (Some before) now = now < before + 255
 
--- Fewer than 255 pieces came between the reading of the last record, where that begins an epoch or is a reading, and the
+-- Fewer than 255 objects came between the reading of the last record, where that begins an epoch or is a reading, and the
 -- reading of this item.
 abbrev pub Near : List Line → Type 0
 Near past = IsNear (base past) (arrivals (reading past))
@@ -153,6 +153,6 @@ InOrder lines = AllPast OrderAt lines
 abbrev pub Covers : List Line → Type 0
 Covers lines = AllPast CoverAt lines
 
--- No 255 pieces come without a recorded reading: the event counter counts each, and tells no more than 254 apart.
+-- No 255 objects come without a recorded reading: the event counter counts each, and tells no more than 254 apart.
 abbrev pub Pace : List Line → Type 0
 Pace lines = AllPast PaceAt lines

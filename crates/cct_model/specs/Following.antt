@@ -28,10 +28,10 @@ count_of None = 0
 count_of (Some o) = o.count
 
 -- A record may follow those before it. An epoch begins at an acceptor with no running epoch, and each place of its mask,
--- which isn't 0, has a value; a reading, a break and an epoch's end follow where an epoch runs. An order is opened at a
--- hopper with no open order, with an id that isn't 0 and with which none is open, and its coins, at least one, are
--- available; it is closed where it is open, and its coins are then paid or unpaid. A sale has an id and a price that
--- aren't 0, and its price is available.
+-- which isn't 0, has a value. A reading, a break and an epoch's end follow where an epoch runs. An order is opened at a
+-- hopper with no open order, with an id that isn't 0 and with which none is open; its coins, at least one, are available.
+-- It is closed where it is open, and its coins are then paid or unpaid. A sale has an id and a price that aren't 0, and its
+-- price is available.
 abbrev pub follows : Setup → List Record → Record → Bool
 follows setup before (record_of.Epoch addr mask) =
     acceptor_there (device_at setup.devices addr) && not (is_running (epoch_in addr before)) && not (mask == 0)

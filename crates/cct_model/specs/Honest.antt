@@ -1,4 +1,4 @@
--- The wire's faults as far as the laws allow for them: a damaged piece fails its check.
+-- The wire's faults as far as the laws allow for them: damaged bytes fail their check.
 use Rattle.std.specs.Prelude.{◌≡◌, ◌&&◌, ◌||◌, ℕ, Bool, true, List, [], ◌∷◌, Option, None, Some, is_none, bytes_eq, ⊤}
 use Rattle.cct_model.specs.terms.wire.CheckKind.TheVariants.{Simple, Crc}
 use Rattle.cct_model.specs.terms.request.Request.TheVariants.{AddressPoll}
@@ -10,11 +10,11 @@ use Rattle.cct_model.specs.Message.{message}
 use Rattle.cct_model.specs.Exchange.{after_echo, ask}
 use Rattle.cct_model.specs.Transcript.{pending, onto}
 
--- Whether a piece is no message, under either check.
+-- Whether bytes are no message, under either check.
 abbrev pub is_no_message : List ℕ → Bool
 is_no_message piece = is_none (message Simple piece) && is_none (message Crc piece)
 
--- Whether a piece is the address poll by which a scan asks all devices, under one of the checks.
+-- Whether bytes are the address poll by which a scan asks all devices, under one of the checks.
 abbrev pub is_address_poll : List ℕ → Bool
 is_address_poll sent = bytes_eq sent (ask Simple 0 AddressPoll) || bytes_eq sent (ask Crc 0 AddressPoll)
 
@@ -23,8 +23,8 @@ abbrev pub has_no_message : Option (List ℕ) → Bool
 has_no_message None = true
 has_no_message (Some rest) = is_no_message rest
 
--- Whether a fault does an honest damage to an exchange: the piece that the devices hear is no message. Where no address
--- poll is sent, the piece that the host hears is none, nor is what follows the host's own echo in it.
+-- Whether a fault does an honest damage to an exchange: the bytes that the devices hear are no message. Where no address
+-- poll is sent, the bytes that the host hears are none, nor are those after the host's own echo.
 abbrev pub is_honest : WireFault → List ℕ → Bool
 is_honest fault.Clear sent = true
 is_honest (fault.DevicesHear piece) sent = is_no_message piece
@@ -46,6 +46,6 @@ abbrev pub HonestPast : List Entry → Type 0
 HonestPast [] = ⊤
 HonestPast (e ∷ past) = IsHonestAt past e × HonestPast past
 
--- A transcript, oldest entry first, shows an honest wire: each piece that a fault damages fails its check.
+-- A transcript, oldest entry first, shows an honest wire: all bytes that a fault damages fail their check.
 abbrev pub Honest : List Entry → Type 0
 Honest transcript = HonestPast (onto [] transcript)

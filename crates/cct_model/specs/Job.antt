@@ -22,7 +22,7 @@ use Rattle.cct_model.specs.lines.entry.End.TheVariants.{Unquiet, Clean, NoAnswer
 use Rattle.cct_model.specs.Request.{header_of}
 use Rattle.cct_model.specs.Reply.{Reply}
 use Rattle.cct_model.specs.Reply as reply
-use Rattle.cct_model.specs.Line.{Line, accepted, inhibited, alien, fell, reset, dispensed, exchange, scanned, put, taken, ended, crashed}
+use Rattle.cct_model.specs.Line.{Line, accepted, inhibited, alien, fell, reset, dispensed, exchange, scanned, put, taken, ended, restarted}
 use Rattle.cct_model.specs.Reading.{judge}
 use Rattle.cct_model.specs.Order.{close, is_marked, life_read}
 
@@ -41,12 +41,12 @@ abbrev pub begun : Command → Job → Job
 begun (command.Halt addr) before = with_line (taken (command.Halt addr)) before
 begun c before = works c []
 
--- The job at an address: that of the last command taken there, and none where it has ended or the host lost its power.
+-- The job at an address: that of the last command taken there, and none where it has ended or the power was cut.
 abbrev pub job : List Line → Job
 job [] = free
 job (taken c ∷ past) = begun c (job past)
 job (ended end ∷ past) = free
-job (crashed ∷ past) = free
+job (restarted ∷ past) = free
 job (exchange asked got ∷ past) = with_line (exchange asked got) (job past)
 job (scanned check addr rest ∷ past) = with_line (scanned check addr rest) (job past)
 job (put entry ∷ past) = with_line (put entry) (job past)

@@ -71,7 +71,7 @@ with_end addr e None = e ∷ []
 with_end addr e (Some end) = entry.Ended addr end ∷ e ∷ []
 
 -- The entries of one attempt of a row of a job at a device, newest first: one exchange, or one put, and its end. What
--- follows a piece that is sent is an argument.
+-- follows the bytes that are sent is an argument.
 abbrev pub RowEntries : (List ℕ → List ℕ) → DeviceSetup → List Entry → Command → List Line → Row → List Entry → Type 0
 RowEntries hears d past c since (sends q) news =
     let sent = ask d.kind d.addr q in
@@ -160,24 +160,24 @@ due_there past addr None = if addr == HOST then due_of_sale (job (sale_lines pas
 abbrev pub due_at : Setup → List Entry → ℕ → Option Record
 due_at setup past addr = due_there past addr (device_at setup.devices addr)
 
--- The host lost its power, with nothing kept of a put under way: it starts again over the records that were put.
-abbrev pub bare_crash : List Entry → List Entry
-bare_crash past = entry.Crash (length (records past)) ∷ []
+-- A restart after a power cut, with nothing kept of a put under way: the host restarts over the records that were put.
+abbrev pub bare_restart : List Entry → List Entry
+bare_restart past = entry.Crash (length (records past)) ∷ []
 
--- The host lost its power, and the record of the put under way was kept.
-abbrev pub keeping_crash : List Entry → Record → List Entry
-keeping_crash past r = entry.Kept r ∷ entry.Crash (suc (length (records past))) ∷ []
+-- A restart after a power cut that kept the record of the put under way.
+abbrev pub keeping_restart : List Entry → Record → List Entry
+keeping_restart past r = entry.Kept r ∷ entry.Crash (suc (length (records past))) ∷ []
 
--- The entries of a loss of power after so many of the four disk calls of a put, newest first: the record under way is
--- kept after all four, and may be after three, when its gate is written and not yet synced.
-abbrev pub CrashEntries : List Entry → ℕ → Option Record → List Entry → Type 0
-CrashEntries past calls None news = news ≡ bare_crash past
-CrashEntries past calls (Some r) news = ((calls < 4) × (news ≡ bare_crash past)) ⊎ ((2 < calls) × (news ≡ keeping_crash past r))
+-- The entries of a power cut after so many of the four disk calls of a put, newest first. The record under way is kept
+-- after all four. It may be kept after three, when its gate is written and not yet synced.
+abbrev pub RestartEntries : List Entry → ℕ → Option Record → List Entry → Type 0
+RestartEntries past calls None news = news ≡ bare_restart past
+RestartEntries past calls (Some r) news = ((calls < 4) × (news ≡ bare_restart past)) ⊎ ((2 < calls) × (news ≡ keeping_restart past r))
 
--- The entries of a loss of power, newest first: in a put of the job at an address, or in none.
-abbrev pub EntriesOfCrash : Setup → List Entry → Option CrashAt → List Entry → Type 0
-EntriesOfCrash setup past None news = news ≡ bare_crash past
-EntriesOfCrash setup past (Some at) news = CrashEntries past at.calls (due_at setup past at.addr) news
+-- The entries of a power cut, newest first: in a put of the job at an address, or in none.
+abbrev pub EntriesOfRestart : Setup → List Entry → Option CrashAt → List Entry → Type 0
+EntriesOfRestart setup past None news = news ≡ bare_restart past
+EntriesOfRestart setup past (Some at) news = RestartEntries past at.calls (due_at setup past at.addr) news
 
 -- The entries of what befalls the device at an address: one.
 abbrev pub EntriesOfHappening : Setup → List Entry → ℕ → Happening → List Entry → Type 0
@@ -185,7 +185,7 @@ EntriesOfHappening setup past addr what news =
     OfKnowing what (device_at setup.devices addr) (λ d. news ≡ happening_entry addr d past what ∷ [])
 
 -- The entries of a step after all that came before, newest first, over a journal that takes so many records. The choice of a
--- loss of power is a disk's: here either outcome is one that it may have, where the gate was written and not yet synced.
+-- power cut is a disk's: here either outcome is one that it may have, where the gate was written and not yet synced.
 -- The end of a script is no step of a run.
 abbrev pub Entries : ℕ → Setup → List Entry → Step → List Entry → Type 0
 Entries capacity setup past (step.Coin addr place) news = EntriesOfHappening setup past addr (happening.Coin place) news
@@ -196,7 +196,7 @@ Entries capacity setup past (step.Reset addr) news = EntriesOfHappening setup pa
 Entries capacity setup past (step.Fault f) news = news ≡ entry.Fault f ∷ []
 Entries capacity setup past (step.Command c) news = news ≡ command_entry c (refusal capacity setup past c) ∷ []
 Entries capacity setup past (step.Next addr) news = EntriesOfNext (heard_after setup past) setup past addr news
-Entries capacity setup past (step.Crash at choice) news = EntriesOfCrash setup past at news
+Entries capacity setup past (step.Crash at choice) news = EntriesOfRestart setup past at news
 Entries capacity setup past step.Balance news = news ≡ entry.Balance (totals setup past) ∷ []
 Entries capacity setup past step.End news = ⊥
 

@@ -9,9 +9,9 @@ use Rattle.cct_model.specs.lines.command.Command.{Command}
 use Rattle.cct_model.specs.lines.entry.End.{End}
 use Rattle.cct_model.specs.Reply.{Reply}
 
--- A coin was accepted or inhibited, a piece that is no coin came, a coin fell out, the device was reset; a hopper took a
--- dispense of so many coins; an exchange was made; a scan polled an address under a check, and this followed a good echo;
--- a record was put; a command was taken; a job ended; the host lost its power.
+-- Of an acceptor: a coin was accepted or inhibited, an object that is no coin came. Of a hopper: a coin fell out, or it
+-- took a dispense of so many coins. The device was reset. An exchange was made; or a scan polled an address under a check,
+-- and this followed a good echo. A record was put, a command was taken, a job ended. The host restarted after a power cut.
 pub data Line : Type 0 where
   accepted : (coin : Coin) → Line
   inhibited : (place : ℕ) → Line
@@ -24,4 +24,4 @@ pub data Line : Type 0 where
   put : (entry : Record) → Line
   taken : (command : Command) → Line
   ended : (end : End) → Line
-  crashed : Line
+  restarted : Line

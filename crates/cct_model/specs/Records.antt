@@ -12,7 +12,7 @@ use Rattle.cct_model.specs.declared.judging.OpenOrder.{OpenOrder}
 use Rattle.cct_model.specs.Order.{order_by}
 use Rattle.cct_model.specs.Job.{epoch_by}
 
--- The records that were put, and those that were kept when the host lost its power.
+-- The records that were put, and those that were kept when the power was cut.
 abbrev pub records : List Entry → List Record
 records [] = []
 records (entry.Put r ∷ past) = r ∷ records past

@@ -23,9 +23,10 @@ use Rattle.cct_model.specs.Records.{records, greatest_id}
 use Rattle.cct_model.specs.Money.{sum_over, coins_of, available}
 use Rattle.cct_model.specs.Transcript.{lines_of, scan_lines, sale_lines}
 
--- A test of a command: a device is at the address, an acceptor, a hopper; no job is there; no epoch runs, or one does;
--- each place of a mask has a value; no order is open, or one is; there is a payout that could be stopped; an id is new;
--- the value of so many coins of the hopper at an address is available, or a price is; there is room for its records.
+-- A test of a command. Of the device: one is at the address, an acceptor, a hopper. Of its state: no job is there; no epoch
+-- runs, or one does; each place of a mask has a value; no order is open, or one is; there is a payout that could be
+-- stopped; an id is new. Of the money: the value of so many coins of the hopper at an address is available, or a price is.
+-- Of the room: there is some for its records.
 pub data Test : Type 0 where
   at_a_device : Test
   at_an_acceptor : Test
@@ -191,7 +192,7 @@ abbrev pub short_refusal : Setup → List Entry → ℕ → Option CommandNo
 short_refusal setup past wanted =
     if nat_le wanted (available setup past) then None else Some (Short (available setup past))
 
--- The id of the order that the job at a device is at work to record or has recorded, 0 of another job.
+-- The id of the order that the job at a device is to record or has recorded, 0 of another job.
 abbrev pub running_id : DeviceSetup → Job → ℕ
 running_id d free = 0
 running_id d (works c since) = unwrap_or (id_ahead (rows_of d c)) 0
@@ -219,7 +220,7 @@ room_fails capacity setup past need (with_price price) = short_refusal setup pas
 room_fails capacity setup past need with_room = full_refusal setup past need capacity
 room_fails capacity setup past need test = None
 
--- A job is at work.
+-- A job is running.
 abbrev pub is_busy : Job → Bool
 is_busy free = false
 is_busy (works c since) = true
@@ -231,7 +232,7 @@ lines_for past (command.Vend id price) found = sale_lines past
 lines_for past c None = []
 lines_for past c (Some d) = lines_of d past
 
--- A payout that could be stopped is at work at a device.
+-- A payout that could be stopped is running at a device.
 abbrev pub halts_at : Option DeviceSetup → Job → Bool
 halts_at None j = false
 halts_at (Some d) j = can_halt d j

@@ -1,5 +1,5 @@
 -- The table of jobs, and what is read off the rows of it that a job has left: what it sends or puts next, how it ends, what
--- it may still put, what it reserves, and whether it can be halted.
+-- it may still put and what it reserves, and whether it can be halted.
 use Rattle.std.specs.Prelude.{ℕ, suc, zero, ◌==◌, Bool, true, false, List, [], ◌∷◌, ◌++◌, if◌then◌else◌, Option, Some, None}
 use Rattle.cct_model.specs.terms.request.TheConstants.{ENABLE_CODE}
 use Rattle.cct_model.specs.terms.device.DeviceSetup.{DeviceSetup}
@@ -21,9 +21,9 @@ use Rattle.cct_model.specs.Reply as reply
 use Rattle.cct_model.specs.Line.{Line, exchange, put}
 use Rattle.cct_model.specs.Job.{Job, free, works, tries, Row, sends, puts, no_row, put_or, ident_requests, path_set, path_read, Payment, state_row, open_row, close_row, address_of, judged_in, payment_in, end_of_close, end_of_credits, end_of_reading, end_of_tries}
 
--- How a job goes on behind a row: by its next row; it ends so; by the next row where the acceptor's counter is 0; where
--- the reading means something, else it ends clean; with the path that was read it ends; a break ends it, and a reading
--- may; the record that closes the order ends it.
+-- How a job goes on after a row: by its next row; it ends so; by the next row where the acceptor's counter is 0; by the next
+-- row where the reading means something, else it ends clean. With the path that was read it ends. A break ends it, and a
+-- reading may. The record that closes the order ends it.
 pub data Then : Type 0 where
   goes_on : Then
   ends_as : (end : End) → Then
@@ -221,7 +221,7 @@ id_ahead (puts_due (new_order id count) behind ∷ rows) = Some id
 id_ahead (puts_due (sale id price) behind ∷ rows) = Some id
 id_ahead (row ∷ rows) = id_ahead rows
 
--- The end that an answer brings behind a row, beside what the reading then means.
+-- The end that an answer brings after a row, beside what the reading then means.
 abbrev pub end_by_answer : Then → Reply → Judged → Option End
 end_by_answer (ends_as end) y means = Some end
 end_by_answer if_quiet (reply.credits c) means = end_of_credits c.counter
@@ -234,7 +234,7 @@ abbrev pub end_bare : Then → Option End
 end_bare (ends_as end) = Some end
 end_bare behind = None
 
--- The end that a record brings behind the row that puts it.
+-- The end that a record brings after the row that puts it.
 abbrev pub end_by_record : Then → Record → Option End
 end_by_record (ends_as end) r = Some end
 end_by_record (if_posted of_reading) (record_of.Reading addr counter lost coins) = of_reading

@@ -35,18 +35,18 @@ pending (entry.Fault f ∷ past) = f
 pending (entry.Wire addr sent piece ∷ past) = fault.Clear
 pending (e ∷ past) = pending past
 
--- The piece that the devices hear, where the host sends one.
+-- The bytes that the devices hear, where the host sends some.
 abbrev pub heard_by_devices : WireFault → List ℕ → List ℕ
 heard_by_devices (fault.DevicesHear piece) sent = piece
 heard_by_devices f sent = sent
 
--- What the host hears, where it sent a piece and the devices answer: its own echo, and the answers behind it.
+-- What the host hears, where it sent bytes and the devices answer: its own echo, and the answers after it.
 abbrev pub heard_by_host : WireFault → List ℕ → List ℕ → List ℕ
 heard_by_host (fault.HostHears piece) sent answered = sent ++ piece
 heard_by_host (fault.WholeHeard piece) sent answered = piece
 heard_by_host f sent answered = sent ++ answered
 
--- What an entry says that a device met: what fell into it or out of it, its resets, and each piece that the devices
+-- What an entry says that a device met: what fell into it or out of it, its resets, and all bytes that the devices
 -- heard, whoever it was for.
 abbrev pub meets : DeviceSetup → List Entry → Entry → List Met
 meets d past (entry.Accepted addr c) = at addr d (coin c.place)
@@ -65,11 +65,11 @@ abbrev pub met : DeviceSetup → List Entry → List Met
 met d [] = []
 met d (e ∷ past) = meets d past e ++ met d past
 
--- The bytes with which the devices of a setup answer a piece, in rising order of address.
+-- The bytes with which the devices of a setup answer what they hear, in rising order of address.
 abbrev pub answers : Setup → List Entry → List ℕ → List ℕ
 answers setup past piece = flat_map (λ d. unwrap_or (answer d (met d past) piece) []) (by_address setup.devices)
 
--- What the host hears after it sent a piece.
+-- What the host hears after it sent bytes.
 unfoldable pub heard_after : Setup → List Entry → List ℕ → List ℕ
 heard_after setup past sent =
     heard_by_host (pending past) sent (answers setup past (heard_by_devices (pending past) sent))
@@ -91,12 +91,12 @@ abbrev pub dispensed_by : Option ℕ → List Line
 dispensed_by None = []
 dispensed_by (Some count) = line.dispensed count ∷ []
 
--- The dispense that a device took over a piece that it heard, whoever's job the exchange is.
+-- The dispense that a device took of what it heard, whoever's job the exchange is.
 abbrev pub doses : DeviceBody → ℕ → List Met → Option Request → List Line
 doses (Acceptor accepts values ids) own past asked = []
 doses (Hopper life value) own past asked = dispensed_by (taken_of own past asked)
 
--- What a device takes in an exchange in which the host sends a piece.
+-- What a device takes in an exchange in which the host sends bytes.
 abbrev pub doses_of : DeviceSetup → List Entry → List ℕ → List Line
 doses_of d past sent = doses d.body d.serial (met d past) (asks_of d (heard_by_devices (pending past) sent))
 
@@ -114,7 +114,7 @@ own d past (entry.Wire addr sent piece) =
 own d past (entry.Put r) = at (owner past r) d (line.put r)
 own d past (entry.Kept r) = at (owner past r) d (line.put r)
 own d past (entry.Ended addr end) = at addr d (line.ended end)
-own d past (entry.Crash records) = line.crashed ∷ []
+own d past (entry.Crash records) = line.restarted ∷ []
 own d past e = []
 
 -- The lines of a device's address.
@@ -126,8 +126,8 @@ lines_of d (e ∷ past) = own d past e ++ lines_of d past
 abbrev pub at_scan : {A : Type 0} → ℕ → A → List A
 at_scan addr x = if addr == BROADCAST then x ∷ [] else []
 
--- The line of a scan that an exchange is: it polled the address that the piece sent is for, under the check of the two
--- whose poll that piece is.
+-- The line of a scan that an exchange is: it polled the address that the bytes sent are for, under the check of the two
+-- whose poll they are.
 unfoldable pub scan_line : List ℕ → List ℕ → Line
 scan_line sent piece =
     let addr = slice_index sent 0 in
@@ -140,7 +140,7 @@ abbrev pub scan_own : Entry → List Line
 scan_own (entry.Taken command) = at_scan (address_of command) (line.taken command)
 scan_own (entry.Wire addr sent piece) = at_scan addr (scan_line sent piece)
 scan_own (entry.Ended addr end) = at_scan addr (line.ended end)
-scan_own (entry.Crash records) = line.crashed ∷ []
+scan_own (entry.Crash records) = line.restarted ∷ []
 scan_own e = []
 
 -- The lines of address 0.
@@ -163,7 +163,7 @@ sale_own (entry.Taken command) = at_sale (address_of command) (line.taken comman
 sale_own (entry.Put r) = sold_line r
 sale_own (entry.Kept r) = sold_line r
 sale_own (entry.Ended addr end) = at_sale addr (line.ended end)
-sale_own (entry.Crash records) = line.crashed ∷ []
+sale_own (entry.Crash records) = line.restarted ∷ []
 sale_own e = []
 
 -- The lines of address 1.

@@ -1,18 +1,19 @@
 -- Requests and replies are read back from the pieces that carry them.
-use Rattle.std.proofs.Common.{◌≡◌, ℕ, ◌≤◌, ◌&&◌, Bool, true, cond, List, [], ◌∷◌, length, refl, sym, ap, ◌∙◌, Option, Some, arith, eq-eqb}
+use Rattle.std.proofs.Common.{◌≡◌, ℕ, ◌<◌, ◌≤◌, ◌^◌, ◌&&◌, Bool, true, true≢false, cond, List, [], ◌∷◌, length, refl, sym, ap, subst, ◌∙◌, Option, Some, arith, eq-eqb}
 use Rattle.std.specs.Prelude.{option_and_then}
 use Rattle.std.specs.List.{flat_map}
 use Rattle.cct_terms.specs.declared.wire.CheckKind.{CheckKind}
 use Rattle.cct_terms.specs.declared.wire.CheckKind.TheVariants.{Simple, Crc}
 use Rattle.cct_terms.specs.declared.coin.Pair.{Pair}
 use Rattle.cct_terms.specs.declared.request.Request.{Request}
+use Rattle.cct_terms.specs.declared.request.Request.TheVariants.{Dispense}
 use Rattle.cct_terms.specs.declared.request.ReplyForm.{ReplyForm}
 use Rattle.cct_terms.specs.declared.request.ReplyForm.TheVariants as form
 use Rattle.cct_terms.specs.Message.{message, spelling}
 use Rattle.cct_terms.specs.Request.{header_of, data_of, request_of}
 use Rattle.cct_terms.specs.Reply.{Reply, IsSayable, pair_bytes, reply_data, reply_header, reply_in, ack, nak, busy, credits, mask, master, path, coin_id, status, life, remaining, register, text, serial, revision, accepts}
 use Rattle.cct_terms.specs.Exchange.{ask, asked, asking, reply_from, replying}
-use Rattle.cct_terms.proofs.Requests.{two_back, three_back, request_back, request_short, credits_back, coin_id_back}
+use Rattle.cct_terms.proofs.Requests.{is_asked_again, IsAgain, two_back, three_back, request_back, request_short, credits_back, coin_id_back}
 use Rattle.cct_frame.specs.Frame.{carried}
 use Rattle.cct_frame.proofs.Spellings.{written_back}
 use Rattle.cct_msg.specs.Forms.{FitsItsBytes, IsWhole, form_shown}
@@ -21,6 +22,17 @@ use Rattle.cct_msg.specs.Forms.{FitsItsBytes, IsWhole, form_shown}
 asked_carried : (kind : CheckKind) (addr : ℕ) (q : Request) → option_and_then (λ m. request_of m.header m.body) (Some (carried kind (asking addr q))) ≡ request_of (header_of q) (data_of q)
 asked_carried Simple addr q = refl
 asked_carried Crc addr q = refl
+
+-- a request that is asked again is no dispense, so it fits its bytes
+pub again_fits : (q : Request) → IsAgain q → FitsItsBytes q
+again_fits q again number count e = absurd (true≢false (sym again ∙ ap is_asked_again e))
+
+-- and so does a dispense under a serial number of three bytes
+pub serial_fits : (own count : ℕ) → own < 2 ^ 24 → FitsItsBytes (Dispense own count)
+serial_fits own count short number many e = subst (λ n. n < 2 ^ 24) (same e) short
+  where
+    same : Dispense own count ≡ Dispense number many → own ≡ number
+    same e = cc
 
 -- what the host asks is asked
 pub asked_back : (kind : CheckKind) (addr : ℕ) (q : Request) → FitsItsBytes q → asked kind (ask kind addr q) ≡ Some q
@@ -42,7 +54,7 @@ credits_eleven n (a ∷ b ∷ c ∷ d ∷ []) five = absurd (omega arith)
 credits_eleven n (a ∷ b ∷ c ∷ d ∷ e ∷ []) five = refl
 credits_eleven n (a ∷ b ∷ c ∷ d ∷ e ∷ f ∷ rest) five = absurd (omega arith)
 
--- a reply that can be said has 255 data bytes at the most
+-- a reply that can be said has 255 data bytes at most
 reply_short : (y : Reply) → IsWhole y → IsSayable y → length (reply_data y) ≤ 255
 unfolding reply_data
 reply_short (credits read) whole sayable = omega (arith, credits_eleven read.counter read.pairs whole)

@@ -22,11 +22,14 @@ pub fn a_request_is_read_back()
 /// [`Request::PumpRng`] and [`Request::CipherKey`] come with any data bytes, and [`Request::CipherDispense`] with any
 /// nine.
 pub fn what_is_read_is_the_request()
+    // the header and the data bytes are the request's
     ensures header { (header : ℕ) (body : List ℕ) (q : Request) → request_of header body ≡ Some q
         → header ≡ header_of q }
     ensures data { (header : ℕ) (body : List ℕ) (q : Request) → All (λ byte. byte < 256) body
         → request_of header body ≡ Some q
         → q ≢ Request.PumpRng → q ≢ Request.CipherKey → q ≢ Request.CipherDispense → body ≡ data_of q }
+
+    // but those of three requests of a cipher
     ensures nine { (header : ℕ) (body : List ℕ) → request_of header body ≡ Some Request.CipherDispense
         → length body ≡ 9 }
     ensures any_nine { (body : List ℕ) → length body ≡ 9 → request_of 167 body ≡ Some Request.CipherDispense }

@@ -35,14 +35,21 @@ pub fn read_reply<'a>(
     from: u8,
     view: &FrameView<'a>,
 ) -> Result<Reply<'a>, NotWanted>
+    // the reply:
+    // It goes to the host, comes from the asked address or from nobody named, has header 0 and as many data bytes as
+    // the form.
     ensures wanted { IfOk result (λ y. reply_from form from (message_of view.now) ≡ Some (reply_shown y)) }
     ensures in_place { IfOk result (λ y. TextLiesAt view.now.body.ref_ptr y) }
     ensures no_reason { OnOk result (reason_in form from (message_of view.now) ≡ None) }
 
+    // why there is none
     ensures unwanted { OnErr result (reply_from form from (message_of view.now) ≡ None) }
     ensures reason { IfErr result (λ why. reason_in form from (message_of view.now) ≡ Some why) }
+
+    // when each reason is told
     ensures nak { (result ≡ Err NotWanted.Nak) ↔ IsBare from 5 (message_of view.now) }
     ensures busy { (result ≡ Err NotWanted.Busy) ↔ IsBare from 6 (message_of view.now) }
+    // Every other message, also one of another device.
     ensures other { (result ≡ Err NotWanted.Other) ↔ ((reply_from form from (message_of view.now) ≡ None)
         × ¬ IsBare from 5 (message_of view.now) × ¬ IsBare from 6 (message_of view.now)) }
 {

@@ -12,6 +12,7 @@ use cct_model::{OpenOrder, Record};
 pub fn close(order: &OpenOrder, life_after: u32) -> Record
     requires before { order.now.life < 2 ^ 24 }
     requires after { life_after < 2 ^ 24 }
+    // The life count alone decides how many coins were paid; what the hopper's status says doesn't count.
     ensures { result ≡ close order.now life_after }
 {
     let paid = since(order.life, life_after);

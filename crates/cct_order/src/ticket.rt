@@ -25,6 +25,7 @@ impl DispenseTicket {
 
     /// The serial number and the count of the one dispense that it is for.
     pub fn spend(self) -> (u32, u8)
+        // The ticket is gone then, so an order is dispensed once.
         ensures { result ≡ (self.serial, self.count) }
     {
         let DispenseTicket { serial, count } = self;

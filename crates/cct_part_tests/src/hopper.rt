@@ -113,7 +113,7 @@ const OFF_AND_IDLE: [Meets; 23] = [
     Heard(b"\x03\x01\x01\xa4\xa5\xb2", b"\x01\x00\x03\x00\xfc"),
 ];
 
-/// What it meets behind that: payouts that end by themselves, by a jam and by a stop.
+/// What it meets after that: payouts that end by themselves, by a jam and by a stop.
 const PAYING: [Meets; 34] = [
     // Paying: no further dispense, and enabled it stays paying. The life count goes from its last number to 0.
     Heard(
@@ -196,7 +196,7 @@ const PAYING: [Meets; 34] = [
     ),
 ];
 
-/// What it meets behind those: payouts that a disable and a reset end, and what every device is asked.
+/// What it meets after those: payouts that a disable and a reset end, and what every device is asked.
 const DISABLED_AND_RESET: [Meets; 40] = [
     // Disabled while it pays: what remained is unpaid, and it is off.
     Heard(

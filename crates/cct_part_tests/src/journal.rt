@@ -1,4 +1,4 @@
-// A journal on a disk in memory, with a failure of each disk call and losses of power between any two.
+// A journal on a disk in memory, with a failure of each disk call and power cuts between any two.
 ghost use Rattle.std.specs.Prelude.{◌≡◌, false, IfOk};
 ghost use Rattle.cct_journal.specs.Journal.{has_failed};
 
@@ -15,7 +15,7 @@ const ENTRY: Record = Record::EpochEnd { addr: 9 };
 
 const HEADER: [u8; 32] = *b"\xa5CCTALK JOURNAL\x01\0\0\0\0\0\0\0\0\0\0\0\0\0\0\0\0";
 
-// What a body may be behind a loss of power: not yet written, written, and written at even places alone; and bytes that
+// What a body may be after a power cut: not yet written, written, and written at even places alone; and bytes that
 // rise by one from the first on.
 const NONE: [u8; 31] = [0; 31];
 
@@ -86,7 +86,7 @@ fn created(alloc: Global, fails: &[u64]) -> Result<Journal<MemDisk>, Fail>
     }
 }
 
-// The disk behind the first calls of a put, or behind one that failed.
+// The disk after the first calls of a put, or after one that failed.
 fn cut_short(rt: &impl Abort, journal: Journal<MemDisk>, calls: u8) -> Result<MemDisk, Failed> {
     assert!(rt; calls <= 4 && journal.used() < journal.capacity());
     journal
@@ -94,7 +94,7 @@ fn cut_short(rt: &impl Abort, journal: Journal<MemDisk>, calls: u8) -> Result<Me
         .map_err(|(_, failed)| failed)
 }
 
-// How many records a journal has behind a loss of power in the midst of a put.
+// How many records a journal has after a power cut in the midst of a put.
 fn restarted(
     rt: &impl Abort,
     journal: Journal<MemDisk>,
@@ -124,7 +124,7 @@ impl Replay for Shown {
     }
 }
 
-// A new journal with so many records, three at the most, on a disk whose calls with these numbers fail.
+// A new journal with so many records, three at most, on a disk whose calls with these numbers fail.
 fn filled(alloc: Global, records: u32, fails: &[u64]) -> Result<Journal<MemDisk>, Fail>
     ensures { IfOk result (λ journal. has_failed journal ≡ false) }
 {
@@ -203,7 +203,7 @@ fn a_loss_of_power_leaves_the_record_or_not(rt: HostRuntime) -> Result<(), Fail>
     Ok(())
 }
 
-// How many records there are before a loss of power in no put, and the number of its last disk call. Five calls make the
+// How many records there are before a power cut in no put, and the number of its last disk call. Five calls make the
 // journal and four put each record; then one cuts the power, one reads the header, and one reads each slot up to the first
 // shut gate.
 const LAST_CALLS: [(u32, u64); 4] = [(0, 8), (1, 13), (2, 18), (3, 22)];
@@ -248,7 +248,7 @@ fn a_failure_is_told_by_create(rt: HostRuntime) -> Result<(), Fail> {
     Ok(())
 }
 
-// A put on a new journal, of whose disk calls one fails, and how many records are found behind a loss of power that
+// A put on a new journal, of whose disk calls one fails, and how many records are found after a power cut that
 // keeps what was written.
 fn put_with_failure(alloc: Global, call: u64) -> Result<(bool, u32), Fail> {
     let mut journal = created(alloc, &[call])?;
@@ -286,7 +286,7 @@ fn is_read(journal: &mut Journal<MemDisk>) -> Option<bool> {
     }
 }
 
-// A read, a loss of power and an opening, each once more behind a failure.
+// A read, a power cut and an opening, each once more after a failure.
 #[test]
 fn a_failure_is_told_once(rt: HostRuntime) -> Result<(), Fail> {
     let alloc = rt.alloc();

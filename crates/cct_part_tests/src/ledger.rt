@@ -1,4 +1,4 @@
-//! A ledger over one acceptor and one hopper: records in turn, with the totals behind each, worked out by hand; and a
+//! A ledger over one acceptor and one hopper: records in turn, with the totals after each, worked out by hand; and a
 //! whole journal of readings of the dearest coins.
 ghost use Rattle.std.specs.Prelude.{◌≡◌, ◌≤◌};
 ghost use Rattle.cct_model.specs.Device.{IsSound, IsSoundBody, IsWord};

@@ -135,7 +135,7 @@ fn another_body_is_refused(rt: HostRuntime) {
         &[],
         &[9, 2],
         &[255; 31],
-        // a byte behind the fields
+        // a byte after the fields
         &[1, 2, 1, 0, 1],
         &[2, 2, 1, 0, 0, 5, 1],
         &[

@@ -31,7 +31,7 @@ abbrev pub coins_from : List ℕ → ℕ → ℕ → List Coin
 coins_from body at zero = []
 coins_from body at (suc count) = coins_from body at count ++ coin_at body (at + 2 * count) ∷ []
 
--- The coins behind their number at a place, five at the most.
+-- The coins after their number at a place, five at most.
 abbrev pub coins_at : List ℕ → ℕ → List Coin
 coins_at body at = coins_from body (at + 1) (min (slice_index body at) 5)
 

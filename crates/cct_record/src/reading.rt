@@ -1,17 +1,18 @@
 //! A body is read as the record that it spells.
 ghost use Rattle.std.specs.Prelude.{◌≡◌, ◌+◌, ◌<◌, ◌≤◌, ◌↔◌, All, IfNone, IfSome, IsTrue};
 ghost use Rattle.cct_record.specs.Body.{Encodable, IsPlaced, IsRefused, Spells};
-ghost use Rattle.cct_record.specs.Fields.{coin_at, coins_at, four_at, record_at, three_at, two_at};
+ghost use Rattle.cct_record.specs.Fields.{coins_at, four_at, record_at, three_at, two_at};
 
 use crate::encode;
 use crate::kind::{BODY, BROKEN, CLOSED, EPOCH, EPOCH_END, LIVES, ODD, OPENED, READING, SOLD};
 use cct_lines::{Coin, Coins, EVENTS, Record};
 
 /// The record that a body spells (`docs/JOURNAL.md`, "The body of a record"), or none where no record is spelt so: the
-/// kind isn't known, more than five coins are said, a coin has the coin place 0, or a byte behind the fields isn't 0.
+/// kind isn't known, more than five coins are said, a coin has the coin place 0, or a byte after the fields isn't 0.
 #[tactic(auto, using(crate::proofs::Spellings::refused_unknown, crate::proofs::Spellings::refused_other))]
 pub fn read(bytes: &[u8; 31]) -> Option<Record>
     ensures spelt { IfSome result (λ r. Spells r bytes.now) }
+    // Only bytes that spell no record.
     ensures refused { IfNone result (IsRefused bytes.now) }
 {
     let entry = record_at(bytes)?;
@@ -127,7 +128,7 @@ fn four_at(bytes: &[u8; BODY], at: usize) -> u32
     u32::from_le_bytes([bytes[at], bytes[at + 1], bytes[at + 2], bytes[at + 3]])
 }
 
-/// The coins behind their number, five at the most.
+/// The coins after their number, five at most.
 fn coins_at(bytes: &[u8; BODY], at: usize) -> Coins
     requires { at + 11 ≤ BODY }
     ensures { result ≡ coins_at bytes.now at }

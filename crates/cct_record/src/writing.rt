@@ -15,13 +15,14 @@ use cct_lines::{Coin, Coins, EVENTS, Record};
 #[tactic(auto, unfolding(crate::specs::Body::body_of))]
 pub fn encode(entry: &Record) -> [u8; 31]
     requires { Encodable entry.now }
+    // Exactly one body for each record; a record without sense, such as an order of 0 coins, has one too.
     ensures body { result ≡ body_of entry.now }
     ensures in_range { InRange entry.now }
 {
     filled_up(&fields(entry))
 }
 
-/// Some fields, and 0 behind them.
+/// Some fields, and 0 after them.
 fn filled_up(fields: &ArrayVec<u8, BODY>) -> [u8; BODY]
     ensures { result ≡ fields.now.items ++ replicate (31 - length fields.now.items) 0 }
 {

@@ -13,8 +13,8 @@ use Rattle.cct_journal.specs.declared.refusal.OpenNo.TheVariants as opening
 use Rattle.cct_journal.specs.Image.{IsAlien, IsBadAt, header, least_size}
 use Rattle.cct_journal.specs.Opening.{RefusesOpen}
 use Rattle.cct_report.specs.declared.listing.ReportEnd.{ReportEnd}
-use Rattle.cct_report.specs.declared.listing.ReportEnd.TheVariants.{Done, Unwritten, DiskFailed, Alien, Bad}
-use Rattle.cct_report.specs.Listing.{Decides, Finds, FindsIn, Lists, unopened}
+use Rattle.cct_report.specs.declared.listing.ReportEnd.TheVariants.{Done, Unwritten, Unread}
+use Rattle.cct_report.specs.Listing.{Decides, Finds, FindsIn, Lists}
 
 -- what was written of records is so of an image that stands for them
 pub opened_finds : (how : ReportEnd) (image : List ℕ) (records : List Record) (nothing : Type 0)
@@ -22,13 +22,13 @@ pub opened_finds : (how : ReportEnd) (image : List ℕ) (records : List Record) 
     → Finds how image nothing
 opened_finds Done image records nothing writes stands lists = (records, stands)
 opened_finds Unwritten image records nothing writes stands lists = (records, stands)
-opened_finds DiskFailed image records nothing writes stands lists = inl (records, stands)
-opened_finds Alien image records nothing writes stands lists = absurd lists
-opened_finds (Bad index) image records nothing writes stands lists = absurd lists
+opened_finds (Unread opening.Disk) image records nothing writes stands lists = inl (records, stands)
+opened_finds (Unread opening.Alien) image records nothing writes stands lists = absurd lists
+opened_finds (Unread (opening.BadRecord index)) image records nothing writes stands lists = absurd lists
 
 -- where no journal is opened, nothing is written
 pub unopened_finds : (why : OpenNo) (image : List ℕ) (nothing : Type 0) → nothing → RefusesOpen why image
-    → Finds (unopened why) image nothing
+    → Finds (Unread why) image nothing
 unopened_finds opening.Disk image nothing none refuses = inr none
 unopened_finds opening.Alien image nothing none refuses = (refuses, none)
 unopened_finds (opening.BadRecord index) image nothing none refuses = (refuses, none)
@@ -72,29 +72,29 @@ has_header image (inr other) long header_is = other header_is
 
 -- a listing that broke off nowhere ended as the image decides
 pub decides : (how : ReportEnd) (image : List ℕ) (nothing : Type 0) → Finds how image nothing → (how ≡ Unwritten → ⊥)
-    → (how ≡ DiskFailed → ⊥) → Decides how image
+    → (how ≡ Unread opening.Disk → ⊥) → Decides how image
 decides Done image nothing finds written read = record {
   done = λ records stands. refl;
   alien = λ is. absurd (has_header image is finds.1.long finds.1.header_is);
   bad = λ index is. absurd (stands_not_bad image finds.0 index finds.1 is);
 }
 decides Unwritten image nothing finds written read = absurd (written refl)
-decides DiskFailed image nothing finds written read = absurd (read refl)
-decides Alien image nothing finds written read = record {
+decides (Unread opening.Disk) image nothing finds written read = absurd (read refl)
+decides (Unread opening.Alien) image nothing finds written read = record {
   done = λ records stands. absurd (has_header image finds.0 stands.long stands.header_is);
   alien = λ is. refl;
   bad = λ index is. absurd (has_header image finds.0 is.long is.header_is);
 }
-decides (Bad index) image nothing finds written read = record {
+decides (Unread (opening.BadRecord index)) image nothing finds written read = record {
   done = λ records stands. absurd (stands_not_bad image records index stands finds.0);
   alien = λ is. absurd (has_header image is finds.0.long finds.0.header_is);
-  bad = λ told is. ap Bad (one_bad image index told finds.0 is);
+  bad = λ told is. ap (λ i. Unread (opening.BadRecord i)) (one_bad image index told finds.0 is);
 }
 
 pub unopened_decides : (why : OpenNo) (image : List ℕ) → RefusesOpen why image → (why ≡ opening.Disk → ⊥)
-    → Decides (unopened why) image
+    → Decides (Unread why) image
 unopened_decides opening.Disk image refuses read = absurd (read refl)
 unopened_decides opening.Alien image refuses read =
-    decides Alien image (Unit {0}) (refuses, tt) (λ is. absurd cc) (λ is. absurd cc)
+    decides (Unread opening.Alien) image (Unit {0}) (refuses, tt) (λ is. absurd cc) (λ is. absurd cc)
 unopened_decides (opening.BadRecord index) image refuses read =
-    decides (Bad index) image (Unit {0}) (refuses, tt) (λ is. absurd cc) (λ is. absurd cc)
+    decides (Unread (opening.BadRecord index)) image (Unit {0}) (refuses, tt) (λ is. absurd cc) (λ is. absurd cc)

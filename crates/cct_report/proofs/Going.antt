@@ -7,11 +7,12 @@ use Rattle.cct_edge.specs.declared.fault.Failed.{Failed}
 use Rattle.cct_lines.specs.declared.record.Record.{Record}
 use Rattle.cct_lines.specs.declared.entry.Entry.{Entry}
 use Rattle.cct_lines.specs.declared.entry.Entry.TheVariants.{Listing}
+use Rattle.cct_journal.specs.declared.refusal.OpenNo.TheVariants as opening
 use Rattle.cct_text.specs.Writing.{Writes, Wrote}
 use Rattle.cct_text.proofs.Writing.{wrote_none, writes_more, writes_then}
 use Rattle.cct_report.specs.declared.sums.Sums.{Sums}
 use Rattle.cct_report.specs.declared.listing.ReportEnd.{ReportEnd}
-use Rattle.cct_report.specs.declared.listing.ReportEnd.TheVariants.{Done, Unwritten, DiskFailed, Alien, Bad}
+use Rattle.cct_report.specs.declared.listing.ReportEnd.TheVariants.{Done, Unwritten, Unread}
 use Rattle.cct_report.specs.Sums.{no_sums, sums_over, with_record}
 use Rattle.cct_report.specs.Listing.{Lists, ListsOne, ListsSome, listed, listing_from, total_in, total_over}
 use Rattle.cct_report.proofs.Lines.{behind_first, listed_front, listing_more, sums_more}
@@ -108,10 +109,10 @@ module _ {K : Type 0} (written : K → Option (List ℕ)) (puts : K → List ℕ
           one.3
           ([], sym (append-nil (going.read ++ one.0 ∷ []))),
     )
-    going_ends here adds DiskFailed one =
+    going_ends here adds (Unread opening.Disk) one =
         (going.read, subst (λ k. Wrote written puts before k (listing_from 0 going.read)) (sym one) going.wrote)
-    going_ends here adds Alien one = absurd one
-    going_ends here adds (Bad told) one =
+    going_ends here adds (Unread opening.Alien) one = absurd one
+    going_ends here adds (Unread (opening.BadRecord told)) one =
         (going.read, subst (λ k. Wrote written puts before k (listing_from 0 going.read)) (sym one.0) going.wrote)
 
     pub going_ends_within : (here : List Record → Type 0) (adds : Record → Type 0) (records : List Record)
@@ -125,15 +126,15 @@ module _ {K : Type 0} (written : K → Option (List ℕ)) (puts : K → List ℕ
       broke_within before between now going.read index one.0 one.1 records going.count going.wrote one.3
           (front_more going.read records index one.0 going.count (going.first records held) (one.2 records still)),
     )
-    going_ends_within here adds records held still DiskFailed one =
+    going_ends_within here adds records held still (Unread opening.Disk) one =
         let front = going.first records held in (
           going.read,
           front.0,
           front.1,
           subst (λ k. Wrote written puts before k (listing_from 0 going.read)) (sym one) going.wrote,
         )
-    going_ends_within here adds records held still Alien one = absurd one
-    going_ends_within here adds records held still (Bad told) one = absurd (one.1 records still)
+    going_ends_within here adds records held still (Unread opening.Alien) one = absurd one
+    going_ends_within here adds records held still (Unread (opening.BadRecord told)) one = absurd (one.1 records still)
 
     -- the line of the sums behind all records
     pub sums_told : (total : Entry) (answer : Result (Unit {0}) Failed) → total ≡ total_in sums

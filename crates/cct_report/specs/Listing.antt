@@ -5,12 +5,11 @@ use Rattle.cct_lines.specs.declared.record.Record.{Record}
 use Rattle.cct_lines.specs.declared.entry.Entry.{Entry}
 use Rattle.cct_lines.specs.declared.entry.Entry.TheVariants.{Listing, Total}
 use Rattle.cct_journal.specs.Image.{IsAlien, IsBadAt, StandsFor}
-use Rattle.cct_journal.specs.declared.refusal.OpenNo.{OpenNo}
 use Rattle.cct_journal.specs.declared.refusal.OpenNo.TheVariants as opening
 use Rattle.cct_report.specs.Sums.{no_sums, sums_over}
 use Rattle.cct_report.specs.declared.sums.Sums.{Sums}
 use Rattle.cct_report.specs.declared.listing.ReportEnd.{ReportEnd}
-use Rattle.cct_report.specs.declared.listing.ReportEnd.TheVariants.{Done, Unwritten, DiskFailed, Alien, Bad}
+use Rattle.cct_report.specs.declared.listing.ReportEnd.TheVariants.{Done, Unwritten, Unread}
 
 -- The lines of records, the oldest first, numbered upwards from this index.
 abbrev pub listing_from : ℕ → List Record → List Entry
@@ -39,39 +38,33 @@ FindsIn image records = StandsFor image records
 abbrev pub Lists : ReportEnd → List Record → (List Entry → Result (Unit {0}) Failed → Type 0) → Type 0
 Lists Done records writes = writes (listed 0 no_sums records) (Ok tt)
 Lists Unwritten records writes = (failed : Failed) × writes (listed 0 no_sums records) (Err failed)
-Lists DiskFailed records writes =
+Lists (Unread opening.Disk) records writes =
     (first behind : List Record) × (records ≡ first ++ behind) × writes (listing_from 0 first) (Ok tt)
-Lists Alien records writes = ⊥
-Lists (Bad index) records writes = ⊥
+Lists (Unread opening.Alien) records writes = ⊥
+Lists (Unread (opening.BadRecord index)) records writes = ⊥
 
 -- What was written of the listing of records that are told by no image, by how it ended.
 abbrev pub ListsSome : ReportEnd → (List Entry → Result (Unit {0}) Failed → Type 0) → Type 0
 ListsSome Done writes = (read : List Record) × writes (listed 0 no_sums read) (Ok tt)
 ListsSome Unwritten writes = (read : List Record) × (failed : Failed) × writes (listed 0 no_sums read) (Err failed)
-ListsSome DiskFailed writes = (read : List Record) × writes (listing_from 0 read) (Ok tt)
-ListsSome Alien writes = writes [] (Ok tt)
-ListsSome (Bad index) writes = (read : List Record) × writes (listing_from 0 read) (Ok tt)
+ListsSome (Unread opening.Disk) writes = (read : List Record) × writes (listing_from 0 read) (Ok tt)
+ListsSome (Unread opening.Alien) writes = writes [] (Ok tt)
+ListsSome (Unread (opening.BadRecord index)) writes = (read : List Record) × writes (listing_from 0 read) (Ok tt)
 
 -- What the image of a disk is to a listing, by how it ended: it stands for records, where any line was to be written;
 -- else nothing was written, and it has no journal, or one with a record that is spelt wrongly.
 abbrev pub Finds : ReportEnd → List ℕ → Type 0 → Type 0
 Finds Done image nothing = (records : List Record) × FindsIn image records
 Finds Unwritten image nothing = (records : List Record) × FindsIn image records
-Finds DiskFailed image nothing = ((records : List Record) × FindsIn image records) ⊎ nothing
-Finds Alien image nothing = IsAlien image × nothing
-Finds (Bad index) image nothing = IsBadAt image index × nothing
+Finds (Unread opening.Disk) image nothing = ((records : List Record) × FindsIn image records) ⊎ nothing
+Finds (Unread opening.Alien) image nothing = IsAlien image × nothing
+Finds (Unread (opening.BadRecord index)) image nothing = IsBadAt image index × nothing
 
 -- A listing ended as the image decides.
 pub record Decides (how : ReportEnd) (image : List ℕ) : Type 0 where
   pub done : (records : List Record) → FindsIn image records → how ≡ Done
-  pub alien : IsAlien image → how ≡ Alien
-  pub bad : (index : ℕ) → IsBadAt image index → how ≡ Bad index
-
--- How a listing ends where no journal is opened on its disk.
-abbrev pub unopened : OpenNo → ReportEnd
-unopened opening.Disk = DiskFailed
-unopened opening.Alien = Alien
-unopened (opening.BadRecord index) = Bad index
+  pub alien : IsAlien image → how ≡ Unread opening.Alien
+  pub bad : (index : ℕ) → IsBadAt image index → how ≡ Unread (opening.BadRecord index)
 
 -- A record is that of an index in each list of records that is held.
 abbrev pub IsAt : (List Record → Type 0) → ℕ → Record → Type 0
@@ -85,6 +78,6 @@ ListsOne holds index adds writes nothing (Ok done) =
 ListsOne holds index adds writes nothing (Err Done) = ⊥
 ListsOne holds index adds writes nothing (Err Unwritten) =
     (entry : Record) × (failed : Failed) × IsAt holds index entry × writes (Listing index entry ∷ []) (Err failed)
-ListsOne holds index adds writes nothing (Err DiskFailed) = nothing
-ListsOne holds index adds writes nothing (Err Alien) = ⊥
-ListsOne holds index adds writes nothing (Err (Bad told)) = nothing × ((records : List Record) → holds records → ⊥)
+ListsOne holds index adds writes nothing (Err (Unread opening.Disk)) = nothing
+ListsOne holds index adds writes nothing (Err (Unread opening.Alien)) = ⊥
+ListsOne holds index adds writes nothing (Err (Unread (opening.BadRecord told))) = nothing × ((records : List Record) → holds records → ⊥)

@@ -1,7 +1,7 @@
 //! A journal is listed, record by record.
 ghost use Rattle.std.specs.Prelude.{◌≡◌, ◌<◌, ◌≤◌, ◌+◌, ◌*◌, ◌^◌, ℕ, List, Err, Some};
-ghost use Rattle.cct_edge.specs.Bytes.{TellsAsBefore};
-ghost use Rattle.cct_edge.specs.Faults.{Rose};
+ghost use Rattle.cct_edge.specs.Bytes.{Serves};
+ghost use Rattle.cct_edge.specs.Faults.{Caused, Rose};
 ghost use Rattle.cct_lines.specs.declared.record.Record.{Record};
 ghost use Rattle.cct_disk.specs.Disk.{OnlyReads};
 ghost use Rattle.cct_journal.specs.Image.{least_size};
@@ -9,7 +9,7 @@ ghost use Rattle.cct_journal.specs.Journal as journals;
 ghost use Rattle.cct_journal.specs.Stands.{Reads};
 ghost use Rattle.cct_text.specs.Writing.{Writes};
 ghost use Rattle.cct_report.specs.Sums.{together, with_record};
-ghost use Rattle.cct_report.specs.Listing.{Decides, Finds, FindsIn, Lists, ListsOne, ListsSome, unopened};
+ghost use Rattle.cct_report.specs.Listing.{Decides, Finds, FindsIn, Lists, ListsOne, ListsSome};
 
 use crate::sums::Sums;
 use cct_disk::Disk;
@@ -19,45 +19,40 @@ use cct_lines::Entry;
 use cct_text::{TextLine, write_entry};
 
 /// How the listing of a journal came to its end.
-#[derive(Clone, Copy, Debug, PartialEq, Eq)]
+#[derive(Debug, Drop)]
 pub enum ReportEnd {
     /// All records and their sums were written.
     Done,
     /// Writing failed. What was written is a front of the listing.
     Unwritten,
-    /// A call of the disk failed. What was written are the lines of the first records, or none.
-    DiskFailed,
-    /// The disk has no journal.
-    Alien,
-    /// The body of the record of this index, 0 to 65,534, spells none.
-    Bad { index: u32 },
+    /// The journal wasn't read to its end: the disk has none, the body of the record of this index, 0 to 65,534, spells
+    /// none, or a call of the disk failed. What was written are the lines of the first records, or none.
+    Unread(OpenNo),
 }
 
 /// Lists the journal on a disk, which is only read: a line for each record, numbered from 0, and then the line of their
 /// sums, each by one put. The disk is given back.
 ///
-/// [`ReportEnd::Alien`] comes where the disk has fewer than 64 bytes or doesn't begin with the header of a journal, and
-/// [`ReportEnd::Bad`] at the first body behind an open gate that spells no record, where no shut gate stands before it.
+/// [`OpenNo::Alien`] comes if the disk has fewer than 64 bytes or doesn't begin with the header of a journal, and
+/// [`OpenNo::BadRecord`] at the first body after an open gate that spells no record, if no shut gate stands before it.
 /// Then nothing is written, unless a later read of the disk gives other bytes than an earlier one.
 pub fn list_journal<K: Sink, D: Disk>(out: &mut K, line: &mut TextLine, disk: D) -> (ReportEnd, D)
     // what the image of the disk stands for, and what was written of it
     ensures found { (image : List ℕ) → D.seen disk ≡ Some image → Finds result.0 image (out.new ≡ out.old) }
+    // Each line by one put. If a put fails, a front of the listing is written, and if the disk fails, whole lines of
+    // the first records.
     ensures every { (image : List ℕ) (records : List Record) → D.seen disk ≡ Some image → FindsIn image records
         → Lists result.0 records (λ entries answer. Writes K.written K.puts out.old entries answer out.new) }
 
-    // what was written, whether or not the disk tells its bytes
+    // what was written, whether or not the disk tells its bytes:
+    // Of a disk that tells no bytes the lines are the listing of some records, or of the first of some.
     ensures lines { ListsSome result.0 (λ entries answer. Writes K.written K.puts out.old entries answer out.new) }
-    ensures short { D.size disk < least_size → result.0 ≡ ReportEnd.Alien }
+    ensures short { D.size disk < least_size → result.0 ≡ ReportEnd.Unread OpenNo.Alien }
 
-    // Each end that isn't told by the image has its cause.
-    ensures write_cause { result.0 ≡ ReportEnd.Unwritten → Rose (K.faults out.old) (K.faults out.new) }
-    ensures disk_cause { result.0 ≡ ReportEnd.DiskFailed → Rose (D.faults disk) (D.faults result.1) }
-
-    // the disk and the sink
+    // the disk and the sink; each end that isn't told by the image has its cause
     ensures reads { OnlyReads D.size D.honest D.seen D.may_leave D.moment D.left_since D.cuts disk result.1 }
-    ensures later { D.faults disk ≤ D.faults result.1 }
-    ensures tells { TellsAsBefore (K.written out.old) (K.written out.new) }
-    ensures sink_later { K.faults out.old ≤ K.faults out.new }
+    ensures disk_cause { Caused (D.faults disk) (D.faults result.1) (result.0 ≡ ReportEnd.Unread OpenNo.Disk) }
+    ensures sink { Serves K.written K.faults out.old out.new (result.0 ≡ ReportEnd.Unwritten) }
 
     // With no fault the image alone decides.
     ensures complete { (image : List ℕ) → D.seen disk ≡ Some image → (Rose (K.faults out.old) (K.faults out.new) → ⊥)
@@ -68,18 +63,7 @@ pub fn list_journal<K: Sink, D: Disk>(out: &mut K, line: &mut TextLine, disk: D)
             let how = list_records(out, line, &mut journal);
             (how, journal.into_disk())
         }
-        Err((disk, why)) => (unopened(why), disk),
-    }
-}
-
-/// How a listing ends where no journal is opened on its disk.
-fn unopened(why: OpenNo) -> ReportEnd
-    ensures { result ≡ unopened why }
-{
-    match why {
-        OpenNo::Disk => ReportEnd::DiskFailed,
-        OpenNo::Alien => ReportEnd::Alien,
-        OpenNo::BadRecord { index } => ReportEnd::Bad { index },
+        Err((disk, why)) => (ReportEnd::Unread(why), disk),
     }
 }
 
@@ -93,14 +77,11 @@ fn list_records<K: Sink, D: Disk>(
     ensures every { (records : List Record)
         → Reads D.seen (journals.disk_of journal.old) (journals.place_of journal.old) records
         → Lists result records (λ entries answer. Writes K.written K.puts out.old entries answer out.new) }
-    ensures write_cause { result ≡ ReportEnd.Unwritten → Rose (K.faults out.old) (K.faults out.new) }
-    ensures disk_cause { result ≡ ReportEnd.DiskFailed
-        → Rose (D.faults (journals.disk_of journal.old)) (D.faults (journals.disk_of journal.new)) }
     ensures reads { OnlyReads D.size D.honest D.seen D.may_leave D.moment D.left_since D.cuts
         (journals.disk_of journal.old) (journals.disk_of journal.new) }
-    ensures later { D.faults (journals.disk_of journal.old) ≤ D.faults (journals.disk_of journal.new) }
-    ensures tells { TellsAsBefore (K.written out.old) (K.written out.new) }
-    ensures sink_later { K.faults out.old ≤ K.faults out.new }
+    ensures disk_cause { Caused (D.faults (journals.disk_of journal.old)) (D.faults (journals.disk_of journal.new))
+        (result ≡ ReportEnd.Unread OpenNo.Disk) }
+    ensures sink { Serves K.written K.faults out.old out.new (result ≡ ReportEnd.Unwritten) }
 {
     let mut sums = Sums::default();
     for index in 0..journal.used() {
@@ -130,9 +111,6 @@ fn list_record<K: Sink, D: Disk>(
         (λ entry. sums.new ≡ with_record entry sums.old)
         (λ entries answer. Writes K.written K.puts out.old entries answer out.new) (out.new ≡ out.old) result }
     ensures small { together sums.new ≤ (index + 1) * 2 ^ 32 }
-    ensures write_cause { result ≡ Err ReportEnd.Unwritten → Rose (K.faults out.old) (K.faults out.new) }
-    ensures disk_cause { result ≡ Err ReportEnd.DiskFailed
-        → Rose (D.faults (journals.disk_of journal.old)) (D.faults (journals.disk_of journal.new)) }
 
     // the journal stays as it is
     ensures told { (records : List Record)
@@ -141,16 +119,18 @@ fn list_record<K: Sink, D: Disk>(
     ensures place { journals.place_of journal.new ≡ journals.place_of journal.old }
     ensures reads { OnlyReads D.size D.honest D.seen D.may_leave D.moment D.left_since D.cuts
         (journals.disk_of journal.old) (journals.disk_of journal.new) }
-    ensures later { D.faults (journals.disk_of journal.old) ≤ D.faults (journals.disk_of journal.new) }
+    ensures disk_cause { Caused (D.faults (journals.disk_of journal.old)) (D.faults (journals.disk_of journal.new))
+        (result ≡ Err (ReportEnd.Unread OpenNo.Disk)) }
 
     // the sink
-    ensures tells { TellsAsBefore (K.written out.old) (K.written out.new) }
-    ensures sink_later { K.faults out.old ≤ K.faults out.new }
+    ensures sink { Serves K.written K.faults out.old out.new (result ≡ Err ReportEnd.Unwritten) }
 {
     let entry = match journal.read_at(index) {
         Ok(entry) => entry,
-        Err(ReadNo::Disk) => return Err(ReportEnd::DiskFailed),
-        Err(ReadNo::BadRecord { index }) => return Err(ReportEnd::Bad { index }),
+        Err(ReadNo::Disk) => return Err(ReportEnd::Unread(OpenNo::Disk)),
+        Err(ReadNo::BadRecord { index }) => {
+            return Err(ReportEnd::Unread(OpenNo::BadRecord { index }));
+        }
     };
     sums.add(&entry);
     match write_entry(out, line, &Entry::Listing { index, entry }) {

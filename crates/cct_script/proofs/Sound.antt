@@ -1,5 +1,5 @@
 -- A setup line keeps a setup sound.
-use Rattle.std.proofs.Common.{◌≡◌, subst, sym, Result, Ok, Err, MatchResult}
+use Rattle.std.proofs.Common.{◌≡◌, subst, sym, Result, Ok, Err}
 use Rattle.cct_lines.specs.terms.device.Setup.{Setup}
 use Rattle.cct_lines.specs.declared.setup.SetupLine.{SetupLine}
 use Rattle.cct_lines.specs.declared.setup.SetupLine.TheVariants as says
@@ -8,6 +8,7 @@ use Rattle.cct_lines.specs.Device.{IsSound}
 use Rattle.cct_lines.specs.Setup.{IsSoundSetup}
 use Rattle.cct_lines.specs.SetupLine.{IsSetupLine}
 use Rattle.cct_lines.specs.Grammar.{added}
+use Rattle.cct_script.specs.Changing.{Changes}
 use Rattle.cct_lines.proofs.Added.{AreAll, KeepsEach, added_keeps}
 use Rattle.cct_lines.proofs.Sound.{named_sound, valued_sound}
 
@@ -30,7 +31,6 @@ added_sound setup new line wanted sound was =
 
 -- what adding a line leaves is sound, whether it was added or not
 pub kept_sound : (setup new : Setup) (line : SetupLine) (r : Result Unit LineKind) → IsSetupLine line →
-    MatchResult r (λ done. added setup line ≡ Ok new) (λ why. (added setup line ≡ Err why) × (new ≡ setup)) →
-    IsSoundSetup setup → IsSoundSetup new
+    Changes setup new (added setup line) r → IsSoundSetup setup → IsSoundSetup new
 kept_sound setup new line (Ok done) wanted h sound = added_sound setup new line wanted sound h
 kept_sound setup new line (Err why) wanted h sound = subst IsSoundSetup (sym h.1) sound

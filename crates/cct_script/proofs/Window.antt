@@ -12,7 +12,7 @@ use Rattle.std.specs.Result.{IsErr, MatchResult}
 use Rattle.std.specs.List.{position}
 use Rattle.cct_lines.specs.declared.entry.TheConstants.{MOST_LINE}
 use Rattle.cct_lines.specs.Script.{is_line_feed}
-use Rattle.cct_edge.specs.Bytes.{TellsAsBefore}
+use Rattle.cct_edge.specs.Bytes.{Serves, TellsAsBefore}
 use Rattle.cct_edge.proofs.Chains.{Consumes-nil, Consumes-trans}
 use Rattle.std.specs.Io.KnownBytes.{Consumes, Keeps}
 use Rattle.cct_edge.specs.declared.fault.Failed.{Failed}
@@ -30,14 +30,14 @@ held-drop bytes start count end fits =
 take_front : (front more : List ℕ) (k n : ℕ) → length front ≡ k → take (k + n) (front ++ more) ≡ front ++ take n more
 take_front front more k n e = rw (← e) (take-append-add front more n)
 
--- bytes that came behind the held ones, which stand at the front
+-- bytes that came after the held ones, which stand at the front
 pub held-filled : (copied room : List ℕ) (k size n : ℕ) → k ≤ length copied → n ≤ length room →
     slice_range (put_mid k size copied room) 0 (k + n) ≡ take k copied ++ take n room
 held-filled copied room k size n fits few =
     between_from_start _ (k + n) ∙ take_front (take k copied) _ k n (length-take-le k copied fits)
     ∙ ap (λ xs. take k copied ++ xs) (take-append-le n room _ few)
 
--- the held bytes alone, with none behind them
+-- the held bytes alone, with none after them
 pub held-copied : (copied room : List ℕ) (k size : ℕ) → k ≤ length copied →
     slice_range (put_mid k size copied room) 0 k ≡ take k copied
 held-copied copied room k size fits =
@@ -71,16 +71,28 @@ fills-trans a b c x y z h k = (
   Consumes-trans x y z h.0 k.0 h.2 k.2,
 )
 
+-- bytes held without a line feed, which leave room for more
+pub record IsPart (held : List ℕ) : Type 0 where
+  pub none : position is_line_feed held ≡ None
+  pub room : length held < MOST_LINE + 1
+
+-- bytes are such a part if they were lent, searched in vain, and didn't fill the room
+pub part_held : (held lent : List ℕ) → lent ≡ held → None ≡ position is_line_feed lent → length lent ≤ MOST_LINE + 1 →
+    length lent ≢ MOST_LINE + 1 → IsPart held
+part_held held lent is searched fits other = record {
+  none = ap (position is_line_feed) (sym is) ∙ sym searched;
+  room = let same : length lent ≡ length held = ap length is in omega (arith, same, fits, other);
+}
+
 module _ {S : Type 0} (left : S → Option (List ℕ)) (faults : S → ℕ) where
-  pub seeks-on : (held0 held1 held2 : List ℕ) (source0 source1 source2 : S) →
+  pub seeks-on : (held0 held1 held2 : List ℕ) (source0 source1 source2 : S) (Fails : Type 0) →
       Seeks left faults held0 held1 source0 source1 → Fills held1 held2 (left source1) (left source2) →
-      TellsAsBefore (left source1) (left source2) → faults source1 ≤ faults source2 →
-      position is_line_feed held1 ≡ None → Seeks left faults held0 held2 source0 source2
-  seeks-on held0 held1 held2 source0 source1 source2 h fills tells later none = record {
+      Serves left faults source1 source2 Fails → IsPart held1 → Seeks left faults held0 held2 source0 source2
+  seeks-on held0 held1 held2 source0 source1 source2 Fails h fills serves part = record {
     fills = fills-trans held0 held1 held2 _ _ _ h.fills fills;
-    tells = tells ∙ h.tells;
-    later = omega arith;
-    still = λ some. absurd (some (ap (position is_line_feed) (sym (h.still some).1) ∙ none));
+    tells = serves.tells ∙ h.tells;
+    later = omega (arith, serves.later, h.later);
+    still = λ some. absurd (some (ap (position is_line_feed) (sym (h.still some).1) ∙ part.none));
   }
 
 -- a call that left the known bytes as they were took none
@@ -90,41 +102,46 @@ consumes-keeps (Some xs) None h = absurd h
 consumes-keeps (Some xs) (Some ys) h = sym h
 
 module _ {S : Type 0} (takes : S → ℕ → Result ℕ Failed → S → Type 0) (left : S → Option (List ℕ)) where
-  -- one more take, of so many bytes, behind those that were made
+  -- one more take, of so many bytes, after those that were made
   pub takes-on : (held0 held1 held2 : List ℕ) (source0 source1 source2 : S) (n : ℕ) →
-      TakesOn takes left held0 source0 held1 source1 → position is_line_feed held1 ≡ None →
-      length held1 < MOST_LINE + 1 → takes source1 (MOST_LINE + 1 - length held1) (Ok n) source2 →
+      TakesOn takes left held0 source0 held1 source1 → IsPart held1 →
+      takes source1 (MOST_LINE + 1 - length held1) (Ok n) source2 →
       Fills held1 held2 (left source1) (left source2) → length held2 ≡ length held1 + n →
       TakesOn takes left held0 source0 held2 source2
-  takes-on held0 held1 held2 source0 source1 source2 n h none room one fills count =
+  takes-on held0 held1 held2 source0 source1 source2 n h part one fills count =
       let whole : length held2 ≡ length held1 + length fills.0 = ap length fills.1 ∙ length-append held1 fills.0 in
       let few : n ≡ length fills.0 = omega arith in
       let brought = subst (λ k. takes source1 (MOST_LINE + 1 - length held1) (Ok k) source2) few one in
-      take_more held1 fills.0 held2 source1 source2 h none room brought fills.2 fills.1
+      take_more held1 fills.0 held2 source1 source2 h part.none part.room brought fills.2 fills.1
 
-  -- a take that failed behind those that were made
+  -- a take that failed after those that were made
   pub takes-until : (held0 held1 held2 : List ℕ) (source0 source1 source2 : S) (why : Failed) →
-      TakesOn takes left held0 source0 held1 source1 → position is_line_feed held1 ≡ None →
-      length held1 < MOST_LINE + 1 → takes source1 (MOST_LINE + 1 - length held1) (Err why) source2 →
+      TakesOn takes left held0 source0 held1 source1 → IsPart held1 →
+      takes source1 (MOST_LINE + 1 - length held1) (Err why) source2 →
       held2 ≡ held1 → TakesUntilFault takes left held0 source0 held2 source2
-  takes-until held0 held1 held2 source0 source1 source2 why h none room one same =
-      rw same (record { last = source1; before_it = h; none = none; room = room; why = why; fails = one })
+  takes-until held0 held1 held2 source0 source1 source2 why h part one same =
+      rw same (record { last = source1; before_it = h; none = part.none; room = part.room; why = why; fails = one })
+
+  -- no byte is such a part
+  none_held : (held : List ℕ) → held ≡ [] → IsPart held
+  none_held held nothing = record {
+    none = ap (position is_line_feed) nothing;
+    room = omega (arith, ap length nothing);
+  }
 
   -- a first take, where no byte was held
   pub takes-first : (held held1 : List ℕ) (source source1 : S) (n : ℕ) → held ≡ [] →
       takes source (MOST_LINE + 1 - length held) (Ok n) source1 → Fills held held1 (left source) (left source1) →
       length held1 ≡ length held + n → TakesOn takes left held source held1 source1
   takes-first held held1 source source1 n nothing =
-      takes-on held held held1 source source source1 n no_take
-      (ap (position is_line_feed) nothing) (omega (arith, ap length nothing))
+      takes-on held held held1 source source source1 n no_take (none_held held nothing)
 
   -- a first take that failed, where no byte was held
   pub until-first : (held held1 : List ℕ) (source source1 : S) (why : Failed) → held ≡ [] →
       takes source (MOST_LINE + 1 - length held) (Err why) source1 → held1 ≡ held →
       TakesUntilFault takes left held source held1 source1
   until-first held held1 source source1 why nothing =
-      takes-until held held held1 source source source1 why no_take
-      (ap (position is_line_feed) nothing) (omega (arith, ap length nothing))
+      takes-until held held held1 source source source1 why no_take (none_held held nothing)
 
 -- an answer that is an error has what its errors have
 pub on-error : {T E : Type 0} (r : Result T E) (P : T → Type 0) (Q : Type 0) → IsErr r → Q → MatchResult r P (λ _. Q)

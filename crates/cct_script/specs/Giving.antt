@@ -21,7 +21,7 @@ pub record Standing : Type 0 where
 abbrev pub none_given : Standing
 none_given = record { held = []; given = 0 }
 
--- No line was given, and bytes came behind those held.
+-- No line was given, and bytes came after those held.
 abbrev pub Waits : Standing → Standing → Option (List ℕ) → Option (List ℕ) → Type 0
 Waits old new left_before left = (new.given ≡ old.given) × Fills old.held new.held left_before left
 

@@ -1,5 +1,5 @@
--- The words of step lines in groups of a few: what stands behind none of a group's words, the next group says.
-use Rattle.std.specs.Prelude.{ℕ, List, if◌then◌else◌, Result, Ok, Err, codes, bytes_eq}
+-- The words of step lines in groups of a few: what stands after none of a group's words, the next group says.
+use Rattle.std.specs.Prelude.{◌≡◌, ℕ, List, if◌then◌else◌, Result, Ok, Err, OnOk, codes, bytes_eq}
 use Rattle.std.specs.Option.{ok_or}
 use Rattle.cct_lines.specs.declared.command.Command.TheVariants as command
 use Rattle.cct_lines.specs.declared.command.Step.{Step}
@@ -8,11 +8,17 @@ use Rattle.cct_lines.specs.declared.entry.LineKind.{LineKind}
 use Rattle.cct_lines.specs.declared.entry.LineKind.TheVariants as kind
 use Rattle.cct_lines.specs.Grammar.{alone, coin_step, crash_step, fault_step, path_step, pay_step, start_step}
 use Rattle.cct_lines.specs.Grammar.{step_at, vend_step}
+use Rattle.cct_lines.specs.Script.{IsInRange}
 
 -- What a line says, by the answer and what stands then in the room for its step.
 abbrev pub said_into : Result (Unit {0}) LineKind → Step → Result Step LineKind
 said_into (Ok done) s = Ok s
 said_into (Err why) s = Err why
+
+-- The answer and the step in its room are what the grammar says, and a step that is said is in range.
+pub record ReadsInto (result : Result (Unit {0}) LineKind) (s : Step) (said : Result Step LineKind) : Type 0 where
+  pub reads : said_into result s ≡ said
+  pub ranged : OnOk result (IsInRange s)
 
 -- The other commands, a power cut, and what the operator reads.
 unfoldable pub other_step : List ℕ → List (List ℕ) → Result Step LineKind

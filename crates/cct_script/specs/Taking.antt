@@ -11,7 +11,7 @@ use Rattle.cct_script.specs.declared.lines.LinesNo.TheVariants as no
 -- of a source of which is known what a take does, and which bytes it tells as left
 module _ {S : Type 0} (takes : S → ℕ → Result ℕ Failed → S → Type 0) (left : S → Option (List ℕ)) where
   -- Takes from a source, each made while the bytes held had no line feed and left room for more, and into all of that
-  -- room; what each brought is held behind the rest.
+  -- room; what each brought is held after the rest.
   pub data TakesOn (held : List ℕ) (before : S) : List ℕ → S → Type 0 where
     no_take : TakesOn held before held before
     take_more : (old piece new : List ℕ) (from to : S) → TakesOn held before old from →
@@ -20,7 +20,7 @@ module _ {S : Type 0} (takes : S → ℕ → Result ℕ Failed → S → Type 0)
         Consumes (left from) (left to) piece → new ≡ old ++ piece →
         TakesOn held before new to
 
-  -- Such takes, and behind them one that failed, made as they were.
+  -- Such takes, and after them one that failed, made as they were.
   pub record TakesUntilFault (held : List ℕ) (before : S) (taken : List ℕ) (now : S) : Type 0 where
     pub last : S
     pub before_it : TakesOn held before taken last
@@ -29,8 +29,8 @@ module _ {S : Type 0} (takes : S → ℕ → Result ℕ Failed → S → Type 0)
     pub why : Failed
     pub fails : takes last (MOST_LINE + 1 - length taken) (Err why) now
 
-  -- The takes that one line needed, or the end of the input, or a refusal, and what is held behind them: none was made
-  -- once a line feed was held, and none behind one that failed.
+  -- The takes that one line needed, or the end of the input, or a refusal, and what is held after them: none was made
+  -- once a line feed was held, and none after one that failed.
   abbrev pub TakesForLine : List ℕ → S → List ℕ → S → Result (Option (List ℕ)) LinesNo → Type 0
   TakesForLine held before kept now (Ok (Some line)) = TakesOn held before (line ++ 10 ∷ kept) now
   TakesForLine held before kept now (Ok None) = TakesOn held before kept now

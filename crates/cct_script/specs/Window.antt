@@ -6,12 +6,12 @@ use Rattle.cct_lines.specs.Script.{is_line_feed, most_bytes}
 use Rattle.cct_script.specs.declared.buffer.Held.{Held}
 use Rattle.cct_script.specs.declared.buffer.Held.TheVariants.{Line, Long, Ended}
 
--- New bytes came behind those held, and they are what the source gave.
+-- New bytes came after those held, and they are what the source gave.
 abbrev pub Fills : List ℕ → List ℕ → Option (List ℕ) → Option (List ℕ) → Type 0
 Fills old new left_before left = (more : List ℕ) × (new ≡ old ++ more) × Consumes left_before left more
 
 -- What was found in the bytes held: a line of so many bytes before the first line feed; a line too long to hold; or
--- the end of the input, behind bytes that are no whole line.
+-- the end of the input, after bytes that are no whole line.
 abbrev pub Finds : Held → List ℕ → Option (List ℕ) → Type 0
 Finds (Line len) held left = position is_line_feed held ≡ Some len
 Finds Long held left = (position is_line_feed held ≡ None) × (length held ≡ MOST_LINE + 1)

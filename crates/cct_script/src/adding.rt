@@ -4,6 +4,7 @@ ghost use Rattle.cct_lines.specs.Exchange.{device_at};
 ghost use Rattle.cct_lines.specs.Setup.{IsSoundSetup};
 ghost use Rattle.cct_lines.specs.SetupLine.{IsSetupLine};
 ghost use Rattle.cct_lines.specs.Grammar.{add_device, change_device, valued, named, added};
+ghost use Rattle.cct_script.specs.Changing.{Changes};
 
 use cct_lines::{COIN_PLACES, DEVICES, DeviceBody, DeviceSetup, LineKind, Setup, SetupLine, Texts};
 use std::alloc::AllocError;
@@ -14,9 +15,7 @@ use std::alloc::AllocError;
 #[tactic(auto, unfolding(cct_lines::specs::Grammar::added))]
 pub fn add(setup: &mut Setup, line: &SetupLine) -> Result<(), LineKind>
     requires { IsSetupLine line.now }
-    ensures adds { MatchResult result
-        (λ done. added setup.old line.now ≡ Ok setup.new)
-        (λ why. (added setup.old line.now ≡ Err why) × (setup.new ≡ setup.old)) }
+    ensures adds { Changes setup.old setup.new (added setup.old line.now) result }
     ensures sound { IsSoundSetup setup.old → IsSoundSetup setup.new }
 {
     match line {
@@ -43,9 +42,7 @@ fn texts_of(texts: &Texts) -> Texts
 
 /// Adds a device, where its address is new and there is room.
 fn add_device(setup: &mut Setup, device: &DeviceSetup) -> Result<(), LineKind>
-    ensures { MatchResult result
-        (λ done. add_device setup.old device.now ≡ Ok setup.new)
-        (λ why. (add_device setup.old device.now ≡ Err why) × (setup.new ≡ setup.old)) }
+    ensures { Changes setup.old setup.new (add_device setup.old device.now) result }
 {
     if setup.devices.as_slice().len() >= DEVICES || setup.device_at(device.addr).is_some() {
         return Err(LineKind::Device);
@@ -64,11 +61,8 @@ fn add_value(
 ) -> Result<(), LineKind>
     requires low { 1 ≤ place }
     requires high { place ≤ COIN_PLACES }
-    ensures { let wanted = change_device setup.old (device_at setup.old.devices addr)
-        (λ d. valued d place value id d.body) in
-        MatchResult result
-        (λ done. wanted ≡ Ok setup.new)
-        (λ why. (wanted ≡ Err why) × (setup.new ≡ setup.old)) }
+    ensures { Changes setup.old setup.new (change_device setup.old (device_at setup.old.devices addr)
+        (λ d. valued d place value id d.body)) result }
 {
     match setup.device_at(addr) {
         None => Err(LineKind::Device),
@@ -114,11 +108,8 @@ fn give_value(device: &mut DeviceSetup, place: u8, value: u32, id: [u8; 6]) -> R
 
 /// Gives a device its texts.
 fn add_texts(setup: &mut Setup, addr: u8, texts: &Texts) -> Result<(), LineKind>
-    ensures { let wanted = change_device setup.old (device_at setup.old.devices addr)
-        (λ d. named d texts.now) in
-        MatchResult result
-        (λ done. wanted ≡ Ok setup.new)
-        (λ why. (wanted ≡ Err why) × (setup.new ≡ setup.old)) }
+    ensures { Changes setup.old setup.new (change_device setup.old (device_at setup.old.devices addr)
+        (λ d. named d texts.now)) result }
 {
     match setup.device_at(addr) {
         None => Err(LineKind::Device),

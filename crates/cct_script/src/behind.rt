@@ -1,10 +1,10 @@
-//! What stands behind the words of step lines (`docs/SCRIPT.md`).
-ghost use Rattle.std.specs.Prelude.{◌≡◌, ◌≤◌, ℕ, Some, None, IfSome, MatchOption, MatchResult};
+//! What stands after the words of step lines (`docs/SCRIPT.md`).
+ghost use Rattle.std.specs.Prelude.{◌≡◌, ◌≤◌, ℕ, Some, None, MatchOption, MatchResult};
 ghost use Rattle.cct_lines.specs.declared.command.Step.{Step};
 ghost use Rattle.cct_lines.specs.Grammar.{address_in, choice_in, coin_step, step_at, fault_step, start_step};
 ghost use Rattle.cct_lines.specs.Grammar.{pay_step, path_step, vend_step, crash_step};
 ghost use Rattle.cct_lines.specs.Script.{IsInRange};
-ghost use Rattle.cct_script.specs.Fields.{fields_behind};
+ghost use Rattle.cct_script.specs.Fields.{Reads, fields_behind};
 
 use crate::fields::{one, three, two};
 use crate::numbers::{ranged, ranged_u8, ranged_u32};
@@ -33,7 +33,7 @@ fn choice_in(field: &[u8]) -> Option<u64>
     ranged(0, u64::MAX, field)
 }
 
-/// The address alone behind a word.
+/// The address alone after a word.
 #[tactic(auto, using(crate::proofs::Forms::no_step_at))]
 pub(crate) fn addr(rest: Option<&[u8]>) -> Result<u8, LineKind>
     ensures { MatchResult result
@@ -49,8 +49,7 @@ pub(crate) fn addr(rest: Option<&[u8]>) -> Result<u8, LineKind>
 /// `coin A PLACE`
 #[tactic(auto, using(crate::proofs::Forms::no_coin))]
 pub(crate) fn coin_in(rest: Option<&[u8]>) -> Option<Step>
-    ensures says { result ≡ coin_step (fields_behind rest.entry) }
-    ensures ranged { IfSome result IsInRange }
+    ensures { Reads result (coin_step (fields_behind rest.entry)) IsInRange }
 {
     let (addr, place) = two(rest)?;
     let addr = address_in(addr)?;
@@ -61,8 +60,7 @@ pub(crate) fn coin_in(rest: Option<&[u8]>) -> Option<Step>
 /// `fault devices PIECE`, `fault host PIECE`, `fault whole PIECE`
 #[tactic(auto, using(crate::proofs::Forms::no_fault))]
 pub(crate) fn fault_in(rest: Option<&[u8]>) -> Option<Step>
-    ensures says { result ≡ fault_step (fields_behind rest.entry) }
-    ensures ranged { IfSome result IsInRange }
+    ensures { Reads result (fault_step (fields_behind rest.entry)) IsInRange }
 {
     let (whom, piece) = two(rest)?;
     let fault = if whom == BY_DEVICES {
@@ -80,8 +78,7 @@ pub(crate) fn fault_in(rest: Option<&[u8]>) -> Option<Step>
 /// `start A MASK`
 #[tactic(auto, using(crate::proofs::Forms::no_start))]
 pub(crate) fn start_in(rest: Option<&[u8]>) -> Option<Step>
-    ensures says { result ≡ start_step (fields_behind rest.entry) }
-    ensures ranged { IfSome result IsInRange }
+    ensures { Reads result (start_step (fields_behind rest.entry)) IsInRange }
 {
     let (addr, mask) = two(rest)?;
     let addr = address_in(addr)?;
@@ -92,8 +89,7 @@ pub(crate) fn start_in(rest: Option<&[u8]>) -> Option<Step>
 /// `pay A ID COUNT`
 #[tactic(auto, using(crate::proofs::Forms::no_pay))]
 pub(crate) fn pay_in(rest: Option<&[u8]>) -> Option<Step>
-    ensures says { result ≡ pay_step (fields_behind rest.entry) }
-    ensures ranged { IfSome result IsInRange }
+    ensures { Reads result (pay_step (fields_behind rest.entry)) IsInRange }
 {
     let (addr, id, count) = three(rest)?;
     let addr = address_in(addr)?;
@@ -105,8 +101,7 @@ pub(crate) fn pay_in(rest: Option<&[u8]>) -> Option<Step>
 /// `path A PLACE PATH`
 #[tactic(auto, using(crate::proofs::Forms::no_path))]
 pub(crate) fn path_in(rest: Option<&[u8]>) -> Option<Step>
-    ensures says { result ≡ path_step (fields_behind rest.entry) }
-    ensures ranged { IfSome result IsInRange }
+    ensures { Reads result (path_step (fields_behind rest.entry)) IsInRange }
 {
     let (addr, place, path) = three(rest)?;
     let addr = address_in(addr)?;
@@ -118,8 +113,7 @@ pub(crate) fn path_in(rest: Option<&[u8]>) -> Option<Step>
 /// `vend ID PRICE`
 #[tactic(auto, using(crate::proofs::Forms::no_vend))]
 pub(crate) fn vend_in(rest: Option<&[u8]>) -> Option<Step>
-    ensures says { result ≡ vend_step (fields_behind rest.entry) }
-    ensures ranged { IfSome result IsInRange }
+    ensures { Reads result (vend_step (fields_behind rest.entry)) IsInRange }
 {
     let (id, price) = two(rest)?;
     let id = ranged_u32(1, u32::MAX, id)?;
@@ -130,8 +124,7 @@ pub(crate) fn vend_in(rest: Option<&[u8]>) -> Option<Step>
 /// `crash CHOICE`, `crash A CALLS CHOICE`
 #[tactic(auto, using(crate::proofs::Forms::no_crash))]
 pub(crate) fn crash_in(rest: Option<&[u8]>) -> Option<Step>
-    ensures says { result ≡ crash_step (fields_behind rest.entry) }
-    ensures ranged { IfSome result IsInRange }
+    ensures { Reads result (crash_step (fields_behind rest.entry)) IsInRange }
 {
     if let Some(choice) = one(rest) {
         let choice = choice_in(choice)?;

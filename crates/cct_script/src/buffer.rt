@@ -1,9 +1,8 @@
-//! The lines of a script, taken from its source in whatever pieces it gives them.
+//! The lines of a script, taken from its source however many bytes it gives at a time.
 ghost use Rattle.std.specs.Prelude.{◌≡◌, ◌≢◌, ℕ, ◌+◌, ◌<◌, ◌≤◌, List, [], ◌∷◌, ◌++◌, ◌-◌, length, take, drop};
-ghost use Rattle.std.specs.Prelude.{position, slice_range, IfOk, MatchResult, OnErr, None, Ok, Err};
+ghost use Rattle.std.specs.Prelude.{position, slice_range, IfOk, IsErr, MatchResult, OnErr, None, Ok, Err};
 ghost use Rattle.std.specs.Io.KnownBytes.{Consumes, Keeps, IsAtEnd};
-ghost use Rattle.cct_edge.specs.Bytes.{TellsAsBefore};
-ghost use Rattle.cct_edge.specs.Faults.{HasCause};
+ghost use Rattle.cct_edge.specs.Bytes.{Serves};
 ghost use Rattle.cct_lines.specs.Script.{is_line_feed};
 ghost use Rattle.cct_script.specs.Taking.{TakesOn, TakesUntilFault};
 ghost use Rattle.cct_script.specs.Window.{Fills, Finds, IsShort};
@@ -19,7 +18,7 @@ const ROOM: usize = MOST_LINE + 1;
 /// What the reader found at the front of the bytes that it holds.
 #[derive(Clone, Copy, Debug, PartialEq, Eq)]
 pub(crate) enum Held {
-    /// A whole line of so many bytes, and behind it its line feed.
+    /// A whole line of so many bytes, and after it its line feed.
     Line(usize),
     /// A line longer than a line may be.
     Long,
@@ -78,12 +77,14 @@ impl LineBuffer {
     /// Takes more bytes from the source into all the room that is left, and tells how many.
     pub(crate) fn fill<S: Source>(&mut self, source: &mut S) -> Result<usize, Failed>
         requires { length self.old < ROOM }
+        // the bytes held
         ensures fills { Fills self.old self.new (S.left source.old) (S.left source.new) }
         ensures count { IfOk result (λ n. length self.new ≡ length self.old + n) }
-        ensures end { result ≡ Ok 0 → IsAtEnd (S.left source.new) }
         ensures err { OnErr result (self.new ≡ self.old) }
-        ensures tells { TellsAsBefore (S.left source.old) (S.left source.new) }
-        ensures cause { HasCause (S.faults source.old) (S.faults source.new) result }
+
+        // the source
+        ensures end { result ≡ Ok 0 → IsAtEnd (S.left source.new) }
+        ensures serves { Serves S.left S.faults source.old source.new (IsErr result) }
         ensures one { S.takes source.old (ROOM - length self.old) result source.new }
     {
         move_to_front(&mut self.bytes, self.start, self.end);
@@ -97,13 +98,15 @@ impl LineBuffer {
     /// Takes from the source until a whole line is held, or there is none.
     #[tactic(auto, using(crate::proofs::Giving::line_within))]
     pub(crate) fn seek<S: Source>(&mut self, source: &mut S) -> Result<Held, Failed>
+        // the bytes held, and what was found in them
         ensures fills { Fills self.old self.new (S.left source.old) (S.left source.new) }
         ensures finds { IfOk result (λ found. Finds found self.new (S.left source.new)) }
         ensures short { IfOk result IsShort }
         ensures partial { OnErr result (position is_line_feed self.new ≡ None) }
+
+        // the source
         ensures still { position is_line_feed self.old ≢ None → source.new ≡ source.old }
-        ensures tells { TellsAsBefore (S.left source.old) (S.left source.new) }
-        ensures cause { HasCause (S.faults source.old) (S.faults source.new) result }
+        ensures serves { Serves S.left S.faults source.old source.new (IsErr result) }
         ensures takes { MatchResult result
             (λ _. TakesOn S.takes S.left self.old source.old self.new source.new)
             (λ _. TakesUntilFault S.takes S.left self.old source.old self.new source.new) }

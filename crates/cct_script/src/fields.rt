@@ -6,7 +6,7 @@ ghost use Rattle.cct_script.specs.Fields.{fields_behind};
 
 use crate::bytes::place_of;
 
-/// The first field of a line, and what stands behind its space, if there is one.
+/// The first field of a line, and what stands after its space, if there is one.
 pub(crate) fn first_field(line: &[u8]) -> (&[u8], Option<&[u8]>)
     ensures { slice_split is_space line.now ≡ result.0.now ∷ fields_behind result.1 }
 {
@@ -27,7 +27,7 @@ pub(crate) fn alone<T: Drop>(said: T, rest: Option<&[u8]>) -> Option<T>
     }
 }
 
-/// The one field behind a word.
+/// The one field after a word.
 #[tactic(auto, using(crate::proofs::Splits::split_not_empty))]
 pub(crate) fn one(rest: Option<&[u8]>) -> Option<&[u8]>
     ensures { MatchOption result (length (fields_behind rest.entry) ≢ 1)
@@ -40,7 +40,7 @@ pub(crate) fn one(rest: Option<&[u8]>) -> Option<&[u8]>
     }
 }
 
-/// The two fields behind a word.
+/// The two fields after a word.
 pub(crate) fn two(rest: Option<&[u8]>) -> Option<(&[u8], &[u8])>
     ensures { MatchOption result (length (fields_behind rest.entry) ≢ 2)
         (λ fields. fields_behind rest.entry ≡ fields.0.now ∷ fields.1.now ∷ []) }
@@ -50,7 +50,7 @@ pub(crate) fn two(rest: Option<&[u8]>) -> Option<(&[u8], &[u8])>
     Some((first, second))
 }
 
-/// The three fields behind a word.
+/// The three fields after a word.
 pub(crate) fn three(rest: Option<&[u8]>) -> Option<(&[u8], &[u8], &[u8])>
     ensures { MatchOption result (length (fields_behind rest.entry) ≢ 3)
         (λ fields. fields_behind rest.entry ≡ fields.0.now ∷ fields.1.now ∷ fields.2.now ∷ []) }
@@ -60,7 +60,7 @@ pub(crate) fn three(rest: Option<&[u8]>) -> Option<(&[u8], &[u8], &[u8])>
     Some((first, second, third))
 }
 
-/// The four fields behind a word.
+/// The four fields after a word.
 pub(crate) fn four(rest: Option<&[u8]>) -> Option<(&[u8], &[u8], &[u8], &[u8])>
     ensures { MatchOption result (length (fields_behind rest.entry) ≢ 4)
         (λ fields. fields_behind rest.entry ≡ fields.0.now ∷ fields.1.now ∷ fields.2.now ∷ fields.3.now ∷ []) }
@@ -70,7 +70,7 @@ pub(crate) fn four(rest: Option<&[u8]>) -> Option<(&[u8], &[u8], &[u8], &[u8])>
     Some((first, second, third, fourth))
 }
 
-/// The five fields behind a word.
+/// The five fields after a word.
 pub(crate) fn five(rest: Option<&[u8]>) -> Option<(&[u8], &[u8], &[u8], &[u8], &[u8])>
     ensures { MatchOption result (length (fields_behind rest.entry) ≢ 5)
         (λ fields. fields_behind rest.entry ≡

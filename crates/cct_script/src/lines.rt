@@ -1,7 +1,6 @@
 //! The lines of a script, one after another.
 ghost use Rattle.std.specs.Prelude.{◌≡◌, ◌≢◌, ◌≤◌, ◌<◌, [], drop, length, position, None, Err, IfOk, IfSome};
-ghost use Rattle.cct_edge.specs.Bytes.{TellsAsBefore};
-ghost use Rattle.cct_edge.specs.Faults.{Rose};
+ghost use Rattle.cct_edge.specs.Bytes.{Serves};
 ghost use Rattle.cct_lines.specs.Script.{is_line_feed};
 
 use crate::buffer::{Held, LineBuffer};
@@ -12,9 +11,9 @@ use thiserror::Error;
 /// A line, or the end of the input.
 #[derive(Clone, Copy, Debug)]
 pub enum Line<'a> {
-    /// The bytes of a line, 1,200 at the most, without its line feed.
+    /// The bytes of a line, 1,200 at most, without its line feed.
     Text(&'a [u8]),
-    /// The input ended behind a line feed, or is empty.
+    /// The input ended after a line feed, or is empty.
     End,
 }
 
@@ -69,9 +68,7 @@ impl Lines {
         ensures gives { Gives (standing_of self.old) (standing_of self.new)
             (S.left source.old) (S.left source.new) (line_in self.new.buffer result) }
         ensures fits { IfOk result (λ found. IfSome found (λ len. len ≤ length self.new.buffer)) }
-        ensures tells { TellsAsBefore (S.left source.old) (S.left source.new) }
-        ensures later { S.faults source.old ≤ S.faults source.new }
-        ensures cause { result ≡ Err LinesNo.Read → Rose (S.faults source.old) (S.faults source.new) }
+        ensures serves { Serves S.left S.faults source.old source.new (result ≡ Err LinesNo.Read) }
         ensures still { position is_line_feed (standing_of self.old).held ≢ None → source.new ≡ source.old }
         ensures takes { TakesForLine S.takes S.left (standing_of self.old).held source.old
             (standing_of self.new).held source.new (line_in self.new.buffer result) }
@@ -116,9 +113,7 @@ impl Lines {
         ensures gives { Gives (standing_of self.old) (standing_of self.new)
             (S.left source.old) (S.left source.new) (line_in self.new.buffer result) }
         ensures none { IfOk result (λ found. found ≡ None) }
-        ensures tells { TellsAsBefore (S.left source.old) (S.left source.new) }
-        ensures later { S.faults source.old ≤ S.faults source.new }
-        ensures cause { result ≡ Err LinesNo.Read → Rose (S.faults source.old) (S.faults source.new) }
+        ensures serves { Serves S.left S.faults source.old source.new (result ≡ Err LinesNo.Read) }
         ensures still { position is_line_feed self.old.buffer ≢ None → source.new ≡ source.old }
         ensures takes { TakesForLine S.takes S.left self.old.buffer source.old
             (standing_of self.new).held source.new (line_in self.new.buffer result) }
@@ -139,14 +134,15 @@ impl Lines {
     /// 1,201 bytes have no line feed; else `Cut` exactly where the input ends after one or more bytes without a line
     /// feed. What was taken stays held after a refusal.
     pub fn line<S: Source>(&mut self, source: &mut S) -> Result<Line<'_>, LinesNo>
+        // Each line once, in order and whole, and each end exactly where it is. Bytes are taken only while those held
+        // have no line feed, each time into all the room that is left, and none after a take that failed.
         ensures* gives { sem 𝓛 (follows_so the_row the_row self.entry.ghost_name none (λ _ _. ⊤)
             (λ new. Gives (standing_of self.old) (standing_of new)
             (S.left source.old) (S.left source.new) (line_given result)
             × TakesForLine S.takes S.left (standing_of self.old).held source.old
             (standing_of new).held source.new (line_given result))) }
-        ensures tells { TellsAsBefore (S.left source.old) (S.left source.new) }
-        ensures later { S.faults source.old ≤ S.faults source.new }
-        ensures cause { result ≡ Err LinesNo.Read → Rose (S.faults source.old) (S.faults source.new) }
+        ensures serves { Serves S.left S.faults source.old source.new (result ≡ Err LinesNo.Read) }
+        // While a whole line is held, nothing is taken.
         ensures still { position is_line_feed (standing_of self.old).held ≢ None → source.new ≡ source.old }
     {
         match self.find(source) {

@@ -1,14 +1,14 @@
 //! Numbers in decimal.
-ghost use Rattle.std.specs.Prelude.{◌≡◌, ◌≤◌, ◌^◌, ◌<◌, IfSome, option_and_then};
+ghost use Rattle.std.specs.Prelude.{◌≡◌, ◌≤◌, ◌^◌, ◌<◌, option_and_then};
 ghost use Rattle.cct_lines.specs.Grammar.{digits_from, number_in, within, ranged};
+ghost use Rattle.cct_script.specs.Fields.{Reads};
 
 /// The number that a field spells in decimal, without sign and without leading zeros.
 ///
 /// `None` where the field spells no number that way, or one below `least` or above `most`.
 #[tactic(auto, unfolding(cct_lines::specs::Grammar::ranged))]
 pub fn ranged(least: u64, most: u64, field: &[u8]) -> Option<u64>
-    ensures reads { result ≡ ranged least most field.now }
-    ensures within { IfSome result (λ number. (least ≤ number) × (number ≤ most)) }
+    ensures { Reads result (ranged least most field.now) (λ number. (least ≤ number) × (number ≤ most)) }
 {
     let number = number_in(field, most)?;
     if number < least {
@@ -48,16 +48,14 @@ fn digits_in(digits: &[u8], most: u64) -> Option<u64>
 
 /// The number of one byte, from `least` up to `most`, that a field spells.
 pub(crate) fn ranged_u8(least: u8, most: u8, field: &[u8]) -> Option<u8>
-    ensures reads { result ≡ ranged least most field.now }
-    ensures within { IfSome result (λ number. (least ≤ number) × (number ≤ most)) }
+    ensures { Reads result (ranged least most field.now) (λ number. (least ≤ number) × (number ≤ most)) }
 {
     Some(ranged(u64::from(least), u64::from(most), field)? as u8)
 }
 
 /// The number of four bytes, from `least` up to `most`, that a field spells.
 pub(crate) fn ranged_u32(least: u32, most: u32, field: &[u8]) -> Option<u32>
-    ensures reads { result ≡ ranged least most field.now }
-    ensures within { IfSome result (λ number. (least ≤ number) × (number ≤ most)) }
+    ensures { Reads result (ranged least most field.now) (λ number. (least ≤ number) × (number ≤ most)) }
 {
     Some(ranged(u64::from(least), u64::from(most), field)? as u32)
 }

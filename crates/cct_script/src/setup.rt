@@ -1,10 +1,10 @@
 //! The setup lines of a script (`docs/SCRIPT.md`).
-ghost use Rattle.std.specs.Prelude.{◌≡◌, ◌≤◌, ◌<◌, ◌^◌, IfOk, IfSome};
+ghost use Rattle.std.specs.Prelude.{◌≡◌, ◌≤◌, ◌<◌, ◌^◌, IfOk};
 ghost use Rattle.cct_lines.specs.Device.{IsSound, IsSoundBody};
 ghost use Rattle.cct_lines.specs.SetupLine.{IsSetupLine};
 ghost use Rattle.cct_lines.specs.Grammar.{ranged, three_byte_in, plain_texts, plain_acceptor, plain_device};
 ghost use Rattle.cct_lines.specs.Grammar.{acceptor_line, hopper_line, value_line, texts_line, setup_line};
-ghost use Rattle.cct_script.specs.Fields.{fields_behind};
+ghost use Rattle.cct_script.specs.Fields.{Reads, fields_behind};
 
 use crate::fields::{alone, first_field, five, four};
 use crate::numbers::{ranged_u8, ranged_u32};
@@ -23,24 +23,21 @@ const BEGIN: &[u8] = b"begin";
 
 /// The address of a device that a field of a setup line spells, 2 to 255.
 fn address_in(field: &[u8]) -> Option<u8>
-    ensures reads { result ≡ ranged 2 255 field.now }
-    ensures within { IfSome result (λ addr. 2 ≤ addr) }
+    ensures { Reads result (ranged 2 255 field.now) (λ addr. 2 ≤ addr) }
 {
     ranged_u8(2, 255, field)
 }
 
 /// The number of three bytes that a field spells.
 fn three_byte_in(field: &[u8]) -> Option<u32>
-    ensures reads { result ≡ three_byte_in field.now }
-    ensures within { IfSome result (λ number. number < 2 ^ 24) }
+    ensures { Reads result (three_byte_in field.now) (λ number. number < 2 ^ 24) }
 {
     ranged_u32(0, 16_777_215, field)
 }
 
 /// The value of a coin that a field spells, 1 to 1,000,000.
 fn worth_in(field: &[u8]) -> Option<u32>
-    ensures reads { result ≡ ranged 1 1000000 field.now }
-    ensures within { IfSome result (λ value. (1 ≤ value) × (value ≤ 1000000)) }
+    ensures { Reads result (ranged 1 1000000 field.now) (λ value. (1 ≤ value) × (value ≤ 1000000)) }
 {
     ranged_u32(1, 1_000_000, field)
 }
@@ -89,8 +86,7 @@ fn plain_device(addr: u8, kind: CheckKind, serial: u32, body: DeviceBody) -> Dev
 /// `acceptor A CHECK SERIAL ACCEPTS`
 #[tactic(auto, using(crate::proofs::Forms::no_acceptor))]
 fn acceptor_line(rest: Option<&[u8]>) -> Option<SetupLine>
-    ensures says { result ≡ acceptor_line (fields_behind rest.entry) }
-    ensures sound { IfSome result IsSetupLine }
+    ensures { Reads result (acceptor_line (fields_behind rest.entry)) IsSetupLine }
 {
     let (addr, check, serial, accepts) = four(rest)?;
     let addr = address_in(addr)?;
@@ -104,8 +100,7 @@ fn acceptor_line(rest: Option<&[u8]>) -> Option<SetupLine>
 /// `hopper A CHECK SERIAL LIFE VALUE`
 #[tactic(auto, using(crate::proofs::Forms::no_hopper))]
 fn hopper_line(rest: Option<&[u8]>) -> Option<SetupLine>
-    ensures says { result ≡ hopper_line (fields_behind rest.entry) }
-    ensures sound { IfSome result IsSetupLine }
+    ensures { Reads result (hopper_line (fields_behind rest.entry)) IsSetupLine }
 {
     let (addr, check, serial, life, value) = five(rest)?;
     let addr = address_in(addr)?;
@@ -120,8 +115,7 @@ fn hopper_line(rest: Option<&[u8]>) -> Option<SetupLine>
 /// `value A PLACE VALUE ID`
 #[tactic(auto, using(crate::proofs::Forms::no_value))]
 fn value_line(rest: Option<&[u8]>) -> Option<SetupLine>
-    ensures says { result ≡ value_line (fields_behind rest.entry) }
-    ensures sound { IfSome result IsSetupLine }
+    ensures { Reads result (value_line (fields_behind rest.entry)) IsSetupLine }
 {
     let (addr, place, value, id) = four(rest)?;
     let addr = address_in(addr)?;
@@ -139,8 +133,7 @@ fn value_line(rest: Option<&[u8]>) -> Option<SetupLine>
 /// `texts A MAKER PRODUCT SOFTWARE BUILD`
 #[tactic(auto, using(crate::proofs::Forms::no_texts))]
 fn texts_line(rest: Option<&[u8]>) -> Option<SetupLine>
-    ensures says { result ≡ texts_line (fields_behind rest.entry) }
-    ensures sound { IfSome result IsSetupLine }
+    ensures { Reads result (texts_line (fields_behind rest.entry)) IsSetupLine }
 {
     let (addr, maker, product, software, build) = five(rest)?;
     let addr = address_in(addr)?;
@@ -162,6 +155,7 @@ fn texts_line(rest: Option<&[u8]>) -> Option<SetupLine>
 #[tactic(auto, unfolding(cct_lines::specs::Grammar::setup_line))]
 pub fn read_setup_line(line: &[u8]) -> Result<SetupLine, LineKind>
     ensures value { result ≡ setup_line line.now }
+    // What it says is in its ranges: each address is 2 to 255, and a hopper's line has a hopper's body.
     ensures said { IfOk result IsSetupLine }
 {
     let (word, rest) = first_field(line);

@@ -1,9 +1,9 @@
 //! The step lines of a script (`docs/SCRIPT.md`).
-ghost use Rattle.std.specs.Prelude.{◌≡◌, Ok, Err, IfOk, OnOk, MatchResult};
+ghost use Rattle.std.specs.Prelude.{◌≡◌, Ok, Err, IfOk, MatchResult};
 ghost use Rattle.cct_lines.specs.Grammar.{step_line};
 ghost use Rattle.cct_lines.specs.Script.{IsInRange};
 ghost use Rattle.cct_script.specs.Fields.{fields_behind};
-ghost use Rattle.cct_script.specs.Steps.{device_step, epoch_step, order_step, other_step, said_into};
+ghost use Rattle.cct_script.specs.Steps.{ReadsInto, device_step, epoch_step, order_step, other_step};
 
 use crate::behind::{addr, coin_in, crash_in, fault_in, path_in, pay_in, start_in, vend_in};
 use crate::fields::{alone, first_field};
@@ -53,8 +53,7 @@ const END: &[u8] = b"end";
 /// a device; or another word.
 #[tactic(auto, unfolding(crate::specs::Steps::device_step))]
 fn device_step(word: &[u8], rest: Option<&[u8]>, step: &mut Step) -> Result<(), LineKind>
-    ensures reads { said_into result step.new ≡ device_step word.now (fields_behind rest.entry) }
-    ensures ranged { OnOk result (IsInRange step.new) }
+    ensures { ReadsInto result step.new (device_step word.now (fields_behind rest.entry)) }
 {
     match word {
         _ if word == COIN => *step = coin_in(rest).ok_or(LineKind::Form)?,
@@ -71,8 +70,7 @@ fn device_step(word: &[u8], rest: Option<&[u8]>, step: &mut Step) -> Result<(), 
 /// attempt of a job, what is wrong on the wire, or a command of an epoch; or another word.
 #[tactic(auto, unfolding(crate::specs::Steps::epoch_step))]
 fn epoch_step(word: &[u8], rest: Option<&[u8]>, step: &mut Step) -> Result<(), LineKind>
-    ensures reads { said_into result step.new ≡ epoch_step word.now (fields_behind rest.entry) }
-    ensures ranged { OnOk result (IsInRange step.new) }
+    ensures { ReadsInto result step.new (epoch_step word.now (fields_behind rest.entry)) }
 {
     match word {
         _ if word == NEXT => *step = Step::Next { addr: addr(rest)? },
@@ -89,8 +87,7 @@ fn epoch_step(word: &[u8], rest: Option<&[u8]>, step: &mut Step) -> Result<(), L
 /// hopper, or one that asks of devices; or another word.
 #[tactic(auto, unfolding(crate::specs::Steps::order_step))]
 fn order_step(word: &[u8], rest: Option<&[u8]>, step: &mut Step) -> Result<(), LineKind>
-    ensures reads { said_into result step.new ≡ order_step word.now (fields_behind rest.entry) }
-    ensures ranged { OnOk result (IsInRange step.new) }
+    ensures { ReadsInto result step.new (order_step word.now (fields_behind rest.entry)) }
 {
     match word {
         _ if word == SETTLE => *step = Step::Command(Command::Settle { addr: addr(rest)? }),
@@ -109,8 +106,7 @@ fn order_step(word: &[u8], rest: Option<&[u8]>, step: &mut Step) -> Result<(), L
 /// command, a power cut, or what the operator reads; any other word is none.
 #[tactic(auto, unfolding(crate::specs::Steps::other_step))]
 fn other_step(word: &[u8], rest: Option<&[u8]>, step: &mut Step) -> Result<(), LineKind>
-    ensures reads { said_into result step.new ≡ other_step word.now (fields_behind rest.entry) }
-    ensures ranged { OnOk result (IsInRange step.new) }
+    ensures { ReadsInto result step.new (other_step word.now (fields_behind rest.entry)) }
 {
     match word {
         _ if word == PATH => *step = path_in(rest).ok_or(LineKind::Form)?,

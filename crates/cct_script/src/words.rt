@@ -1,8 +1,9 @@
 //! Fields that are texts, names of checks, and bytes in hexadecimal.
-ghost use Rattle.std.specs.Prelude.{◌≡◌, ◌≤◌, length, IsTrue, IfSome};
+ghost use Rattle.std.specs.Prelude.{◌≡◌, ◌≤◌, length, IsTrue};
 ghost use Rattle.std.specs.List.{list_all, All};
 ghost use Rattle.cct_lines.specs.Device.{IsPrinting, IsWord, IsId};
 ghost use Rattle.cct_lines.specs.Grammar.{is_printing, check_in, word_in, id_in, piece_in, mask_in};
+ghost use Rattle.cct_script.specs.Fields.{Reads};
 
 use cct_lines::{CheckKind, MOST_HEARD, MOST_NAME, Name, Piece};
 
@@ -47,8 +48,7 @@ pub(crate) fn name_of(bytes: &[u8]) -> Name
 /// The text that a field is: 1 to 24 printing characters.
 #[tactic(auto, unfolding(cct_lines::specs::Grammar::word_in))]
 pub(crate) fn word_in(field: &[u8]) -> Option<Name>
-    ensures reads { result ≡ word_in field.now }
-    ensures word { IfSome result IsWord }
+    ensures { Reads result (word_in field.now) IsWord }
 {
     if field.len() < 1 || field.len() > MOST_NAME || !are_printing(field) {
         return None;
@@ -59,8 +59,7 @@ pub(crate) fn word_in(field: &[u8]) -> Option<Name>
 /// The identification of a coin that a field is: six printing characters.
 #[tactic(auto, unfolding(cct_lines::specs::Grammar::id_in))]
 pub(crate) fn id_in(field: &[u8]) -> Option<[u8; 6]>
-    ensures reads { result ≡ id_in field.now }
-    ensures id { IfSome result IsId }
+    ensures { Reads result (id_in field.now) IsId }
 {
     if field.len() != 6 || !are_printing(field) {
         return None;
@@ -75,8 +74,7 @@ pub(crate) fn id_in(field: &[u8]) -> Option<[u8; 6]>
 #[tactic(auto, unfolding(cct_lines::specs::Grammar::piece_in))]
 pub fn piece_in(most: usize, field: &[u8]) -> Option<Piece>
     requires { most ≤ MOST_HEARD }
-    ensures reads { result ≡ piece_in most field.now }
-    ensures few { IfSome result (λ piece. length piece ≤ most) }
+    ensures { Reads result (piece_in most field.now) (λ piece. length piece ≤ most) }
 {
     if field == NO_BYTE {
         return Some(Piece::new());
@@ -96,8 +94,7 @@ pub fn piece_in(most: usize, field: &[u8]) -> Option<Piece>
 /// (ccTalk Generic Specification 4, part 2, header 231).
 #[tactic(auto, using(crate::proofs::Masks::mask_refused), unfolding(cct_lines::specs::Grammar::mask_in))]
 pub(crate) fn mask_in(field: &[u8]) -> Option<u16>
-    ensures reads { result ≡ mask_in field.now }
-    ensures some { IfSome result (λ mask. 1 ≤ mask) }
+    ensures { Reads result (mask_in field.now) (λ mask. 1 ≤ mask) }
 {
     let mut bytes = [0; 2];
     hex::decode_to_slice(field, &mut bytes).ok()?;

@@ -5,7 +5,7 @@ use arrayvec::ArrayVec;
 use cct_edge::{Failed, Source};
 use cct_lines::MOST_TEXT;
 
-/// How many bytes are taken from the source in one call at the most.
+/// How many bytes are taken from the source in one call at most.
 const CHUNK: usize = 4096;
 
 /// What takes the lines of the input.
@@ -43,8 +43,8 @@ pub(crate) fn read_lines<S: Source, L: LineSink>(source: &mut S, sink: &mut L) -
         if count == 0 {
             break;
         }
-        for piece in room[..count].split_inclusive(|byte| *byte == b'\n') {
-            line.add(piece, sink)?;
+        for part in room[..count].split_inclusive(|byte| *byte == b'\n') {
+            line.add(part, sink)?;
         }
     }
     if line.is_long || !line.bytes.is_empty() {
@@ -55,8 +55,8 @@ pub(crate) fn read_lines<S: Source, L: LineSink>(source: &mut S, sink: &mut L) -
 
 impl Line {
     /// Adds bytes, of which the last may be a line feed, which ends the line.
-    fn add<L: LineSink>(&mut self, piece: &[u8], sink: &mut L) -> Result<(), Stop> {
-        match piece {
+    fn add<L: LineSink>(&mut self, part: &[u8], sink: &mut L) -> Result<(), Stop> {
+        match part {
             [bytes @ .., b'\n'] => {
                 self.hold(bytes, sink)?;
                 self.end(sink)

@@ -154,7 +154,7 @@ fn is_message(bytes: &[u8]) -> bool {
     read(CheckKind::Simple, bytes).is_ok() || read(CheckKind::Crc, bytes).is_ok()
 }
 
-/// Puts bytes in place of what is held. There is room: both are pieces of a log.
+/// Puts bytes in place of what is held. There is room: both are bytes of a log.
 fn copy(held: &mut LogBytes, bytes: &[u8]) {
     held.clear();
     let _ = held.try_extend_from_slice(bytes);

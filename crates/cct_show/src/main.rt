@@ -6,8 +6,8 @@ mod exchange;
 mod lines;
 mod log;
 mod mark;
-mod page;
 mod picture;
+mod put_buffer;
 mod status;
 mod text;
 

@@ -91,11 +91,11 @@ fn device_mark(entry: &Entry, line: &[u8]) -> Mark {
     Mark::Happened { addr, what }
 }
 
-/// The mark of a fault on the wire; the piece stands last in its line.
+/// The mark of a fault on the wire; its bytes stand last in its line.
 fn fault_mark(fault: &WireFault, line: &[u8]) -> Mark {
-    let piece = line.rsplit(|byte| *byte == b' ').next().unwrap_or(line);
+    let bytes = line.rsplit(|byte| *byte == b' ').next().unwrap_or(line);
     Mark::Fault {
         at: place_of(fault),
-        piece: Label::new(piece),
+        bytes: Label::new(bytes),
     }
 }

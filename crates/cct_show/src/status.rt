@@ -49,7 +49,7 @@ pub(crate) enum Status {
 }
 
 impl Status {
-    /// The status behind a form that came to the input's end, or stopped.
+    /// The status after a form that came to the input's end, or stopped.
     pub(crate) fn of(shown: Result<(), Stop>) -> Status {
         match shown {
             Ok(()) => Status::Done,

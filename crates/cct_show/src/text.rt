@@ -2,7 +2,7 @@
 
 use crate::lines::{LineSink, read_lines};
 use crate::log::{Half, Log};
-use crate::page::Page;
+use crate::put_buffer::PutBuffer;
 use crate::status::{Status, Stop};
 use cct_edge::{Sink, Source};
 use cct_log::{LogLine, Time, read_log_line};
@@ -12,14 +12,14 @@ use std::fmt::Write;
 /// Lines with what they say, on their way to a sink.
 #[derive(Drop)]
 struct Text<'k, K> {
-    page: Page<'k, K>,
+    out: PutBuffer<'k, K>,
     log: Log,
 }
 
 /// Shows all lines of a source, each with what it says by one put.
 pub(crate) fn show_text<S: Source, K: Sink>(source: &mut S, out: &mut K) -> Status {
     let mut text = Text {
-        page: Page::new(out),
+        out: PutBuffer::new(out),
         log: Log::new(),
     };
     Status::of(read_lines(source, &mut text))
@@ -33,17 +33,17 @@ impl<K: Sink> Text<'_, K> {
         }
         self.log.take(&logged.said);
         if self.log.tells_no_echo {
-            self.page
+            self.out
                 .add(b"    the replies of this log stand without their echo\n")?;
         }
         let exchange = Exchange::new(self.log.sent.as_slice(), self.log.heard.as_slice());
         let asked = exchange.asked;
         let answer = exchange.answer;
         match self.log.half {
-            Half::Both => write!(self.page, "{exchange}")?,
-            Half::Sent => write!(self.page, "    {asked}\n")?,
-            Half::Echo => self.page.add(b"    the echo\n")?,
-            Half::Heard => write!(self.page, "    {answer}\n")?,
+            Half::Both => write!(self.out, "{exchange}")?,
+            Half::Sent => write!(self.out, "    {asked}\n")?,
+            Half::Echo => self.out.add(b"    the echo\n")?,
+            Half::Heard => write!(self.out, "    {answer}\n")?,
         }
         Ok(())
     }
@@ -54,7 +54,7 @@ impl<K: Sink> Text<'_, K> {
             let seconds = micros / 1_000_000;
             let millis = micros / 1000 % 1000;
             write!(
-                self.page,
+                self.out,
                 "    {seconds}.{millis:03} s after the line before\n"
             )?;
         }
@@ -64,22 +64,22 @@ impl<K: Sink> Text<'_, K> {
 
 impl<K: Sink> LineSink for Text<'_, K> {
     fn line(&mut self, line: &[u8]) -> Result<(), Stop> {
-        self.page.add(line)?;
-        self.page.add(b"\n")?;
+        self.out.add(line)?;
+        self.out.add(b"\n")?;
         let line = line.strip_suffix(b"\r").unwrap_or(line);
         if let Some(entry) = read_line(line) {
             let told = Told(&entry);
-            write!(self.page, "{told}")?;
+            write!(self.out, "{told}")?;
         } else if let Some(logged) = read_log_line(line) {
             self.tell_logged(&logged)?;
         }
-        self.page.write_out()?;
+        self.out.write_out()?;
         Ok(())
     }
 
     fn part(&mut self, bytes: &[u8]) -> Result<(), Stop> {
-        self.page.add(bytes)?;
-        self.page.write_out()?;
+        self.out.add(bytes)?;
+        self.out.write_out()?;
         Ok(())
     }
 

@@ -99,6 +99,7 @@ impl CoinTable {
         ensures taken { IsOk result ↔ IsTrue (is_place place && is_path path) }
         ensures refused { IsErrOf result (record { place = place; path = path })
             ↔ IsTrue (not (is_place place && is_path path)) }
+        // A refused path leaves each setting as it is.
         ensures unchanged { OnErr result (self.new ≡ self.old) }
     {
         if !is_place(place) || !is_path(path) {

@@ -44,7 +44,7 @@ enum Work {
     Credits,
     /// A journal takes a record.
     Puts,
-    /// The same, and behind the last pass the journal is opened again.
+    /// The same, and after the last pass the journal is opened again.
     Reopened,
 }
 
@@ -119,7 +119,7 @@ fn request(from: u8) -> ArrayVec<u8, MOST_SENT> {
     out
 }
 
-/// How many records a new journal has behind so many puts.
+/// How many records a new journal has after so many puts.
 fn puts(alloc: Global, passes: u32) -> Result<u64, AllocError> {
     match filled(alloc, passes)? {
         Some(journal) => Ok(u64::from(journal.used())),
@@ -127,7 +127,7 @@ fn puts(alloc: Global, passes: u32) -> Result<u64, AllocError> {
     }
 }
 
-/// How many records are found where a journal is opened again behind so many puts.
+/// How many records are found where a journal is opened again after so many puts.
 fn reopened(alloc: Global, passes: u32) -> Result<u64, AllocError> {
     match filled(alloc, passes)? {
         Some(journal) => match Journal::reopen(journal.into_disk()) {

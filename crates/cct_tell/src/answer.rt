@@ -14,7 +14,7 @@ use std::fmt;
 /// The header of a reply that is no refusal.
 pub(crate) const REPLY: u8 = 0;
 
-/// What was heard in an exchange, behind the echo of what was sent.
+/// What was heard in an exchange, after the echo of what was sent.
 #[derive(Clone, Copy)]
 pub enum Answer<'e> {
     /// The echo is damaged: at the place `at`, counted from 0, `sent` was sent and `heard` was heard, or no byte.
@@ -27,7 +27,7 @@ pub enum Answer<'e> {
     Silence,
     /// The bare addresses that answer an address poll.
     Addresses(&'e [u8]),
-    /// A piece that is no message under the check of the request.
+    /// Bytes that are no message under the check of the request.
     Broken(FrameFault),
     /// The reply that was wanted, NAK or BUSY.
     Reply {
@@ -52,7 +52,7 @@ pub enum Answer<'e> {
         kind: CheckKind,
         view: FrameView<'e>,
     },
-    /// A message behind something of which it isn't known what reply it wants.
+    /// A message after something of which it isn't known what reply it wants.
     Message {
         kind: CheckKind,
         view: FrameView<'e>,
@@ -60,7 +60,7 @@ pub enum Answer<'e> {
 }
 
 impl<'e> Answer<'e> {
-    /// Reads what was heard behind what was asked.
+    /// Reads what was heard after what was asked.
     pub(crate) fn new(
         kind: CheckKind,
         asked: &Asked<'_>,
@@ -157,7 +157,7 @@ fn other_answer<'e>(
     }
 }
 
-/// What was heard behind an address poll, which is answered by bare addresses.
+/// What was heard after an address poll, which is answered by bare addresses.
 fn bare_answer<'e>(sent: &[u8], heard: &'e [u8]) -> Answer<'e> {
     match bare_after_echo(sent, heard) {
         Err(EchoBad { at }) => bad_echo(at, sent, heard),

@@ -26,7 +26,7 @@ pub enum Asked<'e> {
         kind: CheckKind,
         view: FrameView<'e>,
     },
-    /// A piece that is no message under either check.
+    /// Bytes that are no message under either check.
     Broken(&'e [u8]),
 }
 
@@ -71,8 +71,8 @@ impl fmt::Display for Asked<'_> {
                 let message = Message { kind, view };
                 write!(f, "{message}")
             }
-            Asked::Broken(piece) => {
-                let why = NoMessage(piece);
+            Asked::Broken(bytes) => {
+                let why = NoMessage(bytes);
                 write!(f, "the host sent no message: {why}")
             }
         }
@@ -93,7 +93,7 @@ impl fmt::Display for Recipient {
     }
 }
 
-/// Who sent a message, with a space behind it; nothing where the message names nobody.
+/// Who sent a message, with a space after it; nothing where the message names nobody.
 #[derive(Drop)]
 struct Sender(Option<u8>);
 
@@ -118,16 +118,27 @@ impl fmt::Display for Message<'_> {
     fn fmt<W: fmt::Write>(&self, f: &mut fmt::Formatter<W>) -> fmt::Result {
         let from = Sender(self.view.from);
         let to = Recipient(self.view.to);
-        let header = self.view.header;
-        write!(f, "{from}to {to}: header {header}")?;
-        if let Some(name) = name_of(header) {
-            write!(f, " ({name})")?;
-        }
-        if !self.view.body.is_empty() {
-            let body = Hex(self.view.body);
-            write!(f, ", data {body}")?;
-        }
+        write!(f, "{from}to {to}: ")?;
+        write_header(self.view.header, f)?;
+        write_data(self.view.body, f)?;
         let check = check_name(self.kind);
         write!(f, "; {check} good")
     }
+}
+
+/// Writes a header, and its name where it has one.
+fn write_header<W: fmt::Write>(header: u8, f: &mut fmt::Formatter<W>) -> fmt::Result {
+    match name_of(header) {
+        Some(name) => write!(f, "header {header} ({name})"),
+        None => write!(f, "header {header}"),
+    }
+}
+
+/// Writes the data bytes of a message, where it has any.
+fn write_data<W: fmt::Write>(body: &[u8], f: &mut fmt::Formatter<W>) -> fmt::Result {
+    if body.is_empty() {
+        return Ok(());
+    }
+    let body = Hex(body);
+    write!(f, ", data {body}")
 }

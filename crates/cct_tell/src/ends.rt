@@ -3,20 +3,48 @@
 use crate::fields::{byte, one_byte, two_bytes};
 use cct_lines::{BROADCAST, CheckKind, DeviceSet, End, Entry, HOST, Listed};
 
+const STARTED: &[u8] = b"started";
+
+const UNSURE: &[u8] = b"unsure";
+
+const POSTED: &[u8] = b"posted";
+
+const CLEAN: &[u8] = b"clean";
+
+const BROKE: &[u8] = b"broke";
+
+const STOPPED: &[u8] = b"stopped";
+
+const CLOSED: &[u8] = b"closed";
+
+const ODD_LIFE: &[u8] = b"oddlife";
+
+const NO_ANSWER: &[u8] = b"noanswer";
+
+const TOLD: &[u8] = b"told";
+
+const SOLD: &[u8] = b"sold";
+
+const UNQUIET: &[u8] = b"unquiet";
+
+const PATH_SET: &[u8] = b"pathset";
+
+const LISTED: &[u8] = b"listed";
+
 /// The entry of a line that says how a job ended.
 pub(crate) fn end_line(word: &[u8], rest: &[&[u8]]) -> Option<Entry> {
     match word {
-        b"sold" => sold_line(rest),
-        b"unquiet" => unquiet_line(rest),
-        b"pathset" => path_line(rest),
-        b"listed" => listed_line(rest),
+        _ if word == SOLD => sold_line(rest),
+        _ if word == UNQUIET => unquiet_line(rest),
+        _ if word == PATH_SET => path_line(rest),
+        _ if word == LISTED => listed_line(rest),
         _ => bare_line(word, rest),
     }
 }
 
 /// A line that has nothing but an address after its word.
 fn bare_line(word: &[u8], rest: &[&[u8]]) -> Option<Entry> {
-    let end = bare_end(word)?;
+    let end = epoch_end(word).or(other_end(word))?;
     Some(Entry::Ended {
         addr: one_byte(rest)?,
         end,
@@ -92,19 +120,26 @@ fn device_in(text: &[u8]) -> Option<(u8, CheckKind)> {
     }
 }
 
-/// The end that a word names which has an address behind it alone.
-fn bare_end(word: &[u8]) -> Option<End> {
+/// The end of a start, a round or a stop that a word names which has an address after it alone.
+fn epoch_end(word: &[u8]) -> Option<End> {
     match word {
-        b"started" => Some(End::Started),
-        b"unsure" => Some(End::StartUnsure),
-        b"posted" => Some(End::Posted),
-        b"broke" => Some(End::Broke),
-        b"stopped" => Some(End::Stopped),
-        b"clean" => Some(End::Clean),
-        b"closed" => Some(End::Closed),
-        b"oddlife" => Some(End::OddLife),
-        b"noanswer" => Some(End::NoAnswer),
-        b"told" => Some(End::Told),
+        _ if word == STARTED => Some(End::Started),
+        _ if word == UNSURE => Some(End::StartUnsure),
+        _ if word == POSTED => Some(End::Posted),
+        _ if word == CLEAN => Some(End::Clean),
+        _ if word == BROKE => Some(End::Broke),
+        _ if word == STOPPED => Some(End::Stopped),
+        _ => None,
+    }
+}
+
+/// Another end that a word names which has an address after it alone.
+fn other_end(word: &[u8]) -> Option<End> {
+    match word {
+        _ if word == CLOSED => Some(End::Closed),
+        _ if word == ODD_LIFE => Some(End::OddLife),
+        _ if word == NO_ANSWER => Some(End::NoAnswer),
+        _ if word == TOLD => Some(End::Told),
         _ => None,
     }
 }

@@ -7,7 +7,7 @@ use cct_lines::{CheckKind, HOST};
 use cct_wire::{Heard, hear};
 use std::fmt;
 
-/// One exchange: what the host sent, and what it heard behind the echo.
+/// One exchange: what the host sent, and what it heard after the echo.
 #[derive(Clone, Copy)]
 pub struct Exchange<'e> {
     pub asked: Asked<'e>,
@@ -50,7 +50,7 @@ fn check_of(sent: &[u8], heard: &[u8]) -> CheckKind {
     }
 }
 
-/// Whether a piece is a message under a check, and names no other source than the host.
+/// Whether bytes are a message under a check, and names no other source than the host.
 fn is_request(kind: CheckKind, sent: &[u8]) -> bool {
     match read(kind, sent) {
         Ok(view) => view.from.unwrap_or(HOST) == HOST,

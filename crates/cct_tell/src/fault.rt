@@ -1,4 +1,4 @@
-//! Why a piece is no message, and the names of both checks.
+//! Why bytes are no message, and the names of both checks.
 
 use cct_frame::{FrameFault, read};
 use cct_lines::CheckKind;
@@ -12,7 +12,7 @@ pub(crate) fn check_name(kind: CheckKind) -> &'static str {
     }
 }
 
-/// Why a piece is no message under one check.
+/// Why bytes are no message under one check.
 #[derive(Drop)]
 pub(crate) struct Fault(pub FrameFault);
 
@@ -27,17 +27,25 @@ impl fmt::Display for Fault {
                     "wrong length, {said} data bytes make {needs} bytes, and it has {have}"
                 )
             }
-            FrameFault::Check { want, got } => {
-                write!(f, "simple check bad, {want:02x} wanted, {got:02x} got")
-            }
-            FrameFault::CrcCheck { want, got } => {
-                write!(f, "CRC bad, {want:04x} wanted, {got:04x} got")
-            }
+            _ => write_bad_check(self.0, f),
         }
     }
 }
 
-/// Why a piece is no message under either check.
+/// Writes which check is bad, and how.
+fn write_bad_check<W: fmt::Write>(fault: FrameFault, f: &mut fmt::Formatter<W>) -> fmt::Result {
+    match fault {
+        FrameFault::Check { want, got } => {
+            write!(f, "simple check bad, {want:02x} wanted, {got:02x} got")
+        }
+        FrameFault::CrcCheck { want, got } => {
+            write!(f, "CRC bad, {want:04x} wanted, {got:04x} got")
+        }
+        _ => Ok(()),
+    }
+}
+
+/// Why bytes are no message under either check.
 #[derive(Drop)]
 pub(crate) struct NoMessage<'p>(pub &'p [u8]);
 

@@ -7,6 +7,44 @@ use crate::refusal::refusal_in;
 use cct_lines::{Coin, Entry, MOST_HEARD, MOST_SENT, Sent, Step, Totals};
 use cct_script::piece_in;
 
+const WIRE: &[u8] = b"wire";
+
+const PUT: &[u8] = b"put";
+
+const KEPT: &[u8] = b"kept";
+
+const RECORD: &[u8] = b"record";
+
+const OK: &[u8] = b"ok";
+
+const NO: &[u8] = b"no";
+
+const FAULT: &[u8] = b"fault";
+
+const ACCEPTED: &[u8] = b"accepted";
+
+const INHIBITED: &[u8] = b"inhibited";
+
+const ALIEN: &[u8] = b"alien";
+
+const FELL: &[u8] = b"fell";
+
+const NO_FALL: &[u8] = b"nofall";
+
+const JAMMED: &[u8] = b"jammed";
+
+const NO_JAM: &[u8] = b"nojam";
+
+const RESET: &[u8] = b"reset";
+
+const IDLE: &[u8] = b"idle";
+
+const CRASH: &[u8] = b"crash";
+
+const BALANCE: &[u8] = b"balance";
+
+const TOTAL: &[u8] = b"total";
+
 /// What a line of a transcript says, without its line feed (`docs/TRANSCRIPT.md`).
 ///
 /// `None` for any other line, and for those of which there is no more to say: a refused line, the faults of a file, and
@@ -14,15 +52,23 @@ use cct_script::piece_in;
 pub fn read_line(line: &[u8]) -> Option<Entry> {
     let fields = fields_of(line)?;
     let (word, rest) = fields.as_slice().split_first()?;
-    match *word {
-        b"wire" => wire_line(rest),
-        b"put" => Some(Entry::Put(record_in(rest)?)),
-        b"kept" => Some(Entry::Kept(record_in(rest)?)),
-        b"record" => listing_line(rest),
-        b"ok" => taken_line(line),
-        b"no" => refused_line(line),
-        b"fault" => fault_line(line),
-        word => device_line(word, rest),
+    let word = *word;
+    match word {
+        _ if word == WIRE => wire_line(rest),
+        _ if word == OK => taken_line(line),
+        _ if word == NO => refused_line(line),
+        _ if word == FAULT => fault_line(line),
+        _ => record_line(word, rest),
+    }
+}
+
+/// A line that has a record after its word; or another line.
+fn record_line(word: &[u8], rest: &[&[u8]]) -> Option<Entry> {
+    match word {
+        _ if word == PUT => Some(Entry::Put(record_in(rest)?)),
+        _ if word == KEPT => Some(Entry::Kept(record_in(rest)?)),
+        _ if word == RECORD => listing_line(rest),
+        _ => device_line(word, rest),
     }
 }
 
@@ -51,7 +97,7 @@ fn listing_line(rest: &[&[u8]]) -> Option<Entry> {
     })
 }
 
-/// The line `ok COMMAND`: behind its word stands the line of the command.
+/// The line `ok COMMAND`: after its word stands the line of the command.
 fn taken_line(line: &[u8]) -> Option<Entry> {
     match step_in(line.strip_prefix(b"ok ")?)? {
         Step::Command(command) => Some(Entry::Taken(command)),
@@ -76,24 +122,31 @@ fn fault_line(line: &[u8]) -> Option<Entry> {
 /// A line that says what happened to a device; or another line.
 fn device_line(word: &[u8], rest: &[&[u8]]) -> Option<Entry> {
     match word {
-        b"accepted" => accepted_line(rest),
-        b"inhibited" => inhibited_line(rest),
-        b"alien" => Some(Entry::Alien {
+        _ if word == ACCEPTED => accepted_line(rest),
+        _ if word == INHIBITED => inhibited_line(rest),
+        _ if word == ALIEN => Some(Entry::Alien {
             addr: one_byte(rest)?,
         }),
-        b"fell" => Some(Entry::Fell {
+        _ if word == RESET => Some(Entry::Reset {
             addr: one_byte(rest)?,
         }),
-        b"nofall" => Some(Entry::NoFall {
+        _ => hopper_line(word, rest),
+    }
+}
+
+/// A line that says what happened to a hopper alone; or another line.
+fn hopper_line(word: &[u8], rest: &[&[u8]]) -> Option<Entry> {
+    match word {
+        _ if word == FELL => Some(Entry::Fell {
             addr: one_byte(rest)?,
         }),
-        b"jammed" => Some(Entry::Jammed {
+        _ if word == NO_FALL => Some(Entry::NoFall {
             addr: one_byte(rest)?,
         }),
-        b"nojam" => Some(Entry::NoJam {
+        _ if word == JAMMED => Some(Entry::Jammed {
             addr: one_byte(rest)?,
         }),
-        b"reset" => Some(Entry::Reset {
+        _ if word == NO_JAM => Some(Entry::NoJam {
             addr: one_byte(rest)?,
         }),
         _ => host_line(word, rest),
@@ -120,14 +173,14 @@ fn inhibited_line(rest: &[&[u8]]) -> Option<Entry> {
 /// A line that says what happened to the host, or what it has; or another line.
 fn host_line(word: &[u8], rest: &[&[u8]]) -> Option<Entry> {
     match word {
-        b"idle" => Some(Entry::Idle {
+        _ if word == IDLE => Some(Entry::Idle {
             addr: one_byte(rest)?,
         }),
-        b"crash" => Some(Entry::Crash {
+        _ if word == CRASH => Some(Entry::Crash {
             records: one_number(rest)?,
         }),
-        b"balance" => balance_line(rest),
-        b"total" => total_line(rest),
+        _ if word == BALANCE => balance_line(rest),
+        _ if word == TOTAL => total_line(rest),
         _ => end_line(word, rest),
     }
 }

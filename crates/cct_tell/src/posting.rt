@@ -26,20 +26,27 @@ impl fmt::Display for Means<'_> {
             } => write_reading(*addr, *lost, posted, f),
             Record::Broken { addr, posted, .. } => write_broken(*addr, posted, f),
             Record::EpochEnd { addr } => write!(f, "the epoch of acceptor {addr} ends"),
-            Record::Opened {
-                id,
-                addr,
-                count,
-                life,
-            } => {
-                let coins = Count(u64::from(*count), "coin");
-                write!(
-                    f,
-                    "order {id} is opened: hopper {addr}, whose life count is {life}, is to pay {coins}"
-                )
-            }
-            _ => write_end(self.0, f),
+            _ => write_order(self.0, f),
         }
+    }
+}
+
+/// Writes the record of an order or a sale.
+fn write_order<W: fmt::Write>(record: &Record, f: &mut fmt::Formatter<W>) -> fmt::Result {
+    match record {
+        Record::Opened {
+            id,
+            addr,
+            count,
+            life,
+        } => {
+            let coins = Count(u64::from(*count), "coin");
+            write!(
+                f,
+                "order {id} is opened: hopper {addr}, whose life count is {life}, is to pay {coins}"
+            )
+        }
+        _ => write_end(record, f),
     }
 }
 

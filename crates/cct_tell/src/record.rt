@@ -3,20 +3,42 @@
 use crate::fields::{byte, coins, mask, number, one_byte};
 use cct_lines::Record;
 
-/// The record that fields spell, as they stand behind `put` (`docs/TRANSCRIPT.md`).
+const EPOCH: &[u8] = b"epoch";
+
+const READING: &[u8] = b"reading";
+
+const BROKEN: &[u8] = b"broken";
+
+const EPOCH_END: &[u8] = b"epochend";
+
+const OPENED: &[u8] = b"opened";
+
+const CLOSED: &[u8] = b"closed";
+
+const ODD: &[u8] = b"odd";
+
+const SOLD: &[u8] = b"sold";
+
+/// The record that fields spell, as they stand after `put` (`docs/TRANSCRIPT.md`).
 pub(crate) fn record_in(fields: &[&[u8]]) -> Option<Record> {
     let (word, rest) = fields.split_first()?;
-    match *word {
-        b"epoch" => epoch_in(rest),
-        b"reading" => reading_in(rest),
-        b"broken" => broken_in(rest),
-        b"epochend" => Some(Record::EpochEnd {
-            addr: one_byte(rest)?,
-        }),
-        b"opened" => opened_in(rest),
-        b"closed" => closed_in(rest),
-        b"odd" => odd_in(rest),
-        b"sold" => sold_in(rest),
+    let word = *word;
+    match word {
+        _ if word == EPOCH => epoch_in(rest),
+        _ if word == READING => reading_in(rest),
+        _ if word == BROKEN => broken_in(rest),
+        _ if word == EPOCH_END => epoch_end_in(rest),
+        _ => order_in(word, rest),
+    }
+}
+
+/// The record of an order or a sale that a word and the fields after it spell.
+fn order_in(word: &[u8], rest: &[&[u8]]) -> Option<Record> {
+    match word {
+        _ if word == OPENED => opened_in(rest),
+        _ if word == CLOSED => closed_in(rest),
+        _ if word == ODD => odd_in(rest),
+        _ if word == SOLD => sold_in(rest),
         _ => None,
     }
 }
@@ -55,6 +77,13 @@ fn broken_in(rest: &[&[u8]]) -> Option<Record> {
         mask_seen: mask(seen)?,
         counter: byte(counter)?,
         posted: coins(posted)?,
+    })
+}
+
+/// The field `A` of an epoch that ends.
+fn epoch_end_in(rest: &[&[u8]]) -> Option<Record> {
+    Some(Record::EpochEnd {
+        addr: one_byte(rest)?,
     })
 }
 

@@ -62,7 +62,7 @@ fn write_acceptor<W: fmt::Write>(reply: Reply<'_>, f: &mut fmt::Formatter<W>) ->
     }
 }
 
-/// Writes an event counter, and behind it the events, newest first.
+/// Writes an event counter, and after it the events, newest first.
 fn write_credits<W: fmt::Write>(credits: Credits, f: &mut fmt::Formatter<W>) -> fmt::Result {
     let counter = credits.counter;
     write!(f, "event counter {counter}")?;

@@ -1,26 +1,17 @@
-//! What a request says behind its name.
+//! What a request says after its name.
 
 use crate::lists::{Count, Places};
 use cct_lines::ENABLE_CODE;
 use cct_msg::Request;
 use std::fmt;
 
-/// The values of a request, behind a colon; nothing where it has none.
+/// The values of a request, after a colon; nothing where it has none.
 #[derive(Drop)]
 pub(crate) struct Values<'r>(pub &'r Request);
 
 impl fmt::Display for Values<'_> {
     fn fmt<W: fmt::Write>(&self, f: &mut fmt::Formatter<W>) -> fmt::Result {
         match *self.0 {
-            Request::SetMask { mask } => {
-                let places = Places(mask);
-                write!(f, ": accept {places}")
-            }
-            Request::SetMaster { value } if value & 1 == 1 => f.write_str(": normal operation"),
-            Request::SetMaster { .. } => f.write_str(": every coin inhibited"),
-            Request::SetPath { place, path } => write!(f, ": place {place} by path {path}"),
-            Request::GetPath { place } | Request::CoinId { place } => write!(f, ": place {place}"),
-            Request::SetDefault { path } => write!(f, ": path {path}"),
             Request::Enable { code: ENABLE_CODE } => f.write_str(": it may pay"),
             Request::Enable { .. } => f.write_str(": it may not pay"),
             Request::Dispense { serial, count } => {
@@ -28,7 +19,30 @@ impl fmt::Display for Values<'_> {
                 write!(f, ": {coins}, by the hopper with serial number {serial}")
             }
             Request::CipherDispense => f.write_str(", under a cipher"),
-            _ => Ok(()),
+            _ => write_acceptor(self.0, f),
         }
+    }
+}
+
+/// Writes the values of a request to an acceptor.
+fn write_acceptor<W: fmt::Write>(request: &Request, f: &mut fmt::Formatter<W>) -> fmt::Result {
+    match *request {
+        Request::SetMask { mask } => {
+            let places = Places(mask);
+            write!(f, ": accept {places}")
+        }
+        Request::SetMaster { value } if value & 1 == 1 => f.write_str(": normal operation"),
+        Request::SetMaster { .. } => f.write_str(": every coin inhibited"),
+        _ => write_place(request, f),
+    }
+}
+
+/// Writes the coin place and the sorter path of a request that names them.
+fn write_place<W: fmt::Write>(request: &Request, f: &mut fmt::Formatter<W>) -> fmt::Result {
+    match *request {
+        Request::SetPath { place, path } => write!(f, ": place {place} by path {path}"),
+        Request::GetPath { place } | Request::CoinId { place } => write!(f, ": place {place}"),
+        Request::SetDefault { path } => write!(f, ": path {path}"),
+        _ => Ok(()),
     }
 }

@@ -35,9 +35,9 @@ impl fmt::Display for ShortAsked<'_> {
                 let message = ShortMessage(view);
                 write!(f, "{message}")
             }
-            Asked::Broken(piece) => {
-                let piece = Hex(piece);
-                write!(f, "no message: {piece}")
+            Asked::Broken(bytes) => {
+                let bytes = Hex(bytes);
+                write!(f, "no message: {bytes}")
             }
         }
     }

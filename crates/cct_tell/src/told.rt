@@ -3,7 +3,7 @@
 use crate::exchange::Exchange;
 use crate::lists::Count;
 use crate::posting::Means;
-use cct_lines::{End, Entry, Totals, WireFault};
+use cct_lines::{End, Entry, Record, Totals, WireFault};
 use std::fmt;
 
 /// What people read below the line of an entry: lines that are indented by four spaces, each with its line feed;
@@ -18,24 +18,25 @@ impl fmt::Display for Told<'_> {
                 let exchange = Exchange::new(sent.as_slice(), heard.as_slice());
                 write!(f, "{exchange}")
             }
-            Entry::Put(record) => {
-                let means = Means(record);
-                write!(f, "    {means}\n")
-            }
-            Entry::Kept(record) => {
-                let means = Means(record);
-                write!(f, "    kept of the put that was cut off: {means}\n")
-            }
-            Entry::Listing { entry, .. } => {
-                let means = Means(entry);
-                write!(f, "    {means}\n")
-            }
+            Entry::Put(record) => write_record("", record, f),
+            Entry::Kept(record) => write_record("kept of the put that was cut off: ", record, f),
+            Entry::Listing { entry, .. } => write_record("", entry, f),
             Entry::No { why, .. } => write!(f, "    refused, since {why}\n"),
             Entry::Fault(fault) => write_fault(fault, f),
             Entry::Ended { end, .. } => write_end(*end, f),
             _ => write_sums(self.0, f),
         }
     }
+}
+
+/// Writes what a record means, after these words.
+fn write_record<W: fmt::Write>(
+    before: &str,
+    record: &Record,
+    f: &mut fmt::Formatter<W>,
+) -> fmt::Result {
+    let means = Means(record);
+    write!(f, "    {before}{means}\n")
 }
 
 /// Writes what a fault on the wire does.
@@ -49,7 +50,7 @@ fn write_fault<W: fmt::Write>(fault: &WireFault, f: &mut fmt::Formatter<W>) -> f
         }
         WireFault::HostHears(_) => {
             f.write_str(
-                "    in the next exchange the host hears this behind its echo, in place of the replies\n",
+                "    in the next exchange the host hears this after its echo, in place of the replies\n",
             )
         }
         WireFault::WholeHeard(_) => {
@@ -72,7 +73,7 @@ pub fn alarm_of(end: End) -> Option<&'static str> {
         End::StartUnsure => Some(
             "the mask was sent and not acknowledged: the epoch runs, and a round comes next",
         ),
-        End::Unquiet { .. } => Some("pieces fell in behind the reset: no epoch began"),
+        End::Unquiet { .. } => Some("objects fell in after the reset: no epoch began"),
         End::Broke => Some(
             "the epoch is over, and coins of it may be lost: the cash box is to be counted",
         ),
@@ -84,7 +85,7 @@ pub fn alarm_of(end: End) -> Option<&'static str> {
     }
 }
 
-/// Writes sums by their names, and what is left behind a loss of power.
+/// Writes sums by their names, and what is left after a power cut.
 fn write_sums<W: fmt::Write>(entry: &Entry, f: &mut fmt::Formatter<W>) -> fmt::Result {
     match entry {
         Entry::Crash { records } => {
@@ -107,6 +108,13 @@ fn write_sums<W: fmt::Write>(entry: &Entry, f: &mut fmt::Formatter<W>) -> fmt::R
                 "    {available} available, {reserved} reserved, {paid} paid, {sold} sold\n"
             )
         }
+        _ => write_total(entry, f),
+    }
+}
+
+/// Writes the sums of a report by their names.
+fn write_total<W: fmt::Write>(entry: &Entry, f: &mut fmt::Formatter<W>) -> fmt::Result {
+    match entry {
         Entry::Total {
             posted,
             lost,

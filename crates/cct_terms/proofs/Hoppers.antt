@@ -45,7 +45,7 @@ after_fall s = if s.remains == 0 then s else with_paid s
 abbrev pub after_end : Bool → Shown → Shown
 after_end by_jam s = if s.remains == 0 then s else with_unpaid (by_jam || s.timeout) s
 
--- what is read after a piece was heard
+-- what is read after bytes were heard
 abbrev pub after_heard : Option ℕ → Option Request → Shown → Shown
 after_heard (Some count) asked s = show count 0 0 false
 after_heard None asked s = unless_reset asked (show 0 0 0 false) (if stops asked then after_end false s else s)
@@ -176,7 +176,7 @@ remaining_jam own past =
 pub remaining_reset : (own : ℕ) (past : List Met) → remaining own (reset ∷ past) ≡ 0
 remaining_reset own past = refl
 
--- how many remain after a piece was heard
+-- how many remain after bytes were heard
 abbrev pub left_heard : Option ℕ → Option Request → ℕ → ℕ
 left_heard (Some count) asked before = count
 left_heard None asked before = unless_reset asked 0 (if stops asked then 0 else before)
@@ -254,17 +254,17 @@ states : {on may : Bool} {events more : ℕ} {s t : Shown} {tested : Bool} {ever
 states e f g h = cc
 
 -- after a reset it is as after power-up, but for the coins that it ever dropped; so it is where the reset was asked for
-abbrev pub restarted : State → State
-restarted s = record s { on = false; events = 0; last = show 0 0 0 false; tested = false }
+abbrev pub reset_state : State → State
+reset_state s = record s { on = false; events = 0; last = show 0 0 0 false; tested = false }
 
-pub reset_restarts : (own : ℕ) (past : List Met) → state own (reset ∷ past) ≡ restarted (state own past)
-reset_restarts own past = refl
+pub state_reset : (own : ℕ) (past : List Met) → state own (reset ∷ past) ≡ reset_state (state own past)
+state_reset own past = refl
 
-pub asked_reset_restarts : (own : ℕ) (past : List Met) →
-    state own (heard (Some ResetDevice) ∷ past) ≡ restarted (state own past)
-asked_reset_restarts own past = refl
+pub state_asked_reset : (own : ℕ) (past : List Met) →
+    state own (heard (Some ResetDevice) ∷ past) ≡ reset_state (state own past)
+state_asked_reset own past = refl
 
--- coins and other pieces that fall in are nothing to it, nor is a piece that asks it nothing
+-- coins and other objects that fall in are nothing to it, nor are bytes that ask it nothing
 pub coin_passes : (own place : ℕ) (past : List Met) → state own (coin place ∷ past) ≡ state own past
 coin_passes own place past = states refl refl (shown_coin own place past) refl
 

@@ -1,4 +1,4 @@
--- A piece that spells a message is that message.
+-- The bytes that spell a message are that message.
 use Rattle.std.proofs.Common.{◌≡◌, ℕ, ◌+◌, ◌-◌, ◌%◌, ◌≤◌, ◌&&◌, true, eqb, leb, List, [], ◌∷◌, ◌++◌, length, sum, refl, ap, ◌∙◌, Option, Some, arith, cond, eq-eqb}
 use Rattle.std.proofs.lemmas.List.{take_at, length-append}
 use Rattle.std.proofs.lemmas.List.Sums.{fold-append}

@@ -1,4 +1,4 @@
--- Pieces of bytes, and what follows of what is there.
+-- Lists of bytes, and what follows of what is there.
 use Rattle.std.proofs.Common.{ℕ, zero, suc, ◌<◌, ◌==◌, ◌++◌, Bool, true, false, cond, List, [], ◌∷◌, take, slice_index, Option, Some, None, arith}
 use Rattle.std.specs.Prelude.{⊤, unwrap_or, option_and_then}
 use Rattle.cct_terms.specs.declared.wire.CheckKind.{CheckKind}
@@ -48,14 +48,14 @@ pub there_when : {A : Type 0} (P : A → Type 0) (b : Bool) (found : Option A) �
 there_when P true found h = h
 there_when P false found h = tt
 
--- what follows the echo of a piece of bytes
+-- what follows the echo in a list of bytes
 pub rest_bytes : (sent heard : List ℕ) → Bytes heard → IfThere Bytes (after_echo sent heard)
 unfolding after_echo
 rest_bytes [] heard h = h
 rest_bytes (s ∷ sent) [] h = tt
 rest_bytes (s ∷ sent) (b ∷ heard) h = there_when Bytes (s == b) (after_echo sent heard) (rest_bytes sent heard h.1)
 
--- the message that a piece of bytes is
+-- the message that a list of bytes is
 pub record IsOfBytes (m : Message) : Type 0 where
   pub from : unwrap_or m.from 1 < 256
   pub body : Bytes m.body

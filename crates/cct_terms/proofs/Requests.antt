@@ -1,5 +1,5 @@
 -- Requests and replies are read back from their data bytes, and what is read is what was written.
-use Rattle.std.proofs.Common.{◌≡◌, ◌≢◌, ℕ, ◌/◌, ◌%◌, ◌^◌, ◌<◌, ◌≤◌, ◌++◌, ◌==◌, rules, Bool, true, false, cond, List, [], ◌∷◌, length, slice_index, refl, ap, subst, ◌∙◌, Option, Some, arith}
+use Rattle.std.proofs.Common.{◌≡◌, ◌≢◌, ℕ, ◌/◌, ◌%◌, ◌^◌, ◌<◌, ◌≤◌, ◌++◌, ◌==◌, ◌||◌, not, rules, Bool, true, false, cond, List, [], ◌∷◌, length, slice_index, refl, ap, subst, ◌∙◌, Option, Some, arith}
 use Rattle.std.specs.Bool.{⊤}
 use Rattle.std.specs.List.{All, flat_map}
 use Rattle.std.proofs.lemmas.Bool.{eqb-true}
@@ -26,7 +26,7 @@ request_back (SetMask mask) fits = ap (λ n. Some (SetMask n)) (two_back mask)
 request_back (Dispense serial count) fits = ap (λ n. Some (Dispense n count)) (three_back serial (fits serial count refl))
 request_back q fits = refl
 
--- a request has nine data bytes at the most
+-- a request has at most nine data bytes
 pub request_short : (q : Request) → length (data_of q) ≤ 9
 unfolding data_of
 request_short (Dispense serial count) = omega arith
@@ -49,7 +49,7 @@ unfolding request_of
 request_header header body q found = header_among header (open_requests ++ requests_with body) q found
 
 -- a fact of each request of a list
-abbrev Each : (Request → Type 0) → List Request → Type 0
+abbrev pub Each : (Request → Type 0) → List Request → Type 0
 Each P [] = ⊤
 Each P (q ∷ qs) = P q × Each P qs
 
@@ -191,3 +191,14 @@ coin_id_back (a ∷ b ∷ c ∷ d ∷ []) six = absurd (omega arith)
 coin_id_back (a ∷ b ∷ c ∷ d ∷ e ∷ []) six = absurd (omega arith)
 coin_id_back (a ∷ b ∷ c ∷ d ∷ e ∷ f ∷ []) six = refl
 coin_id_back (a ∷ b ∷ c ∷ d ∷ e ∷ f ∷ g ∷ rest) six = absurd (omega arith)
+
+-- a header under which a job asks once
+abbrev pub is_once_header : ℕ → Bool
+is_once_header header = (header == 231) || (header == 167)
+
+-- a request that a job asks again: it has another header than those that are sent once
+abbrev pub is_asked_again : Request → Bool
+is_asked_again q = not (is_once_header (header_of q))
+
+abbrev pub IsAgain : Request → Type 0
+IsAgain q = is_asked_again q ≡ true

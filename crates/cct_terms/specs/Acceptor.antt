@@ -10,7 +10,7 @@ use Rattle.cct_terms.specs.Reply as reply
 use Rattle.cct_terms.specs.History.{Met, coin, alien, fall, jam, reset, heard, unless_reset}
 use Rattle.cct_terms.specs.Setting.{Setting, mask_set, master_set, path_set, default_set, is_place, is_path, mask_in, is_normal_in, default_in, path_in, accepts_in}
 
--- The settings after a piece was heard: one more where the piece asks for one, and none after a reset.
+-- The settings after bytes were heard: one more where they ask for one, and none after a reset.
 abbrev pub settings_after : Option Request → List Setting → List Setting
 settings_after (Some (SetMask mask)) before = mask_set mask ∷ before
 settings_after (Some (SetMaster value)) before = master_set value ∷ before
@@ -44,11 +44,11 @@ accepts past place = accepts_in (settings past) place
 abbrev pub coin_event : List Met → ℕ → Pair
 coin_event past place = if accepts past place then record { a = place; b = path_of past place } else record { a = 0; b = 2 }
 
--- A piece that is no coin is error 1.
+-- An object that is no coin is error 1.
 abbrev pub alien_event : Pair
 alien_event = record { a = 0; b = 1 }
 
--- The events of an acceptor since its last reset, newest first: one for each coin and each other piece that fell in.
+-- The events of an acceptor since its last reset, newest first: one for each coin and each other object that fell in.
 abbrev pub events : List Met → List Pair
 events [] = []
 events (coin place ∷ past) = coin_event past place ∷ events past

@@ -19,11 +19,11 @@ use Rattle.cct_terms.specs.Device.{is_acceptor, is_hopper, reply_of}
 abbrev pub asking : ℕ → Request → Message
 asking addr q = record { to = addr; from = Some HOST; header = header_of q; body = data_of q }
 
--- The piece by which the host asks a request of an address.
+-- The bytes by which the host asks a request of an address.
 unfoldable pub ask : CheckKind → ℕ → Request → List ℕ
 ask kind addr q = spelling kind (asking addr q)
 
--- The request that a piece spells, whoever it is for, or none.
+-- The request that bytes spell, whoever it is for, or none.
 unfoldable pub asked : CheckKind → List ℕ → Option Request
 asked kind piece = option_and_then (λ m. request_of m.header m.body) (message kind piece)
 
@@ -44,11 +44,11 @@ asked_of addr m =
     else if m.to == BROADCAST then to_all (request_of m.header m.body)
     else None
 
--- What a piece asks of a device: nothing where it is no message under the device's check, or is for another.
+-- What bytes ask of a device: nothing where they are no message under the device's check, or one for another.
 unfoldable pub asks_of : DeviceSetup → List ℕ → Option Request
 asks_of d piece = option_and_then (asked_of d.addr) (message d.kind piece)
 
--- Whom a device answers: the source of the piece that it heard, and the host where no source is named.
+-- Whom a device answers: the source of the message that it heard, and the host where no source is named.
 unfoldable pub asker : CheckKind → List ℕ → ℕ
 asker kind piece = unwrap_or (option_and_then (λ m. m.from) (message kind piece)) HOST
 
@@ -72,7 +72,7 @@ abbrev pub answer_to : DeviceSetup → List Met → ℕ → Option Request → O
 answer_to d past to None = None
 answer_to d past to (Some q) = option_or (option_map (reply_bytes d to) (reply_of d past q)) (bare_answer d.addr q)
 
--- The bytes with which a device that met all this answers a piece, or none where it is silent.
+-- The bytes with which a device that met all this answers what it hears, or none where it is silent.
 abbrev pub answer : DeviceSetup → List Met → List ℕ → Option (List ℕ)
 answer d past piece = answer_to d past (asker d.kind piece) (asks_of d piece)
 

@@ -22,7 +22,7 @@ is_same Acceptor Hopper = false
 is_same Hopper Acceptor = false
 is_same Hopper Hopper = true
 
--- Whether a family knows this, so that it can befall a device of it: coins and other pieces fall into an acceptor,
+-- Whether a family knows this, so that it can befall a device of it: coins and other objects fall into an acceptor,
 -- coins fall out of a hopper or get stuck there, and any device is reset.
 abbrev pub known_to : Happening → Family → Bool
 known_to (Coin place) Acceptor = true

@@ -8,7 +8,7 @@ use Rattle.cct_terms.specs.Reply as reply
 use Rattle.cct_terms.specs.History.{Met, coin, alien, fall, jam, reset, heard, unless_reset}
 use Rattle.cct_terms.specs.Acceptor.{counter}
 
--- Whether a hopper may pay after a piece was heard: as the piece says where it enables or disables, and not after a
+-- Whether a hopper may pay after bytes were heard: as they say where they enable or disable, and not after a
 -- reset.
 abbrev pub enabled_by : Option Request → Bool → Bool
 enabled_by (Some (Enable code)) before = code == ENABLE_CODE
@@ -95,8 +95,8 @@ abbrev pub jammed : Option Payout → Bool
 jammed None = false
 jammed (Some last) = jammed_in last.count last.since
 
--- The number of coins for which a hopper takes what it is asked, or none: it takes a dispense request with its own
--- serial number and a count that isn't 0, where it may pay and no coin is left to fall.
+-- The number of coins for which a hopper takes what it is asked, or none. It takes a dispense request with its own serial
+-- number and a count that isn't 0, where it may pay and no coin is left to fall.
 abbrev pub taken_count : ℕ → Bool → ℕ → Option Request → Option ℕ
 taken_count own on remains (Some (Dispense serial count)) =
     if on && (remains == 0) && (serial == own) && not (count == 0) then Some count else None
@@ -107,7 +107,7 @@ abbrev pub with_met : Met → Option Payout → Option Payout
 with_met m None = None
 with_met m (Some last) = Some (record { count = last.count; since = m ∷ last.since })
 
--- The last payout after a piece was heard: a new one where the hopper took a dispense request, and none after a reset.
+-- The last payout after bytes were heard: a new one where the hopper took a dispense request, and none after a reset.
 abbrev pub payout_by : Option ℕ → Option Request → Option Payout → Option Payout
 payout_by (Some count) asked before = Some (record { count = count; since = [] })
 payout_by None asked before = unless_reset asked None (with_met (heard asked) before)
@@ -143,7 +143,7 @@ last_unpaid own past = unpaid (payout own past)
 abbrev pub has_timeout : ℕ → List Met → Bool
 has_timeout own past = jammed (payout own past)
 
--- The number of dispense requests taken after a piece was heard: one more where the hopper took it, and none after a
+-- The number of dispense requests taken after bytes were heard: one more where the hopper took one, and none after a
 -- reset.
 abbrev pub payouts_by : Option ℕ → Option Request → ℕ → ℕ
 payouts_by (Some count) asked before = suc before
@@ -159,7 +159,7 @@ payouts own (jam ∷ past) = payouts own past
 payouts own (reset ∷ past) = 0
 payouts own (heard asked ∷ past) = payouts_by (taken_of own past asked) asked (payouts own past)
 
--- Whether the test register was read, after a piece was heard: it is where the piece asks for it, and isn't after a
+-- Whether the test register was read, after bytes were heard: it is where they ask for it, and isn't after a
 -- reset.
 abbrev pub tested_by : Option Request → Bool → Bool
 tested_by (Some TestHopper) before = true

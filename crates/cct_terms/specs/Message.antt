@@ -27,8 +27,8 @@ crc bytes = fold crc_bit 0 (flat_map bits_of bytes)
 abbrev pub closing_byte : List ℕ → ℕ
 closing_byte bytes = (256 - sum bytes % 256) % 256
 
--- The one piece that spells a message: destination, number of data bytes, source, header, data bytes and the byte
--- that closes the sum; under the CRC its low byte stands in the place of the source, and its high byte at the end.
+-- The bytes that spell a message: destination, number of data bytes, source, header, data bytes and the byte that closes
+-- the sum. Under the CRC its low byte stands in the place of the source, and its high byte at the end.
 unfoldable pub spelling : CheckKind → Message → List ℕ
 spelling Simple m =
     let front = m.to ∷ length m.body ∷ unwrap_or m.from 0 ∷ m.header ∷ [] ++ m.body in
@@ -41,21 +41,21 @@ spelling Crc m =
 abbrev pub length_agrees : ℕ → List ℕ → Bool
 length_agrees said rest = nat_le said 255 && (length rest == said + 1)
 
--- A piece under the simple check: its sum is 0 modulo 256, and its third byte is the source.
+-- A message under the simple check: the sum of its bytes is 0 modulo 256, and its third byte is the source.
 abbrev pub simple_message : ℕ → ℕ → ℕ → ℕ → List ℕ → Option Message
 simple_message to said from header rest =
     if length_agrees said rest && (sum (to ∷ said ∷ from ∷ header ∷ rest) % 256 == 0)
     then Some (record { to = to; from = Some from; header = header; body = take said rest })
     else None
 
--- A piece under the CRC: its third byte and its last are the low and the high byte of the CRC of all the others.
+-- A message under the CRC: its third byte and its last are the low and the high byte of the CRC of all the others.
 abbrev pub crc_message : ℕ → ℕ → ℕ → ℕ → List ℕ → Option Message
 crc_message to said low header rest =
     if length_agrees said rest && (crc (to ∷ said ∷ header ∷ take said rest) == low + 256 * slice_index rest said)
     then Some (record { to = to; from = None; header = header; body = take said rest })
     else None
 
--- The message that a piece is under a check, or none.
+-- The message that bytes are under a check, or none.
 unfoldable pub message : CheckKind → List ℕ → Option Message
 message Simple (to ∷ said ∷ from ∷ header ∷ rest) = simple_message to said from header rest
 message Crc (to ∷ said ∷ low ∷ header ∷ rest) = crc_message to said low header rest

@@ -75,7 +75,7 @@ reply_data (serial number) = three_bytes number
 reply_data (revision release major minor) = release ∷ major ∷ minor ∷ []
 reply_data (accepts count) = three_bytes count
 
--- The data bytes can say a reply: a text has 255 bytes at the most, and a number of three bytes is below 2 ^ 24.
+-- The data bytes can say a reply: a text has at most 255 bytes, and a number of three bytes is below 2 ^ 24.
 abbrev pub IsSayable : Reply → Type 0
 IsSayable (text bytes) = length bytes ≤ 255
 IsSayable (serial number) = number < 2 ^ 24

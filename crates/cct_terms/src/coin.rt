@@ -48,7 +48,7 @@ pub struct Credits {
     pub pairs: [Pair; EVENTS],
 }
 
-/// The coins that one record posts, oldest first: five at the most, as many as the credit buffer tells.
+/// The coins that one record posts, oldest first: at most five, as many as the credit buffer tells.
 #[derive(Clone, Debug, Default, Drop, PartialEq, Eq)]
 pub struct Coins {
     coins: ArrayVec<Coin, EVENTS>,
@@ -78,7 +78,7 @@ impl Coins {
         }
     }
 
-    /// Adds a coin behind the others.
+    /// Adds a coin after the others.
     pub fn push(&mut self, coin: Coin)
         requires { length self.old < EVENTS }
         ensures { self.new ≡ self.old ++ coin ∷ [] }

@@ -146,7 +146,7 @@ impl Devices {
         }
     }
 
-    /// Adds a device behind the others.
+    /// Adds a device after the others.
     pub fn push(&mut self, device: DeviceSetup)
         requires { length self.old < DEVICES }
         ensures { self.new ≡ self.old ++ device ∷ [] }
@@ -156,6 +156,7 @@ impl Devices {
 
     /// Puts a device in the place of the one at its address.
     pub fn replace(&mut self, device: &DeviceSetup)
+        // Those at that address change, and no others.
         ensures { self.new ≡ map (λ d. if d.addr == device.now.addr then device.now else d) self.old }
     {
         replace_in(self.devices.as_mut_slice(), device);

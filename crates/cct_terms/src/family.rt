@@ -2,12 +2,12 @@
 ghost use Rattle.std.specs.Prelude.{◌≡◌};
 ghost use Rattle.cct_terms.specs.Family.{known_to};
 
-/// What befalls a device besides the pieces that it hears.
+/// What befalls a device besides the bytes that it hears.
 #[derive(Clone, Copy, Debug, PartialEq, Eq)]
 pub enum Happening {
     /// A coin of this coin place, 1 to 16, falls in.
     Coin { place: u8 },
-    /// A piece that is no coin falls in.
+    /// An object that is no coin falls in.
     Alien,
     /// A coin falls out, where the device pays.
     Fall,

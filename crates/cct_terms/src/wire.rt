@@ -28,7 +28,7 @@ pub enum CheckKind {
     Crc,
 }
 
-/// A run of bytes, `MOST` at the most.
+/// A run of bytes, at most `MOST`.
 #[derive(Clone, Debug, Default, Drop, PartialEq, Eq)]
 pub struct Bytes<const MOST: usize> {
     bytes: ArrayVec<u8, MOST>,
@@ -37,7 +37,7 @@ pub struct Bytes<const MOST: usize> {
 /// A message as the host sends it.
 pub type Sent = Bytes<MOST_SENT>;
 
-/// Any run of bytes between two gaps of the wire, as long as an echo and what follows it at the most.
+/// Any run of bytes between two gaps of the wire, at most as long as an echo and what follows it.
 pub type Piece = Bytes<MOST_HEARD>;
 
 /// A text by which a device names itself.
@@ -91,6 +91,7 @@ impl<const MOST: usize> Bytes<MOST> {
 
     /// The list of the bytes itself, for a callee that writes into it.
     pub fn as_array_mut(&mut self) -> &mut ArrayVec<u8, MOST>
+        // A run of bytes whose list was lent ends as that list is last.
         ensures* lends { sem 𝓛 (LendsBytes MOST.row self.entry result) }
         ensures value { result.now.items ≡ self.old }
     {

@@ -2,6 +2,7 @@ pub mod Texts
 pub mod Writing
 pub mod Listing
 pub mod Numbers
+pub mod WrittenDigits
 pub mod Cuts
 pub mod Back
 pub mod Devices

@@ -13,7 +13,7 @@ use Rattle.cct_text.proofs.Texts.{joined_is}
 pub listed_below : Listed → ℕ → List (List ℕ)
 listed_below listed i = filter_map (listed_text listed) (addresses_below i)
 
--- the separator behind texts: a space where there is none yet, and else a comma
+-- the separator after texts: a space where there is none yet, and else a comma
 abbrev pub separator_behind : List (List ℕ) → ℕ
 separator_behind [] = 32
 separator_behind (text ∷ texts) = 44
@@ -49,7 +49,7 @@ lists_none listed old = record {
   room = omega arith;
 }
 
--- one more text behind the others
+-- one more text after the others
 apart_more : (texts : List (List ℕ)) (text : List ℕ) → apart 32 44 (texts ++ text ∷ []) ≡ apart 32 44 texts ++ separator_behind texts ∷ text
 apart_more [] text = append-nil (32 ∷ text)
 apart_more (first ∷ texts) text = sym (flat_map_more (λ t. 44 ∷ t) (32 ∷ first) texts text)

@@ -16,7 +16,9 @@ use Rattle.cct_lines.specs.Grammar.{address_in, digits_from, is_digit, mask_in, 
 use Rattle.cct_lines.specs.Script.{IsCommand}
 use Rattle.cct_lines.specs.Text.{command_fields, line_of, mask_field, number_text}
 use Rattle.cct_text.specs.ScriptLine.{IsByte, IsTyped, command_line}
-use Rattle.cct_text.proofs.Cuts.{EachAbove, cut_joined, number_field, mask_above, mask_bytes}
+use Rattle.cct_text.specs.Written as written
+use Rattle.cct_text.proofs.Back.{command_above}
+use Rattle.cct_text.proofs.Cuts.{EachAbove, cut_joined, mask_bytes}
 use Rattle.cct_text.proofs.Numbers.{number_by_steps}
 
 -- digits
@@ -137,20 +139,10 @@ fields_give (command.Vend id price) h r =
     let worth = range_spelt 1 1000000000 price r.1 r.2 in
     rw (number, worth) refl
 
--- no field of a command has a space
-fields_above : (c : Command) → IsTyped c → EachAbove 32 (command_fields c)
-fields_above (command.Start addr mask) h = (refl, (number_field addr, (mask_above mask h.1, tt)))
-fields_above (command.Round addr) h = (refl, (number_field addr, tt))
-fields_above (command.Stop addr) h = (refl, (number_field addr, tt))
-fields_above (command.Pay addr id count) h =
-    (refl, (number_field addr, (number_field id, (number_field count, tt))))
-fields_above (command.Settle addr) h = (refl, (number_field addr, tt))
-fields_above (command.Halt addr) h = (refl, (number_field addr, tt))
-fields_above command.Scan h = (refl, tt)
-fields_above (command.Ident addr) h = (refl, (number_field addr, tt))
-fields_above (command.Path addr place path) h =
-    (refl, (number_field addr, (number_field place, (number_field path, tt))))
-fields_above (command.Vend id price) h = (refl, (number_field id, (number_field price, tt)))
+-- a command that is typed has a mask that fits
+typed_fits : (c : Command) → IsTyped c → written.IsCommand c
+typed_fits (command.Start addr mask) h = h.1
+typed_fits c h = tt
 
 -- fields that give a command, joined by spaces, are a line that gives it
 joined_give : (fields : List (List ℕ)) (s : Step) → EachAbove 32 fields → step_fields fields ≡ Ok s
@@ -162,15 +154,15 @@ joined_give (field ∷ fields) s above gives = ap step_fields (cut_joined 32 fie
 -- the line of a command is the script's line that gives it
 pub command_back : (c : Command) → IsTyped c → IsCommand c → step_line (command_line c) ≡ Ok (step.Command c)
 command_back c typed range =
-    joined_give (command_fields c) (step.Command c) (fields_above c typed) (fields_give c typed range)
+    joined_give (command_fields c) (step.Command c) (command_above c (typed_fits c typed)) (fields_give c typed range)
 
--- a line of fields that are some, behind a word
+-- a line of fields that are some, after a word
 word_before : (word field : List ℕ) (fields : List (List ℕ))
     → join_with_byte 32 (word ∷ field ∷ fields) ++ 10 ∷ []
     ≡ word ++ 32 ∷ (join_with_byte 32 (field ∷ fields) ++ 10 ∷ [])
 word_before word field fields = append_assoc word (32 ∷ join_with_byte 32 (field ∷ fields)) (10 ∷ [])
 
--- the line of a command that was taken is its script's line behind the word `ok`
+-- the line of a command that was taken is its script's line after the word `ok`
 pub taken_is : (c : Command) → line_of (entry.Taken c) ≡ codes "ok " ++ command_line c ++ 10 ∷ []
 unfolding line_of
 taken_is (command.Start addr mask) = word_before (codes "ok") (codes "start") (number_text addr ∷ mask_field mask ∷ [])

@@ -10,7 +10,7 @@ use Rattle.cct_edge.specs.declared.fault.Failed.{Failed}
 use Rattle.cct_edge.proofs.Chains.{Appends-nil, Appends-trans, Appends-then_front}
 use Rattle.cct_lines.specs.declared.entry.Entry.{Entry}
 use Rattle.cct_lines.specs.Text.{line_of, text}
-use Rattle.cct_text.specs.Writing.{Puts, Writes, Wrote, IsNothing}
+use Rattle.cct_text.specs.Writing.{Puts, PutsLine, Writes, Wrote, IsNothing}
 
 -- some puts, and then more
 puts_then : {K : Type 0} (puts : K → List ℕ → Result (Unit {0}) Failed → K → Type 0) (a b c : K) (xs ys : List (List ℕ))
@@ -20,7 +20,7 @@ puts_then puts a b c [] ys result h k = subst (λ from. Puts puts from ys result
 puts_then puts a b c (x ∷ xs) ys result (inl h) k = inl (h.0, h.1, puts_then puts h.0 b c xs ys result h.2 k)
 puts_then puts a b c (x ∷ xs) ys result (inr h) k = cc h.1
 
--- puts that broke off do so whatever was to be put behind
+-- puts that broke off do so whatever was to be put after
 puts_more : {K : Type 0} (puts : K → List ℕ → Result (Unit {0}) Failed → K → Type 0) (a b : K) (xs ys : List (List ℕ))
     (failed : Failed) →
     Puts puts a xs (Err failed) b → Puts puts a (xs ++ ys) (Err failed) b
@@ -71,17 +71,15 @@ told_one a b x (Err failed) ok err = err
 pub writes_one : {K : Type 0} (written : K → Option (List ℕ))
     (puts : K → List ℕ → Result (Unit {0}) Failed → K → Type 0) (a b : K) (e : Entry)
     (result : Result (Unit {0}) Failed) →
-    puts a (line_of e) result b → OnOk result (Appends (written a) (written b) (line_of e))
-    → OnErr result (AppendsFront (written a) (written b) (line_of e)) →
-    Writes written puts a (e ∷ []) result b
-writes_one written puts a b e result put ok err = record {
-  put = put_one puts a b (line_of e) result put;
+    PutsLine written puts a (line_of e) result b → Writes written puts a (e ∷ []) result b
+writes_one written puts a b e result put = record {
+  put = put_one puts a b (line_of e) result put.one;
   told = subst (λ bytes. MatchResult result (λ _. Appends (written a) (written b) bytes)
       (λ _. AppendsFront (written a) (written b) bytes)) (sym (append-nil (line_of e)))
-      (told_one (written a) (written b) (line_of e) result ok err);
+      (told_one (written a) (written b) (line_of e) result put.ok put.err);
 }
 
--- writing that broke off, whatever was to be written behind
+-- writing that broke off, whatever was to be written after
 pub writes_more : {K : Type 0} (written : K → Option (List ℕ)) (puts : K → List ℕ → Result (Unit {0}) Failed → K → Type 0)
     (a b : K) (xs ys : List Entry) (failed : Failed) →
     Writes written puts a xs (Err failed) b → Writes written puts a (xs ++ ys) (Err failed) b

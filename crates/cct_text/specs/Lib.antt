@@ -1,3 +1,4 @@
+pub mod Adding
 pub mod Joined
 pub mod Reading
 pub mod ScriptLine

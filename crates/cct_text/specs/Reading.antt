@@ -141,7 +141,7 @@ broken_of (addr ∷ mask ∷ counter ∷ coins ∷ []) =
     Some (record_of.Broken (number_in addr) (mask_in mask) (number_in counter) (coins_in coins))
 broken_of _ = None
 
--- The record of a word and the fields behind it.
+-- The record of a word and the fields after it.
 abbrev pub record_by : List ℕ → List (List ℕ) → Option Record
 record_by word rest =
     if bytes_eq word (codes "epoch") then epoch_of rest
@@ -159,7 +159,7 @@ abbrev pub record_in : List (List ℕ) → Option Record
 record_in [] = None
 record_in (word ∷ rest) = record_by word rest
 
--- A command, and the fields behind those of the command.
+-- A command, and the fields after those of the command.
 abbrev pub Ordered : Type 0
 Ordered = Command × List (List ℕ)
 
@@ -183,7 +183,7 @@ abbrev pub by_mask : List (List ℕ) → Option Ordered
 by_mask (addr ∷ mask ∷ rest) = Some (command.Start (number_in addr) (mask_in mask), rest)
 by_mask _ = None
 
--- The command of a word and the fields behind it.
+-- The command of a word and the fields after it.
 abbrev pub command_by : List ℕ → List (List ℕ) → Option Ordered
 command_by word rest =
     if bytes_eq word (codes "start") then by_mask rest
@@ -203,7 +203,7 @@ abbrev pub command_in : List (List ℕ) → Option Ordered
 command_in [] = None
 command_in (word ∷ rest) = command_by word rest
 
--- The reason of a word and the fields behind it.
+-- The reason of a word and the fields after it.
 abbrev pub reason_by : List ℕ → List (List ℕ) → Option CommandNo
 reason_by word rest =
     if bytes_eq word (codes "nodevice") then of_none refusal.NoDevice rest
@@ -225,7 +225,7 @@ abbrev pub reason_in : List (List ℕ) → Option CommandNo
 reason_in [] = None
 reason_in (word ∷ rest) = reason_by word rest
 
--- The fault of a word and the fields behind it.
+-- The fault of a word and the fields after it.
 abbrev pub fault_by : List ℕ → List (List ℕ) → Option WireFault
 fault_by word rest =
     if bytes_eq word (codes "clear") then of_none fault.Clear rest
@@ -252,12 +252,12 @@ kind_in word =
     else if bytes_eq word (codes "again") then Some kind.Again
     else None
 
--- The entry of a command that was taken, behind which no field is left.
+-- The entry of a command that was taken, after which no field is left.
 abbrev pub taken_by : Option Ordered → Option Entry
 taken_by (Some (order, [])) = Some (entry.Taken order)
 taken_by _ = None
 
--- The entry of a command that was refused, behind which its reason stands.
+-- The entry of a command that was refused, after which its reason stands.
 abbrev pub refused_by : Option Ordered → Option Entry
 refused_by (Some (order, rest)) = made (entry.No order) (reason_in rest)
 refused_by None = None

@@ -1,12 +1,22 @@
 -- What writing a transcript does to a sink, line by line.
-use Rattle.std.specs.Prelude.{◌≡◌, ℕ, ◌⊎◌, List, [], ◌∷◌, map, Option, Result, Ok, Err, MatchResult}
+use Rattle.std.specs.Prelude.{◌≡◌, ℕ, ◌⊎◌, List, [], ◌∷◌, map, Option, Result, Ok, Err, MatchResult, OnErr, OnOk}
 use Rattle.std.specs.Io.KnownBytes.{Appends}
 use Rattle.cct_edge.specs.Bytes.{AppendsFront}
 use Rattle.cct_edge.specs.declared.fault.Failed.{Failed}
 use Rattle.cct_lines.specs.declared.entry.Entry.{Entry}
 use Rattle.cct_lines.specs.Text.{line_of, text}
 
--- These pieces were put one behind the other, each by one put, and nothing else was: all of them, or up to the first
+-- A line was put once: what is told of the bytes grew by it, or by a front of it if the put failed.
+pub record PutsLine {K : Type 0} (written : K → Option (List ℕ))
+    (puts : K → List ℕ → Result (Unit {0}) Failed → K → Type 0) (before : K) (line : List ℕ)
+    (result : Result (Unit {0}) Failed) (now : K) : Type 0 where
+  pub one : puts before line result now
+  -- The line of the definitions: a mask has four hexadecimal digits, all hexadecimal is in lower case, no bytes are a
+  -- hyphen, coins stand oldest first.
+  pub ok : OnOk result (Appends (written before) (written now) line)
+  pub err : OnErr result (AppendsFront (written before) (written now) line)
+
+-- These lines were put one after the other, each by one put, and nothing else was: all of them, or up to the first
 -- whose put failed.
 abbrev pub Puts : {K : Type 0} → (K → List ℕ → Result (Unit {0}) Failed → K → Type 0) → K → List (List ℕ)
     → Result (Unit {0}) Failed → K → Type 0

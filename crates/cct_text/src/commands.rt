@@ -2,7 +2,8 @@
 ghost use Rattle.std.specs.Prelude.{◌≡◌, ℕ, ◌+◌, ◌<◌, ◌≤◌, List, [], ◌∷◌, ◌++◌, length};
 ghost use Rattle.cct_lines.specs.declared.entry.Entry.TheVariants.{Fault};
 ghost use Rattle.cct_lines.specs.Text.{command_fields, reason_fields, fields_of};
-ghost use Rattle.cct_text.specs.Joined.{behind, joined};
+ghost use Rattle.cct_text.specs.Joined.{behind};
+ghost use Rattle.cct_text.specs.Adding.{Adds, HasFields};
 
 use crate::fields::{write_address, write_mask, write_numbers, write_piece};
 use crate::text::TextLine;
@@ -11,8 +12,7 @@ use cct_lines::{Command, CommandNo, MOST_TEXT, WireFault};
 /// Writes the fields of a command.
 pub(crate) fn write_command(line: &mut TextLine, command: &Command)
     requires { length line.old + 80 ≤ MOST_TEXT }
-    ensures text { line.new ≡ line.old ++ behind 32 (command_fields command.now) }
-    ensures len { length line.new ≤ length line.old + 80 }
+    ensures { Adds line.old line.new (behind 32 (command_fields command.now)) 80 }
 {
     match command {
         Command::Start { addr, mask } => write_mask(line, b" start", *addr, *mask),
@@ -41,8 +41,7 @@ pub(crate) fn write_command(line: &mut TextLine, command: &Command)
 /// Writes the fields of a refusal's reason.
 pub(crate) fn write_reason(line: &mut TextLine, why: &CommandNo)
     requires { length line.old + 80 ≤ MOST_TEXT }
-    ensures text { line.new ≡ line.old ++ behind 32 (reason_fields why.now) }
-    ensures len { length line.new ≤ length line.old + 80 }
+    ensures { Adds line.old line.new (behind 32 (reason_fields why.now)) 80 }
 {
     match why {
         CommandNo::NoDevice => line.push(b" nodevice"),
@@ -67,8 +66,7 @@ pub(crate) fn write_reason(line: &mut TextLine, why: &CommandNo)
 /// Writes the fields of a wire fault.
 pub(crate) fn write_fault(line: &mut TextLine, fault: &WireFault)
     requires { line.old ≡ [] }
-    ensures text { line.new ≡ joined 32 (fields_of (Fault fault.now)) }
-    ensures room { length line.new + 1 < MOST_TEXT }
+    ensures { HasFields line.new (fields_of (Fault fault.now)) }
 {
     match fault {
         WireFault::Clear => line.push(b"fault clear"),

@@ -1,7 +1,8 @@
 //! How jobs end, and the devices that a scan lists.
 ghost use Rattle.std.specs.Prelude.{◌≡◌, ℕ, ◌+◌, ◌*◌, ◌<◌, ◌≤◌, List, [], ◌∷◌, ◌++◌, length};
 ghost use Rattle.cct_lines.specs.Text.{end_fields, listed_text, listed_field};
-ghost use Rattle.cct_text.specs.Joined.{behind, joined, found, separator_past};
+ghost use Rattle.cct_text.specs.Joined.{behind, found, separator_past};
+ghost use Rattle.cct_text.specs.Adding.{Adds, HasFields};
 
 use crate::fields::{write_address, write_number, write_pair};
 use crate::text::TextLine;
@@ -10,8 +11,7 @@ use cct_lines::{End, Listed, MOST_TEXT};
 /// Writes the fields of a job's end.
 pub(crate) fn write_end(line: &mut TextLine, addr: u8, end: &End)
     requires { line.old ≡ [] }
-    ensures text { line.new ≡ joined 32 (end_fields addr end.now) }
-    ensures room { length line.new + 1 < MOST_TEXT }
+    ensures { HasFields line.new (end_fields addr end.now) }
 {
     match end {
         End::Started => write_address(line, b"started", addr),
@@ -41,8 +41,7 @@ pub(crate) fn write_end(line: &mut TextLine, addr: u8, end: &End)
 /// is none.
 fn write_listed(line: &mut TextLine, listed: &Listed)
     requires { length line.old ≤ 100 }
-    ensures text { line.new ≡ line.old ++ 32 ∷ listed_field listed.now }
-    ensures len { length line.new ≤ length line.old + 2820 }
+    ensures { Adds line.old line.new (32 ∷ listed_field listed.now) 2820 }
 {
     let mut separator = b' ';
     for addr in 0..256u16 {
@@ -53,12 +52,11 @@ fn write_listed(line: &mut TextLine, listed: &Listed)
     }
 }
 
-/// Writes a device behind a separator, where it is listed. Gives the separator of the next device: a comma once one is
+/// Writes a device after a separator, where it is listed. Gives the separator of the next device: a comma once one is
 /// written.
 fn write_device(line: &mut TextLine, separator: u8, listed: &Listed, addr: u8) -> u8
     requires { length line.old + 11 ≤ MOST_TEXT }
-    ensures text { line.new ≡ line.old ++ found separator (listed_text listed.now addr) }
-    ensures len { length line.new ≤ length line.old + 11 }
+    ensures adds { Adds line.old line.new (found separator (listed_text listed.now addr)) 11 }
     ensures next { result ≡ separator_past separator (listed_text listed.now addr) }
 {
     let check: &[u8] = if listed.simple.has(addr) {
@@ -69,7 +67,7 @@ fn write_device(line: &mut TextLine, separator: u8, listed: &Listed, addr: u8) -
         return separator;
     };
     line.push(&[separator]);
-    line.push_number(addr);
+    line.push_byte(addr);
     line.push(check);
     b','
 }

@@ -2,7 +2,8 @@
 ghost use Rattle.std.specs.Prelude.{◌≡◌, ℕ, ◌+◌, ◌<◌, ◌≤◌, List, [], ◌∷◌, ◌++◌, length};
 ghost use Rattle.cct_lines.specs.declared.entry.Entry.TheVariants.{Accepted, Taken, No, Wire, Balance, Line, JournalLost, Listing};
 ghost use Rattle.cct_lines.specs.Text.{record_fields, fields_of, line_of, kind_field, sum_field};
-ghost use Rattle.cct_text.specs.Joined.{behind, joined};
+ghost use Rattle.cct_text.specs.Joined.{behind};
+ghost use Rattle.cct_text.specs.Adding.{Adds, HasFields};
 
 use crate::commands::{write_command, write_fault, write_reason};
 use crate::ends::write_end;
@@ -28,8 +29,7 @@ pub(crate) fn write_line(line: &mut TextLine, entry: &Entry)
 /// Writes the fields of an entry.
 fn write_fields(line: &mut TextLine, entry: &Entry)
     requires { line.old ≡ [] }
-    ensures text { line.new ≡ joined 32 (fields_of entry.now) }
-    ensures room { length line.new + 1 < MOST_TEXT }
+    ensures { HasFields line.new (fields_of entry.now) }
 {
     match entry {
         Entry::Accepted { addr, coin } => write_accepted(line, *addr, *coin),
@@ -77,8 +77,7 @@ fn write_fields(line: &mut TextLine, entry: &Entry)
 /// Writes the fields of an accepted coin.
 fn write_accepted(line: &mut TextLine, addr: u8, coin: Coin)
     requires { line.old ≡ [] }
-    ensures text { line.new ≡ joined 32 (fields_of (Accepted addr coin)) }
-    ensures room { length line.new + 1 < MOST_TEXT }
+    ensures { HasFields line.new (fields_of (Accepted addr coin)) }
 {
     write_pair(line, b"accepted", addr, coin.place);
     write_number(line, u64::from(coin.path));
@@ -87,8 +86,7 @@ fn write_accepted(line: &mut TextLine, addr: u8, coin: Coin)
 /// Writes the fields of a command that was taken.
 fn write_taken(line: &mut TextLine, command: &Command)
     requires { line.old ≡ [] }
-    ensures text { line.new ≡ joined 32 (fields_of (Taken command.now)) }
-    ensures room { length line.new + 1 < MOST_TEXT }
+    ensures { HasFields line.new (fields_of (Taken command.now)) }
 {
     line.push(b"ok");
     write_command(line, command);
@@ -97,8 +95,7 @@ fn write_taken(line: &mut TextLine, command: &Command)
 /// Writes the fields of a command that was refused.
 fn write_refusal(line: &mut TextLine, command: &Command, why: &CommandNo)
     requires { line.old ≡ [] }
-    ensures text { line.new ≡ joined 32 (fields_of (No command.now why.now)) }
-    ensures room { length line.new + 1 < MOST_TEXT }
+    ensures { HasFields line.new (fields_of (No command.now why.now)) }
 {
     line.push(b"no");
     write_command(line, command);
@@ -110,19 +107,18 @@ fn write_exchange(line: &mut TextLine, addr: u8, sent: &[u8], heard: &[u8])
     requires line { line.old ≡ [] }
     requires sent { length sent.now ≤ MOST_SENT }
     requires heard { length heard.now ≤ MOST_HEARD }
-    ensures text { line.new ≡ joined 32 (fields_of (Wire addr sent.now heard.now)) }
-    ensures room { length line.new + 1 < MOST_TEXT }
+    ensures { HasFields line.new (fields_of (Wire addr sent.now heard.now)) }
 {
     write_address(line, b"wire", addr);
     write_piece(line, sent);
     write_piece(line, heard);
 }
 
-/// Writes a word, and a record as the fields behind it.
+/// Writes a word, and a record as the fields after it.
 fn write_journal(line: &mut TextLine, word: &[u8], entry: &Record)
     requires { length line.old + length word.now + 200 ≤ MOST_TEXT }
-    ensures text { line.new ≡ line.old ++ word.now ++ behind 32 (record_fields entry.now) }
-    ensures len { length line.new ≤ length line.old + length word.now + 200 }
+    ensures { Adds line.old line.new (word.now ++ behind 32 (record_fields entry.now))
+        (length word.now + 200) }
 {
     line.push(word);
     write_record(line, entry);
@@ -131,8 +127,7 @@ fn write_journal(line: &mut TextLine, word: &[u8], entry: &Record)
 /// Writes the fields of what the operator has.
 fn write_balance(line: &mut TextLine, totals: Totals)
     requires { line.old ≡ [] }
-    ensures text { line.new ≡ joined 32 (fields_of (Balance totals)) }
-    ensures room { length line.new + 1 < MOST_TEXT }
+    ensures { HasFields line.new (fields_of (Balance totals)) }
 {
     write_numbers(
         line,
@@ -144,8 +139,7 @@ fn write_balance(line: &mut TextLine, totals: Totals)
 /// Writes the fields of a refused line.
 fn write_refused(line: &mut TextLine, number: u32, kind: LineKind)
     requires { line.old ≡ [] }
-    ensures text { line.new ≡ joined 32 (fields_of (Line number kind)) }
-    ensures room { length line.new + 1 < MOST_TEXT }
+    ensures { HasFields line.new (fields_of (Line number kind)) }
 {
     write_numbers(line, b"refused", &[u64::from(number)]);
     line.push(kind_word(kind));
@@ -154,8 +148,7 @@ fn write_refused(line: &mut TextLine, number: u32, kind: LineKind)
 /// Writes the fields of a journal that has another number of records than were put.
 fn write_lost(line: &mut TextLine, found: u32, put: u32)
     requires { line.old ≡ [] }
-    ensures text { line.new ≡ joined 32 (fields_of (JournalLost found put)) }
-    ensures room { length line.new + 1 < MOST_TEXT }
+    ensures { HasFields line.new (fields_of (JournalLost found put)) }
 {
     write_numbers(line, b"journal lost", &[u64::from(found), u64::from(put)]);
 }
@@ -163,14 +156,13 @@ fn write_lost(line: &mut TextLine, found: u32, put: u32)
 /// Writes the fields of a record that is listed.
 fn write_listing(line: &mut TextLine, index: u32, entry: &Record)
     requires { line.old ≡ [] }
-    ensures text { line.new ≡ joined 32 (fields_of (Listing index entry.now)) }
-    ensures room { length line.new + 1 < MOST_TEXT }
+    ensures { HasFields line.new (fields_of (Listing index entry.now)) }
 {
     write_numbers(line, b"record", &[u64::from(index)]);
     write_record(line, entry);
 }
 
-/// The word of a refused line's kind, behind a space.
+/// The word of a refused line's kind, after a space.
 fn kind_word(kind: LineKind) -> &'static [u8]
     ensures text { result.now ≡ 32 ∷ kind_field kind }
     ensures len { length result.now ≤ 9 }

@@ -1,7 +1,7 @@
 //! One text is one transcript: laws over the definitions of `cct_lines` and of this crate alone, each the clause of a
 //! function without parameters, whose body is empty.
 //!
-//! A crate above cites the lemmas behind them, `fields_back`, `line_is_one` and `text_is_one` of `proofs/Whole.antt`.
+//! A crate above cites their lemmas, `fields_back`, `line_is_one` and `text_is_one` of `proofs/Whole.antt`.
 ghost use Rattle.std.specs.Prelude.{◌≡◌, ◌∷◌, ◌++◌, [], List, codes};
 ghost use Rattle.std.specs.List.{All, join_with_byte};
 ghost use Rattle.cct_lines.specs.declared.entry.Entry.{Entry};
@@ -33,7 +33,7 @@ pub fn one_text_is_one_transcript()
         → text first ≡ text second → first ≡ second }
 {}
 
-/// The transcript tells a command that was taken by the script's line of it, behind `ok `: read as a line of a script,
+/// The transcript tells a command that was taken by the script's line of it, after `ok `: read as a line of a script,
 /// what stands there gives just that command, whatever command a line can spell.
 pub fn a_commands_line_is_read_back()
     ensures taken { (c : Command) → line_of (Taken c) ≡ codes "ok " ++ command_line c ++ 10 ∷ [] }

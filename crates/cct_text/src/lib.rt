@@ -1,18 +1,17 @@
 //! The text of a transcript: the line of each entry, written by one put (`docs/TRANSCRIPT.md`).
 #![tactic(auto)]
 
-ghost use Rattle.std.specs.Prelude.{◌≡◌, ◌<◌, length, OnOk, OnErr};
-ghost use Rattle.std.specs.Io.KnownBytes.{Appends};
-ghost use Rattle.cct_edge.specs.Bytes.{AppendsFront, TellsAsBefore};
-ghost use Rattle.cct_edge.specs.Faults.{HasCause};
+ghost use Rattle.std.specs.Prelude.{◌≡◌, ◌<◌, length, IsErr};
+ghost use Rattle.cct_edge.specs.Bytes.{Serves};
 ghost use Rattle.cct_lines.specs.Text.{line_of};
-ghost use Rattle.cct_text.specs.Writing.{Writes};
+ghost use Rattle.cct_text.specs.Writing.{PutsLine, Writes};
 
 use cct_edge::{Failed, Sink};
 use cct_lines::{Entry, MOST_TEXT};
 use entries::write_line;
 
 mod commands;
+mod digits;
 mod ends;
 mod entries;
 mod fields;
@@ -29,13 +28,12 @@ pub use text::TextLine;
 /// Writes the line of an entry by one put. The line buffer is used for it, whatever it holds; afterwards it holds the
 /// line.
 pub fn write_entry<K: Sink>(out: &mut K, line: &mut TextLine, entry: &Entry) -> Result<(), Failed>
-    ensures one { K.puts out.old (line_of entry.now) result out.new }
-    ensures ok { OnOk result (Appends (K.written out.old) (K.written out.new) (line_of entry.now)) }
-    ensures err { OnErr result (AppendsFront (K.written out.old) (K.written out.new) (line_of entry.now)) }
+    ensures puts { PutsLine K.written K.puts out.old (line_of entry.now) result out.new }
+    // Also if the put failed.
     ensures line { line.new ≡ line_of entry.now }
+    // Its line feed counts too.
     ensures short { length line.new < MOST_TEXT }
-    ensures tells { TellsAsBefore (K.written out.old) (K.written out.new) }
-    ensures cause { HasCause (K.faults out.old) (K.faults out.new) result }
+    ensures serves { Serves K.written K.faults out.old out.new (IsErr result) }
 {
     write_line(line, entry);
     out.put(line.as_slice())
@@ -47,9 +45,9 @@ pub fn write_entries<K: Sink>(
     line: &mut TextLine,
     entries: &[Entry],
 ) -> Result<(), Failed>
+    // Line by line, up to the first whose put failed.
     ensures writes { Writes K.written K.puts out.old entries.now result out.new }
-    ensures tells { TellsAsBefore (K.written out.old) (K.written out.new) }
-    ensures cause { HasCause (K.faults out.old) (K.faults out.new) result }
+    ensures serves { Serves K.written K.faults out.old out.new (IsErr result) }
 {
     for entry in entries {
         write_entry(out, line, entry)?;
@@ -59,11 +57,8 @@ pub fn write_entries<K: Sink>(
 
 /// Writes the line of an entry by one put, as `write_entry` does, with a line buffer of its own.
 pub fn put_entry<K: Sink>(out: &mut K, entry: &Entry) -> Result<(), Failed>
-    ensures one { K.puts out.old (line_of entry.now) result out.new }
-    ensures ok { OnOk result (Appends (K.written out.old) (K.written out.new) (line_of entry.now)) }
-    ensures err { OnErr result (AppendsFront (K.written out.old) (K.written out.new) (line_of entry.now)) }
-    ensures tells { TellsAsBefore (K.written out.old) (K.written out.new) }
-    ensures cause { HasCause (K.faults out.old) (K.faults out.new) result }
+    ensures puts { PutsLine K.written K.puts out.old (line_of entry.now) result out.new }
+    ensures serves { Serves K.written K.faults out.old out.new (IsErr result) }
 {
     let mut line = TextLine::new();
     write_entry(out, &mut line, entry)

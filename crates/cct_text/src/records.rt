@@ -3,6 +3,7 @@ ghost use Rattle.std.specs.Prelude.{◌≡◌, ℕ, ◌+◌, ◌≤◌, List, []
 ghost use Rattle.cct_lines.specs.declared.record.Record.TheVariants.{Odd};
 ghost use Rattle.cct_lines.specs.Text.{number_text, coin_text, coins_field, record_fields};
 ghost use Rattle.cct_text.specs.Joined.{behind};
+ghost use Rattle.cct_text.specs.Adding.{Adds};
 
 use crate::fields::{write_address, write_mask, write_number, write_numbers, write_pair};
 use crate::text::TextLine;
@@ -11,8 +12,7 @@ use cct_lines::{Coin, EVENTS, MOST_TEXT, Record};
 /// Writes the fields of a record.
 pub(crate) fn write_record(line: &mut TextLine, entry: &Record)
     requires { length line.old + 200 ≤ MOST_TEXT }
-    ensures text { line.new ≡ line.old ++ behind 32 (record_fields entry.now) }
-    ensures len { length line.new ≤ length line.old + 200 }
+    ensures { Adds line.old line.new (behind 32 (record_fields entry.now)) 200 }
 {
     match entry {
         Record::Epoch { addr, mask } => write_mask(line, b" epoch", *addr, *mask),
@@ -58,12 +58,11 @@ pub(crate) fn write_record(line: &mut TextLine, entry: &Record)
     }
 }
 
-/// Writes a word, and an order's id and two bytes as the fields behind it.
+/// Writes a word, and an order's id and two bytes as the fields after it.
 fn write_order(line: &mut TextLine, word: &[u8], id: u32, first: u8, second: u8)
     requires { length line.old + length word.now + 63 ≤ MOST_TEXT }
-    ensures text { line.new ≡ line.old ++ word.now
-        ++ behind 32 (number_text id ∷ number_text first ∷ number_text second ∷ []) }
-    ensures len { length line.new ≤ length line.old + length word.now + 63 }
+    ensures { Adds line.old line.new (word.now ++ behind 32 (number_text id ∷ number_text first ∷ number_text second ∷ []))
+        (length word.now + 63) }
 {
     write_numbers(
         line,
@@ -75,8 +74,7 @@ fn write_order(line: &mut TextLine, word: &[u8], id: u32, first: u8, second: u8)
 /// Writes the fields of an order whose life counts don't fit it.
 fn write_lives(line: &mut TextLine, id: u32, before: u32, after: u32)
     requires { length line.old + 67 ≤ MOST_TEXT }
-    ensures text { line.new ≡ line.old ++ behind 32 (record_fields (Odd id before after)) }
-    ensures len { length line.new ≤ length line.old + 67 }
+    ensures { Adds line.old line.new (behind 32 (record_fields (Odd id before after))) 67 }
 {
     write_numbers(
         line,
@@ -89,8 +87,7 @@ fn write_lives(line: &mut TextLine, id: u32, before: u32, after: u32)
 fn write_coins(line: &mut TextLine, coins: &[Coin])
     requires few { length coins.now ≤ EVENTS }
     requires room { length line.old + 40 ≤ MOST_TEXT }
-    ensures text { line.new ≡ line.old ++ 32 ∷ coins_field coins.now }
-    ensures len { length line.new ≤ length line.old + 40 }
+    ensures { Adds line.old line.new (32 ∷ coins_field coins.now) 40 }
 {
     match coins {
         [] => line.push(b" -"),
@@ -108,10 +105,9 @@ fn write_coins(line: &mut TextLine, coins: &[Coin])
 /// Writes a coin as its place, a slash and its path.
 fn write_coin(line: &mut TextLine, coin: Coin)
     requires { length line.old + 7 ≤ MOST_TEXT }
-    ensures text { line.new ≡ line.old ++ coin_text coin }
-    ensures len { length line.new ≤ length line.old + 7 }
+    ensures { Adds line.old line.new (coin_text coin) 7 }
 {
-    line.push_number(coin.place);
+    line.push_byte(coin.place);
     line.push(b"/");
-    line.push_number(coin.path);
+    line.push_byte(coin.path);
 }

@@ -1,17 +1,20 @@
 //! A buffer for one line of text.
 ghost use Rattle.std.specs.Prelude.{◌≡◌, ℕ, ◌+◌, ◌*◌, ◌≤◌, List, [], ◌∷◌, ◌++◌, length};
+ghost use Rattle.std.specs.Fmt.{decimal};
 ghost use Rattle.hex.specs.Hex.{encode_lower};
+ghost use Rattle.cct_lines.specs.Text.{number_text};
+ghost use Rattle.cct_text.specs.Adding.{Adds};
 
+use crate::digits::{digit_count, write_hex};
 use cct_lines::MOST_TEXT;
-use itoa::{Buffer, Integer};
+use itoa::write_digits;
 use std::marker::Model;
 
-/// One line of text, `MOST_TEXT` bytes at the most, in a buffer that is made once and serves every line.
+/// One line of text, `MOST_TEXT` bytes at most, in a buffer that is made once and serves every line.
 #[derive(Drop)]
 pub struct TextLine {
     bytes: [u8; MOST_TEXT],
     len: usize,
-    digits: Buffer,
 }
 
 impl Model for TextLine {
@@ -33,7 +36,6 @@ impl TextLine {
         TextLine {
             bytes: [0; MOST_TEXT],
             len: 0,
-            digits: Buffer::new(),
         }
     }
 
@@ -62,14 +64,30 @@ impl TextLine {
     }
 
     /// Adds a number in decimal.
-    pub fn push_number<I: Integer>(&mut self, number: I)
-        requires { length self.old + I.MAX_STR_LEN ≤ MOST_TEXT }
-        ensures text { self.new ≡ self.old ++ I.text number }
-        ensures len { length self.new ≤ length self.old + I.MAX_STR_LEN }
+    #[tactic(auto, using(crate::proofs::WrittenDigits::adds_text, crate::proofs::WrittenDigits::decimal_length, crate::proofs::WrittenDigits::number_length))]
+    pub fn push_number(&mut self, number: u64)
+        requires { length self.old + 20 ≤ MOST_TEXT }
+        ensures { Adds self.old self.new (number_text number) 20 }
     {
-        let digits = self.digits.format(number).as_bytes();
-        let end = self.len + digits.len();
-        self.bytes[self.len..end].copy_from_slice(digits);
+        self.push_digits(number);
+    }
+
+    /// Adds a byte in decimal.
+    #[tactic(auto, using(crate::proofs::WrittenDigits::adds_text, crate::proofs::WrittenDigits::byte_decimal_length, crate::proofs::WrittenDigits::byte_length))]
+    pub fn push_byte(&mut self, byte: u8)
+        requires { length self.old + 3 ≤ MOST_TEXT }
+        ensures { Adds self.old self.new (number_text byte) 3 }
+    {
+        self.push_digits(u64::from(byte));
+    }
+
+    /// Adds the digits of a number, for which there is room.
+    fn push_digits(&mut self, number: u64)
+        requires { length self.old + length (decimal number) ≤ MOST_TEXT }
+        ensures { self.new ≡ self.old ++ number_text number }
+    {
+        let end = self.len + digit_count(number);
+        write_digits(number, &mut self.bytes, end);
         self.len = end;
     }
 
@@ -80,7 +98,7 @@ impl TextLine {
         ensures len { length self.new ≡ length self.old + 2 * length bytes.now }
     {
         let end = self.len + 2 * bytes.len();
-        hex::encode_to_slice(bytes, &mut self.bytes[self.len..end]).unwrap();
+        write_hex(bytes, &mut self.bytes[self.len..end]);
         self.len = end;
     }
 }

@@ -57,7 +57,7 @@ within_cases sent heard none (inr whole) = let some = rest_is sent heard whole i
 pub place_within : (sent heard : List ℕ) → after_echo sent heard ≡ None → echo_place sent heard < length sent
 place_within sent heard none = within_cases sent heard none (cases_lt (echo_place sent heard) (length sent))
 
--- what follows an echo is what is heard behind it
+-- what follows an echo is what is heard after it
 pub whole_is : (sent rest : List ℕ) → after_echo sent (sent ++ rest) ≡ Some rest
 unfolding after_echo
 whole_is [] rest = refl

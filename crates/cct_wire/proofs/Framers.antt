@@ -26,7 +26,7 @@ count_long f bytes since long = omega (arith, since.count)
 pub count_many : (f : Framer) (bytes : List ℕ) → Since f bytes → 260 < f.count → 260 < length bytes
 count_many f bytes since long = omega (arith, since.count)
 
--- one byte more for which there is room is held behind the others
+-- one byte more for which there is room is held after the others
 pub since_more : (old new : Framer) (bytes : List ℕ) (byte : ℕ) → Since old bytes → old.count < 260 → new.count ≡ old.count + 1
     → held_by new ≡ held_by old ++ byte ∷ [] → Since new (bytes ++ byte ∷ [])
 since_more old new bytes byte since room counts holds =

@@ -1,4 +1,4 @@
--- Silence behind an echo.
+-- Silence after an echo.
 use Rattle.std.proofs.Common.{◌≡◌, ℕ, List, [], Some, None, refl, ap, ◌∙◌}
 use Rattle.std.specs.Prelude.{option_and_then}
 use Rattle.cct_terms.specs.declared.wire.CheckKind.{CheckKind}

@@ -20,6 +20,7 @@ pub fn bare_after_echo<'a>(sent: &[u8], heard: &'a [u8]) -> Result<&'a [u8], Ech
     ensures rest { IfOk result (λ rest. after_echo sent.now heard.now ≡ Some rest.now) }
     ensures in_place { IfOk result (λ rest. rest.ref_ptr
         ≡ (heard.entry.ref_ptr.0, heard.entry.ref_ptr.1 + length sent.now)) }
+    // The first place at which the echo differs from what was sent, or ends.
     ensures place { IfErr result (λ bad. bad.at ≡ echo_place sent.now heard.now) }
     ensures damaged { IsErr result ↔ (after_echo sent.now heard.now ≡ None) }
 {

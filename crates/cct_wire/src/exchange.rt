@@ -13,5 +13,6 @@ pub trait Link {
     /// An exchange can't fail: where nothing is heard, `heard` is empty.
     fn exchange(&mut self, sent: &[u8], heard: &mut ArrayVec<u8, MOST_HEARD>)
         requires { length sent.now ≤ MOST_SENT }
+        // A link may do whatever its `gives` allows; what the host promises holds for any.
         ensures { gives self.old sent.now heard.new.items self.new };
 }

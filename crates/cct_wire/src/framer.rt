@@ -51,11 +51,12 @@ impl Framer {
         }
     }
 
-    /// One byte more comes. What stands in the buffer is a message's at the most, and a byte after that is only counted.
+    /// One byte more comes. What stands in the buffer is a message's at most, and a byte after that is only counted.
     #[inline]
     pub fn feed(&mut self, byte: u8) -> Fed
         ensures kind { self.new.kind ≡ self.old.kind }
         ensures since { (bytes : List ℕ) → Since self.old bytes → Since self.new (bytes ++ byte ∷ []) }
+        // A byte after those of the longest message is only counted.
         ensures too_long { (bytes : List ℕ) → Since self.old bytes
             → ((result ≡ Fed.TooLong) ↔ (MOST_SENT ≤ length bytes)) }
         ensures whole { (bytes : List ℕ) → Since self.old bytes
@@ -120,6 +121,8 @@ impl Framer {
     /// The message that came since the gap, or what is wrong first. Its data stay where they are in the buffer.
     #[tactic(auto, using(cct_frame::proofs::Places::none_many, crate::proofs::Framers::count_many))]
     pub fn view(&self) -> Result<FrameView<'_>, FrameFault>
+        // What `read` gives of all bytes since the gap; if they are more than a message can have, the fault says how
+        // many.
         ensures whole { (bytes : List ℕ) → Since self.now bytes
             → IfOk result (λ view. message self.now.kind bytes ≡ Some (message_of view)) }
         ensures body { (bytes : List ℕ) → Since self.now bytes

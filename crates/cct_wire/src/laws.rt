@@ -3,7 +3,7 @@ ghost use Rattle.std.specs.Prelude.{◌≡◌, ◌↔◌, ◌<◌, List, ℕ, So
 ghost use Rattle.cct_terms.specs.Exchange.{after_echo};
 ghost use Rattle.cct_wire.specs.Echo.{echo_place};
 
-/// What follows a whole echo is all that is heard behind it, and an echo is damaged exactly where its first damaged
+/// What follows a whole echo is all that is heard after it, and an echo is damaged exactly where its first damaged
 /// place is one of what was sent.
 pub fn an_echo_is_whole_or_damaged()
     ensures whole { (sent rest : List ℕ) → after_echo sent (sent ++ rest) ≡ Some rest }

@@ -22,7 +22,7 @@ use Rattle.cct_words.specs.Said.{is_dashed, said_under}
 use Rattle.cct_words.specs.declared.words.Words.{Words}
 use Rattle.cct_words.specs.declared.words.WordsNo.{WordsNo}
 use Rattle.cct_words.specs.declared.words.WordsNo.TheVariants.{Refused}
-use Rattle.cct_words.proofs.Walks.{entering_load, entering_report, entering_run, load_more, load_none, load_one}
+use Rattle.cct_words.proofs.Walks.{EntersBare, bare_met, entering_load, entering_report, entering_run, load_more, load_none, load_one}
 use Rattle.cct_words.proofs.Walks.{load_rows, load_two, none_given, nothing_behind, other_given, something_behind}
 use Rattle.cct_words.proofs.Walks.{words_simple}
 
@@ -59,27 +59,26 @@ neither true b e = absurd (clash e)
     clash e = cc
 neither false b e = (refl, e)
 
+-- a subcommand without arguments is taken alone, and refused before any word
+bare_parsed : (name : Text) → EntersBare name → said_under (bare_met name []) ≡ words_said (name ∷ [])
+    → ((word : Text) (words : List Text) → words_said (name ∷ word ∷ words) ≡ None)
+    → (words : List Text) → list_any is_dashed words ≡ false → IsParsed (name ∷ words)
+bare_parsed name enters said none [] plain =
+    let entered = enters [] in
+    parsed_as (name ∷ []) [] _ (entered.0 ∙ nothing_behind name) entered.1 (reading _ _ said)
+bare_parsed name enters said none (word ∷ words) plain =
+    let entered = enters (word ∷ words) in
+    parsed_as (name ∷ word ∷ words) _ _
+    (entered.0 ∙ something_behind name word words (neither _ _ plain).0) entered.1
+    (refusal _ _ _ _ (none word words))
+
 run_parsed : (words : List Text) → list_any is_dashed words ≡ false → IsParsed (codes "run" ∷ words)
 unfolding words_said said_under
-run_parsed [] plain =
-    let entered = entering_run [] in
-    parsed_as (codes "run" ∷ []) [] _ (entered.0 ∙ nothing_behind (codes "run")) entered.1 (reading _ _ refl)
-run_parsed (word ∷ words) plain =
-    let entered = entering_run (word ∷ words) in
-    parsed_as (codes "run" ∷ word ∷ words) _ _
-    (entered.0 ∙ something_behind (codes "run") word words (neither _ _ plain).0) entered.1
-    (refusal _ _ _ _ refl)
+run_parsed = bare_parsed (codes "run") entering_run refl (λ word words. refl)
 
 report_parsed : (words : List Text) → list_any is_dashed words ≡ false → IsParsed (codes "report" ∷ words)
 unfolding words_said said_under
-report_parsed [] plain =
-    let entered = entering_report [] in
-    parsed_as (codes "report" ∷ []) [] _ (entered.0 ∙ nothing_behind (codes "report")) entered.1 (reading _ _ refl)
-report_parsed (word ∷ words) plain =
-    let entered = entering_report (word ∷ words) in
-    parsed_as (codes "report" ∷ word ∷ words) _ _
-    (entered.0 ∙ something_behind (codes "report") word words (neither _ _ plain).0) entered.1
-    (refusal _ _ _ _ refl)
+report_parsed = bare_parsed (codes "report") entering_report refl (λ word words. refl)
 
 load_parsed : (words : List Text) → list_any is_dashed words ≡ false → IsParsed (codes "load" ∷ words)
 unfolding words_said said_under load_words
@@ -184,7 +183,7 @@ no_load (seed ∷ rounds ∷ []) dashed = by_seed (is_dashed seed) refl
     by_seed false is_not = by_rounds (is_dashed rounds) refl is_not
 no_load (seed ∷ rounds ∷ word ∷ words) dashed = refl
 
--- a form by its name says nothing where what is behind the name doesn't
+-- a form by its name says nothing where what is after the name doesn't
 no_form : (is_run is_report is_load : Bool) (said : Option Words) → said ≡ None
     → (if is_run then None else if is_report then None else if is_load then said else None) ≡ None
 no_form true is_report is_load said none = refl

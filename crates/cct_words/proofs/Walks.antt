@@ -128,11 +128,11 @@ nothing_more : (kinds : Kinds) → or_else kinds [] ≡ kinds
 nothing_more [] = refl
 nothing_more (kind ∷ kinds) = refl
 
--- The walk behind the name of a subcommand.
+-- The walk after the name of a subcommand.
 abbrev stopped : Text → List Text → Walk
 stopped name words = record (at nothing_held 1) { stopped = Some (name, words) }
 
--- the words behind the name of a subcommand are left to it
+-- the words after the name of a subcommand are left to it
 entering : (name : Text) (words : List Text) (s : Shape)
     → walked [] names (walk_from nothing_held) name ≡ stopped name []
     → turn_fault app.top names (walk_from nothing_held) name ≡ []
@@ -153,17 +153,21 @@ entering name words s stops passes there =
       met_is (name ∷ words) ∙ ap (λ (w : Walk). entered app w.stopped) end ∙ enters,
     )
 
-pub entering_run : (words : List Text) → Parses (codes "run" ∷ words)
-    (level_fault (built_sub (codes "run") []) [] nothing_held words false [])
-    (Some (rows_at (built_sub (codes "run") []) words))
-unfolding walked
-entering_run words = entering (codes "run") words (built_sub (codes "run") []) refl refl refl
+-- what is met at the name of a subcommand without arguments, and that it is entered there
+abbrev pub bare_met : Text → List Text → Option (Text × List Row)
+bare_met name words = Some (rows_at (built_sub name []) words)
 
-pub entering_report : (words : List Text) → Parses (codes "report" ∷ words)
-    (level_fault (built_sub (codes "report") []) [] nothing_held words false [])
-    (Some (rows_at (built_sub (codes "report") []) words))
+abbrev pub EntersBare : Text → Type 0
+EntersBare name = (words : List Text) → Parses (name ∷ words)
+    (level_fault (built_sub name []) [] nothing_held words false []) (bare_met name words)
+
+pub entering_run : EntersBare (codes "run")
 unfolding walked
-entering_report words = entering (codes "report") words (built_sub (codes "report") []) refl refl refl
+entering_run = λ words. entering (codes "run") words (built_sub (codes "run") []) refl refl refl
+
+pub entering_report : EntersBare (codes "report")
+unfolding walked
+entering_report = λ words. entering (codes "report") words (built_sub (codes "report") []) refl refl refl
 
 pub entering_load : (words : List Text) → Parses (codes "load" ∷ words)
     (level_fault load [] nothing_held words false []) (Some (rows_at load words))
@@ -218,7 +222,7 @@ load_none = refl
 abbrev row : Text → Text → Row
 row id word = record { id = id; values = word ∷ []; count = None; source = Some CommandLine; reading = AsWritten }
 
--- Where the walk stands behind one word, and behind two.
+-- Where the walk stands after one word, and after two.
 abbrev held_one : Text → Held
 held_one seed = record { rows = []; pending = Some (codes "seed", seed ∷ []); skip = 0 }
 

@@ -8,7 +8,7 @@ use crate::words::Words;
 use cct_script::ranged;
 use clap::ArgMatches;
 
-/// How many rounds a load has at the most.
+/// How many rounds a load has at most.
 const MOST_ROUNDS: u64 = 10_000;
 
 /// What the matches say, by the subcommand that was met.

@@ -43,6 +43,8 @@ pub enum WordsNo {
 /// read them, whatever they are.
 pub fn read_words(alloc: Global, words: &[String]) -> Result<Words, WordsNo>
     ensures said { IfOk result (λ said. words_said (map string_bytes words.now) ≡ Some said) }
+    // Only words of which the grammar says nothing, such as any list with a word that begins with a hyphen. If there is
+    // no memory, that may be answered whatever the words are.
     ensures refused { result ≡ Err WordsNo.Refused → words_said (map string_bytes words.now) ≡ None }
 {
     if have_dash(words) {

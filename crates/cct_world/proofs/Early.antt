@@ -11,8 +11,8 @@ use Rattle.cct_model.specs.Transcript.{onto}
 use Rattle.cct_laws.proofs.Onto.{legal_more, transcript_on}
 use Rattle.cct_world.specs.Early.{LegalBeforeLoss}
 use Rattle.cct_world.specs.Step.{crashes, crashes_of}
-use Rattle.cct_world.specs.Sure.{First, IsCrash, losses_in}
-use Rattle.cct_world.proofs.Sure.{crashes-append}
+use Rattle.cct_world.specs.Relying.{First, IsCrash, losses_in}
+use Rattle.cct_world.proofs.Relying.{crashes-append}
 
 -- a step is a loss of power, or none
 crash_or : (s : Step) → IsCrash s ⊎ (crashes_of s ≡ 0)

@@ -1,5 +1,5 @@
 -- What is so after a past goes on over a step.
-use Rattle.std.proofs.Common.{◌≡◌, ◌+◌, ◌++◌, ℕ, Bool, List, [], ◌∷◌, Option, None, length}
+use Rattle.std.proofs.Common.{◌≡◌, ◌+◌, ◌++◌, ℕ, Bool, List, [], ◌∷◌, Option, None, length, reverse}
 use Rattle.std.proofs.Common.{refl, sym, ap, ◌∙◌, subst, subst₂}
 use Rattle.cct_model.specs.terms.device.Setup.{Setup}
 use Rattle.cct_model.specs.lines.command.CrashAt.{CrashAt}
@@ -20,12 +20,12 @@ use Rattle.cct_world.specs.Holds.{Holds, WorldHolds}
 use Rattle.cct_world.specs.Machine.{LosesIn, due_of}
 use Rattle.cct_world.specs.Restarts.{CutAt, IsWhole, Loses, LosesAt, RestartsAt, RestartsIn, WasDue, no_step}
 use Rattle.cct_world.specs.Step.{CutsIn, LastsIn, crashes, crashes_of}
-use Rattle.cct_world.specs.Sure.{Sure}
-use Rattle.cct_world.specs.World.{RestartsBy, StandsFor, disk_of, setup_of, used_of}
+use Rattle.cct_world.specs.Relying.{IsReliable}
+use Rattle.cct_world.specs.World.{RestartsBy, StandsFor, StepPlayed, disk_of, setup_of, used_of}
 use Rattle.cct_world.proofs.Lasting.{lasts_in}
 use Rattle.cct_world.proofs.Restarts.{behind_now, behind_on, counts_on}
 use Rattle.cct_world.proofs.Surviving.{each_on, survived_by}
-use Rattle.cct_world.proofs.Sure.{cut_on}
+use Rattle.cct_world.proofs.Relying.{cut_on}
 
 module _ {D : Type 0} (size : D → ℕ) (honest : D → Bool) (seen : D → Option (List ℕ)) (cuts : D → ℕ)
     (cut_to : D → ℕ → D → Type 0) (setup : Setup) (given : D) where
@@ -34,7 +34,7 @@ module _ {D : Type 0} (size : D → ℕ) (honest : D → Bool) (seen : D → Opt
 
   -- before the first step
   pub holds_first : (Stands : List Entry → Type 0) (now : D) (used : ℕ) → cuts now ≡ cuts given → used ≡ 0
-      → (Sure trusted [] → Stands []) → (played : List Step) (past : List Entry) → played ≡ [] → past ≡ []
+      → (IsReliable trusted [] → Stands []) → (played : List Step) (past : List Entry) → played ≡ [] → past ≡ []
       → Holds size honest seen cuts cut_to Stands setup given now used played past
   holds_first Stands now used same none stands played past unplayed is =
       subst₂ (Holds size honest seen cuts cut_to Stands setup given now used) (sym unplayed) (sym is) (record {
@@ -48,7 +48,7 @@ module _ {D : Type 0} (size : D → ℕ) (honest : D → Bool) (seen : D → Opt
   due_at_last : (Before : List Entry → Type 0) (now : D) (used : ℕ) (played : List Step) (past : List Entry)
       (at : Option CrashAt) (due : Option Record) → Holds size honest seen cuts cut_to Before setup given now used played past
       → (at ≡ None → due ≡ None) → ((lived : List Entry) → Before lived → due ≡ due_in setup lived at)
-      → WasDue (Sure trusted past) setup past at due
+      → WasDue (IsReliable trusted past) setup past at due
   due_at_last Before now used played past at due holds none told = record {
     none = none;
     told = λ is. told past (holds.stands is);
@@ -62,7 +62,7 @@ module _ {D : Type 0} (size : D → ℕ) (honest : D → Bool) (seen : D → Opt
         → crashes news ≡ crashes_of s → CutsIn s size honest seen cuts cut_to old new
         → RestartsIn Before setup s used many (seen new) news
         → Holds size honest seen cuts cut_to Before setup given old used played past
-        → RestartsAt (Sure trusted past) (CutAt size honest seen cuts cut_to given new) setup past s news
+        → RestartsAt (IsReliable trusted past) (CutAt size honest seen cuts cut_to given new) setup past s news
     told_in (step.Crash at choice) used many news played past lasted lasts told cut (due, none, was, restarts) before = (
       due,
       many,
@@ -83,7 +83,7 @@ module _ {D : Type 0} (size : D → ℕ) (honest : D → Bool) (seen : D → Opt
         → Outlasts size honest seen cuts given old → LastsIn s size honest seen cuts old new
         → crashes news ≡ crashes_of s → CutsIn s size honest seen cuts cut_to old new
         → many ≡ used + length (records news) → RestartsIn Before setup s used many (seen new) news
-        → (Sure trusted (news ++ past) → After (news ++ past))
+        → (IsReliable trusted (news ++ past) → After (news ++ past))
         → Holds size honest seen cuts cut_to Before setup given old used played past
         → Holds size honest seen cuts cut_to After setup given new many (played ++ s ∷ []) (news ++ past)
     holds_on s used many news played past lasted lasts told cut more restarts after before =
@@ -92,8 +92,8 @@ module _ {D : Type 0} (size : D → ℕ) (honest : D → Bool) (seen : D → Opt
         record {
           stands = after;
           counts = counts_on news past used many before.counts more;
-          survived = each_on (λ es x ns. RestartsAt (Sure trusted es) After_cut setup es x ns) played news past s
-              (survived_by (Sure trusted) (Sure trusted) Before_cut After_cut (λ es is. is)
+          survived = each_on (λ es x ns. RestartsAt (IsReliable trusted es) After_cut setup es x ns) played news past s
+              (survived_by (IsReliable trusted) (IsReliable trusted) Before_cut After_cut (λ es is. is)
               (behind_on size honest seen cuts cut_to given old new (lasts_in size honest seen cuts s old new lasts)) setup
               played past before.survived)
               (told_in s used many news played past lasted lasts told cut restarts before);
@@ -113,21 +113,18 @@ module _ {D : Type 0} {g : Ghosts D} where
   restarts_in now next s news restarts = restarts
 
   -- what is so of a world
-  pub world_on : (given : D) (now next : World D g) (s : Step) (news : List Entry) (played : List Step) (past : List Entry)
-      → Outlasts g.size g.honest g.seen g.cuts given (disk_of now)
-      → LastsIn s g.size g.honest g.seen g.cuts (disk_of now) (disk_of next)
-      → crashes news ≡ crashes_of s
-      → CutsIn s g.size g.honest g.seen g.cuts g.cut_to (disk_of now) (disk_of next)
-      → used_of next ≡ used_of now + length (records news) → RestartsBy now next s news
-      → setup_of next ≡ setup_of now
-      → (Sure (IsTrusted g.honest g.seen given) (news ++ past) → StandsFor next (news ++ past))
-      → WorldHolds given now played past → WorldHolds given next (played ++ s ∷ []) (news ++ past)
-  world_on given now next s news played past lasted lasts told cut counts restarts same stands before =
+  pub world_on : (given : D) (now next : World D g) (s : Step) (report : List Entry) (played : List Step)
+      (past : List Entry) → Outlasts g.size g.honest g.seen g.cuts given (disk_of now) → StepPlayed now next s report
+      → (IsReliable (IsTrusted g.honest g.seen given) (reverse report ++ past)
+      → StandsFor next (reverse report ++ past))
+      → WorldHolds given now played past → WorldHolds given next (played ++ s ∷ []) (reverse report ++ past)
+  world_on given now next s report played past lasted goes stands before =
+      let news = reverse report in
       subst (λ setup. Holds g.size g.honest g.seen g.cuts g.cut_to (StandsFor next) setup given (disk_of next)
-      (used_of next) (played ++ s ∷ []) (news ++ past)) (sym same)
+      (used_of next) (played ++ s ∷ []) (news ++ past)) (sym goes.setup)
       (holds_on g.size g.honest g.seen g.cuts g.cut_to (setup_of now) given (StandsFor now) (StandsFor next)
-      (disk_of now) (disk_of next) s (used_of now) (used_of next) news played past lasted lasts told cut counts
-      (restarts_in now next s news restarts) stands before)
+      (disk_of now) (disk_of next) s (used_of now) (used_of next) news played past lasted goes.lasts goes.told goes.cut
+      goes.counts (restarts_in now next s news goes.restarts) stands before)
 
   -- why no host starts again
   pub loses_at : (given left : D) (now : World D g) (played : List Step) (past : List Entry)
@@ -135,7 +132,7 @@ module _ {D : Type 0} {g : Ghosts D} where
       → Outlasts g.size g.honest g.seen g.cuts given (disk_of now)
       → LastsIn s g.size g.honest g.seen g.cuts (disk_of now) left
       → CutsIn s g.size g.honest g.seen g.cuts g.cut_to (disk_of now) left → LosesIn now.machine.value left why s
-      → LosesAt (Sure (IsTrusted g.honest g.seen given) past)
+      → LosesAt (IsReliable (IsTrusted g.honest g.seen given) past)
       (CutAt g.size g.honest g.seen g.cuts g.cut_to given left) (setup_of now) past (g.seen left) why s
   loses_at given left now played past holds why (step.Crash at choice) lasted lasts cut loses =
       let due = due_of now.machine.value at in (

@@ -2,7 +2,7 @@ pub mod Holding
 pub mod Lasting
 pub mod Restarts
 pub mod Suiting
-pub mod Sure
+pub mod Relying
 pub mod Early
 pub mod Steps
 pub mod Suited

@@ -1,7 +1,6 @@
 -- What the disk of a machine has behind a loss of power, and behind the steps that follow it.
 use Rattle.std.proofs.Common.{◌≡◌, ◌⊎◌, ◌+◌, ◌++◌, ℕ, suc, Bool, true, List, [], ◌∷◌, length, reverse, refl, sym, ap, ◌∙◌}
 use Rattle.std.proofs.Common.{inl, inr, subst, arith, Option, Some, None}
-use Rattle.std.specs.Option.{IfSome}
 use Rattle.std.proofs.lemmas.List.{reverse-reverse}
 use Rattle.cct_model.specs.terms.device.Setup.{Setup}
 use Rattle.cct_model.specs.lines.command.CrashAt.{CrashAt}
@@ -18,21 +17,21 @@ use Rattle.cct_journal.specs.declared.journal.Journal.{Journal}
 use Rattle.cct_journal.specs.Image.{IsBadAt}
 use Rattle.cct_journal.specs.Journal as journals
 use Rattle.cct_journal.specs.Stands.{CutOnce, Outlasts}
-use Rattle.cct_laws.specs.Restart.{CrashSuits, due_in}
+use Rattle.cct_laws.specs.Restart.{RestartSuits}
 use Rattle.cct_host.specs.declared.host.Host.{Host}
 use Rattle.cct_host.specs.declared.refusal.CrashNo.{CrashNo}
 use Rattle.cct_host.specs.declared.refusal.CrashNo.TheVariants as crash_no
 use Rattle.cct_host.specs.declared.restart.Crashed.{Crashed}
 use Rattle.cct_host.specs.Attempt.{Attempt, asked, idle, news_of, put, put_of}
-use Rattle.cct_host.specs.Book.{FindsBad, FindsMany, LeavesBook, ReadsBook}
+use Rattle.cct_host.specs.OnDisk.{FindsBad, FindsMany}
 use Rattle.cct_host.specs.Host as hosts
 use Rattle.cct_host.specs.Host.{put_by}
-use Rattle.cct_host.specs.Restarting.{HasAll, IsLost, Opens, RefusesCrash, crash_news, due_of, told_by}
-use Rattle.cct_host.specs.Starting.{StartsOver}
+use Rattle.cct_host.specs.Restarting as restarting
+use Rattle.cct_host.specs.Restarting.{HasAll, IsLost, RefusesRestart, restart_news, due_of, told_by}
 use Rattle.cct_world.specs.declared.machine.Machine.{Machine}
 use Rattle.cct_world.specs.Machine.{Breaks, DueAsTold, StandsFor}
 use Rattle.cct_world.specs.Restarts.{CutAt, HasBad, Loses, Restarts, kept_in}
-use Rattle.cct_world.specs.Step.{count_after}
+use Rattle.cct_world.specs.Step.{count_after, crashes}
 use Rattle.cct_world.proofs.Lasting.{lasts_on, lasts_then}
 
 -- records behind others
@@ -69,19 +68,23 @@ next_counts before after addr what used many none is counts =
     ∙ ap (λ rs. used + length rs)
     (sym (ap records (news_are before after addr what none is) ∙ news_records addr what))
 
--- and that none is told as kept
-news_unkept : (addr : ℕ) (what : Attempt) → kept_in (news_of addr what) ≡ []
-news_unkept addr idle = refl
-news_unkept addr (asked sent heard None) = refl
-news_unkept addr (asked sent heard (Some end)) = refl
-news_unkept addr (put r None) = refl
-news_unkept addr (put r (Some end)) = refl
+-- and that they tell no power cut, and none as kept
+abbrev IsCalm : List Entry → Type 0
+IsCalm news = (crashes news ≡ 0) × (kept_in news ≡ [])
 
-pub next_unkept : (before after : List Entry) (addr : ℕ) (what : Attempt) → before ≡ []
-    → after ≡ before ++ reverse (news_of addr what) → kept_in (reverse after) ≡ []
-next_unkept before after addr what none is = ap kept_in (news_are before after addr what none is) ∙ news_unkept addr what
+news_calm : (addr : ℕ) (what : Attempt) → IsCalm (news_of addr what)
+news_calm addr idle = (refl, refl)
+news_calm addr (asked sent heard None) = (refl, refl)
+news_calm addr (asked sent heard (Some end)) = (refl, refl)
+news_calm addr (put r None) = (refl, refl)
+news_calm addr (put r (Some end)) = (refl, refl)
 
--- the records of a loss of power
+pub next_told : (before after : List Entry) (addr : ℕ) (what : Attempt) → before ≡ []
+    → after ≡ before ++ reverse (news_of addr what) → IsCalm (reverse after)
+next_told before after addr what none is =
+    subst IsCalm (sym (news_are before after addr what none is)) (news_calm addr what)
+
+-- the records of a power cut
 told_records : (many : ℕ) (kept : Option Record) → records (told_by many kept) ≡ put_by kept
 told_records many None = refl
 told_records many (Some r) = refl
@@ -102,7 +105,7 @@ module _ {D : Type 0} {g : Ghosts D} where
   bad_by old new due setup index image (inr (all, bad)) = inr (journals.used_of new, all, bad)
 
   loses_by : (old new : Journal D g) (due : Option Record) (setup : Setup) (why : CrashNo)
-      → (why ≡ crash_no.Disk → ⊥) → RefusesCrash old new due setup why
+      → (why ≡ crash_no.Disk → ⊥) → RefusesRestart old new due setup why
       → Loses setup (journals.used_of old) due (g.seen (journals.disk_of new)) why
   loses_by old new due setup crash_no.Disk other refused = absurd (other refl)
   loses_by old new due setup crash_no.Alien other refused = refused
@@ -114,64 +117,46 @@ module _ {D : Type 0} {g : Ghosts D} where
     λ image tells. subst (FindsMany setup image) (sym refused.0) (refused.3 image tells),
   )
 
-  crash_loses : (old : Machine D g) (host : Host D g) (at : Option CrashAt) (why : CrashNo)
-      → (why ≡ crash_no.Disk → ⊥)
-      → RefusesCrash (hosts.journal_of old.host) (hosts.journal_of host) (due_of old.host at) (hosts.setup_of old.host) why
-      → ((past : List Entry) → hosts.StandsFor old.host past → CrashSuits (hosts.setup_of old.host) past at
-      → IsTrusted g.honest g.seen (hosts.disk_of old.host) → why ≡ crash_no.Disk)
-      → ((past : List Entry) → hosts.StandsFor old.host past
-      → due_of old.host at ≡ due_in (hosts.setup_of old.host) past at)
-      → ((past : List Entry) → StandsFor old past → CrashSuits (hosts.setup_of old.host) past at
+  crash_loses : (old : Machine D g) (at : Option CrashAt) (choice : ℕ) (left : D) (why : CrashNo)
+      → (why ≡ crash_no.Disk → ⊥) → restarting.RestartFails old.host at choice left why
+      → ((past : List Entry) → StandsFor old past → RestartSuits (hosts.setup_of old.host) past at
       → IsTrusted g.honest g.seen (hosts.disk_of old.host) → ⊥)
       × DueAsTold old at
-      × Loses (hosts.setup_of old.host) (journals.used_of (hosts.journal_of old.host)) (due_of old.host at)
-      (g.seen (hosts.disk_of host)) why
-  crash_loses old host at why other refused never due = (
-    λ past stands suits trusted. other (never past stands.host suits trusted),
-    λ past stands. due past stands.host,
-    loses_by (hosts.journal_of old.host) (hosts.journal_of host) (due_of old.host at) (hosts.setup_of old.host) why other
-        refused,
+      × Loses (hosts.setup_of old.host) (journals.used_of (hosts.journal_of old.host)) (due_of old.host at) (g.seen left) why
+  crash_loses old at choice left why other fails = (
+    λ past stands suits trusted. other (fails.never past stands.host suits trusted),
+    λ past stands. fails.due past stands.host,
+    subst
+        (λ d. Loses (hosts.setup_of old.host) (journals.used_of (hosts.journal_of old.host)) (due_of old.host at) (g.seen d)
+        why) fails.refused.1
+        (loses_by (hosts.journal_of old.host) fails.refused.0 (due_of old.host at) (hosts.setup_of old.host) why other
+        fails.refused.2),
   )
 
-  pub crash_breaks : (old : Machine D g) (host : Host D g) (at : Option CrashAt) (choice : ℕ) (why : CrashNo)
-      → RefusesCrash (hosts.journal_of old.host) (hosts.journal_of host) (due_of old.host at) (hosts.setup_of old.host) why
-      → ((past : List Entry) → hosts.StandsFor old.host past → CrashSuits (hosts.setup_of old.host) past at
-      → IsTrusted g.honest g.seen (hosts.disk_of old.host) → why ≡ crash_no.Disk)
-      → ((past : List Entry) → hosts.StandsFor old.host past → IsTrusted g.honest g.seen (hosts.disk_of old.host)
-      → LeavesBook (hosts.setup_of old.host) g.honest g.seen g.may_leave (hosts.disk_of host)
-      (due_in (hosts.setup_of old.host) past at) (reverse (records past)))
-      → ((past : List Entry) → hosts.StandsFor old.host past
-      → due_of old.host at ≡ due_in (hosts.setup_of old.host) past at)
-      → Breaks old (hosts.disk_of host) why (step.Crash at choice)
-  crash_breaks old host at choice crash_no.Disk refused never left due =
-      λ past stands trusted. left past stands.host trusted
-  crash_breaks old host at choice crash_no.Alien refused never left due =
-      crash_loses old host at crash_no.Alien (λ is. cc is) refused never due
-  crash_breaks old host at choice (crash_no.BadRecord index) refused never left due =
-      crash_loses old host at (crash_no.BadRecord index) (λ is. cc is) refused never due
-  crash_breaks old host at choice (crash_no.Lost found many) refused never left due =
-      crash_loses old host at (crash_no.Lost found many) (λ is. cc is) refused never due
+  pub crash_breaks : (old : Machine D g) (at : Option CrashAt) (choice : ℕ) (left : D) (why : CrashNo)
+      → restarting.RestartFails old.host at choice left why → Breaks old left why (step.Crash at choice)
+  crash_breaks old at choice left crash_no.Disk fails = λ past stands trusted. fails.leaves past stands.host trusted
+  crash_breaks old at choice left crash_no.Alien fails =
+      crash_loses old at choice left crash_no.Alien (λ is. cc is) fails
+  crash_breaks old at choice left (crash_no.BadRecord index) fails =
+      crash_loses old at choice left (crash_no.BadRecord index) (λ is. cc is) fails
+  crash_breaks old at choice left (crash_no.Lost found many) fails =
+      crash_loses old at choice left (crash_no.Lost found many) (λ is. cc is) fails
 
   -- a host starts again
-  pub crash_restarts : (old new : Host D g) (at : Option CrashAt) (crashed : Crashed) (news : List Entry)
-      → news ≡ crash_news crashed → hosts.setup_of new ≡ hosts.setup_of old → Opens (hosts.setup_of new) (hosts.journal_of new)
-      → ((rs : List Record)
-      → ReadsBook (hosts.setup_of new) g.seen (hosts.disk_of new) (journals.place_of (hosts.journal_of new)) rs
-      → StartsOver new (reverse rs))
-      → crashed.records ≡ journals.used_of (hosts.journal_of new)
-      → crashed.records ≡ journals.used_of (hosts.journal_of old) + length (put_by crashed.kept)
-      → IfSome crashed.kept (λ r. due_of old at ≡ Some r)
+  pub crash_restarts : (old new : Host D g) (at : Option CrashAt) (choice : ℕ) (crashed : Crashed) (news : List Entry)
+      → news ≡ restart_news crashed → restarting.Restarts old at choice new crashed
       → Restarts (hosts.setup_of old) (due_of old at) (journals.used_of (hosts.journal_of old))
       (journals.used_of (hosts.journal_of new)) (g.seen (hosts.disk_of new)) news
-  crash_restarts old new at crashed news told same opens recalls records counts kept = record {
-    all = record { kept = crashed.kept; kept_is = kept; count = sym records ∙ counts };
-    news_are = told ∙ ap (λ n. told_by n crashed.kept) records;
-    whole = λ image tells. let opened = opens image tells in (
+  crash_restarts old new at choice crashed news told restarts = record {
+    all = record { kept = crashed.kept; kept_is = restarts.kept; count = sym restarts.records ∙ restarts.counts };
+    news_are = told ∙ ap (λ n. told_by n crashed.kept) restarts.records;
+    whole = λ image tells. let opened = restarts.found image tells in (
       opened.0,
       opened.1,
       opened.2,
-      subst (λ setup. all_follow setup (reverse opened.0) ≡ true) same
-          (recalls opened.0
+      subst (λ setup. all_follow setup (reverse opened.0) ≡ true) restarts.setup
+          (restarts.replays opened.0
           (record { image = image; tells = tells; stands = opened.1; count = sym opened.2 })).over.follow,
     );
   }

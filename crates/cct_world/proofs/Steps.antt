@@ -22,7 +22,6 @@ use Rattle.cct_model.specs.Records.{records}
 use Rattle.cct_model.specs.Refusal.{refusal}
 use Rattle.cct_model.specs.Transcript.{heard_after, met}
 use Rattle.cct_model.proofs.Knowing.{knowing_both}
-use Rattle.cct_acceptor.specs.declared.acceptor.Inserted.TheVariants as taken
 use Rattle.cct_bus.specs.declared.bus.Bus.{Bus}
 use Rattle.cct_bus.specs.declared.outcome.Outcome.{Outcome}
 use Rattle.cct_bus.specs.declared.outcome.Outcome.TheVariants as outcome
@@ -53,18 +52,17 @@ entries_are capacity setup past addr happening.Fall news are = are
 entries_are capacity setup past addr happening.Jam news are = are
 entries_are capacity setup past addr happening.Reset news are = are
 
+-- what is made of a choice
+of_choice : {X Y : Type 0} (f : X → Y) (test : Bool) (x y : X) → f (cond test x y) ≡ cond test (f x) (f y)
+of_choice f true x y = refl
+of_choice f false x y = refl
+
 -- by what becomes of it, it is told as it is to be
 entry_is : (d : DeviceSetup) (addr : ℕ) (what : Happening) (past : List Entry) → d.addr ≡ addr
     → entry_told addr what (becomes what d.serial (met d past)) ≡ happening_entry addr d past what
 entry_is d addr (happening.Coin place) past is =
     ap (λ a. entry_told a (happening.Coin place) (becomes (happening.Coin place) d.serial (met d past))) (sym is)
-    ∙ by_taken (accepts (met d past) place) _
-  where
-    by_taken : (took : Bool) (c : Coin)
-        → entry_told d.addr (happening.Coin place) (of_inserted (cond took (taken.Accepted c) taken.Inhibited))
-        ≡ cond took (entry.Accepted d.addr c) (entry.Inhibited d.addr place)
-    by_taken true c = refl
-    by_taken false c = refl
+    ∙ of_choice (λ became. entry_told d.addr (happening.Coin place) (of_inserted became)) (accepts (met d past) place) _ _
 entry_is d addr happening.Alien past is = refl
 entry_is d addr happening.Fall past is =
     ap (λ a. entry_told a happening.Fall (becomes happening.Fall d.serial (met d past))) (sym is)

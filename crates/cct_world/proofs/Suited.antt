@@ -11,7 +11,7 @@ use Rattle.cct_model.specs.Following.{is_allowed}
 use Rattle.cct_model.specs.Legal.{due_at}
 use Rattle.cct_model.specs.Money.{freed_by, reserved_at_work}
 use Rattle.cct_model.specs.Records.{records}
-use Rattle.cct_laws.specs.Restart.{CrashSuits}
+use Rattle.cct_laws.specs.Restart.{RestartSuits}
 use Rattle.cct_host.proofs.Owned.{AreOwned, owns_its_put}
 use Rattle.cct_world.specs.Machine.{StepSuits}
 
@@ -29,7 +29,7 @@ if_due (Some r) P is = is r refl
 -- what any job is about to put
 pub step_suits : (setup : Setup) (past : List Entry) (s : Step) → AreOwned setup past
     → ((addr : ℕ) (r : Record) → due_at setup past addr ≡ Some r → IsTaken setup past r)
-    → ((at : Option CrashAt) → CrashSuits setup past at) → StepSuits setup past s
+    → ((at : Option CrashAt) → RestartSuits setup past at) → StepSuits setup past s
 step_suits setup past (step.Next addr) owned taken suits = record {
   owned = owns_its_put setup past addr owned;
   taken = if_due (due_at setup past addr) (IsTaken setup past) (taken addr);

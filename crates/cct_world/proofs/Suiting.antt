@@ -11,7 +11,7 @@ use Rattle.cct_model.specs.Transcript.{onto}
 use Rattle.cct_laws.specs.Ids.{Ids}
 use Rattle.cct_laws.proofs.money.Books.{Books, books_legal}
 use Rattle.cct_laws.proofs.money.Journal.{kept_due_allowed}
-use Rattle.cct_laws.proofs.money.Restarts.{kept_crash_suits}
+use Rattle.cct_laws.proofs.money.Restarts.{kept_restart_suits}
 use Rattle.cct_host.proofs.Owned.{AreOwned}
 use Rattle.cct_world.specs.Machine.{StepSuits}
 use Rattle.cct_world.proofs.Suited.{step_suits}
@@ -25,7 +25,7 @@ kept_suits : (capacity : ℕ) (setup : Setup) (past : List Entry) (s : Step) →
     → StepSuits setup past s
 kept_suits capacity setup past s ids books =
     step_suits setup past s (owned_by setup past ids) (λ addr r. kept_due_allowed capacity setup past addr r ids books)
-    (λ at. kept_crash_suits capacity setup past at ids books)
+    (λ at. kept_restart_suits capacity setup past at ids books)
 
 pub legal_suits : (capacity : ℕ) (setup : Setup) (played : List Step) (transcript : List Entry) (s : Step)
     → IsSoundSetup setup → All IsInRange played → Legal capacity setup played transcript

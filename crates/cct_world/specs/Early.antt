@@ -6,7 +6,7 @@ use Rattle.cct_model.specs.lines.entry.Entry.{Entry}
 use Rattle.cct_model.specs.Legal.{Legal}
 use Rattle.cct_model.specs.Transcript.{onto}
 use Rattle.cct_world.specs.Step.{crashes}
-use Rattle.cct_world.specs.Sure.{First, IsCrash, losses_in}
+use Rattle.cct_world.specs.Relying.{First, IsCrash, losses_in}
 
 -- The first of these steps, up to the first loss of power, gave the first of these entries, and this holds of both: they
 -- are all, or a loss of power is the next step.

@@ -9,7 +9,7 @@ use Rattle.cct_disk.specs.Disk.{IsTrusted}
 use Rattle.cct_world.specs.declared.world.World.{World}
 use Rattle.cct_world.specs.Restarts.{CutAt, Survived}
 use Rattle.cct_world.specs.Step.{count_after, crashes}
-use Rattle.cct_world.specs.Sure.{Sure}
+use Rattle.cct_world.specs.Relying.{IsReliable}
 use Rattle.cct_world.specs.World.{StandsFor, disk_of, setup_of, used_of}
 
 -- What is so after these steps and their past, where one disk was given and became another: what stands for the past does
@@ -18,9 +18,9 @@ use Rattle.cct_world.specs.World.{StandsFor, disk_of, setup_of, used_of}
 pub record Holds {D : Type 0} (size : D → ℕ) (honest : D → Bool) (seen : D → Option (List ℕ)) (cuts : D → ℕ)
     (cut_to : D → ℕ → D → Type 0) (Stands : List Entry → Type 0) (setup : Setup) (given now : D) (used : ℕ)
     (played : List Step) (past : List Entry) : Type 0 where
-  pub stands : Sure (IsTrusted honest seen given) past → Stands past
+  pub stands : IsReliable (IsTrusted honest seen given) past → Stands past
   pub counts : used ≡ length (records past)
-  pub survived : Survived (Sure (IsTrusted honest seen given)) (CutAt size honest seen cuts cut_to given now) setup played
+  pub survived : Survived (IsReliable (IsTrusted honest seen given)) (CutAt size honest seen cuts cut_to given now) setup played
       past
   pub cut : cuts now ≡ count_after (crashes past) (cuts given)
 

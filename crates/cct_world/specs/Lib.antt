@@ -1,7 +1,8 @@
 pub mod Step
 pub mod Restarts
 pub mod Machine
-pub mod Sure
+pub mod Relying
 pub mod Early
 pub mod World
 pub mod Holds
+pub mod Serving

@@ -1,5 +1,5 @@
 -- A host and a bus that stand for all that happened on them.
-use Rattle.std.specs.Prelude.{◌≡◌, Bool, ℕ, List, [], ◌++◌, Option, Some, reverse, ⊤}
+use Rattle.std.specs.Prelude.{◌≡◌, ◌≢◌, ◌≤◌, ◌+◌, Bool, false, ℕ, List, [], ◌++◌, length, Option, Some, reverse, ⊤}
 use Rattle.cct_model.specs.terms.device.Setup.{Setup}
 use Rattle.cct_model.specs.lines.command.CrashAt.{CrashAt}
 use Rattle.cct_model.specs.lines.command.Step.{Step}
@@ -8,12 +8,13 @@ use Rattle.cct_model.specs.lines.record.Record.{Record}
 use Rattle.cct_model.specs.lines.entry.Entry.{Entry}
 use Rattle.cct_model.specs.Legal.{Entries, due_at}
 use Rattle.cct_model.specs.Records.{records}
+use Rattle.cct_edge.specs.Faults.{Caused, Rose}
 use Rattle.cct_disk.specs.declared.disk.Disk.{Ghosts}
 use Rattle.cct_disk.specs.Disk.{IsTrusted}
 use Rattle.cct_bus.specs.Bus as wires
 use Rattle.cct_journal.specs.Journal as journals
-use Rattle.cct_laws.specs.Restart.{CrashSuits, due_in}
-use Rattle.cct_host.specs.Book.{LeavesBook}
+use Rattle.cct_laws.specs.Restart.{RestartSuits, due_in}
+use Rattle.cct_host.specs.OnDisk.{LeavesRecords}
 use Rattle.cct_host.specs.Host as hosts
 use Rattle.cct_host.specs.Host.{PutSuits}
 use Rattle.cct_host.specs.Restarting as restarting
@@ -21,13 +22,14 @@ use Rattle.cct_world.specs.declared.machine.Machine.{Machine}
 use Rattle.cct_host.specs.declared.refusal.CrashNo.{CrashNo}
 use Rattle.cct_host.specs.declared.refusal.CrashNo.TheVariants as crash_no
 use Rattle.cct_world.specs.Restarts.{Loses, Restarts, kept_in}
+use Rattle.cct_world.specs.Step.{CutsIn, LastsIn, crashes, crashes_of}
 
 -- What a step takes for granted of the past: of a `next`, that the record that it puts, if it puts one, suits the
 -- records before it; and of a loss of power, that the records follow one another, with the one whose put it interrupts.
 -- Of any other step nothing is asked.
 abbrev pub StepSuits : Setup → List Entry → Step → Type 0
 StepSuits setup past (step.Next addr) = PutSuits setup past addr
-StepSuits setup past (step.Crash at choice) = CrashSuits setup past at
+StepSuits setup past (step.Crash at choice) = RestartSuits setup past at
 StepSuits setup past s = ⊤
 
 -- What a step takes for granted of the disk: of a loss of power, that it is trusted. Of any other step nothing is
@@ -80,10 +82,10 @@ module _ {D : Type 0} {g : Ghosts D} where
   FailsIn old left (step.Next addr) =
       (past : List Entry) → StandsFor old past
       → (r : Record) × ((due_at (setup_of old) past addr ≡ Some r) × (HasTrusted old
-      → LeavesBook (setup_of old) g.honest g.seen g.may_leave left (Some r) (reverse (records past))))
+      → LeavesRecords (setup_of old) g.honest g.seen g.may_leave left (Some r) (reverse (records past))))
   FailsIn old left (step.Crash at choice) =
       (past : List Entry) → StandsFor old past → HasTrusted old
-      → LeavesBook (setup_of old) g.honest g.seen g.may_leave left (due_in (setup_of old) past at) (reverse (records past))
+      → LeavesRecords (setup_of old) g.honest g.seen g.may_leave left (due_in (setup_of old) past at) (reverse (records past))
   FailsIn old left s = ⊥
 
   -- The record that its host is about to put where a loss of power comes, if it is about to put one.
@@ -99,7 +101,7 @@ module _ {D : Type 0} {g : Ghosts D} where
   -- a trusted disk.
   abbrev pub LosesIn : Machine D g → D → CrashNo → Step → Type 0
   LosesIn old left why (step.Crash at choice) =
-      ((past : List Entry) → StandsFor old past → CrashSuits (setup_of old) past at → HasTrusted old → ⊥)
+      ((past : List Entry) → StandsFor old past → RestartSuits (setup_of old) past at → HasTrusted old → ⊥)
       × DueAsTold old at × Loses (setup_of old) (used_of old) (due_of old at) (g.seen left) why
   LosesIn old left why s = ⊥
 
@@ -115,3 +117,47 @@ module _ {D : Type 0} {g : Ghosts D} where
   abbrev pub Breaks : Machine D g → D → CrashNo → Step → Type 0
   Breaks old left crash_no.Disk s = FailsIn old left s
   Breaks old left why s = LosesIn old left why s
+
+  -- A step that makes no call of the disk gave these entries, oldest first: the setup and the journal stay, the machine
+  -- goes on by the entries, and they tell no power cut and no record, neither as put nor as kept.
+  pub record PlaysUndisturbed (old new : Machine D g) (s : Step) (report : List Entry) : Type 0 where
+    pub setup : setup_of new ≡ setup_of old
+    pub journal : hosts.journal_of new.host ≡ hosts.journal_of old.host
+    pub plays : Plays old new s report
+    pub told : crashes (reverse report) ≡ 0
+    pub recorded : records (reverse report) ≡ []
+    pub unkept : kept_in (reverse report) ≡ []
+
+  -- A step was played, and gave these entries, oldest first. The setup stays, no put of the journal failed, and the machine
+  -- goes on by the entries. Just a power cut tells one; the journal counts the records that they tell more, and after a
+  -- power cut the disk has what they tell. The disk goes on, and only a power cut cuts it, once and by its choice.
+  pub record StepPlayed (old new : Machine D g) (s : Step) (report : List Entry) : Type 0 where
+    pub setup : setup_of new ≡ setup_of old
+    pub whole : has_failed new ≡ false
+    -- After each past for which the world stands, the step adds the entries of the definitions, and the world goes on
+    -- by them.
+    pub plays : Plays old new s report
+    -- Exactly a power cut is told as one.
+    pub told : crashes (reverse report) ≡ crashes_of s
+    -- The journal counts the records that the entries tell, whatever happened before and over any disk.
+    pub counts : used_of new ≡ used_of old + length (records (reverse report))
+    -- A power cut is played only if a read of the disk then gives as many records as the journal counts, each of which
+    -- follows those before it: as many as before, or one more if one was due, which is told as kept.
+    pub restarts : RestartsBy old new s (reverse report)
+    -- A power cut cuts the disk exactly once, by its choice, and no other step cuts it.
+    pub cut : CutsIn s g.size g.honest g.seen g.cuts g.cut_to (disk_of old) (disk_of new)
+    pub lasts : LastsIn s g.size g.honest g.seen g.cuts (disk_of old) (disk_of new)
+    pub later : g.faults (disk_of old) ≤ g.faults (disk_of new)
+
+  -- A step wasn't played, for this reason; it gave no entry, and this disk is left. That the disk failed has its cause;
+  -- for any other reason the step is a power cut, which cut the disk once, by its choice.
+  pub record StepUnplayed (old : Machine D g) (left : D) (why : CrashNo) (s : Step) (report : List Entry) : Type 0 where
+    -- Only a `next` whose job was about to put a record can fail, and a power cut. If the disk failed, whatever a power
+    -- cut leaves on a trusted one stands for the records of the past, or for these and the one that was due. Else a
+    -- power cut left what no host starts over, as a read of the disk that comes back says; never on a trusted disk.
+    pub breaks : Breaks old left why s
+    pub empty : report ≡ []
+    pub cause : Caused (g.faults (disk_of old)) (g.faults left) (why ≡ crash_no.Disk)
+    pub cut : why ≢ crash_no.Disk → CutsIn s g.size g.honest g.seen g.cuts g.cut_to (disk_of old) left
+    pub lost : why ≢ crash_no.Disk → Rose (g.cuts (disk_of old)) (g.cuts left)
+    pub lasts : LastsIn s g.size g.honest g.seen g.cuts (disk_of old) left

@@ -11,7 +11,7 @@ use Rattle.cct_model.specs.Records.{records}
 use Rattle.cct_journal.specs.Image.{IsAlien, IsBadAt}
 use Rattle.cct_journal.specs.Stands.{Outlasts}
 use Rattle.cct_laws.specs.Restart.{due_in}
-use Rattle.cct_host.specs.Book.{FindsBad, FindsMany, FindsWhole}
+use Rattle.cct_host.specs.OnDisk.{FindsBad, FindsMany, FindsWhole}
 use Rattle.cct_host.specs.Restarting.{HasAll, IsLost, told_by}
 use Rattle.cct_host.specs.declared.refusal.CrashNo.{CrashNo}
 use Rattle.cct_host.specs.declared.refusal.CrashNo.TheVariants as crash_no

@@ -29,6 +29,14 @@ module _ {D : Type 0} {g : Ghosts D} where
   abbrev pub StandsFor : World D g → List Entry → Type 0
   StandsFor world past = machines.StandsFor world.machine.value past
 
+  -- A step was played, and gave these entries, oldest first.
+  abbrev pub StepPlayed : World D g → World D g → Step → List Entry → Type 0
+  StepPlayed old new s report = machines.StepPlayed old.machine.value new.machine.value s report
+
+  -- A step wasn't played, for this reason, and this disk is left.
+  abbrev pub StepUnplayed : World D g → D → CrashNo → Step → List Entry → Type 0
+  StepUnplayed old left why s report = machines.StepUnplayed old.machine.value left why s report
+
   -- A step gives these entries, oldest first, whatever is behind it, where a record that it puts suits those before it;
   -- and the world goes on by them. A loss of power does so on a trusted disk.
   abbrev pub Plays : World D g → World D g → Step → List Entry → Type 0

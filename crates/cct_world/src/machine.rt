@@ -1,20 +1,16 @@
 //! The machine of a world: the host, and the bus with its devices.
-ghost use Rattle.std.specs.Prelude.{◌∷◌, ◌≡◌, ◌≢◌, ◌≤◌, ◌+◌, [], IfErr, IsTrue, List, OnErr, OnOk, false, length, reverse};
+ghost use Rattle.std.specs.Prelude.{◌∷◌, ◌≡◌, [], IfErr, IsTrue, List, OnOk, false, reverse};
 ghost use Rattle.cct_model.specs.lines.command.Step.TheVariants as step;
 ghost use Rattle.cct_model.specs.Exchange.{device_at, known_there};
 ghost use Rattle.cct_model.specs.Family.{IsPlaced};
 ghost use Rattle.cct_model.specs.lines.entry.Entry.{Entry};
 ghost use Rattle.cct_model.specs.Legal.{is_played, step_of};
 ghost use Rattle.cct_model.specs.Money.{totals};
-ghost use Rattle.cct_model.specs.Records.{records};
 ghost use Rattle.cct_model.specs.Script.{IsCrash, IsFault, IsInRange, is_known};
 ghost use Rattle.cct_bus.specs.Bus as wires;
-ghost use Rattle.cct_edge.specs.Faults.{Rose};
-ghost use Rattle.cct_journal.specs.Stands.{CutOnce, GoesOn, Outlasts};
 ghost use Rattle.cct_host.specs.Host as hosts;
-ghost use Rattle.cct_host.specs.Restarting.{crash_news};
-ghost use Rattle.cct_world.specs.Restarts.{kept_in};
-ghost use Rattle.cct_world.specs.Step.{CutsIn, LastsIn, crashes, crashes_of, entry_told, is_next};
+ghost use Rattle.cct_host.specs.Restarting.{restart_news};
+ghost use Rattle.cct_world.specs.Step.{crashes_of, entry_told, is_next};
 
 use crate::WorldNo;
 use arrayvec::ArrayVec;
@@ -33,7 +29,7 @@ pub(crate) struct Machine<'s, D: Disk> {
 }
 
 impl<D: Disk> Machine<'_, D> {
-    ghost use Rattle.cct_world.specs.Machine.{Breaks, FailsIn, Plays, RestartsBy, StandsFor, disk_of, has_failed, setup_of, used_of};
+    ghost use Rattle.cct_world.specs.Machine.{PlaysUndisturbed, StandsFor, StepPlayed, StepUnplayed, disk_of, has_failed, setup_of};
 
     pub fn knows(&self, step: &Step) -> bool
         ensures { result ≡ is_known (setup_of self.now) step.now }
@@ -59,31 +55,13 @@ impl<D: Disk> Machine<'_, D> {
         requires played { IsTrue (is_played step.now) }
         requires whole { has_failed self.old ≡ false }
         ensures setup { setup_of self.new ≡ setup_of self.old }
-        ensures whole { OnOk result (has_failed self.new ≡ false) }
-        ensures plays { OnOk result (Plays self.old self.new step.now report.new.items) }
-        ensures empty { OnErr result (report.new.items ≡ []) }
-        ensures told { OnOk result (crashes (reverse report.new.items) ≡ crashes_of step.now) }
-        ensures counts { OnOk result
-            (used_of self.new ≡ used_of self.old + length (records (reverse report.new.items))) }
-        ensures restarts { OnOk result (RestartsBy self.old self.new step.now (reverse report.new.items)) }
-        ensures cut { OnOk result (CutsIn step.now D.size D.honest D.seen D.cuts D.cut_to (disk_of self.old)
-            (disk_of self.new)) }
-        ensures breaks { IfErr result (λ why. Breaks self.old (disk_of self.new) why step.now) }
-        ensures cause { IfErr result
-            (λ why. why ≡ WorldNo.Disk → Rose (D.faults (disk_of self.old)) (D.faults (disk_of self.new))) }
-        ensures cut_lost { IfErr result (λ why. why ≢ WorldNo.Disk
-            → CutsIn step.now D.size D.honest D.seen D.cuts D.cut_to (disk_of self.old) (disk_of self.new)) }
-        ensures lost { IfErr result
-            (λ why. why ≢ WorldNo.Disk → Rose (D.cuts (disk_of self.old)) (D.cuts (disk_of self.new))) }
-        ensures lasts { LastsIn step.now D.size D.honest D.seen D.cuts (disk_of self.old) (disk_of self.new) }
-        ensures later { D.faults (disk_of self.old) ≤ D.faults (disk_of self.new) }
+        ensures played { OnOk result (StepPlayed self.old self.new step.now report.new.items) }
+        ensures unplayed { IfErr result (λ why.
+            StepUnplayed self.old (disk_of self.new) why step.now report.new.items) }
     {
         report.clear();
         match step {
-            Step::Next { addr } => match self.next(*addr, report) {
-                Ok(()) => Ok(()),
-                Err(Failed) => Err(WorldNo::Disk),
-            },
+            Step::Next { addr } => self.next(*addr, report),
             Step::Crash { at, choice } => self.crash(*at, *choice, report),
             _ => {
                 self.undisturbed_step(step, report);
@@ -92,7 +70,7 @@ impl<D: Disk> Machine<'_, D> {
         }
     }
 
-    /// Plays a step that makes no call of the disk: any but a `next` and a loss of power.
+    /// Plays a step that makes no call of the disk: any but a `next` and a power cut.
     fn undisturbed_step(&mut self, step: &Step, report: &mut ArrayVec<Entry, 8>)
         requires known { IsTrue (is_known (setup_of self.old) step.now) }
         requires in_range { IsInRange step.now }
@@ -100,12 +78,7 @@ impl<D: Disk> Machine<'_, D> {
         requires no_next { is_next step.now ≡ false }
         requires no_crash { crashes_of step.now ≡ 0 }
         requires report { report.old.items ≡ [] }
-        ensures setup { setup_of self.new ≡ setup_of self.old }
-        ensures journal { hosts.journal_of self.new.host ≡ hosts.journal_of self.old.host }
-        ensures plays { Plays self.old self.new step.now report.new.items }
-        ensures told { crashes (reverse report.new.items) ≡ 0 }
-        ensures recorded { records (reverse report.new.items) ≡ [] }
-        ensures restarts { RestartsBy self.old self.new step.now (reverse report.new.items) }
+        ensures { PlaysUndisturbed self.old self.new step.now report.new.items }
     {
         match step {
             Step::Coin { addr, place } => {
@@ -124,7 +97,7 @@ impl<D: Disk> Machine<'_, D> {
         }
     }
 
-    /// The host loses its power, in a put of the job at an address or in none, and starts again over what its disk then
+    /// The power is cut, in a put of the job at an address or in none, and the host starts again over what its disk then
     /// keeps.
     fn crash(
         &mut self,
@@ -136,23 +109,9 @@ impl<D: Disk> Machine<'_, D> {
         requires whole { has_failed self.old ≡ false }
         requires report { report.old.items ≡ [] }
         ensures setup { setup_of self.new ≡ setup_of self.old }
-        ensures whole { OnOk result (has_failed self.new ≡ false) }
-        ensures plays { OnOk result (Plays self.old self.new (step.Crash at choice) report.new.items) }
-        ensures empty { OnErr result (report.new.items ≡ []) }
-        ensures told { OnOk result (crashes (reverse report.new.items) ≡ 1) }
-        ensures counts { OnOk result
-            (used_of self.new ≡ used_of self.old + length (records (reverse report.new.items))) }
-        ensures restarts { OnOk result
-            (RestartsBy self.old self.new (step.Crash at choice) (reverse report.new.items)) }
-        ensures cut { OnOk result
-            (CutOnce D.size D.honest D.seen D.cuts D.cut_to choice (disk_of self.old) (disk_of self.new)) }
-        ensures breaks { IfErr result (λ why. Breaks self.old (disk_of self.new) why (step.Crash at choice)) }
-        ensures cause { IfErr result
-            (λ why. why ≡ WorldNo.Disk → Rose (D.faults (disk_of self.old)) (D.faults (disk_of self.new))) }
-        ensures lost { IfErr result (λ why. why ≢ WorldNo.Disk
-            → CutOnce D.size D.honest D.seen D.cuts D.cut_to choice (disk_of self.old) (disk_of self.new)) }
-        ensures lasts { Outlasts D.size D.honest D.seen D.cuts (disk_of self.old) (disk_of self.new) }
-        ensures later { D.faults (disk_of self.old) ≤ D.faults (disk_of self.new) }
+        ensures played { OnOk result (StepPlayed self.old self.new (step.Crash at choice) report.new.items) }
+        ensures unplayed { IfErr result (λ why.
+            StepUnplayed self.old (disk_of self.new) why (step.Crash at choice) report.new.items) }
     {
         match self.host.restart(at, choice) {
             Ok(crashed) => {
@@ -168,12 +127,7 @@ impl<D: Disk> Machine<'_, D> {
         requires known { IsTrue (known_there what (device_at (setup_of self.old).devices addr)) }
         requires placed { IsPlaced what }
         requires report { report.old.items ≡ [] }
-        ensures setup { setup_of self.new ≡ setup_of self.old }
-        ensures journal { hosts.journal_of self.new.host ≡ hosts.journal_of self.old.host }
-        ensures plays { Plays self.old self.new (step_of addr what) report.new.items }
-        ensures told { crashes (reverse report.new.items) ≡ 0 }
-        ensures recorded { records (reverse report.new.items) ≡ [] }
-        ensures unkept { kept_in (reverse report.new.items) ≡ [] }
+        ensures { PlaysUndisturbed self.old self.new (step_of addr what) report.new.items }
     {
         let outcome = self.bus.befall(addr, what);
         tell(addr, what, outcome, report);
@@ -183,12 +137,7 @@ impl<D: Disk> Machine<'_, D> {
     fn fault(&mut self, fault: &WireFault, report: &mut ArrayVec<Entry, 8>)
         requires in_range { IsFault fault.now }
         requires report { report.old.items ≡ [] }
-        ensures setup { setup_of self.new ≡ setup_of self.old }
-        ensures journal { hosts.journal_of self.new.host ≡ hosts.journal_of self.old.host }
-        ensures plays { Plays self.old self.new (step.Fault fault.now) report.new.items }
-        ensures told { crashes (reverse report.new.items) ≡ 0 }
-        ensures recorded { records (reverse report.new.items) ≡ [] }
-        ensures unkept { kept_in (reverse report.new.items) ≡ [] }
+        ensures { PlaysUndisturbed self.old self.new (step.Fault fault.now) report.new.items }
     {
         self.bus.set_fault(fault.copied());
         report.push(Entry::Fault(fault.copied()));
@@ -197,12 +146,7 @@ impl<D: Disk> Machine<'_, D> {
     /// The operator gives the host a command. A refused one changes nothing.
     fn command(&mut self, command: &Command, report: &mut ArrayVec<Entry, 8>)
         requires report { report.old.items ≡ [] }
-        ensures setup { setup_of self.new ≡ setup_of self.old }
-        ensures journal { hosts.journal_of self.new.host ≡ hosts.journal_of self.old.host }
-        ensures plays { Plays self.old self.new (step.Command command.now) report.new.items }
-        ensures told { crashes (reverse report.new.items) ≡ 0 }
-        ensures recorded { records (reverse report.new.items) ≡ [] }
-        ensures unkept { kept_in (reverse report.new.items) ≡ [] }
+        ensures { PlaysUndisturbed self.old self.new (step.Command command.now) report.new.items }
     {
         match self.host.command(command) {
             Ok(()) => report.push(Entry::Taken(*command)),
@@ -216,32 +160,24 @@ impl<D: Disk> Machine<'_, D> {
     /// The operator is told what is available, reserved, paid and sold.
     fn balance(&self, report: &mut ArrayVec<Entry, 8>)
         requires report { report.old.items ≡ [] }
-        ensures plays { Plays self.now self.now step.Balance report.new.items }
-        ensures told { crashes (reverse report.new.items) ≡ 0 }
-        ensures recorded { records (reverse report.new.items) ≡ [] }
-        ensures unkept { kept_in (reverse report.new.items) ≡ [] }
+        ensures { PlaysUndisturbed self.now self.now step.Balance report.new.items }
     {
         report.push(Entry::Balance(self.host.totals()));
     }
 
     /// The host's job at an address makes one attempt of one row on the bus.
-    fn next(&mut self, addr: u8, report: &mut ArrayVec<Entry, 8>) -> Result<(), Failed>
+    fn next(&mut self, addr: u8, report: &mut ArrayVec<Entry, 8>) -> Result<(), WorldNo>
         requires whole { has_failed self.old ≡ false }
         requires report { report.old.items ≡ [] }
         ensures setup { setup_of self.new ≡ setup_of self.old }
-        ensures whole { OnOk result (has_failed self.new ≡ false) }
-        ensures plays { OnOk result (Plays self.old self.new (step.Next addr) report.new.items) }
-        ensures told { OnOk result (crashes (reverse report.new.items) ≡ 0) }
-        ensures counts { OnOk result
-            (used_of self.new ≡ used_of self.old + length (records (reverse report.new.items))) }
-        ensures unkept { OnOk result (kept_in (reverse report.new.items) ≡ []) }
-        ensures empty { OnErr result (report.new.items ≡ []) }
-        ensures fails { OnErr result (FailsIn self.old (disk_of self.new) (step.Next addr)) }
-        ensures cause { OnErr result (Rose (D.faults (disk_of self.old)) (D.faults (disk_of self.new))) }
-        ensures goes_on { GoesOn D.size D.honest D.seen D.cuts (disk_of self.old) (disk_of self.new) }
-        ensures later { D.faults (disk_of self.old) ≤ D.faults (disk_of self.new) }
+        ensures played { OnOk result (StepPlayed self.old self.new (step.Next addr) report.new.items) }
+        ensures unplayed { IfErr result (λ why.
+            StepUnplayed self.old (disk_of self.new) why (step.Next addr) report.new.items) }
     {
-        self.host.next(addr, &mut self.bus, report)
+        match self.host.next(addr, &mut self.bus, report) {
+            Ok(()) => Ok(()),
+            Err(Failed) => Err(WorldNo::Disk),
+        }
     }
 
     /// What is available, reserved, paid and sold, in units of value.
@@ -260,10 +196,10 @@ impl<D: Disk> Machine<'_, D> {
     }
 }
 
-/// Tells what a loss of power left.
+/// Tells what a power cut left.
 fn tell_crash(crashed: Crashed, report: &mut ArrayVec<Entry, 8>)
     requires { report.old.items ≡ [] }
-    ensures { reverse report.new.items ≡ crash_news crashed }
+    ensures { reverse report.new.items ≡ restart_news crashed }
 {
     let Crashed { records, kept } = crashed;
     report.push(Entry::Crash { records });

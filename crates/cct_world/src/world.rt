@@ -1,18 +1,15 @@
 //! The world of a script: the host, and the bus with its devices.
-ghost use Rattle.std.specs.Prelude.{◌≡◌, ◌≢◌, ◌≤◌, ◌+◌, [], IfErr, IfOk, IsTrue, MatchResult, OnErr, false, length, reverse};
+ghost use Rattle.std.specs.Prelude.{◌≡◌, [], IfErr, IfOk, IsTrue, MatchResult, false};
 ghost use Rattle.cct_model.specs.Legal.{is_played};
 ghost use Rattle.cct_model.specs.Script.{IsInRange, is_known};
 ghost use Rattle.cct_model.specs.Setup.{IsSoundSetup};
 ghost use Rattle.std.specs.Prelude.{List};
 ghost use Rattle.cct_model.specs.lines.entry.Entry.{Entry};
 ghost use Rattle.cct_model.specs.Money.{totals};
-ghost use Rattle.cct_model.specs.Records.{records};
 ghost use Rattle.cct_disk.specs.Disk.{IsTrusted};
-ghost use Rattle.cct_edge.specs.Faults.{Rose};
 ghost use Rattle.cct_journal.specs.Journal as journals;
-ghost use Rattle.cct_host.specs.Book.{HasBook};
+ghost use Rattle.cct_host.specs.OnDisk.{KeepsRecords};
 ghost use Rattle.cct_world.specs.Machine as machines;
-ghost use Rattle.cct_world.specs.Step.{CutsIn, LastsIn, crashes, crashes_of};
 
 use crate::WorldNo;
 use crate::machine::Machine;
@@ -33,7 +30,7 @@ pub struct World<'s, D: Disk> {
 }
 
 impl<'s, D: Disk> World<'s, D> {
-    ghost use Rattle.cct_world.specs.World.{Breaks, Plays, RestartsBy, StandsFor, disk_of, setup_of, used_of};
+    ghost use Rattle.cct_world.specs.World.{StandsFor, StepPlayed, StepUnplayed, disk_of, setup_of};
 
     /// A machine with the devices of a setup, on which nothing has happened, over a journal without records. This takes
     /// all memory that the machine ever has.
@@ -51,7 +48,7 @@ impl<'s, D: Disk> World<'s, D> {
         ensures disk { MatchResult result (λ world. disk_of world ≡ journals.disk_of journal)
             (λ e. e.0 ≡ journals.disk_of journal) }
         ensures fresh { IfOk result (λ world. (IsTrusted D.honest D.seen (journals.disk_of journal)
-            → HasBook setup.now D.honest D.seen D.may_leave (journals.disk_of journal) (journals.place_of journal) [])
+            → KeepsRecords setup.now D.honest D.seen D.may_leave (journals.disk_of journal) (journals.place_of journal) [])
             → StandsFor world []) }
     {
         let bus = match Bus::new(alloc, setup) {
@@ -77,9 +74,9 @@ impl<'s, D: Disk> World<'s, D> {
 
     /// Plays one step; the report is replaced by the entries of the step.
     ///
-    /// Fails only where a call of the disk failed, in a `next` whose job had a record to put or in a loss of power, or
-    /// where a loss of power left another journal than was there. Then the report is empty, the world is gone, and the
-    /// disk is given back: whether the record stands there is open.
+    /// Fails only if a call of the disk failed, in a `next` whose job had a record to put or in a power cut, or if a power
+    /// cut left another journal than was there. Then the report is empty, the world is gone, and the disk is given back:
+    /// whether the record stands there is open.
     pub fn step(
         self,
         step: &Step,
@@ -88,25 +85,8 @@ impl<'s, D: Disk> World<'s, D> {
         requires known { IsTrue (is_known (setup_of self) step.now) }
         requires in_range { IsInRange step.now }
         requires played { IsTrue (is_played step.now) }
-        ensures setup { IfOk result (λ world. setup_of world ≡ setup_of self.entry) }
-        ensures plays { IfOk result (λ world. Plays self.entry world step.now report.new.items) }
-        ensures empty { OnErr result (report.new.items ≡ []) }
-        ensures told { IfOk result (λ world. crashes (reverse report.new.items) ≡ crashes_of step.now) }
-        ensures counts { IfOk result (λ world.
-            used_of world ≡ used_of self.entry + length (records (reverse report.new.items))) }
-        ensures restarts { IfOk result (λ world.
-            RestartsBy self.entry world step.now (reverse report.new.items)) }
-        ensures cut { MatchResult result (λ world. CutsIn step.now D.size D.honest D.seen D.cuts D.cut_to
-            (disk_of self.entry) (disk_of world)) (λ e. e.1 ≢ WorldNo.Disk
-            → CutsIn step.now D.size D.honest D.seen D.cuts D.cut_to (disk_of self.entry) e.0) }
-        ensures breaks { IfErr result (λ e. Breaks self.entry e.0 e.1 step.now) }
-        ensures cause { IfErr result (λ e. e.1 ≡ WorldNo.Disk → Rose (D.faults (disk_of self.entry)) (D.faults e.0)) }
-        ensures lost { IfErr result (λ e. e.1 ≢ WorldNo.Disk → Rose (D.cuts (disk_of self.entry)) (D.cuts e.0)) }
-        ensures lasts { MatchResult result
-            (λ world. LastsIn step.now D.size D.honest D.seen D.cuts (disk_of self.entry) (disk_of world))
-            (λ e. LastsIn step.now D.size D.honest D.seen D.cuts (disk_of self.entry) e.0) }
-        ensures later { MatchResult result (λ world. D.faults (disk_of self.entry) ≤ D.faults (disk_of world))
-            (λ e. D.faults (disk_of self.entry) ≤ D.faults e.0) }
+        ensures played { IfOk result (λ world. StepPlayed self.entry world step.now report.new.items) }
+        ensures unplayed { IfErr result (λ e. StepUnplayed self.entry e.0 e.1 step.now report.new.items) }
     {
         let World { mut machine } = self;
         match machine.step(step, report) {

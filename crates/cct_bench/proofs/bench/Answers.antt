@@ -4,7 +4,7 @@ use Rattle.cct_edge.specs.Faults.{Rose}
 use Rattle.cct_model.specs.Script.{script}
 use Rattle.cct_journal.specs.Image.{IsBlank}
 use Rattle.cct_bench.specs.declared.play.TheConstants.{JOURNAL_BYTES}
-use Rattle.cct_world.specs.Sure.{losses_in}
+use Rattle.cct_world.specs.Relying.{losses_in}
 use Rattle.cct_gen.specs.Load.{load_steps}
 use Rattle.cct_bench.specs.declared.outcome.Status.TheVariants as status
 use Rattle.cct_bench.specs.Disks.{disks}
@@ -43,7 +43,7 @@ returns-in-Ok-clause-complete g c is_run =
     → Honest ⊎ (losses_in (script bytes).steps ≡ 0) → (Read → ⊥) → (Write → ⊥) → (Failed → ⊥)
     → Completes (script bytes).refused s)) (source.left script0)
     (λ bytes. told_completes bytes s (source.left script1) W B ds Read Write Failed Honest (disk.seen c.args.disk) refl
-    (λ honest tells. (honest, tells)) ran.read_cause ran.write_cause ran.disk_cause) ran.ran
+    (λ honest tells. (honest, tells)) ran.source.rose ran.sink.rose ran.disk.rose) ran.ran
 
 pub returns-in-Err-clause-complete : goal.returns-in-Err-clause-complete
 returns-in-Err-clause-complete g c is_run =
@@ -127,7 +127,7 @@ returns-in-Ok-Load-clause-load_complete g c =
     → Honest ⊎ (losses_in (load_steps seed rounds) ≡ 0) → (Write → ⊥) → (Failed → ⊥) → IsOrMemory status.Done s))
     (c.in-Ok-Load.ensures.said ∙ ap Some c.in-Ok-Load.field-0-is)
     (load_completes c.in-Ok-Load.seed c.in-Ok-Load.rounds s W B ds Write Failed Honest (disk.seen c.args.disk) refl
-    (λ honest tells. (honest, tells)) load.write_cause load.disk_cause load.loaded)
+    (λ honest tells. (honest, tells)) load.sink.rose load.disk.rose load.loaded)
 
 pub returns-in-Err-Memory-clause-loaded : goal.returns-in-Err-Memory-clause-loaded
 returns-in-Err-Memory-clause-loaded g c seed rounds is =

@@ -4,4 +4,5 @@ use Rattle.cct_laws.proofs.money.Journal.{legal_due_allowed}
 use Rattle.cct_laws.proofs.a_ledger_takes_each_put.Goals as goal
 
 pub returns : goal.returns
-returns c = λ capacity setup steps transcript. legal_due_allowed capacity setup steps (onto [] transcript)
+returns c = λ capacity setup steps transcript sound in_range legal addr r.
+    legal_due_allowed capacity setup steps (onto [] transcript) addr r sound in_range legal

@@ -19,11 +19,12 @@ use Rattle.cct_model.specs.Acceptor.{settings, events, no_event, last_five, cred
 use Rattle.cct_model.specs.Device.{IsSound, IsSoundBody, IsId, IsAcceptor, common_reply, reply_of}
 use Rattle.cct_model.specs.Job.{own_requests, ident_requests}
 use Rattle.cct_model.specs.Script.{IsCommand}
-use Rattle.cct_laws.specs.Kept.{is_for_acceptor}
+use Rattle.cct_laws.specs.DeviceJobs.{is_for_acceptor}
 use Rattle.cct_laws.proofs.Exchanges.{Replied}
 use Rattle.cct_laws.proofs.Replies.{start_of, ids_of, acceptor_is, replied_credits, replied_mask}
 use Rattle.cct_laws.proofs.CommonReplies.{answers_so, reset_replied, also, ident_replied}
-use Rattle.cct_model.proofs.Rows.{Each, EachRow, each_asked, Asks}
+use Rattle.cct_model.proofs.Requests.{Each}
+use Rattle.cct_model.proofs.Rows.{EachRow, each_asked, Asks}
 use Rattle.cct_model.specs.Rows.{rows_of}
 
 -- a sound acceptor

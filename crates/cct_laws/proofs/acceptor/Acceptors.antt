@@ -15,17 +15,17 @@ use Rattle.cct_model.specs.Reply.{Reply}
 use Rattle.cct_model.specs.Script.{IsCommand}
 use Rattle.cct_model.specs.History.{Met, heard}
 use Rattle.cct_model.specs.Device.{IsAcceptor}
-use Rattle.cct_model.specs.Line.{Line, exchange, put, crashed}
+use Rattle.cct_model.specs.Line.{Line, exchange, put, restarted}
 use Rattle.cct_model.specs.Order.{order}
 use Rattle.cct_model.specs.Job.{works, job, sends, puts, ident_requests, Payment, payment_in, epoch, credits_read, judged_in, address_of}
 use Rattle.cct_model.specs.Rows.{Then, ends_as, if_quiet, if_posted, new_epoch, reading, epoch_end, TableRow, asks_for, asks_once, waits_for_coins, puts_due, row, rows_of, rest, from, first, done, sent_once, end_of, end_kept, end_by_record}
 use Rattle.cct_model.proofs.Rows.{EachRow, EachBefore, before_on, fact_after, Behind, behind_answer, behind_record, PutEnds, each_told, put_end}
-use Rattle.cct_laws.specs.Kept.{Fate, unheard, silenced, answered, IsForOthers, is_for_acceptor, with_ended}
+use Rattle.cct_laws.specs.DeviceJobs.{Fate, unheard, silenced, answered, IsForOthers, is_for_acceptor, with_ended}
 use Rattle.cct_laws.proofs.EitherKind.{for_acceptor}
-use Rattle.cct_laws.specs.Since.{IsKept}
+use Rattle.cct_laws.specs.SinceEpoch.{IsKept}
 use Rattle.cct_model.specs.Claims.{mark, base, InOrder, Covers, Pace}
 use Rattle.cct_laws.proofs.acceptor.World.{World, world, closed, on_nothing}
-use Rattle.cct_laws.proofs.acceptor.Fits.{Book, book, StateOf, FitsAt, Fits, at_on}
+use Rattle.cct_laws.proofs.acceptor.Fits.{ReadSoFar, read_so_far, StateOf, FitsAt, Fits, at_on}
 use Rattle.cct_laws.proofs.acceptor.Moves.{Sound, sound_line, sound_exchange, keeps_ended, Keeps, KeepsAsk, AtRows, IfOther, IsMild, IsNeutral, keeps_accepted, keeps_inhibited, keeps_alien, keeps_reset, keeps_taken, keeps_with_ended, answered_at, next_at, on_heard, fits_at, by_fate, request_is, entry_is, IsOtherEnd}
 use Rattle.cct_laws.proofs.acceptor.Starts.{resets, reads_quiet, unsure, opens, begins}
 use Rattle.cct_laws.proofs.acceptor.Rounds.{reads, looks}
@@ -48,14 +48,14 @@ neutral_mild (SetMaster value) neutral = absurd neutral
 neutral_mild q neutral = tt
 
 neutral_told : (w : World) (lines : List Line) (c : Command) (since : List Line) (rows : List TableRow) (q : Request)
-    (y : Reply) → IsNeutral q → FitsAt w (book lines) rows (credits_read since) (judged_in c since (epoch lines)) →
-    FitsAt w (book (exchange (Some q) (Some y) ∷ lines)) rows (credits_read (exchange (Some q) (Some y) ∷ since))
+    (y : Reply) → IsNeutral q → FitsAt w (read_so_far lines) rows (credits_read since) (judged_in c since (epoch lines)) →
+    FitsAt w (read_so_far (exchange (Some q) (Some y) ∷ lines)) rows (credits_read (exchange (Some q) (Some y) ∷ since))
     (judged_in c (exchange (Some q) (Some y) ∷ since) (epoch lines))
 neutral_told w lines c since rows ReadCredits y neutral fits = absurd neutral
 neutral_told w lines c since rows GetMask y neutral fits = absurd neutral
 neutral_told w lines c since rows q y neutral fits = fits
 
-neutral_passes : (w : World) (b : Book) (q : Request) (behind : Then) (rows : List TableRow) (credits : Option Credits)
+neutral_passes : (w : World) (b : ReadSoFar) (q : Request) (behind : Then) (rows : List TableRow) (credits : Option Credits)
     (judged : Judged) → IsNeutral q → FitsAt w b (asks_for q behind ∷ rows) credits judged →
     FitsAt w b rows credits judged
 neutral_passes w b ResetDevice behind rows credits judged neutral fits = absurd neutral
@@ -67,7 +67,7 @@ neutral_passes w b q behind rows credits judged neutral fits = fits
 asks_neutral : (d : DeviceSetup) (past : List Met) (lines : List Line) (c : Command) (since : List Line) (q : Request)
     (behind : Then) (rows : List TableRow) (asked : Option Request) (got : Option Reply) →
     AtRows d past lines c since (asks_for q behind ∷ rows) → IsNeutral q → Behind IsOtherEnd behind →
-    FitsAt (world past lines) (book lines) (asks_for q behind ∷ rows) (credits_read since)
+    FitsAt (world past lines) (read_so_far lines) (asks_for q behind ∷ rows) (credits_read since)
     (judged_in c since (epoch lines)) →
     Fate d past q asked got → KeepsAsk d past lines c since q asked got
 asks_neutral d past lines c since q behind rows asked got at neutral other fits fate =
@@ -77,13 +77,13 @@ asks_neutral d past lines c since q behind rows asked got at neutral other fits 
     let line = exchange (Some q) (Some y) in
     let on = on_heard past lines q mild in
     let later =
-    neutral_passes (world past lines) (book lines) q behind rows (credits_read since) (judged_in c since (epoch lines))
+    neutral_passes (world past lines) (read_so_far lines) q behind rows (credits_read since) (judged_in c since (epoch lines))
     neutral fits in
     answered_at d past lines c since (asks_for q behind ∷ rows) q y at
     (keeps_with_ended d now (line ∷ lines) _ (behind_answer IsOtherEnd behind y _ other)
     (next_at d past lines c since (asks_for q behind) rows q y at refl on
     (neutral_told (world now lines) lines c since rows q y neutral
-    (at_on (world past lines) (world now lines) (book lines) rows (credits_read since) (judged_in c since (epoch lines))
+    (at_on (world past lines) (world now lines) (read_so_far lines) rows (credits_read since) (judged_in c since (epoch lines))
     on later))))) fate
 
 -- or that is sent once
@@ -120,7 +120,7 @@ as_asked d past lines c since x q asked got row keeps =
 asks_at : (d : DeviceSetup) (past : List Met) (lines : List Line) (c : Command) (since : List Line)
     (rows : List TableRow) (p : Payment) (q : Request) (asked : Option Request) (got : Option Reply) →
     IsAcceptor d.body → EachBefore Leads rows → AtRows d past lines c since rows →
-    FitsAt (world past lines) (book lines) rows (credits_read since) (judged_in c since (epoch lines)) →
+    FitsAt (world past lines) (read_so_far lines) rows (credits_read since) (judged_in c since (epoch lines)) →
     first (address_of c) (judged_in c since (epoch lines)) p rows ≡ sends q → Fate d past q asked got →
     KeepsAsk d past lines c since q asked got
 asks_at d past lines c since [] p q asked got accepting each at fits row = absurd cc
@@ -175,7 +175,7 @@ keeps_asks d past lines c since q asked got accepting suited in_range is_job row
 puts_at : (d : DeviceSetup) (past : List Met) (lines : List Line) (c : Command) (since : List Line)
     (rows : List TableRow) (p : Payment) (r : Record) → job lines ≡ works c since → rest d c since ≡ rows →
     EachBefore Leads rows →
-    FitsAt (world past lines) (book lines) rows (credits_read since) (judged_in c since (epoch lines)) →
+    FitsAt (world past lines) (read_so_far lines) rows (credits_read since) (judged_in c since (epoch lines)) →
     first (address_of c) (judged_in c since (epoch lines)) p (from rows (judged_in c since (epoch lines))) ≡ puts r →
     Keeps d past lines → Keeps d past (with_ended (end_kept rows r) (put r ∷ lines))
 puts_at d past lines c since [] p r is_job rest_is each fits row keeps = absurd cc
@@ -204,10 +204,10 @@ keeps_puts d past lines c since r suited in_range is_job row_is keeps =
     puts_at d past lines c since (rest d c since) (payment_in since (order lines)) r is_job refl
     (left_leads d c since suited in_range) (fits_at d past lines c since is_job keeps) row_is keeps
 
--- the host loses its power
-keeps_crashed : (d : DeviceSetup) (past : List Met) (lines : List Line) → Keeps d past lines → Keeps d past (crashed ∷ lines)
-keeps_crashed d past lines keeps = record {
-  sound = sound_line past past lines crashed tt (λ _. tt) keeps.sound.marked keeps.sound.state keeps.sound;
+-- the power is cut
+keeps_restarted : (d : DeviceSetup) (past : List Met) (lines : List Line) → Keeps d past lines → Keeps d past (restarted ∷ lines)
+keeps_restarted d past lines keeps = record {
+  sound = sound_line past past lines restarted tt (λ _. tt) keeps.sound.marked keeps.sound.state keeps.sound;
   fits = tt;
 }
 
@@ -220,7 +220,7 @@ pub put_other : (d : DeviceSetup) (c : Command) (r : Record) (since : List Line)
     IfOther (end_of d c (put r) since state)
 put_other d c r since state = put_end IsOtherEnd d c r since state (other_puts d c)
 
--- what holds behind another end held before it
+-- what holds after another end held before it
 unended : (d : DeviceSetup) (past : List Met) (lines : List Line) (end : Option End) → IfOther end → Keeps d past (with_ended end lines) →
     Sound past lines
 unended d past lines None other keeps = keeps.sound
@@ -232,9 +232,9 @@ unended d past lines (Some end) other keeps = record {
   state = keeps.sound.state;
 }
 
--- a record behind a loss of power tells what it would have told before it
+-- a record after a power cut tells what it would have told before it
 sound_kept : (past : List Met) (lines : List Line) (r : Record) → Sound past (put r ∷ lines) →
-    Sound past (put r ∷ crashed ∷ lines)
+    Sound past (put r ∷ restarted ∷ lines)
 sound_kept past lines (record_of.Epoch addr mask) sound = record {
   in_order = (sound.in_order.0, (tt, sound.in_order.1));
   covers = λ pace. let before = sound.covers (pace.0, pace.1.1) in (before.0, (tt, before.1));
@@ -262,13 +262,13 @@ sound_kept past lines r sound = record {
 
 keeps_kept_record : (d : DeviceSetup) (past : List Met) (lines : List Line) (c : Command) (since : List Line)
     (r : Record) → Keeps d past (with_ended (end_of d c (put r) since (epoch lines)) (put r ∷ lines)) →
-    Keeps d past (put r ∷ crashed ∷ lines)
+    Keeps d past (put r ∷ restarted ∷ lines)
 keeps_kept_record d past lines c since r keeps = record {
   sound = sound_kept past lines r (unended d past (put r ∷ lines) _ (put_other d c r since (epoch lines)) keeps);
   fits = tt;
 }
 
--- a piece that changes nothing
+-- bytes that change nothing
 
 keeps_same : (d : DeviceSetup) (past now : List Met) (lines : List Line) → world now lines ≡ world past lines → Keeps d past lines → Keeps d now lines
 keeps_same d past now lines same keeps = record {
@@ -278,7 +278,7 @@ keeps_same d past now lines same keeps = record {
     marked = keeps.sound.marked;
     state = subst (λ w. StateOf w (mark lines) (base lines) (epoch lines)) (sym same) keeps.sound.state;
   };
-  fits = subst (λ w. Fits d w (book lines) (job lines)) (sym same) keeps.fits;
+  fits = subst (λ w. Fits d w (read_so_far lines) (job lines)) (sym same) keeps.fits;
 }
 
 keeps_passed : (d : DeviceSetup) (past : List Met) (lines : List Line) (asked : Option Request) → IsForOthers asked → Keeps d past lines → Keeps d (heard asked ∷ past) lines
@@ -312,7 +312,7 @@ keeps_kept d accepting = record {
   asks = λ since past lines c work q asked got at row_is fate keeps.
       keeps_asks d past lines c work q asked got accepting (for_acceptor d.body c accepting at.suited) at.in_range at.job_is
       row_is fate keeps;
-  crashes = λ since past lines keeps. keeps_crashed d past lines keeps;
+  restarts = λ since past lines keeps. keeps_restarted d past lines keeps;
   keeps = λ since past lines c work r at row_is keeps.
       keeps_kept_record d past lines c work r
       (keeps_puts d past lines c work r (for_acceptor d.body c accepting at.suited) at.in_range at.job_is row_is keeps);

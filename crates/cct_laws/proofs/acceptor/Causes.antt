@@ -16,7 +16,7 @@ use Rattle.cct_model.specs.Records.{records}
 use Rattle.cct_model.specs.Transcript.{met, lines_of}
 use Rattle.cct_laws.specs.Ids.{Ids}
 use Rattle.cct_laws.specs.Law.{IsOf}
-use Rattle.cct_laws.specs.Since.{since_epoch, HasCause, HasCauseAt, HaveCauses}
+use Rattle.cct_laws.specs.SinceEpoch.{since_epoch, HasCause, HasCauseAt, HaveCauses}
 use Rattle.cct_laws.proofs.jobs.Brought.{AtDevice, came, took, halted, idled, made_exchange, made_put, AtWork, Brought, row_after, wire_of, wire_end, record_end}
 use Rattle.cct_laws.proofs.EitherKind.{for_acceptor}
 use Rattle.cct_laws.proofs.Keeping.{HoldsAt, IsRanged}
@@ -51,7 +51,7 @@ causes_there capacity setup d past _ _ accepting ranged (made_put c since r at_w
     each_with_end (HasCauseAt d) past d.addr (entry.Put r) (record_end d past c since r)
     (put_caused d past c since r accepting ranged at_work is_row masks) (λ older end. tt) before
 
--- what is behind a loss of power is as before it
+-- what is after a power cut is as before it
 cause_behind : (d : DeviceSetup) (past : List Entry) (records : ℕ) (r : Record) → HasCause d past r →
     HasCause d (entry.Crash records ∷ past) r
 cause_behind d past records (record_of.Broken addr seen counter posted) caused = caused

@@ -27,14 +27,15 @@ use Rattle.cct_model.specs.Honest.{Honest}
 use Rattle.cct_model.specs.Job.{Payment, payment_in, judged_in, epoch, puts, ident_requests, address_of}
 use Rattle.cct_model.specs.Rows.{row, end_of, done, Due, new_order, rows_of, order_end}
 use Rattle.cct_model.specs.Legal.{Legal}
-use Rattle.cct_model.specs.Line.{Line, exchange, put, crashed}
+use Rattle.cct_model.specs.Line.{Line, exchange, put, restarted}
 use Rattle.cct_model.specs.Order.{order, close, life_between}
 use Rattle.cct_model.specs.Script.{IsInRange}
 use Rattle.cct_model.specs.Setup.{IsSoundSetup}
 use Rattle.cct_model.specs.Transcript.{dispensed_by, doses}
-use Rattle.cct_laws.specs.Kept.{is_for_hopper, with_ended}
+use Rattle.cct_laws.specs.DeviceJobs.{is_for_hopper, with_ended}
 use Rattle.cct_laws.specs.KeptHopper.{IsKeptHopper}
 use Rattle.cct_laws.specs.Law.{IsOf, lines_in}
+use Rattle.cct_laws.specs.Scope.{EachHopper}
 use Rattle.cct_laws.proofs.acceptor.Acceptors.{put_other}
 use Rattle.cct_laws.proofs.EitherKind.{for_hopper, kind_of}
 use Rattle.cct_laws.proofs.acceptor.Moves.{IfOther, IsOtherEnd, failure_other}
@@ -150,11 +151,11 @@ coinless_kept d paying = record {
   takes = λ past lines c no_job here in_range suited fine less.
       record { in_order = (tt, less.in_order); covers = (tt, less.covers) };
   halts = λ past lines can less. record { in_order = (tt, less.in_order); covers = (tt, less.covers) };
-  crashes = λ past lines less. record { in_order = (tt, less.in_order); covers = (tt, less.covers) };
+  restarts = λ past lines less. record { in_order = (tt, less.in_order); covers = (tt, less.covers) };
   asks = λ past lines c work q asked got at row_is fate less.
       coinless_asks d past lines c work q asked got (for_hopper d.body c paying at.suited) less;
   keeps = λ past lines c work r at row_is less.
-      coinless_put (crashed ∷ lines) r
+      coinless_put (restarted ∷ lines) r
       (puts_of_order d c work (epoch lines) (order lines) r (for_hopper d.body c paying at.suited) row_is)
       (record { in_order = (tt, less.in_order); covers = (tt, less.covers) });
   puts = λ past lines c work r at row_is less.
@@ -163,9 +164,7 @@ coinless_kept d paying = record {
       (puts_of_order d c work (epoch lines) (order lines) r (for_hopper d.body c paying at.suited) row_is) less);
 }
 
-legal_coinless : (capacity : ℕ) (setup : Setup) (steps : List Step) (transcript : List Entry) (d : DeviceSetup) →
-    IsSoundSetup setup → IsOf setup d → IsHopper d.body → All IsInRange steps → Legal capacity setup steps transcript →
-    Honest transcript → InOrder (lines_in d transcript) × Covers (lines_in d transcript)
+legal_coinless : EachHopper (λ d transcript. InOrder (lines_in d transcript) × Covers (lines_in d transcript))
 legal_coinless capacity setup steps transcript d sound own paying in_range legal honest =
     let less = kept_hopper_legal capacity setup steps transcript d (λ past lines. Coinless lines) sound own paying in_range
     legal honest (coinless_kept d paying) in

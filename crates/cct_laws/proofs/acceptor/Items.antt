@@ -10,7 +10,7 @@ use Rattle.cct_model.specs.Line.{Line, accepted, put, ended}
 use Rattle.cct_model.specs.Job.{epoch, counted, credits_line}
 use Rattle.cct_model.specs.Claims.{coins, arrivals, reading, behind, mark, base, IsNear}
 use Rattle.cct_laws.proofs.acceptor.World.{World, world, Shut, Silent, closed}
-use Rattle.cct_laws.proofs.acceptor.Fits.{book, StateOf, TracksIn, Posts, Breaks, Nears, IsIdle}
+use Rattle.cct_laws.proofs.acceptor.Fits.{read_so_far, StateOf, TracksIn, Posts, Breaks, Nears, IsIdle}
 use Rattle.cct_laws.proofs.acceptor.Moves.{Sound, Keeps, sound_line}
 use Rattle.cct_model.specs.terms.device.DeviceSetup.{DeviceSetup}
 
@@ -31,7 +31,7 @@ reading_fewer (line ∷ lines) =
     let more = coins_more lines line in
     omega (arith, fewer, more)
 
--- the part of an item has as many coins as there are behind the mark
+-- the part of an item has as many coins as there are after the mark
 
 part_length : (cs : List Coin) (m n : ℕ) → length cs ≤ m + n → length (take (length cs - m) cs) ≤ n
 part_length cs m n few = omega (arith, length-take (length cs - m) cs, few)
@@ -42,7 +42,7 @@ part_none cs m few =
     ap (λ i. take i cs) none
 
 -- a clean end
-pub keeps_clean : (d : DeviceSetup) (past : List Met) (lines : List Line) → Sound past lines → Nears (world past lines) (book lines) → Keeps d past (ended Clean ∷ lines)
+pub keeps_clean : (d : DeviceSetup) (past : List Met) (lines : List Line) → Sound past lines → Nears (world past lines) (read_so_far lines) → Keeps d past (ended Clean ∷ lines)
 keeps_clean d past lines sound nears = record {
   sound = sound_line past past lines (ended Clean) nears.goes_on (λ near. part_none (coins (reading lines)) (mark lines) (nears.none near)) (reading_fewer lines) nears.state sound;
   fits = tt;
@@ -75,7 +75,7 @@ counted_state : (w : World) (m n k t : ℕ) (from : Option ℕ) (state : EpochSt
 counted_state w m n k t from Idle rests tracks = absurd tracks
 counted_state w m n k t from (Running mask c) runs tracks = record { begun = t; based = refl; live = runs.live; tracks = tracks }
 
-pub sound_reading : (past : List Met) (lines : List Line) (addr k lost : ℕ) (posted : List Coin) → Posts (world past lines) (book lines) k lost posted → Sound past lines →
+pub sound_reading : (past : List Met) (lines : List Line) (addr k lost : ℕ) (posted : List Coin) → Posts (world past lines) (read_so_far lines) k lost posted → Sound past lines →
     Sound past (put (record_of.Reading addr k lost posted) ∷ lines)
 sound_reading past lines addr k lost posted posts sound =
     sound_line past past lines (put (record_of.Reading addr k lost posted)) (posts.reads.goes_on, posts.reads.newest)
@@ -83,7 +83,7 @@ sound_reading past lines addr k lost posted posts sound =
     (counted_state (world past lines) (mark lines) (length (coins (reading lines))) k (arrivals (reading lines)) (base lines) (epoch lines) sound.state posts.tracks) sound
 
 -- a break
-pub sound_broken : (past : List Met) (lines : List Line) (addr seen k : ℕ) (posted : List Coin) → Breaks (world past lines) (book lines) posted → Sound past lines →
+pub sound_broken : (past : List Met) (lines : List Line) (addr seen k : ℕ) (posted : List Coin) → Breaks (world past lines) (read_so_far lines) posted → Sound past lines →
     Sound past (put (record_of.Broken addr seen k posted) ∷ lines)
 sound_broken past lines addr seen k posted breaks sound =
     sound_line past past lines (put (record_of.Broken addr seen k posted)) (breaks.goes_on, breaks.newest) (λ near. tt) (omega (arith, breaks.marked))

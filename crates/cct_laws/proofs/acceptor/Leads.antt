@@ -10,8 +10,9 @@ use Rattle.cct_model.specs.lines.entry.End.TheVariants.{Told}
 use Rattle.cct_model.specs.Job.{ident_requests}
 use Rattle.cct_model.specs.Rows.{Then, goes_on, ends_as, if_quiet, path_told, if_posted, new_epoch, reading, epoch_end, TableRow, asks_for, asks_once, puts_due, telling, rows_of}
 use Rattle.cct_model.specs.Script.{IsCommand}
-use Rattle.cct_model.proofs.Rows.{Behind, Each, EachBefore}
-use Rattle.cct_laws.specs.Kept.{is_for_acceptor}
+use Rattle.cct_model.proofs.Requests.{Each}
+use Rattle.cct_model.proofs.Rows.{Behind, EachBefore}
+use Rattle.cct_laws.specs.DeviceJobs.{is_for_acceptor}
 use Rattle.cct_laws.proofs.acceptor.Fits.{AfterReset, AfterQuiet, AfterCredits, AfterShut, AfterMask, AfterEpoch}
 use Rattle.cct_laws.proofs.acceptor.Moves.{IsOtherEnd, IsNeutral, neutral_if, ident_neutral}
 use Rattle.cct_laws.proofs.acceptor.Rounds.{IsAfterLook, IsAfterReading}

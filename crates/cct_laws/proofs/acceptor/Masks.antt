@@ -25,11 +25,11 @@ use Rattle.cct_model.specs.Rows.{ends_as, TableRow, asks_for, asks_once, waits_f
 use Rattle.cct_model.specs.Script.{IsCommand}
 use Rattle.cct_model.specs.terms.coin.Credits.{Credits}
 use Rattle.cct_laws.proofs.EitherKind.{for_acceptor}
-use Rattle.cct_laws.specs.Kept.{is_for_acceptor, Fate, unheard, silenced, answered, IsForOthers, with_ended}
-use Rattle.cct_laws.specs.Since.{since_record, mask_set_in, IsMaskedBy, MayBreak, IsKeptSince}
+use Rattle.cct_laws.specs.DeviceJobs.{is_for_acceptor, Fate, unheard, silenced, answered, IsForOthers, with_ended}
+use Rattle.cct_laws.specs.SinceEpoch.{since_record, mask_set_in, IsMaskedBy, MayBreak, IsKeptSince}
 use Rattle.cct_model.proofs.Rows.{EachBefore}
 use Rattle.cct_laws.proofs.acceptor.World.{World, Silent, IsLive, mask_at, world}
-use Rattle.cct_laws.proofs.acceptor.Fits.{Book, book, StateOf, IsRunning, FitsAt}
+use Rattle.cct_laws.proofs.acceptor.Fits.{ReadSoFar, read_so_far, StateOf, IsRunning, FitsAt}
 use Rattle.cct_laws.proofs.acceptor.Moves.{Keeps, fits_at, request_is}
 use Rattle.cct_laws.proofs.acceptor.Acceptors.{left_leads, keeps_kept}
 use Rattle.cct_laws.proofs.acceptor.Leads.{Leads}
@@ -84,7 +84,7 @@ reset_masked Idle since past = tt
 reset_masked (Running mask counter) since past = inr (refl, refl)
 
 -- what the rows of a job send
-first_asks : (w : World) (b : Book) (addr : ℕ) (credits : Option Credits) (judged : Judged) (p : Payment)
+first_asks : (w : World) (b : ReadSoFar) (addr : ℕ) (credits : Option Credits) (judged : Judged) (p : Payment)
     (rows : List TableRow) (q : Request) → EachBefore Leads rows → FitsAt w b rows credits judged →
     first addr judged p rows ≡ sends q → Asks b.epoch q
 first_asks w b addr credits judged p [] q each fits row = absurd cc
@@ -104,7 +104,7 @@ row_asks : (d : DeviceSetup) (past : List Met) (lines : List Line) (c : Command)
     is_for_acceptor c ≡ true → IsCommand c → job lines ≡ works c work → Keeps d past lines →
     row d c work (epoch lines) (order lines) ≡ sends q → Asks (epoch lines) q
 row_asks d past lines c work q suited in_range is_job keeps row_is =
-    first_asks (world past lines) (book lines) (address_of c) (credits_read work) (judged_in c work (epoch lines))
+    first_asks (world past lines) (read_so_far lines) (address_of c) (credits_read work) (judged_in c work (epoch lines))
     (payment_in work (order lines)) (rest d c work) q (left_leads d c work suited in_range)
     (fits_at d past lines c work is_job keeps) (rest_asks d c work (epoch lines) (order lines) q row_is)
 
@@ -155,7 +155,7 @@ masks_kept d accepting =
         masked = with_ended_masked _ (exchange (Some q) got ∷ lines) (heard asked ∷ since) (heard asked ∷ past)
             (fate_masked d (epoch lines) q asked got since past (row_asks d past lines c work q (for_acceptor d.body c accepting at_work.suited) at_work.in_range at_work.job_is holds.keeps is_row) fate holds.masked);
       };
-      crashes = λ since past lines holds. record { keeps = kept.crashes since past lines holds.keeps; masked = holds.masked };
+      restarts = λ since past lines holds. record { keeps = kept.restarts since past lines holds.keeps; masked = holds.masked };
       keeps = λ since past lines c work r at_work is_row holds. record {
         keeps = kept.keeps since past lines c work r at_work is_row holds.keeps;
         masked = put_masked d (epoch lines) r since past lines

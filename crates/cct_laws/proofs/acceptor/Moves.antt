@@ -1,4 +1,4 @@
--- What holds of an acceptor after every step, and how pieces, commands, ends and exchanges keep it.
+-- What holds of an acceptor after every step, and how objects, commands, ends and exchanges keep it.
 use Rattle.std.proofs.Common.{◌≡◌, ℕ, suc, ◌≤◌, cond, true, false, List, ◌∷◌, length, refl, sym, subst, Option, Some, None, arith, rules, [], ◌==◌, Bool}
 use Rattle.std.specs.Prelude.{⊤}
 use Rattle.cct_model.specs.terms.coin.Coin.{Coin}
@@ -21,7 +21,8 @@ use Rattle.cct_model.specs.Line.{Line, accepted, inhibited, exchange, taken, end
 use Rattle.cct_model.specs.Line as line
 use Rattle.cct_model.specs.Job.{works, job, with_line, epoch, credits_read, judged_in, sends, puts, ident_requests}
 use Rattle.cct_model.specs.Rows.{Then, TableRow, asks_for, telling, rows_of, end_of, end_answered, ends_first, after, rest, left, sent_once}
-use Rattle.cct_model.proofs.Rows.{IfEnd, Each, EachRow, BareEnds, each_told, failed_end, after_none, ended_leaves}
+use Rattle.cct_model.proofs.Requests.{Each}
+use Rattle.cct_model.proofs.Rows.{IfEnd, EachRow, BareEnds, each_told, failed_end, after_none, ended_leaves}
 use Rattle.cct_model.specs.terms.coin.Credits.{Credits}
 use Rattle.cct_model.specs.terms.device.DeviceBody.{DeviceBody}
 use Rattle.cct_model.specs.terms.device.DeviceBody.TheVariants.{Acceptor, Hopper}
@@ -29,9 +30,9 @@ use Rattle.cct_model.specs.declared.judging.Judged.{Judged}
 use Rattle.cct_model.specs.declared.judging.Judged.TheVariants.{Nothing}
 use Rattle.cct_model.specs.Refusal.{start_refusal, running_refusal}
 use Rattle.cct_model.specs.Claims.{coins, mark, base, OrderAt, CoverAt, PaceAt, InOrder, Covers, Pace}
-use Rattle.cct_laws.specs.Kept.{is_for_acceptor, Fate, unheard, silenced, answered, with_ended, IsTaken}
+use Rattle.cct_laws.specs.DeviceJobs.{is_for_acceptor, Fate, unheard, silenced, answered, with_ended, IsTaken}
 use Rattle.cct_laws.proofs.acceptor.World.{World, world, On, on_coin, on_piece, on_reset, on_master, on_path, on_default, on_nothing}
-use Rattle.cct_laws.proofs.acceptor.Fits.{Book, book, StateOf, IsIdle, IsRunning, FitsAt, Fits, state_on, at_on, fits_on}
+use Rattle.cct_laws.proofs.acceptor.Fits.{ReadSoFar, read_so_far, StateOf, IsIdle, IsRunning, FitsAt, Fits, state_on, at_on, fits_on}
 use Rattle.cct_model.proofs.RowEnds.{failed_stays}
 
 -- what holds after every line
@@ -44,7 +45,7 @@ pub record Sound (past : List Met) (lines : List Line) : Type 0 where
 -- what holds after every step
 pub record Keeps (d : DeviceSetup) (past : List Met) (lines : List Line) : Type 0 where
   pub sound : Sound past lines
-  pub fits : Fits d (world past lines) (book lines) (job lines)
+  pub fits : Fits d (world past lines) (read_so_far lines) (job lines)
 
 -- what a line has to show
 pub sound_line : (past now : List Met) (lines : List Line) (line : Line) → OrderAt lines line → (PaceAt lines line → CoverAt lines line) →
@@ -57,12 +58,12 @@ sound_line past now lines line order cover marked state sound = record {
   state = state;
 }
 
--- a piece
+-- an object
 
 record IsPiece (lines : List Line) (line : Line) : Type 0 where
   orders : OrderAt lines line
   covers : CoverAt lines line
-  book_stays : book (line ∷ lines) ≡ book lines
+  book_stays : read_so_far (line ∷ lines) ≡ read_so_far lines
   job_stays : job (line ∷ lines) ≡ job lines
 
 keeps_piece : (d : DeviceSetup) (past now : List Met) (lines : List Line) (line : Line) → IsPiece lines line → On (world past lines) (world now (line ∷ lines)) → Keeps d past lines → Keeps d now (line ∷ lines)
@@ -70,12 +71,12 @@ keeps_piece d past now lines line piece on keeps =
     let v = world now (line ∷ lines) in
     let same = sym piece.book_stays in
     let state = state_on (world past lines) v (mark lines) (base lines) (epoch lines) on keeps.sound.state in
-    let fits = fits_on d (world past lines) v (book lines) (job lines) on keeps.fits in
+    let fits = fits_on d (world past lines) v (read_so_far lines) (job lines) on keeps.fits in
     record {
       sound = sound_line past now lines line piece.orders (λ _. piece.covers)
-          (subst (λ (b : Book). b.mark ≤ length (coins (line ∷ lines))) same (omega (arith, keeps.sound.marked, on.longer)))
-          (subst (λ (b : Book). StateOf v b.mark b.base b.epoch) same state) keeps.sound;
-      fits = subst (Fits d v (book (line ∷ lines))) (sym piece.job_stays) (subst (λ (b : Book). Fits d v b (job lines)) same fits);
+          (subst (λ (b : ReadSoFar). b.mark ≤ length (coins (line ∷ lines))) same (omega (arith, keeps.sound.marked, on.longer)))
+          (subst (λ (b : ReadSoFar). StateOf v b.mark b.base b.epoch) same state) keeps.sound;
+      fits = subst (Fits d v (read_so_far (line ∷ lines))) (sym piece.job_stays) (subst (λ (b : ReadSoFar). Fits d v b (job lines)) same fits);
     }
 
 pub keeps_accepted : (d : DeviceSetup) (past : List Met) (lines : List Line) (place : ℕ) → 1 ≤ place → accepts past place ≡ true →
@@ -151,7 +152,7 @@ pub ident_neutral : (body : DeviceBody) → Each IsNeutral (ident_requests body)
 ident_neutral (Acceptor accepts values ids) = search rules
 ident_neutral (Hopper life value) = search rules
 
-neutral_fits : (w : World) (b : Book) (q : Request) (behind : Then) (rows : List TableRow) (credits : Option Credits)
+neutral_fits : (w : World) (b : ReadSoFar) (q : Request) (behind : Then) (rows : List TableRow) (credits : Option Credits)
     (judged : Judged) → IsNeutral q → FitsAt w b rows credits judged →
     FitsAt w b (asks_for q behind ∷ rows) credits judged
 neutral_fits w b ResetDevice behind rows credits judged neutral fits = absurd neutral
@@ -160,14 +161,14 @@ neutral_fits w b GetMask behind rows credits judged neutral fits = absurd neutra
 neutral_fits w b (SetMaster value) behind rows credits judged neutral fits = absurd neutral
 neutral_fits w b q behind rows credits judged neutral fits = fits
 
-told_fits : (w : World) (b : Book) (qs : List Request) (credits : Option Credits) (judged : Judged) →
+told_fits : (w : World) (b : ReadSoFar) (qs : List Request) (credits : Option Credits) (judged : Judged) →
     Each IsNeutral qs → FitsAt w b (telling qs) credits judged
 told_fits w b [] credits judged each = tt
 told_fits w b (q ∷ []) credits judged each = neutral_fits w b q _ [] credits judged each.0 tt
 told_fits w b (q ∷ r ∷ qs) credits judged each =
     neutral_fits w b q _ (telling (r ∷ qs)) credits judged each.0 (told_fits w b (r ∷ qs) credits judged each.1)
 
-begun_fits : (d : DeviceSetup) (w : World) (b : Book) (c : Command) → is_for_acceptor c ≡ true → IsTaken d c b.epoch →
+begun_fits : (d : DeviceSetup) (w : World) (b : ReadSoFar) (c : Command) → is_for_acceptor c ≡ true → IsTaken d c b.epoch →
     FitsAt w b (rows_of d c) None Nothing
 begun_fits d w b (command.Start addr mask) played fine = idle_taken mask d b.epoch fine
 begun_fits d w b (command.Round addr) played fine = (running_taken b.epoch fine, tt)
@@ -185,16 +186,16 @@ judged_none : (c : Command) (state : EpochState) → judged_in c [] state ≡ No
 judged_none c Idle = refl
 judged_none c (Running mask counter) = refl
 
-begins_fits : (d : DeviceSetup) (w : World) (b : Book) (c : Command) → is_for_acceptor c ≡ true →
+begins_fits : (d : DeviceSetup) (w : World) (b : ReadSoFar) (c : Command) → is_for_acceptor c ≡ true →
     IsTaken d c b.epoch → Fits d w b (works c [])
 begins_fits d w b c played fine =
     subst (λ judged. FitsAt w b (after (rows_of d c) 0) None judged) (sym (judged_none c b.epoch))
     (subst (λ rows. FitsAt w b rows None Nothing) (sym (after_none (rows_of d c))) (begun_fits d w b c played fine))
 
 taken_fits : (d : DeviceSetup) (w : World) (lines : List Line) (c : Command) → is_for_acceptor c ≡ true →
-    IsTaken d c (epoch lines) → Fits d w (book lines) (job (taken c ∷ lines))
+    IsTaken d c (epoch lines) → Fits d w (read_so_far lines) (job (taken c ∷ lines))
 taken_fits d w lines (command.Halt addr) played fine = absurd cc
-taken_fits d w lines c played fine = begins_fits d w (book lines) c played fine
+taken_fits d w lines c played fine = begins_fits d w (read_so_far lines) c played fine
 
 pub keeps_taken : (d : DeviceSetup) (past : List Met) (lines : List Line) (c : Command) → is_for_acceptor c ≡ true → IsTaken d c (epoch lines) →
     Keeps d past lines → Keeps d past (taken c ∷ lines)
@@ -214,17 +215,17 @@ sound_exchange past now lines asked got on sound =
 -- what a job needs after an exchange
 abbrev pub FitsBehind : DeviceSetup → List Met → List Line → Command → List Line → Type 0
 FitsBehind d now lines c since =
-    FitsAt (world now lines) (book lines) (rest d c since) (credits_read since) (judged_in c since (epoch lines))
+    FitsAt (world now lines) (read_so_far lines) (rest d c since) (credits_read since) (judged_in c since (epoch lines))
 
 pub keeps_exchange : (d : DeviceSetup) (past now : List Met) (lines : List Line) (c : Command) (since : List Line) (asked : Option Request) (got : Option Reply) → job lines ≡ works c since →
     On (world past lines) (world now lines) → Sound past lines → FitsBehind d now (exchange asked got ∷ lines) c (exchange asked got ∷ since) → Keeps d now (exchange asked got ∷ lines)
 keeps_exchange d past now lines c since asked got is_job on sound fits = record {
   sound = sound_exchange past now lines asked got on sound;
-  fits = subst (λ j. Fits d (world now lines) (book (exchange asked got ∷ lines)) (with_line (exchange asked got) j)) (sym is_job) fits;
+  fits = subst (λ j. Fits d (world now lines) (read_so_far (exchange asked got ∷ lines)) (with_line (exchange asked got) j)) (sym is_job) fits;
 }
 
 pub fits_at : (d : DeviceSetup) (past : List Met) (lines : List Line) (c : Command) (since : List Line) → job lines ≡ works c since → Keeps d past lines → FitsBehind d past lines c since
-fits_at d past lines c since is_job keeps = subst (Fits d (world past lines) (book lines)) is_job keeps.fits
+fits_at d past lines c since is_job keeps = subst (Fits d (world past lines) (read_so_far lines)) is_job keeps.fits
 
 -- what comes of an exchange
 abbrev pub KeepsAsk : DeviceSetup → List Met → List Line → Command → List Line → Request → Option Request → Option Reply → Type 0
@@ -241,7 +242,7 @@ failure_other d c q since state = failed_end IsOtherEnd d c q since state (bare_
 
 -- it tells nothing of credits, a mask or a reading
 unanswered_fits : (d : DeviceSetup) (now : List Met) (lines : List Line) (c : Command) (since : List Line) (q : Request) →
-    FitsAt (world now lines) (book lines) (rest d c (exchange (Some q) None ∷ since)) (credits_read since) (judged_in c since (epoch lines)) →
+    FitsAt (world now lines) (read_so_far lines) (rest d c (exchange (Some q) None ∷ since)) (credits_read since) (judged_in c since (epoch lines)) →
     FitsBehind d now (exchange (Some q) None ∷ lines) c (exchange (Some q) None ∷ since)
 unanswered_fits d now lines c since ReadCredits fits = fits
 unanswered_fits d now lines c since GetMask fits = fits
@@ -253,8 +254,8 @@ keeps_failed : (d : DeviceSetup) (past now : List Met) (lines : List Line) (c : 
     Keeps d now (with_ended (end_of d c (exchange (Some q) None) since (epoch lines)) (exchange (Some q) None ∷ lines))
 keeps_failed d past now lines c since q again is_job on keeps =
     let line = exchange (Some q) None in
-    let before = at_on (world past lines) (world now lines) (book lines) (rest d c since) (credits_read since) (judged_in c since (epoch lines)) on (fits_at d past lines c since is_job keeps) in
-    let stays = subst (λ n. FitsAt (world now lines) (book lines) (after (rows_of d c) n) (credits_read since) (judged_in c since (epoch lines))) (sym (failed_stays (rows_of d c) (Some q) since again)) before in
+    let before = at_on (world past lines) (world now lines) (read_so_far lines) (rest d c since) (credits_read since) (judged_in c since (epoch lines)) on (fits_at d past lines c since is_job keeps) in
+    let stays = subst (λ n. FitsAt (world now lines) (read_so_far lines) (after (rows_of d c) n) (credits_read since) (judged_in c since (epoch lines))) (sym (failed_stays (rows_of d c) (Some q) since again)) before in
     keeps_with_ended d now (line ∷ lines) _ (failure_other d c q since (epoch lines))
     (keeps_exchange d past now lines c since (Some q) None is_job on keeps.sound (unanswered_fits d now lines c since q stays))
 
@@ -307,14 +308,14 @@ answered_at d past lines c since rows q y at keeps =
 pub next_at : (d : DeviceSetup) (past : List Met) (lines : List Line) (c : Command) (since : List Line) (r : TableRow)
     (rows : List TableRow) (q : Request) (y : Reply) → AtRows d past lines c since (r ∷ rows) →
     ends_first (r ∷ rows) (Some y) ≡ true → On (world past lines) (world (heard (Some q) ∷ past) lines) →
-    FitsAt (world (heard (Some q) ∷ past) lines) (book (exchange (Some q) (Some y) ∷ lines)) rows
+    FitsAt (world (heard (Some q) ∷ past) lines) (read_so_far (exchange (Some q) (Some y) ∷ lines)) rows
     (credits_read (exchange (Some q) (Some y) ∷ since)) (judged_in c (exchange (Some q) (Some y) ∷ since) (epoch lines)) →
     Keeps d (heard (Some q) ∷ past) (exchange (Some q) (Some y) ∷ lines)
 next_at d past lines c since r rows q y at ends on fits =
     let line = exchange (Some q) (Some y) in
     let now = heard (Some q) ∷ past in
     keeps_exchange d past now lines c since (Some q) (Some y) at.is_job on at.keeps.sound
-    (subst (λ later. FitsAt (world now lines) (book (line ∷ lines)) later (credits_read (line ∷ since))
+    (subst (λ later. FitsAt (world now lines) (read_so_far (line ∷ lines)) later (credits_read (line ∷ since))
     (judged_in c (line ∷ since) (epoch lines)))
     (sym (ended_leaves (rows_of d c) (Some q) (Some y) since r rows at.rest_is ends)) fits)
 

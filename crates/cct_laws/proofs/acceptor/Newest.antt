@@ -30,7 +30,7 @@ length-coins_among (pair ∷ xs) =
 pub take_front : (xs ys : List Coin) → take (length (xs ++ ys) - length ys) (xs ++ ys) ≡ xs
 take_front xs ys = take_at xs ys (length (xs ++ ys) - length ys) (omega (arith, length-append xs ys))
 
--- the buffer's newest events, five at the most, are the newest events
+-- the buffer's newest events, at most five, are the newest events
 pub buffer_newest : (new old : List Pair) (n : ℕ) → n ≤ length new → take (min n 5) (last_five (new ++ old)) ≡ take (min n 5) new
 buffer_newest new old n most =
     let blank = replicate 5 no_event in

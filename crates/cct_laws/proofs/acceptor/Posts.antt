@@ -1,36 +1,25 @@
 -- In every legal transcript over an honest wire posts are accepted coins in their order, and under the pace none is lost in
 -- silence.
-use Rattle.std.proofs.Common.{ℕ, List, [], All}
-use Rattle.cct_model.specs.terms.device.DeviceSetup.{DeviceSetup}
-use Rattle.cct_model.specs.terms.device.Setup.{Setup}
-use Rattle.cct_model.specs.lines.command.Step.{Step}
-use Rattle.cct_model.specs.lines.entry.Entry.{Entry}
+use Rattle.std.proofs.Common.{[]}
 use Rattle.cct_model.specs.Claims.{InOrder, Covers, Pace}
-use Rattle.cct_model.specs.Device.{IsAcceptor}
-use Rattle.cct_model.specs.Setup.{IsSoundSetup}
-use Rattle.cct_model.specs.Legal.{Legal}
-use Rattle.cct_model.specs.Script.{IsInRange}
 use Rattle.cct_model.specs.Transcript.{met, onto}
-use Rattle.cct_model.specs.Honest.{Honest}
-use Rattle.cct_laws.specs.Law.{IsOf, lines_in}
+use Rattle.cct_laws.specs.Law.{lines_in}
+use Rattle.cct_laws.specs.Scope.{EachAcceptor}
 use Rattle.cct_laws.proofs.acceptor.Moves.{Keeps}
 use Rattle.cct_laws.proofs.acceptor.Acceptors.{keeps_kept, kept_in_order, kept_covers}
 use Rattle.cct_laws.proofs.Whole.{kept_legal}
 
 -- what holds of the lines holds in every legal transcript
-pub legal_keeps : (capacity : ℕ) (setup : Setup) (steps : List Step) (transcript : List Entry) (d : DeviceSetup) → IsSoundSetup setup → IsOf setup d → IsAcceptor d.body → All IsInRange steps →
-    Legal capacity setup steps transcript → Honest transcript → Keeps d (met d (onto [] transcript)) (lines_in d transcript)
+pub legal_keeps : EachAcceptor (λ d transcript. Keeps d (met d (onto [] transcript)) (lines_in d transcript))
 legal_keeps capacity setup steps transcript d sound own accepting in_range legal honest =
     kept_legal capacity setup steps transcript d (Keeps d) sound own accepting in_range legal honest (keeps_kept d accepting)
 
 -- posts are accepted coins in their order, none twice
-pub legal_in_order : (capacity : ℕ) (setup : Setup) (steps : List Step) (transcript : List Entry) (d : DeviceSetup) → IsSoundSetup setup → IsOf setup d → IsAcceptor d.body → All IsInRange steps →
-    Legal capacity setup steps transcript → Honest transcript → InOrder (lines_in d transcript)
+pub legal_in_order : EachAcceptor (λ d transcript. InOrder (lines_in d transcript))
 legal_in_order capacity setup steps transcript d sound own accepting in_range legal honest =
     kept_in_order d _ _ (legal_keeps capacity setup steps transcript d sound own accepting in_range legal honest)
 
 -- under the pace no coin is lost in silence
-pub legal_covers : (capacity : ℕ) (setup : Setup) (steps : List Step) (transcript : List Entry) (d : DeviceSetup) → IsSoundSetup setup → IsOf setup d → IsAcceptor d.body → All IsInRange steps →
-    Legal capacity setup steps transcript → Honest transcript → Pace (lines_in d transcript) → Covers (lines_in d transcript)
+pub legal_covers : EachAcceptor (λ d transcript. Pace (lines_in d transcript) → Covers (lines_in d transcript))
 legal_covers capacity setup steps transcript d sound own accepting in_range legal honest =
     kept_covers d _ _ (legal_keeps capacity setup steps transcript d sound own accepting in_range legal honest)

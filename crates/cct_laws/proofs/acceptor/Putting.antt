@@ -16,9 +16,9 @@ use Rattle.cct_model.specs.Job.{works, job, puts, epoch, credits_read, mask_read
 use Rattle.cct_model.specs.Rows.{Then, ends_as, if_posted, new_epoch, reading, epoch_end, TableRow, asks_for, asks_once, waits_for_coins, puts_due, row, rest, from, first}
 use Rattle.cct_model.specs.Script.{IsCommand}
 use Rattle.cct_model.specs.Order.{order}
-use Rattle.cct_laws.specs.Kept.{is_for_acceptor}
+use Rattle.cct_laws.specs.DeviceJobs.{is_for_acceptor}
 use Rattle.cct_laws.proofs.acceptor.World.{World, Silent, world}
-use Rattle.cct_laws.proofs.acceptor.Fits.{Book, book, PostsAs, BreaksAs, Ready, IsRunning, FitsAt}
+use Rattle.cct_laws.proofs.acceptor.Fits.{ReadSoFar, read_so_far, PostsAs, BreaksAs, Ready, IsRunning, FitsAt}
 use Rattle.cct_laws.proofs.acceptor.Moves.{Keeps, fits_at, entry_is}
 use Rattle.cct_laws.proofs.acceptor.Acceptors.{left_leads}
 use Rattle.cct_laws.proofs.acceptor.Leads.{Leads}
@@ -47,26 +47,26 @@ judged_runs addr (Running mask counter) credits seen = broken_runs mask counter 
 
 -- what was judged
 
-reading_puts : (d : DeviceSetup) (w : World) (b : Book) (entry : Record) → PostsAs w b entry → Puts d w b.epoch entry
+reading_puts : (d : DeviceSetup) (w : World) (b : ReadSoFar) (entry : Record) → PostsAs w b entry → Puts d w b.epoch entry
 reading_puts d w b (record_of.Reading addr k lost posted) posts = tt
 reading_puts d w b r posts = absurd posts
 
-break_puts : (d : DeviceSetup) (w : World) (b : Book) (entry : Record) → IsRunning b.epoch → BreaksAs w b entry → Puts d w b.epoch entry
+break_puts : (d : DeviceSetup) (w : World) (b : ReadSoFar) (entry : Record) → IsRunning b.epoch → BreaksAs w b entry → Puts d w b.epoch entry
 break_puts d w b (record_of.Broken addr seen k posted) running breaks = (running, breaks.silent)
 break_puts d w b r running breaks = absurd breaks
 
 -- the first of the rows that are left
 
-end_puts : (d : DeviceSetup) (w : World) (b : Book) (addr : ℕ) (r : Record) → puts (record_of.EpochEnd addr) ≡ puts r → Puts d w b.epoch r
+end_puts : (d : DeviceSetup) (w : World) (b : ReadSoFar) (addr : ℕ) (r : Record) → puts (record_of.EpochEnd addr) ≡ puts r → Puts d w b.epoch r
 end_puts d w b addr r row_is = subst (Puts d w b.epoch) (entry_is (record_of.EpochEnd addr) r row_is) tt
 
-over_puts : (d : DeviceSetup) (w : World) (b : Book) (addr : ℕ) (r : Record) (p : Payment) (rows : List TableRow) →
+over_puts : (d : DeviceSetup) (w : World) (b : ReadSoFar) (addr : ℕ) (r : Record) (p : Payment) (rows : List TableRow) →
     IsOverNext rows → first addr Nothing p rows ≡ puts r → Puts d w b.epoch r
 over_puts d w b addr r p [] over row_is = absurd cc
 over_puts d w b addr r p (puts_due epoch_end (ends_as end) ∷ rows) over row_is = end_puts d w b addr r row_is
 over_puts d w b addr r p rows over row_is = absurd over
 
-reading_row : (d : DeviceSetup) (w : World) (b : Book) (addr : ℕ) (r : Record) (judged : Judged) (p : Payment)
+reading_row : (d : DeviceSetup) (w : World) (b : ReadSoFar) (addr : ℕ) (r : Record) (judged : Judged) (p : Payment)
     (behind : Then) (rows : List TableRow) → IfBroken b.epoch judged → IsOverNext rows → Ready w b judged →
     first addr judged p (from (puts_due reading behind ∷ rows) judged) ≡ puts r → Puts d w b.epoch r
 reading_row d w b addr r Nothing p behind rows runs over ready row_is = over_puts d w b addr r p rows over row_is
@@ -75,7 +75,7 @@ reading_row d w b addr r (Reading entry) p behind rows runs over ready row_is =
 reading_row d w b addr r (Broken entry) p behind rows runs over ready row_is =
     subst (Puts d w b.epoch) (entry_is entry r row_is) (break_puts d w b entry runs ready)
 
-first_puts : (d : DeviceSetup) (w : World) (b : Book) (addr : ℕ) (r : Record) (credits : Option Credits) (judged : Judged)
+first_puts : (d : DeviceSetup) (w : World) (b : ReadSoFar) (addr : ℕ) (r : Record) (credits : Option Credits) (judged : Judged)
     (p : Payment) (rows : List TableRow) → addr ≡ d.addr → IfBroken b.epoch judged → EachBefore Leads rows →
     FitsAt w b rows credits judged → first addr judged p (from rows judged) ≡ puts r → Puts d w b.epoch r
 first_puts d w b addr r credits judged p [] here runs each fits row_is = absurd cc
@@ -95,7 +95,7 @@ pub row_puts : (d : DeviceSetup) (past : List Met) (lines : List Line) (c : Comm
     is_for_acceptor c ≡ true → IsCommand c → job lines ≡ works c since → address_of c ≡ d.addr →
     row d c since (epoch lines) (order lines) ≡ puts r → Keeps d past lines → Puts d (world past lines) (epoch lines) r
 row_puts d past lines c since r suited in_range is_job here row_is keeps =
-    first_puts d (world past lines) (book lines) (address_of c) r (credits_read since) (judged_in c since (epoch lines))
+    first_puts d (world past lines) (read_so_far lines) (address_of c) r (credits_read since) (judged_in c since (epoch lines))
     (payment_in since (order lines)) (rest d c since) here
     (judged_runs (address_of c) (epoch lines) (credits_read since) (mask_read since))
     (left_leads d c since suited in_range) (fits_at d past lines c since is_job keeps) row_is

@@ -17,14 +17,14 @@ use Rattle.cct_model.specs.Claims.{AreNewest, IsNear, fewer}
 use Rattle.cct_epoch.proofs.Counters.{distance_most, distance_near, counter_same, counter_zero}
 use Rattle.cct_laws.proofs.acceptor.Newest.{coins_among-append, take_front, posted_newest, posted_most}
 use Rattle.cct_laws.proofs.acceptor.World.{World, Silent, After, IsLive, mask_at}
-use Rattle.cct_laws.proofs.acceptor.Fits.{Book, StateOf, Runs, Reads, Counts, Held, HeldIn, Posts, Breaks, Nears, Ready, IsRunning}
+use Rattle.cct_laws.proofs.acceptor.Fits.{ReadSoFar, StateOf, Runs, Reads, Counts, Held, HeldIn, Posts, Breaks, Nears, Ready, IsRunning}
 
 -- what is read of an acceptor
 abbrev pub credits_at : World → Credits
 credits_at w = record { counter = counter (length w.events); pairs = last_five w.events }
 
 -- the lines tell this at a reading
-abbrev pub read_now : World → ℕ → Option ℕ → EpochState → List Coin → Book
+abbrev pub read_now : World → ℕ → Option ℕ → EpochState → List Coin → ReadSoFar
 read_now w m from state seen = record { mark = m; base = from; epoch = state; known = w.coins; came = w.arrivals; seen = seen }
 
 -- a silent acceptor's buffer has no coin
@@ -40,7 +40,7 @@ none_posted n events none =
     let blank = replicate 5 no_event in
     ap reverse (none_taken (min n 5) (last_five events) (none_taken 5 (events ++ blank) (coins_among-append events blank ∙ ap (λ cs. cs ++ []) none)))
 
--- what is read behind a moment
+-- what is read after a moment
 
 length_events : (w : World) (k m t : ℕ) (after : After w k m t) → length w.events ≡ length after.new + length after.old
 length_events w k m t after = ap length after.split ∙ length-append after.new after.old
@@ -97,7 +97,7 @@ counts_after w m from state seen k t based after =
     some_same : (a b : ℕ) → Some a ≡ Some b → a ≡ b
     some_same a b e = cc
 
--- the credits just read stand behind all events
+-- the credits just read stand after all events
 after_now : (w : World) → After w (counter (length w.events)) (length w.coins) w.arrivals
 after_now w = record { new = []; old = w.events; before = w.coins; split = refl; coins_are = refl; counted = refl; marked = refl; came = omega arith }
 
@@ -132,7 +132,7 @@ fewer_is : (known seen : List Coin) → length known ≤ length seen → fewer k
 fewer_is known seen few = rw (le-leb (length known) (length seen) few) refl
 
 -- the lines tell this at a look at the mask
-abbrev pub seen_now : World → ℕ → Option ℕ → EpochState → List Coin → ℕ → Book
+abbrev pub seen_now : World → ℕ → Option ℕ → EpochState → List Coin → ℕ → ReadSoFar
 seen_now w m from state known came = record { mark = m; base = from; epoch = state; known = known; came = came; seen = w.coins }
 
 -- the mask is another: the acceptor was reset

@@ -22,9 +22,9 @@ use Rattle.cct_model.specs.Line.{Line, exchange, put}
 use Rattle.cct_model.specs.Job.{works, job, with_line, epoch, credits_read, judged_in, judged_by, end_of_reading, address_of}
 use Rattle.cct_model.specs.Claims as claims
 use Rattle.cct_model.specs.Claims.{coins, arrivals, looking, mark, base}
-use Rattle.cct_laws.specs.Kept.{Fate, with_ended}
+use Rattle.cct_laws.specs.DeviceJobs.{Fate, with_ended}
 use Rattle.cct_laws.proofs.acceptor.World.{world, Shut, on_nothing}
-use Rattle.cct_laws.proofs.acceptor.Fits.{book, HeldIn, Posts, PostsAs, BreaksAs, Ready, IsRunning, FitsAt, Fits, IfOver, if_over, IsStill, ends_epoch, AfterCredits, AfterMask, AfterReading}
+use Rattle.cct_laws.proofs.acceptor.Fits.{read_so_far, HeldIn, Posts, PostsAs, BreaksAs, Ready, IsRunning, FitsAt, Fits, IfOver, if_over, IsStill, ends_epoch, AfterCredits, AfterMask, AfterReading}
 use Rattle.cct_laws.proofs.acceptor.Moves.{Sound, Keeps, KeepsAsk, AtRows, IsOtherEnd, keeps_ended, keeps_with_ended, answered_at, next_at, by_fate}
 use Rattle.cct_laws.proofs.acceptor.Readings.{held_now, ready_now}
 use Rattle.cct_laws.proofs.acceptor.Items.{reading_fewer, keeps_clean, sound_reading, sound_broken}
@@ -34,7 +34,7 @@ use Rattle.cct_model.proofs.Rows.{Behind, behind_answer, put_leaves}
 
 -- what an acceptor's credits tell an epoch
 pub held_at : (past : List Met) (lines : List Line) → IsRunning (epoch lines) → Sound past lines →
-    HeldIn (world past lines) (book (exchange (Some ReadCredits) (Some (reply.credits (credits_of past))) ∷ lines)) (epoch lines) (Some (credits_of past))
+    HeldIn (world past lines) (read_so_far (exchange (Some ReadCredits) (Some (reply.credits (credits_of past))) ∷ lines)) (epoch lines) (Some (credits_of past))
 held_at past lines running sound = held_now (world past lines) (mark lines) (base lines) (epoch lines) (coins (looking lines)) sound.marked running sound.state
 
 -- the credits are read
@@ -48,7 +48,7 @@ reads d past lines c since behind rows asked got accepting at other next running
     let now = heard (Some ReadCredits) ∷ past in
     let y = reply.credits (credits_of past) in
     let line = exchange (Some ReadCredits) (Some y) in
-    let b = book (line ∷ lines) in
+    let b = read_so_far (line ∷ lines) in
     let still = if_over (ends_epoch rows) (Shut w) (IsStill w b) (λ is. (is, refl)) shut in
     let kept = next_at d past lines c since (asks_for ReadCredits behind) rows ReadCredits y at refl (on_nothing w)
     (next w b (Some (credits_of past)) _ (held_at past lines running at.keeps.sound) still) in
@@ -60,14 +60,14 @@ reads d past lines c since behind rows asked got accepting at other next running
     (sym (replied_credits d past accepting) ∙ gives) replied) fate
 
 -- what the mask tells besides
-pub ready_at : (past : List Met) (lines : List Line) (addr : ℕ) (credits : Option Credits) → Sound past lines → HeldIn (world past lines) (book lines) (epoch lines) credits →
-    Ready (world past lines) (book (exchange (Some GetMask) (Some (reply.mask (mask_of past))) ∷ lines)) (judged_by addr (epoch lines) credits (Some (mask_of past)))
+pub ready_at : (past : List Met) (lines : List Line) (addr : ℕ) (credits : Option Credits) → Sound past lines → HeldIn (world past lines) (read_so_far lines) (epoch lines) credits →
+    Ready (world past lines) (read_so_far (exchange (Some GetMask) (Some (reply.mask (mask_of past))) ∷ lines)) (judged_by addr (epoch lines) credits (Some (mask_of past)))
 ready_at past lines addr credits sound held =
     ready_now (world past lines) (mark lines) (base lines) (epoch lines) (coins (claims.reading lines)) (coins (looking lines)) (arrivals (claims.reading lines)) addr credits
     sound.marked (reading_fewer lines) sound.state held
 
 -- a reading that means nothing ends the round clean
-round_judged : (d : DeviceSetup) (now : List Met) (lines : List Line) (judged : Judged) → Ready (world now lines) (book lines) judged → Keeps d now lines → Keeps d now (with_ended (end_of_reading judged) lines)
+round_judged : (d : DeviceSetup) (now : List Met) (lines : List Line) (judged : Judged) → Ready (world now lines) (read_so_far lines) judged → Keeps d now lines → Keeps d now (with_ended (end_of_reading judged) lines)
 round_judged d now lines Nothing ready keeps = keeps_clean d now lines keeps.sound ready
 round_judged d now lines (Reading entry) ready keeps = keeps
 round_judged d now lines (Broken entry) ready keeps = keeps
@@ -78,7 +78,7 @@ IsAfterLook if_judged = ⊤
 IsAfterLook behind = Behind IsOtherEnd behind
 
 looked : (d : DeviceSetup) (now : List Met) (lines : List Line) (behind : Then) (y : Reply) (judged : Judged) →
-    IsAfterLook behind → Ready (world now lines) (book lines) judged → Keeps d now lines →
+    IsAfterLook behind → Ready (world now lines) (read_so_far lines) judged → Keeps d now lines →
     Keeps d now (with_ended (end_by_answer behind y judged) lines)
 looked d now lines if_judged y judged other ready keeps = round_judged d now lines judged ready keeps
 looked d now lines behind y judged other ready keeps =
@@ -88,8 +88,8 @@ looked d now lines behind y judged other ready keeps =
 pub looks : (d : DeviceSetup) (past : List Met) (lines : List Line) (c : Command) (since : List Line) (behind : Then)
     (rows : List TableRow) (asked : Option Request) (got : Option Reply) → IsAcceptor d.body →
     AtRows d past lines c since (asks_for GetMask behind ∷ rows) → IsAfterLook behind → AfterMask rows →
-    HeldIn (world past lines) (book lines) (epoch lines) (credits_read since) →
-    IfOver (ends_epoch rows) (IsStill (world past lines) (book lines)) → Fate d past GetMask asked got →
+    HeldIn (world past lines) (read_so_far lines) (epoch lines) (credits_read since) →
+    IfOver (ends_epoch rows) (IsStill (world past lines) (read_so_far lines)) → Fate d past GetMask asked got →
     KeepsAsk d past lines c since GetMask asked got
 looks d past lines c since behind rows asked got accepting at other next held still fate =
     let w = world past lines in
@@ -97,10 +97,10 @@ looks d past lines c since behind rows asked got accepting at other next held st
     let y = reply.mask (mask_of past) in
     let line = exchange (Some GetMask) (Some y) in
     let judged = judged_by (address_of c) (epoch lines) (credits_read since) (Some (mask_of past)) in
-    let ready : Ready w (book (line ∷ lines)) judged =
+    let ready : Ready w (read_so_far (line ∷ lines)) judged =
     ready_at past lines (address_of c) (credits_read since) at.keeps.sound held in
     let kept = next_at d past lines c since (asks_for GetMask behind) rows GetMask y at refl (on_nothing w)
-    (next w (book (line ∷ lines)) (credits_read since) judged ready still) in
+    (next w (read_so_far (line ∷ lines)) (credits_read since) judged ready still) in
     let replied : KeepsAsk d past lines c since GetMask (Some GetMask) (Some y) =
     answered_at d past lines c since (asks_for GetMask behind ∷ rows) GetMask y at
     (looked d now (line ∷ lines) behind y judged other ready kept) in
@@ -117,7 +117,7 @@ IsAfterReading None rows = (ends_epoch rows ≡ true) × AfterReading rows
 reading_put : (d : DeviceSetup) (past : List Met) (lines : List Line) (c : Command) (since : List Line) (r : TableRow)
     (rows : List TableRow) (addr k lost : ℕ) (posted : List Coin) (of_reading : Option End) → job lines ≡ works c since →
     rest d c since ≡ r ∷ rows → IsAfterReading of_reading rows →
-    Posts (world past lines) (book lines) k lost posted → IfOver (ends_epoch rows) (IsStill (world past lines) (book lines)) →
+    Posts (world past lines) (read_so_far lines) k lost posted → IfOver (ends_epoch rows) (IsStill (world past lines) (read_so_far lines)) →
     Keeps d past lines →
     Keeps d past (with_ended of_reading (put (record_of.Reading addr k lost posted) ∷ lines))
 reading_put d past lines c since r rows addr k lost posted (Some end) is_job rest_is other posts still keeps =
@@ -125,8 +125,8 @@ reading_put d past lines c since r rows addr k lost posted (Some end) is_job res
 reading_put d past lines c since r rows addr k lost posted None is_job rest_is next posts still keeps =
     let w = world past lines in
     let line = put (record_of.Reading addr k lost posted) in
-    let b = book (line ∷ lines) in
-    let is_still = subst (λ over. IfOver over (IsStill w (book lines))) next.0 still in
+    let b = read_so_far (line ∷ lines) in
+    let is_still = subst (λ over. IfOver over (IsStill w (read_so_far lines))) next.0 still in
     record {
       sound = sound_reading past lines addr k lost posted posts keeps.sound;
       fits = subst (λ j. Fits d w b (with_line line j)) (sym is_job)
@@ -138,7 +138,7 @@ reading_put d past lines c since r rows addr k lost posted None is_job rest_is n
 pub posts_put : (d : DeviceSetup) (past : List Met) (lines : List Line) (c : Command) (since : List Line)
     (rows : List TableRow) (entry : Record) (of_reading : Option End) → job lines ≡ works c since →
     rest d c since ≡ puts_due reading (if_posted of_reading) ∷ rows → IsAfterReading of_reading rows →
-    PostsAs (world past lines) (book lines) entry → IfOver (ends_epoch rows) (IsStill (world past lines) (book lines)) →
+    PostsAs (world past lines) (read_so_far lines) entry → IfOver (ends_epoch rows) (IsStill (world past lines) (read_so_far lines)) →
     Keeps d past lines →
     Keeps d past (with_ended (end_kept (puts_due reading (if_posted of_reading) ∷ rows) entry) (put entry ∷ lines))
 posts_put d past lines c since rows (record_of.Reading addr k lost posted) of_reading is_job rest_is next posts still keeps =
@@ -146,7 +146,7 @@ posts_put d past lines c since rows (record_of.Reading addr k lost posted) of_re
 posts_put d past lines c since rows entry of_reading is_job rest_is next posts still keeps = absurd posts
 
 pub breaks_put : (d : DeviceSetup) (past : List Met) (lines : List Line) (rows : List TableRow) (entry : Record)
-    (of_reading : Option End) → BreaksAs (world past lines) (book lines) entry → Sound past lines →
+    (of_reading : Option End) → BreaksAs (world past lines) (read_so_far lines) entry → Sound past lines →
     Keeps d past (with_ended (end_kept (puts_due reading (if_posted of_reading) ∷ rows) entry) (put entry ∷ lines))
 breaks_put d past lines rows (record_of.Broken a seen k posted) of_reading breaks sound =
     keeps_ended d past _ Broke tt (sound_broken past lines a seen k posted breaks sound)

@@ -1,30 +1,22 @@
 -- Where an acceptor is safe in every legal transcript over an honest wire: which mask it has, what its events then tell, and
 -- why its epoch breaks.
-use Rattle.std.proofs.Common.{◌≡◌, ℕ, false, List, [], ◌∷◌, ◌++◌, take, drop, take-append-drop, refl, ap, sym, ◌∙◌, subst, None, replicate, All}
+use Rattle.std.proofs.Common.{◌≡◌, ℕ, false, List, [], ◌∷◌, ◌++◌, take, drop, take-append-drop, refl, ap, sym, ◌∙◌, subst, None, replicate}
 use Rattle.cct_model.specs.terms.coin.Coin.{Coin}
 use Rattle.cct_model.specs.terms.coin.Pair.{Pair}
-use Rattle.cct_model.specs.terms.device.DeviceSetup.{DeviceSetup}
-use Rattle.cct_model.specs.terms.device.Setup.{Setup}
 use Rattle.cct_model.specs.lines.record.Record.TheVariants as record_of
 use Rattle.cct_model.specs.declared.judging.EpochState.TheVariants.{Idle, Running}
 use Rattle.cct_model.specs.lines.command.Command.{Command}
-use Rattle.cct_model.specs.lines.command.Step.{Step}
-use Rattle.cct_model.specs.lines.entry.Entry.{Entry}
 use Rattle.cct_model.specs.Acceptor.{accepts, events, no_event, last_five, credits_of}
-use Rattle.cct_model.specs.Device.{IsAcceptor}
-use Rattle.cct_model.specs.Setup.{IsSoundSetup}
 use Rattle.cct_model.specs.Line.{Line}
 use Rattle.cct_model.specs.Reading.{coins_among}
 use Rattle.cct_model.specs.Order.{order}
 use Rattle.cct_model.specs.Job.{works, job, epoch, puts, address_of}
 use Rattle.cct_model.specs.Rows.{row}
-use Rattle.cct_model.specs.Legal.{Legal}
 use Rattle.cct_model.specs.Claims.{mark, base}
-use Rattle.cct_model.specs.Script.{IsInRange}
 use Rattle.cct_model.specs.Transcript.{met, onto}
-use Rattle.cct_model.specs.Honest.{Honest}
-use Rattle.cct_laws.specs.Law.{IsOf, lines_in}
-use Rattle.cct_laws.specs.Since.{since_epoch_in, mask_set_in, IsMaskedBy, MayBreak, HaveCauses}
+use Rattle.cct_laws.specs.Law.{lines_in}
+use Rattle.cct_laws.specs.SinceEpoch.{since_epoch_in, mask_set_in, IsMaskedBy, MayBreak, HaveCauses}
+use Rattle.cct_laws.specs.Scope.{EachAcceptor}
 use Rattle.cct_laws.proofs.acceptor.Newest.{coins_among-append}
 use Rattle.cct_laws.proofs.acceptor.Causes.{causes_go_on}
 use Rattle.cct_laws.proofs.Whole.{kept_since_legal, goes_on_legal, ranged_legal}
@@ -48,51 +40,51 @@ buffer_none newest none =
     front_nil (coins_among (take 5 all)) (coins_among (drop 5 all))
     (sym (coins_among-append (take 5 all) (drop 5 all)) ∙ ap coins_among (take-append-drop 5 all) ∙ nothing)
 
-legal_masks : (capacity : ℕ) (setup : Setup) (steps : List Step) (transcript : List Entry) (d : DeviceSetup) → IsSoundSetup setup → IsOf setup d → IsAcceptor d.body → All IsInRange steps →
-    Legal capacity setup steps transcript → Honest transcript → Masks d (since_epoch_in d transcript) (met d (onto [] transcript)) (lines_in d transcript)
+legal_masks : EachAcceptor (λ d transcript. Masks d (since_epoch_in d transcript) (met d (onto [] transcript))
+    (lines_in d transcript))
 legal_masks capacity setup steps transcript d sound own accepting in_range legal honest =
     kept_since_legal capacity setup steps transcript d (Masks d) sound own accepting in_range legal honest (masks_kept d accepting)
 
 -- without an epoch no coin is accepted
-pub legal_shut : (capacity : ℕ) (setup : Setup) (steps : List Step) (transcript : List Entry) (d : DeviceSetup) → IsSoundSetup setup → IsOf setup d → IsAcceptor d.body → All IsInRange steps →
-    Legal capacity setup steps transcript → Honest transcript → epoch (lines_in d transcript) ≡ Idle → (place : ℕ) → accepts (met d (onto [] transcript)) place ≡ false
+pub legal_shut : EachAcceptor (λ d transcript. epoch (lines_in d transcript) ≡ Idle → (place : ℕ) → accepts (met d
+    (onto [] transcript)) place ≡ false)
 legal_shut capacity setup steps transcript d sound own accepting in_range legal honest idle place =
     let lines = lines_in d transcript in
     let masks = legal_masks capacity setup steps transcript d sound own accepting in_range legal honest in
     (subst (StateOf (world (met d (onto [] transcript)) lines) (mark lines) (base lines)) idle masks.keeps.sound.state).shut place
 
 -- while an epoch runs, its mask is set or none is
-pub legal_masked : (capacity : ℕ) (setup : Setup) (steps : List Step) (transcript : List Entry) (d : DeviceSetup) (mask counter : ℕ) → IsSoundSetup setup → IsOf setup d → IsAcceptor d.body → All IsInRange steps →
-    Legal capacity setup steps transcript → Honest transcript → epoch (lines_in d transcript) ≡ Running mask counter → IsMaskedBy mask (since_epoch_in d transcript) (met d (onto [] transcript))
-legal_masked capacity setup steps transcript d mask counter sound own accepting in_range legal honest running =
+pub legal_masked : EachAcceptor (λ d transcript. (mask counter : ℕ) → epoch (lines_in d transcript) ≡ Running mask
+    counter → IsMaskedBy mask (since_epoch_in d transcript) (met d (onto [] transcript)))
+legal_masked capacity setup steps transcript d sound own accepting in_range legal honest mask counter running =
     subst (λ s. MaskedIn s (since_epoch_in d transcript) (met d (onto [] transcript))) running (legal_masks capacity setup steps transcript d sound own accepting in_range legal honest).masked
 
 -- and where none is, no event is a coin
-pub legal_silent : (capacity : ℕ) (setup : Setup) (steps : List Step) (transcript : List Entry) (d : DeviceSetup) (mask counter : ℕ) → IsSoundSetup setup → IsOf setup d → IsAcceptor d.body → All IsInRange steps →
-    Legal capacity setup steps transcript → Honest transcript → epoch (lines_in d transcript) ≡ Running mask counter → mask_set_in (since_epoch_in d transcript) ≡ None →
-    coins_among (events (met d (onto [] transcript))) ≡ []
-legal_silent capacity setup steps transcript d mask counter sound own accepting in_range legal honest running none =
+pub legal_silent : EachAcceptor (λ d transcript. (mask counter : ℕ) → epoch (lines_in d transcript) ≡ Running mask
+    counter → mask_set_in (since_epoch_in d transcript) ≡ None → coins_among (events (met d (onto [] transcript))) ≡
+    [])
+legal_silent capacity setup steps transcript d sound own accepting in_range legal honest mask counter running none =
     masks_silent d (since_epoch_in d transcript) (met d (onto [] transcript)) (lines_in d transcript) mask counter running none (legal_masks capacity setup steps transcript d sound own accepting in_range legal honest)
 
-pub legal_unread : (capacity : ℕ) (setup : Setup) (steps : List Step) (transcript : List Entry) (d : DeviceSetup) (mask counter : ℕ) → IsSoundSetup setup → IsOf setup d → IsAcceptor d.body → All IsInRange steps →
-    Legal capacity setup steps transcript → Honest transcript → epoch (lines_in d transcript) ≡ Running mask counter → mask_set_in (since_epoch_in d transcript) ≡ None →
-    coins_among (credits_of (met d (onto [] transcript))).pairs ≡ []
-legal_unread capacity setup steps transcript d mask counter sound own accepting in_range legal honest running none =
-    buffer_none (events (met d (onto [] transcript))) (legal_silent capacity setup steps transcript d mask counter sound own accepting in_range legal honest running none)
+pub legal_unread : EachAcceptor (λ d transcript. (mask counter : ℕ) → epoch (lines_in d transcript) ≡ Running mask
+    counter → mask_set_in (since_epoch_in d transcript) ≡ None → coins_among (credits_of (met d (onto []
+    transcript))).pairs ≡ [])
+legal_unread capacity setup steps transcript d sound own accepting in_range legal honest mask counter running none =
+    buffer_none (events (met d (onto [] transcript))) (legal_silent capacity setup steps transcript d sound own accepting in_range legal honest mask counter running none)
 
 -- a break has its cause
-pub legal_caused : (capacity : ℕ) (setup : Setup) (steps : List Step) (transcript : List Entry) (d : DeviceSetup) (c : Command) (since : List Line) (addr seen counter : ℕ) (posted : List Coin) → IsSoundSetup setup → IsOf setup d → IsAcceptor d.body → All IsInRange steps →
-    Legal capacity setup steps transcript → Honest transcript → job (lines_in d transcript) ≡ works c since →
-    row d c since (epoch (lines_in d transcript)) (order (lines_in d transcript)) ≡ puts (record_of.Broken addr seen counter posted) → MayBreak (since_epoch_in d transcript)
-legal_caused capacity setup steps transcript d c since addr seen counter posted sound own accepting in_range legal honest is_job is_row =
+pub legal_caused : EachAcceptor (λ d transcript. (c : Command) (since : List Line) (addr seen counter : ℕ) (posted :
+    List Coin) → job (lines_in d transcript) ≡ works c since → row d c since (epoch (lines_in d transcript)) (order
+    (lines_in d transcript)) ≡ puts (record_of.Broken addr seen counter posted) → MayBreak (since_epoch_in d
+    transcript))
+legal_caused capacity setup steps transcript d sound own accepting in_range legal honest c since addr seen counter posted is_job is_row =
     let here : address_of c ≡ d.addr = subst (IsAt d.addr) is_job (job_at d (onto [] transcript)) in
     let ranged = subst (IsRanged d) is_job (ranged_legal capacity setup steps transcript d sound own in_range legal) in
     masks_break d (since_epoch_in d transcript) (met d (onto [] transcript)) (lines_in d transcript) c since addr seen counter posted
     (for_acceptor d.body c accepting ranged.1) ranged.0 is_job here is_row
     (legal_masks capacity setup steps transcript d sound own accepting in_range legal honest)
 
-pub legal_causes : (capacity : ℕ) (setup : Setup) (steps : List Step) (transcript : List Entry) (d : DeviceSetup) → IsSoundSetup setup → IsOf setup d → IsAcceptor d.body → All IsInRange steps →
-    Legal capacity setup steps transcript → Honest transcript → HaveCauses d (onto [] transcript)
+pub legal_causes : EachAcceptor (λ d transcript. HaveCauses d (onto [] transcript))
 legal_causes capacity setup steps transcript d sound own accepting in_range legal honest =
     goes_on_legal capacity setup steps transcript d (Masks d) (HaveCauses d) sound own accepting in_range legal honest (masks_kept d accepting)
     (λ past news s ranged ids told masks before. causes_go_on capacity setup d past news s sound own accepting ranged ids told masks before) tt

@@ -16,10 +16,10 @@ use Rattle.cct_model.specs.Acceptor.{counter, credits_of}
 use Rattle.cct_model.specs.Device.{IsAcceptor}
 use Rattle.cct_model.specs.Line.{Line, exchange, put}
 use Rattle.cct_model.specs.Job.{works, job, with_line, epoch, credits_read, judged_in, tries}
-use Rattle.cct_laws.specs.Kept.{Fate, unheard, silenced, answered, with_ended}
+use Rattle.cct_laws.specs.DeviceJobs.{Fate, unheard, silenced, answered, with_ended}
 use Rattle.cct_epoch.proofs.Counters.{counter_none}
 use Rattle.cct_laws.proofs.acceptor.World.{World, world, After, Silent, with_settings, on_reset, on_nothing, silent_fresh}
-use Rattle.cct_laws.proofs.acceptor.Fits.{Book, book, StateOf, IsIdle, Waits, FitsAt, Fits, AfterReset, AfterQuiet, AfterEpoch}
+use Rattle.cct_laws.proofs.acceptor.Fits.{ReadSoFar, read_so_far, StateOf, IsIdle, Waits, FitsAt, Fits, AfterReset, AfterQuiet, AfterEpoch}
 use Rattle.cct_laws.proofs.acceptor.Moves.{Sound, Keeps, KeepsAsk, AtRows, IsOtherEnd, sound_line, sound_exchange, keeps_ended, keeps_with_ended, answered_at, next_at, by_fate}
 use Rattle.cct_laws.proofs.acceptor.Items.{sound_epoch}
 use Rattle.cct_laws.proofs.Replies.{replied_credits}
@@ -39,7 +39,7 @@ resets d past lines c since behind rows asked got at other next idle fate =
     answered_at d past lines c since (asks_for ResetDevice behind ∷ rows) ResetDevice y at
     (keeps_with_ended d now (line ∷ lines) _ (behind_answer IsOtherEnd behind y _ other)
     (next_at d past lines c since (asks_for ResetDevice behind) rows ResetDevice y at refl (on_reset (world past lines))
-    (next (world now lines) (book (line ∷ lines)) _ _ idle (silent_fresh (world past lines)))))) fate
+    (next (world now lines) (read_so_far (line ∷ lines)) _ _ idle (silent_fresh (world past lines)))))) fate
 
 -- another counter than 0 ends the start
 start_counted : (d : DeviceSetup) (now : List Met) (lines : List Line) (k : ℕ) (quiet : Bool) → (k == 0) ≡ quiet → Sound now lines → (k ≡ 0 → Keeps d now lines) →
@@ -62,7 +62,7 @@ reads_quiet d past lines c since rows asked got accepting at next idle silent fa
     sound_exchange past now lines (Some ReadCredits) (Some y) (on_nothing w) at.keeps.sound in
     let kept : counter (length w.events) ≡ 0 → Keeps d now (line ∷ lines) = λ none.
     next_at d past lines c since (asks_for ReadCredits if_quiet) rows ReadCredits y at refl (on_nothing w)
-    (next (world now lines) (book (line ∷ lines)) _ _ idle silent
+    (next (world now lines) (read_so_far (line ∷ lines)) _ _ idle silent
     (omega (arith, counter_none (length w.events) none))) in
     let replied : KeepsAsk d past lines c since ReadCredits (Some ReadCredits) (Some y) =
     answered_at d past lines c since (asks_for ReadCredits if_quiet ∷ rows) ReadCredits y at
@@ -85,7 +85,7 @@ opened_after w mask m t silent marked few = record {
   came = few;
 }
 
-opened_state : (w : World) (b : Book) (mask : ℕ) → 1 ≤ mask → Waits w b mask → StateOf (with_settings w (mask_set mask ∷ w.settings)) b.mark b.base b.epoch
+opened_state : (w : World) (b : ReadSoFar) (mask : ℕ) → 1 ≤ mask → Waits w b mask → StateOf (with_settings w (mask_set mask ∷ w.settings)) b.mark b.base b.epoch
 opened_state w b mask some waits =
     let v = with_settings w (mask_set mask ∷ w.settings) in
     let runs : StateOf v b.mark b.base (Running mask 0) = record {
@@ -96,11 +96,11 @@ opened_state w b mask some waits =
     } in
     subst (StateOf v b.mark b.base) (sym waits.running) runs
 
-sound_opened : (past : List Met) (lines : List Line) (mask : ℕ) (got : Option Reply) → 1 ≤ mask → Waits (world past lines) (book lines) mask → Sound past lines →
+sound_opened : (past : List Met) (lines : List Line) (mask : ℕ) (got : Option Reply) → 1 ≤ mask → Waits (world past lines) (read_so_far lines) mask → Sound past lines →
     Sound (heard (Some (SetMask mask)) ∷ past) (exchange (Some (SetMask mask)) got ∷ lines)
 sound_opened past lines mask got some waits sound =
     sound_line past (heard (Some (SetMask mask)) ∷ past) lines (exchange (Some (SetMask mask)) got) tt (λ _. tt) sound.marked
-    (opened_state (world past lines) (book lines) mask some waits) sound
+    (opened_state (world past lines) (read_so_far lines) mask some waits) sound
 
 -- what is sent once ends its job without an answer too
 pub unsure : (d : DeviceSetup) (past now : List Met) (lines : List Line) (c : Command) (since : List Line) (q : Request)
@@ -117,7 +117,7 @@ unsure d past now lines c since q end other rows at keeps =
 pub opens : (d : DeviceSetup) (past : List Met) (lines : List Line) (c : Command) (since : List Line) (mask : ℕ)
     (end other : End) (rows : List TableRow) (asked : Option Request) (got : Option Reply) → 1 ≤ mask →
     AtRows d past lines c since (asks_once (SetMask mask) (ends_as end) (ends_as other) ∷ rows) → IsOtherEnd end →
-    IsOtherEnd other → Waits (world past lines) (book lines) mask → Fate d past (SetMask mask) asked got →
+    IsOtherEnd other → Waits (world past lines) (read_so_far lines) mask → Fate d past (SetMask mask) asked got →
     KeepsAsk d past lines c since (SetMask mask) asked got
 opens d past lines c since mask end other rows asked got some at is_end is_other waits unheard =
     let now = heard None ∷ past in
@@ -139,17 +139,17 @@ opens d past lines c since mask end other rows asked got some at is_end is_other
 pub begins : (d : DeviceSetup) (past : List Met) (lines : List Line) (c : Command) (since : List Line) (r : TableRow)
     (rows : List TableRow) (addr mask : ℕ) → 1 ≤ mask → job lines ≡ works c since → rest d c since ≡ r ∷ rows →
     AfterEpoch mask rows → IsIdle (epoch lines) → Silent (world past lines) →
-    length (world past lines).events + (book lines).came ≤ (world past lines).arrivals → Keeps d past lines →
+    length (world past lines).events + (read_so_far lines).came ≤ (world past lines).arrivals → Keeps d past lines →
     Keeps d past (put (record_of.Epoch addr mask) ∷ lines)
 begins d past lines c since r rows addr mask some is_job rest_is next idle silent few keeps =
     let w = world past lines in
     let line = put (record_of.Epoch addr mask) in
-    let b = book (line ∷ lines) in
+    let b = read_so_far (line ∷ lines) in
     let waits : Waits w b mask = record {
       running = refl;
       silent = silent;
       marked = refl;
-      begun = (book lines).came;
+      begun = (read_so_far lines).came;
       based = refl;
       few = few;
     } in

@@ -18,9 +18,9 @@ use Rattle.cct_model.specs.Claims as claims
 use Rattle.cct_model.specs.Claims.{coins, arrivals, mark, base, IsNear}
 use Rattle.cct_model.specs.Rows.{Then, ends_as, if_posted, reading, epoch_end, TableRow, asks_for, puts_due, from, first, rest, end_kept, sent_once}
 use Rattle.cct_model.proofs.Rows.{Behind, behind_answer}
-use Rattle.cct_laws.specs.Kept.{Fate, with_ended}
+use Rattle.cct_laws.specs.DeviceJobs.{Fate, with_ended}
 use Rattle.cct_laws.proofs.acceptor.World.{world, Shut, shut_by_master}
-use Rattle.cct_laws.proofs.acceptor.Fits.{book, Ready, IsRunning, IfOver, IsStill, ends_epoch, AfterShut}
+use Rattle.cct_laws.proofs.acceptor.Fits.{read_so_far, Ready, IsRunning, IfOver, IsStill, ends_epoch, AfterShut}
 use Rattle.cct_laws.proofs.acceptor.Moves.{Sound, Keeps, KeepsAsk, AtRows, IsOtherEnd, keeps_ended, keeps_with_ended, answered_at, next_at, by_fate, on_heard, entry_is}
 use Rattle.cct_laws.proofs.acceptor.Items.{sound_over}
 use Rattle.cct_laws.proofs.acceptor.Rounds.{IsAfterReading, posts_put, breaks_put}
@@ -41,7 +41,7 @@ shuts d past lines c since value behind rows asked got none at other next runnin
     (keeps_with_ended d now (line ∷ lines) _ (behind_answer IsOtherEnd behind y _ other)
     (next_at d past lines c since (asks_for (SetMaster value) behind) rows (SetMaster value) y at refl
     (on_heard past lines (SetMaster value) none)
-    (next (world now lines) (book (line ∷ lines)) _ _ running shut)))) fate
+    (next (world now lines) (read_so_far (line ∷ lines)) _ _ running shut)))) fate
 
 -- the epoch's end is put, and ends the job
 pub over_put : (d : DeviceSetup) (past : List Met) (lines : List Line) (addr : ℕ) (rows : List TableRow) (end : End)
@@ -62,8 +62,8 @@ IsOverNext rows = ⊥
 
 -- what was judged is put, or the epoch's end where that is nothing
 none_put : (d : DeviceSetup) (past : List Met) (lines : List Line) (of_reading : Option End) (rows : List TableRow)
-    (addr : ℕ) (p : Payment) (r : Record) → IsOverNext rows → Ready (world past lines) (book lines) Nothing →
-    IfOver (ends_epoch rows) (IsStill (world past lines) (book lines)) → first addr Nothing p rows ≡ puts r →
+    (addr : ℕ) (p : Payment) (r : Record) → IsOverNext rows → Ready (world past lines) (read_so_far lines) Nothing →
+    IfOver (ends_epoch rows) (IsStill (world past lines) (read_so_far lines)) → first addr Nothing p rows ≡ puts r →
     Sound past lines →
     Keeps d past (with_ended (end_kept (puts_due reading (if_posted of_reading) ∷ rows) r) (put r ∷ lines))
 none_put d past lines of_reading [] addr p r over ready still row sound = absurd cc
@@ -76,8 +76,8 @@ none_put d past lines of_reading rows addr p r over ready still row sound = absu
 pub judged_put : (d : DeviceSetup) (past : List Met) (lines : List Line) (c : Command) (since : List Line)
     (of_reading : Option End) (rows : List TableRow) (addr : ℕ) (judged : Judged) (p : Payment) (r : Record) →
     job lines ≡ works c since → rest d c since ≡ puts_due reading (if_posted of_reading) ∷ rows →
-    IsAfterReading of_reading rows → IsOverNext rows → Ready (world past lines) (book lines) judged →
-    IfOver (ends_epoch rows) (IsStill (world past lines) (book lines)) →
+    IsAfterReading of_reading rows → IsOverNext rows → Ready (world past lines) (read_so_far lines) judged →
+    IfOver (ends_epoch rows) (IsStill (world past lines) (read_so_far lines)) →
     first addr judged p (from (puts_due reading (if_posted of_reading) ∷ rows) judged) ≡ puts r → Keeps d past lines →
     Keeps d past (with_ended (end_kept (puts_due reading (if_posted of_reading) ∷ rows) r) (put r ∷ lines))
 judged_put d past lines c since of_reading rows addr Nothing p r is_job rest_is next over ready still row keeps =

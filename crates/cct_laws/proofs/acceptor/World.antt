@@ -1,4 +1,4 @@
--- What holds of an acceptor beside the coins and the pieces that its lines tell, and what moves keep it.
+-- What holds of an acceptor beside the coins and the objects that its lines tell, and what moves keep it.
 use Rattle.std.proofs.Common.{◌≡◌, ◌≢◌, ℕ, suc, ◌+◌, ◌≤◌, ◌⊎◌, inl, inr, ◌&&◌, Bool, true, false, List, [], ◌∷◌, ◌++◌, length, refl, ap, sym, ◌∙◌, arith, ne_eqb}
 use Rattle.std.proofs.lemmas.Bool.Decides.{nat_tests}
 use Rattle.cct_model.specs.terms.coin.Pair.{Pair}
@@ -10,7 +10,7 @@ use Rattle.cct_model.specs.History.{Met}
 use Rattle.cct_model.specs.Line.{Line}
 use Rattle.cct_model.specs.Claims.{coins, arrivals}
 
--- an acceptor's events and settings, beside the coins and the number of pieces that the lines of its address tell
+-- an acceptor's events and settings, beside the coins and the number of objects that the lines of its address tell
 pub record World : Type 0 where
   pub events : List Pair
   pub settings : List Setting
@@ -32,8 +32,8 @@ pub record Silent (w : World) : Type 0 where
   pub masked : mask_at w ≡ 0
   pub none : coins_among w.events ≡ []
 
--- a moment has this event counter and this many coins, and since this many pieces had come no more came than events are
--- behind it
+-- a moment has this event counter and this many coins, and since this many objects had come no more came than events are
+-- after it
 pub record After (w : World) (k m t : ℕ) : Type 0 where
   pub new : List Pair
   pub old : List Pair
@@ -48,7 +48,7 @@ pub record After (w : World) (k m t : ℕ) : Type 0 where
 abbrev pub IsLive : World → ℕ → Type 0
 IsLive w mask = (mask_at w ≡ mask) ⊎ Silent w
 
--- while the mask is that of an epoch, a moment stands behind its events
+-- while the mask is that of an epoch, the acceptor is after a moment
 pub record Tracks (w : World) (mask k m t : ℕ) : Type 0 where
   pub nonzero : mask ≢ 0
   pub after : mask_at w ≡ mask → After w k m t
@@ -64,7 +64,7 @@ pub record On (w v : World) : Type 0 where
   pub few : (t : ℕ) → length w.events + t ≤ w.arrivals → length v.events + t ≤ v.arrivals
   pub longer : length w.coins ≤ length v.coins
 
--- a moment stays behind the events
+-- it stays after the moment
 pub tracks_on : (w v : World) (mask k m t : ℕ) → On w v → Tracks w mask k m t → Tracks v mask k m t
 tracks_on w v mask k m t on tracks = record {
   nonzero = tracks.nonzero;
@@ -84,7 +84,7 @@ and_false false = refl
 pub closed : (w : World) → mask_at w ≡ 0 → Shut w
 closed w zero_mask place = rw (zero_mask, no_place place) refl
 
--- a piece came
+-- an object came
 
 came_more : (w : World) (pair : Pair) (coins : List Coin) (k m t : ℕ) →
     ((new : List Pair) (before : List Coin) → w.coins ≡ coins_among new ++ before → coins ≡ coins_among (pair ∷ new) ++ before) →
@@ -123,7 +123,7 @@ on_coin w coin has_place accepted = record {
     clash : true ≡ false → ⊥
     clash e = cc
 
--- any other piece
+-- any other object
 abbrev pub with_piece : World → ℕ → World
 with_piece w error = record { events = record { a = 0; b = error } ∷ w.events; settings = w.settings; coins = w.coins; arrivals = suc w.arrivals }
 

@@ -6,5 +6,6 @@ use Rattle.cct_laws.proofs.each_record_follows.Goals as goal
 pub returns : goal.returns
 returns c = record {
   all = legal_follow;
-  due = λ capacity setup steps transcript. legal_due_follows capacity setup steps (onto [] transcript);
+  due = λ capacity setup steps transcript sound in_range legal addr r.
+      legal_due_follows capacity setup steps (onto [] transcript) addr r sound in_range legal;
 }

@@ -22,7 +22,7 @@ use Rattle.cct_model.specs.Exchange.{ask, asked, asks_of}
 use Rattle.cct_model.specs.Transcript.{pending, met, lines_of, heard_by_devices, heard_after, got_by}
 use Rattle.cct_model.specs.Honest.{IsHonestFault}
 use Rattle.cct_msg.proofs.Exchanges.{asked_back}
-use Rattle.cct_laws.specs.Kept.{Fate, unheard, silenced, answered, IsRefused, WorksAt, suits}
+use Rattle.cct_laws.specs.DeviceJobs.{Fate, unheard, silenced, answered, IsRefused, WorksAt, suits}
 use Rattle.cct_laws.specs.Law.{IsOf, IsAnswered, IsUnanswered}
 use Rattle.cct_laws.proofs.Setups.{found_in}
 use Rattle.cct_laws.proofs.EitherKind.{for_acceptor, for_hopper, kind_of, one_kind}

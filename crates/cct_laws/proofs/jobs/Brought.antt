@@ -34,16 +34,16 @@ use Rattle.cct_model.specs.Device.{IsAcceptor, IsHopper, is_acceptor, is_hopper}
 use Rattle.cct_model.specs.Family.{family_of, known_to}
 use Rattle.cct_model.specs.Hopper.{remaining}
 use Rattle.cct_model.specs.Exchange.{ask, asked, asks_of, device_at}
-use Rattle.cct_model.specs.Line.{Line, accepted, inhibited, alien, fell, reset, exchange, scanned, put, taken, ended, crashed}
+use Rattle.cct_model.specs.Line.{Line, accepted, inhibited, alien, fell, reset, exchange, scanned, put, taken, ended, restarted}
 use Rattle.cct_model.specs.Order.{order}
 use Rattle.cct_model.specs.Job.{Job, free, works, job, begun, with_line, epoch, Row, sends, puts, no_row, address_of, payment_in}
 use Rattle.cct_model.specs.Rows.{TableRow, row, row_of_sale, left_of_sale, end_of, first, end_of_sale, end_kept, after, done, rows_of_sale, can_halt}
 use Rattle.cct_model.specs.Money.{totals}
 use Rattle.cct_model.specs.Scan.{scan_row, end_of_scan, poll_of}
 use Rattle.cct_model.specs.Refusal.{unless, is_busy, epoch_refusal, value_refusal, start_refusal, order_refusal, state_fails, view_of, lines_for, last_id, refusal, state_tests}
-use Rattle.cct_model.specs.Legal.{happening_entry, step_of, command_entry, with_end, RowEntries, NextEntries, PollEntries, ScanEntries, SaleRowEntries, SaleEntries, BareNext, OfKnowing, OfNext, record_due, due_of, due_of_sale, due_there, due_at, bare_crash, keeping_crash, CrashEntries, EntriesOfCrash, Entries}
+use Rattle.cct_model.specs.Legal.{happening_entry, step_of, command_entry, with_end, RowEntries, NextEntries, PollEntries, ScanEntries, SaleRowEntries, SaleEntries, BareNext, OfKnowing, OfNext, record_due, due_of, due_of_sale, due_there, due_at, bare_restart, keeping_restart, RestartEntries, EntriesOfRestart, Entries}
 use Rattle.cct_model.specs.Transcript.{met, owner, lines_of, scan_lines, scan_line, sale_lines, heard_after, heard_by_devices, pending, got_by, doses_of}
-use Rattle.cct_laws.specs.Kept.{is_for_acceptor, is_for_hopper, suits, IsTaken}
+use Rattle.cct_laws.specs.DeviceJobs.{is_for_acceptor, is_for_hopper, suits, IsTaken}
 use Rattle.cct_laws.specs.KeptHopper.{IsOwed}
 use Rattle.cct_laws.specs.Law.{IsOf}
 use Rattle.cct_model.proofs.Doses.{job_undosed}
@@ -70,7 +70,7 @@ pub data Comes (d : DeviceSetup) (past : List Met) : Step → Entry → Met → 
       Comes d past (step.Jam d.addr) (entry.NoJam d.addr) history.jam []
   is_reset : Comes d past (step.Reset d.addr) (entry.Reset d.addr) history.reset (reset ∷ [])
 
--- a command is at work at a device
+-- the job of a command is running at a device
 pub record AtWork (d : DeviceSetup) (past : List Entry) (c : Command) (since : List Line) : Type 0 where
   pub job_is : job (lines_of d past) ≡ works c since
   pub is_here : address_of c ≡ d.addr
@@ -132,7 +132,7 @@ pub data Due (setup : Setup) (past : List Entry) : Record → Type 0 where
       Due setup past (record_of.Sold id price)
 
 -- what a step brought: something at a device of the setup; or a fault was set, a command was refused, a scan or a sale was
--- begun or went on, nobody was there, the balance was read; or the host lost its power, within a put or not
+-- begun or went on, nobody was there, the balance was read; or the power was cut, within a put or not
 pub data Brought (capacity : ℕ) (setup : Setup) (past : List Entry) : Step → List Entry → Type 0 where
   of_device : (d : DeviceSetup) (s : Step) (news : List Entry) → IsOf setup d → AtDevice capacity setup d past s news →
       Brought capacity setup past s news
@@ -152,13 +152,13 @@ pub data Brought (capacity : ℕ) (setup : Setup) (past : List Entry) : Step →
   sold : (id price : ℕ) (since : List Line) → device_at setup.devices HOST ≡ None → Selling past id price since →
       Brought capacity setup past (step.Next HOST) (entry.Ended HOST Sold ∷ entry.Put (record_of.Sold id price) ∷ [])
   balanced : Brought capacity setup past step.Balance (entry.Balance (totals setup past) ∷ [])
-  lost_power : (at : Option CrashAt) (choice : ℕ) → Brought capacity setup past (step.Crash at choice) (bare_crash past)
+  lost_power : (at : Option CrashAt) (choice : ℕ) → Brought capacity setup past (step.Crash at choice) (bare_restart past)
   lost_in_put : (at : CrashAt) (choice : ℕ) (d : DeviceSetup) (c : Command) (since : List Line) (r : Record) →
       IsOf setup d → AtWork d past c since → row_after d past c since ≡ puts r →
-      Brought capacity setup past (step.Crash (Some at) choice) (keeping_crash past r)
+      Brought capacity setup past (step.Crash (Some at) choice) (keeping_restart past r)
   lost_in_sale : (at : CrashAt) (choice : ℕ) (id price : ℕ) (since : List Line) → device_at setup.devices HOST ≡ None →
       Selling past id price since →
-      Brought capacity setup past (step.Crash (Some at) choice) (keeping_crash past (record_of.Sold id price))
+      Brought capacity setup past (step.Crash (Some at) choice) (keeping_restart past (record_of.Sold id price))
 
 -- the command of a job at an address is for that address
 abbrev pub IsAt : ℕ → Job → Type 0
@@ -182,7 +182,7 @@ line_at : (addr : ℕ) (l : Line) (lines : List Line) → TakesAt addr l → IsA
     IsAt addr (job (l ∷ lines))
 line_at addr (taken c) lines here before = begun_at addr c (job lines) here before
 line_at addr (ended end) lines here before = tt
-line_at addr crashed lines here before = tt
+line_at addr restarted lines here before = tt
 line_at addr (exchange q y) lines here before = with_line_at addr _ (job lines) before
 line_at addr (scanned check place rest) lines here before = with_line_at addr _ (job lines) before
 line_at addr (put r) lines here before = with_line_at addr _ (job lines) before
@@ -405,7 +405,7 @@ row_brought capacity setup d past news c since (puts r) at_work is told =
     subst (AtDevice capacity setup d past (step.Next d.addr)) (sym told) (made_put c since r at_work is)
 row_brought capacity setup d past news c since no_row at_work is told = absurd told
 
--- a job at a device is at work
+-- a job at a device is running
 pub works_there : (d : DeviceSetup) (past : List Entry) (c : Command) (since : List Line) →
     job (lines_of d past) ≡ works c since → AtWork d past c since
 works_there d past c since is = record { job_is = is; is_here = subst (IsAt d.addr) is (job_at d past) }
@@ -555,16 +555,16 @@ pub is_due : (setup : Setup) (past : List Entry) (addr : ℕ) (r : Record) → d
     Due setup past r
 is_due setup past addr r due = there_due setup past addr r (device_at setup.devices addr) refl due
 
--- a loss of power
+-- a power cut
 kept_brought : (capacity : ℕ) (setup : Setup) (past : List Entry) (at : CrashAt) (choice : ℕ) (r : Record) →
-    Due setup past r → Brought capacity setup past (step.Crash (Some at) choice) (keeping_crash past r)
+    Due setup past r → Brought capacity setup past (step.Crash (Some at) choice) (keeping_restart past r)
 kept_brought capacity setup past at choice _ (from_job d c since r own at_work is_row) =
     lost_in_put at choice d c since r own at_work is_row
 kept_brought capacity setup past at choice _ (from_sale id price since none selling) =
     lost_in_sale at choice id price since none selling
 
 put_lost : (capacity : ℕ) (setup : Setup) (past news : List Entry) (at : CrashAt) (choice : ℕ) (due : Option Record) →
-    due_at setup past at.addr ≡ due → CrashEntries past at.calls due news →
+    due_at setup past at.addr ≡ due → RestartEntries past at.calls due news →
     Brought capacity setup past (step.Crash (Some at) choice) news
 put_lost capacity setup past news at choice None is told =
     subst (Brought capacity setup past (step.Crash (Some at) choice)) (sym told) (lost_power (Some at) choice)
@@ -575,11 +575,11 @@ put_lost capacity setup past news at choice (Some r) is told =
           (kept_brought capacity setup past at choice r (is_due setup past at.addr r is))
     ]
 
-crash_brought : (capacity : ℕ) (setup : Setup) (past news : List Entry) (at : Option CrashAt) (choice : ℕ) →
-    EntriesOfCrash setup past at news → Brought capacity setup past (step.Crash at choice) news
-crash_brought capacity setup past news None choice told =
+restart_brought : (capacity : ℕ) (setup : Setup) (past news : List Entry) (at : Option CrashAt) (choice : ℕ) →
+    EntriesOfRestart setup past at news → Brought capacity setup past (step.Crash at choice) news
+restart_brought capacity setup past news None choice told =
     subst (Brought capacity setup past (step.Crash None choice)) (sym told) (lost_power None choice)
-crash_brought capacity setup past news (Some at) choice told = put_lost capacity setup past news at choice _ refl told
+restart_brought capacity setup past news (Some at) choice told = put_lost capacity setup past news at choice _ refl told
 
 -- each legal step brought one of these
 pub brought : (capacity : ℕ) (setup : Setup) (past news : List Entry) (s : Step) → Entries capacity setup past s news →
@@ -598,7 +598,7 @@ brought capacity setup past news (step.Fault f) told = subst (Brought capacity s
 brought capacity setup past news (step.Command c) told =
     subst (Brought capacity setup past (step.Command c)) (sym told) (command_brought capacity setup past c _ refl)
 brought capacity setup past news (step.Next addr) told = next_brought capacity setup past news addr _ refl told
-brought capacity setup past news (step.Crash at choice) told = crash_brought capacity setup past news at choice told
+brought capacity setup past news (step.Crash at choice) told = restart_brought capacity setup past news at choice told
 brought capacity setup past news step.Balance told =
     subst (Brought capacity setup past step.Balance) (sym told) balanced
 brought capacity setup past news step.End told = absurd told

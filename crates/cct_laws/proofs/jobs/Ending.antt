@@ -34,9 +34,9 @@ use Rattle.cct_model.specs.Legal.{with_end, LegalFrom}
 use Rattle.cct_model.specs.Transcript.{pending, met, lines_of, heard_by_devices, heard_after, doses_of, got_by}
 use Rattle.cct_msg.specs.Forms.{form_shown}
 use Rattle.cct_msg.proofs.Exchanges.{asked_back}
-use Rattle.cct_laws.specs.Ending.{nexts_after, nexts_at, halts_after, halts_at, is_payment, row_count, nexts_needed, ShowsEnd, EndsAs, EndsRound, HasNoEnd, EachAtWork, LeavesAlone, IsUndisturbed, FindsNoneLeft, IsPaidOut}
+use Rattle.cct_laws.specs.Ending.{nexts_after, nexts_at, halts_after, halts_at, is_payment, row_count, nexts_needed, ShowsEnd, EndsAs, EndsRound, HasNoEnd, EachWhileRunning, LeavesAlone, IsUndisturbed, FindsNoneLeft, AlwaysFindsNoneLeft}
 use Rattle.cct_laws.specs.Ids.{Ids}
-use Rattle.cct_laws.specs.Kept.{IsRefused, suits}
+use Rattle.cct_laws.specs.DeviceJobs.{IsRefused, suits}
 use Rattle.cct_laws.specs.Law.{IsOf}
 use Rattle.cct_laws.proofs.jobs.Asked.{answers_at}
 use Rattle.cct_laws.proofs.jobs.Brought.{AtDevice, came, took, halted, idled, made_exchange, made_put, AtWork, row_after, wire_of, wire_end, record_end, Brought, brought}
@@ -268,7 +268,7 @@ puts_there setup d c nexts past since r own ids at_work few enough is_row =
     (few_put d c (done (rows_of d c) since) (judged_in c since state) (payment_in since (order (lines_of d past))) r is_row reads few)
     (on_by true false (is_marked since) (row_count d c) (done (rows_of d c) since) nexts refl enough)
 
--- how many `next` are left behind a step
+-- how many `next` are left after a step
 abbrev one_fewer : ℕ → ℕ
 one_fewer zero = zero
 one_fewer (suc n) = n
@@ -311,7 +311,7 @@ halt_there d c nexts past at =
     } in
     inr (after, tt)
 
--- the command at work is the job's
+-- the command of the running job
 works_same : (c at_work : Command) (since others : List Line) → works c since ≡ works at_work others →
     (at_work ≡ c) × (others ≡ since)
 works_same c at_work since others is = (cc, cc)
@@ -321,13 +321,13 @@ no_free c since is = cc
 
 -- no fault was set for its exchange, and where that asked how a payout goes, nothing was left
 first_clear : (addr : ℕ) (past : List Entry) (sent piece : List ℕ) (end : Option End) →
-    EachAtWork (LeavesAlone addr) addr past (with_end addr (entry.Wire addr sent piece) end) →
+    EachWhileRunning (LeavesAlone addr) addr past (with_end addr (entry.Wire addr sent piece) end) →
     pending past ≡ fault.Clear
 first_clear addr past sent piece None alone = alone.0 tt refl
 first_clear addr past sent piece (Some end) alone = alone.1.0 tt refl
 
 first_found : (d : DeviceSetup) (past : List Entry) (sent piece : List ℕ) (end : Option End) →
-    EachAtWork (FindsNoneLeft d) d.addr past (with_end d.addr (entry.Wire d.addr sent piece) end) →
+    EachWhileRunning (FindsNoneLeft d) d.addr past (with_end d.addr (entry.Wire d.addr sent piece) end) →
     asked d.kind sent ≡ Some GetStatus → remaining d.serial (met d past) ≡ 0
 first_found d past sent piece None finds = finds.0 tt refl
 first_found d past sent piece (Some end) finds = finds.1.0 tt refl
@@ -344,9 +344,9 @@ asked_there : (setup : Setup) (d : DeviceSetup) (c at_work : Command) (nexts : �
     job (lines_of d past) ≡ works c since → done (rows_of d c) since < row_count d c →
     row_count d c + cond (is_marked since) 1 0 ≤ done (rows_of d c) since + suc nexts →
     row_after d past at_work others ≡ sends q →
-    EachAtWork (LeavesAlone d.addr) d.addr past
+    EachWhileRunning (LeavesAlone d.addr) d.addr past
     (with_end d.addr (wire_of setup d past q) (wire_end setup d past at_work others q)) →
-    (is_payment c ≡ true → EachAtWork (FindsNoneLeft d) d.addr past
+    (is_payment c ≡ true → EachWhileRunning (FindsNoneLeft d) d.addr past
     (with_end d.addr (wire_of setup d past q) (wire_end setup d past at_work others q))) →
     Goes d c nexts past (with_end d.addr (wire_of setup d past q) (wire_end setup d past at_work others q))
 asked_there setup d c at_work nexts past since others q played same is_job few enough is_row alone finds =
@@ -388,8 +388,8 @@ put_there setup d c at_work nexts past since others r played ids same is_work fe
 -- and what it makes of the job
 job_there : (capacity : ℕ) (setup : Setup) (d : DeviceSetup) (c : Command) (nexts : ℕ) (past news : List Entry)
     (s : Step) → IsPlayed setup d c → Ids setup past → JobAt d c (suc nexts) past →
-    EachAtWork (LeavesAlone d.addr) d.addr past news →
-    (is_payment c ≡ true → EachAtWork (FindsNoneLeft d) d.addr past news) → AtDevice capacity setup d past s news →
+    EachWhileRunning (LeavesAlone d.addr) d.addr past news →
+    (is_payment c ≡ true → EachWhileRunning (FindsNoneLeft d) d.addr past news) → AtDevice capacity setup d past s news →
     Goes d c (needed_after (is_payment c) d.addr s (suc nexts)) past news
 unfolding needed_after
 job_there capacity setup d c nexts past _ _ played ids at alone finds (came s e m ls comes) =
@@ -425,17 +425,17 @@ passed_no_end : (d : DeviceSetup) (past news : List Entry) → ArePassed d past 
 passed_no_end d past [] passes = tt
 passed_no_end d past (e ∷ news) passes = no_end_more d.addr e news passes.0.no_end (passed_no_end d past news passes.1)
 
--- no power is lost while the job is at work
+-- the power isn't cut while the job is running
 none_lost : (d : DeviceSetup) (past news : List Entry) → Lost d past news →
-    EachAtWork (LeavesAlone d.addr) d.addr past news → ⊥
+    EachWhileRunning (LeavesAlone d.addr) d.addr past news → ⊥
 none_lost d past _ bare alone = alone.0 tt
 none_lost d past _ (kept_here c since r at_work is_row owned) alone = alone.1.0 tt
 none_lost d past _ (kept_elsewhere r away caused) alone = alone.1.0 tt
 
 job_step : (capacity : ℕ) (setup : Setup) (d : DeviceSetup) (c : Command) (nexts : ℕ) (past news : List Entry)
     (s : Step) → IsPlayed setup d c → Ids setup past → JobAt d c (suc nexts) past →
-    EachAtWork (LeavesAlone d.addr) d.addr past news →
-    (is_payment c ≡ true → EachAtWork (FindsNoneLeft d) d.addr past news) → Brought capacity setup past s news →
+    EachWhileRunning (LeavesAlone d.addr) d.addr past news →
+    (is_payment c ≡ true → EachWhileRunning (FindsNoneLeft d) d.addr past news) → Brought capacity setup past s news →
     Goes d c (needed_after (is_payment c) d.addr s (suc nexts)) past news
 job_step capacity setup d c nexts past news s played ids at alone finds told =
     elim (seen_from capacity setup d past news s played.sound played.own ids told) [
@@ -446,9 +446,9 @@ job_step capacity setup d c nexts past news s played ids at alone finds told =
       | seen_lost lost no_next ↦ absurd (none_lost d past news lost alone)
     ]
 
--- what holds of entries at work holds of their parts
+-- what holds of entries of a running job holds of their parts
 work_first : (P : List Entry → Entry → Type 0) (addr : ℕ) (past news later : List Entry) →
-    EachAtWork P addr past (later ++ news) → EachAtWork P addr past news
+    EachWhileRunning P addr past (later ++ news) → EachWhileRunning P addr past news
 work_first P addr past news [] each = each
 work_first P addr past news (e ∷ later) each = work_first P addr past news later each.1
 
@@ -459,7 +459,7 @@ no_end_both addr news (entry.Ended other end ∷ later) first none = (first.0, n
 no_end_both addr news (e ∷ later) first none = no_end_both addr news later first none
 
 work_later : (P : List Entry → Entry → Type 0) (addr : ℕ) (past news later : List Entry) → HasNoEnd addr news →
-    EachAtWork P addr past (later ++ news) → EachAtWork P addr (news ++ past) later
+    EachWhileRunning P addr past (later ++ news) → EachWhileRunning P addr (news ++ past) later
 work_later P addr past news [] none each = tt
 work_later P addr past news (e ∷ later) none each = (
   λ first. subst (λ es. P es e) (append_assoc later news past) (each.0 (no_end_both addr news later first none)),
@@ -511,7 +511,7 @@ ends_along : (capacity : ℕ) (setup : Setup) (d : DeviceSetup) (c : Command) (n
     (steps : List Step) (end : List Entry) → IsPlayed setup d c →
     nexts + cond (is_payment c) (halts_at d.addr steps) 0 ≤ nexts_at d.addr steps → Ids setup past →
     JobAt d c nexts past → LegalFrom capacity setup past steps end → IsUndisturbed d.addr past end →
-    (is_payment c ≡ true → IsPaidOut d past end) → EndsAs c d.addr past end
+    (is_payment c ≡ true → AlwaysFindsNoneLeft d past end) → EndsAs c d.addr past end
 unfolding Goes
 ends_along capacity setup d c zero past steps end played come ids at legal undisturbed paid =
     absurd (omega (arith, at.few, at.enough))
@@ -524,7 +524,7 @@ ends_along capacity setup d c (suc nexts) past (s ∷ steps) end played come ids
     let later = grown capacity setup (news ++ past) steps end legal.2 in
     let whole : end ≡ (later.0 ++ news) ++ past = later.1 ∙ sym (append_assoc later.0 news past) in
     let alone = work_first (LeavesAlone d.addr) d.addr past news later.0 (undisturbed (later.0 ++ news) whole) in
-    let finds : pays ≡ true → EachAtWork (FindsNoneLeft d) d.addr past news =
+    let finds : pays ≡ true → EachWhileRunning (FindsNoneLeft d) d.addr past news =
     λ is. work_first (FindsNoneLeft d) d.addr past news later.0 (paid is (later.0 ++ news) whole) in
     elim (job_step capacity setup d c nexts past news s played ids at alone finds told) [
       | inl shows ↦ (later.0 ++ news, whole, shows_more c d.addr later.0 news shows)
@@ -532,7 +532,7 @@ ends_along capacity setup d c (suc nexts) past (s ∷ steps) end played come ids
           let rest : IsUndisturbed d.addr (news ++ past) end =
           λ more is. work_later (LeavesAlone d.addr) d.addr past news more goes.1
           (undisturbed (more ++ news) (is ∙ sym (append_assoc more news past))) in
-          let rest_paid : pays ≡ true → IsPaidOut d (news ++ past) end =
+          let rest_paid : pays ≡ true → AlwaysFindsNoneLeft d (news ++ past) end =
           λ yes more is. work_later (FindsNoneLeft d) d.addr past news more goes.1
           (paid yes (more ++ news) (is ∙ sym (append_assoc more news past))) in
           let ends = ends_along capacity setup d c (needed_after pays d.addr s (suc nexts)) (news ++ past) steps end
@@ -560,7 +560,7 @@ pub job_ends : (capacity : ℕ) (setup : Setup) (before : List Step) (past : Lis
     (c : Command) (steps : List Step) (end : List Entry) → IsSoundSetup setup → IsOf setup d → IsCommand c →
     suits d.body c ≡ true → LegalFrom capacity setup [] before past → job (lines_of d past) ≡ works c [] →
     nexts_needed d c steps ≤ nexts_at d.addr steps → LegalFrom capacity setup past steps end →
-    IsUndisturbed d.addr past end → (is_payment c ≡ true → IsPaidOut d past end) → EndsAs c d.addr past end
+    IsUndisturbed d.addr past end → (is_payment c ≡ true → AlwaysFindsNoneLeft d past end) → EndsAs c d.addr past end
 job_ends capacity setup before past d c steps end sound own known suited was is_job enough legal undisturbed paid =
     let played : IsPlayed setup d c = record { sound = sound; own = own; known = known; suited = suited } in
     let ids = (along_from capacity setup (λ s. ⊤) (λ es. ⊤) sound (λ es news s any ids told holds. tt) [] before past

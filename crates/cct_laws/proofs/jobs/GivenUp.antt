@@ -33,7 +33,7 @@ use Rattle.cct_model.proofs.Doses.{job_undosed}
 use Rattle.cct_laws.proofs.Faults.{legal_fails_but, legal_echoes}
 use Rattle.cct_laws.proofs.jobs.Scans.{IsPoll, tries_more, scan_line_is, legal_scans}
 use Rattle.cct_laws.proofs.jobs.Tries.{asks_again, again_in, GivenUpAt, tries_by, legal_given_up}
-use Rattle.cct_model.proofs.Tries.{is_once_header, is_asked_again}
+use Rattle.cct_model.proofs.Requests.{is_once_header, is_asked_again}
 
 -- fewer of the newest exchanges
 fewer_by : (here : Bool) (P Q R S : Type 0) → (P → R) → (Q → S) → MatchBool here P Q → MatchBool here R S

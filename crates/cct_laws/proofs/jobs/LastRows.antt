@@ -1,4 +1,4 @@
--- The last row of a job ends it: whatever ends no job leaves rows behind it.
+-- The last row of a job ends it: whatever ends no job leaves rows after it.
 use Rattle.std.proofs.Common.{◌==◌, ◌≡◌, ℕ, zero, suc, ◌<◌, Bool, true, false, cond, List, [], ◌∷◌, length, refl, ap, sym, ◌∙◌, subst, Some, None, ◌⊎◌, inl, inr, arith, rules, true≢false, Option}
 use Rattle.std.specs.Prelude.{⊤}
 use Rattle.cct_model.specs.terms.device.DeviceSetup.{DeviceSetup}
@@ -60,7 +60,7 @@ last_ends d (command.Ident addr) = told_last (ident_requests d.body)
 last_ends d (command.Path addr place path) = path_last (place == 0) place
 last_ends d c = tt
 
--- behind the rows done are more than one, or the last
+-- after the rows done are more than one, or the last
 few_after : (rows : List TableRow) (n : ℕ) → LastEnds rows → n < length rows →
     (suc n < length rows) ⊎ ((r : TableRow) × EndsIt r × (after rows n ≡ r ∷ []))
 few_after [] n ends few = absurd (omega (arith, few))
@@ -73,7 +73,7 @@ few_after (r ∷ s ∷ rows) (suc n) ends few =
       | inr last ↦ inr last
     ]
 
--- so what ends no job leaves rows behind it, where it would end the job at a last row
+-- so what ends no job leaves rows after it, where it would end the job at a last row
 few_by : (d : DeviceSetup) (c : Command) (n : ℕ) → n < length (rows_of d c) →
     ((r : TableRow) → EndsIt r → after (rows_of d c) n ≡ r ∷ [] → ⊥) → suc n < length (rows_of d c)
 few_by d c n few never =

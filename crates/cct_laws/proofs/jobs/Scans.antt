@@ -12,7 +12,7 @@ use Rattle.cct_model.specs.lines.entry.Entry.{Entry}
 use Rattle.cct_model.specs.lines.entry.Entry.TheVariants as entry
 use Rattle.cct_model.specs.Setup.{IsSoundSetup}
 use Rattle.cct_model.specs.Exchange.{ask, after_echo}
-use Rattle.cct_model.specs.Line.{Line, scanned, ended, crashed}
+use Rattle.cct_model.specs.Line.{Line, scanned, ended, restarted}
 use Rattle.cct_model.specs.Job.{works, job, with_line}
 use Rattle.cct_model.specs.Scan.{same_check, scan_row, scan_tries, end_of_scan, end_by_row, poll_of}
 use Rattle.cct_model.specs.Claims.{AllPast}
@@ -31,7 +31,7 @@ pub record Polls (lines : List Line) : Type 0 where
 abbrev PollsAt : List Entry → Type 0
 PollsAt past = Polls (scan_lines past)
 
--- one poll is one failed try more at the most
+-- one poll is at most one failed try more
 tries_if : (b : Bool) (n : ℕ) → cond b (suc n) 0 ≤ suc n
 tries_if true n = omega arith
 tries_if false n = omega arith
@@ -90,7 +90,7 @@ unfolding end_of_scan
 poll_kept past c since e check addr rest lines_are is_job polls =
     poll_by past c since e check addr rest _ _ lines_are is_job refl refl polls
 
--- the line of a poll behind whose echo this came
+-- the line of a poll after whose echo this came
 abbrev pub IsPoll : Option (List ℕ) → Line → Type 0
 IsPoll rest l = (check : CheckKind) × (addr : ℕ) × (l ≡ scanned check addr rest)
 
@@ -114,9 +114,9 @@ wire_kept past c since sent piece is_job polls =
     subst (λ l. PollsAt (with_end 0 wire (end_of_scan (l ∷ since)) ++ past)) (sym is.2)
     (poll_kept past c since wire is.0 is.1 (after_echo sent piece) (ap (λ l. l ∷ scan_lines past) is.2) is_job polls)
 
--- a loss of power ends a scan
-crash_kept : (past : List Entry) → PollsAt past → Polls (crashed ∷ scan_lines past)
-crash_kept past polls = record { each = (polls.few, polls.each); few = tt }
+-- a power cut ends a scan
+restart_kept : (past : List Entry) → PollsAt past → Polls (restarted ∷ scan_lines past)
+restart_kept past polls = record { each = (polls.few, polls.each); few = tt }
 
 -- what each step brings at address 0
 polls_step : (capacity : ℕ) (setup : Setup) → IsSoundSetup setup → (past news : List Entry) (s : Step) → ⊤ →
@@ -133,11 +133,11 @@ polls_step capacity setup sound past _ _ any ids (polled c since check addr none
     wire_kept past c since _ _ is_job polls
 polls_step capacity setup sound past _ _ any ids (sold id price since none selling) polls = polls
 polls_step capacity setup sound past _ _ any ids balanced polls = polls
-polls_step capacity setup sound past _ _ any ids (lost_power at choice) polls = crash_kept past polls
+polls_step capacity setup sound past _ _ any ids (lost_power at choice) polls = restart_kept past polls
 polls_step capacity setup sound past _ _ any ids (lost_in_put at choice d c since r own at_work is_row) polls =
-    crash_kept past polls
+    restart_kept past polls
 polls_step capacity setup sound past _ _ any ids (lost_in_sale at choice id price since none selling) polls =
-    crash_kept past polls
+    restart_kept past polls
 
 legal_polls : (capacity : ℕ) (setup : Setup) (steps : List Step) (transcript : List Entry) →
     IsSoundSetup setup → Legal capacity setup steps transcript → PollsAt (onto [] transcript)

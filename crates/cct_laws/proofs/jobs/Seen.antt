@@ -1,6 +1,6 @@
 -- What a step brought, seen from one device or from address 0: something there, or entries that are none of it. And
 -- how a fact that each step keeps goes along all of them.
-use Rattle.std.proofs.Common.{◌≡◌, ◌≢◌, ℕ, ◌==◌, ◌<◌, cond, Bool, true, false, List, [], ◌∷◌, ◌++◌, slice_index, refl, ap, sym, ◌∙◌, subst, Option, Some, None, ◌⊎◌, inl, inr, All, arith, rules, eq-eqb}
+use Rattle.std.proofs.Common.{◌≡◌, ◌≢◌, ℕ, ◌==◌, cond, Bool, true, false, List, [], ◌∷◌, ◌++◌, slice_index, refl, ap, sym, ◌∙◌, subst, Option, Some, None, ◌⊎◌, inl, inr, All, arith, rules, eq-eqb}
 use Rattle.std.specs.Prelude.{⊤}
 use Rattle.std.proofs.lemmas.Bool.{ne_eqb}
 use Rattle.std.proofs.lemmas.List.Elements.{All-head, All-tail, All-nil, All-cons}
@@ -25,23 +25,21 @@ use Rattle.cct_model.specs.History as history
 use Rattle.cct_model.specs.Device.{IsSound}
 use Rattle.cct_model.specs.Setup.{IsSoundSetup}
 use Rattle.cct_model.specs.Exchange.{ask, asked, asks_of, device_at}
-use Rattle.cct_model.specs.Line.{Line, dispensed, exchange, put, taken, ended, crashed}
+use Rattle.cct_model.specs.Line.{Line, dispensed, exchange, put, taken, ended, restarted}
 use Rattle.cct_model.specs.Job.{job, puts, address_of}
-use Rattle.cct_model.specs.Legal.{with_end, bare_crash, keeping_crash, LegalFrom}
-use Rattle.cct_model.specs.Claims.{AllPast}
+use Rattle.cct_model.specs.Legal.{with_end, bare_restart, keeping_restart, LegalFrom}
 use Rattle.cct_model.specs.Transcript.{pending, meets, met, own, owner, lines_of, heard_by_devices, got_by, doses, doses_of, scan_own, scan_lines}
 use Rattle.cct_laws.specs.Ending.{nexts_after, HasNoEnd}
 use Rattle.cct_laws.specs.Faults.{FailsByFault, EchoFailsByFault}
 use Rattle.cct_model.specs.Honest.{IsHonestAt, IsHonestFault}
-use Rattle.cct_laws.specs.Kept.{IsForOthers, with_ended}
+use Rattle.cct_laws.specs.DeviceJobs.{IsForOthers, with_ended}
 use Rattle.cct_laws.specs.Law.{IsOf, EachEntry}
-use Rattle.cct_laws.specs.Since.{since_record, since_epoch, HasCause, HasCauseAt}
-use Rattle.cct_laws.specs.Tries.{failed_in, TriesAt}
+use Rattle.cct_laws.specs.SinceEpoch.{since_record, since_epoch, HasCause, HasCauseAt}
 use Rattle.cct_laws.specs.Ids.{Ids}
 use Rattle.cct_laws.proofs.jobs.Brought.{Comes, takes_coin, leaves_coin, leaves_alien, drops_coin, drops_none, jams, jams_none, is_reset, AtWork, AtDevice, came, took, halted, idled, made_exchange, made_put, row_after, wire_of, wire_end, record_end, poll_wire, poll_end, Brought, of_device, faulted, refused, began_scan, began_sale, nobody, polled, sold, balanced, lost_power, lost_in_put, lost_in_sale, brought}
 use Rattle.cct_model.proofs.Doses.{AreDoses, doses_are, same_over}
 use Rattle.cct_laws.proofs.orders.Ids.{ids_start, ids_step, put_owned}
-use Rattle.cct_laws.proofs.Pieces.{ask_to, asked_elsewhere, poll_others}
+use Rattle.cct_laws.proofs.HeardBytes.{ask_to, asked_elsewhere, poll_others}
 use Rattle.cct_laws.proofs.Setups.{found_in, same_or_other}
 
 -- what a device met is for others
@@ -51,7 +49,7 @@ AreForOthers (heard asked ∷ met) = IsForOthers asked × AreForOthers met
 AreForOthers (m ∷ met) = ⊥
 
 -- an entry is none of a device: no line of it but that it took a dispense, which it heard from a damaged wire, and nothing
--- that it met but what is for others; it begins no epoch of it, puts no break of it and ends no job of it
+-- that it met but what is for others. It begins no epoch of it, puts no break of it and ends no job of it
 pub record Passes (d : DeviceSetup) (past : List Entry) (e : Entry) : Type 0 where
   pub dosed : AreDoses (own d past e)
   pub no_line : IsHonestAt past e → own d past e ≡ []
@@ -82,7 +80,7 @@ pub passed_job : (d : DeviceSetup) (past news : List Entry) → ArePassed d past
     job (lines_of d (news ++ past)) ≡ job (lines_of d past)
 passed_job d past news passes = passed_same job (λ count lines. refl) d past news passes
 
--- a fact of each entry over entries that are none of a device, and over an entry and the end behind it
+-- a fact of each entry over entries that are none of a device, and over an entry and the end after it
 pub each_aside : (P : List Entry → Entry → Type 0) (d : DeviceSetup) (past news : List Entry) →
     ((older : List Entry) (e : Entry) → Passes d older e → P older e) → ArePassed d past news → EachEntry P past →
     EachEntry P (news ++ past)
@@ -106,7 +104,6 @@ pub record IsLoose (addr : ℕ) (s : Step) (e : Entry) (m : Met) (ls : List Line
   pub no_exchange : (d : DeviceSetup) (past : List Entry) → FailsByFault d past e × EchoFailsByFault past e
   pub no_break : (d : DeviceSetup) (past : List Entry) → HasCauseAt d past e
   pub no_end : (other : ℕ) → HasNoEnd other (e ∷ [])
-  pub no_third : (lines : List Line) → failed_in (job lines) < 3 → AllPast TriesAt lines → AllPast TriesAt (ls ++ lines)
   pub no_scan : scan_own e ≡ []
   pub no_next : (other nexts : ℕ) → nexts_after other s nexts ≡ nexts
 
@@ -129,7 +126,6 @@ unlined addr s e m own_is meets_is goes_on no_exchange no_break no_end no_scan n
   no_exchange = no_exchange;
   no_break = no_break;
   no_end = no_end;
-  no_third = λ lines few before. before;
   no_scan = no_scan;
   no_next = no_next;
 }
@@ -321,14 +317,14 @@ nobody_at setup d addr is_of none = λ same. clash (sym none ∙ ap (device_at s
     clash : None ≡ Some d → ⊥
     clash e = cc
 
--- a loss of power, seen from one device: nothing was kept, or the record that its job was putting, or another's
+-- a power cut, seen from one device: nothing was kept, or the record that its job was putting, or another's
 pub data Lost (d : DeviceSetup) (past : List Entry) : List Entry → Type 0 where
-  bare : Lost d past (bare_crash past)
+  bare : Lost d past (bare_restart past)
   kept_here : (c : Command) (since : List Line) (r : Record) → AtWork d past c since → row_after d past c since ≡ puts r →
-      owner past r ≡ d.addr → Lost d past (keeping_crash past r)
-  kept_elsewhere : (r : Record) → owner past r ≢ d.addr → HasCause d past r → Lost d past (keeping_crash past r)
+      owner past r ≡ d.addr → Lost d past (keeping_restart past r)
+  kept_elsewhere : (r : Record) → owner past r ≢ d.addr → HasCause d past r → Lost d past (keeping_restart past r)
 
--- each step brought something at a device, or entries that are none of it, or the host lost its power
+-- each step brought something at a device, or entries that are none of it, or the power was cut
 pub data Seen (capacity : ℕ) (setup : Setup) (d : DeviceSetup) (past : List Entry) (s : Step) (news : List Entry) : Type 0 where
   seen_here : AtDevice capacity setup d past s news → Seen capacity setup d past s news
   seen_aside : Aside d past s news → Seen capacity setup d past s news
@@ -341,11 +337,11 @@ not_host setup d sound is_of =
 
 kept_seen : (setup : Setup) (d e : DeviceSetup) (past : List Entry) (c : Command) (since : List Line) (r : Record) →
     Ids setup past → IsOf setup e → AtWork e past c since → row_after e past c since ≡ puts r → (e ≡ d) ⊎ (e.addr ≢ d.addr) →
-    Lost d past (keeping_crash past r)
+    Lost d past (keeping_restart past r)
 kept_seen setup d e past c since r ids own at_work is_row same =
     let owned = put_owned setup past e c since r own ids at_work is_row in
     elim same [
-      | inl it ↦ subst (λ x. Lost x past (keeping_crash past r)) it (kept_here c since r at_work is_row owned)
+      | inl it ↦ subst (λ x. Lost x past (keeping_restart past r)) it (kept_here c since r at_work is_row owned)
       | inr other ↦
           let away : owner past r ≢ d.addr = λ is. other (sym owned ∙ is) in
           kept_elsewhere r away (put_elsewhere d past r away)
@@ -400,13 +396,13 @@ seen_from capacity setup d past _ _ sound is_of ids (lost_in_put at choice e c s
 seen_from capacity setup d past _ _ sound is_of ids (lost_in_sale at choice id price since none selling) =
     seen_lost (kept_elsewhere (record_of.Sold id price) (not_host setup d sound is_of) tt) (λ n. refl)
 
--- the lines behind a loss of power
+-- the lines after a power cut
 pub lines_kept : (d : DeviceSetup) (past : List Entry) (r : Record) → owner past r ≡ d.addr →
-    lines_of d (keeping_crash past r ++ past) ≡ put r ∷ crashed ∷ lines_of d past
+    lines_of d (keeping_restart past r ++ past) ≡ put r ∷ restarted ∷ lines_of d past
 lines_kept d past r here = rw (eq-eqb (owner past r) d.addr here) refl
 
 pub lines_kept_elsewhere : (d : DeviceSetup) (past : List Entry) (r : Record) → owner past r ≢ d.addr →
-    lines_of d (keeping_crash past r ++ past) ≡ crashed ∷ lines_of d past
+    lines_of d (keeping_restart past r ++ past) ≡ restarted ∷ lines_of d past
 lines_kept_elsewhere d past r away = rw (ne_eqb (owner past r) d.addr away) refl
 
 -- the lines of other entries of a device's own address
@@ -427,7 +423,7 @@ pub lines_taken : (d : DeviceSetup) (past : List Entry) (c : Command) → addres
     lines_of d (entry.Taken c ∷ past) ≡ taken c ∷ lines_of d past
 lines_taken d past c here = rw (eq-eqb (address_of c) d.addr here) refl
 
--- the line of an entry of its job, and of the end behind it
+-- the line of an entry of its job, and of the end after it
 pub lines_with_end : (d : DeviceSetup) (past : List Entry) (e : Entry) (end : Option End) (ls : List Line) →
     lines_of d (e ∷ past) ≡ ls → lines_of d (with_end d.addr e end ++ past) ≡ with_ended end ls
 lines_with_end d past e None ls line_is = line_is

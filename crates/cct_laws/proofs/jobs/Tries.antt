@@ -1,5 +1,5 @@
 -- A job at a device ends for want of an answer exactly after three failed tries.
-use Rattle.std.proofs.Common.{◌≡◌, ℕ, suc, ◌<◌, ◌≤◌, ◌^◌, ◌==◌, cond, true, false, Bool, List, [], ◌∷◌, ◌++◌, refl, ap, sym, ◌∙◌, subst, Option, Some, None, inl, inr, arith, rules, eq-eqb, eqb-true, true≢false}
+use Rattle.std.proofs.Common.{◌≡◌, ℕ, suc, ◌<◌, ◌≤◌, ◌^◌, ◌==◌, cond, true, false, Bool, List, [], ◌∷◌, ◌++◌, refl, ap, sym, ◌∙◌, subst, Option, Some, None, inl, inr, arith, rules, eqb-true, true≢false}
 use Rattle.std.specs.Prelude.{⊤}
 use Rattle.std.proofs.lemmas.Bool.Decides.{nat_tests}
 use Rattle.cct_model.specs.terms.device.DeviceSetup.{DeviceSetup}
@@ -22,7 +22,7 @@ use Rattle.cct_model.specs.History.{Met}
 use Rattle.cct_model.specs.Reply.{Reply}
 use Rattle.cct_model.specs.Device.{IsSound}
 use Rattle.cct_model.specs.Setup.{IsSoundSetup}
-use Rattle.cct_model.specs.Line.{Line, dispensed, exchange, put, taken, ended, crashed}
+use Rattle.cct_model.specs.Line.{Line, dispensed, exchange, put, taken, ended, restarted}
 use Rattle.cct_model.specs.Job.{Job, free, works, job, with_line, epoch, judged_in, sends, ident_requests, Payment, payment_in, tries, tries_after, address_of}
 use Rattle.cct_model.specs.Rows.{end_of, left, rows_of, TableRow, asks_for, asks_once, waits_for_coins, puts_due, telling, after, first, rest, row, done, sent_once}
 use Rattle.cct_model.specs.Claims.{AllPast}
@@ -30,27 +30,22 @@ use Rattle.cct_model.specs.Legal.{Legal}
 use Rattle.cct_model.specs.Order.{order}
 use Rattle.cct_model.specs.Transcript.{pending, met, own, lines_of, heard_by_devices, heard_after, got_by, doses_of, onto}
 use Rattle.cct_msg.specs.Forms.{FitsItsBytes}
-use Rattle.cct_msg.proofs.Exchanges.{asked_back}
+use Rattle.cct_msg.proofs.Exchanges.{again_fits, serial_fits, asked_back}
 use Rattle.cct_laws.specs.Ending.{IsEndOf}
 use Rattle.cct_laws.specs.Ids.{Ids}
-use Rattle.cct_laws.specs.Kept.{with_ended}
+use Rattle.cct_laws.specs.DeviceJobs.{with_ended}
 use Rattle.cct_laws.specs.Law.{IsOf, lines_in}
 use Rattle.cct_laws.specs.Tries.{failed_by, failed_tries, failed_in, TriesAt}
 use Rattle.cct_laws.proofs.jobs.Brought.{Comes, takes_coin, leaves_coin, leaves_alien, drops_coin, drops_none, jams, jams_none, is_reset, AtDevice, came, took, halted, idled, made_exchange, made_put, Brought, wire_of, wire_end, record_end, begun_at_work}
 use Rattle.cct_model.proofs.Doses.{AreDoses, doses_are, job_undosed}
 use Rattle.cct_laws.proofs.orders.Ids.{put_owned}
-use Rattle.cct_laws.proofs.orders.HopperReplies.{serial_fits}
 use Rattle.cct_laws.proofs.Setups.{found_in}
 use Rattle.cct_model.proofs.Rows.{IfEnd, RowHolds, EachRow, answer_end, put_end, Asks, AnswerEnds, PutEnds, each_told, each_after, state_holds, but_first, after_next, EachBefore, before_on, fact_after, told_fact}
 use Rattle.cct_laws.proofs.jobs.Seen.{ArePassed, loose, loose_line, Lost, bare, kept_here, kept_elsewhere, seen_here, seen_aside, seen_lost, seen_from, along, any_steps, lines_wire, lines_with_end, lines_put, lines_taken, lines_kept, lines_kept_elsewhere}
-use Rattle.cct_model.proofs.Tries.{is_asked_again, IfHeard, fails_as, IsHeardEnd, answers_heard, puts_heard, due_sends, same_request, left_asks, asked_fails}
+use Rattle.cct_model.proofs.Requests.{is_asked_again}
+use Rattle.cct_model.proofs.Tries.{tried, IfHeard, fails_as, IsHeardEnd, answers_heard, puts_heard, due_sends, same_request, left_asks, asked_fails}
 use Rattle.cct_model.proofs.RowEnds.{IfOnce, once_sent, failed_stays, once_goes, rest_asks, fails_rest}
 use Rattle.cct_model.specs.declared.judging.OpenOrder.{OpenOrder}
-
--- what is asked again fits its bytes
-again_fits : (q : Request) → is_asked_again q ≡ true → FitsItsBytes q
-again_fits (Dispense serial count) again = absurd cc
-again_fits q again = λ serial count is. cc
 
 -- what is sent once dispenses under the device's own serial number, if it dispenses
 abbrev IsOwnDose : ℕ → Request → Type 0
@@ -264,10 +259,6 @@ steady_failed d lines since c q false test again none is_job steady =
     let most = tries_most (header_of q) since in
     steady_exchange d lines since c q None is_job (below (tries (header_of q) since) (omega arith) test) none steady
 
-same_tries : (q : Request) (since : List Line) →
-    tries (header_of q) (exchange (Some q) None ∷ since) ≡ suc (tries (header_of q) since)
-same_tries q since = rw (eq-eqb (header_of q) (header_of q) refl) refl
-
 -- what a job asks under its own header leaves what it has still to send once
 apart_row : (d : DeviceSetup) (c : Command) (since : List Line) (state : EpochState) (owed : Option OpenOrder)
     (q : Request) → row d c since state owed ≡ sends q → IsApart (but_first (rest d c since)) q
@@ -318,7 +309,7 @@ steady_wire d lines since c q None state owed is_job is steady =
     elim (fails_as d c since state owed q is) [
       | inl again ↦ (
           let at_row = subst (λ rows. sent_once rows ≡ false) (left_asks d c since state owed q is) again.1 in
-          rw (same_tries q since, asked_fails (left d c since state) (suc (tries (header_of q) since)) again.1)
+          rw (tried q since, asked_fails (left d c since state) (suc (tries (header_of q) since)) again.1)
           (steady_failed d lines since c q (suc (tries (header_of q) since) == 3) refl again.0
           (again_none d c since state owed q is at_row) is_job steady))
       | inr once ↦ (
@@ -411,19 +402,19 @@ steady_there capacity setup d past _ _ sound own ids (made_put c since r at_work
     (put_end IsHeardEnd d c r since (epoch (lines_of d past)) (puts_heard d c))
     (steady_line d (put r) (lines_of d past) (λ older few. few) (with_put d r (job (lines_of d past))) steady))
 
--- a loss of power
-steady_crash : (d : DeviceSetup) (lines : List Line) → Steady d lines → Steady d (crashed ∷ lines)
-steady_crash d lines steady = steady_line d crashed lines (λ older few. few) (free_on d) steady
+-- a power cut
+steady_restart : (d : DeviceSetup) (lines : List Line) → Steady d lines → Steady d (restarted ∷ lines)
+steady_restart d lines steady = steady_line d restarted lines (λ older few. few) (free_on d) steady
 
 steady_lost : (d : DeviceSetup) (past news : List Entry) → Lost d past news → Steady d (lines_of d past) →
     Steady d (lines_of d (news ++ past))
-steady_lost d past _ bare steady = steady_crash d (lines_of d past) steady
+steady_lost d past _ bare steady = steady_restart d (lines_of d past) steady
 steady_lost d past _ (kept_here c since r at_work is_row owned) steady =
     subst (Steady d) (sym (lines_kept d past r owned))
-    (steady_line d (put r) (crashed ∷ lines_of d past) (λ older few. few) (free_on d)
-    (steady_crash d (lines_of d past) steady))
+    (steady_line d (put r) (restarted ∷ lines_of d past) (λ older few. few) (free_on d)
+    (steady_restart d (lines_of d past) steady))
 steady_lost d past _ (kept_elsewhere r away caused) steady =
-    subst (Steady d) (sym (lines_kept_elsewhere d past r away)) (steady_crash d (lines_of d past) steady)
+    subst (Steady d) (sym (lines_kept_elsewhere d past r away)) (steady_restart d (lines_of d past) steady)
 
 steady_step : (capacity : ℕ) (setup : Setup) (d : DeviceSetup) → IsSoundSetup setup → IsOf setup d →
     (past news : List Entry) (s : Step) → ⊤ → Ids setup past → Brought capacity setup past s news →

@@ -193,7 +193,7 @@ unsold capacity setup d past _ _ other (made_put c since r at_work is_row) =
     unsold_end past d.addr (entry.Put r) (record_end d past c since r) other
     (unsold_record r (address_of c) (rest d c since) (row_uses d past c since r is_row))
 
--- the records behind an entry and the end of a job
+-- the records after an entry and the end of a job
 pub records_end : (past : List Entry) (addr : ℕ) (x : Entry) (end : Option End) →
     records (with_end addr x end ++ past) ≡ records (x ∷ past)
 records_end past addr x None = refl

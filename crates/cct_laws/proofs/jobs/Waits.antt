@@ -5,7 +5,6 @@ use Rattle.std.proofs.lemmas.Option.{none-some}
 use Rattle.std.specs.Prelude.{⊤}
 use Rattle.cct_model.specs.terms.wire.TheConstants.{HOST}
 use Rattle.cct_model.specs.terms.device.DeviceSetup.{DeviceSetup}
-use Rattle.cct_model.specs.terms.request.Request.{Request}
 use Rattle.cct_model.specs.lines.record.Record.{Record}
 use Rattle.cct_model.specs.lines.record.Record.TheVariants as record_of
 use Rattle.cct_model.specs.lines.command.Command.{Command}
@@ -13,9 +12,9 @@ use Rattle.cct_model.specs.lines.command.Command.TheVariants as command
 use Rattle.cct_model.specs.lines.entry.Entry.{Entry}
 use Rattle.cct_model.specs.lines.entry.Entry.TheVariants as entry
 use Rattle.cct_model.specs.Exchange.{asked, asks_of}
-use Rattle.cct_model.specs.Line.{Line, accepted, inhibited, alien, fell, reset, exchange, scanned, put, taken, ended, crashed}
+use Rattle.cct_model.specs.Line.{Line, accepted, inhibited, alien, fell, reset, exchange, scanned, put, taken, ended, restarted}
 use Rattle.cct_model.specs.Job.{Job, free, works, job, begun, with_line, address_of, ident_requests}
-use Rattle.cct_model.specs.Rows.{id_ahead, new_epoch, reading, epoch_end, new_order, order_end, sale, TableRow, asks_for, asks_once, waits_for_coins, puts_due, telling, rows_of, rows_of_sale, after, done}
+use Rattle.cct_model.specs.Rows.{id_ahead, new_epoch, reading, epoch_end, new_order, order_end, sale, TableRow, asks_for, asks_once, waits_for_coins, puts_due, rows_of, rows_of_sale, after, done}
 use Rattle.cct_model.specs.Transcript.{met, owner, lines_of, sale_lines, sold_line, heard_by_devices, pending, got_by, doses_of}
 use Rattle.cct_laws.specs.Ids.{waiting}
 use Rattle.cct_model.proofs.Doses.{job_undosed}
@@ -41,10 +40,6 @@ one_id_of_sale c = tt
 
 pub one_after : (rows : List TableRow) (n : ℕ) → OneId rows → OneId (after rows n)
 one_after = fact_after OneId (before_on IdLast)
-
--- what is asked one after the other records none
-pub told_waits : (qs : List Request) → id_ahead (telling qs) ≡ None
-told_waits = told_fact (λ rows. id_ahead rows ≡ None) refl (λ q behind rows none. none)
 
 -- an id that rows wait to record was to be recorded before
 first_waits : (rows : List TableRow) (id : ℕ) → OneId rows → id_ahead (but_first rows) ≡ Some id →
@@ -97,7 +92,7 @@ line_waits : (table : Command → List TableRow) → OneIdEach table → (l : Li
     StartsNone table l → WaitsLess table (job lines) (job (l ∷ lines))
 line_waits table one (taken c) lines none id is = begun_waits table one c (job lines) none id is
 line_waits table one (ended end) lines none id is = absurd cc
-line_waits table one crashed lines none id is = absurd cc
+line_waits table one restarted lines none id is = absurd cc
 line_waits table one (exchange q y) lines none id is = with_line_waits table one (exchange q y) (job lines) id is
 line_waits table one (scanned check addr rest) lines none id is =
     with_line_waits table one (scanned check addr rest) (job lines) id is

@@ -12,13 +12,13 @@ use Rattle.cct_model.specs.lines.entry.Entry.{Entry}
 use Rattle.cct_model.specs.lines.entry.Entry.TheVariants as entry
 use Rattle.cct_model.specs.Reply.{Reply}
 use Rattle.cct_model.specs.Setup.{AreDistinct}
-use Rattle.cct_model.specs.Line.{Line, exchange, put, taken, crashed}
+use Rattle.cct_model.specs.Line.{Line, exchange, put, taken, restarted}
 use Rattle.cct_model.specs.Order.{order}
 use Rattle.cct_model.specs.Job.{Job, free, works, with_line, job, sends, puts, epoch}
 use Rattle.cct_model.specs.Rows.{row, end_of}
 use Rattle.cct_model.specs.Refusal.{order_holds, holds_of, holds_at, sale_holds, held, need_for}
 use Rattle.cct_model.specs.Transcript.{owner, lines_of, sale_lines}
-use Rattle.cct_laws.specs.Kept.{with_ended}
+use Rattle.cct_laws.specs.DeviceJobs.{with_ended}
 use Rattle.cct_laws.specs.KeptHopper.{IsOwed}
 use Rattle.cct_laws.specs.Law.{IsOf}
 use Rattle.cct_laws.proofs.money.Sums.{sum_grows, sum_moved}
@@ -51,9 +51,9 @@ holds_least d lines = by_job (job lines) refl
         let least = free_least d c since (epoch lines) (order lines) in
         omega arith
 
--- a loss of power
-pub holds_crashed : (d : DeviceSetup) (lines : List Line) → holds_of d (crashed ∷ lines) ≤ holds_of d lines
-holds_crashed d lines =
+-- a power cut
+pub holds_restarted : (d : DeviceSetup) (lines : List Line) → holds_of d (restarted ∷ lines) ≤ holds_of d lines
+holds_restarted d lines =
     let least = holds_least d lines in
     omega arith
 
@@ -110,10 +110,10 @@ holds_put d c since r lines is puts_it = by_end (end_of d c (put r) since (epoch
         let fewer = put_least d c since (epoch lines) (order lines) r puts_it in
         omega arith
 
--- a record that was kept when the host lost its power
+-- a record that was kept when the power was cut
 pub holds_kept : (d : DeviceSetup) (c : Command) (since : List Line) (r : Record) (lines : List Line) →
     job lines ≡ works c since → row d c since (epoch lines) (order lines) ≡ puts r →
-    suc (holds_of d (put r ∷ crashed ∷ lines)) ≤ holds_of d lines
+    suc (holds_of d (put r ∷ restarted ∷ lines)) ≤ holds_of d lines
 holds_kept d c since r lines is puts_it =
     let before = holds_as d lines (works c since) is in
     let fewer = put_least d c since (epoch lines) (order lines) r puts_it in
@@ -131,12 +131,12 @@ held_moved setup d past after distinct is_of others sale =
     let moved = sum_moved (holds_at after) (holds_at past) setup.devices d distinct is_of others in
     omega arith
 
--- a loss of power leaves no more held
-pub held_crashed : (setup : Setup) (past : List Entry) (n : ℕ) → held setup (entry.Crash n ∷ past) ≤ held setup past
-held_crashed setup past n =
+-- a power cut leaves no more held
+pub held_restarted : (setup : Setup) (past : List Entry) (n : ℕ) → held setup (entry.Crash n ∷ past) ≤ held setup past
+held_restarted setup past n =
     let grows =
     sum_grows (holds_at (entry.Crash n ∷ past)) (holds_at past) setup.devices
-    (λ e. holds_crashed e (lines_of e past)) in
+    (λ e. holds_restarted e (lines_of e past)) in
     omega arith
 
 -- nor does one that kept a record: it leaves one less
@@ -149,11 +149,11 @@ held_kept setup d past n c since r distinct is_of own is puts_it =
     let moved =
     held_moved setup d past (entry.Kept r ∷ entry.Crash n ∷ past) distinct is_of
     (λ e other.
-    subst (λ b. holds_of e (cond b (put r ∷ []) [] ++ crashed ∷ lines_of e past) ≤ holds_of e (lines_of e past))
-    (sym (ne_eqb (owner past r) e.addr (λ same. other (sym same ∙ own)))) (holds_crashed e (lines_of e past)))
+    subst (λ b. holds_of e (cond b (put r ∷ []) [] ++ restarted ∷ lines_of e past) ≤ holds_of e (lines_of e past))
+    (sym (ne_eqb (owner past r) e.addr (λ same. other (sym same ∙ own)))) (holds_restarted e (lines_of e past)))
     (subst (λ j. sale_holds j ≤ sale_holds (job (sale_lines past)))
     (sym ((restart_frees (entry.Kept r ∷ entry.Crash n ∷ past) tt).sale)) (omega arith)) in
     let here : suc (holds_of d (lines_of d (entry.Kept r ∷ entry.Crash n ∷ past))) ≤ holds_of d (lines_of d past) =
-    subst (λ b. suc (holds_of d (cond b (put r ∷ []) [] ++ crashed ∷ lines_of d past)) ≤ holds_of d (lines_of d past))
+    subst (λ b. suc (holds_of d (cond b (put r ∷ []) [] ++ restarted ∷ lines_of d past)) ≤ holds_of d (lines_of d past))
     (sym (eq-eqb (owner past r) d.addr own)) (holds_kept d c since r (lines_of d past) is puts_it) in
     omega arith

@@ -1,5 +1,5 @@
 -- Each balance that is told is conserved.
-use Rattle.std.proofs.Common.{ℕ, List, [], ◌∷◌, ◌++◌, All}
+use Rattle.std.proofs.Common.{ℕ, List, [], ◌∷◌, ◌++◌}
 use Rattle.cct_model.specs.terms.wire.TheConstants.{BROADCAST}
 use Rattle.cct_model.specs.terms.device.DeviceSetup.{DeviceSetup}
 use Rattle.cct_model.specs.terms.device.Setup.{Setup}
@@ -8,12 +8,11 @@ use Rattle.cct_model.specs.lines.entry.Entry.{Entry}
 use Rattle.cct_model.specs.lines.entry.Entry.TheVariants as entry
 use Rattle.cct_model.specs.History.{Met}
 use Rattle.cct_model.specs.Line.{Line}
-use Rattle.cct_model.specs.Setup.{IsSoundSetup}
-use Rattle.cct_model.specs.Legal.{Legal}
 use Rattle.cct_model.specs.Script.{IsInRange}
 use Rattle.cct_model.specs.Transcript.{onto}
 use Rattle.cct_laws.specs.Balanced.{IsBalanced}
 use Rattle.cct_laws.specs.Law.{EachEntry}
+use Rattle.cct_laws.specs.Scope.{EachTranscript}
 use Rattle.cct_laws.proofs.money.Books.{Books, books_start, books_step}
 use Rattle.cct_laws.proofs.jobs.Brought.{Comes, takes_coin, leaves_coin, leaves_alien, drops_coin, drops_none, jams, jams_none, is_reset, AtDevice, came, took, halted, idled, made_exchange, made_put, wire_of, wire_end, record_end, poll_wire, poll_end, Brought, of_device, faulted, refused, began_scan, began_sale, nobody, polled, sold, balanced, lost_power, lost_in_put, lost_in_sale}
 use Rattle.cct_laws.proofs.money.Journal.{conserved}
@@ -70,9 +69,7 @@ step_balanced capacity setup past _ _ (lost_in_sale at choice id price since non
     (tt, (tt, before))
 
 -- each balance is conserved in every legal transcript, whatever the wire does
-pub legal_balances : (capacity : ℕ) (setup : Setup) (steps : List Step) (transcript : List Entry) →
-    IsSoundSetup setup → All IsInRange steps → Legal capacity setup steps transcript →
-    EachEntry (IsBalanced setup) (onto [] transcript)
+pub legal_balances : EachTranscript (λ capacity setup transcript. EachEntry (IsBalanced setup) (onto [] transcript))
 legal_balances capacity setup steps transcript sound in_range legal =
     (along capacity setup IsInRange (λ past. Books capacity setup past × AllBalanced setup past) sound
     (λ past news s range ids told both. (

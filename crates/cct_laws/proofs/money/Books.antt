@@ -15,19 +15,19 @@ use Rattle.cct_model.specs.lines.entry.Entry.{Entry}
 use Rattle.cct_model.specs.lines.entry.Entry.TheVariants as entry
 use Rattle.cct_model.specs.Setup.{IsSoundSetup}
 use Rattle.cct_model.specs.Exchange.{device_at}
-use Rattle.cct_model.specs.Line.{Line, put, crashed}
+use Rattle.cct_model.specs.Line.{Line, put, restarted}
 use Rattle.cct_model.specs.Rows.{puts_in}
 use Rattle.cct_model.specs.Job.{job, address_of}
 use Rattle.cct_model.specs.Records.{records}
 use Rattle.cct_model.specs.Money.{totals, sum_over, posted_in, reserved_by_sale, spoken_for}
 use Rattle.cct_model.specs.Refusal.{holds_of, holds_at, sale_holds, held, need_for, refusal}
-use Rattle.cct_model.specs.Legal.{with_end, keeping_crash, LegalFrom}
+use Rattle.cct_model.specs.Legal.{with_end, keeping_restart, LegalFrom}
 use Rattle.cct_model.specs.Script.{IsInRange}
 use Rattle.cct_model.specs.Transcript.{met, lines_of, sale_lines}
 use Rattle.cct_laws.specs.Ids.{Ids}
 use Rattle.cct_laws.specs.Law.{IsOf}
-use Rattle.cct_laws.proofs.money.AllHeld.{holds_crashed, held_crashed, held_kept}
-use Rattle.cct_laws.proofs.money.AtWork.{spent_by}
+use Rattle.cct_laws.proofs.money.AllHeld.{holds_restarted, held_restarted, held_kept}
+use Rattle.cct_laws.proofs.money.Reserved.{spent_by}
 use Rattle.cct_laws.proofs.jobs.Brought.{wire_of, wire_end, record_end, poll_wire, poll_end, AtDevice, came, took, halted, idled, made_exchange, made_put, Selling, Due, from_job, from_sale, Brought, of_device, faulted, refused, began_scan, began_sale, nobody, polled, sold, balanced, lost_power, lost_in_put, lost_in_sale}
 use Rattle.cct_laws.proofs.money.Covered.{spoken_in, sold_spoken}
 use Rattle.cct_laws.proofs.money.Follow.{Follows, follows_by}
@@ -149,7 +149,7 @@ pub selling_holds : (past : List Entry) (id price : ℕ) (since : List Line) →
     sale_holds (job (sale_lines past)) ≡ 1
 selling_holds past id price since selling = ap sale_holds selling.job_is ∙ ap puts_in selling.first
 
--- the host loses its power with the record of a sale kept
+-- a power cut with the record of a sale kept
 held_sale_kept : (setup : Setup) (past : List Entry) (n id price : ℕ) (since : List Line) → IsSoundSetup setup →
     Selling past id price since →
     suc (held setup (entry.Kept (record_of.Sold id price) ∷ entry.Crash n ∷ past)) ≤ held setup past
@@ -159,9 +159,9 @@ held_sale_kept setup past n id price since sound selling =
     sum_grows_each (holds_at later) (holds_at past) setup.devices
     (all_found (λ e. holds_at later e ≤ holds_at past e) setup.devices sound.distinct
     (λ e own.
-    subst (λ b. holds_of e (cond b (put (record_of.Sold id price) ∷ []) [] ++ crashed ∷ lines_of e past)
+    subst (λ b. holds_of e (cond b (put (record_of.Sold id price) ∷ []) [] ++ restarted ∷ lines_of e past)
     ≤ holds_of e (lines_of e past))
-    (sym (ne_eqb HOST e.addr (off_host setup e sound own))) (holds_crashed e (lines_of e past)))) in
+    (sym (ne_eqb HOST e.addr (off_host setup e sound own))) (holds_restarted e (lines_of e past)))) in
     let before = selling_holds past id price since selling in
     one_sold (sum_over (holds_at later) setup.devices) (sum_over (holds_at past) setup.devices)
     (sale_holds (job (sale_lines past))) devices before
@@ -239,7 +239,7 @@ counts_step capacity setup past _ _ sound ids balanced books =
     refl books.counts
 counts_step capacity setup past _ _ sound ids (lost_power at choice) books =
     let n = length (records past) in
-    let fewer = held_crashed setup past n in
+    let fewer = held_restarted setup past n in
     let room = books.counts.room in
     counts_lost capacity setup (entry.Crash n ∷ past) sound (restart_frees (entry.Crash n ∷ past) tt)
     books.counts.follow (no_more_held n _ _ fewer room)
@@ -248,7 +248,7 @@ counts_step capacity setup past _ _ sound ids (lost_power at choice) books =
     no_more_held many later now le room = omega (arith, le, room)
 counts_step capacity setup past _ _ sound ids (lost_in_put at choice d c since r own at_work is_row) books =
     let n = suc (length (records past)) in
-    let later = keeping_crash past r ++ past in
+    let later = keeping_restart past r ++ past in
     let fewer =
     held_kept setup d past n c since r sound.distinct own (put_owned setup past d c since r own ids at_work is_row)
     at_work.job_is is_row in
@@ -258,7 +258,7 @@ counts_step capacity setup past _ _ sound ids (lost_in_put at choice d c since r
     (one_kept (length (records past)) (held setup later) (held setup past) capacity fewer books.counts.room)
 counts_step capacity setup past _ _ sound ids (lost_in_sale at choice id price since none selling) books =
     let r = record_of.Sold id price in
-    let later = keeping_crash past r ++ past in
+    let later = keeping_restart past r ++ past in
     let fewer = held_sale_kept setup past (suc (length (records past))) id price since sound selling in
     counts_lost capacity setup later sound (restart_frees later tt)
     (and_from _ _ (due_follows capacity setup past r ids books (from_sale id price since none selling))

@@ -14,7 +14,7 @@ use Rattle.cct_model.specs.Transcript.{lines_of, sale_lines}
 use Rattle.cct_laws.specs.Law.{IsOf}
 use Rattle.cct_laws.specs.Recorded.{HasNoJob}
 use Rattle.cct_laws.proofs.money.AllHeld.{holds_same, held_moved}
-use Rattle.cct_laws.proofs.money.AtWork.{spoken_both, at_work_moved}
+use Rattle.cct_laws.proofs.money.Reserved.{spoken_both, at_work_moved}
 use Rattle.cct_laws.proofs.money.Covered.{covered_all, spoken_in}
 use Rattle.cct_laws.proofs.money.Recorded.{nothing_at_work}
 use Rattle.cct_laws.proofs.money.Sums.{sum_same_each, all_found}

@@ -10,7 +10,7 @@ use Rattle.cct_model.specs.Records.{order_named, hopper_of, opened_in, order_in,
 use Rattle.cct_model.specs.Money.{coins_of, amount, posted_in, paid_in, sold_in, odd_by, owed_in, reserved_in, available_in}
 use Rattle.cct_model.specs.Following.{count_of, follows, all_follow}
 use Rattle.cct_laws.proofs.money.Sums.{sum_none}
-use Rattle.cct_laws.proofs.orders.Orders.{Belongs, belongs_all, OpensAt, opens_at, named_id}
+use Rattle.cct_laws.proofs.orders.Orders.{Belongs, belongs_all, OpensAt, opens_at}
 use Rattle.cct_laws.proofs.money.Worth.{HopperAt, hopper_at, owed_kept, owed_opened, owed_closed, closed_worth}
 
 -- what the records reserve, what they say was paid, and the prices of sales
@@ -24,7 +24,6 @@ IsCovered setup before = spoken_in setup before ≤ posted_in setup before
 pub record Closes (setup : Setup) (before : List Record) (id : ℕ) : Type 0 where
   pub order_is : OpenOrder
   pub named : order_named id before ≡ Some order_is
-  pub same_id : order_is.id ≡ id
   pub there : HopperAt setup order_is.addr
   pub owner : opened_in id before ≡ there.device.addr
   pub at_hopper : order_in there.device.addr before ≡ Some order_is
@@ -37,7 +36,6 @@ closes_at setup before id open_is belongs =
     record {
       order_is = own.order_is;
       named = own.named;
-      same_id = named_id id before own.order_is own.named;
       there = there;
       owner = ap hopper_of own.named ∙ sym there.here;
       at_hopper = ap (λ a. order_in a before) there.here ∙ own.at_hopper;

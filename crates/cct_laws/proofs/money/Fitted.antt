@@ -19,7 +19,7 @@ use Rattle.cct_model.specs.Order.{order}
 use Rattle.cct_model.specs.Job.{Job, free, works, job, epoch, puts}
 use Rattle.cct_model.specs.Rows.{rows_of, rest}
 use Rattle.cct_model.specs.Records.{records}
-use Rattle.cct_model.specs.Legal.{with_end, keeping_crash}
+use Rattle.cct_model.specs.Legal.{with_end, keeping_restart}
 use Rattle.cct_model.specs.Script.{IsCommand, IsInRange}
 use Rattle.cct_model.specs.Transcript.{lines_of, sale_own, sale_lines}
 use Rattle.cct_laws.specs.Ids.{waiting, Ids}
@@ -115,7 +115,7 @@ sells_step capacity setup past _ _ sound range (sold id price since none selling
 sells_step capacity setup past _ _ sound range balanced sells = sells
 sells_step capacity setup past _ _ sound range (lost_power at choice) sells = tt
 sells_step capacity setup past _ _ sound range (lost_in_put at choice d c since r own at_work is_row) sells =
-    subst IsSold (sym (restart_frees (keeping_crash past r ++ past) tt).sale) tt
+    subst IsSold (sym (restart_frees (keeping_restart past r ++ past) tt).sale) tt
 sells_step capacity setup past _ _ sound range (lost_in_sale at choice id price since none selling) sells = tt
 
 pub base_step : (capacity : ℕ) (setup : Setup) (past news : List Entry) (s : Step) → IsSoundSetup setup →

@@ -30,7 +30,7 @@ use Rattle.cct_model.specs.Refusal.{valueless, start_refusal, running_refusal}
 use Rattle.cct_model.specs.Following.{is_running, has_values, count_of, follows}
 use Rattle.cct_model.specs.Paid.{uses}
 use Rattle.cct_model.specs.Script.{IsCommand}
-use Rattle.cct_laws.specs.Kept.{suits}
+use Rattle.cct_laws.specs.DeviceJobs.{suits}
 use Rattle.cct_laws.proofs.orders.Orders.{Belongs}
 use Rattle.cct_model.proofs.Rows.{RowHolds, DueHolds, JudgedHolds, judged_holds, EachRow, each_from, each_left, each_told, fact_from, state_holds, due_holds}
 

@@ -17,7 +17,7 @@ use Rattle.cct_model.specs.Money.{sum_over, coins_of, posted_in, reserved_in, pa
 use Rattle.cct_model.specs.Following.{is_allowed}
 use Rattle.cct_model.specs.Transcript.{lines_of, sale_lines}
 use Rattle.cct_laws.specs.Law.{IsOf}
-use Rattle.cct_laws.proofs.money.AtWork.{spoken_both, work_put}
+use Rattle.cct_laws.proofs.money.Reserved.{spoken_both, work_put}
 use Rattle.cct_laws.proofs.jobs.Brought.{Selling, Due, from_job, from_sale}
 use Rattle.cct_laws.proofs.money.Covered.{spoken_in}
 use Rattle.cct_laws.proofs.money.Follow.{Follows, IsAffordable}

@@ -21,14 +21,15 @@ use Rattle.cct_model.specs.Records.{records}
 use Rattle.cct_model.specs.Money.{sum_over, posted_in, reserved_at_work, freed_by, spoken_for, totals}
 use Rattle.cct_model.specs.Refusal.{unless, settle_refusal, holds_of, holds_at, sale_holds, held, need_for, full_refusal, view_for, state_refusal, room_refusal, refusal}
 use Rattle.cct_model.specs.Following.{follows, all_follow, is_allowed}
-use Rattle.cct_model.specs.Legal.{due_at, LegalFrom, Legal}
+use Rattle.cct_model.specs.Legal.{due_at, LegalFrom}
 use Rattle.cct_model.specs.Script.{IsInRange}
 use Rattle.cct_model.specs.Transcript.{lines_of, sale_lines, onto}
 use Rattle.cct_laws.specs.Balanced.{IsConserved}
 use Rattle.cct_laws.specs.Ids.{Ids}
 use Rattle.cct_laws.specs.Law.{IsOf}
+use Rattle.cct_laws.specs.Scope.{EachTranscript}
 use Rattle.cct_laws.proofs.money.AllHeld.{holds_put}
-use Rattle.cct_laws.proofs.money.AtWork.{available_both}
+use Rattle.cct_laws.proofs.money.Reserved.{available_both}
 use Rattle.cct_laws.proofs.money.Books.{Books, selling_holds, due_follows, books_legal}
 use Rattle.cct_laws.proofs.jobs.Brought.{row_after, Selling, Due, from_job, from_sale, is_due}
 use Rattle.cct_laws.proofs.money.Freed.{due_frees, allows}
@@ -135,47 +136,40 @@ settle_has_room capacity setup past addr room =
 -- of every legal transcript, whatever the wire does
 
 -- each record follows those before it, so a host that is rebuilt from them refuses none
-pub legal_follow : (capacity : ℕ) (setup : Setup) (steps : List Step) (transcript : List Entry) →
-    IsSoundSetup setup → All IsInRange steps → Legal capacity setup steps transcript →
-    all_follow setup (records (onto [] transcript)) ≡ true
+pub legal_follow : EachTranscript (λ capacity setup transcript. all_follow setup (records (onto [] transcript)) ≡
+    true)
 legal_follow capacity setup steps transcript sound in_range legal =
     (books_legal capacity setup steps (onto [] transcript) sound in_range legal).1.counts.follow
 
 -- what is reserved, paid and sold is no more than what was posted
-pub legal_covered : (capacity : ℕ) (setup : Setup) (steps : List Step) (transcript : List Entry) →
-    IsSoundSetup setup → All IsInRange steps → Legal capacity setup steps transcript →
-    spoken_for setup (onto [] transcript) ≤ posted_in setup (records (onto [] transcript))
+pub legal_covered : EachTranscript (λ capacity setup transcript. spoken_for setup (onto [] transcript) ≤ posted_in
+    setup (records (onto [] transcript)))
 legal_covered capacity setup steps transcript sound in_range legal =
     (books_legal capacity setup steps (onto [] transcript) sound in_range legal).1.counts.covered
 
 -- so money is conserved
-pub legal_conserved : (capacity : ℕ) (setup : Setup) (steps : List Step) (transcript : List Entry) →
-    IsSoundSetup setup → All IsInRange steps → Legal capacity setup steps transcript →
-    IsConserved setup (onto [] transcript) (totals setup (onto [] transcript))
+pub legal_conserved : EachTranscript (λ capacity setup transcript. IsConserved setup (onto [] transcript) (totals
+    setup (onto [] transcript)))
 legal_conserved capacity setup steps transcript sound in_range legal =
     conserved setup (onto [] transcript) (legal_covered capacity setup steps transcript sound in_range legal)
 
 -- the journal has room for its records and all that are held
-pub legal_room : (capacity : ℕ) (setup : Setup) (steps : List Step) (transcript : List Entry) → IsSoundSetup setup →
-    All IsInRange steps → Legal capacity setup steps transcript →
-    length (records (onto [] transcript)) + held setup (onto [] transcript) ≤ capacity
+pub legal_room : EachTranscript (λ capacity setup transcript. length (records (onto [] transcript)) + held setup (onto
+    [] transcript) ≤ capacity)
 legal_room capacity setup steps transcript sound in_range legal =
     (books_legal capacity setup steps (onto [] transcript) sound in_range legal).1.counts.room
 
 -- so a record that a job at any address is about to put has room
-pub legal_put : (capacity : ℕ) (setup : Setup) (steps : List Step) (transcript : List Entry) (addr : ℕ)
-    (r : Record) → IsSoundSetup setup → All IsInRange steps → Legal capacity setup steps transcript →
-    due_at setup (onto [] transcript) addr ≡ Some r → length (records (onto [] transcript)) < capacity
-legal_put capacity setup steps transcript addr r sound in_range legal due =
+pub legal_put : EachTranscript (λ capacity setup transcript. (addr : ℕ) (r : Record) → due_at setup (onto []
+    transcript) addr ≡ Some r → length (records (onto [] transcript)) < capacity)
+legal_put capacity setup steps transcript sound in_range legal addr r due =
     due_has_room capacity setup (onto [] transcript) r
     (legal_room capacity setup steps transcript sound in_range legal) (is_due setup (onto [] transcript) addr r due)
 
 -- and no settlement is refused for a full journal
-pub legal_settle : (capacity : ℕ) (setup : Setup) (steps : List Step) (transcript : List Entry)
-    (addr stored many need : ℕ) → IsSoundSetup setup → All IsInRange steps →
-    Legal capacity setup steps transcript →
-    refusal capacity setup (onto [] transcript) (command.Settle addr) ≡ Some (JournalFull stored many need) → ⊥
-legal_settle capacity setup steps transcript addr stored many need sound in_range legal is =
+pub legal_settle : EachTranscript (λ capacity setup transcript. (addr stored many need : ℕ) → refusal capacity setup
+    (onto [] transcript) (command.Settle addr) ≡ Some (JournalFull stored many need) → ⊥)
+legal_settle capacity setup steps transcript sound in_range legal addr stored many need is =
     settle_has_room capacity setup (onto [] transcript) addr
     (legal_room capacity setup steps transcript sound in_range legal) stored many need is
 

@@ -31,7 +31,7 @@ use Rattle.cct_model.specs.Following.{is_running}
 use Rattle.cct_model.specs.Transcript.{lines_of, heard_after, got_by, doses_of}
 use Rattle.cct_model.proofs.Rows.{but_first, after_none, after_next, after_line, fact_after, EachBefore, before_on, told_fact, each_told, puts_only}
 use Rattle.cct_laws.specs.Ids.{Ids}
-use Rattle.cct_laws.specs.Kept.{IsTaken, with_ended}
+use Rattle.cct_laws.specs.DeviceJobs.{IsTaken, with_ended}
 use Rattle.cct_laws.specs.KeptHopper.{IsOwed}
 use Rattle.cct_laws.specs.Law.{IsOf}
 use Rattle.cct_laws.proofs.jobs.Brought.{wire_of, wire_end, record_end, AtDevice, came, took, halted, idled, made_exchange, made_put, Brought, begun_at_work}

@@ -14,7 +14,7 @@ use Rattle.cct_model.specs.declared.judging.EpochState.{EpochState}
 use Rattle.cct_model.specs.declared.judging.OpenOrder.{OpenOrder}
 use Rattle.cct_model.specs.History.{Met}
 use Rattle.cct_model.specs.Line as line
-use Rattle.cct_model.specs.Line.{Line, accepted, inhibited, alien, fell, reset, exchange, put, taken, ended, crashed}
+use Rattle.cct_model.specs.Line.{Line, accepted, inhibited, alien, fell, reset, exchange, put, taken, ended, restarted}
 use Rattle.cct_model.specs.Order.{order_by, order}
 use Rattle.cct_model.specs.Exchange.{asked}
 use Rattle.cct_model.specs.Job.{Job, free, works, job, epoch_by, epoch, address_of}
@@ -96,13 +96,13 @@ epoch_recorded d past = epoch_put (lines_of d past) ∙ ap epoch_of (put_recorde
 pub order_recorded : (d : DeviceSetup) (past : List Entry) → order (lines_of d past) ≡ order_in d.addr (records past)
 order_recorded d past = order_put (lines_of d past) ∙ ap order_of (put_recorded d past)
 
--- behind a loss of power
+-- after a power cut
 
-freed : (here : Bool) (r : Record) (lines : List Line) → job (cond here (put r ∷ []) [] ++ crashed ∷ lines) ≡ free
+freed : (here : Bool) (r : Record) (lines : List Line) → job (cond here (put r ∷ []) [] ++ restarted ∷ lines) ≡ free
 freed true r lines = refl
 freed false r lines = refl
 
-sale_freed : (r : Record) (lines : List Line) → job (sold_line r ++ crashed ∷ lines) ≡ free
+sale_freed : (r : Record) (lines : List Line) → job (sold_line r ++ restarted ∷ lines) ≡ free
 sale_freed (record_of.Sold id price) lines = refl
 sale_freed r lines = refl
 

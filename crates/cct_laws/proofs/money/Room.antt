@@ -14,7 +14,7 @@ use Rattle.cct_model.specs.Records.{records}
 use Rattle.cct_model.specs.Money.{coins_of, available}
 use Rattle.cct_model.specs.Refusal.{Test, with_coins, with_price, with_room, tests_of, money_in, held, need_for, full_refusal, short_refusal, room_fails, refusal}
 use Rattle.cct_model.proofs.Rows.{told_fact}
-use Rattle.cct_laws.proofs.money.AtWork.{spent_by}
+use Rattle.cct_laws.proofs.money.Reserved.{spent_by}
 use Rattle.cct_laws.proofs.jobs.Tests.{Pass, tests_pass}
 
 test_pass : (test : Bool) (why : CommandNo) → cond test None (Some why) ≡ None → test ≡ true

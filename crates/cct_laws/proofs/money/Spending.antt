@@ -26,11 +26,11 @@ use Rattle.cct_model.specs.Following.{all_follow}
 use Rattle.cct_model.specs.Legal.{with_end}
 use Rattle.cct_model.specs.Transcript.{lines_of, heard_after, got_by, doses_of}
 use Rattle.cct_laws.specs.Ids.{Ids}
-use Rattle.cct_laws.specs.Kept.{suits, with_ended}
+use Rattle.cct_laws.specs.DeviceJobs.{suits, with_ended}
 use Rattle.cct_laws.specs.KeptHopper.{IsOwed}
 use Rattle.cct_laws.specs.Law.{IsOf}
 use Rattle.cct_laws.proofs.jobs.Asked.{asked_at}
-use Rattle.cct_laws.proofs.money.AtWork.{work_with, work_put, spent_by, work_taken}
+use Rattle.cct_laws.proofs.money.Reserved.{work_with, work_put, spent_by, work_taken}
 use Rattle.cct_laws.proofs.jobs.Brought.{AtWork, row_after, wire_of, wire_end, record_end, AtDevice, made_exchange, made_put, begun_at_work}
 use Rattle.cct_laws.proofs.money.Covered.{spoken_in, opened_spoken, closed_spoken, odd_spoken, closes_at, closed_counts}
 use Rattle.cct_laws.proofs.money.Follow.{Follows}
@@ -43,7 +43,7 @@ use Rattle.cct_laws.proofs.jobs.Unmoved.{off_host, same_dosed, same_elsewhere, r
 use Rattle.cct_laws.proofs.money.Worth.{owed_kept}
 use Rattle.cct_model.specs.lines.command.Step.TheVariants as step
 use Rattle.cct_laws.proofs.money.Counting.{Moves}
-use Rattle.cct_laws.specs.Kept.{WorksAt}
+use Rattle.cct_laws.specs.DeviceJobs.{WorksAt}
 
 -- an end frees what a job reserves
 ended_reserves : (setup : Setup) (d : DeviceSetup) (end : Option End) (lines : List Line) →

@@ -1,5 +1,5 @@
 -- How the sums over all records change by one record more.
-use Rattle.std.proofs.Common.{◌≡◌, ℕ, ◌+◌, ◌≤◌, true, List, ◌∷◌, refl, ap, sym, ◌∙◌, Option, Some, None, arith, mul-le-mul_right}
+use Rattle.std.proofs.Common.{◌≡◌, ℕ, ◌+◌, true, List, ◌∷◌, refl, ap, sym, ◌∙◌, Option, Some, None, arith}
 use Rattle.cct_model.specs.terms.device.DeviceSetup.{DeviceSetup}
 use Rattle.cct_model.specs.terms.device.Setup.{Setup}
 use Rattle.cct_model.specs.lines.record.Record.{Record}
@@ -10,15 +10,12 @@ use Rattle.cct_model.specs.Exchange.{device_at, hopper_there}
 use Rattle.cct_model.specs.Setup.{AreDistinct}
 use Rattle.cct_model.specs.Order.{order_by}
 use Rattle.cct_model.specs.Records.{order_named, hopper_of, owner_in, order_in}
-use Rattle.cct_model.specs.Money.{hopper_value, coins_of, amount, paid_by, owed_in}
+use Rattle.cct_model.specs.Money.{coins_of, amount, paid_by, owed_in}
 use Rattle.cct_laws.specs.Law.{IsOf}
 use Rattle.cct_laws.proofs.Setups.{address_found}
 use Rattle.cct_laws.proofs.money.Sums.{sum_same, sum_changed}
 use Rattle.cct_model.proofs.OpenOrders.{order_own, order_else, coins_both}
 use Rattle.cct_laws.proofs.orders.Orders.{order_kept}
-
-pub coins_more : (setup : Setup) (addr few many : ℕ) → few ≤ many → coins_of setup addr few ≤ coins_of setup addr many
-coins_more setup addr few many le = mul-le-mul_right (hopper_value (device_at setup.devices addr)) le
 
 -- the hopper that is at an address
 pub record HopperAt (setup : Setup) (addr : ℕ) : Type 0 where

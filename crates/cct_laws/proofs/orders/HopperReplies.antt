@@ -1,5 +1,5 @@
 -- What a hopper replies to each request that a job sends it.
-use Rattle.std.proofs.Common.{◌≡◌, ℕ, ◌<◌, ◌^◌, true, List, [], ◌∷◌, refl, ap, ◌∙◌, subst, Option, Some, None, inl, inr, arith}
+use Rattle.std.proofs.Common.{◌≡◌, ℕ, true, List, [], ◌∷◌, refl, ap, ◌∙◌, Option, Some, None, inl, inr, arith}
 use Rattle.cct_model.specs.terms.device.DeviceSetup.{DeviceSetup}
 use Rattle.cct_model.specs.terms.device.DeviceBody.{DeviceBody}
 use Rattle.cct_model.specs.terms.device.DeviceBody.TheVariants.{Acceptor, Hopper}
@@ -15,12 +15,13 @@ use Rattle.cct_model.specs.History.{Met}
 use Rattle.cct_model.specs.Hopper.{remaining, taken_of, life_count, status_of, register_of, dispense_reply, hopper_reply}
 use Rattle.cct_model.specs.Device.{IsSound, IsHopper, common_reply, reply_of}
 use Rattle.cct_model.specs.Job.{ident_requests, own_requests}
-use Rattle.cct_msg.specs.Forms.{FitsItsBytes}
-use Rattle.cct_laws.specs.Kept.{is_for_hopper}
+use Rattle.cct_msg.proofs.Exchanges.{serial_fits}
+use Rattle.cct_laws.specs.DeviceJobs.{is_for_hopper}
 use Rattle.cct_laws.proofs.Exchanges.{Replied, Answers}
 use Rattle.cct_laws.proofs.Replies.{start_of, hopper_is, replied_status, replied_stop, replied_life}
 use Rattle.cct_laws.proofs.CommonReplies.{answers_so, ident_replied}
-use Rattle.cct_model.proofs.Rows.{Each, EachRow, each_asked, Asks}
+use Rattle.cct_model.proofs.Requests.{Each}
+use Rattle.cct_model.proofs.Rows.{EachRow, each_asked, Asks}
 use Rattle.cct_model.specs.Rows.{settling, rows_of}
 
 -- a sound hopper
@@ -60,12 +61,6 @@ register_replied d past payer =
     (hopper_is d.serial d.body past TestHopper payer.paying) refl refl tt tt (λ serial count e. cc) refl
 
 -- a dispense under the hopper's own serial number is acknowledged where it is taken, and else refused
-pub serial_fits : (serial count : ℕ) → serial < 2 ^ 24 → FitsItsBytes (Dispense serial count)
-serial_fits serial count short number many e = subst (λ n. n < 2 ^ 24) (same e) short
-  where
-    same : Dispense serial count ≡ Dispense number many → serial ≡ number
-    same e = cc
-
 dispense_replied : (d : DeviceSetup) (past : List Met) (count : ℕ) → Payer d →
     reply_of d past (Dispense d.serial count) ≡
     Some (dispense_reply (taken_of d.serial past (Some (Dispense d.serial count))))

@@ -27,7 +27,7 @@ use Rattle.cct_model.specs.Order.{order}
 use Rattle.cct_model.specs.Job.{job, with_line, epoch, puts, address_of, ident_requests}
 use Rattle.cct_model.specs.Rows.{id_ahead, rows_of, rows_of_sale, rest, done}
 use Rattle.cct_model.specs.Records.{records, hopper_of}
-use Rattle.cct_model.specs.Legal.{with_end, keeping_crash}
+use Rattle.cct_model.specs.Legal.{with_end, keeping_restart}
 use Rattle.cct_model.specs.Refusal.{refusal}
 use Rattle.cct_model.specs.Transcript.{met, owner, opened_at, lines_of, sale_lines}
 use Rattle.cct_model.specs.Paid.{uses, IsFresh}
@@ -35,10 +35,10 @@ use Rattle.cct_laws.specs.Ids.{waiting, waiting_at, waiting_sale, Ids}
 use Rattle.cct_laws.specs.Law.{IsOf}
 use Rattle.cct_laws.specs.Recorded.{HasNoJob}
 use Rattle.cct_laws.proofs.Setups.{same_some, found_in}
-use Rattle.cct_model.proofs.Rows.{RowHolds, IsOwned, row_owned, after_next}
+use Rattle.cct_model.proofs.Rows.{RowHolds, IsOwned, row_owned, after_next, told_no_id}
 use Rattle.cct_laws.proofs.jobs.Brought.{Comes, takes_coin, leaves_coin, leaves_alien, drops_coin, drops_none, jams, jams_none, is_reset, AtWork, row_after, wire_of, wire_end, record_end, poll_wire, poll_end, AtDevice, came, took, halted, idled, made_exchange, made_put, Selling, Brought, of_device, faulted, refused, began_scan, began_sale, nobody, polled, sold, balanced, lost_power, lost_in_put, lost_in_sale}
 use Rattle.cct_laws.proofs.money.Recorded.{order_recorded, restart_frees}
-use Rattle.cct_laws.proofs.jobs.Waits.{one_id, one_id_of_sale, one_after, told_waits, here_waits, BeginsNone, device_waits_less, sale_waits_less}
+use Rattle.cct_laws.proofs.jobs.Waits.{one_id, one_id_of_sale, one_after, here_waits, BeginsNone, device_waits_less, sale_waits_less}
 use Rattle.cct_laws.proofs.orders.Used.{Unused, Grows, same_records, one_more, grows_owned, more_unused}
 use Rattle.cct_laws.proofs.orders.Opening.{Opens, opens_waits, opened_waits, UsesOwn, row_own}
 use Rattle.cct_laws.proofs.orders.NewIds.{IsNew, payment_new, sale_new}
@@ -213,7 +213,7 @@ row_new setup past d c since r own ids work is =
     (subst (RowHolds (λ q. ⊤) (λ x. UsesOwn x (address_of c) (rest d c since))) is
     (row_own d c since (epoch (lines_of d past)) (order (lines_of d past))))
 
--- the record is put, or is kept when the host loses its power
+-- the record is put, or is kept when the power is cut
 ids_put : (setup : Setup) (past : List Entry) (r : Record) → IsPutNew setup past r → Ids setup past →
     Ids setup (entry.Put r ∷ past)
 ids_put setup past r puts_new ids = ids_less setup past (entry.Put r ∷ past) (record {
@@ -226,15 +226,15 @@ ids_put setup past r puts_new ids = ids_less setup past (entry.Put r ∷ past) (
 }) ids
 
 ids_kept : (setup : Setup) (past : List Entry) (r : Record) → IsFresh (records past) r → Ids setup past →
-    Ids setup (keeping_crash past r ++ past)
-ids_kept setup past r is_new ids = ids_less setup past (keeping_crash past r ++ past) (record {
+    Ids setup (keeping_restart past r ++ past)
+ids_kept setup past r is_new ids = ids_less setup past (keeping_restart past r ++ past) (record {
   grows = one_more r is_new;
   devices = λ e own id is. absurd (none-some id (sym (ap (waiting (rows_of e)) (freed.devices e)) ∙ is));
   sale = λ id is. absurd (none-some id (sym (ap (waiting rows_of_sale) freed.sale) ∙ is));
 }) ids
   where
-    freed : HasNoJob (keeping_crash past r ++ past)
-    freed = restart_frees (keeping_crash past r ++ past) tt
+    freed : HasNoJob (keeping_restart past r ++ past)
+    freed = restart_frees (keeping_restart past r ++ past) tt
 
 -- the id of a sale that is about to put its record
 selling_waits : (past : List Entry) (id price : ℕ) (since : List Line) → Selling past id price since →
@@ -282,7 +282,7 @@ took_ids capacity setup past (command.Pay addr id count) passes ids =
 took_ids capacity setup past (command.Vend id price) passes ids =
     ids_vended setup past id price (sale_new capacity setup past id price passes) ids
 took_ids capacity setup past (command.Ident addr) passes ids =
-    ids_quiet setup past (entry.Taken (command.Ident addr)) (λ e. told_waits (ident_requests e.body), refl) refl ids
+    ids_quiet setup past (entry.Taken (command.Ident addr)) (λ e. told_no_id (ident_requests e.body), refl) refl ids
 took_ids capacity setup past c passes ids = ids_quiet setup past (entry.Taken c) (λ e. refl, refl) refl ids
 
 device_ids : (capacity : ℕ) (setup : Setup) (past : List Entry) (d : DeviceSetup) (s : Step)

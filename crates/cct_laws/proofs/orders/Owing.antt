@@ -15,7 +15,7 @@ use Rattle.cct_model.specs.terms.device.DeviceSetup.{DeviceSetup}
 use Rattle.cct_model.specs.terms.request.Request.{Request}
 use Rattle.cct_model.specs.terms.request.Request.TheVariants.{GetLife, Dispense}
 use Rattle.cct_model.proofs.Rows.{EachBefore, told_fact}
-use Rattle.cct_laws.specs.Kept.{is_for_hopper}
+use Rattle.cct_laws.specs.DeviceJobs.{is_for_hopper}
 
 -- what is counted: the coins that are left to fall and those that ever fell, and the dispenses that were taken and the
 -- coins that fell since an order was opened or closed
@@ -159,8 +159,8 @@ IsOfHopper (puts_due order_end behind) = ⊤
 IsOfHopper (puts_due due behind) = ⊥
 IsOfHopper r = ⊤
 
--- what comes after each row of a hopper's job: the life count is read right before a record of an order, a dispense of its
--- coins comes right after it is opened, then the row that waits for them, and behind that it is closed
+-- what comes after each row of a hopper's job. The life count is read right before a record of an order. A dispense of its
+-- coins comes right after it is opened, then the row that waits for them, and after that it is closed
 abbrev pub Follows : ℕ → List TableRow → TableRow → Type 0
 Follows own [] (asks_for q behind) = ⊤
 Follows own [] (puts_due order_end behind) = ⊤
@@ -232,7 +232,7 @@ fits_less d start v w owed free less fits = tt
 fits_less d start v w owed (works c since) less fits =
     (fits.0, rows_less d.serial start v w owed (life_read since) (rest d c since) less fits.1)
 
--- a coin falls before nothing is left, so at no row behind one that waits for it
+-- a coin falls before nothing is left, so at no row after one that waits for it
 fresh_falls : (start : ℕ) (v w : View) (owed : Option OpenOrder) (count : ℕ) → Falls v w → StateOf start v owed →
     IsFresh v owed count → IsFresh w owed count
 fresh_falls start v w None count falls state fits = absurd fits

@@ -1,10 +1,9 @@
 -- Where a hopper has shown that nothing is left to pay, nothing is left to fall until the next order is opened: a
--- payment lets it dispense only right behind the record that opens its order.
-use Rattle.std.proofs.Common.{◌≡◌, ℕ, suc, ◌==◌, ◌||◌, not, cond, Bool, true, false, List, [], ◌∷◌, ◌++◌, refl, ap, sym, ◌∙◌, subst, Option, Some, None, All, arith, eqb-true, rules, true≢false}
+-- payment lets it dispense only right after the record that opens its order.
+use Rattle.std.proofs.Common.{◌≡◌, ℕ, suc, ◌==◌, ◌||◌, not, cond, Bool, true, false, List, [], ◌∷◌, ◌++◌, refl, ap, sym, ◌∙◌, subst, Option, Some, None, arith, eqb-true, rules, true≢false}
 use Rattle.std.specs.Prelude.{⊤}
 use Rattle.cct_model.specs.terms.request.TheConstants.{ENABLE_CODE}
 use Rattle.cct_model.specs.terms.device.DeviceSetup.{DeviceSetup}
-use Rattle.cct_model.specs.terms.device.Setup.{Setup}
 use Rattle.cct_model.specs.terms.request.Request.{Request}
 use Rattle.cct_model.specs.terms.request.Request.TheVariants.{SimplePoll, AddressPoll, Enable, Dispense, GetStatus}
 use Rattle.cct_model.specs.lines.record.Record.{Record}
@@ -12,32 +11,28 @@ use Rattle.cct_model.specs.lines.record.Record.TheVariants as record_of
 use Rattle.cct_model.specs.declared.judging.Judged.{Judged}
 use Rattle.cct_model.specs.lines.command.Command.{Command}
 use Rattle.cct_model.specs.lines.command.Command.TheVariants as command
-use Rattle.cct_model.specs.lines.command.Step.{Step}
 use Rattle.cct_model.specs.lines.entry.End.{End}
-use Rattle.cct_model.specs.lines.entry.Entry.{Entry}
 use Rattle.cct_model.specs.Reply.{Reply}
 use Rattle.cct_model.specs.History.{Met, fall, jam, reset, heard}
 use Rattle.cct_model.specs.Hopper.{remaining, taken_of}
 use Rattle.cct_model.specs.Device.{IsHopper, reply_of}
-use Rattle.cct_model.specs.Setup.{IsSoundSetup}
 use Rattle.cct_model.specs.Line.{Line, exchange, put, taken}
 use Rattle.cct_model.specs.Order.{order}
 use Rattle.cct_model.specs.Job.{Job, free, works, job, begun, with_line, epoch, sends, puts, Payment, payment_in, judged_in, open_row, ident_requests, address_of}
 use Rattle.cct_model.specs.Rows.{row, new_epoch, reading, epoch_end, new_order, order_end, sale, TableRow, asks_for, asks_once, waits_for_coins, puts_due, telling, rows_of, after, from, rest, done, first, sent_once, ends_first}
-use Rattle.cct_model.specs.Legal.{Legal}
-use Rattle.cct_model.specs.Script.{IsInRange}
-use Rattle.cct_model.specs.Honest.{Honest}
 use Rattle.cct_model.specs.Transcript.{doses, met, onto}
 use Rattle.cct_model.proofs.Hoppers.{left_heard, remaining_fall, remaining_jam, remaining_heard}
 use Rattle.cct_model.proofs.Doses.{job_undosed, same_over, doses_are}
-use Rattle.cct_laws.specs.Kept.{Fate, unheard, silenced, answered, IsForOthers, is_for_hopper, WorksAt, with_ended}
+use Rattle.cct_laws.specs.DeviceJobs.{Fate, unheard, silenced, answered, IsForOthers, is_for_hopper, WorksAt, with_ended}
 use Rattle.cct_laws.specs.KeptHopper.{IsKeptHopper}
-use Rattle.cct_laws.specs.Law.{IsOf, lines_in}
+use Rattle.cct_laws.specs.Law.{lines_in}
 use Rattle.cct_laws.specs.PaidOut.{shows_none, paid_out_by, is_paid_out}
+use Rattle.cct_laws.specs.Scope.{EachHopper}
 use Rattle.cct_laws.proofs.EitherKind.{for_hopper}
 use Rattle.cct_model.proofs.Rows.{but_first, after_none, after_next, EachBefore, before_on, fact_after, told_fact}
 use Rattle.cct_laws.proofs.Whole.{kept_hopper_legal}
-use Rattle.cct_model.proofs.Tries.{IsAgain, due_sends}
+use Rattle.cct_model.proofs.Requests.{IsAgain}
+use Rattle.cct_model.proofs.Tries.{due_sends}
 use Rattle.cct_model.proofs.RowEnds.{rest_asks, again_row, stays_again}
 use Rattle.cct_model.specs.declared.judging.EpochState.{EpochState}
 use Rattle.cct_model.specs.declared.judging.OpenOrder.{OpenOrder}
@@ -81,7 +76,7 @@ rows_opened d (command.Settle addr) played = search rules
 rows_opened d (command.Ident addr) played = (told_opened (ident_requests d.body)).1
 rows_opened d c played = absurd cc
 
--- so the row behind one that asks isn't sent once
+-- so the row after one that asks isn't sent once
 asked_opened : (addr : ℕ) (means : Judged) (p : Payment) (rows : List TableRow) (q : Request) → AreOpened rows →
     first addr means p rows ≡ sends q → sent_once (but_first rows) ≡ false
 asked_opened addr means p [] q each is = refl
@@ -90,7 +85,7 @@ asked_opened addr means p (asks_once x behind without ∷ rows) q each is = each
 asked_opened addr means p (waits_for_coins ∷ rows) q each is = each.0
 asked_opened addr means p (puts_due due behind ∷ rows) q each is = absurd (due_sends addr means p due q is)
 
--- nor that behind one that puts a record, unless that opens an order
+-- nor that after one that puts a record, unless that opens an order
 opened_out : (addr id count : ℕ) (life : Option ℕ) (r : Record) (before : Bool) → open_row addr id count life ≡ puts r →
     paid_out_by r before ≡ true → ⊥
 opened_out addr id count None r before is out = cc
@@ -118,7 +113,7 @@ left_opened : (d : DeviceSetup) (c : Command) (work : List Line) → is_for_hopp
 left_opened d c work played =
     fact_after AreOpened (before_on OpensFirst) (rows_of d c) (done (rows_of d c) work) (rows_opened d c played)
 
--- behind an exchange it stands at no row that is sent once
+-- after an exchange it stands at no row that is sent once
 asked_aside : (d : DeviceSetup) (c : Command) (work : List Line) (state : EpochState) (owed : Option OpenOrder)
     (q : Request) (got : Option Reply) → is_for_hopper c ≡ true → row d c work state owed ≡ sends q →
     IsNotAtDispense d (works c (exchange (Some q) got ∷ work))
@@ -134,7 +129,7 @@ asked_aside d c work state owed q got played is = by_end (ends_first (rest d c w
     by_end true test = ap sent_once (after_next (rows_of d c) (done (rows_of d c) work)) ∙ goes
     by_end false test = stays_again (rest d c work) got test
 
--- nor behind a record, unless that opens an order
+-- nor after a record, unless that opens an order
 put_aside : (d : DeviceSetup) (c : Command) (work : List Line) (state : EpochState) (owed : Option OpenOrder)
     (r : Record) (before : Bool) → is_for_hopper c ≡ true → row d c work state owed ≡ puts r →
     paid_out_by r before ≡ true → IsNotAtDispense d (works c (put r ∷ work))
@@ -273,7 +268,7 @@ rests_kept d paying = record {
       (λ none. rests_heard d.serial past asked (others_untaken d.serial past asked others) none) rests;
   takes = λ past lines c no_job here in_range played fine rests out. ((rests out).0, taken_aside d c (job lines) played);
   halts = λ past lines can rests out. ((rests out).0, halted_aside d d.addr (job lines) (rests out).1);
-  crashes = λ past lines rests out. ((rests out).0, tt);
+  restarts = λ past lines rests out. ((rests out).0, tt);
   asks = λ past lines c work q asked got at row_is fate rests.
       rests_ended d (heard asked ∷ past) (exchange (Some q) got ∷ doses d.body d.serial past asked ++ lines) _
       (rests_exchange d past lines c work q asked got paying at row_is fate rests);
@@ -283,10 +278,8 @@ rests_kept d paying = record {
 }
 
 -- a hopper that has shown that nothing is left to pay has nothing left to fall until the next order is opened
-pub legal_paid_out : (capacity : ℕ) (setup : Setup) (steps : List Step) (transcript : List Entry)
-    (d : DeviceSetup) → IsSoundSetup setup → IsOf setup d → IsHopper d.body → All IsInRange steps →
-    Legal capacity setup steps transcript → Honest transcript → is_paid_out (lines_in d transcript) ≡ true →
-    remaining d.serial (met d (onto [] transcript)) ≡ 0
+pub legal_paid_out : EachHopper (λ d transcript. is_paid_out (lines_in d transcript) ≡ true → remaining d.serial (met
+    d (onto [] transcript)) ≡ 0)
 legal_paid_out capacity setup steps transcript d sound own paying in_range legal honest out =
     (kept_hopper_legal capacity setup steps transcript d (Rests d) sound own paying in_range legal honest
     (rests_kept d paying) out).0

@@ -13,7 +13,7 @@ use Rattle.cct_model.specs.lines.command.Command.TheVariants as command
 use Rattle.cct_model.specs.History.{Met, fall, jam, reset, heard}
 use Rattle.cct_model.specs.Hopper.{remaining}
 use Rattle.cct_model.specs.Device.{IsHopper}
-use Rattle.cct_model.specs.Line.{Line, fell, put, taken, crashed}
+use Rattle.cct_model.specs.Line.{Line, fell, put, taken, restarted}
 use Rattle.cct_model.specs.Line as line
 use Rattle.cct_model.specs.Order.{order}
 use Rattle.cct_model.specs.Job.{Job, free, works, job, begun, with_line, epoch, sends, puts, ident_requests}
@@ -22,8 +22,8 @@ use Rattle.cct_model.specs.Paid.{dispenses, OfOrder, PaidBy, Paid}
 use Rattle.cct_model.specs.Refusal.{settle_refusal}
 use Rattle.cct_model.specs.Script.{IsCommand}
 use Rattle.cct_model.proofs.Hoppers.{remaining_fall, remaining_jam}
-use Rattle.cct_laws.specs.Kept.{IsForOthers, is_for_hopper}
-use Rattle.cct_laws.specs.Odd.{IsNotOdd}
+use Rattle.cct_laws.specs.DeviceJobs.{IsForOthers, is_for_hopper}
+use Rattle.cct_laws.specs.LifeCounts.{HasFittingLife}
 use Rattle.cct_laws.specs.KeptHopper.{IsOwed, IsKeptHopper}
 use Rattle.cct_laws.proofs.orders.Owing.{View, StateOf, Falls, state_falls, falls_of_order, IsOpen, FitsJob, fits_falls, FitsLeft, rows_linked, told_needs}
 use Rattle.cct_laws.proofs.orders.Payouts.{view, Pays, pays_less, less_rest, IsMany, less_heard, sent_fits, put_fits, pays_asks, pays_ended, pays_puts}
@@ -76,7 +76,7 @@ pays_reset d past lines pays =
     let after = pays_less d past (reset ∷ past) lines (less_rest d past (reset ∷ past) lines (omega arith) refl) pays in
     record { paid = (tt, after.paid); state = after.state; fits = after.fits }
 
--- a piece is heard that no job at the hopper sends it
+-- bytes are heard that no job at the hopper sends it
 many_others : (asked : Option Request) → IsForOthers asked → IsMany asked
 many_others None others = tt
 many_others (Some AddressPoll) others = refl
@@ -126,12 +126,12 @@ pays_halted d past lines addr pays = record {
   fits = halted_fits d (start_of d.body) (view d past lines) (order lines) addr (job lines) pays.fits;
 }
 
--- the host loses its power, before the record of its job is in the journal or behind that
-pays_crashed : (d : DeviceSetup) (past : List Met) (lines : List Line) → Pays d past lines →
-    Pays d past (crashed ∷ lines)
-pays_crashed d past lines pays = record { paid = (tt, pays.paid); state = pays.state; fits = tt }
+-- the power is cut, before the record of its job is in the journal or after that
+pays_restarted : (d : DeviceSetup) (past : List Met) (lines : List Line) → Pays d past lines →
+    Pays d past (restarted ∷ lines)
+pays_restarted d past lines pays = record { paid = (tt, pays.paid); state = pays.state; fits = tt }
 
-paid_behind : (lines : List Line) (r : Record) → PaidBy lines r → PaidBy (crashed ∷ lines) r
+paid_behind : (lines : List Line) (r : Record) → PaidBy lines r → PaidBy (restarted ∷ lines) r
 paid_behind lines (record_of.Opened id addr count life) paid = paid
 paid_behind lines (record_of.Closed id paid unpaid) fits = fits
 paid_behind lines (record_of.Odd id life_before life_after) paid = absurd paid
@@ -139,7 +139,7 @@ paid_behind lines r paid = tt
 
 pays_kept_record : (d : DeviceSetup) (past : List Met) (lines : List Line) (c : Command) (work : List Line)
     (r : Record) → job lines ≡ works c work → row d c work (epoch lines) (order lines) ≡ puts r → Pays d past lines →
-    Pays d past (put r ∷ crashed ∷ lines)
+    Pays d past (put r ∷ restarted ∷ lines)
 pays_kept_record d past lines c work r is_job row_is pays =
     let after = pays_puts d past lines c work r is_job row_is pays in
     record { paid = (paid_behind lines r after.paid.0, (tt, pays.paid)); state = after.state; fits = tt }
@@ -155,7 +155,7 @@ pays_kept d paying = record {
   elsewhere = λ past lines asked others pays. pays_elsewhere d past lines asked others pays;
   takes = λ past lines c no_job here in_range played fine pays. pays_taken d past lines c played in_range fine pays;
   halts = λ past lines can pays. pays_halted d past lines d.addr pays;
-  crashes = λ past lines pays. pays_crashed d past lines pays;
+  restarts = λ past lines pays. pays_restarted d past lines pays;
   asks = λ past lines c work q asked got at row_is fate pays.
       pays_asks d past lines c work q asked got paying at.job_is row_is fate pays;
   keeps = λ past lines c work r at row_is pays. pays_kept_record d past lines c work r at.job_is row_is pays;
@@ -181,11 +181,11 @@ dispense_fresh d past lines c work serial count pays is_job row_is =
     let sent = sent_fits d past lines c work (Dispense serial count) is_job row_is pays in
     (sent.to_own, sent.fresh)
 
-paid_not_odd : (lines : List Line) (r : Record) → PaidBy lines r → IsNotOdd r
+paid_not_odd : (lines : List Line) (r : Record) → PaidBy lines r → HasFittingLife r
 paid_not_odd lines (record_of.Odd id life_before life_after) paid = absurd paid
 paid_not_odd lines r paid = tt
 
 pub never_odd : (d : DeviceSetup) (past : List Met) (lines : List Line) (c : Command) (work : List Line) (r : Record) →
-    Pays d past lines → job lines ≡ works c work → row d c work (epoch lines) (order lines) ≡ puts r → IsNotOdd r
+    Pays d past lines → job lines ≡ works c work → row d c work (epoch lines) (order lines) ≡ puts r → HasFittingLife r
 never_odd d past lines c work r pays is_job row_is =
     paid_not_odd lines r (put_fits d past lines c work r is_job row_is pays).paid

@@ -25,10 +25,11 @@ use Rattle.cct_model.specs.Rows.{end_of, row, TableRow, rows_of, after, rest, do
 use Rattle.cct_model.specs.Paid.{dispenses, fallen, PaidBy, Paid}
 use Rattle.cct_model.specs.Transcript.{dispensed_by, doses}
 use Rattle.cct_model.proofs.Hoppers.{left_heard, remaining_heard, taken_when}
-use Rattle.cct_laws.specs.Kept.{Fate, unheard, silenced, answered, with_ended}
+use Rattle.cct_laws.specs.DeviceJobs.{Fate, unheard, silenced, answered, with_ended}
 use Rattle.cct_model.proofs.Rows.{RowHolds, EachRow, each_after, but_first, after_next}
 use Rattle.cct_laws.proofs.orders.Owing.{View, StateOf, Less, Takes, state_less, IsFresh, state_takes, state_opens, close_is, IsOpen, IsLife, FitsJob, fits_less, FitsLeft, FitsRows, Follows, AreLinked, Needs, needs_less}
-use Rattle.cct_model.proofs.Tries.{IsAgain, AsksWell, asks_well, due_sends, same_request}
+use Rattle.cct_model.proofs.Requests.{IsAgain}
+use Rattle.cct_model.proofs.Tries.{AsksWell, asks_well, due_sends, same_request}
 use Rattle.cct_model.proofs.RowEnds.{failed_stays, once_goes, row_again, row_once, rest_asks}
 use Rattle.cct_laws.proofs.Replies.{start_of, replied_status, replied_stop, replied_life, same_reply}
 
@@ -198,7 +199,7 @@ life_asked d past lines w work q y paying less is =
     IsLife (start_of d.body) w (life_read (exchange (Some r) (Some y) ∷ work))) (sym is)
     (life_next d past lines w work y paying less)
 
--- what an answer brings to the rows behind the one that asked
+-- what an answer brings to the rows after the one that asked
 asked_next : (d : DeviceSetup) (past : List Met) (lines : List Line) (w : View) (owed : Option OpenOrder)
     (work : List Line) (q : Request) (behind : Then) (y : Reply) (rows : List TableRow) → IsHopper d.body →
     Less (view d past lines) w → Follows d.serial rows (asks_for q behind) → Needs (view d past lines) owed rows →
@@ -364,7 +365,7 @@ fresh_open : (v : View) (owed : Option OpenOrder) (count : ℕ) → IsFresh v ow
 fresh_open v None count fresh = absurd fresh
 fresh_open v (Some o) count fresh = tt
 
--- behind a dispense comes the row that waits for its coins
+-- after a dispense comes the row that waits for its coins
 dosed_next : (own start : ℕ) (w : View) (owed : Option OpenOrder) (life : Option ℕ) (q : Request)
     (behind without : Then) (rows : List TableRow) → Follows own rows (asks_once q behind without) → IsOpen owed →
     FitsRows own start w owed life rows

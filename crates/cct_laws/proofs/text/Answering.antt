@@ -385,7 +385,7 @@ answer_by d past to (Some q) sound h small =
 pub answer_bytes : (d : DeviceSetup) (past : List Met) (piece : List ℕ) → IsSound d → FitsAll past → Bytes piece → IfThere Bytes (answer d past piece)
 answer_bytes d past piece sound h bytes = answer_by d past (asker d.kind piece) (asks_of d piece) sound h (asker_fits d.kind piece bytes)
 
--- what a piece of bytes asks of it
+-- what a list of bytes asks of it
 asked_by : (here all : Bool) (found : Option Request) → IfThere FitsRequest found → IfThere FitsRequest (cond here (to_one found) (cond all (to_all found) None))
 asked_by true all found h = to_one_fits found h
 asked_by false true found h = to_all_fits found

@@ -1,4 +1,4 @@
--- Pieces of bytes: what is sent, what a device answers, and what is read of what is heard.
+-- Lists of bytes: what is sent, what a device answers, and what is read of what is heard.
 use Rattle.std.proofs.Common.{ℕ, ◌*◌, ◌/◌, ◌%◌, ◌<◌, ◌==◌, ◌&&◌, ◌++◌, rules, Bool, true, false, cond, List, [], ◌∷◌, length, fold, bit_xor, Option, Some, None, arith}
 use Rattle.std.specs.Prelude.{⊤, unwrap_or, option_and_then, flat_map}
 use Rattle.std.proofs.lemmas.Nat.{xor_of_16}
@@ -28,7 +28,7 @@ crc_fits : (bytes : List ℕ) → crc bytes < 65536
 unfolding crc
 crc_fits bytes = fold_fits (flat_map bits_of bytes) 0 (omega arith)
 
--- a message of bytes, and the piece that spells it
+-- a message of bytes, and those that spell it
 abbrev pub FitsFrom : Option ℕ → Type 0
 FitsFrom from = unwrap_or from 0 < 256
 
@@ -49,7 +49,7 @@ spelled_bytes Crc m fits =
     let small : check < 65536 = crc_fits (m.to ∷ length m.body ∷ m.header ∷ m.body) in
     (fits.to, (fits.short, (omega arith, (fits.header, bytes_more m.body (check / 256 ∷ []) fits.body (omega (arith, small), tt)))))
 
--- the asker that a piece of bytes names
+-- the asker that a list of bytes names
 asker_by : (found : Option Message) → IfThere IsOfBytes found → unwrap_or (option_and_then (λ m. m.from) found) 1 < 256
 asker_by None h = omega arith
 asker_by (Some m) h = h.from
@@ -58,7 +58,7 @@ pub asker_fits : (kind : CheckKind) (piece : List ℕ) → Bytes piece → asker
 unfolding asker
 asker_fits kind piece h = asker_by (message kind piece) (message_bytes kind piece h)
 
--- a request of bytes sets a mask of 16 bits, and asks to pay 255 coins at the most
+-- a request of bytes sets a mask of 16 bits, and asks to pay at most 255 coins
 abbrev pub FitsRequest : Request → Type 0
 FitsRequest (SetMask mask) = mask < 65536
 FitsRequest (Dispense serial count) = count < 256

@@ -99,7 +99,7 @@ id_found : (field id : List ℕ) → id_in field ≡ Some id → IsId id
 unfolding id_in
 id_found field id found = found_if IsId ((length field == 6) && list_all is_printing field) field id (id_by_tests field) found
 
--- pieces
+-- bytes
 ok_of : (r : Result (List ℕ) FromHexError) (bytes : List ℕ) → result_ok r ≡ Some bytes → r ≡ Ok bytes
 ok_of (Ok x) bytes found =
     let is : x ≡ bytes = cc in

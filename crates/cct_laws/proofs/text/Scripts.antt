@@ -3,7 +3,6 @@ use Rattle.std.proofs.Common.{◌≡◌, ℕ, ◌+◌, nat_lt, Bool, true, false
 use Rattle.std.specs.Prelude.{⊤}
 use Rattle.std.specs.List.{AllByRecursion, slice_split}
 use Rattle.std.proofs.lemmas.List.Elements.{All-from_recursion, All-weaker, All-nil}
-use Rattle.cct_model.specs.terms.device.DeviceSetup.{DeviceSetup}
 use Rattle.cct_model.specs.terms.device.Setup.{Setup}
 use Rattle.cct_model.specs.lines.setup.SetupLine.{SetupLine}
 use Rattle.cct_model.specs.lines.setup.SetupLine.TheVariants as says
@@ -12,20 +11,17 @@ use Rattle.cct_model.specs.lines.command.Step.TheVariants as step
 use Rattle.cct_model.specs.lines.entry.Entry.{Entry}
 use Rattle.cct_model.specs.lines.entry.LineKind.{LineKind}
 use Rattle.cct_model.specs.lines.entry.LineKind.TheVariants as kind
-use Rattle.cct_model.specs.Claims.{InOrder, Covers, Pace}
-use Rattle.cct_model.specs.Device.{IsSound, IsHopper}
+use Rattle.cct_model.specs.Device.{IsSound}
 use Rattle.cct_model.specs.Grammar.{setup_line, step_line, added}
 use Rattle.cct_model.specs.Legal.{Legal, is_played}
 use Rattle.cct_model.specs.Script.{Stage, at_setup, at_steps, at_end, setup_at, Read, opens, plays, refuses, opened, read_setup_line, read_step_line, read_form, most_lines, most_bytes, is_over, read_line, Script, stage_after, goes_on, script_from, no_devices, script, is_line_feed, IsInRange}
 use Rattle.cct_model.proofs.Added.{AreAll, KeepsEach, added_keeps}
 use Rattle.cct_model.specs.Text.{text}
 use Rattle.cct_text.proofs.Whole.{text_is_one}
-use Rattle.cct_model.specs.Honest.{Honest}
-use Rattle.cct_model.specs.Paid.{Paid, AreFresh}
-use Rattle.cct_model.specs.Records.{records}
-use Rattle.cct_model.specs.Transcript.{onto}
 use Rattle.cct_model.specs.Setup.{IsSoundSetup}
-use Rattle.cct_laws.specs.Law.{IsOf, HasBytes, AreOfToday, lines_in}
+use Rattle.cct_laws.specs.Law.{HasBytes, AreOfToday}
+use Rattle.cct_laws.specs.Right.{IsRight}
+use Rattle.cct_laws.specs.Scope.{EachTranscript}
 use Rattle.cct_laws.proofs.acceptor.Coinless.{each_in_order, each_covers}
 use Rattle.cct_laws.proofs.orders.Payments.{legal_paid, legal_fresh}
 use Rattle.cct_laws.proofs.text.Said.{KeepsSound, IfSaid, IsToday, setup_said, step_said}
@@ -143,39 +139,22 @@ front_of_today bytes played rest fronts =
 pub steps_of_today : (bytes : List ℕ) → AreOfToday (script bytes).steps
 steps_of_today bytes = front_of_today bytes (script bytes).steps [] (sym (append-nil (script bytes).steps))
 
--- a script that was played up to a step posts in order at each device
-pub played_in_order : (capacity : ℕ) (bytes : List ℕ) (played rest : List Step) (transcript : List Entry)
-    (d : DeviceSetup) → (script bytes).steps ≡ played ++ rest →
-    Legal capacity (script bytes).setup played transcript → Honest transcript → IsOf (script bytes).setup d →
-    InOrder (lines_in d transcript)
-played_in_order capacity bytes played rest transcript d fronts legal honest own =
-    each_in_order capacity (script bytes).setup played transcript d (setup_sound bytes) own
-    (front_of_today bytes played rest fronts).in_range legal honest
+-- the money of a legal transcript is right
+pub legal_right : EachTranscript (λ capacity setup transcript. IsRight setup transcript)
+legal_right capacity setup steps transcript sound in_range legal = record {
+  fresh = legal_fresh capacity setup steps transcript sound legal;
+  in_order = λ d own honest. each_in_order capacity setup steps transcript d sound own in_range legal honest;
+  covers = λ d own honest. each_covers capacity setup steps transcript d sound own in_range legal honest;
+  paid = λ d own paying honest. legal_paid capacity setup steps transcript d sound own paying in_range legal honest;
+}
 
--- under the pace loses none in silence
-pub played_covers : (capacity : ℕ) (bytes : List ℕ) (played rest : List Step) (transcript : List Entry)
-    (d : DeviceSetup) → (script bytes).steps ≡ played ++ rest →
-    Legal capacity (script bytes).setup played transcript → Honest transcript → IsOf (script bytes).setup d →
-    Pace (lines_in d transcript) → Covers (lines_in d transcript)
-played_covers capacity bytes played rest transcript d fronts legal honest own =
-    each_covers capacity (script bytes).setup played transcript d (setup_sound bytes) own
-    (front_of_today bytes played rest fronts).in_range legal honest
-
--- and pays each order of a hopper at most once
-pub played_paid : (capacity : ℕ) (bytes : List ℕ) (played rest : List Step) (transcript : List Entry)
-    (d : DeviceSetup) → (script bytes).steps ≡ played ++ rest →
-    Legal capacity (script bytes).setup played transcript → Honest transcript → IsOf (script bytes).setup d →
-    IsHopper d.body → Paid (lines_in d transcript)
-played_paid capacity bytes played rest transcript d fronts legal honest own paying =
-    legal_paid capacity (script bytes).setup played transcript d (setup_sound bytes) own paying
-    (front_of_today bytes played rest fronts).in_range legal honest
-
--- whatever the wire does, no id stands in two records
-pub played_fresh : (capacity : ℕ) (bytes : List ℕ) (played rest : List Step) (transcript : List Entry) →
+-- so is that of a script that was played up to a step
+pub played_right : (capacity : ℕ) (bytes : List ℕ) (played rest : List Step) (transcript : List Entry) →
     (script bytes).steps ≡ played ++ rest → Legal capacity (script bytes).setup played transcript →
-    AreFresh (records (onto [] transcript))
-played_fresh capacity bytes played rest transcript fronts legal =
-    legal_fresh capacity (script bytes).setup played transcript (setup_sound bytes) legal
+    IsRight (script bytes).setup transcript
+played_right capacity bytes played rest transcript fronts legal =
+    legal_right capacity (script bytes).setup played transcript (setup_sound bytes)
+    (front_of_today bytes played rest fronts).in_range legal
 
 -- the texts of two scripts that were played up to a step tell their transcripts, whatever the journals take
 pub played_texts : (capacity room : ℕ) (bytes other : List ℕ) (played rest others more : List Step)

@@ -30,7 +30,7 @@ use Rattle.cct_model.specs.History.{Met, coin, alien, fall, jam, reset}
 use Rattle.cct_model.specs.Device.{IsSound}
 use Rattle.cct_model.specs.Exchange.{ask, asked, asks_of, asking, answer, got, put_by_address, by_address}
 use Rattle.cct_model.specs.Hopper.{taken_of}
-use Rattle.cct_model.specs.Line.{Line, accepted, inhibited, fell, exchange, scanned, put, taken, ended, crashed}
+use Rattle.cct_model.specs.Line.{Line, accepted, inhibited, fell, exchange, scanned, put, taken, ended, restarted}
 use Rattle.cct_model.specs.Line as line
 use Rattle.cct_model.specs.Reading.{judge}
 use Rattle.cct_model.specs.Order.{close, life_between}
@@ -42,7 +42,8 @@ use Rattle.cct_model.specs.Script as script
 use Rattle.cct_laws.specs.Law.{IsCommandOfBytes}
 use Rattle.cct_text.specs.Written.{IsMask, IsCommand, IsRecord, IsFault, IsEnd, IsWritten}
 use Rattle.cct_terms.proofs.OfBytes.{Bytes, IfThere, bytes_are, are_bytes, bytes_more}
-use Rattle.cct_model.proofs.Rows.{Puts, Each, RowHolds, JudgedHolds, EachRow, both_hold, exchange_end, put_end, Asks, each_ask, AnswerEnds, BareEnds, PutEnds, each_due, each_asked, each_told}
+use Rattle.cct_model.proofs.Requests.{Each}
+use Rattle.cct_model.proofs.Rows.{Puts, RowHolds, JudgedHolds, EachRow, both_hold, exchange_end, put_end, Asks, each_ask, AnswerEnds, BareEnds, PutEnds, each_due, each_asked, each_told}
 use Rattle.cct_laws.proofs.text.Bytes.{spelled_bytes, FitsReply, got_fits}
 use Rattle.cct_laws.proofs.text.Answering.{FitsMet, FitsAll, there_or, answer_bytes, asks_fit}
 
@@ -255,7 +256,7 @@ job_of_lines : (lines : List Line) → FitsLines lines → FitsJob (job lines)
 job_of_lines [] h = tt
 job_of_lines (taken c ∷ lines) h = begun_fits c (job lines) h.0 (job_of_lines lines h.1)
 job_of_lines (ended end ∷ lines) h = tt
-job_of_lines (crashed ∷ lines) h = tt
+job_of_lines (restarted ∷ lines) h = tt
 job_of_lines (exchange asks found ∷ lines) h = with_line_fits (exchange asks found) (job lines) h.0 (job_of_lines lines h.1)
 job_of_lines (scanned check addr rest ∷ lines) h = with_line_fits (scanned check addr rest) (job lines) tt (job_of_lines lines h.1)
 job_of_lines (put r ∷ lines) h = with_line_fits (put r) (job lines) tt (job_of_lines lines h.1)

@@ -18,7 +18,7 @@ returns-in_err-write_entry-clause-writes g c =
     (
     writes_broke sink.written sink.puts c.args.out.now out1 out2 c.args.entries.now i e why (omega arith) c.entry-item.is
     c.loop-entry.invariant.0
-    (writes_one sink.written sink.puts out1 out2 e (Err why) wrote.one wrote.ok wrote.err)
+    (writes_one sink.written sink.puts out1 out2 e (Err why) wrote.puts)
     )
 
 pub loop-entry-preserved : goal.loop-entry-preserved
@@ -32,8 +32,8 @@ loop-entry-preserved g c =
     let more = take_more c.args.entries.now i e (omega arith)
     ∙ ap (λ x. take i c.args.entries.now ++ x ∷ []) (sym c.entry-item.is) in (
       writes_next sink.written sink.puts c.args.out.now out1 out2 c.args.entries.now i e c.loop-entry.invariant.0
-          (writes_one sink.written sink.puts out1 out2 e (Ok c.in_ok-write_entry.field-0) wrote.one wrote.ok wrote.err)
+          (writes_one sink.written sink.puts out1 out2 e (Ok c.in_ok-write_entry.field-0) wrote.puts)
           more,
-      wrote.tells ∙ c.loop-entry.invariant.1,
-      omega (arith, c.loop-entry.invariant.2, wrote.cause.later),
+      wrote.serves.tells ∙ c.loop-entry.invariant.1,
+      omega (arith, c.loop-entry.invariant.2, wrote.serves.later),
     )

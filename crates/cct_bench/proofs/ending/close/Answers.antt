@@ -9,7 +9,7 @@ returns-in-Ok-clause-writes g c =
     let wrote = c.write_entry.ensures in (
       c.write_entry.result,
       writes_one sink.written sink.puts c.args.out.now c.write_entry.new.out c.args.entry.now c.write_entry.result
-          wrote.one wrote.ok wrote.err,
+          wrote.puts,
       sym (ap (λ answer. status_by answer c.args.status) c.in-Ok.is),
     )
 
@@ -19,6 +19,6 @@ returns-in-Err-clause-writes g c =
     let wrote = c.write_entry.ensures in (
       c.write_entry.result,
       writes_one sink.written sink.puts c.args.out.now c.write_entry.new.out c.args.entry.now c.write_entry.result
-          wrote.one wrote.ok wrote.err,
+          wrote.puts,
       sym (ap (λ answer. status_by answer c.args.status) c.in-Err.is),
     )

@@ -1,15 +1,15 @@
-use Rattle.std.proofs.Common.{[], refl, sym, ◌∙◌, subst, arith, lit≤}
+use Rattle.std.proofs.Common.{[], refl, sym, subst, lit≤, rules}
 use Rattle.cct_model.specs.Script.{at_setup, at_steps, opens}
 use Rattle.cct_script.specs.Giving.{standing_of}
 use Rattle.cct_bench.specs.Setup.{stage_of}
-use Rattle.cct_bench.specs.Lines.{IsNext, ScriptGoesOn, Came}
+use Rattle.cct_bench.specs.Lines.{IsNext, ScriptGoesOn, WithMoreTaken}
 use Rattle.cct_bench.specs.SetupLines.{OpensLine, TookOpening}
 use Rattle.cct_text.specs.Writing.{IsNothing, NeverBroke}
 use Rattle.cct_bench.specs.Disks.{Always}
 use Rattle.cct_bench.specs.Going.{Going, IsUnbegun}
 use Rattle.cct_bench.specs.Run.{BeforeSteps}
 use Rattle.cct_bench.proofs.SetupLines.{opening_begin, opening_more}
-use Rattle.cct_bench.proofs.Going.{going_begin, going_opens, played_stopped}
+use Rattle.cct_bench.proofs.Going.{going_begin, going_opens, played_stopped, serves_on}
 use Rattle.cct_bench.proofs.opening.read_setup.Goals as goal
 
 pub loop-number-init : goal.loop-number-init
@@ -28,8 +28,7 @@ loop-number-init g c =
           (sym c.requires.lines)
           (subst (λ setup. TookOpening source.takes source.left script script [] 1 (at_setup setup))
           (sym c.requires.setup) (opening_begin source.takes source.left script));
-      tells = refl;
-      later = omega arith;
+      serves = search rules;
       next = subst (IsNext 1) (sym c.requires.lines) (refl, lit≤ tt);
     }
 
@@ -43,7 +42,7 @@ returns-in-Ok-Begun-clause-opened g c =
     let stage = at_setup c.loop-number.setup in
     let setup = c.read_opening.new.setup in
     let reads = subst
-    (λ opened. Came held left left1 (λ bytes. ScriptGoesOn number stage bytes (opens (stage_of opened setup)) rest))
+    (λ opened. WithMoreTaken held left left1 (λ bytes. ScriptGoesOn number stage bytes (opens (stage_of opened setup)) rest))
     c.in-Ok-Begun.field-0-is c.in-Ok-Begun.ensures.reads in
     going_opens Always (g.S.Source.left c.args.script.now) left left1 held rest number stage (at_steps setup) IsUnbegun
     IsNothing c.loop-number.invariant.going reads
@@ -89,7 +88,7 @@ loop-number-preserved g c =
     let setup = c.read_opening.new.setup in
     let runs = c.loop-number.invariant in
     let reads = subst
-    (λ opened. Came held left left1 (λ bytes. ScriptGoesOn number stage bytes (opens (stage_of opened setup)) rest))
+    (λ opened. WithMoreTaken held left left1 (λ bytes. ScriptGoesOn number stage bytes (opens (stage_of opened setup)) rest))
     c.in-Ok-Added.field-0-is c.in-Ok-Added.ensures.reads in
     let line = subst
     (λ opened. OpensLine source.takes source.left number stage (stage_of opened setup) held rest script script1)
@@ -99,7 +98,6 @@ loop-number-preserved g c =
           IsNothing runs.going reads;
       opening = opening_more source.takes source.left script0 script script1 held rest number stage (at_setup setup)
           runs.opening line;
-      tells = c.in-Ok-Added.ensures.tells ∙ runs.tells;
-      later = omega (arith, runs.later, c.in-Ok-Added.ensures.later);
+      serves = serves_on runs.serves c.in-Ok-Added.ensures.source;
       next = c.in-Ok-Added.ensures.next;
     }

@@ -50,7 +50,7 @@ returns-clause-reported g c image told =
     c.finish_report.result closed.0 (sym c.len-len.ensures ∙ c.if-len-ne-JOURNAL_BYTES.false)
     (image_lists size failed image how (listed ≡ out) (λ lines r. Writes sink.written sink.puts out lines r listed)
     (λ same. subst (λ k. Wrote sink.written sink.puts out k []) (sym same) (wrote_none sink.written sink.puts out))
-    list.disk_cause (list.found image told) (λ records. list.every image records told)) closed.1 closed.2
+    list.disk_cause.rose (list.found image told) (λ records. list.every image records told)) closed.1 closed.2
 
 pub returns-clause-every : goal.returns-clause-every
 returns-clause-every g c image records told stands =
@@ -64,7 +64,7 @@ returns-clause-every g c image records told stands =
     reported_behind sink.written sink.puts (records_known size failed records) out listed c.finish_report.new.out how
     c.finish_report.result closed.0 (sym c.len-len.ensures ∙ c.if-len-ne-JOURNAL_BYTES.false)
     (records_lists size failed records how (λ lines r. Writes sink.written sink.puts out lines r listed)
-    c.list_journal-how.ensures.disk_cause
+    c.list_journal-how.ensures.disk_cause.rose
     (c.list_journal-how.ensures.every image records told stands)) closed.1 closed.2
 
 pub returns-clause-lines : goal.returns-clause-lines
@@ -79,7 +79,7 @@ returns-clause-lines g c =
     reported_behind sink.written sink.puts (size_known size failed) out listed c.finish_report.new.out how
     c.finish_report.result closed.0 (sym c.len-len.ensures ∙ c.if-len-ne-JOURNAL_BYTES.false)
     (size_lists size failed how (λ lines r. Writes sink.written sink.puts out lines r listed)
-    c.list_journal-how.ensures.disk_cause
+    c.list_journal-how.ensures.disk_cause.rose
     c.list_journal-how.ensures.lines) closed.1 closed.2
 
 pub returns-clause-complete : goal.returns-clause-complete
@@ -92,6 +92,6 @@ returns-clause-complete g c image told no_write no_disk =
     decided (g.D.Disk.size c.args.disk) image c.list_journal-how.result.0 c.finish_report.result
     (Rose (faults listed) (faults last)) (sym c.len-len.ensures ∙ c.if-len-ne-JOURNAL_BYTES.false)
     (list.complete image told
-    (λ rose. no_write (Rose-later (faults out) (faults listed) (faults last) rose c.finish_report.ensures.later))
+    (λ rose. no_write (Rose-later (faults out) (faults listed) (faults last) rose c.finish_report.ensures.sink.later))
     no_disk) c.finish_report.ensures.cause
-    (λ rose. no_write (Rose-earlier (faults out) (faults listed) (faults last) list.sink_later rose))
+    (λ rose. no_write (Rose-earlier (faults out) (faults listed) (faults last) list.sink.later rose))

@@ -1,47 +1,63 @@
-use Rattle.std.proofs.Common.{◌≡◌, ◌+◌, ◌-◌, ◌≤◌, ◌++◌, ◌∙◌, ap, length, reverse, subst, sym, true}
+use Rattle.std.proofs.Common.{◌≡◌, ◌+◌, ◌-◌, ◌≤◌, ◌++◌, ◌∙◌, Option, ap, length, refl, reverse, subst, sym, true}
 use Rattle.std.specs.Option.{IfSome}
+use Rattle.cct_model.specs.lines.record.Record.{Record}
 use Rattle.cct_model.specs.Following.{is_allowed}
 use Rattle.cct_model.specs.Money.{freed_by, reserved_at_work}
 use Rattle.cct_model.specs.Records.{records}
 use Rattle.cct_journal.specs.Journal as journals
 use Rattle.cct_ledger.specs.Ledger as ledgers
-use Rattle.cct_host.specs.Book.{HasBook}
+use Rattle.cct_host.specs.OnDisk.{KeepsRecords}
 use Rattle.cct_host.specs.Desks.{reserved_of, setup_of}
 use Rattle.cct_host.specs.Host.{put_by}
 use Rattle.cct_host.proofs.Hosts.{if_failed}
 use Rattle.cct_host.proofs.Money.{allowed_is}
 use Rattle.cct_host.proofs.advance.advance.Goals as goal
 
-pub returns-clause-puts : goal.returns-clause-puts
-returns-clause-puts g c past stands =
+pub returns-clause-advances : goal.returns-clause-advances
+returns-clause-advances g c =
     let disk = g.D.Disk in
-    let desks = c.args.desks.now in
     let turned = c.go_on.new.desks in
     let written = c.put.new.journal in
-    let setup = setup_of desks in
-    let due = c.due-due.result in
-    let due_is = c.due-due.ensures.stands past stands in
+    let setup = setup_of c.args.desks.now in
+    let put = c.in_ok-put.ensures.puts in
+    let goes = c.go_on.ensures.together in
+    let counted = λ (d : Option Record). journals.used_of c.args.journal.now + length (put_by d) in
     record {
-      used = c.in_ok-put.ensures.counted
-          ∙ ap (λ d. journals.used_of c.args.journal.now + length (put_by d)) due_is;
-      book = λ stood. subst
-          (λ d. HasBook setup disk.honest disk.seen disk.may_leave (journals.disk_of written) (journals.place_of written)
-          (reverse (records past) ++ put_by d)) due_is (c.in_ok-put.ensures.done setup (reverse (records past)) stood);
-      posts = λ takes stood.
-          let allowed = allowed_is due _ setup (records past) (reserved_at_work setup past) (reserved_of turned)
-          (c.go_on.ensures.same ∙ c.requires.same)
-          (subst (λ d. IfSome d (λ r. reserved_of turned ≡ reserved_at_work setup past - freed_by setup r))
-          (sym c.due-due.ensures.value) (c.go_on.ensures.frees past stands))
-          (subst (λ d. IfSome d (λ r. (freed_by setup r ≤ reserved_at_work setup past)
-          × (is_allowed setup (records past) (reserved_at_work setup past - freed_by setup r) r ≡ true))) (sym due_is) takes) in
-          subst (λ d. ledgers.StandsFor c.enter.new.ledger (put_by d ++ records past) (reserved_of turned)) due_is
-          (c.enter.ensures.posts (records past) (reserved_of turned) allowed
-          (c.go_on.ensures.stands (records past) stood));
+      whole = put.whole;
+      nexts = c.go_on.ensures.nexts;
+      counts = put.counted ∙ ap counted c.due_there-due.ensures.value;
+      puts = λ past stands.
+          let due_is = c.due_there-due.ensures.stands past stands in
+          record {
+            used = put.counted ∙ ap counted due_is;
+            on_disk = λ stood. subst
+                (λ d. KeepsRecords setup disk.honest disk.seen disk.may_leave (journals.disk_of written)
+                (journals.place_of written) (reverse (records past) ++ put_by d)) due_is
+                (put.done setup (reverse (records past)) stood);
+            posts = λ takes stood.
+                let allowed = allowed_is c.due_there-due.result _ setup (records past) (reserved_at_work setup past)
+                (reserved_of turned) (goes.same ∙ c.requires.together.same)
+                (subst (λ d. IfSome d (λ r. reserved_of turned ≡ reserved_at_work setup past - freed_by setup r))
+                (sym c.due_there-due.ensures.value) (c.go_on.ensures.frees past stands))
+                (subst (λ d. IfSome d (λ r. (freed_by setup r ≤ reserved_at_work setup past)
+                × (is_allowed setup (records past) (reserved_at_work setup past - freed_by setup r) r ≡ true))) (sym due_is)
+                takes) in
+                subst (λ d. ledgers.StandsFor c.enter.new.ledger (put_by d ++ records past) (reserved_of turned)) due_is
+                (c.enter.ensures.posts (records past) (reserved_of turned) allowed (goes.stands (records past) stood));
+          };
     }
 
 pub returns-in_err-put-clause-fails : goal.returns-in_err-put-clause-fails
 returns-in_err-put-clause-fails g c =
-    let failed = c.in_err-put.ensures.left in
+    let failed = c.in_err-put.ensures.fails in
     if_failed c.from_residual.result _
-    (λ past stands.
-    (failed.0, sym (c.due-due.ensures.stands past stands) ∙ failed.1, failed.2 (setup_of c.args.desks.now)))
+    (record {
+      desks_stay = refl;
+      ledger_stays = refl;
+      place = failed.place;
+      fails = λ past stands. (
+        failed.left.0,
+        sym (c.due_there-due.ensures.stands past stands) ∙ failed.left.1,
+        failed.left.2 (setup_of c.args.desks.now),
+      );
+    })

@@ -5,13 +5,13 @@ use Rattle.cct_jobs.proofs.Stages.{as_answered}
 use Rattle.cct_jobs.proofs.asks.answered.Goals as goal
 
 pub returns-in-IdentAsks-clause-device : goal.returns-in-IdentAsks-clause-device
-returns-in-IdentAsks-clause-device c = λ d command since state owed failed at.
+returns-in-IdentAsks-clause-device c = λ failed d command since state owed at.
     as_answered d _ command since state owed _ _ _ _ (ap request_of c.in-IdentAsks.is) refl
-    (c.told.ensures.device d command since state owed failed _
+    (c.told.ensures.device failed _ d command since state owed
     (subst (λ (s : Stage). Asking d c.args.device s failed command since state owed) c.in-IdentAsks.is at))
 
 pub returns-in-Pays-clause-device : goal.returns-in-Pays-clause-device
-returns-in-Pays-clause-device c = λ d command since state owed failed at.
+returns-in-Pays-clause-device c = λ failed d command since state owed at.
     as_answered d _ command since state owed _ _ _ _ (ap request_of c.in-Pays.is) refl
-    (c.answered-in-Pays.ensures.device d command since state owed failed
+    (c.answered-in-Pays.ensures.device failed d command since state owed
     (subst (λ (s : Stage). Asking d c.args.device s failed command since state owed) c.in-Pays.is at))

@@ -35,8 +35,8 @@ returns-in-Some-clause-device c = λ d command since state owed at is_ask.
     (stage_fits at) is_ask
     (sym (ap (option_map reply_shown) c.in-Some.is) ∙ c.reply.ensures
     ∙ ap (λ f. reply_wanted device.kind device.addr f sent heard) c.wanted.ensures) in
-    subst (λ (line : Line). Stands d c.answered.result command (line ∷ since) state owed) (sym line_is)
-    (c.answered.ensures.device d command since state owed c.args.failed at)
+    subst (λ (line : Line). Stands d c.answered.new.job command (line ∷ since) state owed) (sym line_is)
+    (c.answered.ensures.device c.args.failed d command since state owed at)
 
 pub returns-in-None-clause-device : goal.returns-in-None-clause-device
 returns-in-None-clause-device c = λ d command since state owed at is_ask.

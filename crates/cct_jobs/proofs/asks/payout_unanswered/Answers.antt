@@ -11,5 +11,5 @@ returns-in-Dispenses-clause-device c = λ d command since state owed at.
     let a = c.in-Dispenses in
     subst (λ (q : Request). Stands d c.dispensed.result command (exchange (Some q) None ∷ since) state owed)
     (sym (ap payout_request a.is))
-    (c.dispensed.ensures.device d command since state owed a.serial c.args.failed None
+    (c.dispensed.ensures.device a.serial c.args.failed None d command since state owed
     (subst (λ (r : Payout). Asking d c.args.device (Pays r) c.args.failed command since state owed) a.is at))

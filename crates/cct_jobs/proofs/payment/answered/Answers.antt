@@ -27,32 +27,32 @@ life_in-requires-in-Recounts-clause-wanted c =
     c.requires.wanted ∙ ap (λ (r : Payout). form_of (payout_request r)) c.in-Recounts.is
 
 pub returns-in-Counts-clause-device : goal.returns-in-Counts-clause-device
-returns-in-Counts-clause-device c = λ d command since state owed failed at.
+returns-in-Counts-clause-device c = λ failed d command since state owed at.
     as_answered d _ command since state owed _ _ _ _ (ap payout_request c.in-Counts.is) c.life_in.ensures.value
-    (c.opens.ensures.device d command since state owed failed
+    (c.opens.ensures.device failed d command since state owed
     (subst (λ (r : Payout). Asking d c.args.device (Pays r) failed command since state owed) c.in-Counts.is at))
 
 pub returns-in-Dispenses-clause-device : goal.returns-in-Dispenses-clause-device
-returns-in-Dispenses-clause-device c = λ d command since state owed failed at.
+returns-in-Dispenses-clause-device c = λ failed d command since state owed at.
     as_answered d _ command since state owed _ _ _ _ (ap payout_request c.in-Dispenses.is) refl
-    (c.dispensed.ensures.device d command since state owed c.in-Dispenses.serial failed (Some _)
+    (c.dispensed.ensures.device c.in-Dispenses.serial failed (Some _) d command since state owed
     (subst (λ (r : Payout). Asking d c.args.device (Pays r) failed command since state owed) c.in-Dispenses.is at))
 
 pub returns-in-Waits-clause-device : goal.returns-in-Waits-clause-device
-returns-in-Waits-clause-device c = λ d command since state owed failed at.
+returns-in-Waits-clause-device c = λ failed d command since state owed at.
     as_answered d _ command since state owed _ _ _ _ (ap payout_request c.in-Waits.is) refl
-    (c.waited.ensures.device d command since state owed failed _ c.is_paid_out.ensures
+    (c.waited.ensures.device failed _ c.is_paid_out.ensures d command since state owed
     (subst (λ (r : Payout). Asking d c.args.device (Pays r) failed command since state owed) c.in-Waits.is at))
 
 pub returns-in-Recounts-clause-device : goal.returns-in-Recounts-clause-device
-returns-in-Recounts-clause-device c = λ d command since state owed failed at.
+returns-in-Recounts-clause-device c = λ failed d command since state owed at.
     as_answered d _ command since state owed _ _ _ _ (ap payout_request c.in-Recounts.is)
     c.life_in-in-Recounts.ensures.value
-    (c.closes.ensures.device d c.args.device c.in-Recounts.closing command since state owed failed
+    (c.closes.ensures.device c.args.device c.in-Recounts.closing failed d command since state owed
     (subst (λ (r : Payout). Asking d c.args.device (Pays r) failed command since state owed) c.in-Recounts.is at))
 
 pub returns-in-Enables-clause-device : goal.returns-in-Enables-clause-device
-returns-in-Enables-clause-device c = λ d command since state owed failed at.
+returns-in-Enables-clause-device c = λ failed d command since state owed at.
     as_answered d _ command since state owed _ _ _ _ (ap payout_request c.in-Enables.is) refl
     (subst (λ (job : Job). Stands d job command (exchange (Some (Enable ENABLE_CODE)) (Some (reply_shown c.args.reply.now)) ∷ since) state owed)
     (sym c.first_try.ensures)
@@ -61,7 +61,7 @@ returns-in-Enables-clause-device c = λ d command since state owed failed at.
 
 pub returns-in-Stops-clause-device : goal.returns-in-Stops-clause-device
 unfolding form_of
-returns-in-Stops-clause-device c = λ d command since state owed failed at.
+returns-in-Stops-clause-device c = λ failed d command since state owed at.
     let a = c.in-Stops in
     as_answered d _ command since state owed _ _ _ _ (ap payout_request a.is) refl
     (subst (λ (job : Job). Stands d job command (exchange (Some StopNow) (Some (reply_shown c.args.reply.now)) ∷ since)

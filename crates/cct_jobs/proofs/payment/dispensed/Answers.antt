@@ -7,7 +7,7 @@ use Rattle.cct_jobs.proofs.Payments.{dispense_leaves}
 use Rattle.cct_jobs.proofs.payment.dispensed.Goals as goal
 
 pub returns-clause-device : goal.returns-clause-device
-returns-clause-device c = λ d command since state owed serial failed got at.
+returns-clause-device c = λ serial failed got d command since state owed at.
     subst (λ (job : Job). Stands d job command (exchange (Some (Dispense serial c.args.owed.order.count)) got ∷ since)
     state owed) (sym c.settles.ensures)
     (dispense_leaves d c.args.device c.args.owed c.args.halted serial failed command since state owed got at)

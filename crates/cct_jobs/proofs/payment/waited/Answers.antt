@@ -12,7 +12,7 @@ use Rattle.cct_jobs.proofs.payment.waited.Goals as goal
 
 -- src/payment.rt:89:1
 pub returns-clause-device : goal.returns-clause-device
-returns-clause-device c = λ d own since state open_order failed y told at.
+returns-clause-device c = λ failed y told d own since state open_order at.
     let stands : Job → Type 0 = λ job. Stands d job own (exchange (Some GetStatus) (Some y) ∷ since) state open_order in
     let made : Payout → Job = λ row. Asks c.args.device (Pays row) 0 in
     elim c.if-is_paid_out.branch [

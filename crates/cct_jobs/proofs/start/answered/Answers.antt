@@ -11,13 +11,13 @@ unfolding form_of
 credits_in-requires c = c.requires.wanted ∙ ap (λ (s : Stage). form_of (request_of s)) c.in-StartReads.is
 
 pub returns-in-StartReads-clause-device : goal.returns-in-StartReads-clause-device
-returns-in-StartReads-clause-device c = λ d command since state owed failed at.
+returns-in-StartReads-clause-device c = λ failed d command since state owed at.
     as_answered d _ command since state owed _ _ _ _ (ap request_of c.in-StartReads.is) c.credits_in.ensures
-    (c.after_reset.ensures.device d command since state owed failed
+    (c.after_reset.ensures.device failed d command since state owed
     (subst (λ (s : Stage). Asking d c.args.device s failed command since state owed) c.in-StartReads.is at))
 
 pub returns-in-StartResets-clause-device : goal.returns-in-StartResets-clause-device
-returns-in-StartResets-clause-device c = λ d command since state owed failed at.
+returns-in-StartResets-clause-device c = λ failed d command since state owed at.
     let a = c.in-StartResets in
     let here = subst (λ (s : Stage). Asking d c.args.device s failed command since state owed) a.is at in
     as_answered d _ command since state owed _ _ _ _ (ap request_of a.is) refl

@@ -18,8 +18,8 @@ returns-in-Some-clause-refused g c image told =
 pub loop-at-preserved : goal.loop-at-preserved
 loop-at-preserved g c = record {
   within = omega (arith, c.min-count.ensures, c.loop-at-test.true);
-  reads = reads_then c.loop-at.invariant.reads c.read_piece.ensures.reads;
-  later = omega (arith, c.loop-at.invariant.later, c.read_piece.ensures.cause.later);
+  reads = reads_then c.loop-at.invariant.reads c.read_block.ensures.reads;
+  later = omega (arith, c.loop-at.invariant.later, c.read_block.ensures.cause.later);
   blank = λ image told.
       let seen = c.loop-at.invariant.reads.same_seen ∙ told in
       let P = λ (o : _). MatchOption o

@@ -7,4 +7,4 @@ returns-clause-writes g c =
     let sink = g.K.Sink in
     let wrote = c.write_entry.ensures in
     writes_one sink.written sink.puts c.args.out.now c.write_entry.new.out (first_line c.args.load) c.write_entry.result
-    wrote.one wrote.ok wrote.err
+    wrote.puts

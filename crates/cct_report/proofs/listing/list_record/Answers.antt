@@ -5,5 +5,5 @@ pub returns-in-Err-BadRecord-clause-lists : goal.returns-in-Err-BadRecord-clause
 returns-in-Err-BadRecord-clause-lists g c = (
   refl,
   λ records held.
-      let is = c.in-Err-BadRecord.ensures.never records held in absurd cc,
+      let is = c.in-Err-BadRecord.ensures.refused.never records held in absurd cc,
 )

@@ -39,9 +39,12 @@ loop-index-preserved g c =
       told = λ records held. one.told records (before.told records held);
       place = one.place ∙ before.place;
       reads = reads_then before.reads one.reads;
-      later = omega (arith, before.later, one.later);
-      tells = one.tells ∙ before.tells;
-      sink_later = omega (arith, before.sink_later, one.sink_later);
+      later = omega (arith, before.later, one.disk_cause.later);
+      sink = record {
+        tells = one.sink.tells ∙ before.sink.tells;
+        later = omega (arith, before.sink.later, one.sink.later);
+        rose = λ never. absurd never;
+      };
     }
 
 pub returns-in-Ok-write_entry-clause-lines : goal.returns-in-Ok-write_entry-clause-lines
@@ -55,7 +58,7 @@ returns-in-Ok-write_entry-clause-lines g c =
     let total = c.total.result in (
       going.read,
       sums_told sink.written sink.puts {holds = start} going out2 total (Ok tt) c.total.ensures
-          (writes_one sink.written sink.puts out1 out2 total (Ok tt) put.one put.ok put.err),
+          (writes_one sink.written sink.puts out1 out2 total (Ok tt) put.puts),
     )
 
 pub returns-in-Ok-write_entry-clause-every : goal.returns-in-Ok-write_entry-clause-every
@@ -69,7 +72,7 @@ returns-in-Ok-write_entry-clause-every g c records held =
     let total = c.total.result in
     sums_told_of sink.written sink.puts {holds = start} going out2 total (Ok tt) records held
     (omega (arith, held.count, c.loop-index-test.false)) c.total.ensures
-    (writes_one sink.written sink.puts out1 out2 total (Ok tt) put.one put.ok put.err)
+    (writes_one sink.written sink.puts out1 out2 total (Ok tt) put.puts)
 
 pub returns-in-Err-write_entry-clause-lines : goal.returns-in-Err-write_entry-clause-lines
 returns-in-Err-write_entry-clause-lines g c =
@@ -84,7 +87,7 @@ returns-in-Err-write_entry-clause-lines g c =
       going.read,
       failed,
       sums_told sink.written sink.puts {holds = start} going out2 total (Err failed) c.total.ensures
-          (writes_one sink.written sink.puts out1 out2 total (Err failed) put.one put.ok put.err),
+          (writes_one sink.written sink.puts out1 out2 total (Err failed) put.puts),
     )
 
 pub returns-in-Err-write_entry-clause-every : goal.returns-in-Err-write_entry-clause-every
@@ -101,5 +104,5 @@ returns-in-Err-write_entry-clause-every g c records held =
       sums_told_of sink.written sink.puts {holds = start} going out2 total (Err failed) records held
           (omega (arith, held.count, c.loop-index-test.false))
           c.total.ensures
-          (writes_one sink.written sink.puts out1 out2 total (Err failed) put.one put.ok put.err),
+          (writes_one sink.written sink.puts out1 out2 total (Err failed) put.puts),
     )

@@ -1,6 +1,6 @@
 -- The records so far were listed, and the disk was only read.
 use Rattle.std.proofs.Common.{◌≡◌, ◌≤◌, ◌*◌, ◌^◌, List}
-use Rattle.cct_edge.specs.Bytes.{TellsAsBefore}
+use Rattle.cct_edge.specs.Bytes.{Serves}
 use Rattle.cct_lines.specs.declared.record.Record.{Record}
 use Rattle.cct_disk.specs.Disk.{OnlyReads}
 use Rattle.cct_journal.specs.Journal.{disk_of, place_of}
@@ -22,6 +22,5 @@ invariant-loop-index g l =
       reads : OnlyReads disk.size disk.honest disk.seen disk.may_leave disk.moment disk.left_since disk.cuts
           (disk_of l.fn.journal) (disk_of l.journal);
       later : disk.faults (disk_of l.fn.journal) ≤ disk.faults (disk_of l.journal);
-      tells : TellsAsBefore (sink.written l.fn.out) (sink.written l.out);
-      sink_later : sink.faults l.fn.out ≤ sink.faults l.out;
+      sink : Serves sink.written sink.faults l.fn.out l.out ⊥;
     }

@@ -8,7 +8,7 @@ use Rattle.cct_world.specs.World.{StandsFor, disk_of, setup_of, used_of}
 use Rattle.cct_script.specs.Giving.{standing_of}
 use Rattle.cct_text.specs.Writing.{Broke, Wrote, IsNothing, NeverBroke}
 use Rattle.cct_bench.specs.Disks.{Always, disks}
-use Rattle.cct_world.specs.Sure.{Sure}
+use Rattle.cct_world.specs.Relying.{IsReliable}
 use Rattle.cct_bench.specs.Going.{Going, IsUnbegun}
 use Rattle.cct_bench.specs.Run.{OverCut}
 use Rattle.cct_text.proofs.Writing.{wrote_none, wrote_nothing}
@@ -25,7 +25,7 @@ build-requires-clause-sound g c =
     c.in-Ok.ensures.opened
 
 pub returns-in-Ok-build-clause-played : goal.returns-in-Ok-build-clause-played
-returns-in-Ok-build-clause-played g c given ready on stands =
+returns-in-Ok-build-clause-played g c given ready on =
     let sink = g.K.Sink in
     let disk = g.D.Disk in
     let out = c.args.out.now in
@@ -35,7 +35,7 @@ returns-in-Ok-build-clause-played g c given ready on stands =
     let first = c.in-Ok.first in
     let world = c.in-Ok-build.world in
     let W = Wrote sink.written sink.puts out out in
-    let R = Sure (IsTrusted disk.honest disk.seen given) in
+    let R = IsReliable (IsTrusted disk.honest disk.seen given) in
     let opened =
     subst (λ setup. Going Always left0 left lines first (at_steps setup) IsUnbegun IsNothing)
     (sym c.in-Ok-build.ensures.setup) c.in-Ok.ensures.opened in
@@ -43,7 +43,7 @@ returns-in-Ok-build-clause-played g c given ready on stands =
     going_by Always left0 left lines first (at_steps (setup_of world)) IsUnbegun IsNothing W
     (wrote_nothing sink.written sink.puts out) opened in
     let same = c.in-Ok-build.ensures.disk in
-    let fresh = c.in-Ok-build.ensures.fresh (stands c.read_setup.new.setup) in
+    let fresh = c.in-Ok-build.ensures.fresh (c.requires.made.stands c.read_setup.new.setup) in
     c.play_steps.ensures.played left0 given ready
     (subst (Outlasts disk.size disk.honest disk.seen disk.cuts given) (sym same)
     (lasts_on disk.size disk.honest disk.seen disk.cuts given _ on))
@@ -56,31 +56,31 @@ returns-in-Ok-build-clause-played g c given ready on stands =
     )
 
 pub returns-in-Err-build-clause-played : goal.returns-in-Err-build-clause-played
-returns-in-Err-build-clause-played g c given ready on stands =
+returns-in-Err-build-clause-played g c given ready on =
     let sink = g.K.Sink in
     let disk = g.D.Disk in
     let out = c.args.out.now in
     let last = c.in-Err-build.disk in
-    played_none Always (Sure (IsTrusted disk.honest disk.seen given)) (g.S.Source.left c.args.script.now)
+    played_none Always (IsReliable (IsTrusted disk.honest disk.seen given)) (g.S.Source.left c.args.script.now)
     (g.S.Source.left c.read_setup.new.script) (standing_of c.read_setup.new.lines).held c.in-Ok.first
     (at_steps c.read_setup.new.setup) IsUnbegun (Wrote sink.written sink.puts out out)
     (Broke sink.written sink.puts out out)
     (OverCut (disks disk.size disk.honest disk.seen disk.may_leave disk.cuts disk.cut_to given last))
     (fresh_none disk.size disk.honest disk.seen disk.may_leave disk.cuts disk.cut_to given last (journals.disk_of c.args.journal)
-    (journals.place_of c.args.journal) on c.in-Err-build.ensures.disk stands)
+    (journals.place_of c.args.journal) on c.in-Err-build.ensures.disk c.requires.made.stands)
     (wrote_none sink.written sink.puts out) c.in-Ok.ensures.opened
 
 pub returns-in-Err-clause-played : goal.returns-in-Err-clause-played
-returns-in-Err-clause-played g c given ready on stands =
+returns-in-Err-clause-played g c given ready on =
     let sink = g.K.Sink in
     let disk = g.D.Disk in
     let out = c.args.out.now in
     let last = c.into_disk.result in
-    played_by Always (Sure (IsTrusted disk.honest disk.seen given)) (g.S.Source.left c.args.script.now)
+    played_by Always (IsReliable (IsTrusted disk.honest disk.seen given)) (g.S.Source.left c.args.script.now)
     (g.S.Source.left c.read_setup.new.script) c.in-Err.how IsNothing (Wrote sink.written sink.puts out out) NeverBroke
     (Broke sink.written sink.puts out out)
     (OverCut (disks disk.size disk.honest disk.seen disk.may_leave disk.cuts disk.cut_to given last)) (λ past relies. tt)
     (wrote_nothing sink.written sink.puts out)
     (fresh_ends disk.size disk.honest disk.seen disk.may_leave disk.cuts disk.cut_to given last
-    (journals.disk_of c.args.journal) (journals.place_of c.args.journal) ready on c.into_disk.ensures stands)
+    (journals.disk_of c.args.journal) (journals.place_of c.args.journal) ready on c.into_disk.ensures c.requires.made.stands)
     c.in-Err.ensures.ended

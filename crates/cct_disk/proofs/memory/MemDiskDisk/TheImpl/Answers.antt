@@ -25,13 +25,10 @@ module _ (at : ℕ) (bytes : List ℕ) (old new : MemoryDisk) where
 
 pub write-tells : goal.write-tells
 write-tells c = record {
-  written = writes c.args.at c.args.bytes.now c.args.self.now c.new.self.now c.result c.ensures.after;
-  torn = tears c.args.at c.args.bytes.now c.args.self.now c.new.self.now c.result c.ensures.after_fault;
+  written = writes c.args.at c.args.bytes.now c.args.self.now c.new.self.now c.result c.ensures.answers.after;
+  torn = tears c.args.at c.args.bytes.now c.args.self.now c.new.self.now c.result c.ensures.answers.after_fault;
   images = λ _. c.ensures.images;
-  tells = refl;
-  size = c.ensures.size;
-  honest = refl;
-  cuts = c.ensures.cuts;
+  goes_on = c.ensures.goes_on;
   time = c.ensures.time;
-  cause = c.ensures.cause;
+  cause = c.ensures.answers.cause;
 }

@@ -1,4 +1,4 @@
--- The writes behind the first `left` changes were looked at.
+-- The writes after the first `left` changes were looked at.
 use Rattle.std.proofs.Common.{◌≡◌, ◌≤◌, List, ◌++◌, length, take, reverse, vec_capacity}
 use Rattle.cct_disk.specs.Traced.{content_of}
 use Rattle.cct_disk.specs.declared.traced.Change.{Change}

@@ -6,5 +6,5 @@ pub returns : goal.returns
 returns c setup there past is_last sits =
     let desk = c.args.self.now in
     c.refusal.ensures
-    ∙ refusal_is setup c.args.device.now desk.job desk.epoch desk.dues c.args.last past c.args.command.now is_last
+    ∙ refusal_is setup c.args.device.now desk.job desk.epoch desk.orders c.args.last past c.args.command.now is_last
     desk.runs c.requires.of_device there sits

@@ -1,4 +1,4 @@
-use Rattle.std.proofs.Common.{ap, refl, sym, ◌∙◌}
+use Rattle.std.proofs.Common.{ap, arith, refl, sym, ◌∙◌}
 use Rattle.cct_model.specs.lines.command.Command.TheVariants as command
 use Rattle.cct_model.specs.Rows.{has_closes, puts_in}
 use Rattle.cct_jobs.specs.Ahead.{price_in}
@@ -10,27 +10,28 @@ use Rattle.cct_host.proofs.desk.JobDesk.sell.Goals as goal
 pub returns-in-Some-clause-commands : goal.returns-in-Some-clause-commands
 returns-in-Some-clause-commands c past is_last sits =
     let desk = c.args.self.now in
-    sale_refused c.args.setup.now c.args.id c.args.price desk.job desk.epoch desk.dues c.args.last past c.in-Some.why
-    is_last (sym c.sale_refusal.ensures ∙ c.in-Some.is) sits
+    sale_refused c.args.setup.now c.args.id c.args.price desk.job desk.epoch desk.orders c.args.last past c.in-Some.why
+    (is_last refl) (sym c.sale_refusal.ensures ∙ c.in-Some.is) sits
 
 pub returns-in-None-clause-commands : goal.returns-in-None-clause-commands
 returns-in-None-clause-commands c past is_last sits =
     let desk = c.args.self.now in
-    sale_taken c.args.setup.now c.args.id c.args.price desk.job c.begin.result desk.epoch desk.dues _ c.args.last past
-    is_last refl refl (sym c.sale_refusal.ensures ∙ c.in-None.is)
+    sale_taken c.args.setup.now c.args.id c.args.price desk.job c.begin.result desk.epoch desk.orders _ c.args.last past
+    (is_last refl) refl refl (sym c.sale_refusal.ensures ∙ c.in-None.is)
     (c.begin.ensures.sale c.args.id c.args.price refl) sits
 
-pub returns-in-None-clause-holds : goal.returns-in-None-clause-holds
-returns-in-None-clause-holds c =
+pub returns-in-None-clause-takes : goal.returns-in-None-clause-takes
+returns-in-None-clause-takes c =
     let desk = c.args.self.now in
-    sale_room desk.job c.args.id c.args.last c.begin.result (order_of desk.dues.order)
-    (sym c.sale_refusal.ensures ∙ c.in-None.is) (ap puts_in (c.begin.ensures.other_rows refl))
-    (ap has_closes (c.begin.ensures.other_rows refl))
-
-pub returns-in-None-clause-reserves : goal.returns-in-None-clause-reserves
-returns-in-None-clause-reserves c =
-    sale_reserves c.args.self.now.job c.args.id c.args.last c.args.price c.begin.result
-    (sym c.sale_refusal.ensures ∙ c.in-None.is) (ap price_in (c.begin.ensures.other_rows refl))
+    let free = sym c.sale_refusal.ensures ∙ c.in-None.is in
+    let rows = c.begin.ensures.other_rows refl in
+    let puts = ap puts_in rows in
+    record {
+      holds = sale_room desk.job c.args.id c.args.last c.begin.result (order_of desk.orders.order) free puts
+          (ap has_closes rows);
+      puts = omega (arith, puts);
+      reserves = sale_reserves desk.job c.args.id c.args.last c.args.price c.begin.result free (ap price_in rows);
+    }
 
 pub returns-in-None-clause-sells : goal.returns-in-None-clause-sells
 returns-in-None-clause-sells c = λ sells.

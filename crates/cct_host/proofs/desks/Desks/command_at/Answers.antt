@@ -1,5 +1,4 @@
-use Rattle.std.proofs.Common.{◌+◌, ◌∙◌, ◌<◌, [], ◌∷◌, get_or, length, set, ap, refl, subst, sym}
-use Rattle.std.specs.List.{position}
+use Rattle.std.proofs.Common.{◌+◌, ◌∙◌, [], ◌∷◌, get_or, set, ap, refl, subst}
 use Rattle.std.proofs.lemmas.List.{set-get_or}
 use Rattle.cct_model.specs.lines.command.CommandNo.TheVariants.{NoDevice}
 use Rattle.cct_model.specs.Exchange.{device_at}
@@ -12,7 +11,7 @@ use Rattle.cct_host.specs.Place.{AreAt}
 use Rattle.cct_host.specs.Running.{needed, rows_begun}
 use Rattle.cct_host.proofs.Commands.{absent_refused, stays_by}
 use Rattle.cct_host.proofs.Lines.{command_at, command_last, refused_quiet}
-use Rattle.cct_host.proofs.Places.{absent, desk_lent, desk_sits, device_found, device_turn, fits_three, found_in, is_at, last_is, refilled}
+use Rattle.cct_host.proofs.Places.{desk_lent, desk_sits, device_found, device_turn, fits_three, found_at, last_is, none_at, refilled}
 use Rattle.cct_host.proofs.Standing.{desks_stand}
 use Rattle.cct_host.proofs.Turning.{amount_asked, ok_by, reserved_turn, sum_turn}
 use Rattle.cct_host.proofs.desks.Desks.command_at.Goals as goal
@@ -20,20 +19,20 @@ use Rattle.cct_host.proofs.desks.Desks.command_at.Goals as goal
 pub command-requires-clause-there : goal.command-requires-clause-there
 command-requires-clause-there c =
     let devices = c.args.self.now.setup.now.devices in
-    let lent = c.as_slice-devices.ensures.value in
+    let i = c.in-Some.index in
     let d = c.index-devices-index.result in
-    let found = found_in devices _ c.args.addr _ c.in-Some.index lent c.index_of.ensures.first c.in-Some.is in
-    let is = c.index-devices-index.is ∙ ap (λ ds. get_or ds c.in-Some.index d) lent in
-    ap (device_at devices) c.requires.address ∙ (device_found devices c.in-Some.index d c.args.addr found is).1
+    let at = found_at c.args.self.now c.args.addr i _ c.find.ensures c.in-Some.is in
+    let is = c.index-devices-index.is ∙ ap (λ ds. get_or ds i d) c.as_slice-devices.ensures.value in
+    ap (device_at devices) c.requires.address ∙ (device_found devices i d c.args.addr at.index is).1
 
 pub returns-in-None-clause-answers : goal.returns-in-None-clause-answers
 returns-in-None-clause-answers c past stands =
-    let setup = c.args.self.now.setup.now in
-    let first = c.index_of.ensures.first ∙ ap (position (is_at c.args.addr)) c.as_slice-devices.ensures.value in
-    let none = absent setup.devices c.args.addr _ first c.in-None.is in
+    let desks = c.args.self.now in
+    let setup = desks.setup.now in
+    let none = (none_at desks c.args.addr _ c.find.ensures c.in-None.is).0 in
     let bare = ap (device_at setup.devices) c.requires.address ∙ none in (
       absent_refused setup past c.args.command.now c.requires.of_device bare,
-      desks_stand c.args.self.now past _ (refused_quiet past c.args.command.now NoDevice) stands,
+      desks_stand desks past _ (refused_quiet past c.args.command.now NoDevice) stands,
     )
 
 pub returns-in-Some-clause-stays : goal.returns-in-Some-clause-stays
@@ -54,18 +53,17 @@ returns-in-Some-clause-answers c past stands =
     let d = c.index-devices-index.result in
     let lent = c.as_slice-devices.ensures.value in
     let kept = c.deref_mut.ensures.value in
-    let found = found_in setup.devices _ c.args.addr _ i lent c.index_of.ensures.first c.in-Some.is in
+    let at = found_at c.args.self.now c.args.addr i _ c.find.ensures c.in-Some.is in
     let is = c.index-devices-index.is ∙ ap (λ ds. get_or ds i d) lent in
     let y = desk_lent ks _ i c.index-deref_mut-index.result kept c.index-deref_mut-index.is in
-    let within = (device_found setup.devices i d c.args.addr found is).0 in
-    let sits = desk_sits setup.devices ks i d _ past within is y stands.devices in
-    let answered = c.command.ensures.commands (fits_three setup i d stands.sound within is) past
-    (last_is c.args.self.now past c.last_id-last.result stands c.last_id-last.ensures) sits in
+    let sits = desk_sits setup.devices ks i d _ past at.within is y stands.devices in
+    let answered = c.command.ensures.commands (fits_three setup i d stands.sound at.within is) past
+    (λ begins. last_is c.args.self.now past c.last_before-last.result stands (c.last_before-last.ensures begins)) sits in
     let news = command_entry c.args.command.now (no_of c.command.result) ∷ [] in
-    let at = subst (λ a. AreAt a past news) c.requires.address (command_at past c.args.command.now _) in
+    let here = subst (λ a. AreAt a past news) c.requires.address (command_at past c.args.command.now _) in
     let desks = c.args.self.now in
     let turned = device_turn setup ks _ desks.scan desks.sale i c.command.new.self d c.args.addr past news stands.sound
-    kept found is at answered.1 stands.devices stands.scan stands.sale in (
+    kept at.index is here answered.1 stands.devices stands.scan stands.sale in (
       answered.0,
       record {
         sound = stands.sound;
@@ -76,42 +74,27 @@ returns-in-Some-clause-answers c past stands =
       },
     )
 
-pub returns-in-Some-clause-holds : goal.returns-in-Some-clause-holds
-returns-in-Some-clause-holds c =
-    let ks = c.args.self.now.devices.items in
-    let i = c.in-Some.index in
-    let lent = c.as_slice-devices.ensures.value in
-    let within : i < length c.args.self.now.setup.now.devices = subst (λ ds. i < length ds) lent c.in-Some.ensures.within in
-    ok_by c.command.result _ _ c.command.ensures.holds
-    (sum_turn held_at ks _ i c.index-deref_mut-index.result c.command.new.self _ (needed c.args.self.now.setup.now c.args.command.now) c.deref_mut.ensures.value
-    (subst (λ n. i < n) (sym c.args.self.now.many) within))
-
-pub returns-in-Some-clause-puts : goal.returns-in-Some-clause-puts
-returns-in-Some-clause-puts c =
-    let ks = c.args.self.now.devices.items in
-    let i = c.in-Some.index in
-    let lent = c.as_slice-devices.ensures.value in
-    let within : i < length c.args.self.now.setup.now.devices =
-    subst (λ ds. i < length ds) lent c.in-Some.ensures.within in
-    ok_by c.command.result _ _ c.command.ensures.puts
-    (sum_turn puts_at ks _ i c.index-deref_mut-index.result c.command.new.self _
-    (puts_in (rows_begun c.args.self.now.setup.now c.args.command.now))
-    c.deref_mut.ensures.value (subst (λ n. i < n) (sym c.args.self.now.many) within))
-
-pub returns-in-Some-clause-reserves : goal.returns-in-Some-clause-reserves
-returns-in-Some-clause-reserves c =
+pub returns-in-Some-clause-takes : goal.returns-in-Some-clause-takes
+returns-in-Some-clause-takes c =
     let setup = c.args.self.now.setup.now in
+    let k = c.args.command.now in
     let ks = c.args.self.now.devices.items in
     let i = c.in-Some.index in
     let d = c.index-devices-index.result in
+    let y = c.index-deref_mut-index.result in
+    let x = c.command.new.self in
+    let kept = c.deref_mut.ensures.value in
     let lent = c.as_slice-devices.ensures.value in
-    let found = found_in setup.devices _ c.args.addr _ i lent c.index_of.ensures.first c.in-Some.is in
-    let within : i < length setup.devices = subst (λ ds. i < length ds) lent c.in-Some.ensures.within in
+    let at = found_at c.args.self.now c.args.addr i _ c.find.ensures c.in-Some.is in
     let is = c.index-devices-index.is ∙ ap (λ ds. get_or ds i d) lent in
-    ok_by c.command.result _ _ c.command.ensures.reserves
-    (λ coins. reserved_turn setup ks _ i d c.args.addr c.index-deref_mut-index.result c.command.new.self
-    (coins_in (rows_begun setup c.args.command.now)) _ c.deref_mut.ensures.value c.args.self.now.many within is
-    (device_found setup.devices i d c.args.addr found is).2 coins
-    ∙ ap (λ n. reserved_of c.args.self.now + n)
-    (amount_asked setup d c.args.command.now c.args.addr c.requires.of_device c.requires.address
-    (ap (device_at setup.devices) c.requires.address ∙ (device_found setup.devices i d c.args.addr found is).1)))
+    let place = device_found setup.devices i d c.args.addr at.index is in
+    ok_by c.command.result _ _ c.command.ensures.takes
+    (λ takes. record {
+      holds = sum_turn held_at ks _ i y x _ (needed setup k) kept at.there takes.holds;
+      puts = sum_turn puts_at ks _ i y x _ (puts_in (rows_begun setup k)) kept at.there takes.puts;
+      reserves = reserved_turn setup ks _ i d c.args.addr y x (coins_in (rows_begun setup k)) _ kept
+          c.args.self.now.many at.within is place.2 takes.reserves
+          ∙ ap (λ n. reserved_of c.args.self.now + n)
+          (amount_asked setup d k c.args.addr c.requires.of_device c.requires.address
+          (ap (device_at setup.devices) c.requires.address ∙ place.1));
+    })

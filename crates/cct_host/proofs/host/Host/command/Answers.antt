@@ -1,17 +1,15 @@
 use Rattle.std.specs.Prelude.{refl}
-use Rattle.cct_model.specs.Rows.{puts_in}
-use Rattle.cct_host.specs.Running.{rows_begun}
-use Rattle.cct_host.specs.Host.{setup_of}
-use Rattle.cct_host.proofs.Hosts.{tried_answers}
-use Rattle.cct_host.proofs.Turning.{puts_held, room_kept}
+use Rattle.cct_host.proofs.Hosts.{together_taken, tried_answers}
 use Rattle.cct_host.proofs.host.Host.command.Goals as goal
 
 pub returns-in-None-clause-answers : goal.returns-in-None-clause-answers
 returns-in-None-clause-answers g c =
     tried_answers c.args.self.now _ c.args.command.now c.take.result c.in-None.ensures.stands
-    c.take.ensures.answers c.take.ensures.stands refl
+    c.take.ensures.answers c.take.ensures.together.stands refl
 
-pub invariant_of-self-clause-room : goal.invariant_of-self-clause-room
-invariant_of-self-clause-room g c =
-    room_kept (puts_in (rows_begun (setup_of c.args.self.now) c.args.command.now)) _ _ _ _ _ _ _ c.args.self.now.room c.take.ensures.puts
-    (puts_held c.take.new.desks) c.take.ensures.holds (c.room_refusal.ensures.fits c.in-None.is)
+pub invariant_of-self : goal.invariant_of-self
+invariant_of-self g c = record {
+  together = together_taken c.args.self.now.desks c.take.new.desks c.args.self.now.ledger c.take.new.ledger _
+      c.args.command.now c.take.result c.args.self.now.together c.take.ensures.together c.take.ensures.takes
+      c.take.ensures.stays (c.room_refusal.ensures.fits c.in-None.is);
+}

@@ -1,7 +1,8 @@
-use Rattle.std.proofs.Common.{sym}
-use Rattle.cct_host.specs.Host.{journal_of}
+use Rattle.std.proofs.Common.{subst, sym}
+use Rattle.cct_host.specs.Restarting.{RestartFails}
 use Rattle.cct_host.proofs.host.Host.crash.Goals as goal
 
-pub returns-in-Err-clause-refused : goal.returns-in-Err-clause-refused
-returns-in-Err-clause-refused g c =
-    (journal_of c.restart.new.self, sym c.into_disk.ensures, c.in-Err.ensures.refused)
+pub returns-in-Err-clause-fails : goal.returns-in-Err-clause-fails
+returns-in-Err-clause-fails g c =
+    subst (λ left. RestartFails c.args.self c.args.at c.args.choice left c.in-Err.why) (sym c.into_disk.ensures)
+    c.in-Err.ensures.fails

@@ -1,7 +1,14 @@
-use Rattle.cct_host.proofs.Hosts.{all_ok, next_goes}
+use Rattle.std.proofs.lemmas.Result.{on_err_weaker, on_ok_weaker}
+use Rattle.cct_host.proofs.Hosts.{next_goes, put_failed}
 use Rattle.cct_host.proofs.host.Host.next.Goals as goal
 
 pub returns-clause-nexts : goal.returns-clause-nexts
 returns-clause-nexts g c =
-    all_ok c.advance.result _ _ _ _ c.advance.ensures.nexts c.advance.ensures.counts c.advance.ensures.puts
-    (λ nexts counts puts. next_goes g.L.Link.gives _ _ c.args.addr c.args.self.now _ _ _ c.advance.ensures.goes_on nexts counts puts)
+    on_ok_weaker c.advance.result
+    (λ advances.
+    next_goes g.L.Link.gives _ _ c.args.addr c.args.self.now _ _ _ c.advance.ensures.goes_on advances)
+    c.advance.ensures.advances
+
+pub returns-clause-fails : goal.returns-clause-fails
+returns-clause-fails g c =
+    on_err_weaker c.advance.result (λ fails. put_failed c.args.self.now _ c.args.addr fails) c.advance.ensures.fails

@@ -1,14 +1,15 @@
-use Rattle.cct_host.proofs.Losses.{crashes_by, if_each, if_lost, never_by}
+use Rattle.cct_host.proofs.Losses.{fails_by, if_both_lost, if_each, restarts_by}
 use Rattle.cct_host.proofs.host.Host.restart.Goals as goal
 
-pub returns-clause-crashes : goal.returns-clause-crashes
-returns-clause-crashes g c =
-    if_each c.restart.result _ _ _ _ c.restart.ensures.over c.restart.ensures.stands c.restart.ensures.counts
-    (λ crashed over stands counts.
-    crashes_by c.args.self.now _ c.args.at crashed c.restart.ensures.due over stands counts)
+pub returns-clause-restarts : goal.returns-clause-restarts
+returns-clause-restarts g c =
+    if_each c.restart.result _ _ _ _ c.restart.ensures.restarts c.restart.ensures.records c.restart.ensures.over
+    (λ crashed restarts records over.
+    restarts_by c.args.self.now _ c.args.at c.args.choice crashed c.restart.ensures.setup c.restart.ensures.due restarts
+    records over)
 
-pub returns-clause-never : goal.returns-clause-never
-returns-clause-never g c =
-    if_lost c.restart.result _ _ c.restart.ensures.never
-    (λ why never past stands suits trusted.
-    never_by c.args.self.now past c.args.at _ c.restart.ensures.due never stands suits trusted)
+pub returns-clause-fails : goal.returns-clause-fails
+returns-clause-fails g c =
+    if_both_lost c.restart.result _ _ _ c.restart.ensures.fails c.restart.ensures.never
+    (λ why fails never.
+    fails_by c.args.self.now c.restart.new.journal c.args.at c.args.choice why c.restart.ensures.due fails never)

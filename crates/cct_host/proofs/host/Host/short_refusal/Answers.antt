@@ -6,11 +6,11 @@ use Rattle.cct_host.proofs.host.Host.short_refusal.Goals as goal
 pub returns-then-wanted-have-clause-stands : goal.returns-then-wanted-have-clause-stands
 returns-then-wanted-have-clause-stands g c past keeps =
     let host = c.args.self.now in
-    enough_is host.desks _ past c.available-have.result c.args.wanted host.same keeps.desks
+    enough_is host.desks _ past c.available-have.result c.args.wanted host.together.same keeps.desks
     (c.available-have.ensures.stands (records past) (reserved_of host.desks) keeps.ledger) c.if-wanted-have.true
 
 pub returns-else-wanted-have-clause-stands : goal.returns-else-wanted-have-clause-stands
 returns-else-wanted-have-clause-stands g c past keeps =
     let host = c.args.self.now in
-    short_is host.desks _ past c.available-have.result c.args.wanted host.same keeps.desks
+    short_is host.desks _ past c.available-have.result c.args.wanted host.together.same keeps.desks
     (c.available-have.ensures.stands (records past) (reserved_of host.desks) keeps.ledger) c.if-wanted-have.false

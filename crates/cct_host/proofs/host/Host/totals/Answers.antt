@@ -6,5 +6,5 @@ use Rattle.cct_host.proofs.host.Host.totals.Goals as goal
 pub returns : goal.returns
 returns g c past keeps =
     let host = c.args.self.now in
-    totals_is host.desks _ past c.totals.result host.same keeps.desks
+    totals_is host.desks _ past c.totals.result host.together.same keeps.desks
     (c.totals.ensures.stands (records past) (reserved_of host.desks) keeps.ledger)

@@ -4,7 +4,7 @@ use Rattle.cct_model.specs.terms.request.Request.TheVariants.{MakerId}
 use Rattle.cct_jobs.specs.declared.stage.Stage.TheVariants.{StartResets, StopInhibits, Reads, IdentAsks, PathSets, Pays}
 use Rattle.cct_jobs.specs.declared.payout.Closing.TheVariants.{Settlement}
 use Rattle.cct_jobs.specs.declared.payout.Payout.TheVariants.{Enables, Waits}
-use Rattle.cct_jobs.specs.declared.stage.Visit.TheVariants.{Round}
+use Rattle.cct_jobs.specs.declared.stage.ReadBy.TheVariants.{Round}
 use Rattle.cct_jobs.specs.declared.target.Target.{Target}
 use Rattle.cct_jobs.specs.Ahead.{ahead}
 use Rattle.cct_jobs.proofs.Begins.{begun_ahead, first_ahead, first_question, first_stage}

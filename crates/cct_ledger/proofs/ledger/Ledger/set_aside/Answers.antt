@@ -1,4 +1,5 @@
-use Rattle.std.proofs.Common.{◌∙◌, arith}
+use Rattle.std.proofs.Common.{refl, ◌∙◌, arith}
+use Rattle.std.proofs.lemmas.Grind.{common_steps}
 use Rattle.std.proofs.lemmas.Option.{slice_get_within}
 use Rattle.cct_ledger.proofs.Closing.{is_without, sets_aside}
 use Rattle.cct_ledger.proofs.ledger.Ledger.set_aside.Goals as goal
@@ -19,24 +20,30 @@ invariant_of-self c =
       fits = omega arith;
     }
 
-pub returns-clause-taken : goal.returns-clause-taken
-returns-clause-taken c = λ life_before life_after before beside stands.
-    let aside =
-    sets_aside c.args.self.now.setup.now before c.args.self.now.orders.items c.put_order.new.orders.items
-    c.in-Some.odd_place
-    c.in-Some._order c.args.id life_before life_after (record {
-      distinct = stands.sound.distinct;
-      keeps = stands.orders;
-      found = c.in-Some.ensures.found;
-      own = c.in-Some.ensures.own;
-    }) c.put_order.ensures in
-    record {
-      sound = stands.sound;
-      counted = omega arith;
-      orders = aside.keeps;
-      owed = omega arith;
-      reserved = stands.reserved;
-      paid = omega arith;
-      sold = omega arith;
-      posted = omega arith;
-    }
+pub returns : goal.returns
+returns c = λ life_before life_after. record {
+  setup = refl;
+  reserved = refl;
+  counted = omega arith;
+  exactly = λ before beside stands. grind (arith, common_steps);
+  taken = λ before beside stands.
+      let aside =
+      sets_aside c.args.self.now.setup.now before c.args.self.now.orders.items c.put_order.new.orders.items
+      c.in-Some.odd_place c.in-Some._order c.args.id life_before life_after (record {
+        distinct = stands.sound.distinct;
+        keeps = stands.orders;
+        found = c.in-Some.ensures.found;
+        own = c.in-Some.ensures.own;
+      }) c.put_order.ensures in
+      record {
+        sound = stands.sound;
+        counted = omega arith;
+        orders = aside.keeps;
+        owed = omega arith;
+        reserved = stands.reserved;
+        paid = omega arith;
+        sold = omega arith;
+        posted = omega arith;
+      };
+  refused = tt;
+}

@@ -5,7 +5,7 @@ use Rattle.cct_model.specs.lines.entry.Entry.{Entry}
 use Rattle.cct_model.specs.Legal.{is_played}
 use Rattle.cct_load.specs.Sums.{SumsUp}
 use Rattle.cct_load.proofs.Lines.{line_is_played, lines_counted}
-use Rattle.cct_load.proofs.Playing.{goes_begin, goes_on, goes_stops}
+use Rattle.cct_load.proofs.Playing.{disk_stops, goes_begin, goes_on, goes_stops}
 use Rattle.cct_load.proofs.load.LoadDesk.play_lines.Goals as goal
 
 pub loop-line-init : goal.loop-line-init
@@ -21,8 +21,13 @@ pub returns-in-Err-clause-stopped : goal.returns-in-Err-clause-stopped
 returns-in-Err-clause-stopped g c =
     goes_stops c.args.world c.loop-line.world c.in-Err.stopped.0 c.in-Err.stopped.1 c.loop-line.self.sums
     c.args.load.seed c.loop-line.line (5 + 18 * c.args.load.rounds) c.nth_line-step.result c.loop-line-test.true
-    c.nth_line-step.ensures.value c.loop-line.invariant c.in-Err.ensures.breaks c.in-Err.ensures.lasts
-    c.in-Err.ensures.cut
+    c.step.new.report.items c.nth_line-step.ensures.value c.loop-line.invariant c.in-Err.ensures.unplayed
+
+pub returns-in-Err-clause-disk : goal.returns-in-Err-clause-disk
+returns-in-Err-clause-disk g c =
+    disk_stops c.args.world c.loop-line.world c.in-Err.stopped.0 c.in-Err.stopped.1 c.loop-line.self.sums
+    c.args.load.seed c.loop-line.line c.nth_line-step.result c.step.new.report.items c.loop-line.invariant
+    c.in-Err.ensures.unplayed
 
 pub add_step-requires-clause-steps : goal.add_step-requires-clause-steps
 add_step-requires-clause-steps g c =
@@ -30,10 +35,9 @@ add_step-requires-clause-steps g c =
 
 pub loop-line-preserved : goal.loop-line-preserved
 loop-line-preserved g c =
-    let made = c.in-Ok.ensures in
     goes_on c.args.world c.loop-line.world c.in-Ok.world c.loop-line.self.sums c.add_step.new.self c.args.load.seed
     c.loop-line.line c.nth_line-step.result c.step.new.report.items c.nth_line-step.ensures.value c.loop-line.invariant
-    made.plays made.told made.cut made.counts made.restarts made.setup made.lasts made.later
+    c.in-Ok.ensures.played
     (subst (λ report. (played : List Step) (past : List Entry) (s : Step) → SumsUp c.loop-line.self.sums played past
     → SumsUp c.add_step.new.self (played ++ s ∷ []) (reverse report ++ past)) c.as_slice.ensures.value
     c.add_step.ensures)

@@ -1,27 +1,32 @@
+use Rattle.std.proofs.Common.{rules}
 use Rattle.cct_world.proofs.Restarts.{crash_breaks, crash_restarts, restarts_count}
 use Rattle.cct_world.proofs.machine.Machine.crash.Goals as goal
 
-pub returns-in-Ok-clause-restarts : goal.returns-in-Ok-clause-restarts
-returns-in-Ok-clause-restarts g c =
-    let machine = c.args.self.now in
-    let restart = c.in-Ok.ensures in (
-      λ past stands. c.restart.ensures.due past stands.host,
-      crash_restarts machine.host c.restart.new.self c.args.at c.in-Ok.crashed _ c.tell_crash.ensures
-          c.restart.ensures.setup restart.found restart.recalls restart.records restart.counts restart.kept,
-    )
+pub returns-in-Ok-clause-played : goal.returns-in-Ok-clause-played
+returns-in-Ok-clause-played g c =
+    let again = c.in-Ok.ensures.restarts in
+    let restarts = crash_restarts c.args.self.now.host c.restart.new.self c.args.at c.args.choice c.in-Ok.crashed _
+    c.tell_crash.ensures again in
+    record {
+      setup = again.setup;
+      whole = again.whole;
+      plays = search rules;
+      told = search rules;
+      counts = restarts_count _ _ _ _ _ _ restarts;
+      restarts = (λ past stands. again.due past stands.host, restarts);
+      cut = again.cut;
+      lasts = again.outlasts;
+      later = again.later;
+    }
 
-pub returns-in-Ok-clause-counts : goal.returns-in-Ok-clause-counts
-returns-in-Ok-clause-counts g c =
-    let machine = c.args.self.now in
-    let restart = c.in-Ok.ensures in
-    restarts_count _ _ _ _ _ _
-    (crash_restarts machine.host c.restart.new.self c.args.at c.in-Ok.crashed _ c.tell_crash.ensures
-    c.restart.ensures.setup restart.found restart.recalls restart.records restart.counts restart.kept)
-
-pub returns-in-Err-clause-breaks : goal.returns-in-Err-clause-breaks
-returns-in-Err-clause-breaks g c =
-    let machine = c.args.self.now in
-    let host = c.restart.new.self in
-    let restart = c.in-Err.ensures in
-    crash_breaks machine host c.args.at c.args.choice c.in-Err.why restart.refused restart.never restart.left
-    c.restart.ensures.due
+pub returns-in-Err-clause-unplayed : goal.returns-in-Err-clause-unplayed
+returns-in-Err-clause-unplayed g c =
+    let fails = c.in-Err.ensures.fails in
+    record {
+      breaks = crash_breaks c.args.self.now c.args.at c.args.choice _ c.in-Err.why fails;
+      empty = c.requires.report;
+      cause = fails.cause;
+      cut = fails.cut;
+      lost = search rules;
+      lasts = fails.outlasts;
+    }

@@ -1,27 +1,37 @@
-use Rattle.std.proofs.lemmas.Result.{on_err_weaker, on_ok_weaker}
-use Rattle.cct_world.proofs.Restarts.{next_counts, next_unkept}
+use Rattle.std.proofs.Common.{ap, ◌∙◌, refl, rules}
+use Rattle.cct_world.proofs.Restarts.{next_counts, next_told}
 use Rattle.cct_world.proofs.Steps.{next_goes}
 use Rattle.cct_world.proofs.machine.Machine.next.Goals as goal
 
-pub returns-clause-plays : goal.returns-clause-plays
-returns-clause-plays g c =
+pub returns-in-Ok-clause-played : goal.returns-in-Ok-clause-played
+returns-in-Ok-clause-played g c =
     let machine = c.args.self.now in
-    on_ok_weaker c.next.result (λ nexts past stands suits survives.
-    let goes = next_goes machine.bus c.next.new.link machine.host c.next.new.self c.args.addr past _ _ c.requires.report
-    nexts machine.same stands.host stands.bus suits in
-    (goes.0, record { host = goes.1.0; bus = goes.1.1 })) c.next.ensures.nexts
+    let next = c.next.ensures in
+    let nexts = c.in-Ok.ensures.nexts in
+    let told = next_told _ _ c.args.addr nexts.what c.requires.report nexts.reported_is in
+    record {
+      setup = next.setup;
+      whole = c.in-Ok.ensures.whole;
+      plays = λ past stands suits survives.
+          let goes = next_goes machine.bus c.next.new.link machine.host c.next.new.self c.args.addr past _ _
+          c.requires.report nexts machine.same stands.host stands.bus suits in
+          (goes.0, record { host = goes.1.0; bus = goes.1.1 });
+      told = told.0;
+      counts = next_counts _ _ c.args.addr nexts.what _ _ c.requires.report nexts.reported_is nexts.counts;
+      restarts = told.1;
+      cut = next.goes_on.same_cuts;
+      lasts = next.goes_on;
+      later = search rules;
+    }
 
-pub returns-clause-fails : goal.returns-clause-fails
-returns-clause-fails g c =
-    on_err_weaker c.next.result (λ fails past stands.
-    let due = (fails past stands.host).1 in (due.0, (due.1, due.2))) c.next.ensures.fails
-
-pub returns-clause-counts : goal.returns-clause-counts
-returns-clause-counts g c =
-    on_ok_weaker c.next.result (λ nexts.
-    next_counts _ _ c.args.addr nexts.what _ _ c.requires.report nexts.reported_is nexts.counts) c.next.ensures.nexts
-
-pub returns-clause-unkept : goal.returns-clause-unkept
-returns-clause-unkept g c =
-    on_ok_weaker c.next.result (λ nexts.
-    next_unkept _ _ c.args.addr nexts.what c.requires.report nexts.reported_is) c.next.ensures.nexts
+pub returns-in-Err-clause-unplayed : goal.returns-in-Err-clause-unplayed
+returns-in-Err-clause-unplayed g c =
+    let next = c.next.ensures in
+    record {
+      breaks = λ past stands. let due = (c.in-Err.ensures.fails past stands.host).1 in (due.0, (due.1, due.2));
+      empty = ap (λ r. r.items) c.in-Err.ensures.stays ∙ c.requires.report;
+      cause = search rules;
+      cut = λ other. absurd (other refl);
+      lost = λ other. absurd (other refl);
+      lasts = next.goes_on;
+    }
