@@ -1,5 +1,6 @@
 -- The words of step lines in groups of a few: what stands after none of a group's words, the next group says.
-use Rattle.std.specs.Prelude.{◌≡◌, ℕ, List, if◌then◌else◌, Result, Ok, Err, OnOk, codes, bytes_eq}
+use Rattle.std.specs.Prelude.{◌≡◌, ℕ, List, if◌then◌else◌, Option, Some, None, Result, Ok, Err}
+use Rattle.std.specs.Prelude.{IfSome, OnOk, codes, bytes_eq}
 use Rattle.std.specs.Option.{ok_or}
 use Rattle.cct_lines.specs.declared.command.Command.TheVariants as command
 use Rattle.cct_lines.specs.declared.command.Step.{Step}
@@ -14,6 +15,16 @@ use Rattle.cct_lines.specs.Script.{IsInRange}
 abbrev pub said_into : Result (Unit {0}) LineKind → Step → Result Step LineKind
 said_into (Ok done) s = Ok s
 said_into (Err why) s = Err why
+
+-- What the fields after a word say, by the answer and what stands then in the room for the step.
+abbrev pub set_by : Option (Unit {0}) → Step → Option Step
+set_by (Some done) s = Some s
+set_by None s = None
+
+-- What was read is what the grammar says of these fields, and a step that is said is in range.
+pub record SetsStep (result : Option (Unit {0})) (s : Step) (said : Option Step) : Type 0 where
+  pub reads : set_by result s ≡ said
+  pub ranged : IfSome result (λ done. IsInRange s)
 
 -- The answer and the step in its room are what the grammar says, and a step that is said is in range.
 pub record ReadsInto (result : Result (Unit {0}) LineKind) (s : Step) (said : Result Step LineKind) : Type 0 where
