@@ -3,14 +3,15 @@ ghost use Rattle.std.specs.Prelude.{◌≡◌, ◌≤◌, ℕ, Some, None, Match
 ghost use Rattle.cct_lines.specs.declared.command.Step.{Step};
 ghost use Rattle.cct_lines.specs.Grammar.{address_in, alone, choice_in, coin_step, step_at, fault_step, start_step};
 ghost use Rattle.cct_lines.specs.Grammar.{pay_step, path_step, vend_step, crash_step};
-ghost use Rattle.cct_script.specs.Fields.{fields_behind};
-ghost use Rattle.cct_script.specs.Steps.{SetsStep};
+ghost use Rattle.cct_lines.specs.Script.{IsInRange};
+ghost use Rattle.cct_script.specs.Fields.{Sets, fields_behind};
+ghost use Rattle.cct_script.specs.Steps.{with_bytes};
 
 use crate::fields::{one, three, two};
 use crate::numbers::{ranged, ranged_u8, ranged_u32};
-use crate::words::{mask_in, piece_in};
+use crate::words::{mask_in, piece_into};
 use cct_lines::{
-    COIN_PLACES, Command, CrashAt, LineKind, MOST_HEARD, MOST_SENT, PATHS, Step, WireFault,
+    COIN_PLACES, Command, CrashAt, LineKind, MOST_HEARD, MOST_SENT, PATHS, Piece, Step, WireFault,
 };
 
 const BY_DEVICES: &[u8] = b"devices";
@@ -62,7 +63,7 @@ pub(crate) fn nothing(rest: Option<&[u8]>) -> Result<(), LineKind>
 /// `coin A PLACE`
 #[tactic(auto, using(crate::proofs::Forms::no_coin))]
 pub(crate) fn coin_into(rest: Option<&[u8]>, step: &mut Step) -> Option<()>
-    ensures { SetsStep result step.new (coin_step (fields_behind rest.entry)) }
+    ensures { Sets result step.new (coin_step (fields_behind rest.entry)) IsInRange }
 {
     let (addr, place) = two(rest)?;
     let addr = address_in(addr)?;
@@ -74,26 +75,37 @@ pub(crate) fn coin_into(rest: Option<&[u8]>, step: &mut Step) -> Option<()>
 /// `fault devices PIECE`, `fault host PIECE`, `fault whole PIECE`
 #[tactic(auto, using(crate::proofs::Forms::no_fault))]
 pub(crate) fn fault_into(rest: Option<&[u8]>, step: &mut Step) -> Option<()>
-    ensures { SetsStep result step.new (fault_step (fields_behind rest.entry)) }
+    ensures { Sets result step.new (fault_step (fields_behind rest.entry)) IsInRange }
 {
     let (whom, piece) = two(rest)?;
-    let fault = if whom == BY_DEVICES {
-        WireFault::DevicesHear(piece_in(MOST_SENT, piece)?)
+    if whom == BY_DEVICES {
+        *step = Step::Fault(WireFault::DevicesHear(Piece::new()));
     } else if whom == BY_HOST {
-        WireFault::HostHears(piece_in(MOST_SENT, piece)?)
+        *step = Step::Fault(WireFault::HostHears(Piece::new()));
     } else if whom == WHOLE {
-        WireFault::WholeHeard(piece_in(MOST_HEARD, piece)?)
+        *step = Step::Fault(WireFault::WholeHeard(Piece::new()));
     } else {
         return None;
-    };
-    *step = Step::Fault(fault);
-    Some(())
+    }
+    bytes_into(piece, step)
+}
+
+/// Reads the bytes that a field spells into their place in a wire fault. Any other step has no place for them.
+fn bytes_into(field: &[u8], step: &mut Step) -> Option<()>
+    ensures { Sets result step.new (with_bytes step.old field.now) IsInRange }
+{
+    match step {
+        Step::Fault(WireFault::DevicesHear(bytes)) => piece_into(MOST_SENT, field, bytes),
+        Step::Fault(WireFault::HostHears(bytes)) => piece_into(MOST_SENT, field, bytes),
+        Step::Fault(WireFault::WholeHeard(bytes)) => piece_into(MOST_HEARD, field, bytes),
+        _ => None,
+    }
 }
 
 /// `start A MASK`
 #[tactic(auto, using(crate::proofs::Forms::no_start))]
 pub(crate) fn start_into(rest: Option<&[u8]>, step: &mut Step) -> Option<()>
-    ensures { SetsStep result step.new (start_step (fields_behind rest.entry)) }
+    ensures { Sets result step.new (start_step (fields_behind rest.entry)) IsInRange }
 {
     let (addr, mask) = two(rest)?;
     let addr = address_in(addr)?;
@@ -105,7 +117,7 @@ pub(crate) fn start_into(rest: Option<&[u8]>, step: &mut Step) -> Option<()>
 /// `pay A ID COUNT`
 #[tactic(auto, using(crate::proofs::Forms::no_pay))]
 pub(crate) fn pay_into(rest: Option<&[u8]>, step: &mut Step) -> Option<()>
-    ensures { SetsStep result step.new (pay_step (fields_behind rest.entry)) }
+    ensures { Sets result step.new (pay_step (fields_behind rest.entry)) IsInRange }
 {
     let (addr, id, count) = three(rest)?;
     let addr = address_in(addr)?;
@@ -118,7 +130,7 @@ pub(crate) fn pay_into(rest: Option<&[u8]>, step: &mut Step) -> Option<()>
 /// `path A PLACE PATH`
 #[tactic(auto, using(crate::proofs::Forms::no_path))]
 pub(crate) fn path_into(rest: Option<&[u8]>, step: &mut Step) -> Option<()>
-    ensures { SetsStep result step.new (path_step (fields_behind rest.entry)) }
+    ensures { Sets result step.new (path_step (fields_behind rest.entry)) IsInRange }
 {
     let (addr, place, path) = three(rest)?;
     let addr = address_in(addr)?;
@@ -131,7 +143,7 @@ pub(crate) fn path_into(rest: Option<&[u8]>, step: &mut Step) -> Option<()>
 /// `vend ID PRICE`
 #[tactic(auto, using(crate::proofs::Forms::no_vend))]
 pub(crate) fn vend_into(rest: Option<&[u8]>, step: &mut Step) -> Option<()>
-    ensures { SetsStep result step.new (vend_step (fields_behind rest.entry)) }
+    ensures { Sets result step.new (vend_step (fields_behind rest.entry)) IsInRange }
 {
     let (id, price) = two(rest)?;
     let id = ranged_u32(1, u32::MAX, id)?;
@@ -143,7 +155,7 @@ pub(crate) fn vend_into(rest: Option<&[u8]>, step: &mut Step) -> Option<()>
 /// `crash CHOICE`, `crash A CALLS CHOICE`
 #[tactic(auto, using(crate::proofs::Forms::no_crash))]
 pub(crate) fn crash_into(rest: Option<&[u8]>, step: &mut Step) -> Option<()>
-    ensures { SetsStep result step.new (crash_step (fields_behind rest.entry)) }
+    ensures { Sets result step.new (crash_step (fields_behind rest.entry)) IsInRange }
 {
     if let Some(choice) = one(rest) {
         let choice = choice_in(choice)?;
