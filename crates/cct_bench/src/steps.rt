@@ -12,7 +12,7 @@ use crate::lines::{ScriptStop, before_end};
 use cct_disk::Disk;
 use cct_edge::Source;
 use cct_model::{LineKind, Step};
-use cct_script::{Lines, read_step_line};
+use cct_script::{Lines, read_step_into};
 use cct_world::World;
 
 /// Whether a step is `end`.
@@ -33,8 +33,8 @@ fn take_step_line<D: Disk>(
         (λ why. read_form (at_steps (setup_of world.now)) line.now ≡ refuses why) }
     ensures can { OnOk result (is_end step.new ≡ false → CanPlay (setup_of world.now) step.new) }
 {
-    match read_step_line(line) {
-        Ok(said) => *step = said,
+    match read_step_into(line, step) {
+        Ok(()) => {}
         Err(why) => return Err(why),
     }
     if !world.knows(step) {
@@ -43,7 +43,7 @@ fn take_step_line<D: Disk>(
     Ok(())
 }
 
-/// Reads the next step line of a script into the room for a step. A step is wide, so it is moved once.
+/// Reads the next step line of a script into the room for a step. A step is wide, so none is moved.
 pub fn read_step<S: Source, D: Disk>(
     lines: &mut Lines,
     world: &World<'_, D>,

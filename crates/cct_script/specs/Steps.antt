@@ -1,13 +1,16 @@
 -- The words of step lines in groups of a few: what stands after none of a group's words, the next group says.
-use Rattle.std.specs.Prelude.{◌≡◌, ℕ, List, if◌then◌else◌, Result, Ok, Err, OnOk, codes, bytes_eq}
-use Rattle.std.specs.Option.{ok_or}
+use Rattle.std.specs.Prelude.{◌≡◌, ℕ, List, if◌then◌else◌, Option, None, Result, Ok, Err}
+use Rattle.std.specs.Prelude.{OnOk, codes, bytes_eq}
+use Rattle.std.specs.Option.{ok_or, option_map}
 use Rattle.cct_lines.specs.declared.command.Command.TheVariants as command
 use Rattle.cct_lines.specs.declared.command.Step.{Step}
 use Rattle.cct_lines.specs.declared.command.Step.TheVariants as step
+use Rattle.cct_lines.specs.declared.command.WireFault.TheVariants as fault
 use Rattle.cct_lines.specs.declared.entry.LineKind.{LineKind}
 use Rattle.cct_lines.specs.declared.entry.LineKind.TheVariants as kind
-use Rattle.cct_lines.specs.Grammar.{alone, coin_step, crash_step, fault_step, path_step, pay_step, start_step}
-use Rattle.cct_lines.specs.Grammar.{step_at, vend_step}
+use Rattle.cct_lines.specs.Grammar.{alone, coin_step, crash_step, fault_step, path_step, pay_step, piece_in}
+use Rattle.cct_lines.specs.Grammar.{start_step, step_at, vend_step}
+use Rattle.cct_lines.specs.terms.wire.TheConstants.{MOST_HEARD, MOST_SENT}
 use Rattle.cct_lines.specs.Script.{IsInRange}
 
 -- What a line says, by the answer and what stands then in the room for its step.
@@ -19,6 +22,16 @@ said_into (Err why) s = Err why
 pub record ReadsInto (result : Result (Unit {0}) LineKind) (s : Step) (said : Result Step LineKind) : Type 0 where
   pub reads : said_into result s ≡ said
   pub ranged : OnOk result (IsInRange s)
+
+-- A wire fault with the bytes that a field spells in the place of its own; of any other step there is none.
+abbrev pub with_bytes : Step → List ℕ → Option Step
+with_bytes (step.Fault (fault.DevicesHear old)) field =
+    option_map (λ bytes. step.Fault (fault.DevicesHear bytes)) (piece_in MOST_SENT field)
+with_bytes (step.Fault (fault.HostHears old)) field =
+    option_map (λ bytes. step.Fault (fault.HostHears bytes)) (piece_in MOST_SENT field)
+with_bytes (step.Fault (fault.WholeHeard old)) field =
+    option_map (λ bytes. step.Fault (fault.WholeHeard bytes)) (piece_in MOST_HEARD field)
+with_bytes s field = None
 
 -- The other commands, a power cut, and what the operator reads.
 unfoldable pub other_step : List ℕ → List (List ℕ) → Result Step LineKind

@@ -1,16 +1,17 @@
-//! What stands after the words of step lines (`docs/SCRIPT.md`).
-ghost use Rattle.std.specs.Prelude.{◌≡◌, ◌≤◌, ℕ, Some, None, MatchOption, MatchResult};
+//! What stands after the words of step lines (`docs/SCRIPT.md`), read into the room for a step.
+ghost use Rattle.std.specs.Prelude.{◌≡◌, ◌≤◌, ℕ, Some, None, MatchResult};
 ghost use Rattle.cct_lines.specs.declared.command.Step.{Step};
-ghost use Rattle.cct_lines.specs.Grammar.{address_in, choice_in, coin_step, step_at, fault_step, start_step};
+ghost use Rattle.cct_lines.specs.Grammar.{address_in, alone, choice_in, coin_step, step_at, fault_step, start_step};
 ghost use Rattle.cct_lines.specs.Grammar.{pay_step, path_step, vend_step, crash_step};
 ghost use Rattle.cct_lines.specs.Script.{IsInRange};
-ghost use Rattle.cct_script.specs.Fields.{Reads, fields_behind};
+ghost use Rattle.cct_script.specs.Fields.{Sets, fields_behind};
+ghost use Rattle.cct_script.specs.Steps.{with_bytes};
 
 use crate::fields::{one, three, two};
 use crate::numbers::{ranged, ranged_u8, ranged_u32};
-use crate::words::{mask_in, piece_in};
+use crate::words::{mask_in, piece_into};
 use cct_lines::{
-    COIN_PLACES, Command, CrashAt, LineKind, MOST_HEARD, MOST_SENT, PATHS, Step, WireFault,
+    COIN_PLACES, Command, CrashAt, LineKind, MOST_HEARD, MOST_SENT, PATHS, Piece, Step, WireFault,
 };
 
 const BY_DEVICES: &[u8] = b"devices";
@@ -46,94 +47,126 @@ pub(crate) fn addr(rest: Option<&[u8]>) -> Result<u8, LineKind>
     }
 }
 
+/// Nothing after a word.
+#[tactic(auto, using(crate::proofs::Forms::not_alone))]
+pub(crate) fn nothing(rest: Option<&[u8]>) -> Result<(), LineKind>
+    ensures { MatchResult result
+        (λ _. (s : Step) → alone s (fields_behind rest.entry) ≡ Some s)
+        (λ why. (why ≡ LineKind.Form) × ((s : Step) → alone s (fields_behind rest.entry) ≡ None)) }
+{
+    match rest {
+        None => Ok(()),
+        Some(_) => Err(LineKind::Form),
+    }
+}
+
 /// `coin A PLACE`
 #[tactic(auto, using(crate::proofs::Forms::no_coin))]
-pub(crate) fn coin_in(rest: Option<&[u8]>) -> Option<Step>
-    ensures { Reads result (coin_step (fields_behind rest.entry)) IsInRange }
+pub(crate) fn coin_into(rest: Option<&[u8]>, step: &mut Step) -> Option<()>
+    ensures { Sets result step.new (coin_step (fields_behind rest.entry)) IsInRange }
 {
     let (addr, place) = two(rest)?;
     let addr = address_in(addr)?;
     let place = ranged_u8(1, COIN_PLACES as u8, place)?;
-    Some(Step::Coin { addr, place })
+    *step = Step::Coin { addr, place };
+    Some(())
 }
 
 /// `fault devices PIECE`, `fault host PIECE`, `fault whole PIECE`
 #[tactic(auto, using(crate::proofs::Forms::no_fault))]
-pub(crate) fn fault_in(rest: Option<&[u8]>) -> Option<Step>
-    ensures { Reads result (fault_step (fields_behind rest.entry)) IsInRange }
+pub(crate) fn fault_into(rest: Option<&[u8]>, step: &mut Step) -> Option<()>
+    ensures { Sets result step.new (fault_step (fields_behind rest.entry)) IsInRange }
 {
     let (whom, piece) = two(rest)?;
-    let fault = if whom == BY_DEVICES {
-        WireFault::DevicesHear(piece_in(MOST_SENT, piece)?)
+    if whom == BY_DEVICES {
+        *step = Step::Fault(WireFault::DevicesHear(Piece::new()));
     } else if whom == BY_HOST {
-        WireFault::HostHears(piece_in(MOST_SENT, piece)?)
+        *step = Step::Fault(WireFault::HostHears(Piece::new()));
     } else if whom == WHOLE {
-        WireFault::WholeHeard(piece_in(MOST_HEARD, piece)?)
+        *step = Step::Fault(WireFault::WholeHeard(Piece::new()));
     } else {
         return None;
-    };
-    Some(Step::Fault(fault))
+    }
+    bytes_into(piece, step)
+}
+
+/// Reads the bytes that a field spells into their place in a wire fault. Any other step has no place for them.
+fn bytes_into(field: &[u8], step: &mut Step) -> Option<()>
+    ensures { Sets result step.new (with_bytes step.old field.now) IsInRange }
+{
+    match step {
+        Step::Fault(WireFault::DevicesHear(bytes)) => piece_into(MOST_SENT, field, bytes),
+        Step::Fault(WireFault::HostHears(bytes)) => piece_into(MOST_SENT, field, bytes),
+        Step::Fault(WireFault::WholeHeard(bytes)) => piece_into(MOST_HEARD, field, bytes),
+        _ => None,
+    }
 }
 
 /// `start A MASK`
 #[tactic(auto, using(crate::proofs::Forms::no_start))]
-pub(crate) fn start_in(rest: Option<&[u8]>) -> Option<Step>
-    ensures { Reads result (start_step (fields_behind rest.entry)) IsInRange }
+pub(crate) fn start_into(rest: Option<&[u8]>, step: &mut Step) -> Option<()>
+    ensures { Sets result step.new (start_step (fields_behind rest.entry)) IsInRange }
 {
     let (addr, mask) = two(rest)?;
     let addr = address_in(addr)?;
     let mask = mask_in(mask)?;
-    Some(Step::Command(Command::Start { addr, mask }))
+    *step = Step::Command(Command::Start { addr, mask });
+    Some(())
 }
 
 /// `pay A ID COUNT`
 #[tactic(auto, using(crate::proofs::Forms::no_pay))]
-pub(crate) fn pay_in(rest: Option<&[u8]>) -> Option<Step>
-    ensures { Reads result (pay_step (fields_behind rest.entry)) IsInRange }
+pub(crate) fn pay_into(rest: Option<&[u8]>, step: &mut Step) -> Option<()>
+    ensures { Sets result step.new (pay_step (fields_behind rest.entry)) IsInRange }
 {
     let (addr, id, count) = three(rest)?;
     let addr = address_in(addr)?;
     let id = ranged_u32(1, u32::MAX, id)?;
     let count = ranged_u8(1, 255, count)?;
-    Some(Step::Command(Command::Pay { addr, id, count }))
+    *step = Step::Command(Command::Pay { addr, id, count });
+    Some(())
 }
 
 /// `path A PLACE PATH`
 #[tactic(auto, using(crate::proofs::Forms::no_path))]
-pub(crate) fn path_in(rest: Option<&[u8]>) -> Option<Step>
-    ensures { Reads result (path_step (fields_behind rest.entry)) IsInRange }
+pub(crate) fn path_into(rest: Option<&[u8]>, step: &mut Step) -> Option<()>
+    ensures { Sets result step.new (path_step (fields_behind rest.entry)) IsInRange }
 {
     let (addr, place, path) = three(rest)?;
     let addr = address_in(addr)?;
     let place = ranged_u8(0, COIN_PLACES as u8, place)?;
     let path = ranged_u8(1, PATHS, path)?;
-    Some(Step::Command(Command::Path { addr, place, path }))
+    *step = Step::Command(Command::Path { addr, place, path });
+    Some(())
 }
 
 /// `vend ID PRICE`
 #[tactic(auto, using(crate::proofs::Forms::no_vend))]
-pub(crate) fn vend_in(rest: Option<&[u8]>) -> Option<Step>
-    ensures { Reads result (vend_step (fields_behind rest.entry)) IsInRange }
+pub(crate) fn vend_into(rest: Option<&[u8]>, step: &mut Step) -> Option<()>
+    ensures { Sets result step.new (vend_step (fields_behind rest.entry)) IsInRange }
 {
     let (id, price) = two(rest)?;
     let id = ranged_u32(1, u32::MAX, id)?;
     let price = ranged_u32(1, 1_000_000_000, price)?;
-    Some(Step::Command(Command::Vend { id, price }))
+    *step = Step::Command(Command::Vend { id, price });
+    Some(())
 }
 
 /// `crash CHOICE`, `crash A CALLS CHOICE`
 #[tactic(auto, using(crate::proofs::Forms::no_crash))]
-pub(crate) fn crash_in(rest: Option<&[u8]>) -> Option<Step>
-    ensures { Reads result (crash_step (fields_behind rest.entry)) IsInRange }
+pub(crate) fn crash_into(rest: Option<&[u8]>, step: &mut Step) -> Option<()>
+    ensures { Sets result step.new (crash_step (fields_behind rest.entry)) IsInRange }
 {
     if let Some(choice) = one(rest) {
         let choice = choice_in(choice)?;
-        return Some(Step::Crash { at: None, choice });
+        *step = Step::Crash { at: None, choice };
+        return Some(());
     }
     let (addr, calls, choice) = three(rest)?;
     let addr = address_in(addr)?;
     let calls = ranged_u8(0, 4, calls)?;
     let choice = choice_in(choice)?;
     let at = Some(CrashAt { addr, calls });
-    Some(Step::Crash { at, choice })
+    *step = Step::Crash { at, choice };
+    Some(())
 }

@@ -19,5 +19,5 @@ pub use cct_lines::SetupLine;
 pub use lines::{Line, Lines, LinesNo};
 pub use numbers::ranged;
 pub use setup::read_setup_line;
-pub use step::read_step_line;
+pub use step::{read_step_into, read_step_line};
 pub use words::piece_in;

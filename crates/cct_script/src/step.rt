@@ -1,12 +1,14 @@
 //! The step lines of a script (`docs/SCRIPT.md`).
-ghost use Rattle.std.specs.Prelude.{◌≡◌, Ok, Err, IfOk, MatchResult};
+ghost use Rattle.std.specs.Prelude.{◌≡◌, Ok, Err, IfOk, MatchResult, OnOk};
 ghost use Rattle.cct_lines.specs.Grammar.{step_line};
 ghost use Rattle.cct_lines.specs.Script.{IsInRange};
 ghost use Rattle.cct_script.specs.Fields.{fields_behind};
 ghost use Rattle.cct_script.specs.Steps.{ReadsInto, device_step, epoch_step, order_step, other_step};
 
-use crate::behind::{addr, coin_in, crash_in, fault_in, path_in, pay_in, start_in, vend_in};
-use crate::fields::{alone, first_field};
+use crate::behind::{
+    addr, coin_into, crash_into, fault_into, nothing, path_into, pay_into, start_into, vend_into,
+};
+use crate::fields::first_field;
 use cct_lines::{Command, LineKind, Step};
 
 const COIN: &[u8] = b"coin";
@@ -56,7 +58,7 @@ fn device_step(word: &[u8], rest: Option<&[u8]>, step: &mut Step) -> Result<(), 
     ensures { ReadsInto result step.new (device_step word.now (fields_behind rest.entry)) }
 {
     match word {
-        _ if word == COIN => *step = coin_in(rest).ok_or(LineKind::Form)?,
+        _ if word == COIN => coin_into(rest, step).ok_or(LineKind::Form)?,
         _ if word == ALIEN => *step = Step::Alien { addr: addr(rest)? },
         _ if word == FALL => *step = Step::Fall { addr: addr(rest)? },
         _ if word == JAM => *step = Step::Jam { addr: addr(rest)? },
@@ -74,8 +76,8 @@ fn epoch_step(word: &[u8], rest: Option<&[u8]>, step: &mut Step) -> Result<(), L
 {
     match word {
         _ if word == NEXT => *step = Step::Next { addr: addr(rest)? },
-        _ if word == FAULT => *step = fault_in(rest).ok_or(LineKind::Form)?,
-        _ if word == START => *step = start_in(rest).ok_or(LineKind::Form)?,
+        _ if word == FAULT => fault_into(rest, step).ok_or(LineKind::Form)?,
+        _ if word == START => start_into(rest, step).ok_or(LineKind::Form)?,
         _ if word == ROUND => *step = Step::Command(Command::Round { addr: addr(rest)? }),
         _ if word == STOP => *step = Step::Command(Command::Stop { addr: addr(rest)? }),
         _ => return order_step(word, rest, step),
@@ -93,10 +95,11 @@ fn order_step(word: &[u8], rest: Option<&[u8]>, step: &mut Step) -> Result<(), L
         _ if word == SETTLE => *step = Step::Command(Command::Settle { addr: addr(rest)? }),
         _ if word == HALT => *step = Step::Command(Command::Halt { addr: addr(rest)? }),
         _ if word == IDENT => *step = Step::Command(Command::Ident { addr: addr(rest)? }),
-        _ if word == PAY => *step = pay_in(rest).ok_or(LineKind::Form)?,
-        _ if word == SCAN => *step = alone(Step::Command(Command::Scan), rest).ok_or(
-            LineKind::Form,
-        )?,
+        _ if word == PAY => pay_into(rest, step).ok_or(LineKind::Form)?,
+        _ if word == SCAN => {
+            nothing(rest)?;
+            *step = Step::Command(Command::Scan);
+        }
         _ => return other_step(word, rest, step),
     }
     Ok(())
@@ -109,14 +112,32 @@ fn other_step(word: &[u8], rest: Option<&[u8]>, step: &mut Step) -> Result<(), L
     ensures { ReadsInto result step.new (other_step word.now (fields_behind rest.entry)) }
 {
     match word {
-        _ if word == PATH => *step = path_in(rest).ok_or(LineKind::Form)?,
-        _ if word == VEND => *step = vend_in(rest).ok_or(LineKind::Form)?,
-        _ if word == CRASH => *step = crash_in(rest).ok_or(LineKind::Form)?,
-        _ if word == BALANCE => *step = alone(Step::Balance, rest).ok_or(LineKind::Form)?,
-        _ if word == END => *step = alone(Step::End, rest).ok_or(LineKind::Form)?,
+        _ if word == PATH => path_into(rest, step).ok_or(LineKind::Form)?,
+        _ if word == VEND => vend_into(rest, step).ok_or(LineKind::Form)?,
+        _ if word == CRASH => crash_into(rest, step).ok_or(LineKind::Form)?,
+        _ if word == BALANCE => {
+            nothing(rest)?;
+            *step = Step::Balance;
+        }
+        _ if word == END => {
+            nothing(rest)?;
+            *step = Step::End;
+        }
         _ => return Err(LineKind::Word),
     }
     Ok(())
+}
+
+/// Reads what a step line says, without its line feed, into the room for a step. `Word` where the first field is no word
+/// of a step line, else `Form` where the line isn't in a form of its word; then anything may stand in the room.
+pub fn read_step_into(line: &[u8], step: &mut Step) -> Result<(), LineKind>
+    ensures reads { MatchResult result
+        (λ _. step_line line.now ≡ Ok step.new)
+        (λ why. step_line line.now ≡ Err why) }
+    ensures ranged { OnOk result (IsInRange step.new) }
+{
+    let (word, rest) = first_field(line);
+    device_step(word, rest, step)
 }
 
 /// What a step line says, without its line feed. `Word` where the first field is no word of a step line, else `Form`
@@ -127,10 +148,7 @@ pub fn read_step_line(line: &[u8]) -> Result<Step, LineKind>
         (λ why. step_line line.now ≡ Err why) }
     ensures ranged { IfOk result IsInRange }
 {
-    let (word, rest) = first_field(line);
     let mut step = Step::End;
-    match device_step(word, rest, &mut step) {
-        Ok(()) => Ok(step),
-        Err(why) => Err(why),
-    }
+    read_step_into(line, &mut step)?;
+    Ok(step)
 }

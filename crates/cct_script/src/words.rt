@@ -3,7 +3,7 @@ ghost use Rattle.std.specs.Prelude.{◌≡◌, ◌≤◌, length, IsTrue};
 ghost use Rattle.std.specs.List.{list_all, All};
 ghost use Rattle.cct_lines.specs.Device.{IsPrinting, IsWord, IsId};
 ghost use Rattle.cct_lines.specs.Grammar.{is_printing, check_in, word_in, id_in, piece_in, mask_in};
-ghost use Rattle.cct_script.specs.Fields.{Reads};
+ghost use Rattle.cct_script.specs.Fields.{Reads, Sets};
 
 use cct_lines::{CheckKind, MOST_HEARD, MOST_NAME, Name, Piece};
 
@@ -69,15 +69,16 @@ pub(crate) fn id_in(field: &[u8]) -> Option<[u8; 6]>
     Some(id)
 }
 
-/// The piece of up to `most` bytes that a field spells: a hyphen is the empty piece, else it is in hexadecimal of
-/// either case, two digits a byte.
+/// Reads the piece of up to `most` bytes that a field spells into the room for a piece: a hyphen is the empty piece, else
+/// it is in hexadecimal of either case, two digits a byte. Where the field spells none, anything may stand in the room.
 #[tactic(auto, unfolding(cct_lines::specs::Grammar::piece_in))]
-pub fn piece_in(most: usize, field: &[u8]) -> Option<Piece>
+pub(crate) fn piece_into(most: usize, field: &[u8], piece: &mut Piece) -> Option<()>
     requires { most ≤ MOST_HEARD }
-    ensures { Reads result (piece_in most field.now) (λ piece. length piece ≤ most) }
+    ensures { Sets result piece.new (piece_in most field.now) (λ bytes. length bytes ≤ most) }
 {
+    piece.clear();
     if field == NO_BYTE {
-        return Some(Piece::new());
+        return Some(());
     }
     if field.is_empty() || field.len() > 2 * most {
         return None;
@@ -85,8 +86,18 @@ pub fn piece_in(most: usize, field: &[u8]) -> Option<Piece>
     let mut room = [0; MOST_HEARD];
     let bytes = &mut room[..field.len() / 2];
     hex::decode_to_slice(field, bytes).ok()?;
-    let mut piece = Piece::new();
     piece.extend_from_slice(bytes);
+    Some(())
+}
+
+/// The piece of up to `most` bytes that a field spells: a hyphen is the empty piece, else it is in hexadecimal of
+/// either case, two digits a byte.
+pub fn piece_in(most: usize, field: &[u8]) -> Option<Piece>
+    requires { most ≤ MOST_HEARD }
+    ensures { Reads result (piece_in most field.now) (λ piece. length piece ≤ most) }
+{
+    let mut piece = Piece::new();
+    piece_into(most, field, &mut piece)?;
     Some(piece)
 }
 

@@ -11,15 +11,15 @@ returns-in-Err-clause-reads g c =
 
 pub returns-then-not-knows-clause-reads : goal.returns-then-not-knows-clause-reads
 returns-then-not-knows-clause-reads g c =
-    step_unknown (setup_of c.args.world.now) c.args.line.now c.in-Ok.said c.in-Ok.ensures.reads
+    step_unknown (setup_of c.args.world.now) c.args.line.now c.read_step_into.new.step c.in-Ok.ensures.reads
     (sym c.knows.ensures ∙ c.if-not-knows.true)
 
 pub returns-clause-reads : goal.returns-clause-reads
 returns-clause-reads g c =
-    step_reads (setup_of c.args.world.now) c.args.line.now c.in-Ok.said c.in-Ok.ensures.reads
+    step_reads (setup_of c.args.world.now) c.args.line.now c.read_step_into.new.step c.in-Ok.ensures.reads
     (sym c.knows.ensures ∙ c.if-not-knows.false)
 
 pub returns-clause-can : goal.returns-clause-can
 returns-clause-can g c going =
-    step_can (setup_of c.args.world.now) c.args.line.now c.in-Ok.said c.in-Ok.ensures.reads
+    step_can (setup_of c.args.world.now) c.args.line.now c.read_step_into.new.step c.in-Ok.ensures.reads
     (sym c.knows.ensures ∙ c.if-not-knows.false) going
