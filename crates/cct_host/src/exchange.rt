@@ -1,18 +1,18 @@
 //! One exchange of a job over a link, and what becomes of the job.
-ghost use Rattle.std.specs.Prelude.{◌≡◌, ◌<◌, [], true};
+ghost use Rattle.std.specs.Prelude.{◌≡◌, ◌<◌, ◌≤◌, [], Some, None, IfSome, is_some, true};
 ghost use Rattle.arrayvec.specs.ArrayVec.{array_vec_len};
 ghost use Rattle.cct_model.specs.lines.entry.Entry.TheVariants as entry;
 ghost use Rattle.cct_jobs.specs.Ahead.{ahead};
-ghost use Rattle.cct_jobs.specs.Jobs.{PutsFit, end_of_job, need_of};
+ghost use Rattle.cct_jobs.specs.Jobs.{end_of_job, need_of};
 ghost use Rattle.cct_jobs.specs.Onward.{KeepsTo};
 ghost use Rattle.cct_jobs.specs.declared.job.Need.TheVariants as need;
-ghost use Rattle.cct_host.specs.Exchange.{Converses, Ends, Fills, Talks};
-ghost use Rattle.cct_host.specs.Held.{FitsIn};
-ghost use Rattle.cct_host.specs.Running.{Settles, is_running};
+ghost use Rattle.cct_host.specs.Exchange.{Converses, Ends, Exchanges, Fills, Puts, Talks, TellsEnd};
+ghost use Rattle.cct_host.specs.Held.{FitsIn, due_by};
+ghost use Rattle.cct_host.specs.Running.{is_running};
 
 use arrayvec::ArrayVec;
 use cct_jobs::Job;
-use cct_model::{Entry, Piece, Sent};
+use cct_model::{Entry, Piece, Record, Sent};
 use cct_msg::encode_request;
 use cct_wire::Link;
 
@@ -71,19 +71,69 @@ fn talk<L: Link>(job: &mut Job, link: &mut L, sent: &mut Sent, heard: &mut Piece
     job.hear(sent.as_slice(), heard.as_slice());
 }
 
-/// What stays of a job at an address: nothing, where it is done, and then the report has its end.
-pub(crate) fn settled(job: Job, addr: u8, report: &mut ArrayVec<Entry, 8>) -> Option<Job>
+/// The job of a desk makes one exchange over a link. A job that is then done leaves its slot, and the report has its end.
+pub(crate) fn exchange<L: Link>(
+    slot: &mut Option<Job>,
+    addr: u8,
+    link: &mut L,
+    report: &mut ArrayVec<Entry, 8>,
+)
+    requires there { is_some slot.old ≡ true }
+    requires running { is_running slot.old ≡ true }
+    requires asks { due_by slot.old ≡ None }
+    requires room { array_vec_len report.old ≤ 6 }
+    ensures running { is_running slot.new ≡ true }
+    ensures fits { FitsIn slot.new }
+    ensures exchanges { IfSome slot.old (λ job. Exchanges L.gives link.old link.new addr job slot.new
+        report.old.items report.new.items) }
+{
+    let is_done = match slot {
+        Some(job) => {
+            converse(job, addr, link, report);
+            tell_end(job, addr, report)
+        }
+        None => unreachable!(),
+    };
+    if is_done {
+        *slot = None;
+    }
+}
+
+/// The record of a desk's job was put, and the job goes on. A job that is then done leaves its slot, and the report has its
+/// end.
+pub(crate) fn put(slot: &mut Option<Job>, entry: Record, addr: u8, report: &mut ArrayVec<Entry, 8>)
+    requires there { is_some slot.old ≡ true }
+    requires due { due_by slot.old ≡ Some entry }
+    requires room { array_vec_len report.old ≤ 6 }
+    ensures running { is_running slot.new ≡ true }
+    ensures fits { FitsIn slot.new }
+    ensures puts { IfSome slot.old (λ job. Puts addr job entry slot.new report.old.items report.new.items) }
+{
+    report.push(Entry::Put(entry));
+    let is_done = match slot {
+        Some(job) => {
+            job.go_on_after_put();
+            tell_end(job, addr, report)
+        }
+        None => unreachable!(),
+    };
+    if is_done {
+        *slot = None;
+    }
+}
+
+/// The report has the end of a job that is done. It tells whether the job is done.
+fn tell_end(job: &Job, addr: u8, report: &mut ArrayVec<Entry, 8>) -> bool
     requires { array_vec_len report.old < 8 }
-    ensures running { is_running result ≡ true }
-    ensures fits { PutsFit job → FitsIn result }
-    ensures ends { Ends job (end_of_job job) }
-    ensures settled { Settles (end_of_job job) job addr result report.old.items report.new.items }
+    ensures done { result ≡ is_some (end_of_job job.now) }
+    ensures ends { Ends job.now (end_of_job job.now) }
+    ensures tells { TellsEnd (end_of_job job.now) addr report.old.items report.new.items }
 {
     match job.end() {
-        None => Some(job),
+        None => false,
         Some(end) => {
             report.push(Entry::Ended { addr, end });
-            None
+            true
         }
     }
 }
