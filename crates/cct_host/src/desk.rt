@@ -230,14 +230,14 @@ impl JobDesk {
         }
     }
 
-    /// The id of the payment or the sale that is at work, or 0.
+    /// The id of the payment or the sale that is running, or 0.
     pub(crate) fn id(&self) -> u32
         ensures { result ≡ self.now.orders.id }
     {
         self.orders.id
     }
 
-    /// The id of the payment or the sale that is still at work, or 0.
+    /// The id of the payment or the sale that is still running, or 0.
     fn id_left(&self) -> u32
         ensures { result ≡ id_left self.now.job self.now.orders.id }
     {
