@@ -347,30 +347,30 @@ sells_next job r before after is ordered = record {
 no_scan : (job : Job) (r : Record) → need_of job ≡ need.Put r → IsNoScan job
 no_scan job r is since stands = subst (λ n. NeedsScan n since) is (scan_need_known job since _ refl stands)
 
--- the job of a desk, if there is one, makes an exchange, and this stays of it
-pub slot_asks : {L : Type 0} (gives : L → List ℕ → List ℕ → L → Type 0) (before after : L) (addr : ℕ) (job : Option Job)
+-- the job at a desk makes an exchange, and this stays of it
+pub desk_asks : {L : Type 0} (gives : L → List ℕ → List ℕ → L → Type 0) (before after : L) (addr : ℕ) (job : Option Job)
     (state : EpochState) (owed : OrderState) (desk : JobDesk) (report reported : List Entry)
     → is_some job ≡ true → is_running job ≡ true → due_by job ≡ None
     → IfSome job (λ old. Exchanges gives before after addr old desk.job report reported)
     → desk.epoch ≡ state → desk.orders ≡ orders_left desk.job owed
     → Attempts gives before after addr job state owed desk 0 report reported
-slot_asks gives before after addr None state owed desk report reported there runs none exchanges same ordered = absurd cc
-slot_asks gives before after addr (Some job) state owed desk report reported there runs none exchanges same ordered =
+desk_asks gives before after addr None state owed desk report reported there runs none exchanges same ordered = absurd cc
+desk_asks gives before after addr (Some job) state owed desk report reported there runs none exchanges same ordered =
     ask_attempts gives before after addr job exchanges.new state owed desk _ report exchanges.told reported
     (asks_next job (asks_where_none job runs none)) none exchanges.converses exchanges.ends exchanges.settles same
     ordered
 
 -- or puts the record that was due
-pub slot_puts : {L : Type 0} (gives : L → List ℕ → List ℕ → L → Type 0) (link : L) (addr : ℕ) (job : Option Job)
+pub desk_puts : {L : Type 0} (gives : L → List ℕ → List ℕ → L → Type 0) (link : L) (addr : ℕ) (job : Option Job)
     (r : Record) (state : EpochState) (owed : OrderState) (after : Option Owed) (desk : JobDesk) (used : ℕ)
     (report reported : List Entry)
     → is_some job ≡ true → due_by job ≡ Some r → IfSome job (λ old. after ≡ owed_after old owed.order)
     → IfSome job (λ old. Puts addr old r desk.job report reported)
     → desk.epoch ≡ model.epoch_by r state → desk.orders ≡ orders_left desk.job (record { order = after; id = owed.id })
     → used ≡ id_of r → Attempts gives link link addr job state owed desk used report reported
-slot_puts gives link addr None r state owed after desk used report reported there due ordered puts moved left used_is =
+desk_puts gives link addr None r state owed after desk used report reported there due ordered puts moved left used_is =
     absurd cc
-slot_puts gives link addr (Some job) r state owed after desk used report reported there due ordered puts moved left
+desk_puts gives link addr (Some job) r state owed after desk used report reported there due ordered puts moved left
     used_is =
     let is = sym (put_is (need_of job) r (sym due)) in
     put_attempts gives link addr job (after_put job) r state owed (record { order = after; id = owed.id }) desk used _

@@ -46,7 +46,7 @@ pub record Converses {L : Type 0} (gives : L → List ℕ → List ℕ → L →
   pub goes : gives before sent heard after
   pub talks : Talks old sent heard new
 
--- The end of a job that is done is told at an address; of a job that runs nothing is.
+-- A job with this end tells it at an address, and one that runs tells nothing.
 abbrev pub TellsEnd : Option End → ℕ → List Entry → List Entry → Type 0
 TellsEnd (Some end) addr told reported = reported ≡ told ++ entry.Ended addr end ∷ []
 TellsEnd None addr told reported = reported ≡ told

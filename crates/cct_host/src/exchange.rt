@@ -71,23 +71,24 @@ fn talk<L: Link>(job: &mut Job, link: &mut L, sent: &mut Sent, heard: &mut Piece
     job.hear(sent.as_slice(), heard.as_slice());
 }
 
-/// The job of a desk makes one exchange over a link. A job that is then done leaves its slot, and the report has its end.
+/// The job at a desk makes one exchange over a link, which is a further entry. A job that is then done leaves the desk,
+/// and the report has its end.
 pub(crate) fn exchange<L: Link>(
-    slot: &mut Option<Job>,
+    at_desk: &mut Option<Job>,
     addr: u8,
     link: &mut L,
     report: &mut ArrayVec<Entry, 8>,
 )
-    requires there { is_some slot.old ≡ true }
-    requires running { is_running slot.old ≡ true }
-    requires asks { due_by slot.old ≡ None }
+    requires there { is_some at_desk.old ≡ true }
+    requires running { is_running at_desk.old ≡ true }
+    requires asks { due_by at_desk.old ≡ None }
     requires room { array_vec_len report.old ≤ 6 }
-    ensures running { is_running slot.new ≡ true }
-    ensures fits { FitsIn slot.new }
-    ensures exchanges { IfSome slot.old (λ job. Exchanges L.gives link.old link.new addr job slot.new
+    ensures running { is_running at_desk.new ≡ true }
+    ensures fits { FitsIn at_desk.new }
+    ensures exchanges { IfSome at_desk.old (λ job. Exchanges L.gives link.old link.new addr job at_desk.new
         report.old.items report.new.items) }
 {
-    let is_done = match slot {
+    let is_done = match at_desk {
         Some(job) => {
             converse(job, addr, link, report);
             tell_end(job, addr, report)
@@ -95,22 +96,27 @@ pub(crate) fn exchange<L: Link>(
         None => unreachable!(),
     };
     if is_done {
-        *slot = None;
+        *at_desk = None;
     }
 }
 
-/// The record of a desk's job was put, and the job goes on. A job that is then done leaves its slot, and the report has its
-/// end.
-pub(crate) fn put(slot: &mut Option<Job>, entry: Record, addr: u8, report: &mut ArrayVec<Entry, 8>)
-    requires there { is_some slot.old ≡ true }
-    requires due { due_by slot.old ≡ Some entry }
+/// The record of the job at a desk was put, which is a further entry, and the job goes on. A job that is then done leaves
+/// the desk, and the report has its end.
+pub(crate) fn put(
+    at_desk: &mut Option<Job>,
+    entry: Record,
+    addr: u8,
+    report: &mut ArrayVec<Entry, 8>,
+)
+    requires there { is_some at_desk.old ≡ true }
+    requires due { due_by at_desk.old ≡ Some entry }
     requires room { array_vec_len report.old ≤ 6 }
-    ensures running { is_running slot.new ≡ true }
-    ensures fits { FitsIn slot.new }
-    ensures puts { IfSome slot.old (λ job. Puts addr job entry slot.new report.old.items report.new.items) }
+    ensures running { is_running at_desk.new ≡ true }
+    ensures fits { FitsIn at_desk.new }
+    ensures puts { IfSome at_desk.old (λ job. Puts addr job entry at_desk.new report.old.items report.new.items) }
 {
     report.push(Entry::Put(entry));
-    let is_done = match slot {
+    let is_done = match at_desk {
         Some(job) => {
             job.go_on_after_put();
             tell_end(job, addr, report)
@@ -118,11 +124,11 @@ pub(crate) fn put(slot: &mut Option<Job>, entry: Record, addr: u8, report: &mut 
         None => unreachable!(),
     };
     if is_done {
-        *slot = None;
+        *at_desk = None;
     }
 }
 
-/// The report has the end of a job that is done. It tells whether the job is done.
+/// A job that is done adds its end to the report, and one that runs adds nothing. The answer is whether it is done.
 fn tell_end(job: &Job, addr: u8, report: &mut ArrayVec<Entry, 8>) -> bool
     requires { array_vec_len report.old < 8 }
     ensures done { result ≡ is_some (end_of_job job.now) }
