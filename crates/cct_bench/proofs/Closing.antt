@@ -41,7 +41,7 @@ pub bytes_weaker : (P Q : List ℕ → Type 0) (known : Option (List ℕ)) → (
     → OfBytes known P → OfBytes known Q
 bytes_weaker P Q known f h = (h.0, h.1, f h.0 h.2)
 
--- what is so before the first loss of power, by what is so of the first of the steps
+-- what is so before the first power cut, by what is so of the first of the steps
 pub early_right : (setup : Setup) (played : List Step) (transcript : List Entry)
     → ((first later : List Step) (told : List Entry) → played ≡ first ++ later
     → Legal most_records setup first told → IsRight setup told)
@@ -188,7 +188,7 @@ module _ (bytes : List ℕ) (how : Ending) (left : Option (List ℕ)) (disks : D
             (line p.transcript wrote),
       ) book
 
-  -- what a loss of power left is told
+  -- what a power cut left is told
   ran_lost : (answer : Result (Unit {0}) Failed) (why : CrashNo) (tail : List Entry) → tail ≡ listed (last_entry how)
       → ((P : CrashNo → Type 0) → P why → TellsOf P tail) → LastLine Before Written Breaks tail answer
       → Before p.transcript → OverLost disks (script bytes).setup (onto [] p.transcript) p.unplayed why
@@ -397,7 +397,7 @@ memory_completes left (Some image) First Second Third read write failed = (
 pub blank_first : (image : List ℕ) (at : ℕ) → IsBlank image → IsFirstByteFrom 0 image at → ⊥
 blank_first image at blank first = first.not_zero (blank at first.behind first.is_there)
 
--- where no step is a loss of power, none is the next
+-- where no step is a power cut, none is the next
 pub none_next : (played unplayed : List Step) → losses_in (played ++ unplayed) ≡ 0 → First IsCrash unplayed → ⊥
 none_next [] [] none next = next
 none_next [] (step.Crash at choice ∷ steps) none next = omega (arith, none)
@@ -417,7 +417,7 @@ told_so P Q (entry.JournalBad index ∷ []) so tells = so (crash_no.BadRecord in
 told_so P Q (entry.JournalLost found put ∷ []) so tells = so (crash_no.Lost found put) tells
 told_so P Q tail so tells = absurd tells
 
--- a step behind which no host starts again is a loss of power
+-- a step after which no host starts again is a power cut
 module _ (sure : Type 0) (Cut : ℕ → (ℕ → Option (List ℕ) → Type 0) → Type 0) (setup : Setup) (past : List Entry)
     (seen : Option (List ℕ)) where
   is_crash : (why : CrashNo) (s : Step) → LosesAt sure Cut setup past seen why s → IsCrash s

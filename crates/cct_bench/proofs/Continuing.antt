@@ -27,7 +27,7 @@ use Rattle.cct_bench.specs.Lines.{WithMoreTaken}
 use Rattle.cct_bench.specs.Source.{to_come}
 use Rattle.cct_bench.specs.Run.{ending_at}
 
--- a whole line, and more lines behind it
+-- a whole line, and more lines after it
 whole_line : (number : ℕ) (stage : Stage) (line : List ℕ) (lines : List (List ℕ)) → Begins lines →
     script_from number stage (line ∷ lines)
     ≡ goes_on number stage (read_line number stage line)
@@ -117,7 +117,7 @@ many_closes number stage held left going many some =
     byte_closes number stage kind.Lines held left some (λ line. many_line number stage line going many)
     (λ rest more. many_rest number stage rest going many more)
 
--- a byte behind the end
+-- a byte after the end
 trailing_closes : (number : ℕ) (setup : Setup) (held : List ℕ) (left : Option (List ℕ)) → 1 ≤ length held
     → IsClosed number (at_end setup) (Some kind.Trailing) left held
 trailing_closes number setup held left some =
@@ -189,7 +189,7 @@ cut_closes : (number : ℕ) (stage : Stage) (held : List ℕ) (left : Option (Li
 cut_closes number stage held left going none short end few =
     closed_at_end number stage (Some kind.Cut) held left none end (cut_rest number stage held going short few)
 
--- nothing stands behind the end
+-- nothing stands after the end
 end_closes : (number : ℕ) (setup : Setup) (held : List ℕ) (left : Option (List ℕ)) → held ≡ [] → IsAtEnd left
     → IsClosed number (at_end setup) None left held
 end_closes number setup [] left none end = closed_at_end number (at_end setup) None [] left refl end refl
@@ -297,7 +297,7 @@ module _ {S : Type 0} (takes : S → ℕ → Result ℕ Failed → S → Type 0)
   takes_before_end held kept before now (Err no.TooMany) line needed is = absurd cc
   takes_before_end held kept before now (Err no.Read) line needed is = absurd cc
 
-  -- a setup line that was given opens what is behind it
+  -- a setup line that was given opens what is after it
   pub opens_by : {old new : Standing} {before now : S} {number : ℕ} {stage : Stage}
       {answer : Result (Option (List ℕ)) LinesNo}
       (at : Answers old new (left before) (left now) number stage answer) (next : Stage) (line : List ℕ)
@@ -313,7 +313,7 @@ module _ {S : Type 0} (takes : S → ℕ → Result ℕ Failed → S → Type 0)
         needed = takes_before_end old.held new.held before now answer line needed is;
       }
 
--- what an answer tells behind the line `end`: nothing follows, or the script stops
+-- what an answer tells after the line `end`: nothing follows, or the script stops
 abbrev pub Ends : Standing → Option (List ℕ) → Option (List ℕ) → ℕ → Setup → Result (Unit {0}) ScriptStop → Type 0
 Ends old left_before left number setup (Ok done) =
     WithMoreTaken old.held left_before left (IsClosed number (at_end setup) None left)
@@ -357,7 +357,7 @@ answer_ends old new left_before left answer number setup end gives is =
     subst (Ends old left_before left number setup) is
     (reads_behind_end old new left_before left answer number setup gives)
 
--- a script that stops behind its line `end`
+-- a script that stops after its line `end`
 pub stops_end : (number : ℕ) (setup : Setup) (why : ScriptStop) (left : Option (List ℕ)) (held : List ℕ)
     → StopsAt number (at_end setup) why left held → EndsAt number setup (ending_at number why) left held
 stops_end number setup stop.Unread left held stops = stops

@@ -172,15 +172,15 @@ step_legal taken came held more rest number stage next setup played transcript r
     (legal_came taken came more played transcript legal)
     (subst (λ by. Entries most_records by (onto [] transcript) s (reverse report)) same entries)
 
--- a past that tells no loss of power may be relied on
+-- a past that tells no power cut may be relied on
 abbrev pub Trusts : (List Entry → Type 0) → Type 0
 Trusts Relies = (past : List Entry) → crashes past ≡ 0 → Relies past
 
--- what may be relied on behind some entries may be before them
+-- what may be relied on after some entries may be before them
 abbrev pub GoesBack : (List Entry → Type 0) → Type 0
 GoesBack Relies = (news past : List Entry) → Relies (news ++ past) → Relies past
 
--- A step goes on from what holds of any past to what holds behind its entries, oldest first: they are those of the step
+-- A step goes on from what holds of any past to what holds after its entries, oldest first: they are those of the step
 -- where the past with them may be relied on, and what the step takes for granted is so where it could be before.
 pub record Carries (Relies : List Entry → Type 0) (Before After : List Step → List Entry → Type 0) (setup : Setup) (s : Step)
     (WritesThem : List Entry → Type 0) : Type 0 where

@@ -118,7 +118,7 @@ module _ {D : Type 0} {g : Ghosts D} where
       (subst (λ disk. Survived relies (Cut disk) (setup_of world) played past) (sym is) holds.survived))
       (λ played past holds. ap g.cuts is ∙ holds.cut)
 
-  -- what holds of a machine does so behind a step that was played
+  -- what holds of a machine does so after a step that was played
   pub world_carried : (given last : D) (world : World D g) (After : List Entry → Type 0) (setup : Setup) (many : ℕ)
       (s : Step) (WritesThem : List Entry → Type 0) → setup ≡ setup_of world
       → Outlasts g.size g.honest g.seen g.cuts given (disk_of world)
@@ -185,7 +185,7 @@ module _ {D : Type 0} {g : Ghosts D} where
       (ready, tt, λ trusted. breaks past (holds.stands (inl trusted)) (on trusted))
   torn_over given left world s ready on breaks taken played unplayed past holds = absurd breaks
 
-  -- a loss of power left something else than what stood on the disk
+  -- a power cut left something else than what stood on the disk
   lost_over : (given left : D) (world : World D g) (why : CrashNo) (s : Step) → IsReady (g.size given) (g.seen given)
       → Outlasts g.size g.honest g.seen g.cuts given (disk_of world)
       → LastsIn s g.size g.honest g.seen g.cuts (disk_of world) left

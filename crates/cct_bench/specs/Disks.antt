@@ -35,10 +35,10 @@ module _ {D : Type 0} {g : Ghosts D} where
 
 -- What a run is told of its disk. As it was handed in: how many bytes it has, which bytes a read gives, where that is
 -- told, whether it is honest and tells them, and how often its power was cut. As it comes back: that each image that a
--- loss of power may leave on it is the book of records, the oldest first, or, where one was due, of these or of
+-- power cut may leave on it is the book of records, the oldest first, or, where one was due, of these or of
 -- these and that one, by a setup; which bytes a read then gives, where that is told; and how often its power was cut by then. And
 -- that in between its power was cut for this time, and something holds of the choice of the cut and of what a read gave
--- right behind it.
+-- right after it.
 pub record Disks : Type 1 where
   pub size : ℕ
   pub seen : Option (List ℕ)
@@ -65,7 +65,7 @@ module _ {D : Type 0} (size : D → ℕ) (honest : D → Bool) (seen : D → Opt
     cut_at = CutAt size honest seen cuts cut_to given back;
   }
 
--- Where a disk is trusted, each image that a loss of power may leave on it is the book of the past.
+-- Where a disk is trusted, each image that a power cut may leave on it is the book of the past.
 abbrev pub Books : {D : Type 0} → Setup → (D → Bool) → (D → Option (List ℕ)) → (D → List ℕ → Type 0) → D → List Entry
     → Type 0
 Books setup honest seen may_leave disk past =

@@ -35,7 +35,7 @@ before_end (Err no.Long) = Err (stop.Refused kind.Long)
 before_end (Err no.TooMany) = Err (stop.Refused kind.Lines)
 before_end (Err no.Read) = Err stop.Unread
 
--- What an answer is behind the line `end`, where nothing may follow.
+-- What an answer is after the line `end`, where nothing may follow.
 abbrev pub behind_end : Result (Option (List ℕ)) LinesNo → Result (Unit {0}) ScriptStop
 behind_end (Ok None) = Ok tt
 behind_end (Err no.Read) = Err stop.Unread
@@ -46,7 +46,7 @@ abbrev pub read_of : Result (Bor (List ℕ)) ScriptStop → Result (List ℕ) Sc
 read_of (Ok line) = Ok line.now
 read_of (Err why) = Err why
 
--- The first line of these bytes is this to the script, and the bytes behind it are the rest, whatever follows.
+-- The first line of these bytes is this to the script, and the bytes after it are the rest, whatever follows.
 abbrev pub ScriptGoesOn : ℕ → Stage → List ℕ → Read → List ℕ → Type 0
 ScriptGoesOn number stage held read rest =
     (more : List ℕ) → said_from number stage (held ++ more) ≡ goes_on number stage read
@@ -62,7 +62,7 @@ abbrev pub StopsAt : ℕ → Stage → ScriptStop → Option (List ℕ) → List
 StopsAt number stage stop.Unread left held = position is_line_feed held ≡ None
 StopsAt number stage (stop.Refused why) left held = IsClosed number stage (Some why) left held
 
--- How the steps of a script end behind its line `end`, where the next line has this number: nothing follows, or it is
+-- How the steps of a script end after its line `end`, where the next line has this number: nothing follows, or it is
 -- read no further.
 abbrev pub EndsAt : ℕ → Setup → Ending → Option (List ℕ) → List ℕ → Type 0
 EndsAt number setup ending.Done left held = IsClosed number (at_end setup) None left held
@@ -71,6 +71,6 @@ EndsAt number setup (ending.Refused line why) left held =
 EndsAt number setup ending.Unread left held = position is_line_feed held ≡ None
 EndsAt number setup how left held = ⊥
 
--- More bytes came from the source behind those held, and then this holds of all of them.
+-- More bytes came from the source after those held, and then this holds of all of them.
 abbrev pub WithMoreTaken : List ℕ → Option (List ℕ) → Option (List ℕ) → (List ℕ → Type 0) → Type 0
 WithMoreTaken held left_before left P = (came : List ℕ) × Consumes left_before left came × P (held ++ came)

@@ -42,8 +42,8 @@ module _ (disks : Disks) (seed rounds : ℕ) (played unplayed : List Step) (past
 
   -- What is told of a load by its own lines and by a last line, by its status, and what had been played then. With no
   -- last line all steps were played, and all is told. A fault of the disk comes before the first line, in a `next` that
-  -- was about to put a record, or in a loss of power; a disk that isn't blank is told by its first byte that isn't 0, and
-  -- one of another size by that, before the first line. Another journal than was there comes in a loss of power alone,
+  -- was about to put a record, or in a power cut; a disk that isn't blank is told by its first byte that isn't 0, and
+  -- one of another size by that, before the first line. Another journal than was there comes in a power cut alone,
   -- and is told as it then is on the disk that comes back. Where a step wasn't played, none of the load's own lines but
   -- the first is told.
   abbrev pub LoadCloses : Status → List Entry → List Entry → Type 0

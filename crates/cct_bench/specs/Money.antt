@@ -8,7 +8,7 @@ use Rattle.cct_laws.specs.Right.{IsRight}
 use Rattle.cct_world.specs.Early.{BeforeLoss}
 use Rattle.cct_bench.specs.Disks.{most_records}
 
--- The entries of the steps before the first loss of power are legal, and their money is right.
+-- The entries of the steps before the first power cut are legal, and their money is right.
 abbrev pub RightBeforeLoss : Setup → List Step → List Entry → Type 0
 RightBeforeLoss setup played transcript =
     BeforeLoss played transcript (λ first told. Legal most_records setup first told × IsRight setup told)

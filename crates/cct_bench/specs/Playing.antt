@@ -28,16 +28,16 @@ pub record CanPlay (setup : Setup) (s : Step) : Type 0 where
   pub known : IsTrue (is_known setup s)
   pub played : IsTrue (is_played s)
 
--- A step gives these entries, oldest first, whatever is behind it, where a record that it puts suits those before it,
--- and the disk is trusted if it is a loss of power: one past stands for what was before, and the past with them for
+-- A step gives these entries, oldest first, whatever is after it, where a record that it puts suits those before it,
+-- and the disk is trusted if it is a power cut: one past stands for what was before, and the past with them for
 -- what is after.
 abbrev pub Plays : Type 0 → (List Entry → Type 0) → (List Entry → Type 0) → Setup → Step → List Entry → Type 0
 Plays trusted Before After setup s report =
     (past : List Entry) → Before past → StepSuits setup past s → Survives trusted s
     → Entries most_records setup past s (reverse report) × After (reverse report ++ past)
 
--- A step was played, and just a loss of power tells one; this holds of the cuts of the disk. So many records were
--- counted before it, and so many after it, just those more that it tells; behind a loss of power a read gives these
+-- A step was played, and just a power cut tells one; this holds of the cuts of the disk. So many records were
+-- counted before it, and so many after it, just those more that it tells; after a power cut a read gives these
 -- bytes. Its entries were written so, which holds by the answer.
 pub record PlaysOn (trusted : Type 0) (Before After : List Entry → Type 0) (setup : Setup) (s : Step) (Cut : Type 0)
     (used many : ℕ) (seen : Option (List ℕ)) (WritesThem : List Entry → Type 0) : Type 0 where

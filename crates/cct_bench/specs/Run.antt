@@ -56,7 +56,7 @@ pub record BreaksOff (Relies : List Entry → Type 0) (setup : Setup) (played : 
 abbrev pub IsUntouched : List ℕ → List Step → Type 0
 IsUntouched taken played = (taken ≡ []) × (played ≡ [])
 
--- A last line tells why no host starts again behind a loss of power, and this holds of what it tells: that there is no
+-- A last line tells why no host starts again after a power cut, and this holds of what it tells: that there is no
 -- journal, that a record can't be read or doesn't follow, or that there are other records than were put.
 abbrev pub TellsOf : (CrashNo → Type 0) → List Entry → Type 0
 TellsOf P (entry.JournalAlien ∷ []) = P crash_no.Alien
@@ -64,17 +64,17 @@ TellsOf P (entry.JournalBad index ∷ []) = P (crash_no.BadRecord index)
 TellsOf P (entry.JournalLost found put ∷ []) = P (crash_no.Lost found put)
 TellsOf P tail = ⊥
 
--- A last line tells that a loss of power left another journal than was there.
+-- A last line tells that a power cut left another journal than was there.
 abbrev pub TellsLoss : List Entry → Type 0
 TellsLoss = TellsOf (λ why. ⊤)
 
--- The first step that wasn't played behind a past is a loss of power, and this is why no host starts again over what the
+-- The first step that wasn't played after a past is a power cut, and this is why no host starts again over what the
 -- disk then has that comes back.
 abbrev pub EndsLost : Disks → Setup → List Entry → List Step → CrashNo → Type 0
 EndsLost disks setup past unplayed why =
     First (LosesAt (IsReliable disks.trusted past) disks.cut_at setup past disks.seen_after why) unplayed
 
--- What a loss of power may leave on the disk behind a past, by the last line, where these steps weren't played: each
+-- What a power cut may leave on the disk after a past, by the last line, where these steps weren't played: each
 -- image stands for the records of the past; or, where the disk failed in a step with a record that was due, for these
 -- or for these and that record.
 abbrev pub RecordsLeftByLine : Disks → Setup → List Step → List Entry → List Entry → Type 0
@@ -87,9 +87,9 @@ RecordsLeftByLine disks setup unplayed past tail = disks.leaves setup None (reve
 module _ (disks : Disks) (bytes taken : List ℕ) (played unplayed : List Step) (transcript : List Entry) where
   -- The last line of a run, and what had been played then: none at the script's end, that of its first refused line, or
   -- that of a fault in reading, where every step was played whose line stands whole in the bytes taken. A fault of the
-  -- disk comes before the first byte of the script, in a `next` that was about to put a record, or in a loss of power;
+  -- disk comes before the first byte of the script, in a `next` that was about to put a record, or in a power cut;
   -- a disk that isn't blank is told by its first byte that isn't 0, and one of another size by that, before the first
-  -- byte of the script. Another journal than was there comes in a loss of power alone, and is told as it then is on the
+  -- byte of the script. Another journal than was there comes in a power cut alone, and is told as it then is on the
   -- disk that comes back.
   abbrev pub Closes : Status → List Entry → Type 0
   Closes status.Done tail =
@@ -126,11 +126,11 @@ module _ (disks : Disks) (bytes taken : List ℕ) (played unplayed : List Step) 
 -- line; what it wrote, where `Written` holds of entries that were written whole, and `Breaks` where a put failed in the
 -- second list; and what it left on its disk, once a byte of the script was taken. The bytes are those taken and those
 -- still to come; a source that tells none is taken to have no more.
--- Where the disk was trusted, or no loss of power is told, the entries are those of the steps, and the money is right.
--- Over any disk both are so of the steps before the first loss of power.
+-- Where the disk was trusted, or no power cut is told, the entries are those of the steps, and the money is right.
+-- Over any disk both are so of the steps before the first power cut.
 -- The last line tells a fault of the source or of the disk only where this one failed, also where it was torn.
--- Over any disk each step that is a loss of power is told, and no other is, and behind each of them a host started again
--- rightly, by what the disk told right behind that cut; on a trusted disk no loss of power leaves another journal than
+-- Over any disk each step that is a power cut is told, and no other is, and after each of them a host started again
+-- rightly, by what the disk told right after that cut; on a trusted disk no power cut leaves another journal than
 -- was there. The power was cut at least as often as is told, and just so often where the step that comes next is none.
 pub record Ran (bytes : List ℕ) (s : Status) (left : Option (List ℕ)) (Written : List Entry → Type 0)
     (Breaks : List Entry → List Entry → Type 0) (disks : Disks) (source_failed disk_failed : Type 0) : Type 0 where
@@ -218,8 +218,8 @@ Over disks (ending.Unplayed why) setup taken played unplayed past = OverLost dis
 Over disks how setup taken played unplayed past =
     IsReady disks.size disks.seen × (disks.trusted → disks.leaves setup None (reverse (records past)))
 
--- Beside that, behind each loss of power a host started again; and the power of the disk was cut at least as often as the
--- past tells, and just so often where no loss of power is the step that comes next.
+-- Beside that, after each power cut a host started again; and the power of the disk was cut at least as often as the
+-- past tells, and just so often where no power cut is the step that comes next.
 pub record OverCut (disks : Disks) (how : Ending) (setup : Setup) (taken : List ℕ) (played unplayed : List Step)
     (past : List Entry) : Type 0 where
   pub over : Over disks how setup taken played unplayed past

@@ -13,7 +13,7 @@ abbrev pub whole_lines : List (List ℕ) → List ℕ
 whole_lines [] = []
 whole_lines (line ∷ lines) = line ++ 10 ∷ whole_lines lines
 
--- Lines from this number on, none of them refused and none a step, and the number and the stage behind them.
+-- Lines from this number on, none of them refused and none a step, and the number and the stage after them.
 abbrev pub OpenedBy : ℕ → Stage → List (List ℕ) → ℕ → Stage → Type 0
 OpenedBy number stage [] last behind = (number ≡ last) × (stage ≡ behind)
 OpenedBy number stage (line ∷ lines) last behind =
@@ -22,7 +22,7 @@ OpenedBy number stage (line ∷ lines) last behind =
 
 -- of a source of which is known what a take does, and which bytes it tells as left
 module _ {S : Type 0} (takes : S → ℕ → Result ℕ Failed → S → Type 0) (left : S → Option (List ℕ)) where
-  -- The bytes held and those that came are a whole line of this number, which leaves a stage, and the bytes behind it;
+  -- The bytes held and those that came are a whole line of this number, which leaves a stage, and the bytes after it;
   -- and the source was taken from only while no line feed was held.
   pub record OpensLine (number : ℕ) (stage next : Stage) (held rest : List ℕ) (before now : S) : Type 0 where
     pub line : List ℕ
@@ -31,7 +31,7 @@ module _ {S : Type 0} (takes : S → ℕ → Result ℕ Failed → S → Type 0)
     pub reads : read_line number stage line ≡ opens next
     pub needed : TakesOn takes left held before (line ++ 10 ∷ rest) now
 
-  -- The takes that whole lines needed, each line from what was held behind the one before: none was made once the line
+  -- The takes that whole lines needed, each line from what was held after the one before: none was made once the line
   -- feed of the last one was held.
   abbrev pub TakesForLines : List ℕ → S → List (List ℕ) → List ℕ → S → Type 0
   TakesForLines held before [] rest now = (rest ≡ held) × (now ≡ before)
@@ -39,7 +39,7 @@ module _ {S : Type 0} (takes : S → ℕ → Result ℕ Failed → S → Type 0)
       (kept : List ℕ) × (between : S) × TakesOn takes left held before (line ++ 10 ∷ kept) between
       × TakesForLines kept between lines rest now
 
-  -- What was taken of a script are whole lines of its setup that leave this number and this stage, and bytes behind
+  -- What was taken of a script are whole lines of its setup that leave this number and this stage, and bytes after
   -- them that are held; and it was taken by just the takes that those lines needed.
   pub record TookOpening (before now : S) (held : List ℕ) (number : ℕ) (stage : Stage) : Type 0 where
     pub lines : List (List ℕ)

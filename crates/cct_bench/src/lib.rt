@@ -54,7 +54,7 @@ pub use outcome::Status;
 ///
 /// The script is taken from its source a line at a time, and each step's entries are written before the next line is
 /// read. All buffers are of fixed size, and are taken at once before the first byte of the script; the machine is built
-/// behind the line `begin`, before anything is written. A report only reads the disk. A load builds its machine before
+/// after the line `begin`, before anything is written. A report only reads the disk. A load builds its machine before
 /// anything is written, and writes no entry of a step. Both take nothing of the script.
 pub fn bench<S: Source, K: Sink, D: Disk>(
     alloc: Global,
@@ -65,8 +65,8 @@ pub fn bench<S: Source, K: Sink, D: Disk>(
 ) -> (Status, D)
     // With the word `run`: what was taken, played and written, of the bytes that the source tells, or of some where it
     // tells none; that over an honest wire the posts of each device are in order and cover its coins, and each order of
-    // a hopper is paid at most once, where the disk was trusted or no loss of power is told, and over any disk up to the
-    // first loss of power; over any disk, that after each loss of power a host started again rightly, or why none did;
+    // a hopper is paid at most once, where the disk was trusted or no power cut is told, and over any disk up to the
+    // first power cut; over any disk, that after each power cut a host started again rightly, or why none did;
     // and what is left on the disk.
     ensures ran { said_in words.now ≡ Some Words.Run → OfBytes (S.left script.old) (λ bytes.
         Ran bytes result.0 (S.left script.new)
@@ -126,7 +126,7 @@ pub fn bench<S: Source, K: Sink, D: Disk>(
     ensures sink_goes_on { Serves K.written K.faults out.old out.new ⊥ }
     ensures disk_goes_on { DiskServes D.size D.honest D.seen D.cuts D.faults disk result.1 ⊥ ⊥ }
 
-    // On a blank disk, which is honest or where no step is a loss of power, and with no fault, the script alone
+    // On a blank disk, which is honest or where no step is a power cut, and with no fault, the script alone
     // decides, but for want of memory.
     ensures complete { said_in words.now ≡ Some Words.Run → OfBytes (S.left script.old) (λ bytes.
         IfSome (D.seen disk) (λ image. D.size disk ≡ JOURNAL_BYTES → IsBlank image
@@ -139,7 +139,7 @@ pub fn bench<S: Source, K: Sink, D: Disk>(
         → (Rose (K.faults out.old) (K.faults out.new) → ⊥) → (Rose (D.faults disk) (D.faults result.1) → ⊥)
         → IsDecided (D.size disk) image result.0 }
 
-    // On a blank disk, which is honest or where no step is a loss of power, and with no fault, a load is done, but for
+    // On a blank disk, which is honest or where no step is a power cut, and with no fault, a load is done, but for
     // want of memory.
     ensures load_complete { (seed rounds : ℕ) → said_in words.now ≡ Some (Words.Load seed rounds)
         → IfSome (D.seen disk) (λ image. D.size disk ≡ JOURNAL_BYTES → IsBlank image

@@ -15,7 +15,7 @@ pub enum Status {
     ReadFault,
     /// 4: writing the transcript failed. What was written is a front of it.
     WriteFault,
-    /// 5: a call of the disk failed, in a put or in a loss of power: `diskfault`. Whether the record that was being put
+    /// 5: a call of the disk failed, in a put or in a power cut: `diskfault`. Whether the record that was being put
     /// stands on the disk is open.
     DiskFault,
     /// 6: a byte of the disk isn't 0, which is told by the first such place: `notblank PLACE`.
@@ -24,7 +24,7 @@ pub enum Status {
     DiskSize,
     /// 8: there was no memory for the run. Nothing was written.
     OutOfMemory,
-    /// 9: behind a loss of power the disk isn't the one that it was: it has no journal (`journal alien`), one with a
+    /// 9: after a power cut the disk isn't the one that it was: it has no journal (`journal alien`), one with a
     /// record that can't be read or doesn't follow those before it (`journal bad INDEX`), or other records than those
     /// that were put (`journal lost FOUND PUT`).
     JournalLost,

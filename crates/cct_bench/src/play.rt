@@ -180,7 +180,7 @@ impl ScriptDesk {
         }
     }
 
-    /// Ends the steps of a script behind its line `end`: the next line has this number.
+    /// Ends the steps of a script after its line `end`: the next line has this number.
     fn finish<S: Source>(&mut self, number: u32, script: &mut S) -> Ending
         ensures ended { (setup : Setup) → WithMoreTaken (standing_of self.old.lines).held (S.left script.old)
             (S.left script.new) (EndsAt number setup result (S.left script.new)) }

@@ -1,5 +1,6 @@
 -- One attempt of a job at a place, and what it leaves.
 use Rattle.std.proofs.Common.{◌≡◌, ℕ, zero, suc, List, [], ◌∷◌, ◌++◌, append_assoc, reverse, refl, sym, ap, subst, ◌∙◌, Option, Some, None}
+use Rattle.std.specs.Prelude.{is_some, true}
 use Rattle.std.specs.Option.{IfSome}
 use Rattle.cct_model.specs.terms.wire.TheConstants.{HOST}
 use Rattle.cct_model.specs.terms.device.DeviceSetup.{DeviceSetup}
@@ -27,20 +28,24 @@ use Rattle.cct_model.specs.Records.{id_of}
 use Rattle.cct_model.specs.Scan.{end_of_scan}
 use Rattle.cct_model.specs.Transcript.{lines_of, owner, sale_lines, scan_line, sold_line}
 use Rattle.cct_jobs.specs.declared.job.Job.{Job}
-use Rattle.cct_jobs.specs.declared.job.Need.{Need}
 use Rattle.cct_jobs.specs.declared.job.Need.TheVariants as need
 use Rattle.cct_jobs.specs.declared.owed.Owed.{Owed}
 use Rattle.cct_host.specs.declared.orders.OrderState.{OrderState}
-use Rattle.cct_jobs.specs.Jobs.{ClosesItsOwn, Needs, PutsNext, Stands, line_heard, order_of}
+use Rattle.cct_jobs.specs.Jobs.{ClosesItsOwn, Needs, PutsNext, Stands, after_put, line_heard, need_of, order_of, owed_after}
 use Rattle.cct_jobs.specs.Sales.{NeedsSale, StandsSale}
 use Rattle.cct_jobs.specs.Scans.{NeedsScan, StandsScan}
+use Rattle.cct_jobs.proofs.Epochs.{put_leaves}
+use Rattle.cct_jobs.proofs.Needs.{need_known, put_is, scan_need_known}
+use Rattle.cct_jobs.proofs.Orders.{put_owes}
+use Rattle.cct_jobs.proofs.Sales.{put_sells, sale_need_known, sale_owes}
 use Rattle.cct_host.specs.declared.desk.JobDesk.{JobDesk}
 use Rattle.cct_host.specs.Attempt as attempt
 use Rattle.cct_host.specs.Desk.{Attempts, Goes, Keeps, Knows, Works}
-use Rattle.cct_host.specs.Exchange.{Converses, Ends, Talks}
+use Rattle.cct_host.specs.Exchange.{Converses, Ends, Exchanges, Puts, Talks}
 use Rattle.cct_host.specs.Held.{due_by}
 use Rattle.cct_host.specs.Place.{Asks, AsksNext, NextAt, OwnsAt, Place, StandsAt, addr_of, device, end_at, line_at, lines_at, sales, scans}
-use Rattle.cct_host.specs.Running.{Settles, orders_left}
+use Rattle.cct_host.specs.Running.{Settles, is_running, orders_left}
+use Rattle.cct_host.proofs.Holding.{asks_where_none}
 use Rattle.cct_host.proofs.Keeps.{asked_keeps, knows_same, left_keeps, put_keeps, sold_keeps}
 use Rattle.cct_host.proofs.Lines.{HasExchanges, dosed_at, end_at_too, epoch_dosed, idle_at, idle_line, job_dosed, order_dosed, own_wire, put_at, wire_at}
 
@@ -67,17 +72,6 @@ pub record SellsOn (old new : Job) (r : Record) (before after : Option Owed) : T
 -- it is no scan
 abbrev IsNoScan : Job → Type 0
 IsNoScan job = (since : List Line) → StandsScan job since → ⊥
-
--- what a job needs, wherever it is
-abbrev NeedsAt : Job → Need → Type 0
-NeedsAt job n = (d : DeviceSetup) (c : Command) (since : List Line) (state : EpochState) (owed : Option OpenOrder)
-    → Stands d job c since state owed → Needs n d c since state owed
-
-abbrev NeedsScanning : Job → Need → Type 0
-NeedsScanning job n = (since : List Line) → StandsScan job since → NeedsScan n since
-
-abbrev NeedsSelling : Job → Need → Type 0
-NeedsSelling job n = (c : Command) (since : List Line) → StandsSale job c since → NeedsSale n c since
 
 -- who asks makes exchanges
 has_exchanges : (place : Place) (c : Command) (since : List Line) (n : EpochState) (owed : Option OpenOrder)
@@ -325,38 +319,60 @@ put_attempts gives link addr old new r state owed moves desk used end report tol
     }
 
 -- what a job needs, wherever it is
-pub asks_next : (n : Need) (job : Job) → n ≡ need.Exchange → NeedsAt job n → NeedsScanning job n → NeedsSelling job n
-    → AsksOn job
-asks_next n job is row scan sale (device d) c since state owed stands =
-    subst (λ k. Needs k d c since state owed) is (row d c since state owed stands)
-asks_next n job is row scan sale scans c since state owed stands =
-    subst (λ k. NeedsScan k since) is (scan since stands)
-asks_next n job is row scan sale sales c since state owed stands =
-    subst (λ k. NeedsSale k c since) is (sale c since stands)
+asks_next : (job : Job) → need_of job ≡ need.Exchange → AsksOn job
+asks_next job is (device d) c since state owed stands =
+    subst (λ n. Needs n d c since state owed) is (need_known d job c since state owed _ refl stands)
+asks_next job is scans c since state owed stands =
+    subst (λ n. NeedsScan n since) is (scan_need_known job since _ refl stands)
+asks_next job is sales c since state owed stands =
+    subst (λ n. NeedsSale n c since) is (sale_need_known job c since _ refl stands)
 
-pub puts_next : (n : Need) (old new : Job) (r : Record) (before after : Option Owed) → n ≡ need.Put r → NeedsAt old n
-    → ((d : DeviceSetup) (c : Command) (since : List Line) (state later : EpochState) (owed : Option OpenOrder)
-    → Stands d old c since state owed → Stands d new c (line.put r ∷ since) later (order_by r owed))
-    → ((d : DeviceSetup) (c : Command) (since : List Line) (state : EpochState)
-    → Stands d old c since state (order_of before) → order_of after ≡ order_by r (order_of before))
-    → PutsOn old new r before after
-puts_next n old new r before after is row goes owes = record {
+puts_next : (job : Job) (r : Record) (before after : Option Owed) → need_of job ≡ need.Put r
+    → after ≡ owed_after job before → PutsOn job (after_put job) r before after
+puts_next job r before after is ordered = record {
   needs = λ d c since state owed stands.
-      subst (λ k. Needs k d c since state owed) is (row d c since state owed stands);
-  goes = goes;
-  owes = owes;
+      subst (λ n. Needs n d c since state owed) is (need_known d job c since state owed _ refl stands);
+  goes = λ d c since state later owed stands. put_leaves d job c since state later owed r is stands;
+  owes = λ d c since state stands. put_owes d job c since state before after r ordered is stands;
 }
 
-pub sells_next : (n : Need) (old new : Job) (r : Record) (before after : Option Owed) → n ≡ need.Put r
-    → NeedsSelling old n
-    → ((c : Command) (since : List Line) → StandsSale old c since → StandsSale new c (line.put r ∷ since))
-    → ((c : Command) (since : List Line) → StandsSale old c since → after ≡ before)
-    → SellsOn old new r before after
-sells_next n old new r before after is sale goes owes = record {
-  needs = λ c since stands. subst (λ k. NeedsSale k c since) is (sale c since stands);
-  goes = goes;
-  owes = owes;
+sells_next : (job : Job) (r : Record) (before after : Option Owed) → need_of job ≡ need.Put r
+    → after ≡ owed_after job before → SellsOn job (after_put job) r before after
+sells_next job r before after is ordered = record {
+  needs = λ c since stands. subst (λ n. NeedsSale n c since) is (sale_need_known job c since _ refl stands);
+  goes = λ c since stands. put_sells job (after_put job) c since r refl is stands;
+  owes = λ c since stands. sale_owes job c since before after ordered stands;
 }
 
-pub no_scan : (n : Need) (job : Job) (r : Record) → n ≡ need.Put r → NeedsScanning job n → IsNoScan job
-no_scan n job r is scan since stands = subst (λ k. NeedsScan k since) is (scan since stands)
+no_scan : (job : Job) (r : Record) → need_of job ≡ need.Put r → IsNoScan job
+no_scan job r is since stands = subst (λ n. NeedsScan n since) is (scan_need_known job since _ refl stands)
+
+-- the job at a desk makes an exchange, and this stays of it
+pub desk_asks : {L : Type 0} (gives : L → List ℕ → List ℕ → L → Type 0) (before after : L) (addr : ℕ) (job : Option Job)
+    (state : EpochState) (owed : OrderState) (desk : JobDesk) (report reported : List Entry)
+    → is_some job ≡ true → is_running job ≡ true → due_by job ≡ None
+    → IfSome job (λ old. Exchanges gives before after addr old desk.job report reported)
+    → desk.epoch ≡ state → desk.orders ≡ orders_left desk.job owed
+    → Attempts gives before after addr job state owed desk 0 report reported
+desk_asks gives before after addr None state owed desk report reported there runs none exchanges same ordered = absurd cc
+desk_asks gives before after addr (Some job) state owed desk report reported there runs none exchanges same ordered =
+    ask_attempts gives before after addr job exchanges.new state owed desk _ report exchanges.told reported
+    (asks_next job (asks_where_none job runs none)) none exchanges.converses exchanges.ends exchanges.settles same
+    ordered
+
+-- or puts the record that was due
+pub desk_puts : {L : Type 0} (gives : L → List ℕ → List ℕ → L → Type 0) (link : L) (addr : ℕ) (job : Option Job)
+    (r : Record) (state : EpochState) (owed : OrderState) (after : Option Owed) (desk : JobDesk) (used : ℕ)
+    (report reported : List Entry)
+    → is_some job ≡ true → due_by job ≡ Some r → IfSome job (λ old. after ≡ owed_after old owed.order)
+    → IfSome job (λ old. Puts addr old r desk.job report reported)
+    → desk.epoch ≡ model.epoch_by r state → desk.orders ≡ orders_left desk.job (record { order = after; id = owed.id })
+    → used ≡ id_of r → Attempts gives link link addr job state owed desk used report reported
+desk_puts gives link addr None r state owed after desk used report reported there due ordered puts moved left used_is =
+    absurd cc
+desk_puts gives link addr (Some job) r state owed after desk used report reported there due ordered puts moved left
+    used_is =
+    let is = sym (put_is (need_of job) r (sym due)) in
+    put_attempts gives link addr job (after_put job) r state owed (record { order = after; id = owed.id }) desk used _
+    report _ reported (puts_next job r owed.order after is ordered) due (no_scan job r is)
+    (sells_next job r owed.order after is ordered) refl puts.ends refl puts.settles moved left used_is

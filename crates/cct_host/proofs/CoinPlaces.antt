@@ -38,7 +38,7 @@ place_first place low high =
     places_from (place - 1) below ∙ ap (λ p. p ∷ drop (place - 1 + 1) coin_places) same
     ∙ ap (λ n. place ∷ drop n coin_places) next
 
--- it is this one, or it is looked for behind it
+-- it is this one, or it is looked for after it
 pub found_here : (body : DeviceBody) (mask place : ℕ) → 1 ≤ place → place ≤ 16 → lacks body mask place ≡ true
     → found_from body mask place ≡ Some place
 found_here body mask place low high test =
@@ -51,7 +51,7 @@ found_behind body mask place low high test =
     sym (ap (find (lacks body mask)) (place_first place low high)
     ∙ ap (λ b. cond b (Some place) (found_from body mask (place + 1))) test)
 
--- behind the last one there is none
+-- after the last one there is none
 pub found_nowhere : (body : DeviceBody) (mask place : ℕ) → found_from body mask place ≡ found_from body mask 1
     → place ≡ 17 → None ≡ found_from body mask 1
 found_nowhere body mask place found last = sym (ap (found_from body mask) last) ∙ found

@@ -45,7 +45,7 @@ use Rattle.cct_host.specs.Held.{coins_by, due_by, held_by, order_left, price_by,
 use Rattle.cct_host.specs.Place.{device, sales}
 use Rattle.cct_host.specs.Running.{is_running}
 
--- a job puts two records at the most
+-- a job puts two records at most
 
 few_stage : (stage : Stage) (target : Target) → puts_in (stage_ahead target stage) ≤ 2
 few_stage (Reads Round recorded) target = omega arith

@@ -1,6 +1,6 @@
 -- How what a desk holds and reserves changes, whatever happened before.
 use Rattle.std.proofs.Common.{◌≡◌, ℕ, ◌+◌, ◌≤◌, Bool, true, false, List, [], ◌∷◌, refl, sym, ap, subst, ◌∙◌, Option, Some, None, arith}
-use Rattle.std.specs.Prelude.{IsTrue, is_some}
+use Rattle.std.specs.Prelude.{IsTrue, is_some, not}
 use Rattle.cct_model.specs.terms.device.DeviceSetup.{DeviceSetup}
 use Rattle.cct_model.specs.terms.device.Setup.{Setup}
 use Rattle.cct_model.specs.Exchange.{device_at}
@@ -27,12 +27,16 @@ use Rattle.cct_jobs.specs.declared.job.Job.TheVariants.{StartPuts, RoundPuts, St
 use Rattle.cct_jobs.specs.declared.job.Need.{Need}
 use Rattle.cct_jobs.specs.declared.job.Need.TheVariants as need
 use Rattle.cct_jobs.specs.Ahead.{ahead, coins_in, price_in}
-use Rattle.cct_jobs.specs.Jobs.{IsPut, after_put, end_of_job, is_of_device, need_of, order_of, put_in}
+use Rattle.cct_jobs.specs.Jobs.{IsPut, after_put, end_in, end_of_job, is_of_device, need_of, order_of, put_in}
 use Rattle.cct_jobs.specs.Onward.{KeepsTo}
 use Rattle.cct_jobs.specs.Sales.{StandsSale}
 use Rattle.cct_host.specs.declared.orders.OrderState.{OrderState}
+use Rattle.cct_jobs.proofs.Needs.{fewer_after, put_is}
+use Rattle.cct_host.specs.declared.desk.JobDesk.{JobDesk}
+use Rattle.cct_host.specs.Desk.{Frees}
+use Rattle.cct_host.specs.Exchange.{Exchanges, Puts}
 use Rattle.cct_host.specs.Held.{coins_by, due_by, held_by, order_left, price_by, puts_left, sells_only}
-use Rattle.cct_host.specs.Running.{Settles, busy_by, halting_refusal, is_halt, needed, refusal_beside, rows_begun, sale_refusal, seen_at}
+use Rattle.cct_host.specs.Running.{Settles, busy_by, halting_refusal, is_halt, is_running, needed, refusal_beside, rows_begun, sale_refusal, seen_at}
 use Rattle.cct_laws.proofs.jobs.Tests.{Pass, all_pass}
 use Rattle.cct_host.proofs.Commands.{owed_where_free}
 
@@ -44,7 +48,7 @@ put_left_by None new kept addr report reported settled =
 put_left_by (Some end) new kept addr report reported settled =
     subst (λ k. puts_left k ≤ puts_in (ahead new)) (sym settled.0) (omega arith)
 
-pub put_left : (new : Job) (kept : Option Job) (addr : ℕ) (report reported : List Entry)
+put_left : (new : Job) (kept : Option Job) (addr : ℕ) (report reported : List Entry)
     → Settles (end_of_job new) new addr kept report reported → puts_left kept ≤ puts_in (ahead new)
 put_left new kept addr report reported settled = put_left_by (end_of_job new) new kept addr report reported settled
 
@@ -57,11 +61,21 @@ coins_left_by (Some end) old new kept addr report reported less settled =
     subst (λ k. coins_by k ≤ coins_by (Some old)) (sym settled.0) (omega arith)
 
 -- after an exchange
-pub ask_reserves : (old new : Job) (kept : Option Job) (addr : ℕ) (report reported : List Entry)
+
+ask_reserves : (old new : Job) (kept : Option Job) (addr : ℕ) (report reported : List Entry)
     → KeepsTo (ahead old) new → Settles (end_of_job new) new addr kept report reported
     → coins_by kept ≤ coins_by (Some old)
 ask_reserves old new kept addr report reported less settled =
     coins_left_by (end_of_job new) old new kept addr report reported less settled
+
+-- a job that runs and is about to put nothing asks
+asks_by : (n : Need) → not (is_some (end_in n)) ≡ true → put_in n ≡ None → n ≡ need.Exchange
+asks_by need.Exchange runs none = refl
+asks_by (need.Put r) runs none = absurd cc
+asks_by (need.Done end) runs none = absurd cc
+
+pub asks_where_none : (job : Job) → is_running (Some job) ≡ true → due_by (Some job) ≡ None → need_of job ≡ need.Exchange
+asks_where_none job runs none = asks_by (need_of job) runs none
 
 -- after a put
 
@@ -81,36 +95,71 @@ none_after : (end : Option End) (new : Job) (kept : Option Job) (addr : ℕ) (re
 none_after None new kept addr report reported none settled = ap coins_by settled.0 ∙ none
 none_after (Some end) new kept addr report reported none settled = ap coins_by settled.0
 
-pub put_clears : (job new : Job) (kept : Option Job) (addr : ℕ) (report reported : List Entry)
+put_clears : (job new : Job) (kept : Option Job) (addr : ℕ) (report reported : List Entry)
     → IsPut (need_of job) → new ≡ after_put job → Settles (end_of_job new) new addr kept report reported
     → coins_by kept ≡ 0
 put_clears job new kept addr report reported is goes settled =
     none_after (end_of_job new) new kept addr report reported (ap (λ j. coins_in (ahead j)) goes ∙ coins_put job is) settled
 
 -- a sale asks nothing, and its put ends it
-pub sale_never_asks : (job : Job) (P : Type 0) → sells_only (Some job) ≡ true → need_of job ≡ need.Exchange → P
+sale_never_asks : (job : Job) (P : Type 0) → sells_only (Some job) ≡ true → need_of job ≡ need.Exchange → P
 sale_never_asks (SalePuts id price) P sells asks = absurd cc
 sale_never_asks job P sells asks = absurd cc
 
-pub put_ends_sale : (job new : Job) (kept : Option Job) (addr : ℕ) (report reported : List Entry)
+put_ends_sale : (job new : Job) (kept : Option Job) (addr : ℕ) (report reported : List Entry)
     → sells_only (Some job) ≡ true → new ≡ after_put job → Settles (end_of_job new) new addr kept report reported
     → kept ≡ None
 put_ends_sale (SalePuts id price) new kept addr report reported sells goes settled =
     (subst (λ j. Settles (end_of_job j) j addr kept report reported) goes settled).0
 put_ends_sale job new kept addr report reported sells goes settled = absurd cc
 
--- a need of a put is one
-pub is_put_by : (n : Need) (r : Record) → n ≡ need.Put r → IsPut n
-is_put_by n r is = subst IsPut (sym is) tt
+-- a job that is about to put a record needs that
+is_put_by : (n : Need) (r : Record) → put_in n ≡ Some r → IsPut n
+is_put_by n r due = subst IsPut (put_is n r (sym due)) tt
 
 -- where something is asked, nothing is put
-pub none_put : (job : Job) → need_of job ≡ need.Exchange → (P : Type 0) → IfSome (due_by (Some job)) (λ r. P)
+none_put : (job : Job) → need_of job ≡ need.Exchange → (P : Type 0) → IfSome (due_by (Some job)) (λ r. P)
 none_put job asks P = subst (λ n. IfSome (put_in n) (λ r. P)) (sym asks) tt
 
-pub some_put : (n : Need) (P : Type 0) → P → IfSome (put_in n) (λ r. P)
+some_put : (n : Need) (P : Type 0) → P → IfSome (put_in n) (λ r. P)
 some_put need.Exchange P p = tt
 some_put (need.Put entry) P p = p
 some_put (need.Done end) P p = tt
+
+-- what a desk's job frees by an exchange, and by a put
+pub ask_frees : {L : Type 0} (gives : L → List ℕ → List ℕ → L → Type 0) (before after : L) (addr : ℕ) (job : Option Job)
+    (desk : JobDesk) (report reported : List Entry)
+    → is_some job ≡ true → is_running job ≡ true → due_by job ≡ None
+    → IfSome job (λ old. Exchanges gives before after addr old desk.job report reported) → Frees job desk
+ask_frees gives before after addr None desk report reported there runs none exchanges = absurd cc
+ask_frees gives before after addr (Some job) desk report reported there runs none exchanges =
+    let asks = asks_where_none job runs none in
+    let most = put_left exchanges.new desk.job addr _ _ exchanges.settles in
+    let less = exchanges.keeps.may_put in
+    record {
+      left = omega (arith, most, less);
+      puts = none_put job asks _;
+      reserves = ask_reserves job exchanges.new desk.job addr _ _ exchanges.keeps exchanges.settles;
+      clears = none_put job asks _;
+      sells = λ sells. sale_never_asks job _ sells asks;
+    }
+
+pub put_frees : (addr : ℕ) (job : Option Job) (r : Record) (desk : JobDesk) (report reported : List Entry)
+    → is_some job ≡ true → due_by job ≡ Some r → IfSome job (λ old. Puts addr old r desk.job report reported)
+    → Frees job desk
+put_frees addr None r desk report reported there due puts = absurd cc
+put_frees addr (Some job) r desk report reported there due puts =
+    let is = is_put_by (need_of job) r due in
+    let most = put_left (after_put job) desk.job addr _ _ puts.settles in
+    let less = fewer_after job (after_put job) refl is in
+    let none = put_clears job (after_put job) desk.job addr _ _ is refl puts.settles in
+    record {
+      left = omega (arith, most, less);
+      puts = some_put (need_of job) _ (omega (arith, most, less));
+      reserves = omega (arith, none);
+      clears = some_put (need_of job) _ none;
+      sells = λ sells. put_ends_sale job (after_put job) desk.job addr _ _ sells refl puts.settles;
+    }
 
 -- what is about to be put may be put
 due_puts : (job : Job) → IfSome (put_in (need_of job)) (λ r. 1 ≤ puts_in (ahead job))

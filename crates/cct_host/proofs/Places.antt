@@ -308,7 +308,7 @@ desks_quiet (d ∷ ds) [] past e quiet all = absurd all
 desks_quiet (d ∷ ds) (m ∷ ms) past e quiet all =
     (keeps_quiet (device d) m.job m.epoch m.orders past e quiet all.0, desks_quiet ds ms past e quiet all.1)
 
--- the last id: the greatest of the records, of the payments and of the sale at work
+-- the last id: the greatest of the records, of the running payments and of the running sale
 paying_is : (ds : List DeviceSetup) (ks : List JobDesk) (past : List Entry) → AllSit past ds ks
     → greatest_paying ks ≡ greatest_running past ds
 paying_is [] [] past all = refl

@@ -20,7 +20,7 @@ use Rattle.cct_host.specs.Replayed.{Replays}
 use Rattle.cct_host.specs.Replaying.{GoesOver}
 use Rattle.cct_host.specs.Starting.{IsFirstBad, RefusesStart, WentOver, WentOverFirst}
 
--- the record behind the first ones
+-- the record after the first ones
 
 behind : (front later : List Record) → slice_get (front ++ later) (length front) ≡ slice_get later 0
 behind [] later = refl

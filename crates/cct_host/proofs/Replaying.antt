@@ -235,7 +235,7 @@ replayed_at (e ∷ es) (m ∷ ms) (suc i) new d r before distinct within is here
       replayed_at es ms i new d r before distinct.1 (omega arith) is here replays all.1,
     )
 
--- the desks behind a record of the device at an index
+-- the desks after a record of the device at an index
 pub record_replayed : (setup : Setup) (ks items : List JobDesk) (i : ℕ) (old new : JobDesk) (d : DeviceSetup)
     (r : Record) (before : List Record) → IsSoundSetup setup → items ≡ ks → old ≡ get_or ks i old
     → position (is_at (owner_in before r)) setup.devices ≡ Some i → d ≡ get_or setup.devices i d

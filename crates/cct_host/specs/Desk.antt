@@ -85,7 +85,7 @@ abbrev pub RefusesAbove : Setup → ℕ → Place → JobDesk → Command → Op
 RefusesAbove setup last place desk c why =
     (past : List Entry) → (begins_id c ≡ true → last ≡ last_id setup past) → Sits past place desk → why ≡ state_refusal setup past c
 
--- The greatest id of the payments at work at desks.
+-- The greatest id of the running payments at desks.
 abbrev pub greatest_paying : List JobDesk → ℕ
 greatest_paying [] = 0
 greatest_paying (desk ∷ desks) = max desk.orders.id (greatest_paying desks)

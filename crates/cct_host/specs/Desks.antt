@@ -26,7 +26,7 @@ use Rattle.cct_host.specs.Running.{amount_of, needed, rows_begun}
 abbrev pub setup_of : Desks → Setup
 setup_of desks = desks.setup.now
 
--- How many records are held: those that jobs may still put, and one for each open order that no job is at work to close.
+-- How many records are held: those that jobs may still put, and one for each open order that no job is running to close.
 abbrev pub held_of : Desks → ℕ
 held_of desks = held_in desks.devices.items + held_at desks.sale
 
@@ -39,7 +39,7 @@ abbrev pub reserved_of : Desks → ℕ
 reserved_of desks =
     reserved_over (setup_of desks) (setup_of desks).devices desks.devices.items + price_by desks.sale.job
 
--- The greatest id of the payments and the sale at work.
+-- The greatest id of the running payments and the running sale.
 abbrev pub working_id : Desks → ℕ
 working_id desks = max (greatest_paying desks.devices.items) desks.sale.orders.id
 

@@ -17,7 +17,7 @@ abbrev pub puts_left : Option Job → ℕ
 puts_left None = 0
 puts_left (Some job) = puts_in (ahead job)
 
--- One record for the open order of a place that no job there is at work to close.
+-- One record for the open order of a place that no job there is running to close.
 abbrev pub order_left : Option Job → Option OpenOrder → ℕ
 order_left None owed = order_holds false owed
 order_left (Some job) owed = order_holds (has_closes (ahead job)) owed
@@ -52,7 +52,7 @@ abbrev pub FitsIn : Option Job → Type 0
 FitsIn None = ⊤
 FitsIn (Some job) = PutsFit job
 
--- Each of these facts has one proof at the most.
+-- Each of these facts has one proof at most.
 pub Encodable-prop : (r : Record) → IsProp (Encodable r)
 Encodable-prop (record_of.Epoch addr mask) = hlevel props
 Encodable-prop (record_of.Reading addr counter lost posted) = hlevel props

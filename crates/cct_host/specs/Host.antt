@@ -109,7 +109,7 @@ module _ {D : Type 0} {g : Ghosts D} where
         → EntriesOfNext hears (setup_of before) past addr (news_of addr what) × StandsFor after (news_of addr what ++ past)
 
   -- A put failed: the job at the address was about to put a record, the host has all of the past as before, and whatever a
-  -- loss of power leaves on its trusted disk stands for the records of the past, or for these and that record.
+  -- power cut leaves on its trusted disk stands for the records of the past, or for these and that record.
   abbrev pub Fails : Host D g → Host D g → ℕ → Type 0
   Fails old new addr =
       (past : List Entry) → StandsFor old past

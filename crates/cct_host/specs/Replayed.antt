@@ -25,7 +25,7 @@ pub record AreUnused (desks : Desks) : Type 0 where
   pub scan : IsFree desks.scan
   pub sale : IsFree desks.sale
 
--- The desk of a device has the epoch and the open order that records tell of its address, and no payment is at work.
+-- The desk of a device has the epoch and the open order that records tell of its address, and no payment is running.
 pub record ReplaysAt (d : DeviceSetup) (desk : JobDesk) (before : List Record) : Type 0 where
   pub epoch_is : desk.epoch ≡ epoch_in d.addr before
   pub order_is : order_of desk.orders.order ≡ order_in d.addr before

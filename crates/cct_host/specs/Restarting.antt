@@ -31,7 +31,7 @@ abbrev pub due_for : Desks → Option CrashAt → Option Record
 due_for desks None = None
 due_for desks (Some at) = all_desks.due_on desks at.addr
 
--- What may be kept of a put, behind so many of its four disk calls, of the record that is due, if one is: nothing
+-- What may be kept of a put, after so many of its four disk calls, of the record that is due, if one is: nothing
 -- before all of them are made, and the record once its gate is written.
 abbrev pub KeptBy : ℕ → Option Record → Option Record → Type 0
 KeptBy calls due None = (due ≡ None) ⊎ (calls < 4)
@@ -48,7 +48,7 @@ pub record HasAll (due : Option Record) (found put : ℕ) : Type 0 where
   pub kept_is : IfSome kept (λ r. due ≡ Some r)
   pub count : found ≡ put + length (put_by kept)
 
--- What a power cut left, as entries, newest first: the record that was kept of a put, if one was, behind how many
+-- What a power cut left, as entries, newest first: the record that was kept of a put, if one was, after how many
 -- records there are.
 abbrev pub told_by : ℕ → Option Record → List Entry
 told_by many None = entry.Crash many ∷ []

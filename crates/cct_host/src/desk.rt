@@ -1,5 +1,5 @@
 //! The host's desk for one place: a device, the address of all devices, where scans are, or that of sales.
-ghost use Rattle.std.specs.Prelude.{◌≡◌, ◌<◌, ◌≤◌, ◌^◌, [], Option, Some, None, true, false, OnErr, OnOk};
+ghost use Rattle.std.specs.Prelude.{◌≡◌, ◌<◌, ◌≤◌, ◌^◌, [], Option, Some, None, true, false, IfSome, OnErr, OnOk, is_some};
 ghost use Rattle.std.specs.Option.{option_map};
 ghost use Rattle.arrayvec.specs.ArrayVec.{array_vec_len};
 ghost use Rattle.cct_model.specs.declared.judging.OpenOrder.{OpenOrder};
@@ -8,16 +8,16 @@ ghost use Rattle.cct_model.specs.terms.device.Setup.{Setup};
 ghost use Rattle.cct_model.specs.Exchange.{device_at};
 ghost use Rattle.cct_model.specs.Job.{address_of, works};
 ghost use Rattle.cct_model.specs.Refusal.{running_id};
-ghost use Rattle.cct_jobs.specs.Jobs.{is_of_device, order_of};
+ghost use Rattle.cct_jobs.specs.Jobs.{is_of_device, order_of, owed_after};
 ghost use Rattle.cct_host.specs.Held.{FitsIn, FitsIn-prop, price_by, sells_only};
 ghost use Rattle.cct_host.specs.Place as places;
 ghost use Rattle.cct_host.specs.Running.{id_left, is_halt, is_running};
 
-use crate::exchange::{converse, settled};
+use crate::exchange::{exchange, put};
 use crate::orders::OrderState;
 use crate::recorded::{epoch_by, id_of};
 use arrayvec::ArrayVec;
-use cct_jobs::{Job, Need};
+use cct_jobs::{Job, Owed};
 use cct_model::{Command, CommandNo, DeviceSetup, Entry, EpochState, OpenOrder, Setup};
 use cct_wire::Link;
 
@@ -186,60 +186,58 @@ impl JobDesk {
             self.new result report.old.items report.new.items }
         ensures frees { Frees self.old.job self.new }
     {
-        match self.job.take() {
+        match self.job {
             None => {
                 report.push(Entry::Idle { addr });
                 0
             }
-            Some(job) => self.attempt(job, addr, link, report),
+            Some(_) => self.attempt(addr, link, report),
         }
     }
 
-    /// A job that isn't done makes one attempt of its row, and gives the id that its put used, or 0.
-    fn attempt<L: Link>(
-        &mut self,
-        job: Job,
-        addr: u8,
-        link: &mut L,
-        report: &mut ArrayVec<Entry, 8>,
-    ) -> u32
-        requires running { is_running (Some job) ≡ true }
-        requires fits { FitsIn (Some job) }
+    /// The job makes one attempt of its row, and gives the id that its put used, or 0.
+    fn attempt<L: Link>(&mut self, addr: u8, link: &mut L, report: &mut ArrayVec<Entry, 8>) -> u32
+        requires there { is_some self.old.job ≡ true }
         requires room { array_vec_len report.old ≤ 6 }
-        ensures attempts { Attempts L.gives link.old link.new addr (Some job) self.old.epoch self.old.orders
+        ensures attempts { Attempts L.gives link.old link.new addr self.old.job self.old.epoch self.old.orders
             self.new result report.old.items report.new.items }
-        ensures frees { Frees (Some job) self.new }
+        ensures frees { Frees self.old.job self.new }
     {
-        let mut job = job;
-        match job.needs() {
-            Need::Exchange => {
-                converse(&mut job, addr, link, report);
-                self.job = settled(job, addr, report);
+        match self.due() {
+            None => {
+                exchange(&mut self.job, addr, link, report);
                 self.orders.id = self.id_left();
                 0
             }
-            Need::Put(entry) => {
-                self.epoch = epoch_by(&entry, self.epoch);
-                self.orders.order = job.order_after(self.orders.order);
+            Some(entry) => {
                 let id = id_of(&entry);
-                report.push(Entry::Put(entry));
-                job.go_on_after_put();
-                self.job = settled(job, addr, report);
+                self.epoch = epoch_by(&entry, self.epoch);
+                self.orders.order = self.order_after();
+                put(&mut self.job, entry, addr, report);
                 self.orders.id = self.id_left();
                 id
             }
-            Need::Done(_) => unreachable!(),
         }
     }
 
-    /// The id of the payment or the sale that is at work, or 0.
+    /// The order that is open after the job's record was put.
+    fn order_after(&self) -> Option<Owed>
+        ensures { IfSome self.now.job (λ job. result ≡ owed_after job self.now.orders.order) }
+    {
+        match &self.job {
+            Some(job) => job.order_after(self.orders.order),
+            None => self.orders.order,
+        }
+    }
+
+    /// The id of the payment or the sale that is running, or 0.
     pub(crate) fn id(&self) -> u32
         ensures { result ≡ self.now.orders.id }
     {
         self.orders.id
     }
 
-    /// The id of the payment or the sale that is still at work, or 0.
+    /// The id of the payment or the sale that is still running, or 0.
     fn id_left(&self) -> u32
         ensures { result ≡ id_left self.now.job self.now.orders.id }
     {

@@ -151,7 +151,7 @@ impl<'s> Desks<'s> {
         }
     }
 
-    /// The last id: the greatest of the records, of the payments and of the sale at work, 0 where there is none.
+    /// The last id: the greatest of the records, of the running payments and of the running sale, 0 where there is none.
     fn last_id(&self) -> u32
         ensures { result ≡ max self.now.last (working_id self.now) }
     {

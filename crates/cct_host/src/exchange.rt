@@ -1,18 +1,18 @@
 //! One exchange of a job over a link, and what becomes of the job.
-ghost use Rattle.std.specs.Prelude.{◌≡◌, ◌<◌, [], true};
+ghost use Rattle.std.specs.Prelude.{◌≡◌, ◌<◌, ◌≤◌, [], Some, None, IfSome, is_some, true};
 ghost use Rattle.arrayvec.specs.ArrayVec.{array_vec_len};
 ghost use Rattle.cct_model.specs.lines.entry.Entry.TheVariants as entry;
 ghost use Rattle.cct_jobs.specs.Ahead.{ahead};
-ghost use Rattle.cct_jobs.specs.Jobs.{PutsFit, end_of_job, need_of};
+ghost use Rattle.cct_jobs.specs.Jobs.{end_of_job, need_of};
 ghost use Rattle.cct_jobs.specs.Onward.{KeepsTo};
 ghost use Rattle.cct_jobs.specs.declared.job.Need.TheVariants as need;
-ghost use Rattle.cct_host.specs.Exchange.{Converses, Ends, Fills, Talks};
-ghost use Rattle.cct_host.specs.Held.{FitsIn};
-ghost use Rattle.cct_host.specs.Running.{Settles, is_running};
+ghost use Rattle.cct_host.specs.Exchange.{Converses, Ends, Exchanges, Fills, Puts, Talks, TellsEnd};
+ghost use Rattle.cct_host.specs.Held.{FitsIn, due_by};
+ghost use Rattle.cct_host.specs.Running.{is_running};
 
 use arrayvec::ArrayVec;
 use cct_jobs::Job;
-use cct_model::{Entry, Piece, Sent};
+use cct_model::{Entry, Piece, Record, Sent};
 use cct_msg::encode_request;
 use cct_wire::Link;
 
@@ -71,19 +71,75 @@ fn talk<L: Link>(job: &mut Job, link: &mut L, sent: &mut Sent, heard: &mut Piece
     job.hear(sent.as_slice(), heard.as_slice());
 }
 
-/// What stays of a job at an address: nothing, where it is done, and then the report has its end.
-pub(crate) fn settled(job: Job, addr: u8, report: &mut ArrayVec<Entry, 8>) -> Option<Job>
+/// The job at a desk makes one exchange over a link, which is a further entry. A job that is then done leaves the desk,
+/// and the report has its end.
+pub(crate) fn exchange<L: Link>(
+    at_desk: &mut Option<Job>,
+    addr: u8,
+    link: &mut L,
+    report: &mut ArrayVec<Entry, 8>,
+)
+    requires there { is_some at_desk.old ≡ true }
+    requires running { is_running at_desk.old ≡ true }
+    requires asks { due_by at_desk.old ≡ None }
+    requires room { array_vec_len report.old ≤ 6 }
+    ensures running { is_running at_desk.new ≡ true }
+    ensures fits { FitsIn at_desk.new }
+    ensures exchanges { IfSome at_desk.old (λ job. Exchanges L.gives link.old link.new addr job at_desk.new
+        report.old.items report.new.items) }
+{
+    let is_done = match at_desk {
+        Some(job) => {
+            converse(job, addr, link, report);
+            tell_end(job, addr, report)
+        }
+        None => unreachable!(),
+    };
+    if is_done {
+        *at_desk = None;
+    }
+}
+
+/// The record of the job at a desk was put, which is a further entry, and the job goes on. A job that is then done leaves
+/// the desk, and the report has its end.
+pub(crate) fn put(
+    at_desk: &mut Option<Job>,
+    entry: Record,
+    addr: u8,
+    report: &mut ArrayVec<Entry, 8>,
+)
+    requires there { is_some at_desk.old ≡ true }
+    requires due { due_by at_desk.old ≡ Some entry }
+    requires room { array_vec_len report.old ≤ 6 }
+    ensures running { is_running at_desk.new ≡ true }
+    ensures fits { FitsIn at_desk.new }
+    ensures puts { IfSome at_desk.old (λ job. Puts addr job entry at_desk.new report.old.items report.new.items) }
+{
+    report.push(Entry::Put(entry));
+    let is_done = match at_desk {
+        Some(job) => {
+            job.go_on_after_put();
+            tell_end(job, addr, report)
+        }
+        None => unreachable!(),
+    };
+    if is_done {
+        *at_desk = None;
+    }
+}
+
+/// A job that is done adds its end to the report, and one that runs adds nothing. The answer is whether it is done.
+fn tell_end(job: &Job, addr: u8, report: &mut ArrayVec<Entry, 8>) -> bool
     requires { array_vec_len report.old < 8 }
-    ensures running { is_running result ≡ true }
-    ensures fits { PutsFit job → FitsIn result }
-    ensures ends { Ends job (end_of_job job) }
-    ensures settled { Settles (end_of_job job) job addr result report.old.items report.new.items }
+    ensures done { result ≡ is_some (end_of_job job.now) }
+    ensures ends { Ends job.now (end_of_job job.now) }
+    ensures tells { TellsEnd (end_of_job job.now) addr report.old.items report.new.items }
 {
     match job.end() {
-        None => Some(job),
+        None => false,
         Some(end) => {
             report.push(Entry::Ended { addr, end });
-            None
+            true
         }
     }
 }

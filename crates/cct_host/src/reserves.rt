@@ -10,7 +10,7 @@ use cct_model::{DEVICES, Record};
 
 impl JobDesk {
     /// How many records are held for this place: those that its job may still put, and one for an open order that no
-    /// job is at work to close.
+    /// job is running to close.
     pub(crate) fn held(&self) -> u32
         ensures value { result ≡ held_at self.now }
         ensures few { result ≤ 3 }
@@ -42,7 +42,7 @@ impl JobDesk {
         }
     }
 
-    /// One record for the open order that no job is at work to close, if there is one.
+    /// One record for the open order that no job is running to close, if there is one.
     fn order_left(&self) -> u32
         ensures value { result ≡ order_left self.now.job (order_of self.now.orders.order) }
         ensures few { result ≤ 1 }
@@ -85,7 +85,7 @@ impl JobDesk {
         }
     }
 
-    /// The greatest id of the payments at work at desks.
+    /// The greatest id of the running payments at desks.
     pub(crate) fn greatest_paying(desks: &[JobDesk]) -> u32
         ensures { result ≡ greatest_paying desks.now }
     {

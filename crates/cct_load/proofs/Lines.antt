@@ -33,7 +33,7 @@ line_is_played seed n =
     either (nat_lt n 5) (opening_line n) _ (either (n == 0) _ _ refl refl)
     (round_is_played ((n - 5) / 18 + 1) (drawn seed n) ((n - 5) % 18))
 
--- behind the lines before one of them come that one and others
+-- after the lines before one of them come that one and others
 abbrev Behind : ℕ → ℕ → ℕ → Type 0
 Behind seed n m = (behind : List Step) × (lines_before seed m ≡ lines_before seed n ++ line_at seed n ∷ behind)
 

@@ -46,12 +46,12 @@ module _ {D : Type 0} {g : Ghosts D} (world : World D g) where
   abbrev pub HasTrusted : Type 0
   HasTrusted = IsTrusted g.honest g.seen (disk_of world)
 
-  -- A past may be relied on: the disk was trusted, or no loss of power is told.
+  -- A past may be relied on: the disk was trusted, or no power cut is told.
   abbrev pub Relies : List Entry → Type 0
   Relies past = IsReliable HasTrusted past
 
   -- So many lines of a load were played on the world, from the first on: the entries of the transcript are those of the
-  -- steps, where its past may be relied on, and in any case up to the first loss of power; and this holds of its past.
+  -- steps, where its past may be relied on, and in any case up to the first power cut; and this holds of its past.
   pub record PlayedLines (seed n : ℕ) (Holds : List Entry → Type 0) : Type 0 where
     pub transcript : List Entry
     pub legal : Relies (onto [] transcript) → Legal (capacity_in world) load_setup (lines_before seed n) transcript
@@ -59,28 +59,28 @@ module _ {D : Type 0} {g : Ghosts D} (world : World D g) where
     pub holds : Holds (onto [] transcript)
 
   -- What is so after a past, where so many lines of a load were played and the world became another: what holds of a
-  -- world behind a run; and the sums are those of the steps and of the past.
+  -- world after a run; and the sums are those of the steps and of the past.
   pub record Became (next : World D g) (sums : LoadSums) (seed n : ℕ) (past : List Entry) : Type 0 where
     pub so : WorldHolds (disk_of world) next (lines_before seed n) past
     pub counted : SumsUp sums (lines_before seed n) past
 
   -- Until the disk became this one its power was cut for this time, and this holds of the choice of the cut and of what a
-  -- read gave right behind it.
+  -- read gave right after it.
   abbrev pub CutFor : D → ℕ → (ℕ → Option (List ℕ) → Type 0) → Type 0
   CutFor left = CutAt g.size g.honest g.seen g.cuts g.cut_to (disk_of world) left
 
-  -- Behind each loss of power among these steps a host started again, until the disk became this one.
+  -- After each power cut among these steps a host started again, until the disk became this one.
   abbrev pub SurvivedOn : D → List Step → List Entry → Type 0
   SurvivedOn left = Survived Relies (CutFor left) load_setup
 
-  -- Why the step behind a past wasn't played, where this disk is left: it failed in a `next` that was about to put a
-  -- record, or in a loss of power; or it isn't the one that it was, which comes in a loss of power alone, and is told.
+  -- Why the step after a past wasn't played, where this disk is left: it failed in a `next` that was about to put a
+  -- record, or in a power cut; or it isn't the one that it was, which comes in a power cut alone, and is told.
   abbrev pub FailsAt : D → CrashNo → List Entry → Step → Type 0
   FailsAt left crash_no.Disk past s = MayFail (Relies past) load_setup past s
   FailsAt left why past s =
       LosesAt (Relies past) (CutFor left) load_setup past (g.seen left) why s
 
-  -- What a loss of power may leave on this disk, where the step behind a past wasn't played: each image stands for the
+  -- What a power cut may leave on this disk, where the step after a past wasn't played: each image stands for the
   -- records of the past, or, where a record was due, for these or for these and that record. Any reason but that the
   -- disk failed never comes on a trusted disk.
   abbrev pub LeftAt : D → CrashNo → List Entry → Step → Type 0
@@ -88,7 +88,7 @@ module _ {D : Type 0} {g : Ghosts D} (world : World D g) where
       LeavesRecords load_setup g.honest g.seen g.may_leave left (due_to load_setup past s) (reverse (records past))
   LeftAt left why past s = ⊥
 
-  -- The step behind a past wasn't played, for this reason, and this disk is left.
+  -- The step after a past wasn't played, for this reason, and this disk is left.
   pub record Stopped (left : D) (why : CrashNo) (s : Step) (played : List Step) (past : List Entry) : Type 0 where
     pub fails : FailsAt left why past s
     pub book : HasTrusted → LeftAt left why past s
@@ -101,16 +101,16 @@ module _ {D : Type 0} {g : Ghosts D} (world : World D g) where
   StoppedWithin seed lines left why =
       (n : ℕ) × (n < lines) × PlayedLines seed n (Stopped left why (line_at seed n) (lines_before seed n))
 
-  -- This holds of what is written behind the steps: their sums, and what is told that the operator has, which is so
+  -- This holds of what is written after the steps: their sums, and what is told that the operator has, which is so
   -- where the past may be relied on.
   abbrev pub Told : List Step → List Entry → (List Entry → Type 0) → Type 0
   Told played past Wrote =
       (told : Totals) × (Relies past → told ≡ totals load_setup past)
       × Wrote (sums_of played past ++ entry.Balance told ∷ [])
 
-  -- What is written of a load, by how it ended: its first line, and what stands behind its steps, where all of them
+  -- What is written of a load, by how it ended: its first line, and what stands after its steps, where all of them
   -- were played; where a put failed, a front of the first line, before any step was played, or that line and a front of
-  -- what stands behind all steps; and the first line alone where a step wasn't played.
+  -- what stands after all steps; and the first line alone where a step wasn't played.
   abbrev pub Ends : D → Load → LoadEnd → List Step → List Step → List Entry → (List Entry → Type 0)
       → (List Entry → List Entry → Type 0) → Type 0
   Ends left load load_end.Done played unplayed past Written Breaks =
@@ -121,18 +121,18 @@ module _ {D : Type 0} {g : Ghosts D} (world : World D g) where
   Ends left load (load_end.Unplayed why) played unplayed past Written Breaks =
       First (FailsAt left why past) unplayed × Written (first_line load ∷ [])
 
-  -- What a loss of power may leave on this disk, by how a load ended.
+  -- What a power cut may leave on this disk, by how a load ended.
   abbrev pub RecordsLeft : D → LoadEnd → List Step → List Entry → Type 0
   RecordsLeft left (load_end.Unplayed why) unplayed past = First (LeftAt left why past) unplayed
   RecordsLeft left how unplayed past = LeavesRecords load_setup g.honest g.seen g.may_leave left None (reverse (records past))
 
   -- A load was played on the world, ended so, and left this disk: the steps that were played and those that weren't;
   -- the transcript, whose entries are those of the steps, where its past may be relied on, and in any case up to the
-  -- first loss of power; what was written, where
+  -- first power cut; what was written, where
   -- `Written` holds of entries that were written whole, and `Breaks` where a put failed in the second list; and what
-  -- the disk keeps where it was trusted. Behind each loss of power among the steps a host started again; and the power of
+  -- the disk keeps where it was trusted. After each power cut among the steps a host started again; and the power of
   -- the disk was cut at least as often as the transcript tells, and just so often where the step that comes next is no
-  -- loss of power.
+  -- power cut.
   pub record PlaysLoad (load : Load) (how : LoadEnd) (left : D) (Written : List Entry → Type 0)
       (Breaks : List Entry → List Entry → Type 0) : Type 0 where
     pub played : List Step

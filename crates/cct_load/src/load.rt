@@ -29,7 +29,7 @@ const ROUND_LINES: u32 = 18;
 /// The most rounds of a load.
 pub const MOST_ROUNDS: u32 = 10_000;
 
-/// Which load is played: the seed that its lines are drawn from, and its rounds, 10,000 at the most.
+/// Which load is played: the seed that its lines are drawn from, and its rounds, 10,000 at most.
 #[derive(Clone, Copy, Debug, PartialEq, Eq)]
 pub struct Load {
     pub seed: u64,
@@ -41,7 +41,7 @@ pub struct Load {
 pub enum LoadEnd {
     /// All steps were played, and all was written.
     Done,
-    /// Writing failed: in the first line, before any step was played, or in those behind the last step.
+    /// Writing failed: in the first line, before any step was played, or in those after the last step.
     Unwritten,
     /// A step wasn't played. Just the first line was written.
     Unplayed(WorldNo),

@@ -9,7 +9,7 @@ use cct_model::{Entry, Record, SumOf};
 
 /// Sums over a transcript: steps, coins accepted, coins posted, events lost, coins that fell, and orders closed.
 ///
-/// A step has eight entries at the most, and an entry adds fewer than 512 to all sums together, so the number of the
+/// A step has eight entries at most, and an entry adds fewer than 512 to all sums together, so the number of the
 /// steps bounds each of them.
 #[derive(Clone, Copy, Debug)]
 pub struct LoadSums {

@@ -136,7 +136,7 @@ module _ {K : Type 0} (written : K → Option (List ℕ)) (puts : K → List ℕ
     going_ends_within here adds records held still (Unread opening.Alien) one = absurd one
     going_ends_within here adds records held still (Unread (opening.BadRecord told)) one = absurd (one.1 records still)
 
-    -- the line of the sums behind all records
+    -- the line of the sums after all records
     pub sums_told : (total : Entry) (answer : Result (Unit {0}) Failed) → total ≡ total_in sums
         → Writes written puts between (total ∷ []) answer now
         → Writes written puts before (listed 0 no_sums going.read) answer now

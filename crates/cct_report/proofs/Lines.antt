@@ -43,7 +43,7 @@ pub sums_more : (sums : Sums) (read : List Record) (entry : Record)
 sums_more sums [] entry = refl
 sums_more sums (r ∷ read) entry = sums_more (with_record r sums) read entry
 
--- the record behind the first ones is that of their number
+-- the record after the first ones is that of their number
 pub behind_first : (first behind : List Record) (entry : Record)
     → slice_get (first ++ behind) (length first) ≡ Some entry
     → (rest : List Record) × (behind ≡ entry ∷ rest)

@@ -24,7 +24,7 @@ total_in sums = Total sums.posted sums.lost sums.paid sums.unpaid sums.sold
 abbrev pub total_over : Sums → List Record → Entry
 total_over sums records = total_in (sums_over sums records)
 
--- The listing of records behind so many others, over which the sums are these: the line of each, and the line of the sums
+-- The listing of records after so many others, over which the sums are these: the line of each, and the line of the sums
 -- over all.
 abbrev pub listed : ℕ → Sums → List Record → List Entry
 listed index sums records = listing_from index records ++ total_over sums records ∷ []

@@ -16,7 +16,7 @@ pub struct Sums {
 }
 
 impl Sums {
-    /// One record more, by which all sums together grow by 2^32 at the most.
+    /// One record more, by which all sums together grow by 2^32 at most.
     pub fn add(&mut self, entry: &Record)
         requires { together self.old + 2 ^ 32 < 2 ^ 64 }
         ensures added { self.new ≡ with_record entry.now self.old }

@@ -1,4 +1,4 @@
--- One step more behind what was played before the first loss of power.
+-- One step more after what was played before the first power cut.
 use Rattle.std.proofs.Common.{◌≡◌, ◌⊎◌, ◌+◌, ℕ, List, [], ◌∷◌, ◌++◌, reverse, refl, sym, ap, ◌∙◌, inl, inr, subst, arith}
 use Rattle.std.proofs.Common.{append_assoc}
 use Rattle.std.proofs.lemmas.List.{append-nil}
@@ -14,7 +14,7 @@ use Rattle.cct_world.specs.Step.{crashes, crashes_of}
 use Rattle.cct_world.specs.Relying.{First, IsCrash, losses_in}
 use Rattle.cct_world.proofs.Relying.{crashes-append}
 
--- a step is a loss of power, or none
+-- a step is a power cut, or none
 crash_or : (s : Step) → IsCrash s ⊎ (crashes_of s ≡ 0)
 crash_or (step.Crash at choice) = inl tt
 crash_or s = inr refl
@@ -43,7 +43,7 @@ early_none capacity setup = record {
 }
 
 module _ (capacity : ℕ) (setup : Setup) (steps : List Step) (transcript report : List Entry) (s : Step) where
-  -- no loss of power came yet, and none comes
+  -- no power cut came yet, and none comes
   early_on : losses_in steps ≡ 0 → crashes (onto [] transcript) ≡ 0 → Legal capacity setup steps transcript
       → crashes_of s ≡ 0 → crashes (reverse report) ≡ crashes_of s
       → Entries capacity setup (onto [] transcript) s (reverse report)
@@ -64,7 +64,7 @@ module _ (capacity : ℕ) (setup : Setup) (steps : List Step) (transcript report
     );
   }
 
-  -- the first loss of power comes
+  -- the first power cut comes
   early_ends : losses_in steps ≡ 0 → crashes (onto [] transcript) ≡ 0 → Legal capacity setup steps transcript
       → IsCrash s → LegalBeforeLoss capacity setup (steps ++ s ∷ []) (transcript ++ report)
   early_ends none quiet legal crash = record {
@@ -79,7 +79,7 @@ module _ (capacity : ℕ) (setup : Setup) (steps : List Step) (transcript report
     so = (quiet, legal);
   }
 
-  -- no loss of power came yet
+  -- no power cut came yet
   early_next : losses_in steps ≡ 0 → crashes (onto [] transcript) ≡ 0 → Legal capacity setup steps transcript
       → crashes (reverse report) ≡ crashes_of s
       → (crashes_of s ≡ 0 → Entries capacity setup (onto [] transcript) s (reverse report))
@@ -87,7 +87,7 @@ module _ (capacity : ℕ) (setup : Setup) (steps : List Step) (transcript report
   early_next none quiet legal told entries (inl crash) = early_ends none quiet legal crash
   early_next none quiet legal told entries (inr calm) = early_on none quiet legal calm told (entries calm)
 
-  -- one step more, whose entries are its own where no loss of power came before it
+  -- one step more, whose entries are its own where no power cut came before it
   early_by : (e : LegalBeforeLoss capacity setup steps transcript)
       → ((e.later ≡ []) × (e.rest ≡ [])) ⊎ First IsCrash e.later → crashes (reverse report) ≡ crashes_of s
       → (crashes (onto [] transcript) ≡ 0 → crashes_of s ≡ 0
@@ -114,8 +114,8 @@ module _ (capacity : ℕ) (setup : Setup) (steps : List Step) (transcript report
     so = e.so;
   }
 
--- One step more behind what was played: its entries are its own where the past with them may be relied on, as it may
--- where it tells no loss of power.
+-- One step more after what was played: its entries are its own where the past with them may be relied on, as it may
+-- where it tells no power cut.
 pub early_more : (Relies : List Entry → Type 0) (capacity : ℕ) (setup : Setup) (steps : List Step)
     (transcript report : List Entry) (s : Step) → ((past : List Entry) → crashes past ≡ 0 → Relies past)
     → crashes (reverse report) ≡ crashes_of s

@@ -101,11 +101,11 @@ module _ {D : Type 0} (size : D → ℕ) (honest : D → Bool) (seen : D → Opt
         }
 
 module _ {D : Type 0} {g : Ghosts D} where
-  -- none is due where a loss of power names no put
+  -- none is due where a power cut names no put
   due_none : (machine : Machine D g) (at : Option CrashAt) → at ≡ None → due_of machine at ≡ None
   due_none machine at none = ap (due_of machine) none
 
-  -- what a loss of power leaves
+  -- what a power cut leaves
   pub restarts_in : (now next : World D g) (s : Step) (news : List Entry) → RestartsBy now next s news
       → RestartsIn (StandsFor now) (setup_of now) s (used_of now) (used_of next) (g.seen (disk_of next)) news
   restarts_in now next (step.Crash at choice) news restarts =

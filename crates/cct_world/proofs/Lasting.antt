@@ -41,7 +41,7 @@ module _ {D : Type 0} (size : D → ℕ) (honest : D → Bool) (seen : D → Opt
   lasts_in (step.Crash at choice) a b lasts = lasts
   lasts_in s a b lasts = lasts_on a b lasts
 
-  -- no power is cut in a step that isn't a loss of power
+  -- no power is cut in a step that isn't a power cut
   pub uncut_in : (s : Step) (a b : D) → LastsIn s size honest seen cuts a b → crashes_of s ≡ 0 → cuts b ≡ cuts a
   uncut_in (step.Crash at choice) a b lasts none = cc none
   uncut_in s a b lasts none = lasts.same_cuts

@@ -1,4 +1,4 @@
--- What may be relied on before a step and behind it, and how often the power of a disk was cut.
+-- What may be relied on before a step and after it, and how often the power of a disk was cut.
 use Rattle.std.proofs.Common.{◌≡◌, ◌+◌, ◌++◌, ℕ, suc, Bool, List, [], ◌∷◌, Option, refl, sym, ap, ◌∙◌, inl, inr, arith, le_of_eq}
 use Rattle.std.proofs.Common.{zero-add}
 use Rattle.std.proofs.Math.Nat.{add_assoc}
@@ -10,18 +10,18 @@ use Rattle.cct_world.specs.Machine.{Survives}
 use Rattle.cct_world.specs.Step.{CutsIn, RoseBy, count_after, crashes, crashes_of, crashes_told}
 use Rattle.cct_world.specs.Relying.{IsCrash, IsReliable}
 
--- losses of power that entries tell behind others
+-- power cuts that entries tell after others
 pub crashes-append : (xs ys : List Entry) → crashes (xs ++ ys) ≡ crashes xs + crashes ys
 crashes-append [] ys = sym (zero-add (crashes ys))
 crashes-append (x ∷ xs) ys =
     ap (λ n. crashes_told x + n) (crashes-append xs ys) ∙ sym (add_assoc (crashes_told x) (crashes xs) (crashes ys))
 
--- a step that is no loss of power
+-- a step that is no power cut
 pub crashes_none : (s : Step) → (IsCrash s → ⊥) → crashes_of s ≡ 0
 crashes_none (step.Crash at choice) none = absurd (none tt)
 crashes_none s none = refl
 
--- what may be relied on behind some entries may be before them
+-- what may be relied on after some entries may be before them
 pub reliable_back : (trusted : Type 0) (news past : List Entry) → IsReliable trusted (news ++ past) → IsReliable trusted past
 reliable_back trusted news past (inl is) = inl is
 reliable_back trusted news past (inr none) = inr (omega (arith, none, crashes-append news past))

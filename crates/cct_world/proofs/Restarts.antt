@@ -1,4 +1,4 @@
--- What the disk of a machine has behind a loss of power, and behind the steps that follow it.
+-- What the disk of a machine has after a power cut, and after the steps that follow it.
 use Rattle.std.proofs.Common.{◌≡◌, ◌⊎◌, ◌+◌, ◌++◌, ℕ, suc, Bool, true, List, [], ◌∷◌, length, reverse, refl, sym, ap, ◌∙◌}
 use Rattle.std.proofs.Common.{inl, inr, subst, arith, Option, Some, None}
 use Rattle.std.proofs.lemmas.List.{reverse-reverse}
@@ -34,7 +34,7 @@ use Rattle.cct_world.specs.Restarts.{CutAt, HasBad, Loses, Restarts, kept_in}
 use Rattle.cct_world.specs.Step.{count_after, crashes}
 use Rattle.cct_world.proofs.Lasting.{lasts_on, lasts_then}
 
--- records behind others
+-- records after others
 pub records_counted : (news past : List Entry)
     → length (records (news ++ past)) ≡ length (records news) + length (records past)
 records_counted [] past = omega arith
@@ -163,7 +163,7 @@ module _ {D : Type 0} {g : Ghosts D} where
 
 module _ {D : Type 0} (size : D → ℕ) (honest : D → Bool) (seen : D → Option (List ℕ)) (cuts : D → ℕ)
     (cut_to : D → ℕ → D → Type 0) (given : D) where
-  -- what is so behind a cut, where the disk lasts
+  -- what is so after a cut, where the disk lasts
   pub behind_on : (old new : D) → Outlasts size honest seen cuts old new → (times : ℕ) (P : ℕ → Option (List ℕ) → Type 0)
       → CutAt size honest seen cuts cut_to given old times P → CutAt size honest seen cuts cut_to given new times P
   behind_on old new lasts times P cut = record {
@@ -177,7 +177,7 @@ module _ {D : Type 0} (size : D → ℕ) (honest : D → Bool) (seen : D → Opt
     holds = cut.holds;
   }
 
-  -- and behind a cut that was made just now
+  -- and after a cut that was made just now
   pub behind_now : (choice : ℕ) (old new : D) (times : ℕ) (P : ℕ → Option (List ℕ) → Type 0)
       → Outlasts size honest seen cuts given old → cuts old ≡ count_after times (cuts given)
       → CutOnce size honest seen cuts cut_to choice old new → P choice (seen new)

@@ -95,7 +95,7 @@ happening_quiet d addr happening.Fall past = fall_quiet (remaining d.serial (met
 happening_quiet d addr happening.Jam past = jam_quiet (remaining d.serial (met d past) == 0) past d.addr
 happening_quiet d addr happening.Reset past = reset_quiet past addr
 
--- it tells no loss of power, puts no record, and tells none as kept
+-- it tells no power cut, puts no record, and tells none as kept
 abbrev IsPlain : List Entry → Type 0
 IsPlain news = (crashes news ≡ 0) × (records news ≡ []) × (kept_in news ≡ [])
 

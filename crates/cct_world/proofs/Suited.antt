@@ -25,7 +25,7 @@ if_due : (due : Option Record) (P : Record → Type 0) → ((r : Record) → due
 if_due None P is = tt
 if_due (Some r) P is = is r refl
 
--- each step suits a past that suits a loss of power, where each open order was opened at its own hopper, and a ledger takes
+-- each step suits a past that suits a power cut, where each open order was opened at its own hopper, and a ledger takes
 -- what any job is about to put
 pub step_suits : (setup : Setup) (past : List Entry) (s : Step) → AreOwned setup past
     → ((addr : ℕ) (r : Record) → due_at setup past addr ≡ Some r → IsTaken setup past r)

@@ -1,4 +1,4 @@
--- What is so at each of the steps of a past, and at the losses of power among them.
+-- What is so at each of the steps of a past, and at the power cuts among them.
 use Rattle.std.proofs.Common.{◌≡◌, ◌++◌, ℕ, suc, List, [], ◌∷◌, Option, length, refl}
 use Rattle.cct_model.specs.terms.device.Setup.{Setup}
 use Rattle.cct_model.specs.lines.command.CrashAt.{CrashAt}

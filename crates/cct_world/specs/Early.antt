@@ -1,4 +1,4 @@
--- What was played before the first loss of power.
+-- What was played before the first power cut.
 use Rattle.std.specs.Prelude.{◌≡◌, ◌⊎◌, ℕ, List, [], ◌++◌}
 use Rattle.cct_model.specs.terms.device.Setup.{Setup}
 use Rattle.cct_model.specs.lines.command.Step.{Step}
@@ -8,8 +8,8 @@ use Rattle.cct_model.specs.Transcript.{onto}
 use Rattle.cct_world.specs.Step.{crashes}
 use Rattle.cct_world.specs.Relying.{First, IsCrash, losses_in}
 
--- The first of these steps, up to the first loss of power, gave the first of these entries, and this holds of both: they
--- are all, or a loss of power is the next step.
+-- The first of these steps, up to the first power cut, gave the first of these entries, and this holds of both: they
+-- are all, or a power cut is the next step.
 pub record BeforeLoss (steps : List Step) (transcript : List Entry) (So : List Step → List Entry → Type 0) : Type 0 where
   pub first : List Step
   pub later : List Step
@@ -21,7 +21,7 @@ pub record BeforeLoss (steps : List Step) (transcript : List Entry) (So : List S
   pub ends : ((later ≡ []) × (rest ≡ [])) ⊎ First IsCrash later
   pub so : So first told
 
--- The entries of the steps before the first loss of power are legal, and tell none.
+-- The entries of the steps before the first power cut are legal, and tell none.
 abbrev pub LegalBeforeLoss : ℕ → Setup → List Step → List Entry → Type 0
 LegalBeforeLoss capacity setup steps transcript =
     BeforeLoss steps transcript (λ first told. (crashes (onto [] told) ≡ 0) × Legal capacity setup first told)

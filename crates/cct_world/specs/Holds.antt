@@ -13,7 +13,7 @@ use Rattle.cct_world.specs.Relying.{IsReliable}
 use Rattle.cct_world.specs.World.{StandsFor, disk_of, setup_of, used_of}
 
 -- What is so after these steps and their past, where one disk was given and became another: what stands for the past does
--- so where that may be relied on; so many records are counted as the past has; behind each loss of power among the steps a
+-- so where that may be relied on; so many records are counted as the past has; after each power cut among the steps a
 -- host started again; and the power of the disk was cut just as often as the past tells.
 pub record Holds {D : Type 0} (size : D → ℕ) (honest : D → Bool) (seen : D → Option (List ℕ)) (cuts : D → ℕ)
     (cut_to : D → ℕ → D → Type 0) (Stands : List Entry → Type 0) (setup : Setup) (given now : D) (used : ℕ)

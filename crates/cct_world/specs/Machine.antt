@@ -25,14 +25,14 @@ use Rattle.cct_world.specs.Restarts.{Loses, Restarts, kept_in}
 use Rattle.cct_world.specs.Step.{CutsIn, LastsIn, crashes, crashes_of}
 
 -- What a step takes for granted of the past: of a `next`, that the record that it puts, if it puts one, suits the
--- records before it; and of a loss of power, that the records follow one another, with the one whose put it interrupts.
+-- records before it; and of a power cut, that the records follow one another, with the one whose put it interrupts.
 -- Of any other step nothing is asked.
 abbrev pub StepSuits : Setup → List Entry → Step → Type 0
 StepSuits setup past (step.Next addr) = PutSuits setup past addr
 StepSuits setup past (step.Crash at choice) = RestartSuits setup past at
 StepSuits setup past s = ⊤
 
--- What a step takes for granted of the disk: of a loss of power, that it is trusted. Of any other step nothing is
+-- What a step takes for granted of the disk: of a power cut, that it is trusted. Of any other step nothing is
 -- asked.
 abbrev pub Survives : Type 0 → Step → Type 0
 Survives trusted (step.Crash at choice) = trusted
@@ -68,14 +68,14 @@ module _ {D : Type 0} {g : Ghosts D} where
   abbrev pub HasTrusted : Machine D g → Type 0
   HasTrusted machine = IsTrusted g.honest g.seen (disk_of machine)
 
-  -- A step gives these entries, oldest first, whatever is behind it, where a record that it puts suits those before it;
-  -- and the machine goes on by them. A loss of power does so on a trusted disk.
+  -- A step gives these entries, oldest first, whatever is after it, where a record that it puts suits those before it;
+  -- and the machine goes on by them. A power cut does so on a trusted disk.
   abbrev pub Plays : Machine D g → Machine D g → Step → List Entry → Type 0
   Plays old new s report =
       (past : List Entry) → StandsFor old past → StepSuits (setup_of old) past s → Survives (HasTrusted old) s
       → Entries (capacity_in old) (setup_of old) past s (reverse report) × StandsFor new (reverse report ++ past)
 
-  -- A call of the disk failed in a step. It is a `next` that was about to put a record, and whatever a loss of power
+  -- A call of the disk failed in a step. It is a `next` that was about to put a record, and whatever a power cut
   -- leaves on the trusted disk stands for the records of the past, or for these and that one; or it is a loss of
   -- power, and that leaves these alone where no put was interrupted.
   abbrev pub FailsIn : Machine D g → D → Step → Type 0
@@ -88,7 +88,7 @@ module _ {D : Type 0} {g : Ghosts D} where
       → LeavesRecords (setup_of old) g.honest g.seen g.may_leave left (due_in (setup_of old) past at) (reverse (records past))
   FailsIn old left s = ⊥
 
-  -- The record that its host is about to put where a loss of power comes, if it is about to put one.
+  -- The record that its host is about to put where a power cut comes, if it is about to put one.
   abbrev pub due_of : Machine D g → Option CrashAt → Option Record
   due_of machine at = restarting.due_of machine.host at
 
@@ -97,7 +97,7 @@ module _ {D : Type 0} {g : Ghosts D} where
   DueAsTold machine at =
       (past : List Entry) → StandsFor machine past → due_of machine at ≡ due_in (setup_of machine) past at
 
-  -- What a loss of power left isn't what stood on the disk, and this is why. That is told of no other step, and never of
+  -- What a power cut left isn't what stood on the disk, and this is why. That is told of no other step, and never of
   -- a trusted disk.
   abbrev pub LosesIn : Machine D g → D → CrashNo → Step → Type 0
   LosesIn old left why (step.Crash at choice) =
@@ -105,7 +105,7 @@ module _ {D : Type 0} {g : Ghosts D} where
       × DueAsTold old at × Loses (setup_of old) (used_of old) (due_of old at) (g.seen left) why
   LosesIn old left why s = ⊥
 
-  -- What the disk has behind a step that was played, where that is a loss of power, and what is told of it, newest entry
+  -- What the disk has after a step that was played, where that is a power cut, and what is told of it, newest entry
   -- first. Any other step tells no record as kept.
   abbrev pub RestartsBy : Machine D g → Machine D g → Step → List Entry → Type 0
   RestartsBy old new (step.Crash at choice) news =

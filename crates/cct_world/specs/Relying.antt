@@ -9,16 +9,16 @@ use Rattle.cct_model.specs.Legal.{due_at}
 use Rattle.cct_laws.specs.Restart.{due_in}
 use Rattle.cct_world.specs.Step.{crashes, crashes_of}
 
--- What is claimed of a past may be relied on: the disk was trusted, or no loss of power is told.
+-- What is claimed of a past may be relied on: the disk was trusted, or no power cut is told.
 abbrev pub IsReliable : Type 0 → List Entry → Type 0
 IsReliable trusted past = trusted ⊎ (crashes past ≡ 0)
 
--- How many of these steps are losses of power.
+-- How many of these steps are power cuts.
 abbrev pub losses_in : List Step → ℕ
 losses_in [] = 0
 losses_in (s ∷ steps) = crashes_of s + losses_in steps
 
--- The step is a loss of power.
+-- The step is a power cut.
 abbrev pub IsCrash : Step → Type 0
 IsCrash (step.Crash at choice) = ⊤
 IsCrash s = ⊥
@@ -29,7 +29,7 @@ due_to setup past (step.Next addr) = due_at setup past addr
 due_to setup past (step.Crash at choice) = due_in setup past at
 due_to setup past s = None
 
--- The disk may fail in a step: in a loss of power, and in a `next`, whose job was about to put a record where the past
+-- The disk may fail in a step: in a power cut, and in a `next`, whose job was about to put a record where the past
 -- may be relied on.
 abbrev pub MayFail : Type 0 → Setup → List Entry → Step → Type 0
 MayFail sure setup past (step.Next addr) = sure → (r : Record) × (due_at setup past addr ≡ Some r)

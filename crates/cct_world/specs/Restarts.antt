@@ -1,4 +1,4 @@
--- What a disk has behind a loss of power: a journal over which the host starts again, or why it doesn't.
+-- What a disk has after a power cut: a journal over which the host starts again, or why it doesn't.
 use Rattle.std.specs.Prelude.{◌≡◌, ◌⊎◌, ℕ, suc, Bool, List, [], ◌∷◌, ◌++◌, length, Option, Some, None}
 use Rattle.cct_model.specs.terms.device.Setup.{Setup}
 use Rattle.cct_model.specs.lines.command.CrashAt.{CrashAt}
@@ -22,7 +22,7 @@ use Rattle.cct_world.specs.Step.{count_after, crashes}
 abbrev pub HasBad : Setup → ℕ → Option Record → List ℕ → ℕ → Type 0
 HasBad setup put due image index = (many : ℕ) × HasAll due many put × FindsBad setup image many index
 
--- Why no host starts again behind a loss of power, where so many records were put and this one was due, if one was, by
+-- Why no host starts again after a power cut, where so many records were put and this one was due, if one was, by
 -- what a read of the disk then gives, where that is told: it has no journal; a record can't be read, or none is missing
 -- and this one doesn't follow; or it has so many, which are others than were put.
 abbrev pub Loses : Setup → ℕ → Option Record → Option (List ℕ) → CrashNo → Type 0
@@ -37,7 +37,7 @@ Loses setup put due seen (crash_no.Lost found many) =
 abbrev pub IsWhole : Setup → Option (List ℕ) → ℕ → Type 0
 IsWhole setup seen many = (image : List ℕ) → seen ≡ Some image → FindsWhole setup image many
 
--- A host starts again behind a loss of power, where so many records were put and this one was due, if one was: these are
+-- A host starts again after a power cut, where so many records were put and this one was due, if one was: these are
 -- its entries, newest first; none of the records is missing; so many does its journal then count; and a read of the
 -- disk gives just so many, each of which follows.
 pub record Restarts (setup : Setup) (due : Option Record) (put many : ℕ) (seen : Option (List ℕ)) (news : List Entry)
@@ -52,7 +52,7 @@ kept_in [] = []
 kept_in (entry.Kept r ∷ past) = r ∷ kept_in past
 kept_in (e ∷ past) = kept_in past
 
--- Behind a step that is a loss of power a host starts again so, where this record, or none, was due: none where the step
+-- After a step that is a power cut a host starts again so, where this record, or none, was due: none where the step
 -- names no put, and what any past tells for which this stood before. Any other step tells no record as kept.
 abbrev pub RestartsIn : (List Entry → Type 0) → Setup → Step → ℕ → ℕ → Option (List ℕ) → List Entry → Type 0
 RestartsIn Before setup (step.Crash at choice) put many seen news =
@@ -61,7 +61,7 @@ RestartsIn Before setup (step.Crash at choice) put many seen news =
 RestartsIn Before setup s put many seen news = kept_in news ≡ []
 
 -- While a disk became another its power was cut for this time, and this holds of the choice of the cut and of what a read
--- gave right behind it.
+-- gave right after it.
 pub record CutAt {D : Type 0} (size : D → ℕ) (honest : D → Bool) (seen : D → Option (List ℕ)) (cuts : D → ℕ)
     (cut_to : D → ℕ → D → Type 0) (given now : D) (times : ℕ) (P : ℕ → Option (List ℕ) → Type 0) : Type 0 where
   pub before : D
@@ -73,15 +73,15 @@ pub record CutAt {D : Type 0} (size : D → ℕ) (honest : D → Bool) (seen : D
   pub count : cuts behind ≡ count_after times (cuts given)
   pub holds : P choice (seen behind)
 
--- This record, or none, was due where a loss of power comes behind a past: none where that names no put; and the one that
+-- This record, or none, was due where a power cut comes after a past: none where that names no put; and the one that
 -- the past tells, where it may be relied on.
 pub record WasDue (sure : Type 0) (setup : Setup) (past : List Entry) (at : Option CrashAt) (due : Option Record)
     : Type 0 where
   pub none : at ≡ None → due ≡ None
   pub told : sure → due ≡ due_in setup past at
 
--- The step behind a past is a loss of power, and this is why no host starts again behind it, by what a read gave right
--- behind the cut, as it then still does; the cut was by the choice of the step.
+-- The step after a past is a power cut, and this is why no host starts again after it, by what a read gave right
+-- after the cut, as it then still does; the cut was by the choice of the step.
 abbrev pub LosesAt : Type 0 → (ℕ → (ℕ → Option (List ℕ) → Type 0) → Type 0) → Setup → List Entry → Option (List ℕ) → CrashNo
     → Step → Type 0
 LosesAt sure Cut setup past seen why (step.Crash at choice) =
@@ -90,8 +90,8 @@ LosesAt sure Cut setup past seen why (step.Crash at choice) =
     (λ chosen behind. (chosen ≡ choice) × (seen ≡ behind) × Loses setup (length (records past)) due behind why)
 LosesAt sure Cut setup past seen why s = ⊥
 
--- These are the entries, newest first, of a step that was played behind a past: where it is a loss of power, of one
--- behind which a host started again, by what a read gave right behind the cut, which was by its choice; and any other
+-- These are the entries, newest first, of a step that was played after a past: where it is a power cut, of one
+-- after which a host started again, by what a read gave right after the cut, which was by its choice; and any other
 -- step tells none, and no record as kept.
 abbrev pub RestartsAt : Type 0 → (ℕ → (ℕ → Option (List ℕ) → Type 0) → Type 0) → Setup → List Entry → Step → List Entry → Type 0
 RestartsAt sure Cut setup past (step.Crash at choice) news =
@@ -107,7 +107,7 @@ pub data EachStep (P : List Entry → Step → List Entry → Type 0) : List Ste
   one_step_more : (before steps : List Step) (past told news : List Entry) (s : Step) → EachStep P before past
       → P past s news → steps ≡ before ++ s ∷ [] → told ≡ news ++ past → EachStep P steps told
 
--- Behind each loss of power among these steps a host started again.
+-- After each power cut among these steps a host started again.
 abbrev pub Survived : (List Entry → Type 0) → (ℕ → (ℕ → Option (List ℕ) → Type 0) → Type 0) → Setup → List Step → List Entry
     → Type 0
 Survived Relies Cut setup steps past =

@@ -1,4 +1,4 @@
--- Steps, the entries of what befalls devices, and losses of power.
+-- Steps, the entries of what befalls devices, and power cuts.
 use Rattle.std.specs.Prelude.{◌≡◌, ℕ, zero, suc, ◌+◌, ◌≤◌, Bool, true, false, List, [], ◌∷◌, Option}
 use Rattle.cct_model.specs.terms.family.Happening.{Happening}
 use Rattle.cct_model.specs.terms.family.Happening.TheVariants as happening
@@ -27,7 +27,7 @@ abbrev pub is_next : Step → Bool
 is_next (step.Next addr) = true
 is_next s = false
 
--- How many losses of power an entry tells: one or none.
+-- How many power cuts an entry tells: one or none.
 abbrev pub crashes_told : Entry → ℕ
 crashes_told (entry.Crash used) = 1
 crashes_told e = 0
@@ -37,7 +37,7 @@ abbrev pub crashes : List Entry → ℕ
 crashes [] = 0
 crashes (e ∷ past) = crashes_told e + crashes past
 
--- How many losses of power a step is: one or none.
+-- How many power cuts a step is: one or none.
 abbrev pub crashes_of : Step → ℕ
 crashes_of (step.Crash at choice) = 1
 crashes_of s = 0
@@ -51,12 +51,12 @@ count_after (suc many) count = next_count (count_after many count)
 abbrev pub RoseBy : ℕ → ℕ → ℕ → Type 0
 RoseBy many before now = count_after many before ≤ now
 
--- A disk goes on in a step as it was; in a loss of power its power may be cut, and in no other step.
+-- A disk goes on in a step as it was; in a power cut its power may be cut, and in no other step.
 abbrev pub LastsIn : {D : Type 0} → Step → (D → ℕ) → (D → Bool) → (D → Option (List ℕ)) → (D → ℕ) → D → D → Type 0
 LastsIn (step.Crash at choice) size honest seen cuts old new = Outlasts size honest seen cuts old new
 LastsIn s size honest seen cuts old new = GoesOn size honest seen cuts old new
 
--- The power of a disk is cut just once in a loss of power, by its choice, and in no other step.
+-- The power of a disk is cut just once in a power cut, by its choice, and in no other step.
 abbrev pub CutsIn : {D : Type 0} → Step → (D → ℕ) → (D → Bool) → (D → Option (List ℕ)) → (D → ℕ) → (D → ℕ → D → Type 0) → D → D
     → Type 0
 CutsIn (step.Crash at choice) size honest seen cuts cut_to old new =
