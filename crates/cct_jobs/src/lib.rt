@@ -5,6 +5,7 @@
 
 mod asks;
 mod by_row;
+mod by_value;
 mod first_row;
 mod ident;
 mod job;
