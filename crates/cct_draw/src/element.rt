@@ -4,15 +4,11 @@ use crate::layout::{HEARD_LINE, HOST_LANE, REQUEST_LINE, ROW_MIDDLE};
 use crate::pen::Pen;
 use crate::shape::{Arrow, CROSS, Caption, Shape};
 use cct_edge::Sink;
+use itoa::Integer;
 
 /// Draws a sign at a lane.
 pub(crate) fn draw_shape<K: Sink>(pen: &mut Pen<'_, K>, shape: Shape, lane: u32) {
-    pen.push(b"<path class=\"");
-    pen.push(shape.class());
-    pen.push(b"\" d=\"M");
-    pen.push_number(lane);
-    pen.push(b" ");
-    pen.push_number(ROW_MIDDLE);
+    begin_path(pen, shape.class(), lane, ROW_MIDDLE);
     pen.push(shape.path());
     pen.push(b"\"/>\n");
 }
@@ -49,26 +45,23 @@ pub(crate) fn draw_lost_echo<K: Sink>(pen: &mut Pen<'_, K>, bytes: &[u8]) {
 
 /// Begins the element of a cross.
 fn begin_cross<K: Sink>(pen: &mut Pen<'_, K>, place: u32, height: u32) {
-    pen.push(b"<path class=\"bad\" d=\"M");
-    pen.push_number(place);
-    pen.push(b" ");
-    pen.push_number(height);
+    begin_path(pen, b"bad", place, height);
     pen.push(CROSS);
     pen.push(b"\"");
 }
 
 /// Begins the element of a line.
 fn begin_arrow<K: Sink>(pen: &mut Pen<'_, K>, arrow: Arrow, from: u32, to: u32) {
-    pen.push(b"<path class=\"");
-    pen.push(arrow.class());
-    pen.push(b"\" d=\"M");
-    pen.push_number(from);
-    pen.push(b" ");
-    pen.push_number(arrow.height());
-    pen.push(b"H");
-    pen.push_number(to);
-    pen.push(arrow.head());
+    begin_path(pen, arrow.class(), from, arrow.height());
+    push_numbered(pen, b"H", to, arrow.head());
     pen.push(b"\"");
+}
+
+/// Begins the element of a path of a class, up to the point at which the path begins.
+pub(crate) fn begin_path<K: Sink>(pen: &mut Pen<'_, K>, class: &[u8], left: u32, top: u32) {
+    pen.push(b"<path class=\"");
+    pen.push(class);
+    push_pair(pen, b"\" d=\"M", left, b" ", top, b"");
 }
 
 /// Ends an element with the bytes that it stands for.
@@ -77,10 +70,7 @@ fn end_bytes<K: Sink>(pen: &mut Pen<'_, K>, bytes: &[u8]) {
     match bytes.len() {
         0 => pen.push(b"no byte"),
         1 => pen.push(b"1 byte:"),
-        count => {
-            pen.push_number(count);
-            pen.push(b" bytes:");
-        }
+        count => push_numbered(pen, b"", count, b" bytes:"),
     }
     pen.push_hex(bytes);
     pen.push(b"</title></path>\n");
@@ -90,9 +80,7 @@ fn end_bytes<K: Sink>(pen: &mut Pen<'_, K>, bytes: &[u8]) {
 pub(crate) fn begin_text<K: Sink>(pen: &mut Pen<'_, K>, caption: Caption, lane: u32) {
     pen.push(b"<text ");
     pen.push(caption.attributes());
-    pen.push(b" x=\"");
-    pen.push_number(lane);
-    pen.push(b"\">");
+    push_numbered(pen, b" x=\"", lane, b"\">");
 }
 
 /// Ends a text.
@@ -103,21 +91,33 @@ pub(crate) fn end_text<K: Sink>(pen: &mut Pen<'_, K>) {
 /// Ends a text of a row that stands for so many lines.
 pub(crate) fn end_times<K: Sink>(pen: &mut Pen<'_, K>, times: u64) {
     if times > 1 {
-        pen.push(b", ");
-        pen.push_number(times);
-        pen.push(b" times");
+        push_numbered(pen, b", ", times, b" times");
     }
     end_text(pen);
 }
 
 /// Writes a number between two texts.
-pub(crate) fn push_numbered<K: Sink>(
+pub(crate) fn push_numbered<K: Sink, I: Integer>(
     pen: &mut Pen<'_, K>,
     before: &[u8],
-    number: u32,
+    number: I,
     after: &[u8],
 ) {
     pen.push(before);
     pen.push_number(number);
+    pen.push(after);
+}
+
+/// Writes two numbers, with a text before, between and after them.
+pub(crate) fn push_pair<K: Sink, I: Integer>(
+    pen: &mut Pen<'_, K>,
+    before: &[u8],
+    first: I,
+    between: &[u8],
+    second: I,
+    after: &[u8],
+) {
+    push_numbered(pen, before, first, between);
+    pen.push_number(second);
     pen.push(after);
 }

@@ -35,9 +35,7 @@ impl Label {
     /// Adds text at the end.
     pub fn push(&mut self, text: &[u8]) {
         let room = MOST_LABEL - self.len;
-        for (place, byte) in self.bytes[self.len..].iter_mut().zip(text) {
-            *place = printable(*byte);
-        }
+        fill(&mut self.bytes[self.len..], text);
         if text.len() > room {
             self.bytes[MOST_LABEL - 2..].copy_from_slice(b"..");
         }
@@ -56,6 +54,13 @@ impl fmt::Write for Label {
     fn write_str(&mut self, text: &str) -> fmt::Result {
         self.push(text.as_bytes());
         Ok(())
+    }
+}
+
+/// Puts the bytes of a text, as a label has them, into the places that are there.
+fn fill(places: &mut [u8], text: &[u8]) {
+    for (place, byte) in places.iter_mut().zip(text) {
+        *place = printable(*byte);
     }
 }
 

@@ -1,6 +1,6 @@
 //! The frame of a picture, and its pages.
 
-use crate::element::{begin_text, end_text, push_numbered};
+use crate::element::{begin_path, begin_text, end_text, push_numbered, push_pair};
 use crate::layout::{
     HEAD_HEIGHT, HOST_LANE, LANE_TOP, Lanes, NAMES_EVERY, NAMES_TOP, ROW_HEIGHT, TITLE_START,
     rows_height,
@@ -51,15 +51,15 @@ pub(crate) struct PageNumber {
 
 /// Begins a picture of this size, on white.
 pub(crate) fn begin_picture<K: Sink>(pen: &mut Pen<'_, K>, width: u32, height: u32) {
-    push_numbered(
+    push_pair(
         pen,
         b"<svg xmlns=\"http://www.w3.org/2000/svg\" width=\"",
         width,
+        b"\" height=\"",
+        height,
         b"\"",
     );
-    push_numbered(pen, b" height=\"", height, b"\"");
-    push_numbered(pen, b" viewBox=\"0 0 ", width, b" ");
-    push_numbered(pen, b"", height, b"\">\n");
+    push_pair(pen, b" viewBox=\"0 0 ", width, b" ", height, b"\">\n");
     pen.push(STYLE);
     pen.push(b"<rect width=\"100%\" height=\"100%\" fill=\"#fff\"/>\n");
     pen.flush();
@@ -87,8 +87,14 @@ pub(crate) fn draw_page<K: Sink>(
 
 /// Begins a group of elements that has its own top left corner.
 fn begin_group<K: Sink>(pen: &mut Pen<'_, K>, left: u32, top: u32) {
-    push_numbered(pen, b"<g transform=\"translate(", left, b" ");
-    push_numbered(pen, b"", top, b")\">\n");
+    push_pair(
+        pen,
+        b"<g transform=\"translate(",
+        left,
+        b" ",
+        top,
+        b")\">\n",
+    );
 }
 
 /// Ends a group, and puts it.
@@ -97,21 +103,30 @@ fn end_group<K: Sink>(pen: &mut Pen<'_, K>) {
     pen.flush();
 }
 
-/// Draws what a page is and which lines it has.
+/// Draws the title of a page.
 fn draw_title<K: Sink>(pen: &mut Pen<'_, K>, page: PageNumber, rows: &[Row]) {
     begin_text(pen, Caption::Title, TITLE_START);
-    push_numbered(pen, b"page ", page.index.saturating_add(1), b" of ");
-    pen.push_number(page.count);
+    let number = page.index.saturating_add(1);
+    push_pair(pen, b"page ", number, b" of ", page.count, b"");
+    write_lines(pen, rows);
+    end_text(pen);
+}
+
+/// Writes which lines the rows of a page stand for, if it has any.
+fn write_lines<K: Sink>(pen: &mut Pen<'_, K>, rows: &[Row]) {
     if let [first, ..] = rows
         && let [.., last] = rows
     {
-        pen.push(b", lines ");
-        pen.push_number(first.line);
-        pen.push(b" to ");
-        pen.push_number(last.line.saturating_add(last.times.saturating_sub(1)));
-        pen.push(b", time downwards");
+        let end = last.line.saturating_add(last.times.saturating_sub(1));
+        push_pair(
+            pen,
+            b", lines ",
+            first.line,
+            b" to ",
+            end,
+            b", time downwards",
+        );
     }
-    end_text(pen);
 }
 
 /// Draws all lanes down to an end.
@@ -126,9 +141,8 @@ fn draw_lanes<K: Sink>(pen: &mut Pen<'_, K>, lanes: &Lanes, end: u32) {
 
 /// Draws a lane.
 fn draw_lane<K: Sink>(pen: &mut Pen<'_, K>, lane: u32, end: u32) {
-    push_numbered(pen, b"<path class=\"lane\" d=\"M", lane, b" ");
-    push_numbered(pen, b"", LANE_TOP, b"V");
-    push_numbered(pen, b"", end, b"\"/>\n");
+    begin_path(pen, b"lane", lane, LANE_TOP);
+    push_numbered(pen, b"V", end, b"\"/>\n");
 }
 
 /// Draws the names of all lanes, below a top.
@@ -148,32 +162,28 @@ fn draw_names<K: Sink>(pen: &mut Pen<'_, K>, lanes: &Lanes, top: u32) {
 /// Draws the name of a device's lane.
 fn draw_name<K: Sink>(pen: &mut Pen<'_, K>, lanes: &Lanes, addr: u8) {
     begin_text(pen, Caption::Name, lanes.place(addr));
-    pen.push(kind_name(lanes.kind(addr)));
-    pen.push_number(addr);
+    push_numbered(pen, kind_name(lanes.kind(addr)), addr, b"");
     end_text(pen);
 }
 
 /// Draws the rows of a page, and the names of its lanes between them.
 fn draw_rows<K: Sink>(pen: &mut Pen<'_, K>, lanes: &Lanes, rows: &[Row]) {
     let mut top = HEAD_HEIGHT;
-    for part in rows.chunks(NAMES_EVERY) {
-        if top > HEAD_HEIGHT {
+    for (index, row) in rows.iter().enumerate() {
+        if index > 0 && index % NAMES_EVERY == 0 {
             draw_names(pen, lanes, top);
             top = top.saturating_add(ROW_HEIGHT);
         }
-        for row in part {
-            begin_group(pen, 0, top);
-            draw_row(pen, lanes, row);
-            end_group(pen);
-            top = top.saturating_add(ROW_HEIGHT);
-        }
+        begin_group(pen, 0, top);
+        draw_row(pen, lanes, row);
+        end_group(pen);
+        top = top.saturating_add(ROW_HEIGHT);
     }
 }
 
 /// Draws how many lines a picture leaves out.
 pub(crate) fn draw_left_out<K: Sink>(pen: &mut Pen<'_, K>, left_out: u64) {
     begin_text(pen, Caption::LeftOut, TITLE_START);
-    pen.push_number(left_out);
-    pen.push(b" more lines are left out");
+    push_numbered(pen, b"", left_out, b" more lines are left out");
     end_text(pen);
 }

@@ -59,7 +59,13 @@ fn draw_of_host<K: Sink>(pen: &mut Pen<'_, K>, mark: &Mark, times: u64) {
         Mark::Taken(words) => draw_words(pen, Shape::Taken, b"taken: ", words, times),
         Mark::Refused(words) => draw_words(pen, Shape::Refused, b"refused: ", words, times),
         Mark::Ended(words) => draw_words(pen, Shape::Ended, b"ended: ", words, times),
-        Mark::Alarm(words) => draw_alarm(pen, words, times),
+        Mark::Alarm(words) => draw_words(
+            pen,
+            Shape::Alarm,
+            b"ended, to be looked at: ",
+            words,
+            times,
+        ),
         Mark::Put(record) => draw_record(pen, Shape::Put, b"put: ", record, times),
         Mark::Kept(record) => draw_record(pen, Shape::Kept, b"kept: ", record, times),
         Mark::Note(words) => draw_note(pen, words, times),
@@ -67,7 +73,8 @@ fn draw_of_host<K: Sink>(pen: &mut Pen<'_, K>, mark: &Mark, times: u64) {
     }
 }
 
-/// Draws an exchange, or one half of it, with the lane of a device.
+/// Draws an exchange, or one half of it, with the lane of a device. How many lines it stands for is written at its first
+/// half.
 fn draw_exchange<K: Sink>(
     pen: &mut Pen<'_, K>,
     lane: u32,
@@ -75,14 +82,13 @@ fn draw_exchange<K: Sink>(
     reply: &Option<Reply>,
     times: u64,
 ) {
-    match (ask, reply) {
-        (Some(ask), Some(reply)) => {
-            draw_ask(pen, lane, ask, times);
-            draw_reply(pen, lane, reply, 1);
-        }
-        (Some(ask), None) => draw_ask(pen, lane, ask, times),
-        (None, Some(reply)) => draw_reply(pen, lane, reply, times),
-        (None, None) => {}
+    let mut reply_times = times;
+    if let Some(ask) = ask {
+        draw_ask(pen, lane, ask, times);
+        reply_times = 1;
+    }
+    if let Some(reply) = reply {
+        draw_reply(pen, lane, reply, reply_times);
     }
 }
 
@@ -167,17 +173,8 @@ fn draw_words<K: Sink>(
     times: u64,
 ) {
     draw_shape(pen, shape, HOST_LANE);
-    begin_text(pen, Caption::Host, HOST_LANE);
+    begin_text(pen, shape.caption(), HOST_LANE);
     pen.push(before);
-    pen.push_label(words);
-    end_times(pen, times);
-}
-
-/// Draws an end at which somebody is to look.
-fn draw_alarm<K: Sink>(pen: &mut Pen<'_, K>, words: &Label, times: u64) {
-    draw_shape(pen, Shape::Alarm, HOST_LANE);
-    begin_text(pen, Caption::Alarm, HOST_LANE);
-    pen.push(b"ended, to be looked at: ");
     pen.push_label(words);
     end_times(pen, times);
 }

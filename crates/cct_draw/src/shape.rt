@@ -41,6 +41,14 @@ impl Shape {
         }
     }
 
+    /// What the text beside a sign at the host's lane is.
+    pub(crate) fn caption(self) -> Caption {
+        match self {
+            Shape::Alarm => Caption::Alarm,
+            _ => Caption::Host,
+        }
+    }
+
     /// The path of a sign: a dot or a square with an arrow into it or out of it, or what its name says.
     pub(crate) fn path(self) -> &'static [u8] {
         match self {

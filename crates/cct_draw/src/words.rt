@@ -1,6 +1,6 @@
 //! What is written beside the signs of a picture.
 
-use crate::element::push_numbered;
+use crate::element::{push_numbered, push_pair};
 use crate::pen::Pen;
 use crate::{FaultAt, Happening, Heard, Label, LaneKind};
 use cct_edge::Sink;
@@ -16,22 +16,29 @@ pub(crate) fn kind_name(kind: LaneKind) -> &'static [u8] {
     }
 }
 
-/// Writes what happened in a device.
+/// What happened in a device, in some words.
+fn happening_name(what: Happening) -> &'static [u8] {
+    match what {
+        Happening::Accepted { .. } => b"coin in",
+        Happening::Inhibited { .. } => b"coin given back",
+        Happening::Alien => b"alien object",
+        Happening::Fell => b"coin out",
+        Happening::NoFall => b"no coin left to fall",
+        Happening::Jammed => b"jammed",
+        Happening::NoJam => b"no coin left to jam",
+        Happening::Reset => b"reset",
+    }
+}
+
+/// Writes what happened in a device, and of a coin where it fell.
 pub(crate) fn write_happening<K: Sink>(pen: &mut Pen<'_, K>, what: Happening) {
+    pen.push(happening_name(what));
     match what {
         Happening::Accepted { place, path } => {
-            push_numbered(pen, b"coin in: place ", u32::from(place), b", path ");
-            pen.push_number(path);
+            push_pair(pen, b": place ", place, b", path ", path, b"");
         }
-        Happening::Inhibited { place } => {
-            push_numbered(pen, b"coin given back: place ", u32::from(place), b"");
-        }
-        Happening::Alien => pen.push(b"alien object"),
-        Happening::Fell => pen.push(b"coin out"),
-        Happening::NoFall => pen.push(b"no coin left to fall"),
-        Happening::Jammed => pen.push(b"jammed"),
-        Happening::NoJam => pen.push(b"no coin left to jam"),
-        Happening::Reset => pen.push(b"reset"),
+        Happening::Inhibited { place } => push_numbered(pen, b": place ", place, b""),
+        _ => {}
     }
 }
 
@@ -57,23 +64,27 @@ pub(crate) fn write_heard<K: Sink>(pen: &mut Pen<'_, K>, heard: Heard, says: &La
     }
 }
 
-/// Writes what fault the wire has in the next exchange.
-pub(crate) fn write_fault<K: Sink>(pen: &mut Pen<'_, K>, at: FaultAt, bytes: &Label) {
+/// What fault the wire has in the next exchange, up to the bytes that will be heard.
+fn fault_name(at: FaultAt) -> &'static [u8] {
     match at {
-        FaultAt::Nowhere => pen.push(b"no fault in the next exchange"),
-        FaultAt::Devices => write_fault_bytes(pen, b"fault: the devices will hear ", bytes),
-        FaultAt::Host => write_fault_bytes(pen, b"fault: as the reply the host will hear ", bytes),
-        FaultAt::Whole => write_fault_bytes(
-            pen,
-            b"fault: as echo and reply the host will hear ",
-            bytes,
-        ),
+        FaultAt::Nowhere => b"no fault in the next exchange",
+        FaultAt::Devices => b"fault: the devices will hear ",
+        FaultAt::Host => b"fault: as the reply the host will hear ",
+        FaultAt::Whole => b"fault: as echo and reply the host will hear ",
     }
 }
 
-/// Writes who will hear the bytes of a fault, and these bytes.
-fn write_fault_bytes<K: Sink>(pen: &mut Pen<'_, K>, who: &[u8], bytes: &Label) {
-    pen.push(who);
+/// Writes what fault the wire has in the next exchange, and the bytes that will be heard.
+pub(crate) fn write_fault<K: Sink>(pen: &mut Pen<'_, K>, at: FaultAt, bytes: &Label) {
+    pen.push(fault_name(at));
+    match at {
+        FaultAt::Nowhere => {}
+        FaultAt::Devices | FaultAt::Host | FaultAt::Whole => write_heard_bytes(pen, bytes),
+    }
+}
+
+/// Writes the bytes of a fault, which may be none.
+fn write_heard_bytes<K: Sink>(pen: &mut Pen<'_, K>, bytes: &Label) {
     match bytes.as_slice() {
         b"-" => pen.push(b"nothing"),
         _ => pen.push_label(bytes),
