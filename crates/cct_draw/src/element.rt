@@ -57,7 +57,7 @@ fn begin_arrow<K: Sink>(pen: &mut Pen<'_, K>, arrow: Arrow, from: u32, to: u32) 
     pen.push(b"\"");
 }
 
-/// Begins the element of a path of a class, up to the point at which the path begins.
+/// Begins the element of a path that has this class and begins at this place.
 pub(crate) fn begin_path<K: Sink>(pen: &mut Pen<'_, K>, class: &[u8], left: u32, top: u32) {
     pen.push(b"<path class=\"");
     pen.push(class);
@@ -66,11 +66,10 @@ pub(crate) fn begin_path<K: Sink>(pen: &mut Pen<'_, K>, class: &[u8], left: u32,
 
 /// Ends an element with the bytes that it stands for.
 fn end_bytes<K: Sink>(pen: &mut Pen<'_, K>, bytes: &[u8]) {
-    pen.push(b"><title>");
     match bytes.len() {
-        0 => pen.push(b"no byte"),
-        1 => pen.push(b"1 byte:"),
-        count => push_numbered(pen, b"", count, b" bytes:"),
+        0 => pen.push(b"><title>no byte"),
+        1 => pen.push(b"><title>1 byte:"),
+        count => push_numbered(pen, b"><title>", count, b" bytes:"),
     }
     pen.push_hex(bytes);
     pen.push(b"</title></path>\n");

@@ -30,7 +30,7 @@ fn happening_name(what: Happening) -> &'static [u8] {
     }
 }
 
-/// Writes what happened in a device, and of a coin where it fell.
+/// Writes what happened in a device, and the place and the path of a coin.
 pub(crate) fn write_happening<K: Sink>(pen: &mut Pen<'_, K>, what: Happening) {
     pen.push(happening_name(what));
     match what {
