@@ -1,9 +1,9 @@
-//! The front of what is put.
+//! The front of a last line.
 
 /// How many bytes of one put are kept. The last lines that tell how a run ended are shorter.
 const ROOM: usize = 64;
 
-/// The front of the last put.
+/// The front of the last put that may have been a last line.
 #[derive(Drop)]
 pub(crate) struct Front {
     bytes: [u8; ROOM],
@@ -19,8 +19,15 @@ impl Front {
         }
     }
 
-    /// Keeps the front of these bytes in place of the ones before.
+    /// Keeps the front of these bytes in place of the ones before, if they may be a last line.
     pub(crate) fn note(&mut self, bytes: &[u8]) {
+        if may_be_last(bytes) {
+            self.keep(bytes);
+        }
+    }
+
+    /// Keeps the front of these bytes in place of the ones before.
+    fn keep(&mut self, bytes: &[u8]) {
         let len = bytes.len().min(ROOM);
         self.bytes[..len].copy_from_slice(&bytes[..len]);
         self.len = len;
@@ -29,5 +36,21 @@ impl Front {
     /// The bytes kept.
     pub(crate) fn bytes(&self) -> &[u8] {
         &self.bytes[..self.len.min(ROOM)]
+    }
+}
+
+/// Whether a line may be the last one of a run that went wrong: it has the first two letters of one. Few lines of steps
+/// have, so that few are kept.
+fn may_be_last(line: &[u8]) -> bool {
+    let (Some(first), Some(second)) = (line.first(), line.get(1)) else {
+        return false;
+    };
+    match (*first, *second) {
+        (b'd', b'i') => true,
+        (b'j', b'o') => true,
+        (b'n', b'o') => true,
+        (b'r', b'e') => true,
+        (b'w', b'o') => true,
+        _ => false,
     }
 }

@@ -11,6 +11,9 @@ const LONGEST: usize = MOST_LINE + 1;
 /// How many bytes are kept.
 const ROOM: usize = 2 * LONGEST;
 
+/// How many bytes are counted at once: as many as a byte can count.
+const RUN: usize = 255;
+
 /// The line after which the steps begin.
 const BEGIN: &[u8] = b"begin";
 
@@ -111,8 +114,16 @@ fn spelt_on(len: usize, byte: u8) -> Option<usize> {
 
 /// How many line feeds there are.
 fn feeds_in(bytes: &[u8]) -> u64 {
+    bytes.chunks(RUN).fold(
+        0,
+        |feeds: u64, run| feeds.wrapping_add(u64::from(feeds_in_run(run))),
+    )
+}
+
+/// How many line feeds there are in at most `RUN` bytes. A count in a byte lets the compiler count sixteen bytes at once.
+fn feeds_in_run(bytes: &[u8]) -> u8 {
     bytes.iter().fold(
         0,
-        |feeds: u64, byte| feeds.wrapping_add(u64::from(*byte == b'\n')),
+        |feeds: u8, byte| feeds.wrapping_add(u8::from(*byte == b'\n')),
     )
 }

@@ -84,7 +84,8 @@ impl Listener {
 
     /// What the bytes since the gap ask of the device of a setup, or nothing where they are no message under its check,
     /// or none that asks something of it.
-    #[inline]
+    // Inlined, so that a device that a message passes by makes no call for it.
+    #[inline(always)]
     #[tactic(auto, using(crate::proofs::Listening::asks_nothing))]
     pub fn asked(&self, setup: &DeviceSetup) -> Option<Asked>
         requires { kind_of self.now ≡ setup.now.kind }

@@ -2,6 +2,7 @@
 ghost use Rattle.std.specs.Prelude.{◌≡◌, Ok, Err, IfOk, MatchResult, OnOk};
 ghost use Rattle.cct_lines.specs.Grammar.{step_line};
 ghost use Rattle.cct_lines.specs.Script.{IsInRange};
+ghost use Rattle.cct_lines.specs.declared.command.Step.TheVariants as steps;
 ghost use Rattle.cct_script.specs.Fields.{fields_behind};
 ghost use Rattle.cct_script.specs.Steps.{ReadsInto, device_step, epoch_step, order_step, other_step};
 
@@ -75,7 +76,7 @@ fn epoch_step(word: &[u8], rest: Option<&[u8]>, step: &mut Step) -> Result<(), L
     ensures { ReadsInto result step.new (epoch_step word.now (fields_behind rest.entry)) }
 {
     match word {
-        _ if word == NEXT => *step = Step::Next { addr: addr(rest)? },
+        _ if word == NEXT => set_next(addr(rest)?, step),
         _ if word == FAULT => fault_into(rest, step).ok_or(LineKind::Form)?,
         _ if word == START => start_into(rest, step).ok_or(LineKind::Form)?,
         _ if word == ROUND => *step = Step::Command(Command::Round { addr: addr(rest)? }),
@@ -83,6 +84,16 @@ fn epoch_step(word: &[u8], rest: Option<&[u8]>, step: &mut Step) -> Result<(), L
         _ => return order_step(word, rest, step),
     }
     Ok(())
+}
+
+/// Makes a step a `next`. A step is wide, and most are a `next`: where one stands already, only its address is set.
+fn set_next(addr: u8, step: &mut Step)
+    ensures { step.new ≡ steps.Next addr }
+{
+    match step {
+        Step::Next { addr: at } => *at = addr,
+        _ => *step = Step::Next { addr },
+    }
 }
 
 /// Puts into `step` what the word of a step line says that is `settle`, `halt`, `ident`, `pay` or `scan`: a command to a

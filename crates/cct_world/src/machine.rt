@@ -4,6 +4,7 @@ ghost use Rattle.cct_model.specs.lines.command.Step.TheVariants as step;
 ghost use Rattle.cct_model.specs.Exchange.{device_at, known_there};
 ghost use Rattle.cct_model.specs.Family.{IsPlaced};
 ghost use Rattle.cct_model.specs.lines.entry.Entry.{Entry};
+ghost use Rattle.cct_model.specs.lines.entry.Entry.TheVariants as entry;
 ghost use Rattle.cct_model.specs.Legal.{is_played, step_of};
 ghost use Rattle.cct_model.specs.Money.{totals};
 ghost use Rattle.cct_model.specs.Script.{IsCrash, IsFault, IsInRange, is_known};
@@ -18,7 +19,7 @@ use cct_bus::{Bus, Outcome};
 use cct_disk::Disk;
 use cct_edge::Failed;
 use cct_host::{Crashed, Host};
-use cct_model::{Command, CrashAt, Entry, Happening, Step, Totals, WireFault};
+use cct_model::{Command, CommandNo, CrashAt, Entry, Happening, Step, Totals, WireFault};
 
 /// The host and the bus of a world. They stand in a box, so that a world that is moved costs a pointer.
 #[derive(Drop)]
@@ -149,11 +150,8 @@ impl<D: Disk> Machine<'_, D> {
         ensures { PlaysUndisturbed self.old self.new (step.Command command.now) report.new.items }
     {
         match self.host.command(command) {
-            Ok(()) => report.push(Entry::Taken(*command)),
-            Err(why) => report.push(Entry::No {
-                command: *command,
-                why,
-            }),
+            Ok(()) => tell_taken(command, report),
+            Err(why) => tell_refused(command, why, report),
         }
     }
 
@@ -206,6 +204,29 @@ fn tell_crash(crashed: Crashed, report: &mut ArrayVec<Entry, 8>)
     if let Some(entry) = kept {
         report.push(Entry::Kept(entry));
     }
+}
+
+/// Tells that a command was taken. An entry is wide: in a function of its own it is made where it is told.
+#[inline(never)]
+#[tactic(auto, using(crate::proofs::Steps::one_entry))]
+fn tell_taken(command: &Command, report: &mut ArrayVec<Entry, 8>)
+    requires { report.old.items ≡ [] }
+    ensures { report.new.items ≡ entry.Taken command.now ∷ [] }
+{
+    report.push(Entry::Taken(*command));
+}
+
+/// Tells that a command was refused, and why.
+#[inline(never)]
+#[tactic(auto, using(crate::proofs::Steps::one_entry))]
+fn tell_refused(command: &Command, why: CommandNo, report: &mut ArrayVec<Entry, 8>)
+    requires { report.old.items ≡ [] }
+    ensures { report.new.items ≡ entry.No command.now why ∷ [] }
+{
+    report.push(Entry::No {
+        command: *command,
+        why,
+    });
 }
 
 /// Tells what befell the device at an address, by what became of it. An entry is wide, so it is made where it is told.

@@ -2,7 +2,7 @@ use Rattle.std.proofs.Common.{◌≡◌, ◌∷◌, Some, subst, ap, sym, ◌∙
 use Rattle.cct_model.specs.Legal.{command_entry}
 use Rattle.cct_host.specs.Desk.{no_of}
 use Rattle.cct_host.specs.Host as hosts
-use Rattle.cct_world.proofs.Steps.{command_goes, one_entry}
+use Rattle.cct_world.proofs.Steps.{command_goes}
 use Rattle.cct_world.proofs.machine.Machine.command.Goals as goal
 
 pub returns-in-Err : goal.returns-in-Err
@@ -16,10 +16,10 @@ returns-in-Err g c = record {
       let no : no_of c.command.result ≡ Some why = ap no_of c.in-Err.is in
       let answered = c.command.ensures.answers past stands.host in
       let goes = command_goes (hosts.capacity_in machine.host) (hosts.setup_of machine.host) host machine.bus past
-      c.args.command.now (Some why) c.push-in-Err.new.self.items
+      c.args.command.now (Some why) c.tell_refused.new.report.items
       (sym no ∙ answered.0)
       (subst (λ n. hosts.StandsFor host (command_entry c.args.command.now n ∷ past)) no answered.1) stands.bus
-      (one_entry _ _ _ c.requires.report c.push-in-Err.ensures.items) in
+      c.tell_refused.ensures in
       (goes.0, record { host = goes.1.0; bus = goes.1.1 });
   told = search rules;
   recorded = search rules;
